@@ -1,0 +1,118 @@
+//! Files, standard streams and sockets, and a wrapper for any other reader or writer of std. Nobody
+//! counts the failures of a device, so these tell none; nor does std tell a device's bytes.
+ghost use Rattle.std.specs.Io.{ReadsAtMost, WritesAtMost};
+ghost use Rattle.std.specs.Io.KnownBytes.{Keeps, ReadConsumes, WriteAppends};
+
+use crate::{Failed, Sink, Source};
+use std::fs::File;
+use std::io::{Read, Stderr, Stdin, StdinLock, Stdout, Write};
+use std::net::TcpStream;
+
+/// Any other reader or writer of std. It tells the bytes that std tells of it, and no failures.
+#[derive(Debug, Drop)]
+pub struct Untold<T>(pub T);
+
+// One call of std's, with no second try: an interrupted one has failed too.
+fn read_from<R: Read>(reader: &mut R, buf: &mut [u8]) -> Result<usize, Failed>
+    ensures bound { ReadsAtMost result buf.new }
+    ensures bytes { ReadConsumes (R.remaining reader.old) (R.remaining reader.new) result buf.new }
+{
+    reader.read(buf).map_err(|_| Failed)
+}
+
+fn write_to<W: Write>(writer: &mut W, buf: &[u8]) -> Result<usize, Failed>
+    ensures bound { WritesAtMost result buf.now }
+    ensures bytes { WriteAppends (W.contents writer.old) (W.contents writer.new) result buf.now }
+{
+    writer.write(buf).map_err(|_| Failed)
+}
+
+fn flush_of<W: Write>(writer: &mut W) -> Result<(), Failed>
+    ensures { Keeps (W.contents writer.old) (W.contents writer.new) }
+{
+    writer.flush().map_err(|_| Failed)
+}
+
+impl<R: Read> Source for Untold<R> {
+    ghost remaining = { λ u. R.remaining u.0 };
+
+    fn read(&mut self, buf: &mut [u8]) -> Result<usize, Failed> {
+        read_from(&mut self.0, buf)
+    }
+}
+
+impl<W: Write> Sink for Untold<W> {
+    ghost contents = { λ u. W.contents u.0 };
+
+    fn write(&mut self, buf: &[u8]) -> Result<usize, Failed> {
+        write_to(&mut self.0, buf)
+    }
+
+    fn flush(&mut self) -> Result<(), Failed> {
+        flush_of(&mut self.0)
+    }
+}
+
+impl Source for File {
+    fn read(&mut self, buf: &mut [u8]) -> Result<usize, Failed> {
+        read_from(self, buf)
+    }
+}
+
+impl Sink for File {
+    fn write(&mut self, buf: &[u8]) -> Result<usize, Failed> {
+        write_to(self, buf)
+    }
+
+    fn flush(&mut self) -> Result<(), Failed> {
+        flush_of(self)
+    }
+}
+
+impl Source for Stdin {
+    fn read(&mut self, buf: &mut [u8]) -> Result<usize, Failed> {
+        read_from(self, buf)
+    }
+}
+
+impl Source for StdinLock<'static> {
+    fn read(&mut self, buf: &mut [u8]) -> Result<usize, Failed> {
+        read_from(self, buf)
+    }
+}
+
+impl Sink for Stdout {
+    fn write(&mut self, buf: &[u8]) -> Result<usize, Failed> {
+        write_to(self, buf)
+    }
+
+    fn flush(&mut self) -> Result<(), Failed> {
+        flush_of(self)
+    }
+}
+
+impl Sink for Stderr {
+    fn write(&mut self, buf: &[u8]) -> Result<usize, Failed> {
+        write_to(self, buf)
+    }
+
+    fn flush(&mut self) -> Result<(), Failed> {
+        flush_of(self)
+    }
+}
+
+impl Source for TcpStream {
+    fn read(&mut self, buf: &mut [u8]) -> Result<usize, Failed> {
+        read_from(self, buf)
+    }
+}
+
+impl Sink for TcpStream {
+    fn write(&mut self, buf: &[u8]) -> Result<usize, Failed> {
+        write_to(self, buf)
+    }
+
+    fn flush(&mut self) -> Result<(), Failed> {
+        flush_of(self)
+    }
+}

@@ -1,0 +1,226 @@
+//! Sources and sinks over memory that fail at a chosen byte, for the tests of the crates above. Their
+//! counts are fields, so they tell everything that a stream can tell.
+ghost use Rattle.std.specs.Prelude.{◌≡◌, ◌≢◌, ◌+◌, ◌-◌, ◌^◌, ◌<◌, ◌≤◌, true, false, drop, length, Some, None, IfOk, OnOk, OnErr, IsErr, IsTrue, ◌↔◌, vec_len, vec_capacity, if◌then◌else◌};
+ghost use Rattle.std.specs.Io.{ReadsAtMost, WritesAtMost};
+ghost use Rattle.std.specs.Io.KnownBytes.{Keeps, ReadConsumes, WriteAppends};
+ghost use Rattle.byte_streams.specs.Counts.{Rises, Stands};
+ghost use Rattle.byte_streams.specs.Sink.{IsRefusal};
+ghost use Rattle.byte_streams.specs.FusedSource.{FusedSourceState, fresh_source, read_answer, after_read};
+ghost use Rattle.byte_streams.specs.FusedSink.{FusedSinkState, fresh_sink, is_blown, set_back, write_answer, after_write};
+
+use crate::{Failed, Sink, Source};
+use std::alloc::{AllocError, Allocator, Global};
+use std::marker::Model;
+
+/// A source over memory that gives its bytes in small pieces, and fails once so many were given.
+#[derive(Drop)]
+pub struct FusedSource<A: Allocator = Global> {
+    bytes: Vec<u8, A>,
+    given: usize,
+    budget: usize,
+    piece: usize,
+    failures: u64,
+    ends: u64,
+}
+
+impl<A: Allocator> Model for FusedSource<A> {
+    ghost Value = { FusedSourceState };
+
+    ghost view = { λ s. record {
+      rest = drop s.given s.bytes.items;
+      budget = s.budget;
+      piece = s.piece;
+      failures = s.failures;
+      ends = s.ends;
+    } };
+
+    ghost invariant = { λ s. (s.given ≤ vec_len s.bytes) × (0 < s.piece) };
+}
+
+impl<A: Allocator> FusedSource<A> {
+    /// A source of `bytes` whose reads give at most `piece` bytes each, and fail once `passes` bytes
+    /// were given. Where the bytes end before that, a read gives 0.
+    pub fn new(bytes: Vec<u8, A>, passes: usize, piece: usize) -> Self
+        requires { 1 ≤ piece }
+        ensures { result ≡ fresh_source bytes.items passes piece }
+    {
+        FusedSource {
+            bytes,
+            given: 0,
+            budget: passes,
+            piece,
+            failures: 0,
+            ends: 0,
+        }
+    }
+}
+
+impl<A: Allocator> Source for FusedSource<A> {
+    ghost remaining = { λ s. Some s.rest };
+
+    ghost failures = { λ s. Some s.failures };
+
+    ghost ends = { λ s. Some s.ends };
+
+    ghost can_read = { λ s. (s.failures < 2 ^ 64 - 1) × (s.ends < 2 ^ 64 - 1) };
+
+    fn read(&mut self, buf: &mut [u8]) -> Result<usize, Failed>
+        requires can { (self.old.failures < 2 ^ 64 - 1) × (self.old.ends < 2 ^ 64 - 1) }
+        requires room { 0 < length buf.old }
+
+        ensures bound { ReadsAtMost result buf.new }
+        ensures bytes { ReadConsumes (Some self.old.rest) (Some self.new.rest) result buf.new }
+        ensures failed { OnErr result (Rises (Some self.old.failures) (Some self.new.failures)) }
+        ensures passed { OnOk result (Stands (Some self.old.failures) (Some self.new.failures)) }
+        ensures ended { IfOk result
+            (λ n. n ≡ 0 → Rises (Some self.old.ends) (Some self.new.ends)) }
+        ensures went_on { IfOk result
+            (λ n. 0 < n → Stands (Some self.old.ends) (Some self.new.ends)) }
+        ensures broke_off { OnErr result (Stands (Some self.old.ends) (Some self.new.ends)) }
+        ensures again { IfOk result
+            (λ n. 0 < n → (self.new.failures < 2 ^ 64 - 1) × (self.new.ends < 2 ^ 64 - 1)) }
+
+        // What each read does, to the byte.
+        ensures answer { result ≡ read_answer self.old (length buf.old) }
+        ensures after { self.new ≡ after_read self.old (length buf.old) }
+    {
+        if self.budget == 0 {
+            self.failures += 1;
+            return Err(Failed);
+        }
+        let rest = &self.bytes[self.given..];
+        let n = buf.len().min(self.piece).min(self.budget.min(rest.len()));
+        if n == 0 {
+            self.ends += 1;
+            return Ok(0);
+        }
+        buf[..n].copy_from_slice(&rest[..n]);
+        self.given += n;
+        self.budget -= n;
+        Ok(n)
+    }
+}
+
+/// A sink over memory that takes its bytes in small pieces, and fails once it has so many, or then
+/// takes nothing.
+#[derive(Drop)]
+pub struct FusedSink<A: Allocator = Global> {
+    held: Vec<u8, A>,
+    passes: usize,
+    piece: usize,
+    fails_when_full: bool,
+    setbacks: u64,
+}
+
+impl<A: Allocator> Model for FusedSink<A> {
+    ghost Value = { FusedSinkState };
+
+    ghost view = { λ s. record {
+      held = s.held.items;
+      passes = s.passes;
+      piece = s.piece;
+      fails_when_full = s.fails_when_full;
+      setbacks = s.setbacks;
+    } };
+
+    ghost invariant = { λ s. (vec_len s.held ≤ s.passes) × (s.passes ≤ vec_capacity s.held)
+        × (0 < s.piece) };
+}
+
+impl<A: Allocator> FusedSink<A> {
+    /// A sink with room for `passes` bytes, whose writes take at most `piece` bytes each. Once it has
+    /// `passes` bytes, each write and each flush fails.
+    pub fn new(alloc: A, passes: usize, piece: usize) -> Result<Self, AllocError>
+        requires { 1 ≤ piece }
+        ensures { IfOk result (λ sink. sink ≡ fresh_sink passes piece true) }
+    {
+        Ok(FusedSink {
+            held: Vec::with_capacity(alloc, passes)?,
+            passes,
+            piece,
+            fails_when_full: true,
+            setbacks: 0,
+        })
+    }
+
+    /// The same sink, but once it has `passes` bytes a write takes none, and a flush passes.
+    pub fn stopped(alloc: A, passes: usize, piece: usize) -> Result<Self, AllocError>
+        requires { 1 ≤ piece }
+        ensures { IfOk result (λ sink. sink ≡ fresh_sink passes piece false) }
+    {
+        let mut sink = FusedSink::new(alloc, passes, piece)?;
+        sink.fails_when_full = false;
+        Ok(sink)
+    }
+
+    /// The bytes that it took.
+    pub fn held(&self) -> &[u8]
+        ensures { result.now ≡ self.now.held }
+    {
+        self.held.as_slice()
+    }
+
+    fn is_blown(&self) -> bool
+        ensures { result ≡ is_blown self.now }
+    {
+        self.fails_when_full && self.held.len() == self.passes
+    }
+}
+
+impl<A: Allocator> Sink for FusedSink<A> {
+    ghost contents = { λ s. Some s.held };
+
+    ghost setbacks = { λ s. Some s.setbacks };
+
+    ghost can_write = { λ s. s.setbacks < 2 ^ 64 - 1 };
+
+    fn write(&mut self, buf: &[u8]) -> Result<usize, Failed>
+        requires { self.old.setbacks < 2 ^ 64 - 1 }
+
+        ensures bound { WritesAtMost result buf.now }
+        ensures bytes { WriteAppends (Some self.old.held) (Some self.new.held) result buf.now }
+        ensures failed { OnErr result (Rises (Some self.old.setbacks) (Some self.new.setbacks)) }
+        ensures refused { IfOk result
+            (λ n. IsRefusal n buf.now → Rises (Some self.old.setbacks) (Some self.new.setbacks)) }
+        ensures passed { IfOk result
+            (λ n. ¬ IsRefusal n buf.now → Stands (Some self.old.setbacks) (Some self.new.setbacks)) }
+        ensures again { IfOk result
+            (λ n. ¬ IsRefusal n buf.now → self.new.setbacks < 2 ^ 64 - 1) }
+
+        // What each write does, to the byte.
+        ensures answer { result ≡ write_answer self.old buf.now }
+        ensures after { self.new ≡ after_write self.old buf.now }
+    {
+        if self.is_blown() {
+            self.setbacks += 1;
+            return Err(Failed);
+        }
+        let n = buf.len().min(self.piece).min(self.passes - self.held.len());
+        if n == 0 && !buf.is_empty() {
+            self.setbacks += 1;
+            return Ok(0);
+        }
+        match self.held.extend_from_slice(&buf[..n]) {
+            Ok(()) => Ok(n),
+            Err(_) => unreachable!(),
+        }
+    }
+
+    fn flush(&mut self) -> Result<(), Failed>
+        requires { self.old.setbacks < 2 ^ 64 - 1 }
+
+        ensures bytes { Keeps (Some self.old.held) (Some self.new.held) }
+        ensures failed { OnErr result (Rises (Some self.old.setbacks) (Some self.new.setbacks)) }
+        ensures passed { OnOk result (Stands (Some self.old.setbacks) (Some self.new.setbacks)) }
+        ensures again { OnOk result (self.new.setbacks < 2 ^ 64 - 1) }
+
+        ensures answer { IsErr result ↔ IsTrue (is_blown self.old) }
+        ensures after { self.new ≡ (if is_blown self.old then set_back self.old else self.old) }
+    {
+        if !self.is_blown() {
+            return Ok(());
+        }
+        self.setbacks += 1;
+        Err(Failed)
+    }
+}

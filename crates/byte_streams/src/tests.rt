@@ -1,0 +1,124 @@
+use crate::{Failed, FillFault, FusedSink, FusedSource, PutFault, Sink, Source, Untold, fill, put};
+use std::fs::{File, OpenOptions};
+use std::test::Fail;
+
+#[test]
+fn fills_from_a_slice(rt: HostRuntime) {
+    let mut source = b"p sp 6 5".as_slice();
+    let mut buf = [0; 5];
+    assert_eq!(rt; fill(&mut source, &mut buf[..4]), Ok(()));
+    assert_eq!(rt; &buf[..4], b"p sp".as_slice());
+    assert_eq!(rt; fill(&mut source, &mut []), Ok(()));
+    assert_eq!(rt; fill(&mut source, &mut buf), Err(FillFault::Ended(4)));
+    assert_eq!(rt; &buf[..4], b" 6 5".as_slice());
+    assert_eq!(rt; fill(&mut source, &mut buf), Err(FillFault::Ended(0)));
+}
+
+#[test]
+fn puts_into_a_vector(rt: HostRuntime) -> Result<(), Fail> {
+    let mut sink = Vec::new(rt.alloc());
+    assert_eq!(rt; put(&mut sink, 0, b"p sp "), Ok(5));
+    assert_eq!(rt; put(&mut sink, 5, b""), Ok(5));
+    assert_eq!(rt; put(&mut sink, 5, b"6 5\n"), Ok(9));
+    assert_eq!(rt; sink.flush(), Ok(()));
+    assert_eq!(rt; sink.as_slice(), b"p sp 6 5\n".as_slice());
+    Ok(())
+}
+
+// Five bytes in pieces of two: `passes` of them come before the source fails.
+#[test]
+fn source_fails_after_its_passes(rt: HostRuntime) -> Result<(), Fail> {
+    for passes in 0..5 {
+        let bytes = Vec::from_slice(rt.alloc(), b"hello")?;
+        let mut source = FusedSource::new(bytes, passes, 2);
+        let mut buf = [0; 5];
+        assert_eq!(rt; fill(&mut source, &mut buf), Err(FillFault::Failed(passes)));
+        assert_eq!(rt; &buf[..passes], &b"hello"[..passes]);
+    }
+    let mut source = FusedSource::new(Vec::from_slice(rt.alloc(), b"hello")?, 5, 2);
+    assert_eq!(rt; fill(&mut source, &mut [0; 5]), Ok(()));
+    assert_eq!(rt; fill(&mut source, &mut [0; 1]), Err(FillFault::Failed(0)));
+    Ok(())
+}
+
+#[test]
+fn source_ends_before_its_passes(rt: HostRuntime) -> Result<(), Fail> {
+    let mut source = FusedSource::new(Vec::from_slice(rt.alloc(), b"hello")?, 6, 2);
+    let mut buf = [0; 4];
+    assert_eq!(rt; source.read(&mut buf), Ok(2));
+    assert_eq!(rt; fill(&mut source, &mut buf), Err(FillFault::Ended(3)));
+    assert_eq!(rt; &buf[..3], b"llo".as_slice());
+    assert_eq!(rt; source.read(&mut buf), Ok(0));
+    Ok(())
+}
+
+// Nine bytes in pieces of two: the sink takes `passes` of them.
+#[test]
+fn sink_fails_after_its_passes(rt: HostRuntime) -> Result<(), Fail> {
+    let text = b"p sp 6 5\n";
+    for passes in 0..9 {
+        let mut sink = FusedSink::new(rt.alloc(), passes, 2)?;
+        let fault = PutFault {
+            written: 3 + passes as u64,
+        };
+        assert_eq!(rt; put(&mut sink, 3, text), Err(fault));
+        assert_eq!(rt; sink.held(), &text[..passes]);
+        assert_eq!(rt; sink.flush(), Err(Failed));
+    }
+    let mut sink = FusedSink::new(rt.alloc(), 9, 2)?;
+    assert_eq!(rt; put(&mut sink, 0, text), Ok(9));
+    assert_eq!(rt; sink.flush(), Err(Failed));
+    let mut sink = FusedSink::new(rt.alloc(), 10, 2)?;
+    assert_eq!(rt; put(&mut sink, 0, text), Ok(9));
+    assert_eq!(rt; sink.flush(), Ok(()));
+    assert_eq!(rt; sink.held(), text.as_slice());
+    Ok(())
+}
+
+#[test]
+fn stopped_sink_takes_nothing_more(rt: HostRuntime) -> Result<(), Fail> {
+    let text = b"p sp 6 5\n";
+    let mut sink = FusedSink::stopped(rt.alloc(), 4, 3)?;
+    assert_eq!(rt; put(&mut sink, 0, text), Err(PutFault { written: 4 }));
+    assert_eq!(rt; sink.write(text), Ok(0));
+    assert_eq!(rt; sink.write(&[]), Ok(0));
+    assert_eq!(rt; sink.flush(), Ok(()));
+    assert_eq!(rt; sink.held(), b"p sp".as_slice());
+    let mut sink = FusedSink::stopped(rt.alloc(), 9, 3)?;
+    assert_eq!(rt; put(&mut sink, 0, text), Ok(9));
+    Ok(())
+}
+
+#[test]
+fn wraps_other_readers_and_writers(rt: HostRuntime) -> Result<(), Fail> {
+    let mut source = Untold(b"hello".as_slice());
+    let mut buf = [0; 4];
+    assert_eq!(rt; fill(&mut source, &mut buf), Ok(()));
+    assert_eq!(rt; buf.as_slice(), b"hell".as_slice());
+    let mut sink = Untold(Vec::new(rt.alloc()));
+    assert_eq!(rt; put(&mut sink, 0, &buf), Ok(4));
+    assert_eq!(rt; sink.flush(), Ok(()));
+    assert_eq!(rt; sink.0.as_slice(), b"hell".as_slice());
+    Ok(())
+}
+
+// A directory fails at its first read, an empty device ends there, a full one fails at its first write.
+#[test]
+fn devices_fail_and_end(rt: HostRuntime) -> Result<(), Fail> {
+    let mut buf = [0; 1];
+    assert_eq!(rt;
+        fill(&mut File::open(&rt, "/")?, &mut buf),
+        Err(FillFault::Failed(0))
+    );
+    assert_eq!(rt;
+        fill(&mut File::open(&rt, "/dev/null")?, &mut buf),
+        Err(FillFault::Ended(0))
+    );
+    assert_eq!(rt; fill(&mut File::open(&rt, "/dev/zero")?, &mut buf), Ok(()));
+    let mut full = OpenOptions::new().write(true).open(&rt, "/dev/full")?;
+    assert_eq!(rt; put(&mut full, 2, b"ab"), Err(PutFault { written: 2 }));
+    let mut sink = OpenOptions::new().write(true).open(&rt, "/dev/null")?;
+    assert_eq!(rt; put(&mut sink, 2, b"ab"), Ok(4));
+    assert_eq!(rt; sink.flush(), Ok(()));
+    Ok(())
+}

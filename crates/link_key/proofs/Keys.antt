@@ -1,0 +1,133 @@
+-- The order of keys is total, and links with equal keys are one link; so an ascending list is its members.
+use Rattle.std.proofs.Common.{◌≡◌, suc, ◌<◌, ◌≤◌, ◌^◌, Bool, true, IsTrue, is_lt, ◌⊎◌, ◌↔◌, List, [], ◌∷◌, Contains, Ordering, Less, Equal, Greater, int_cmp, nat_cmp, refl, sym, ap, ap₂, ◌∙◌, subst, inl, inr, arith}
+use Rattle.std.specs.Ordering.{ordering_then, ordering_reverse}
+use Rattle.std.specs.List.{IsAllAdjacentAnswer}
+use Rattle.std.specs.Cmp.{IsTotalOrder}
+use Rattle.std.proofs.lemmas.Cmp.{int_cmp_total, nat_cmp_total, on_total, then_total, tied_itself}
+use Rattle.std.proofs.lemmas.Map.Lookups.{exact_signed, exact_unsigned, exact_pairs}
+use Rattle.std.proofs.Math.Bridge.{le_prop}
+use mathlib.Core.HLevel.{is_prop→PathP}
+use Rattle.link_key.specs.declared.links.Link.{Link}
+use Rattle.link_key.specs.Link.{key_cmp, IsBelow, IsAscending}
+use Rattle.link_key.proofs.Neighbours.{all_pairs_by_neighbours}
+use Rattle.link_key.proofs.Members.{contains_cases, contains_head, contains_tail, contains_none}
+
+-- A link is its weight and its ends: its ghost facts are propositions.
+pub link_eq : (l m : Link) → l.weight ≡ m.weight → l.low ≡ m.low → l.high ≡ m.high → l ≡ m
+link_eq l m weight low high = λ i. record {
+  weight = weight i;
+  low = low i;
+  high = high i;
+  from_one = is_prop→PathP (λ j. 1 ≤ low j) (λ j. le_prop) l.from_one m.from_one i;
+  ascending = is_prop→PathP (λ j. low j < high j) (λ j. le_prop) l.ascending m.ascending i;
+  in_limit = is_prop→PathP (λ j. high j ≤ 2 ^ 26) (λ j. le_prop) l.in_limit m.in_limit i;
+}
+
+pub key_cmp_total : IsTotalOrder key_cmp
+key_cmp_total =
+    then_total
+    (on_total (λ (l : Link). l.weight) int_cmp_total)
+    (then_total (on_total (λ (l : Link). l.low) nat_cmp_total) (on_total (λ (l : Link). l.high) nat_cmp_total))
+
+-- links that compare as equal are one link
+pub equal_keys : (l m : Link) → key_cmp l m ≡ Equal → l ≡ m
+equal_keys l m tied =
+    let same =
+    exact_pairs
+    int_cmp
+    (λ x y. ordering_then (nat_cmp x.0 y.0) (nat_cmp x.1 y.1))
+    exact_signed
+    (exact_pairs nat_cmp nat_cmp exact_unsigned exact_unsigned)
+    (l.weight, (l.low, l.high))
+    (m.weight, (m.low, m.high))
+    tied in
+    link_eq l m (ap (λ key. key.0) same) (ap (λ key. key.1.0) same) (ap (λ key. key.1.1) same)
+
+pub below_trans : (k l m : Link) → IsBelow k l → IsBelow l m → IsBelow k m
+below_trans k l m = key_cmp_total.trans k l m
+
+pub below_irrefl : (l : Link) → IsBelow l l → ⊥
+below_irrefl l below = let tied = tied_itself key_cmp_total l in cc
+
+pub below_asymm : (l m : Link) → IsBelow l m → IsBelow m l → ⊥
+below_asymm l m below above = below_irrefl l (below_trans l m l below above)
+
+-- of two links one is below the other, or they are one
+pub trichotomy : (l m : Link) → IsBelow l m ⊎ (l ≡ m) ⊎ IsBelow m l
+trichotomy l m = by_order (key_cmp l m) refl
+  where
+    by_order : (o : Ordering) → key_cmp l m ≡ o → IsBelow l m ⊎ (l ≡ m) ⊎ IsBelow m l
+    by_order Less is = inl is
+    by_order Equal is = inr (inl (equal_keys l m is))
+    by_order Greater is = inr (inr (key_cmp_total.antisymm m l ∙ ap ordering_reverse is))
+
+pub link_dec : (l m : Link) → (l ≡ m) ⊎ (¬ (l ≡ m))
+link_dec l m = elim (trichotomy l m) [
+  | inl below ↦ inr (λ same. below_irrefl m (subst (λ k. IsBelow k m) same below))
+  | inr rest ↦ elim rest [
+    | inl same ↦ inl same
+    | inr above ↦ inr (λ same. below_irrefl m (subst (λ k. IsBelow m k) same above))
+  ]
+]
+
+pub below_dec : (l m : Link) → IsBelow l m ⊎ (¬ (IsBelow l m))
+below_dec l m = elim (trichotomy l m) [
+  | inl below ↦ inl below
+  | inr rest ↦ elim rest [
+    | inl same ↦ inr (λ below. below_irrefl m (subst (λ k. IsBelow k m) same below))
+    | inr above ↦ inr (λ below. below_asymm l m below above)
+  ]
+]
+
+-- the first link of an ascending list is below each other
+pub ascending_head : (l : Link) (ls : List Link) → IsAscending (l ∷ ls) → (m : Link) → Contains ls m → IsBelow l m
+ascending_head l ls up m (k, lt, at) = subst (λ x. IsBelow l x) at (up 0 (suc k) m (omega arith) (omega arith))
+
+pub ascending_tail : (l : Link) (ls : List Link) → IsAscending (l ∷ ls) → IsAscending ls
+ascending_tail l ls up i j d lt in_range = up (suc i) (suc j) d (omega arith) (omega arith)
+
+-- Two ascending lists with the same members are one list. Their heads are each the least member, so
+-- the heads are one link; no tail contains its head, so the tails have the same members again.
+pub same_members : (xs ys : List Link) → IsAscending xs → IsAscending ys → ((l : Link) → Contains xs l ↔ Contains ys l) → xs ≡ ys
+same_members [] [] up up' same = refl
+same_members [] (y ∷ ys) up up' same = absurd (contains_none y ((same y).1 (contains_head y ys)))
+same_members (x ∷ xs) [] up up' same = absurd (contains_none x ((same x).0 (contains_head x xs)))
+same_members (x ∷ xs) (y ∷ ys) up up' same =
+    ap₂ (λ l ls. l ∷ ls) heads (same_members xs ys (ascending_tail x xs up) (ascending_tail y ys up') tails)
+  where
+    heads : x ≡ y
+    heads = elim (contains_cases y x ys ((same x).0 (contains_head x xs))) [
+      | inl is ↦ is
+      | inr in_ys ↦ elim (contains_cases x y xs ((same y).1 (contains_head y ys))) [
+        | inl is ↦ sym is
+        | inr in_xs ↦ absurd (below_asymm x y (ascending_head x xs up y in_xs) (ascending_head y ys up' x in_ys))
+      ]
+    ]
+
+    to : (l : Link) → Contains xs l → Contains ys l
+    to l in_xs = elim (contains_cases y l ys ((same l).0 (contains_tail x l xs in_xs))) [
+      | inl is ↦ absurd (below_irrefl x (subst (λ m. IsBelow x m) (is ∙ sym heads) (ascending_head x xs up l in_xs)))
+      | inr in_ys ↦ in_ys
+    ]
+
+    back : (l : Link) → Contains ys l → Contains xs l
+    back l in_ys = elim (contains_cases x l xs ((same l).1 (contains_tail y l ys in_ys))) [
+      | inl is ↦ absurd (below_irrefl y (subst (λ m. IsBelow y m) (is ∙ heads) (ascending_head y ys up' l in_ys)))
+      | inr in_xs ↦ in_xs
+    ]
+
+    tails : (l : Link) → Contains xs l ↔ Contains ys l
+    tails l = (to l, back l)
+
+-- the test for the order of two links
+abbrev pub is_below : Link → Link → Bool
+is_below l m = is_lt (key_cmp l m)
+
+is_below_true : (o : Ordering) → is_lt o ≡ true → o ≡ Less
+is_below_true Less is = refl
+is_below_true Equal is = absurd (cc)
+is_below_true Greater is = absurd (cc)
+
+-- what a look at each pair of neighbours answers
+pub ascending_by_neighbours : (links : List Link) (r : Bool) → IsAllAdjacentAnswer (λ l m b. b ≡ is_below l m) links r → IsTrue r ↔ IsAscending links
+ascending_by_neighbours links r answer = all_pairs_by_neighbours IsBelow below_trans is_below (λ l m. (is_below_true (key_cmp l m), λ below. ap is_lt below)) links r answer

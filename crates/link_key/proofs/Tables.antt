@@ -1,0 +1,141 @@
+-- A forest grown along a sorted list, with the labels in a table.
+use Rattle.std.proofs.Common.{◌≡◌, ℕ, ◌+◌, ◌<◌, ◌≤◌, ◌⊎◌, ◌↔◌, ◌==◌, if◌then◌else◌, is_lt, List, [], ◌∷◌, ◌++◌, length, get_or, take, sym, ap, ◌∙◌, subst, subst₂, inl, inr, arith, take_all, get_or-take, length-take}
+use Rattle.std.specs.List.Sorted.{IsSorted, IsPermutation}
+use Rattle.std.proofs.lemmas.List.{take_more, get_or_default}
+use Rattle.std.proofs.lemmas.List.Elements.{All-get_or}
+use Rattle.std.proofs.lemmas.List.Sorted.{sorted_far, ranks_by, Contains-permutation, IsPermutation-sym, All-permutation}
+use mathlib.Core.Bool.{false≢true}
+use Rattle.std.proofs.lemmas.Bool.{cases_eq}
+use Rattle.std.proofs.lemmas.Bool.Decides.{nat_tests}
+use Rattle.link_key.specs.declared.links.Link.{Link}
+use Rattle.link_key.specs.Link.{key_cmp, EndsUpTo}
+use Rattle.link_key.specs.Forest.{IsForestOf}
+use Rattle.link_key.proofs.Keys.{key_cmp_total}
+use Rattle.link_key.proofs.Growing.{Grown, IsBelowNone, AreMerged, grown_none, grown_joined, grown_apart, forest_of_same}
+
+-- The first i links of the sorted list were seen.
+pub record GrownTable (n : ℕ) (sorted : List Link) (i : ℕ) (taken : List Link) (table : List ℕ) : Type 0 where
+  pub ends : EndsUpTo n sorted
+  pub order : IsSorted key_cmp sorted
+  pub len : length table ≡ n + 1
+  pub grown : Grown n (take i sorted) taken (λ v. get_or table v 0)
+
+pub table_start : (n : ℕ) (links sorted taken : List Link) (table : List ℕ) → EndsUpTo n links → IsPermutation links sorted → IsSorted key_cmp sorted → taken ≡ [] → length table ≡ n + 1 → ((v : ℕ) → v < length table → get_or table v 0 ≡ v) → GrownTable n sorted 0 taken table
+table_start n links sorted taken table ends moved order none len own = record {
+  ends = All-permutation (λ (l : Link). l.high ≤ n) links sorted moved ends;
+  order = order;
+  len = len;
+  grown = subst (λ t. Grown n [] t (λ v. get_or table v 0)) (sym none) (grown_none n (λ v. get_or table v 0) (λ u u_in. own u (omega arith)));
+}
+
+-- in a sorted list a link is below none before it
+below_none : (sorted : List Link) (i : ℕ) (x : Link) → IsSorted key_cmp sorted → i < length sorted → x ≡ get_or sorted i x → IsBelowNone x (take i sorted)
+below_none sorted i x order in_range is m (k, lt, at) below =
+    let before : k < i = omega (arith, length-take {A = Link}) in
+    let far = sorted_far (λ l m. is_lt (key_cmp l m)) (ranks_by key_cmp_total (λ l. l)) sorted order k i m (omega arith) in_range in
+    let there : get_or sorted k m ≡ m = sym (get_or-take i sorted k m before) ∙ at in
+    let here : get_or sorted i m ≡ x = get_or_default sorted i m x in_range ∙ sym is in
+    false≢true (sym (rw (there, here) at far) ∙ ap is_lt below)
+
+-- its ends are vertices
+high_in : (n : ℕ) (sorted : List Link) (i : ℕ) (x : Link) → EndsUpTo n sorted → i < length sorted → x ≡ get_or sorted i x → x.high ≤ n
+high_in n sorted i x ends in_range is = subst (λ (l : Link). l.high ≤ n) (sym is) (All-get_or (λ (l : Link). l.high ≤ n) sorted i x in_range ends)
+
+-- it is the next to be seen
+seen_next : (sorted : List Link) (i : ℕ) (x : Link) → i < length sorted → x ≡ get_or sorted i x → take (i + 1) sorted ≡ take i sorted ++ x ∷ []
+seen_next sorted i x in_range is = take_more sorted i x in_range ∙ ap (λ l. take i sorted ++ l ∷ []) (sym is)
+
+-- with one label in place of another
+abbrev renamed : ℕ → ℕ → ℕ → ℕ
+renamed from to label = if label == from then to else label
+
+-- One label in place of another makes the two one: labels that differ become equal only where one of them is
+-- the label that goes and the other the label that stays.
+renamed_alike : (from to x y : ℕ) → (renamed from to x ≡ renamed from to y) ↔ (x ≡ y) ⊎ ((x ≡ to) × (from ≡ y)) ⊎ ((x ≡ from) × (to ≡ y))
+renamed_alike from to x y = elim (cases_eq x from) [
+  | inl x_goes ↦ elim (cases_eq y from) [
+    | inl y_goes ↦ (λ same. inl (x_goes ∙ sym y_goes), λ either. (gone x x_goes) ∙ sym (gone y y_goes))
+    | inr y_stays ↦ (λ same. inr (inr (x_goes, sym (gone x x_goes) ∙ same ∙ kept y y_stays)), either_gone x_goes y_stays)
+  ]
+  | inr x_stays ↦ elim (cases_eq y from) [
+    | inl y_goes ↦ (λ same. inr (inl (sym (kept x x_stays) ∙ same ∙ gone y y_goes, sym y_goes)), either_kept x_stays y_goes)
+    | inr y_stays ↦ (λ same. inl (sym (kept x x_stays) ∙ same ∙ kept y y_stays), both_kept x_stays y_stays)
+  ]
+]
+  where
+    gone : (label : ℕ) → label ≡ from → renamed from to label ≡ to
+    gone label is = grind (arith, nat_tests)
+
+    kept : (label : ℕ) → ¬ (label ≡ from) → renamed from to label ≡ label
+    kept label other = grind (arith, nat_tests)
+
+    either_gone : x ≡ from → ¬ (y ≡ from) → (x ≡ y) ⊎ ((x ≡ to) × (from ≡ y)) ⊎ ((x ≡ from) × (to ≡ y)) → renamed from to x ≡ renamed from to y
+    either_gone x_goes y_stays (inl same) = ap (renamed from to) same
+    either_gone x_goes y_stays (inr (inl (_, is))) = absurd (y_stays (sym is))
+    either_gone x_goes y_stays (inr (inr (_, is))) = gone x x_goes ∙ is ∙ sym (kept y y_stays)
+
+    either_kept : ¬ (x ≡ from) → y ≡ from → (x ≡ y) ⊎ ((x ≡ to) × (from ≡ y)) ⊎ ((x ≡ from) × (to ≡ y)) → renamed from to x ≡ renamed from to y
+    either_kept x_stays y_goes (inl same) = ap (renamed from to) same
+    either_kept x_stays y_goes (inr (inl (is, _))) = kept x x_stays ∙ is ∙ sym (gone y y_goes)
+    either_kept x_stays y_goes (inr (inr (is, _))) = absurd (x_stays is)
+
+    both_kept : ¬ (x ≡ from) → ¬ (y ≡ from) → (x ≡ y) ⊎ ((x ≡ to) × (from ≡ y)) ⊎ ((x ≡ from) × (to ≡ y)) → renamed from to x ≡ renamed from to y
+    both_kept x_stays y_stays (inl same) = ap (renamed from to) same
+    both_kept x_stays y_stays (inr (inl (_, is))) = absurd (y_stays (sym is))
+    both_kept x_stays y_stays (inr (inr (is, _))) = absurd (x_stays is)
+
+merged_by_renaming : (n : ℕ) (label merged : ℕ → ℕ) (to from : ℕ) → ((u : ℕ) → u ≤ n → merged u ≡ renamed from to (label u)) → AreMerged n label merged to from
+merged_by_renaming n label merged to from by_renaming u v u_in v_in =
+    let alike = renamed_alike from to (label u) (label v) in
+    (λ same. alike.0 (sym (by_renaming u u_in) ∙ same ∙ by_renaming v v_in), λ either. by_renaming u u_in ∙ alike.1 either ∙ sym (by_renaming v v_in))
+
+-- the links of the next place, and the labels of its ends, as they are read
+pub record Read (n : ℕ) (sorted : List Link) (i : ℕ) (table : List ℕ) (x : Link) (low high : ℕ) : Type 0 where
+  pub in_range : i < length sorted
+  pub is : x ≡ get_or sorted i x
+  pub low_is : low ≡ get_or table x.low low
+  pub high_is : high ≡ get_or table x.high high
+
+-- its ends are in the table
+pub high_in_table : (n : ℕ) (sorted : List Link) (i : ℕ) (taken : List Link) (table : List ℕ) (x : Link) → GrownTable n sorted i taken table → i < length sorted → x ≡ get_or sorted i x → x.high < length table
+high_in_table n sorted i taken table x so_far in_range is =
+    let in_graph = high_in n sorted i x so_far.ends in_range is in
+    let len = so_far.len in
+    omega arith
+
+low_label : (n : ℕ) (sorted : List Link) (i : ℕ) (taken : List Link) (table : List ℕ) (x : Link) (low high : ℕ) → GrownTable n sorted i taken table → Read n sorted i table x low high → low ≡ get_or table x.low 0
+low_label n sorted i taken table x low high so_far read =
+    let in_table = high_in_table n sorted i taken table x so_far read.in_range read.is in
+    let ascending = x.ascending in
+    read.low_is ∙ get_or_default table x.low low 0 (omega arith)
+
+high_label : (n : ℕ) (sorted : List Link) (i : ℕ) (taken : List Link) (table : List ℕ) (x : Link) (low high : ℕ) → GrownTable n sorted i taken table → Read n sorted i table x low high → high ≡ get_or table x.high 0
+high_label n sorted i taken table x low high so_far read =
+    read.high_is ∙ get_or_default table x.high high 0 (high_in_table n sorted i taken table x so_far read.in_range read.is)
+
+pub table_joined : (n : ℕ) (sorted : List Link) (i : ℕ) (taken : List Link) (table : List ℕ) (x : Link) (low high : ℕ) → GrownTable n sorted i taken table → Read n sorted i table x low high → low ≡ high → GrownTable n sorted (i + 1) taken table
+table_joined n sorted i taken table x low high so_far read same = record {
+  ends = so_far.ends;
+  order = so_far.order;
+  len = so_far.len;
+  grown = subst (λ seen. Grown n seen taken (λ v. get_or table v 0)) (sym (seen_next sorted i x read.in_range read.is)) (grown_joined n (take i sorted) taken (λ v. get_or table v 0) x so_far.grown (below_none sorted i x so_far.order read.in_range read.is) (high_in n sorted i x so_far.ends read.in_range read.is) (sym (low_label n sorted i taken table x low high so_far read) ∙ same ∙ high_label n sorted i taken table x low high so_far read));
+}
+
+pub table_apart : (n : ℕ) (sorted : List Link) (i : ℕ) (taken : List Link) (table table' : List ℕ) (x : Link) (low high : ℕ) → GrownTable n sorted i taken table → Read n sorted i table x low high → ¬ (low ≡ high) → length table' ≡ length table → ((v : ℕ) → v < length table → get_or table' v 0 ≡ renamed high low (get_or table v 0)) → GrownTable n sorted (i + 1) (taken ++ x ∷ []) table'
+table_apart n sorted i taken table table' x low high so_far read differ same_len by_renaming = record {
+  ends = so_far.ends;
+  order = so_far.order;
+  len = same_len ∙ so_far.len;
+  grown = subst (λ seen. Grown n seen (taken ++ x ∷ []) (λ v. get_or table' v 0)) (sym (seen_next sorted i x read.in_range read.is)) (grown_apart n (take i sorted) taken (λ v. get_or table v 0) (λ v. get_or table' v 0) x so_far.grown (below_none sorted i x so_far.order read.in_range read.is) (high_in n sorted i x so_far.ends read.in_range read.is) (λ same. differ (low_is ∙ same ∙ sym high_is)) (subst₂ (λ a b. AreMerged n (λ v. get_or table v 0) (λ v. get_or table' v 0) a b) low_is high_is (merged_by_renaming n (λ v. get_or table v 0) (λ v. get_or table' v 0) low high (λ u u_in. by_renaming u (let len = so_far.len in omega arith)))));
+}
+  where
+    low_is : low ≡ get_or table x.low 0
+    low_is = low_label n sorted i taken table x low high so_far read
+
+    high_is : high ≡ get_or table x.high 0
+    high_is = high_label n sorted i taken table x low high so_far read
+
+-- all links were seen
+pub table_end : (n : ℕ) (links sorted : List Link) (i : ℕ) (taken : List Link) (table : List ℕ) → IsPermutation links sorted → GrownTable n sorted i taken table → length sorted ≤ i → IsForestOf links taken
+table_end n links sorted i taken table moved so_far all =
+    forest_of_same sorted links taken (λ l. (Contains-permutation sorted links l (IsPermutation-sym links sorted moved), Contains-permutation links sorted l moved)) (subst (λ seen. IsForestOf seen taken) (take_all i sorted all) so_far.grown.forest)

@@ -1,0 +1,6 @@
+use Rattle.std.proofs.Common.{ℕ, ◌<◌, ◌≤◌}
+use Rattle.link_key.specs.Labels.{IsLabelled}
+use Rattle.link_key.proofs.labellings.are_labels.Given as goal
+
+abbrev pub invariant-loop-v : goal.invariant-loop-v
+invariant-loop-v l = (u : ℕ) → 1 ≤ u → u < l.v → IsLabelled l.labels u

@@ -1,0 +1,6 @@
+pub mod Arc
+pub mod Link
+pub mod Walk
+pub mod Forest
+pub mod Labels
+pub mod Offers

@@ -1,0 +1,64 @@
+ghost use Rattle.std.specs.Prelude.{◌≡◌, ◌↔◌, IsSome, IfSome, IsTrue};
+ghost use Rattle.link_key.specs.Link.{IsAscending};
+
+use crate::links::Link;
+use std::alloc::{Allocator, Global};
+use std::marker::Model;
+
+/// Links in strictly ascending order of their keys: the form in which a forest is handed on and written.
+///
+/// That its links are the forest of some graph is what the call says that gave it.
+#[derive(Drop)]
+pub struct Forest<A: Allocator = Global> {
+    links: Vec<Link, A>,
+}
+
+impl<A: Allocator> Model for Forest<A> {
+    ghost use Rattle.std.specs.Prelude.{List};
+    ghost use Rattle.link_key.specs.Link.{IsAscending};
+    ghost use Rattle.link_key.specs.declared.links.Link.{Link};
+
+    ghost Value = { List Link };
+
+    ghost view = { λ f. f.links.items };
+
+    ghost invariant = { λ f. IsAscending f.links.items };
+}
+
+// Whether each link has a smaller key than the next, and so than all later ones.
+fn is_ascending(links: &[Link]) -> bool
+    ensures { IsTrue result ↔ IsAscending links.now }
+{
+    links.is_sorted_by(|earlier, later| earlier < later)
+}
+
+impl<A: Allocator> Forest<A> {
+    /// The links of a list that ascends strictly; none, and the list is dropped, where it doesn't. It looks at each
+    /// link once, takes no memory and keeps the list's.
+    pub fn of_list(links: Vec<Link, A>) -> Option<Self>
+        ensures exactly_ascending { IsSome result ↔ IsAscending links.items }
+        ensures same_links { IfSome result (λ forest. forest ≡ links.items) }
+    {
+        if is_ascending(links.as_slice()) {
+            Some(Forest { links })
+        } else {
+            None
+        }
+    }
+
+    // A forest of links that are known to ascend.
+    pub(crate) fn of_ascending(links: Vec<Link, A>) -> Self
+        requires { IsAscending links.items }
+        ensures { result ≡ links.items }
+    {
+        Forest { links }
+    }
+
+    /// Its links, in ascending order, each once.
+    pub fn links(&self) -> &[Link]
+        ensures links { result.now ≡ self.now }
+        ensures ascending { IsAscending self.now }
+    {
+        self.links.as_slice()
+    }
+}

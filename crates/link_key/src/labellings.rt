@@ -1,0 +1,107 @@
+ghost use Rattle.std.specs.Prelude.{◌≡◌, ◌≤◌, ◌^◌, ◌↔◌, length, IsSome, IfSome, IfOk, IsTrue};
+ghost use Rattle.link_key.specs.Labels.{label_of, IsLabelled, AreLabels, AreApart};
+
+use std::alloc::{AllocError, Allocator, Global};
+use std::marker::Model;
+
+/// Labels of the vertices 1 to n of a graph: vertices with one label are one component.
+///
+/// A label is from 1 to its vertex, and a label's label is itself, so each component is named by one of its
+/// vertices. At most 2^26 vertices, 4 bytes each.
+#[derive(Drop)]
+pub struct Labels<A: Allocator = Global> {
+    labels: Vec<u32, A>,
+}
+
+impl<A: Allocator> Model for Labels<A> {
+    ghost use Rattle.std.specs.Prelude.{ℕ, List};
+    ghost use Rattle.link_key.specs.Labels.{AreLabels};
+
+    ghost Value = { List ℕ };
+
+    ghost view = { λ s. s.labels.items };
+
+    ghost invariant = { λ s. AreLabels s.labels.items };
+}
+
+impl<A: Allocator + Copy> Labels<A> {
+    /// Each of the vertices 1 to `n` labelled by itself. The only error is want of memory.
+    pub fn apart(alloc: A, n: u32) -> Result<Self, AllocError>
+        requires { n ≤ 2 ^ 26 }
+        ensures apart { IfOk result (AreApart n) }
+    {
+        let mut labels = Vec::with_capacity(alloc, n as usize)?;
+        for v in 1..n + 1 {
+            labels.push(v)?;
+        }
+        Ok(Labels { labels })
+    }
+}
+
+impl<A: Allocator> Labels<A> {
+    /// The labels of a list, in the order of the vertices; none, and the list is dropped, where they are no such
+    /// labels or more than 2^26. It looks at each label once and where that points, takes no memory and keeps the
+    /// list's.
+    pub fn of_list(labels: Vec<u32, A>) -> Option<Self>
+        ensures exactly_labels { IsSome result ↔ AreLabels labels.items }
+        ensures same_labels { IfSome result (λ made. made ≡ labels.items) }
+    {
+        if are_labels(labels.as_slice()) {
+            Some(Labels { labels })
+        } else {
+            None
+        }
+    }
+
+    /// The label of vertex `v`.
+    pub fn of(&self, v: u32) -> u32
+        requires from_one { 1 ≤ v }
+        requires to_n { v ≤ length self.now }
+        ensures label { result ≡ label_of self.now v }
+        ensures label_from_one { 1 ≤ result }
+        ensures label_to_vertex { result ≤ v }
+    {
+        self.labels[v as usize - 1]
+    }
+
+    /// The number of vertices.
+    pub fn n(&self) -> u32
+        ensures vertices { result ≡ length self.now }
+        ensures are_labels { AreLabels self.now }
+    {
+        self.labels.len() as u32
+    }
+
+    /// The labels of the vertices 1 to n in order, so that of vertex v stands at v - 1.
+    pub fn as_slice(&self) -> &[u32]
+        ensures labels { result.now ≡ self.now }
+        ensures are_labels { AreLabels self.now }
+    {
+        self.labels.as_slice()
+    }
+}
+
+// Whether the list holds labels of the vertices 1, 2, .. in order.
+fn are_labels(labels: &[u32]) -> bool
+    ensures { IsTrue result ↔ AreLabels labels.now }
+{
+    if labels.len() > 1 << 26 {
+        return false;
+    }
+    for v in 1..labels.len() + 1 {
+        if !is_labelled(labels, v) {
+            return false;
+        }
+    }
+    true
+}
+
+// Whether the label of vertex v is from 1 to v, and its own label.
+fn is_labelled(labels: &[u32], v: usize) -> bool
+    requires from_one { 1 ≤ v }
+    requires to_n { v ≤ length labels.now }
+    ensures { IsTrue result ↔ IsLabelled labels.now v }
+{
+    let label = labels[v - 1];
+    label != 0 && label as usize <= v && labels[label as usize - 1] == label
+}

@@ -1,0 +1,40 @@
+ghost use Rattle.std.specs.Prelude.{◌≡◌, ℕ, ◌<◌, ◌≤◌, ◌^◌, ◌↔◌, IsNone, IfSome, min, max};
+
+/// A link of an undirected graph: two different vertices, the lower one first, and a weight.
+///
+/// Links compare by their keys: the weight, then the lower end, then the higher end. So links that are equal are
+/// one link, and two links between the same vertices differ in their weights. The vertices are numbered from 1 to
+/// at most 2^26.
+#[derive(Clone, Copy, Debug, PartialEq, Eq, PartialOrd, Ord, Hash)]
+pub struct Link {
+    pub weight: i32,
+    pub low: u32,
+    pub high: u32,
+    ghost from_one: { 1 ≤ low },
+    ghost ascending: { low < high },
+    ghost in_limit: { high ≤ 2 ^ 26 },
+}
+
+impl Link {
+    ghost use Rattle.link_key.specs.Link.{key_of, arc_key};
+
+    /// The link of an arc from `u` to `v` of weight `w`, whose direction is forgotten; none for a loop, an arc from
+    /// a vertex to itself. It takes no memory.
+    pub fn of_arc(u: u32, v: u32, w: i32) -> Option<Link>
+        requires tail_from_one { 1 ≤ u }
+        requires tail_in_limit { u ≤ 2 ^ 26 }
+        requires head_from_one { 1 ≤ v }
+        requires head_in_limit { v ≤ 2 ^ 26 }
+        ensures none_for_a_loop { IsNone result ↔ (u ≡ v) }
+        ensures key { IfSome result (λ l. key_of l ≡ arc_key (record { tail = u; head = v; weight = w })) }
+    {
+        if u == v {
+            return None;
+        }
+        Some(Link {
+            weight: w,
+            low: u.min(v),
+            high: u.max(v),
+        })
+    }
+}

@@ -1,0 +1,8 @@
+use crate::links::Link;
+
+/// A numbered part of a list of links, as a worker holds it. Numbers count from 0.
+#[derive(Clone, Copy, Debug)]
+pub struct Shard<'a> {
+    pub number: u32,
+    pub links: &'a [Link],
+}
