@@ -1,0 +1,67 @@
+-- The lines of a text when more of it comes.
+use Rattle.std.proofs.Common.{◌≡◌, ◌≢◌, ℕ, List, [], ◌∷◌, ◌++◌, refl, ap, sym, ◌∙◌, append_assoc, append-nil, ◌⊎◌, inl, inr}
+use Rattle.std.specs.List.{AllByRecursion, flat_map}
+use Rattle.std.proofs.lemmas.Grind.{flat_map-append}
+use Rattle.std.proofs.lemmas.Bool.Decides.{eqb_tells}
+use Rattle.gr_text.specs.Lines.{line_feed, IsLine, ended, EndsLines}
+use Rattle.gr_text.proofs.Steps.{AllByRecursion-push}
+
+pub EndsLines-none : EndsLines [] [] []
+EndsLines-none = record { whole = refl; each = tt; last = tt }
+
+-- one more byte of a line
+pub EndsLines-byte : (text : List ℕ) (lines : List (List ℕ)) (part : List ℕ) (b : ℕ) → EndsLines text lines part → b ≢ line_feed → EndsLines (text ++ b ∷ []) lines (part ++ b ∷ [])
+EndsLines-byte text lines part b cut other = record {
+  whole = ap (λ (xs : List ℕ). xs ++ b ∷ []) cut.whole ∙ append_assoc (flat_map ended lines) part (b ∷ []);
+  each = cut.each;
+  last = AllByRecursion-push (λ b. b ≢ line_feed) part b cut.last other;
+}
+
+-- a line feed ends the line
+pub EndsLines-feed : (text : List ℕ) (lines : List (List ℕ)) (part : List ℕ) → EndsLines text lines part → EndsLines (text ++ line_feed ∷ []) (lines ++ part ∷ []) []
+EndsLines-feed text lines part cut = record {
+  whole = ap (λ (xs : List ℕ). xs ++ line_feed ∷ []) cut.whole ∙ append_assoc (flat_map ended lines) part (line_feed ∷ [])
+      ∙ ap (λ (xs : List ℕ). flat_map ended lines ++ xs) (sym (append-nil (ended part)))
+      ∙ sym (flat_map-append ended lines (part ∷ [])) ∙ sym (append-nil (flat_map ended (lines ++ part ∷ [])));
+  each = AllByRecursion-push IsLine lines part cut.each cut.last;
+  last = tt;
+}
+
+All-both : {X : Type 0} (P : X → Type 0) (xs ys : List X) → AllByRecursion P xs → AllByRecursion P ys → AllByRecursion P (xs ++ ys)
+All-both P [] ys px py = py
+All-both P (x ∷ xs) ys px py = (px.0, All-both P xs ys px.1 py)
+
+-- whole lines, and then a text
+pub EndsLines-append : (s t : List ℕ) (ls ms : List (List ℕ)) (r : List ℕ) → EndsLines s ls [] → EndsLines t ms r → EndsLines (s ++ t) (ls ++ ms) r
+EndsLines-append s t ls ms r a b = record {
+  whole = ap (λ (xs : List ℕ). xs ++ t) (a.whole ∙ append-nil (flat_map ended ls)) ∙ ap (λ (xs : List ℕ). flat_map ended ls ++ xs) b.whole
+      ∙ sym (append_assoc (flat_map ended ls) (flat_map ended ms) r) ∙ ap (λ (xs : List ℕ). xs ++ r) (sym (flat_map-append ended ls ms));
+  each = All-both IsLine ls ms a.each b.each;
+  last = b.last;
+}
+
+cut_with : (b : ℕ) (text : List ℕ) → (b ≡ line_feed) ⊎ (b ≢ line_feed) → (lines : List (List ℕ)) (part : List ℕ) → EndsLines text lines part
+    → (lines : List (List ℕ)) × (part : List ℕ) × EndsLines (b ∷ text) lines part
+cut_with b text (inl feeds) lines part cut =
+    ([] ∷ lines, part, record { whole = ap (λ (x : ℕ). x ∷ text) feeds ∙ ap (λ (xs : List ℕ). line_feed ∷ xs) cut.whole; each = (tt, cut.each); last = cut.last })
+cut_with b text (inr other) [] part cut =
+    ([], b ∷ part, record { whole = ap (λ (xs : List ℕ). b ∷ xs) cut.whole; each = tt; last = (other, cut.last) })
+cut_with b text (inr other) (line ∷ lines) part cut =
+    ((b ∷ line) ∷ lines, part, record { whole = ap (λ (xs : List ℕ). b ∷ xs) cut.whole; each = ((other, cut.each.0), cut.each.1); last = cut.last })
+
+-- Every text is whole lines and then a part of one. By induction from the front.
+pub cut_of : (text : List ℕ) → (lines : List (List ℕ)) × (part : List ℕ) × EndsLines text lines part
+cut_of [] = ([], [], EndsLines-none)
+cut_of (b ∷ text) =
+    let (lines, part, cut) = cut_of text in
+    let tells : (b ≡ line_feed) ⊎ (b ≢ line_feed) = elim (eqb_tells b line_feed) [ inl (test, same) ↦ inl same | inr (test, other) ↦ inr other ] in
+    cut_with b text tells lines part cut
+
+-- a text of which the rest goes on
+pub EndsLines-more : (s t : List ℕ) (ls ms : List (List ℕ)) (part r : List ℕ) → EndsLines s ls part → EndsLines (part ++ t) ms r → EndsLines (s ++ t) (ls ++ ms) r
+EndsLines-more s t ls ms part r a b = record {
+  whole = ap (λ (xs : List ℕ). xs ++ t) a.whole ∙ append_assoc (flat_map ended ls) part t ∙ ap (λ (xs : List ℕ). flat_map ended ls ++ xs) b.whole
+      ∙ sym (append_assoc (flat_map ended ls) (flat_map ended ms) r) ∙ ap (λ (xs : List ℕ). xs ++ r) (sym (flat_map-append ended ls ms));
+  each = All-both IsLine ls ms a.each b.each;
+  last = b.last;
+}

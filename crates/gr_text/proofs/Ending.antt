@@ -1,0 +1,106 @@
+-- The end of a text: its last line, and what lacks.
+use Rattle.std.proofs.Common.{◌≡◌, ℕ, ◌+◌, ◌≤◌, inl, inr, List, [], ◌∷◌, ◌++◌, refl, sym, ◌∙◌, subst, arith, append-nil, length, true, false, Result, Ok, Err, MatchResult, Option}
+use Rattle.std.proofs.lemmas.List.{length_push}
+use Rattle.std.proofs.lemmas.Bool.Decides.{leb_tells}
+use Rattle.link_key.specs.declared.links.Link.{Link}
+use Rattle.gr_text.specs.Lines.{with_last, AreLines}
+use Rattle.gr_text.specs.Graph.{GraphValue}
+use Rattle.gr_text.specs.Fault.{IsFirstFaulty, IsFirstFault, IsEndedFault}
+use Rattle.gr_text.specs.Reading.{IsLineFault, IsGraphOfLines, IsLack}
+use Rattle.gr_text.specs.Partial.{is_begun}
+use Rattle.gr_text.specs.Reader.{Stands, StopsBy, FailsBy, IsRead, IsReadWhole}
+use Rattle.gr_text.specs.declared.faults.GrKind.{GrKind}
+use Rattle.gr_text.specs.declared.faults.ReadFault.{ReadFault}
+use Rattle.gr_text.specs.declared.faults.ReadFault.TheVariants as fault
+use Rattle.gr_text.specs.declared.partial.Partial.{Partial}
+use Rattle.gr_text.specs.declared.sizes.Size.{Size}
+use Rattle.gr_text.proofs.Faulty.{fault_is_faulty}
+use Rattle.gr_text.proofs.Feeding.{IsFirstFaulty-more, take_all}
+use Rattle.gr_text.proofs.Standing.{lawful_of}
+
+-- the lines with a last one that has begun, and with none
+with_last-begun : (lines : List (List ℕ)) (part : List ℕ) → is_begun part ≡ true → with_last lines part ≡ lines ++ part ∷ []
+with_last-begun lines [] begun = absurd (cc)
+with_last-begun lines (b ∷ part) begun = refl
+
+with_last-none : (lines : List (List ℕ)) (part : List ℕ) → is_begun part ≡ false → with_last lines part ≡ lines
+with_last-none lines [] begun = refl
+with_last-none lines (b ∷ part) begun = absurd (cc)
+
+with_last-more : (lines : List (List ℕ)) (part : List ℕ) → (more : List (List ℕ)) × (with_last lines part ≡ lines ++ more)
+with_last-more lines [] = ([], sym (append-nil lines))
+with_last-more lines (b ∷ part) = ((b ∷ part) ∷ [], refl)
+
+-- the first faulty line among those that a line feed ends is that of the text
+pub first_of_ended : (text : List ℕ) (number : ℕ) (kind : GrKind) → IsEndedFault text number kind → IsFirstFault text number kind
+first_of_ended text number kind (lines, rest, cut, first) =
+    let (more, is) = with_last-more lines rest in (
+      with_last lines rest,
+      (lines, rest, cut, refl),
+      inl (subst (λ (xs : List (List ℕ)). IsFirstFaulty xs number kind) (sym is) (IsFirstFaulty-more lines more number kind first)),
+    )
+
+-- the last line has a fault
+pub last_fault : (e : ReadFault) (size : Option Size) (count : ℕ) (links : List Link) (partial : Partial) (number : ℕ) (text : List ℕ)
+    → (stands : Stands size count links partial number text) → is_begun stands.part ≡ true → IsLineFault e number stands.lines stands.part
+    → IsReadWhole text (Err e)
+last_fault (fault.Gr f) size count links partial number text stands begun (line_is, fits) =
+    let lawful = lawful_of size count links stands.lines stands.give in (
+      with_last stands.lines stands.part,
+      (stands.lines, stands.part, stands.cut, refl),
+      inl (subst (λ (xs : List (List ℕ)). IsFirstFaulty xs f.line f.kind) (sym (with_last-begun stands.lines stands.part begun)) (record {
+        before = stands.lines;
+        line = stands.part;
+        after = [];
+        parted = refl;
+        counted = line_is ∙ stands.numbered;
+        lawful = lawful;
+        faulty = fault_is_faulty stands.lines stands.part f.kind lawful fits;
+        kind_fits = fits;
+      })),
+    )
+last_fault (fault.Source k) size count links partial number text stands begun no_such = no_such
+last_fault fault.TooLong size count links partial number text stands begun no_such = no_such
+last_fault fault.Memory size count links partial number text stands begun any = tt
+
+-- what the lines of the whole text give
+graph_of : (r : Result GraphValue ReadFault) (text : List ℕ) (lines : List (List ℕ)) (number : ℕ) → AreLines text lines → number ≡ length lines + 1
+    → MatchResult r (λ graph. IsGraphOfLines lines graph) (λ e. IsLack e number lines) → IsReadWhole text r
+graph_of (Ok graph) text lines number are numbered (arcs, lawful, links) = (arcs, (lines, are, lawful), links)
+graph_of (Err (fault.Gr f)) text lines number are numbered (line_is, lacks) = (lines, are, inr (lacks, line_is ∙ numbered))
+graph_of (Err (fault.Source k)) text lines number are numbered no_such = no_such
+graph_of (Err fault.TooLong) text lines number are numbered no_such = no_such
+graph_of (Err fault.Memory) text lines number are numbered no_such = absurd no_such
+
+-- the text ends in a line feed, or is empty
+pub ends_whole : (r : Result GraphValue ReadFault) (size : Option Size) (count : ℕ) (links : List Link) (partial : Partial) (number : ℕ) (text : List ℕ)
+    → (stands : Stands size count links partial number text) → is_begun stands.part ≡ false
+    → MatchResult r (λ graph. IsGraphOfLines stands.lines graph) (λ e. IsLack e number stands.lines) → IsReadWhole text r
+ends_whole r size count links partial number text stands none gives =
+    graph_of r text stands.lines number (stands.lines, stands.part, stands.cut, sym (with_last-none stands.lines stands.part none)) stands.numbered gives
+
+-- the last line lacks its line feed, and is taken
+pub ends_within : (r : Result GraphValue ReadFault) (size : Option Size) (count : ℕ) (links : List Link) (partial : Partial) (number : ℕ) (text : List ℕ)
+    → (stands : Stands size count links partial number text) → is_begun stands.part ≡ true
+    → MatchResult r (λ graph. IsGraphOfLines (stands.lines ++ stands.part ∷ []) graph) (λ e. IsLack e (number + 1) (stands.lines ++ stands.part ∷ [])) → IsReadWhole text r
+ends_within r size count links partial number text stands begun gives =
+    graph_of r text (stands.lines ++ stands.part ∷ []) (number + 1) (stands.lines, stands.part, stands.cut, sym (with_last-begun stands.lines stands.part begun))
+    (omega (arith, length_push stands.lines stands.part, stands.numbered)) gives
+
+-- what stopped the reader is why the whole text isn't read
+pub fails_of_stops : (e : ReadFault) (limit : ℕ) (text : List ℕ) → StopsBy e limit text → FailsBy e limit text
+fails_of_stops (fault.Gr f) limit text stops = elim (leb_tells (length text) limit) [
+  | inl (test, short) ↦ inl (short, first_of_ended text f.line f.kind (subst (λ (xs : List ℕ). IsEndedFault xs f.line f.kind) (take_all text limit short) stops))
+  | inr (test, long) ↦ inr (long, stops)
+]
+fails_of_stops (fault.Source k) limit text stops = stops
+fails_of_stops fault.TooLong limit text stops = stops
+fails_of_stops fault.Memory limit text stops = tt
+
+-- a text within the limit
+pub read_of_whole : (r : Result GraphValue ReadFault) (limit : ℕ) (text : List ℕ) → length text ≤ limit → IsReadWhole text r → IsRead limit text r
+read_of_whole (Ok graph) limit text short whole = (short, whole)
+read_of_whole (Err (fault.Gr f)) limit text short whole = inl (short, whole)
+read_of_whole (Err (fault.Source k)) limit text short whole = whole
+read_of_whole (Err fault.TooLong) limit text short whole = absurd whole
+read_of_whole (Err fault.Memory) limit text short whole = tt

@@ -1,0 +1,132 @@
+-- What a reader has read when another piece is fed, and what stopped it stays.
+use Rattle.std.proofs.Common.{◌≡◌, ℕ, ◌+◌, ◌-◌, ◌<◌, ◌≤◌, min, inl, inr, List, [], ◌∷◌, ◌++◌, refl, ap, sym, ◌∙◌, subst, arith, append_assoc, length, take, Option, Some, None, length-append, append-nil, MatchOption, ◌==◌, ◌⊎◌, Bool, cond}
+use Rattle.std.specs.List.{AllByRecursion, flat_map, count_by}
+use Rattle.std.proofs.lemmas.List.{take-append-le}
+use Rattle.std.proofs.Math.Seq.{take-append-add, take-nil}
+use Rattle.std.proofs.lemmas.List.Sums.{sum_by-append}
+use Rattle.std.proofs.lemmas.Bool.Decides.{eqb_tells, leb_tells}
+use Rattle.link_key.specs.declared.links.Link.{Link}
+use Rattle.gr_text.specs.Lines.{line_feed, IsLine, ended, EndsLines}
+use Rattle.gr_text.specs.Fault.{IsFirstFaulty, IsEndedFault, HasLawfulLines}
+use Rattle.gr_text.specs.Reader.{ReaderValue, Stands, StopsAt, StopsBy, HasRead}
+use Rattle.gr_text.specs.declared.faults.GrKind.{GrKind}
+use Rattle.gr_text.specs.declared.faults.ReadFault.{ReadFault}
+use Rattle.gr_text.specs.declared.faults.ReadFault.TheVariants as fault
+use Rattle.gr_text.specs.declared.partial.Partial.{Partial}
+use Rattle.gr_text.specs.declared.sizes.Size.{Size}
+use Rattle.gr_text.proofs.Cuts.{cut_of, EndsLines-more}
+use Rattle.gr_text.proofs.Standing.{lawful_of}
+
+-- more lines behind the first faulty one
+pub IsFirstFaulty-more : (lines more : List (List ℕ)) (number : ℕ) (kind : GrKind) → IsFirstFaulty lines number kind → IsFirstFaulty (lines ++ more) number kind
+IsFirstFaulty-more lines more number kind first = record {
+  before = first.before;
+  line = first.line;
+  after = first.after ++ more;
+  parted = ap (λ (xs : List (List ℕ)). xs ++ more) first.parted ∙ append_assoc first.before (first.line ∷ first.after) more;
+  counted = first.counted;
+  lawful = first.lawful;
+  faulty = first.faulty;
+  kind_fits = first.kind_fits;
+}
+
+pub IsEndedFault-more : (text more : List ℕ) (number : ℕ) (kind : GrKind) → IsEndedFault text number kind → IsEndedFault (text ++ more) number kind
+IsEndedFault-more text more number kind (lines, rest, cut, first) =
+    let (others, r, cut') = cut_of (rest ++ more) in
+    (lines ++ others, r, EndsLines-more text more lines others rest r cut cut', IsFirstFaulty-more lines others number kind first)
+
+order_of : (a b : ℕ) → (a ≤ b) ⊎ (b ≤ a)
+order_of a b = elim (leb_tells a b) [ inl (test, less) ↦ inl (omega arith) | inr (test, more) ↦ inr (omega arith) ]
+
+pub take_all : (xs : List ℕ) (n : ℕ) → length xs ≤ n → take n xs ≡ xs
+take_all xs n long =
+    let whole : n ≡ length xs + (n - length xs) = omega arith in
+    ap (λ (k : ℕ). take k xs) whole ∙ ap (take (length xs + (n - length xs))) (sym (append-nil xs)) ∙ take-append-add xs [] (n - length xs)
+    ∙ ap (λ (ys : List ℕ). xs ++ ys) (take-nil (n - length xs)) ∙ append-nil xs
+
+-- a front of a longer text
+pub take_of_more : (limit : ℕ) (text more : List ℕ) → take limit (text ++ more) ≡ take limit text ++ take (limit - length text) more
+take_of_more limit text more = elim (order_of limit (length text)) [
+  | inl short ↦ (let none : limit - length text ≡ 0 = omega arith in
+      take-append-le limit text more short ∙ sym (append-nil (take limit text)) ∙ ap (λ (k : ℕ). take limit text ++ take k more) (sym none))
+  | inr long ↦ (let whole : limit ≡ length text + (limit - length text) = omega arith in
+      ap (λ (k : ℕ). take k (text ++ more)) whole ∙ take-append-add text more (limit - length text) ∙ ap (λ (xs : List ℕ). xs ++ take (limit - length text) more) (sym (take_all text limit long)))
+]
+
+-- what stopped the reader is right of every longer text
+pub StopsBy-more : (e : ReadFault) (limit : ℕ) (text more : List ℕ) → StopsBy e limit text → StopsBy e limit (text ++ more)
+StopsBy-more (fault.Gr f) limit text more stops =
+    subst (λ (xs : List ℕ). IsEndedFault xs f.line f.kind) (sym (take_of_more limit text more)) (IsEndedFault-more (take limit text) (take (limit - length text) more) f.line f.kind stops)
+StopsBy-more (fault.Source number) limit text more stops = stops
+StopsBy-more fault.TooLong limit text more (longer, lawful) =
+    (omega (arith, length-append text more), subst HasLawfulLines (sym (take-append-le limit text more (omega arith))) lawful)
+StopsBy-more fault.Memory limit text more stops = tt
+
+-- what the reader has read, by whether it has a fault
+pub read_on : (reader : ReaderValue) (text : List ℕ) → reader.fault ≡ None → HasRead reader text
+    → (length text ≤ reader.limit) × (length text ≡ reader.fed) × Stands reader.size reader.count reader.links reader.partial reader.number text
+read_on reader text is read =
+    let P : Option ReadFault → Type 0 = λ o. MatchOption o ((length text ≤ reader.limit) × (length text ≡ reader.fed) × Stands reader.size reader.count reader.links reader.partial reader.number text) (λ f. StopsBy f reader.limit text) in
+    subst P is read.outcome
+
+pub stopped_by : (reader : ReaderValue) (e : ReadFault) (text : List ℕ) → reader.fault ≡ Some e → HasRead reader text → StopsBy e reader.limit text
+stopped_by reader e text is read =
+    let P : Option ReadFault → Type 0 = λ o. MatchOption o ((length text ≤ reader.limit) × (length text ≡ reader.fed) × Stands reader.size reader.count reader.links reader.partial reader.number text) (λ f. StopsBy f reader.limit text) in
+    subst P is read.outcome
+
+pub has_stopped : (reader : ReaderValue) (e : ReadFault) (text : List ℕ) → reader.fault ≡ Some e → StopsBy e reader.limit text → HasRead reader text
+has_stopped reader e text is stops =
+    let P : Option ReadFault → Type 0 = λ o. MatchOption o ((length text ≤ reader.limit) × (length text ≡ reader.fed) × Stands reader.size reader.count reader.links reader.partial reader.number text) (λ f. StopsBy f reader.limit text) in
+    record { outcome = subst P (sym is) stops }
+
+-- a reader that has stopped
+pub HasRead-fault : (reader : ReaderValue) (e : ReadFault) (text more : List ℕ) → reader.fault ≡ Some e → HasRead reader text → HasRead reader (text ++ more)
+HasRead-fault reader e text more is read = has_stopped reader e (text ++ more) is (StopsBy-more e reader.limit text more (stopped_by reader e text is read))
+
+-- the part of a piece that fits the limit
+pub fitting : (limit fed len : ℕ) (text piece : List ℕ) → length text ≡ fed → fed ≤ limit → len ≡ min (limit - fed) (length piece) → take limit (text ++ piece) ≡ text ++ take len piece
+fitting limit fed len text piece counted within is =
+    take_of_more limit text piece ∙ ap (λ (xs : List ℕ). xs ++ take (limit - length text) piece) (take_all text limit (omega arith))
+    ∙ ap (λ (xs : List ℕ). text ++ xs) (elim (order_of (limit - length text) (length piece)) [
+      | inl short ↦ (let same : limit - length text ≡ len = omega arith in ap (λ (k : ℕ). take k piece) same)
+      | inr long ↦ (let same : len ≡ length piece = omega arith in take_all piece (limit - length text) long ∙ sym (ap (λ (k : ℕ). take k piece) same ∙ take_all piece (length piece) (omega arith)))
+    ])
+
+-- the reader stops within a piece
+pub stops_within : (e : ReadFault) (limit fed len : ℕ) (text piece : List ℕ) → length text ≡ fed → fed ≤ limit → len ≡ min (limit - fed) (length piece) → StopsAt e (text ++ take len piece) → StopsBy e limit (text ++ piece)
+stops_within (fault.Gr f) limit fed len text piece counted within is stops =
+    subst (λ (xs : List ℕ). IsEndedFault xs f.line f.kind) (sym (fitting limit fed len text piece counted within is)) stops
+stops_within (fault.Source number) limit fed len text piece counted within is stops = stops
+stops_within fault.TooLong limit fed len text piece counted within is stops = absurd stops
+stops_within fault.Memory limit fed len text piece counted within is stops = tt
+
+-- the piece goes past the limit
+pub too_long : (limit fed len : ℕ) (text piece : List ℕ) → length text ≡ fed → fed ≤ limit → len ≡ min (limit - fed) (length piece) → len < length piece
+    → HasLawfulLines (text ++ take len piece) → StopsBy fault.TooLong limit (text ++ piece)
+too_long limit fed len text piece counted within is short lawful =
+    (omega (arith, length-append text piece), subst HasLawfulLines (sym (fitting limit fed len text piece counted within is)) lawful)
+
+pub lawful_lines : (size : Option Size) (count : ℕ) (links : List Link) (partial : Partial) (number : ℕ) (text : List ℕ) → Stands size count links partial number text → HasLawfulLines text
+lawful_lines size count links partial number text stands = (stands.lines, stands.part, stands.cut, lawful_of size count links stands.lines stands.give)
+
+-- the line feeds of a text end its lines
+feeds-append : (xs ys : List ℕ) → count_by (λ b. b == line_feed) (xs ++ ys) ≡ count_by (λ b. b == line_feed) xs + count_by (λ b. b == line_feed) ys
+feeds-append xs ys = sum_by-append (λ (b : ℕ). cond (b == line_feed) 1 0) xs ys
+
+no_feeds : (part : List ℕ) → IsLine part → count_by (λ b. b == line_feed) part ≡ 0
+no_feeds [] is_line = refl
+no_feeds (b ∷ part) is_line =
+    feeds-append (b ∷ []) part ∙ ap (λ (n : ℕ). count_by (λ b. b == line_feed) (b ∷ []) + n) (no_feeds part is_line.1)
+    ∙ elim (eqb_tells b line_feed) [ inl (test, same) ↦ absurd (is_line.0 same) | inr (test, other) ↦ ap (λ (t : Bool). 0 + cond t 1 0 + 0) test ]
+
+one_each : (lines : List (List ℕ)) → AllByRecursion IsLine lines → count_by (λ b. b == line_feed) (flat_map ended lines) ≡ length lines
+one_each [] each = refl
+one_each (line ∷ lines) each =
+    feeds-append (ended line) (flat_map ended lines)
+    ∙ ap (λ (n : ℕ). n + count_by (λ b. b == line_feed) (flat_map ended lines)) (feeds-append line (line_feed ∷ []) ∙ ap (λ (n : ℕ). n + 1) (no_feeds line each.0))
+    ∙ ap (λ (n : ℕ). 1 + n) (one_each lines each.1) ∙ omega arith
+
+pub feeds_of : (text : List ℕ) (lines : List (List ℕ)) (part : List ℕ) → EndsLines text lines part → count_by (λ b. b == line_feed) text ≡ length lines
+feeds_of text lines part cut =
+    ap (count_by (λ b. b == line_feed)) cut.whole ∙ feeds-append (flat_map ended lines) part
+    ∙ ap (λ (n : ℕ). count_by (λ b. b == line_feed) (flat_map ended lines) + n) (no_feeds part cut.last) ∙ omega (arith, one_each lines cut.each)

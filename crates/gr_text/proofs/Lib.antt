@@ -1,0 +1,17 @@
+pub mod FieldBytes
+pub mod LineFields
+pub mod Signed
+pub mod Judging
+pub mod Unique
+pub mod Broken
+pub mod Steps
+pub mod Parts
+pub mod Faulty
+pub mod Cuts
+pub mod Standing
+pub mod Feeding
+pub mod Ending
+pub mod Sourcing
+pub mod Handing
+pub mod ForestLines
+pub mod Texts

@@ -1,0 +1,120 @@
+-- What lines say when one more comes.
+use Rattle.std.proofs.Common.{◌≡◌, ℕ, ◌+◌, ◌<◌, ◌≤◌, inl, inr, List, [], ◌∷◌, ◌++◌, refl, ap, sym, ◌∙◌, subst, arith, append-nil, map, length, Option, Some, None, cond, true, false, Bool, ℤ, Result, Ok, Err, MatchResult}
+use Rattle.std.specs.List.{AllByRecursion, filter}
+use Rattle.std.proofs.lemmas.List.{map-append, length_push}
+use Rattle.std.proofs.lemmas.List.Elements.{filter-append}
+use Rattle.std.proofs.lemmas.Bool.Decides.{nat_tests}
+use Rattle.link_key.specs.Arc.{Arc}
+use Rattle.link_key.specs.Link.{Key, key_of, arc_key, is_no_loop, AreLinksOf}
+use Rattle.link_key.specs.declared.links.Link.{Link}
+use Rattle.gr_text.specs.Statement.{Statement, Problem, ArcLine, IsSilent, Says, Say}
+use Rattle.gr_text.specs.Graph.{IsArcOf, AreLawful}
+use Rattle.gr_text.specs.Reading.{Counts, Gives, Judges, AddsLink, IsLineFault}
+use Rattle.gr_text.specs.declared.sizes.Size.{Size}
+use Rattle.gr_text.specs.declared.faults.ReadFault.{ReadFault}
+use Rattle.gr_text.specs.declared.faults.ReadFault.TheVariants as fault
+use Rattle.gr_text.specs.declared.verdicts.Verdict.TheVariants as verdict
+
+-- a silent line adds nothing
+pub Say-silent : (lines : List (List ℕ)) (line : List ℕ) (ss : List Statement) → Say lines ss → IsSilent line → Say (lines ++ line ∷ []) ss
+Say-silent [] line ss say silent = inl (silent, say)
+Say-silent (first ∷ lines) line ss (inl (quiet, say)) silent = inl (quiet, Say-silent lines line ss say silent)
+Say-silent (first ∷ lines) line ss (inr (s, others, says, say, is)) silent = inr (s, others, says, Say-silent lines line others say silent, is)
+
+-- a line that makes a statement adds it
+pub Say-more : (lines : List (List ℕ)) (line : List ℕ) (ss : List Statement) (s : Statement) → Say lines ss → Says line s → Say (lines ++ line ∷ []) (ss ++ s ∷ [])
+Say-more [] line ss s say says = inr (s, [], says, refl, ap (λ (xs : List Statement). xs ++ s ∷ []) say)
+Say-more (first ∷ lines) line ss s (inl (quiet, say)) says = inl (quiet, Say-more lines line ss s say says)
+Say-more (first ∷ lines) line ss s (inr (t, others, told, say, is)) says =
+    inr (t, others ++ s ∷ [], told, Say-more lines line others s say says, ap (λ (xs : List Statement). xs ++ s ∷ []) is)
+
+pub AllByRecursion-push : {X : Type 0} (P : X → Type 0) (xs : List X) (x : X) → AllByRecursion P xs → P x → AllByRecursion P (xs ++ x ∷ [])
+AllByRecursion-push P [] x all p = (p, tt)
+AllByRecursion-push P (y ∷ xs) x all p = (all.0, AllByRecursion-push P xs x all.1 p)
+
+-- a silent line after lawful ones
+pub AreLawful-silent : (lines : List (List ℕ)) (line : List ℕ) (n m : ℕ) (arcs : List Arc) → AreLawful lines n m arcs → IsSilent line → AreLawful (lines ++ line ∷ []) n m arcs
+AreLawful-silent lines line n m arcs lawful silent = record {
+  say = Say-silent lines line (Problem n m ∷ map ArcLine arcs) lawful.say silent;
+  vertices = lawful.vertices;
+  arc_lines = lawful.arc_lines;
+  no_more = lawful.no_more;
+  each = lawful.each;
+}
+
+-- the problem line
+pub AreLawful-problem : (lines : List (List ℕ)) (line : List ℕ) (n m : ℕ) → Say lines [] → Says line (Problem n m) → n ≤ 67108864 → m ≤ 1073741824 → AreLawful (lines ++ line ∷ []) n m []
+AreLawful-problem lines line n m say says vertices arc_lines = record {
+  say = Say-more lines line [] (Problem n m) say says;
+  vertices = vertices;
+  arc_lines = arc_lines;
+  no_more = omega arith;
+  each = tt;
+}
+
+-- an arc line
+pub AreLawful-arc : (lines : List (List ℕ)) (line : List ℕ) (n m : ℕ) (arcs : List Arc) (arc : Arc) → AreLawful lines n m arcs → Says line (ArcLine arc) → IsArcOf n arc → length arcs < m → AreLawful (lines ++ line ∷ []) n m (arcs ++ arc ∷ [])
+AreLawful-arc lines line n m arcs arc lawful says is_arc room = record {
+  say = subst (λ (ss : List Statement). Say (lines ++ line ∷ []) (Problem n m ∷ ss)) (sym (map-append ArcLine arcs (arc ∷ [])))
+      (Say-more lines line (Problem n m ∷ map ArcLine arcs) (ArcLine arc) lawful.say says);
+  vertices = lawful.vertices;
+  arc_lines = lawful.arc_lines;
+  no_more = omega (arith, length_push arcs arc);
+  each = AllByRecursion-push (IsArcOf n) arcs arc lawful.each is_arc;
+}
+
+-- the links with that of one more arc
+pub AreLinksOf-loop : (arcs : List Arc) (links : List Link) (arc : Arc) → AreLinksOf arcs links → is_no_loop arc ≡ false → AreLinksOf (arcs ++ arc ∷ []) links
+AreLinksOf-loop arcs links arc are loop =
+    are ∙ ap (map arc_key) (sym (append-nil (filter is_no_loop arcs)) ∙ ap (λ (b : Bool). filter is_no_loop arcs ++ cond b (arc ∷ []) []) (sym loop)
+    ∙ sym (filter-append is_no_loop arcs (arc ∷ [])))
+
+pub AreLinksOf-link : (arcs : List Arc) (links : List Link) (arc : Arc) (link : Link) → AreLinksOf arcs links → is_no_loop arc ≡ true → key_of link ≡ arc_key arc → AreLinksOf (arcs ++ arc ∷ []) (links ++ link ∷ [])
+AreLinksOf-link arcs links arc link are no_loop key =
+    map-append key_of links (link ∷ [])
+    ∙ ap (λ (ks : List Key). ks ++ key_of link ∷ []) are
+    ∙ ap (λ (k : Key). map arc_key (filter is_no_loop arcs) ++ k ∷ []) key
+    ∙ sym (map-append arc_key (filter is_no_loop arcs) (arc ∷ []))
+    ∙ ap (map arc_key) (ap (λ (b : Bool). filter is_no_loop arcs ++ cond b (arc ∷ []) []) (sym no_loop) ∙ sym (filter-append is_no_loop arcs (arc ∷ [])))
+
+pub counts_of : (size : Option Size) (count : ℕ) (links : List Link) (lines : List (List ℕ)) → Gives size count links lines → Counts size count lines
+counts_of None count links lines (say, zero_count, none) = (say, zero_count)
+counts_of (Some size) count links lines (arcs, lawful, counted, are) = (arcs, lawful, counted)
+
+pub Gives-silent : (size : Option Size) (count : ℕ) (links : List Link) (lines : List (List ℕ)) (line : List ℕ) → Gives size count links lines → IsSilent line → Gives size count links (lines ++ line ∷ [])
+Gives-silent None count links lines line (say, zero_count, none) silent = (Say-silent lines line [] say silent, zero_count, none)
+Gives-silent (Some size) count links lines line (arcs, lawful, counted, are) silent =
+    (arcs, AreLawful-silent lines line size.vertices size.arcs arcs lawful silent, counted, are)
+
+pub Gives-problem : (size : Option Size) (new : Size) (count : ℕ) (links : List Link) (lines : List (List ℕ)) (line : List ℕ) → Gives size count links lines → Judges (verdict.Begins new) size count lines line
+    → Gives (Some new) count links (lines ++ line ∷ [])
+Gives-problem None new count links lines line (say, zero_count, none) (is, says, vertices, arcs) =
+    ([], AreLawful-problem lines line new.vertices new.arcs say says vertices arcs, sym zero_count, ap (map key_of) none)
+Gives-problem (Some size) new count links lines line gives (is, says, vertices, arcs) = absurd (cc)
+
+links_with : (arcs : List Arc) (old new : List Link) (arc : Arc) → AreLinksOf arcs old → AddsLink old new arc → AreLinksOf (arcs ++ arc ∷ []) new
+links_with arcs old new arc are (inl (same, is)) =
+    rw is (AreLinksOf-loop arcs old arc are (grind (arith, nat_tests)))
+links_with arcs old new arc are (inr (differ, (link, key, is))) =
+    rw is (AreLinksOf-link arcs old arc link are (grind (arith, nat_tests)) key)
+
+pub Gives-arc : (size size' : Option Size) (count count' : ℕ) (old new : List Link) (lines : List (List ℕ)) (line : List ℕ) (u v : ℕ) (w : ℤ)
+    → Gives size count old lines → Judges (verdict.Adds u v w) size count lines line → size' ≡ size → count' ≡ count + 1
+    → AddsLink old new (record { tail = u; head = v; weight = w }) → Gives size' count' new (lines ++ line ∷ [])
+Gives-arc None size' count count' old new lines line u v w gives judged same more adds = absurd judged
+Gives-arc (Some size) size' count count' old new lines line u v w (arcs, lawful, counted, are) (says, is_arc, room) same more adds =
+    let arc : Arc = record { tail = u; head = v; weight = w } in
+    subst (λ (s : Option Size). Gives s count' new (lines ++ line ∷ [])) (sym same) (
+      arcs ++ arc ∷ [],
+      AreLawful-arc lines line size.vertices size.arcs arcs arc lawful says is_arc (omega arith),
+      omega (arith, length_push arcs arc),
+      links_with arcs old new arc are adds,
+    )
+
+pub arc_taken : {X : Type 0} (r : Result X ReadFault) (size size' : Option Size) (count count' : ℕ) (old new : List Link) (lines : List (List ℕ)) (line : List ℕ) (u v : ℕ) (w : ℤ) (number : ℕ)
+    → MatchResult r (λ _. (size' ≡ size) × (count' ≡ count + 1) × AddsLink old new (record { tail = u; head = v; weight = w })) (λ e. e ≡ fault.Memory)
+    → Gives size count old lines → Judges (verdict.Adds u v w) size count lines line
+    → MatchResult r (λ _. Gives size' count' new (lines ++ line ∷ [])) (λ e. IsLineFault e number lines line)
+arc_taken (Ok x) size size' count count' old new lines line u v w number (same, more, adds) gives judged =
+    Gives-arc size size' count count' old new lines line u v w gives judged same more adds
+arc_taken (Err e) size size' count count' old new lines line u v w number is gives judged = rw is tt

@@ -1,0 +1,46 @@
+-- The graph that a text means.
+use Rattle.std.specs.Prelude.{ℕ, ℤ, pos, neg_ℤ, ◌≤ℤ◌, ◌<ℤ◌, ◌≤◌, ◌^◌, ◌⊎◌, List, [], ◌∷◌, map, length}
+use Rattle.std.specs.List.{AllByRecursion}
+use Rattle.link_key.specs.Arc.{Arc}
+use Rattle.link_key.specs.Link.{AreLinksOf}
+use Rattle.link_key.specs.declared.links.Link.{Link}
+use Rattle.gr_text.specs.Lines.{AreLines}
+use Rattle.gr_text.specs.Statement.{Problem, ArcLine, Say}
+
+-- an arc's ends are vertices
+pub record HasEnds (n : ℕ) (arc : Arc) : Type 0 where
+  pub tail_from_one : 1 ≤ arc.tail
+  pub tail_in_range : arc.tail ≤ n
+  pub head_from_one : 1 ≤ arc.head
+  pub head_in_range : arc.head ≤ n
+
+-- a weight has 32 bits
+abbrev pub IsWeight : ℤ → Type 0
+IsWeight w = (neg_ℤ (pos (2 ^ 31)) ≤ℤ w) × (w <ℤ pos (2 ^ 31))
+
+abbrev pub IsArcOf : ℕ → Arc → Type 0
+IsArcOf n arc = HasEnds n arc × IsWeight arc.weight
+
+-- the lines are one problem line of n and m within the limits, and then these arc lines, no more than m
+pub record AreLawful (lines : List (List ℕ)) (n m : ℕ) (arcs : List Arc) : Type 0 where
+  pub say : Say lines (Problem n m ∷ map ArcLine arcs)
+  pub vertices : n ≤ 2 ^ 26
+  pub arc_lines : m ≤ 2 ^ 30
+  pub no_more : length arcs ≤ m
+  pub each : AllByRecursion (IsArcOf n) arcs
+
+-- nothing is wrong with the lines so far: they say nothing, or are as above
+abbrev pub IsLawful : List (List ℕ) → Type 0
+IsLawful lines = Say lines [] ⊎ ((n m : ℕ) × (arcs : List Arc) × AreLawful lines n m arcs)
+
+-- the text means the graph of n vertices and these arcs: its lines are lawful, and there are as many arc lines as it states
+abbrev pub Means : List ℕ → ℕ → List Arc → Type 0
+Means text n arcs = (lines : List (List ℕ)) × AreLines text lines × AreLawful lines n (length arcs) arcs
+
+-- the graph of a text: its vertices, and the links of its arcs in the order of the file
+pub record GraphValue : Type 0 where
+  pub vertices : ℕ
+  pub links : List Link
+
+abbrev pub IsGraphOf : List ℕ → GraphValue → Type 0
+IsGraphOf text graph = (arcs : List Arc) × Means text graph.vertices arcs × AreLinksOf arcs graph.links

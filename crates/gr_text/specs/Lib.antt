@@ -1,0 +1,13 @@
+pub mod Lines
+pub mod Fields
+pub mod Statement
+pub mod Graph
+pub mod ForestText
+pub mod Fault
+pub mod Word
+pub mod Reading
+pub mod Partial
+pub mod Reader
+pub mod Sourced
+pub mod Handing
+pub mod Laws

@@ -1,0 +1,74 @@
+-- What a reader has read, and what it answers.
+use Rattle.std.specs.Prelude.{◌≡◌, ℕ, ◌+◌, ◌<◌, ◌≤◌, ◌⊎◌, List, length, take, Option, MatchOption, Result, Ok, Err}
+use Rattle.link_key.specs.declared.links.Link.{Link}
+use Rattle.gr_text.specs.Lines.{EndsLines}
+use Rattle.gr_text.specs.Graph.{GraphValue, IsGraphOf}
+use Rattle.gr_text.specs.Fault.{IsFirstFault, IsEndedFault, HasLawfulLines}
+use Rattle.gr_text.specs.Reading.{Gives}
+use Rattle.gr_text.specs.Partial.{IsKeptAs}
+use Rattle.gr_text.specs.declared.faults.ReadFault.{ReadFault}
+use Rattle.gr_text.specs.declared.faults.ReadFault.TheVariants as fault
+use Rattle.gr_text.specs.declared.sizes.Size.{Size}
+use Rattle.gr_text.specs.declared.partial.Partial.{Partial}
+
+-- the text is whole lines that give these, and then a part of a line, which is kept so
+pub record Stands (size : Option Size) (count : ℕ) (links : List Link) (partial : Partial) (number : ℕ) (text : List ℕ) : Type 0 where
+  pub lines : List (List ℕ)
+  pub part : List ℕ
+  pub cut : EndsLines text lines part
+  pub give : Gives size count links lines
+  pub kept : IsKeptAs partial part
+  pub numbered : number ≡ length lines + 1
+
+-- why a text isn't read on: the first faulty line among those that a line feed ends; or memory
+abbrev pub StopsAt : ReadFault → List ℕ → Type 0
+StopsAt (fault.Gr f) text = IsEndedFault text f.line f.kind
+StopsAt (fault.Source number) text = ⊥
+StopsAt fault.TooLong text = ⊥
+StopsAt fault.Memory text = Unit {0}
+
+-- why a text isn't read on, at most `limit` bytes of which may be read: the first faulty line among those that a line
+-- feed ends, or else that it is too long; or memory
+abbrev pub StopsBy : ReadFault → ℕ → List ℕ → Type 0
+StopsBy (fault.Gr f) limit text = IsEndedFault (take limit text) f.line f.kind
+StopsBy (fault.Source number) limit text = ⊥
+StopsBy fault.TooLong limit text = (limit < length text) × HasLawfulLines (take limit text)
+StopsBy fault.Memory limit text = Unit {0}
+
+-- why a whole text isn't read: its first fault, where it is within the limit
+abbrev pub FailsBy : ReadFault → ℕ → List ℕ → Type 0
+FailsBy (fault.Gr f) limit text =
+    ((length text ≤ limit) × IsFirstFault text f.line f.kind) ⊎ ((limit < length text) × IsEndedFault (take limit text) f.line f.kind)
+FailsBy (fault.Source number) limit text = ⊥
+FailsBy fault.TooLong limit text = (limit < length text) × HasLawfulLines (take limit text)
+FailsBy fault.Memory limit text = Unit {0}
+
+-- what the reader keeps
+pub record ReaderValue : Type 0 where
+  pub limit : ℕ
+  pub fed : ℕ
+  pub number : ℕ
+  pub partial : Partial
+  pub size : Option Size
+  pub count : ℕ
+  pub links : List Link
+  pub fault : Option ReadFault
+
+-- the reader was fed this text, in whatever pieces: it has a fault, which is right, or it has read all of it
+pub record HasRead (reader : ReaderValue) (text : List ℕ) : Type 0 where
+  pub outcome : MatchOption reader.fault
+      ((length text ≤ reader.limit) × (length text ≡ reader.fed) × Stands reader.size reader.count reader.links reader.partial reader.number text)
+      (λ f. StopsBy f reader.limit text)
+
+-- what a reader answers for a whole text: the graph that it means, where it is within the limit, or why there is none
+abbrev pub IsRead : ℕ → List ℕ → Result GraphValue ReadFault → Type 0
+IsRead limit text (Ok graph) = (length text ≤ limit) × IsGraphOf text graph
+IsRead limit text (Err e) = FailsBy e limit text
+
+-- what a whole text within the limit gives
+abbrev pub IsReadWhole : List ℕ → Result GraphValue ReadFault → Type 0
+IsReadWhole text (Ok graph) = IsGraphOf text graph
+IsReadWhole text (Err (fault.Gr f)) = IsFirstFault text f.line f.kind
+IsReadWhole text (Err (fault.Source number)) = ⊥
+IsReadWhole text (Err fault.TooLong) = ⊥
+IsReadWhole text (Err fault.Memory) = Unit {0}

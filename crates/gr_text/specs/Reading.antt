@@ -1,0 +1,70 @@
+-- What the lines that were read say, and what a further line does.
+use Rattle.std.specs.Prelude.{◌≡◌, ◌≢◌, ℕ, ◌<◌, ◌≤◌, ◌^◌, ◌⊎◌, List, [], length, Option, Some, None, ◌++◌, ◌∷◌}
+use Rattle.link_key.specs.Arc.{Arc}
+use Rattle.link_key.specs.Link.{key_of, arc_key, AreLinksOf, EndsUpTo}
+use Rattle.link_key.specs.declared.links.Link.{Link}
+use Rattle.gr_text.specs.Statement.{Problem, ArcLine, IsSilent, Says, Say}
+use Rattle.gr_text.specs.Graph.{GraphValue, IsArcOf, AreLawful}
+use Rattle.gr_text.specs.Fault.{IsFaultAfter, Lacks}
+use Rattle.gr_text.specs.declared.faults.ReadFault.{ReadFault}
+use Rattle.gr_text.specs.declared.faults.ReadFault.TheVariants as fault
+use Rattle.gr_text.specs.declared.sizes.Size.{Size}
+use Rattle.gr_text.specs.declared.verdicts.Verdict.{Verdict}
+use Rattle.gr_text.specs.declared.verdicts.Verdict.TheVariants as verdict
+
+-- the lines state this problem, if one, and as many arcs
+abbrev pub Counts : Option Size → ℕ → List (List ℕ) → Type 0
+Counts None count lines = Say lines [] × (count ≡ 0)
+Counts (Some size) count lines = (arcs : List Arc) × AreLawful lines size.vertices size.arcs arcs × (length arcs ≡ count)
+
+-- what a verdict promises of any lines: a problem comes first, and an arc has ends in range and finds room
+abbrev pub FitsAfter : Verdict → Option Size → ℕ → Type 0
+FitsAfter verdict.Silent size count = Unit {0}
+FitsAfter (verdict.Begins new) size count = size ≡ None
+FitsAfter (verdict.Adds u v w) size count =
+    (old : Size) × (size ≡ Some old) × (1 ≤ u) × (u ≤ old.vertices) × (1 ≤ v) × (v ≤ old.vertices) × (count < old.arcs)
+FitsAfter (verdict.Faulty kind) size count = Unit {0}
+
+-- what is kept of any lines: no more arcs than the problem states, and links of its vertices, no more than arcs
+abbrev pub IsSound : Option Size → ℕ → List Link → Type 0
+IsSound None count links = (count ≡ 0) × (links ≡ [])
+IsSound (Some size) count links = (count ≤ size.arcs) × EndsUpTo size.vertices links × (length links ≤ count)
+
+-- what a further line does after these
+abbrev pub Judges : Verdict → Option Size → ℕ → List (List ℕ) → List ℕ → Type 0
+Judges verdict.Silent size count lines line = IsSilent line
+Judges (verdict.Begins new) size count lines line = (size ≡ None) × Says line (Problem new.vertices new.arcs)
+    × (new.vertices ≤ 2 ^ 26) × (new.arcs ≤ 2 ^ 30)
+Judges (verdict.Adds u v w) None count lines line = ⊥
+Judges (verdict.Adds u v w) (Some size) count lines line =
+    Says line (ArcLine (record { tail = u; head = v; weight = w }))
+    × IsArcOf size.vertices (record { tail = u; head = v; weight = w }) × (count < size.arcs)
+Judges (verdict.Faulty kind) size count lines line = IsFaultAfter lines line kind
+
+-- the lines state this problem, if one, and arcs that give these links
+abbrev pub Gives : Option Size → ℕ → List Link → List (List ℕ) → Type 0
+Gives None count links lines = Say lines [] × (count ≡ 0) × (links ≡ [])
+Gives (Some size) count links lines = (arcs : List Arc) × AreLawful lines size.vertices size.arcs arcs × (length arcs ≡ count) × AreLinksOf arcs links
+
+-- why a line wasn't taken: its fault, or memory
+abbrev pub IsLineFault : ReadFault → ℕ → List (List ℕ) → List ℕ → Type 0
+IsLineFault (fault.Gr f) number lines line = (f.line ≡ number) × IsFaultAfter lines line f.kind
+IsLineFault (fault.Source number') number lines line = ⊥
+IsLineFault fault.TooLong number lines line = ⊥
+IsLineFault fault.Memory number lines line = Unit {0}
+
+-- the links with that of one more arc
+abbrev pub AddsLink : List Link → List Link → Arc → Type 0
+AddsLink old new arc = ((arc.tail ≡ arc.head) × (new ≡ old))
+    ⊎ ((arc.tail ≢ arc.head) × ((link : Link) × (key_of link ≡ arc_key arc) × (new ≡ old ++ link ∷ [])))
+
+-- the graph of whole lines
+abbrev pub IsGraphOfLines : List (List ℕ) → GraphValue → Type 0
+IsGraphOfLines lines graph = (arcs : List Arc) × AreLawful lines graph.vertices (length arcs) arcs × AreLinksOf arcs graph.links
+
+-- why whole lines have no graph: what lacks behind them
+abbrev pub IsLack : ReadFault → ℕ → List (List ℕ) → Type 0
+IsLack (fault.Gr f) number lines = (f.line ≡ number) × Lacks lines f.kind
+IsLack (fault.Source number') number lines = ⊥
+IsLack fault.TooLong number lines = ⊥
+IsLack fault.Memory number lines = ⊥

@@ -1,0 +1,54 @@
+ghost use Rattle.std.specs.Prelude.{◌≡◌, ◌≤◌, ◌^◌, length};
+ghost use Rattle.link_key.specs.Link.{EndsUpTo};
+
+use link_key::Link;
+use std::alloc::{Allocator, Global};
+use std::marker::Model;
+
+/// The graph of a text: its number of vertices, and a link for each arc line that is no loop.
+#[derive(Drop)]
+pub struct Graph<A: Allocator = Global> {
+    vertices: u32,
+    links: Vec<Link, A>,
+}
+
+impl<A: Allocator> Model for Graph<A> {
+    ghost use Rattle.std.specs.Prelude.{◌≤◌, ◌^◌, length};
+    ghost use Rattle.link_key.specs.Link.{EndsUpTo};
+    ghost use Rattle.gr_text.specs.Graph.{GraphValue};
+
+    ghost Value = { GraphValue };
+
+    ghost view = { λ g. record { vertices = g.vertices; links = g.links.items } };
+
+    ghost invariant = { λ g. (g.vertices ≤ 2 ^ 26) × EndsUpTo g.vertices g.links.items × (length g.links.items ≤ 2 ^ 30) };
+}
+
+impl<A: Allocator> Graph<A> {
+    pub(crate) fn of_parts(vertices: u32, links: Vec<Link, A>) -> Graph<A>
+        requires few_vertices { vertices ≤ 2 ^ 26 }
+        requires ends { EndsUpTo vertices links.items }
+        requires few_links { length links.items ≤ 2 ^ 30 }
+        ensures vertices { result.vertices ≡ vertices }
+        ensures links { result.links ≡ links.items }
+    {
+        Graph { vertices, links }
+    }
+
+    /// The number of vertices.
+    pub fn n(&self) -> u32
+        ensures vertices { result ≡ self.now.vertices }
+        ensures few { result ≤ 2 ^ 26 }
+    {
+        self.vertices
+    }
+
+    /// The links in the order of the file: repeats are kept, loops left out.
+    pub fn links(&self) -> &[Link]
+        ensures links { result.now ≡ self.now.links }
+        ensures ends { EndsUpTo self.now.vertices self.now.links }
+        ensures few { length self.now.links ≤ 2 ^ 30 }
+    {
+        self.links.as_slice()
+    }
+}

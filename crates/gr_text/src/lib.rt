@@ -1,0 +1,46 @@
+//! The `.gr` text of the 9th DIMACS Implementation Challenge, read as an undirected graph, and the text
+//! of a forest.
+//!
+//! **What it promises.** A text, a source or pieces fed one after another give a graph exactly where they
+//! mean one; else the fault of the first faulty line, with its number and its kind ([`GrFault`]). The
+//! text of a forest goes out byte for byte, or it is told how many of its bytes did.
+//!
+//! **How it is built.** A byte goes into [`words`] (the field that is coming), a field into a `Line` (the
+//! line so far), a line into [`so_far`] (what the whole lines say) after a verdict of [`verdicts`]:
+//!
+//! ```text
+//! source --sourced--> pieces --reader--> bytes --reading/partial--> words, lines --verdicts/so_far--> graph
+//! forest --spelled--> lines --piece--> 8 KiB --writer--> sink
+//! ```
+//!
+//! Each layer's contract says what its state stands for, by relations over whole fields, lines and texts
+//! (`specs/`); no layer keeps the text.
+//!
+//! **Where to start a change.** What a line may say: `specs/Statement.antt`, then [`words`]. What is wrong
+//! with a line, and which fault comes first: `specs/Fault.antt`, then [`verdicts`]. Limits: [`sizes`].
+#![tactic(auto)]
+
+pub mod faults;
+pub mod graphs;
+pub mod laws;
+pub mod parsing;
+pub mod partial;
+mod piece;
+pub mod reader;
+pub mod reading;
+pub mod sizes;
+pub mod so_far;
+pub mod sourced;
+mod spelled;
+pub mod verdicts;
+pub mod words;
+pub mod writer;
+#[cfg(test)]
+mod writer_tests;
+
+pub use faults::{GrFault, GrKind, ReadFault};
+pub use graphs::Graph;
+pub use parsing::{MAX_BYTES, parse};
+pub use reader::GrReader;
+pub use sourced::{read_graph, read_graph_upto};
+pub use writer::{WriteFault, write_forest};

@@ -1,0 +1,19 @@
+ghost use Rattle.std.specs.Prelude.{◌^◌};
+ghost use Rattle.gr_text.specs.Reader.{IsRead};
+
+use crate::faults::ReadFault;
+use crate::graphs::Graph;
+use crate::reader::GrReader;
+use std::alloc::Allocator;
+
+/// The largest number of bytes of a text.
+pub const MAX_BYTES: u64 = 1 << 40;
+
+/// The graph that a text means.
+pub fn parse<A: Allocator>(alloc: A, bytes: &[u8]) -> Result<Graph<A>, ReadFault>
+    ensures { IsRead (2 ^ 40) bytes.now result }
+{
+    let mut reader = GrReader::new(alloc, MAX_BYTES);
+    let _ = reader.feed(bytes);
+    reader.finish()
+}

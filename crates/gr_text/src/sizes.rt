@@ -1,0 +1,16 @@
+ghost use Rattle.std.specs.Prelude.{◌≤◌, ◌^◌};
+
+/// The largest number of vertices.
+pub const MAX_VERTICES: u32 = 1 << 26;
+
+/// The largest number of arc lines.
+pub const MAX_ARCS: u32 = 1 << 30;
+
+/// What a problem line states.
+#[derive(Clone, Copy, PartialEq, Eq)]
+pub struct Size {
+    pub vertices: u32,
+    pub arcs: u32,
+    ghost in_limit: { vertices ≤ 2 ^ 26 },
+    ghost few_arcs: { arcs ≤ 2 ^ 30 },
+}

@@ -1,0 +1,105 @@
+//! A line of a forest's text. It is spelled from its last byte to its first, the order in which the
+//! digits of a number are found, so that each digit is written once, in its place.
+ghost use Rattle.std.specs.Prelude.{◌≡◌, ℕ, ◌+◌, ◌≤◌, ◌<◌, List, [], ◌∷◌, ◌++◌, length, drop, decimal};
+ghost use Rattle.std.specs.Fmt.{signed_decimal};
+ghost use Rattle.gr_text.specs.ForestText.{header_of, line_of};
+
+use itoa::write_digits;
+use link_key::Link;
+use std::marker::Model;
+
+/// The room for a line: two numbers of at most 20 digits and one of at most 11 bytes, with the
+/// letters, spaces and the line feed, are shorter.
+pub const LINE_ROOM: usize = 64;
+
+/// The end of a line, as far as it is spelled.
+#[derive(Drop)]
+pub struct Spelled {
+    bytes: [u8; LINE_ROOM],
+    start: usize,
+}
+
+impl Model for Spelled {
+    ghost Value = { List ℕ };
+
+    ghost view = { λ s. drop s.start s.bytes };
+
+    ghost invariant = { λ s. s.start ≤ 64 };
+}
+
+impl Spelled {
+    // Nothing yet.
+    fn new() -> Self
+        ensures { result ≡ [] }
+    {
+        Spelled {
+            bytes: [0; LINE_ROOM],
+            start: LINE_ROOM,
+        }
+    }
+
+    fn put(&mut self, text: &[u8])
+        requires { length self.old + length text.now ≤ 64 }
+        ensures { self.new ≡ text.now ++ self.old }
+    {
+        let start = self.start - text.len();
+        self.bytes[start..self.start].copy_from_slice(text);
+        self.start = start;
+    }
+
+    fn put_number(&mut self, n: u64)
+        requires { length self.old + 20 ≤ 64 }
+        ensures digits { self.new ≡ decimal n ++ self.old }
+        ensures longer { length self.new ≤ length self.old + 20 }
+    {
+        self.start = write_digits(n, &mut self.bytes, self.start);
+    }
+
+    fn put_signed(&mut self, n: i32)
+        requires { length self.old + 20 ≤ 64 }
+        ensures digits { self.new ≡ signed_decimal n ++ self.old }
+        ensures longer { length self.new ≤ length self.old + 11 }
+    {
+        self.put_number(n.unsigned_abs() as u64);
+        if n < 0 {
+            self.put(b"-");
+        }
+    }
+
+    /// The first line of the text of a forest of `n` vertices and `k` links.
+    pub fn header(n: u32, k: usize) -> Self
+        ensures line { result ≡ header_of n k }
+        ensures short { length result ≤ 64 }
+    {
+        let mut line = Spelled::new();
+        line.put(b"\n");
+        line.put_number(k as u64);
+        line.put(b" ");
+        line.put_number(n as u64);
+        line.put(b"p sp ");
+        line
+    }
+
+    /// The line of a link.
+    pub fn of_link(link: &Link) -> Self
+        ensures line { result ≡ line_of link.now }
+        ensures short { length result ≤ 64 }
+    {
+        let mut line = Spelled::new();
+        line.put(b"\n");
+        line.put_signed(link.weight);
+        line.put(b" ");
+        line.put_number(link.high as u64);
+        line.put(b" ");
+        line.put_number(link.low as u64);
+        line.put(b"a ");
+        line
+    }
+
+    /// Its bytes.
+    pub fn as_slice(&self) -> &[u8]
+        ensures { result.now ≡ self.now }
+    {
+        &self.bytes[self.start..]
+    }
+}

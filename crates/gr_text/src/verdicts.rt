@@ -1,0 +1,116 @@
+ghost use Rattle.std.specs.Prelude.{◌≡◌, ◌≤◌, ◌^◌, ℕ, ℤ, List, codes, MatchOption};
+ghost use Rattle.gr_text.specs.Fields.{AreFields};
+ghost use Rattle.gr_text.specs.Statement.{Says, Problem, ArcLine};
+ghost use Rattle.gr_text.specs.Word.{IsCapped, IsCappedSigned, LineMeans};
+ghost use Rattle.gr_text.specs.Reading.{FitsAfter, Counts, Judges};
+ghost use Rattle.gr_text.specs.Fault.{BeginsWith};
+ghost use Rattle.gr_text.specs.Graph.{IsWeight};
+ghost use Rattle.link_key.specs.Arc.{Arc};
+
+use crate::faults::GrKind;
+use crate::sizes::{MAX_ARCS, MAX_VERTICES, Size};
+use crate::words::Line;
+
+/// What a line does after those before it.
+#[derive(Clone, Copy)]
+pub enum Verdict {
+    Silent,
+    Begins(Size),
+    Adds(u32, u32, i32),
+    Faulty(GrKind),
+}
+
+/// Judges a line by the lines before it.
+pub fn judge(size: Option<Size>, count: u32, line: Line) -> Verdict
+    ensures fits { FitsAfter result size count }
+    ensures told { (lines : List (List ℕ)) (bytes : List ℕ) (fields : List (List ℕ)) → Counts size count lines
+        → AreFields bytes fields → LineMeans line fields → Judges result size count lines bytes }
+{
+    match line {
+        Line::Nothing => Verdict::Silent,
+        Line::Comment => Verdict::Silent,
+        Line::Unknown => Verdict::Faulty(GrKind::UnknownLine),
+        Line::ProblemWhole(n, m) => judge_problem(size, n, m),
+        Line::Problem => bad_problem(size),
+        Line::ProblemSp => bad_problem(size),
+        Line::ProblemVertices(_) => bad_problem(size),
+        Line::BadProblem => bad_problem(size),
+        Line::ArcWhole(u, v, w) => judge_arc(size, count, u, v, w),
+        Line::Arc => bad_arc(size, count),
+        Line::ArcTail(_) => bad_arc(size, count),
+        Line::ArcEnds(_, _) => bad_arc(size, count),
+        Line::BadArc => bad_arc(size, count),
+    }
+}
+
+fn judge_problem(size: Option<Size>, n: u32, m: u32) -> Verdict
+    ensures fits { (count : ℕ) → FitsAfter result size count }
+    ensures told { (count : ℕ) (lines : List (List ℕ)) (bytes : List ℕ) (k l : ℕ) → Counts size count lines
+        → Says bytes (Problem k l) → IsCapped n k → IsCapped m l → Judges result size count lines bytes }
+{
+    if let Some(_) = size {
+        return Verdict::Faulty(GrKind::SecondProblem);
+    }
+    if n > MAX_VERTICES || m > MAX_ARCS {
+        return Verdict::Faulty(GrKind::TooLarge);
+    }
+    Verdict::Begins(Size {
+        vertices: n,
+        arcs: m,
+    })
+}
+
+fn bad_problem(size: Option<Size>) -> Verdict
+    ensures fits { (count : ℕ) → FitsAfter result size count }
+    ensures told { (count : ℕ) (lines : List (List ℕ)) (bytes : List ℕ) → Counts size count lines
+        → BeginsWith bytes (codes "p") → ((n m : ℕ) → ¬ (Says bytes (Problem n m))) → Judges result size count lines bytes }
+{
+    match size {
+        Some(_) => Verdict::Faulty(GrKind::SecondProblem),
+        None => Verdict::Faulty(GrKind::BadProblem),
+    }
+}
+
+fn judge_arc(size: Option<Size>, count: u32, u: u32, v: u32, w: i64) -> Verdict
+    ensures fits { FitsAfter result size count }
+    ensures told { (lines : List (List ℕ)) (bytes : List ℕ) (arc : Arc) → Counts size count lines
+        → Says bytes (ArcLine arc) → IsCapped u arc.tail → IsCapped v arc.head → IsCappedSigned w arc.weight
+        → Judges result size count lines bytes }
+{
+    let Some(size) = size else {
+        return Verdict::Faulty(GrKind::NoProblemYet);
+    };
+    if count >= size.arcs {
+        return Verdict::Faulty(GrKind::TooManyArcs);
+    }
+    if u < 1 || u > size.vertices || v < 1 || v > size.vertices {
+        return Verdict::Faulty(GrKind::EndOutOfRange);
+    }
+    match weight_of(w) {
+        Some(w) => Verdict::Adds(u, v, w),
+        None => Verdict::Faulty(GrKind::WeightOutOfRange),
+    }
+}
+
+fn weight_of(w: i64) -> Option<i32>
+    ensures { (z : ℤ) → IsCappedSigned w z → MatchOption result (¬ (IsWeight z)) (λ x. (x ≡ z) × IsWeight z) }
+{
+    i32::try_from(w).ok()
+}
+
+fn bad_arc(size: Option<Size>, count: u32) -> Verdict
+    ensures fits { FitsAfter result size count }
+    ensures told { (lines : List (List ℕ)) (bytes : List ℕ) → Counts size count lines
+        → BeginsWith bytes (codes "a") → ((arc : Arc) → ¬ (Says bytes (ArcLine arc))) → Judges result size count lines bytes }
+{
+    match size {
+        None => Verdict::Faulty(GrKind::NoProblemYet),
+        Some(size) => {
+            if count >= size.arcs {
+                Verdict::Faulty(GrKind::TooManyArcs)
+            } else {
+                Verdict::Faulty(GrKind::BadArc)
+            }
+        }
+    }
+}

@@ -1,0 +1,188 @@
+ghost use Rattle.std.specs.Prelude.{◌≡◌, ◌≢◌, ◌↔◌, ℕ, ℤ, ◌+◌, ◌*◌, ◌-◌, List, [], ◌∷◌, ◌++◌, IsTrue, MatchOption, codes};
+ghost use Rattle.gr_text.specs.Fields.{IsFieldByte, IsDigit, Writes, WritesSigned};
+ghost use Rattle.gr_text.specs.Word.{WordMeans, LineMeans, IsCapped, KeepsNumber, KeepsSigned};
+
+/// What is kept of a field while its bytes come. Numbers above `u32::MAX` are kept as that.
+#[derive(Clone, Copy)]
+pub enum Word {
+    Empty,
+    LetterP,
+    LetterA,
+    LetterS,
+    Sp,
+    Comment,
+    Number(u32),
+    Minus,
+    Negative(u32),
+    Other,
+}
+
+/// What is kept of a line while its fields come.
+#[derive(Clone, Copy)]
+pub enum Line {
+    Nothing,
+    Comment,
+    Unknown,
+    Problem,
+    ProblemSp,
+    ProblemVertices(u32),
+    ProblemWhole(u32, u32),
+    BadProblem,
+    Arc,
+    ArcTail(u32),
+    ArcEnds(u32, u32),
+    ArcWhole(u32, u32, i64),
+    BadArc,
+}
+
+fn extended(kept: u32, digit: u8) -> u32
+    requires { IsDigit digit }
+    ensures { (n : ℕ) → IsCapped kept n → IsCapped result (10 * n + (digit - 48)) }
+{
+    (u64::from(kept) * 10 + u64::from(digit - b'0')).min(u64::from(u32::MAX)) as u32
+}
+
+impl Word {
+    /// The field with one more byte.
+    #[inline]
+    pub fn with(self, byte: u8) -> Word
+        requires { IsFieldByte byte }
+        ensures { (bytes : List ℕ) → WordMeans self bytes → WordMeans result (bytes ++ byte ∷ []) }
+    {
+        if byte.is_ascii_digit() {
+            self.with_digit(byte)
+        } else {
+            self.with_other(byte)
+        }
+    }
+
+    #[inline]
+    fn with_digit(self, digit: u8) -> Word
+        requires { IsDigit digit }
+        ensures { (bytes : List ℕ) → WordMeans self bytes → WordMeans result (bytes ++ digit ∷ []) }
+    {
+        match self {
+            Word::Empty => Word::Number(u32::from(digit - b'0')),
+            Word::Number(kept) => Word::Number(extended(kept, digit)),
+            Word::Minus => Word::Negative(u32::from(digit - b'0')),
+            Word::Negative(kept) => Word::Negative(extended(kept, digit)),
+            Word::Comment => Word::Comment,
+            _ => Word::Other,
+        }
+    }
+
+    fn with_other(self, byte: u8) -> Word
+        requires { ¬ (IsDigit byte) }
+        ensures { (bytes : List ℕ) → WordMeans self bytes → WordMeans result (bytes ++ byte ∷ []) }
+    {
+        match (self, byte) {
+            (Word::Empty, b'p') => Word::LetterP,
+            (Word::Empty, b'a') => Word::LetterA,
+            (Word::Empty, b's') => Word::LetterS,
+            (Word::Empty, b'c') => Word::Comment,
+            (Word::Empty, b'-') => Word::Minus,
+            (Word::LetterS, b'p') => Word::Sp,
+            (Word::Comment, _) => Word::Comment,
+            (Word::Number(_), _) => Word::Other,
+            (Word::Negative(_), _) => Word::Other,
+            _ => Word::Other,
+        }
+    }
+}
+
+impl Word {
+    /// The number that the whole field writes.
+    #[inline]
+    fn as_number(self) -> Option<u32>
+        ensures { (field : List ℕ) → WordMeans self field
+            → MatchOption result ((n : ℕ) → ¬ (Writes field n)) (λ kept. KeepsNumber kept field) }
+    {
+        match self {
+            Word::Number(kept) => Some(kept),
+            _ => None,
+        }
+    }
+
+    /// The signed number that the whole field writes.
+    #[inline]
+    fn as_signed(self) -> Option<i64>
+        ensures { (field : List ℕ) → WordMeans self field
+            → MatchOption result ((z : ℤ) → ¬ (WritesSigned field z)) (λ kept. KeepsSigned kept field) }
+    {
+        match self {
+            Word::Number(kept) => Some(i64::from(kept)),
+            Word::Negative(kept) => Some(-i64::from(kept)),
+            _ => None,
+        }
+    }
+
+    #[inline]
+    fn is_sp(self) -> bool
+        ensures { (field : List ℕ) → WordMeans self field → (IsTrue result ↔ (field ≡ codes "sp")) }
+    {
+        matches!(self, Word::Sp)
+    }
+
+    /// Whether no byte has come.
+    #[inline]
+    pub fn is_empty(self) -> bool
+        ensures { (field : List ℕ) → WordMeans self field → (IsTrue result ↔ (field ≡ [])) }
+    {
+        matches!(self, Word::Empty)
+    }
+}
+
+impl Line {
+    /// The line that begins with this field.
+    fn begun(first: Word) -> Line
+        ensures { (field : List ℕ) → field ≢ [] → WordMeans first field → LineMeans result (field ∷ []) }
+    {
+        match first {
+            Word::LetterP => Line::Problem,
+            Word::LetterA => Line::Arc,
+            Word::Comment => Line::Comment,
+            _ => Line::Unknown,
+        }
+    }
+
+    /// The line with one more whole field.
+    pub fn then(self, word: Word) -> Line
+        ensures { (fields : List (List ℕ)) (field : List ℕ) → field ≢ [] → LineMeans self fields → WordMeans word field
+            → LineMeans result (fields ++ field ∷ []) }
+    {
+        match self {
+            Line::Nothing => Line::begun(word),
+            Line::Comment => Line::Comment,
+            Line::Unknown => Line::Unknown,
+            Line::Problem => if word.is_sp() {
+                Line::ProblemSp
+            } else {
+                Line::BadProblem
+            },
+            Line::ProblemSp => match word.as_number() {
+                Some(n) => Line::ProblemVertices(n),
+                None => Line::BadProblem,
+            },
+            Line::ProblemVertices(n) => match word.as_number() {
+                Some(m) => Line::ProblemWhole(n, m),
+                None => Line::BadProblem,
+            },
+            Line::ProblemWhole(_, _) => Line::BadProblem,
+            Line::BadProblem => Line::BadProblem,
+            Line::Arc => match word.as_number() {
+                Some(u) => Line::ArcTail(u),
+                None => Line::BadArc,
+            },
+            Line::ArcTail(u) => match word.as_number() {
+                Some(v) => Line::ArcEnds(u, v),
+                None => Line::BadArc,
+            },
+            Line::ArcEnds(u, v) => match word.as_signed() {
+                Some(w) => Line::ArcWhole(u, v, w),
+                None => Line::BadArc,
+            },
+            Line::ArcWhole(_, _, _) => Line::BadArc,
+            Line::BadArc => Line::BadArc,
+        }
+    }
+}

@@ -1,0 +1,130 @@
+use crate::writer::{WriteFault, write_forest};
+use byte_streams::FusedSink;
+use link_key::{Forest, Link};
+use std::alloc::{AllocError, Allocator};
+use std::test::Fail;
+
+const SMALL_NET: &[u8; 50] = b"p sp 6 5\na 2 5 0\na 3 4 0\na 3 5 0\na 4 6 3\na 1 3 10\n";
+
+// The forest of some links, which have to ascend.
+fn forest_of<A: Allocator + Copy>(
+    alloc: A,
+    links: &[Option<Link>],
+) -> Result<Option<Forest<A>>, AllocError> {
+    let mut list = Vec::new(alloc);
+    for link in links.iter().flatten() {
+        list.push(*link).map_err(AllocError::from)?;
+    }
+    Ok(Forest::of_list(list))
+}
+
+fn small_net() -> [Option<Link>; 5] {
+    [
+        Link::of_arc(5, 2, 0),
+        Link::of_arc(4, 3, 0),
+        Link::of_arc(3, 5, 0),
+        Link::of_arc(4, 6, 3),
+        Link::of_arc(1, 3, 10),
+    ]
+}
+
+#[test]
+fn writes_a_small_net(rt: HostRuntime) -> Result<(), Fail> {
+    let forest = forest_of(rt.alloc(), &small_net())?.expect(&rt, "ascending");
+    assert!(rt; forest.links().len() <= 5);
+    let mut sink = Vec::new(rt.alloc());
+    assert_eq!(rt; write_forest(&mut sink, 6, &forest), Ok(50));
+    assert_eq!(rt; sink.as_slice(), SMALL_NET.as_slice());
+    Ok(())
+}
+
+#[test]
+fn writes_weights_of_both_signs(rt: HostRuntime) -> Result<(), Fail> {
+    let links = [
+        Link::of_arc(5, 6, -2147483648),
+        Link::of_arc(1, 2, -3),
+        Link::of_arc(3, 4, 0),
+        Link::of_arc(67108863, 67108864, 2147483647),
+    ];
+    let forest = forest_of(rt.alloc(), &links)?.expect(&rt, "ascending");
+    assert!(rt; forest.links().len() <= 4);
+    let mut sink = Vec::new(rt.alloc());
+    assert_eq!(rt; write_forest(&mut sink, 67108864, &forest), Ok(82));
+    assert_eq!(rt;
+        sink.as_slice(),
+        b"p sp 67108864 4\na 5 6 -2147483648\na 1 2 -3\na 3 4 0\na 67108863 67108864 2147483647\n".as_slice()
+    );
+    Ok(())
+}
+
+#[test]
+fn writes_no_links(rt: HostRuntime) -> Result<(), Fail> {
+    let forest = forest_of(rt.alloc(), &[])?.expect(&rt, "ascending");
+    assert!(rt; forest.links().is_empty());
+    let mut sink = FusedSink::new(rt.alloc(), 10, 7)?;
+    assert_eq!(rt; write_forest(&mut sink, 0, &forest), Ok(9));
+    assert_eq!(rt; sink.held(), b"p sp 0 0\n".as_slice());
+    Ok(())
+}
+
+// A sink that fails, or takes nothing more, after `passes` bytes holds just these.
+#[test]
+fn tells_the_bytes_that_went_out(rt: HostRuntime) -> Result<(), Fail> {
+    let forest = forest_of(rt.alloc(), &small_net())?.expect(&rt, "ascending");
+    assert!(rt; forest.links().len() <= 5);
+    for passes in [0usize, 10, 49] {
+        let fault = WriteFault {
+            written: passes as u64,
+        };
+        let mut failing = FusedSink::new(rt.alloc(), passes, 7)?;
+        assert_eq!(rt; write_forest(&mut failing, 6, &forest), Err(fault));
+        assert_eq!(rt; failing.held(), &SMALL_NET[..passes]);
+        let mut stopping = FusedSink::stopped(rt.alloc(), passes, 7)?;
+        assert_eq!(rt; write_forest(&mut stopping, 6, &forest), Err(fault));
+        assert_eq!(rt; stopping.held(), &SMALL_NET[..passes]);
+    }
+    Ok(())
+}
+
+// A sink that is full at the last byte fails at the flush, and one that then only takes nothing is flushed.
+#[test]
+fn tells_a_flush_that_failed(rt: HostRuntime) -> Result<(), Fail> {
+    let forest = forest_of(rt.alloc(), &small_net())?.expect(&rt, "ascending");
+    assert!(rt; forest.links().len() <= 5);
+    let mut failing = FusedSink::new(rt.alloc(), 50, 7)?;
+    assert_eq!(rt;
+        write_forest(&mut failing, 6, &forest),
+        Err(WriteFault { written: 50 })
+    );
+    assert_eq!(rt; failing.held(), SMALL_NET.as_slice());
+    let mut stopping = FusedSink::stopped(rt.alloc(), 50, 7)?;
+    assert_eq!(rt; write_forest(&mut stopping, 6, &forest), Ok(50));
+    assert_eq!(rt; stopping.held(), SMALL_NET.as_slice());
+    Ok(())
+}
+
+// 2000 links of 12 bytes each, which is more than one piece holds.
+#[test]
+fn writes_many_pieces(rt: HostRuntime) -> Result<(), Fail> {
+    let mut links = Vec::new(rt.alloc());
+    let mut text = Vec::from_slice(rt.alloc(), b"p sp 8 2000\n")?;
+    for weight in 1000..3000 {
+        if let Some(link) = Link::of_arc(7, 8, weight) {
+            links.push(link).map_err(AllocError::from)?;
+        }
+        let line = format!(in rt.alloc(); "a 7 8 {weight}\n")?;
+        text.extend_from_slice(line.as_bytes())?;
+    }
+    let forest = Forest::of_list(links).expect(&rt, "ascending");
+    assert!(rt; forest.links().len() <= 2000);
+    let mut sink = Vec::new(rt.alloc());
+    assert_eq!(rt; write_forest(&mut sink, 8, &forest), Ok(22012));
+    assert_eq!(rt; sink.as_slice(), text.as_slice());
+    let mut failing = FusedSink::new(rt.alloc(), 20000, 5000)?;
+    assert_eq!(rt;
+        write_forest(&mut failing, 8, &forest),
+        Err(WriteFault { written: 20000 })
+    );
+    assert_eq!(rt; failing.held(), &text.as_slice()[..failing.held().len()]);
+    Ok(())
+}
