@@ -20,16 +20,26 @@ pub record Grown (n : ℕ) (seen taken : List Link) (label : ℕ → ℕ) : Type
 abbrev pub IsBelowNone : Link → List Link → Type 0
 IsBelowNone x seen = (m : Link) → Contains seen m → ¬ (IsBelow x m)
 
+-- labels x and y are one where the labels a and b are made one
+abbrev pub AreOneWith : ℕ → ℕ → ℕ → ℕ → Type 0
+AreOneWith a b x y = (x ≡ y) ⊎ ((x ≡ a) × (b ≡ y)) ⊎ ((x ≡ b) × (a ≡ y))
+
 -- the labels a and b are made one, and no others
 abbrev pub AreMerged : ℕ → (ℕ → ℕ) → (ℕ → ℕ) → ℕ → ℕ → Type 0
-AreMerged n label merged a b = (u v : ℕ) → u ≤ n → v ≤ n → (merged u ≡ merged v) ↔ (label u ≡ label v) ⊎ ((label u ≡ a) × (b ≡ label v)) ⊎ ((label u ≡ b) × (a ≡ label v))
+AreMerged n label merged a b = (u v : ℕ) → u ≤ n → v ≤ n → (merged u ≡ merged v) ↔ AreOneWith a b (label u) (label v)
 
 -- before any link is seen each vertex has a label of its own
 pub grown_none : (n : ℕ) (label : ℕ → ℕ) → ((u : ℕ) → u ≤ n → label u ≡ u) → Grown n [] [] label
 grown_none n label own = record {
-  forest = record { ascending = λ i j d lt in_range. absurd (omega arith); exact = λ l. (λ is_in. absurd (contains_none l is_in), λ is. absurd (contains_none l is.0)) };
-  labels = λ u v u_in v_in. (λ same. joins_same (Contains []) u v (sym (own u u_in) ∙ same ∙ own v v_in), λ joined. ap label (joins_equal (Contains []) (λ x. x) (λ l is_in. absurd (contains_none l is_in)) u v joined));
+  forest = record {
+    ascending = λ i j d lt in_range. absurd (omega arith);
+    exact = λ l. (λ is_in. absurd (contains_none l is_in), λ is. absurd (contains_none l is.0));
+  };
+  labels = λ u v u_in v_in. (λ same. joins_same (Contains []) u v (sym (own u u_in) ∙ same ∙ own v v_in), λ joined. ap label (only_itself u v joined));
 }
+  where
+    only_itself : (u v : ℕ) → Joins (Contains []) u v → u ≡ v
+    only_itself = joins_equal (Contains []) (λ x. x) (λ l is_in. absurd (contains_none l is_in))
 
 -- A link of the list stays what it was when a link follows that is below none: the links below it are the same.
 forest_link_kept : (seen : List Link) (x l : Link) → IsBelowNone x seen → Contains seen l → IsForestLink seen l ↔ IsForestLink (seen ++ x ∷ []) l
@@ -72,7 +82,7 @@ above_others seen x last outside m m_in = elim (trichotomy m x) [
 pub grown_joined : (n : ℕ) (seen taken : List Link) (label : ℕ → ℕ) (x : Link) → Grown n seen taken label → IsBelowNone x seen → x.high ≤ n → label x.low ≡ label x.high → Grown n (seen ++ x ∷ []) taken label
 grown_joined n seen taken label x grown last in_range same = record {
   forest = record { ascending = grown.forest.ascending; exact = λ l. (to l, back l) };
-  labels = λ u v u_in v_in. (λ equal. joins_more (Contains seen) (Contains (seen ++ x ∷ [])) more u v ((grown.labels u v u_in v_in).0 equal), λ joined. (grown.labels u v u_in v_in).1 (joins_replace (Contains (seen ++ x ∷ [])) (Contains seen) by_seen u v joined));
+  labels = λ u v u_in v_in. (still u v u_in v_in, not_new u v u_in v_in);
 }
   where
     joined_before : Joins (Contains seen) x.low x.high
@@ -86,6 +96,12 @@ grown_joined n seen taken label x grown last in_range same = record {
       | inl in_seen ↦ joins_link (Contains seen) m in_seen
       | inr is ↦ subst (λ (k : Link). Joins (Contains seen) k.low k.high) is joined_before
     ]
+
+    still : (u v : ℕ) → u ≤ n → v ≤ n → label u ≡ label v → Joins (Contains (seen ++ x ∷ [])) u v
+    still u v u_in v_in equal = joins_more (Contains seen) (Contains (seen ++ x ∷ [])) more u v ((grown.labels u v u_in v_in).0 equal)
+
+    not_new : (u v : ℕ) → u ≤ n → v ≤ n → Joins (Contains (seen ++ x ∷ [])) u v → label u ≡ label v
+    not_new u v u_in v_in joined = (grown.labels u v u_in v_in).1 (joins_replace (Contains (seen ++ x ∷ [])) (Contains seen) by_seen u v joined)
 
     to : (l : Link) → Contains taken l → IsForestLink (seen ++ x ∷ []) l
     to l is_in = let before = (grown.forest.exact l).0 is_in in (forest_link_kept seen x l last before.0).0 before
@@ -107,7 +123,7 @@ grown_joined n seen taken label x grown last in_range same = record {
 pub grown_apart : (n : ℕ) (seen taken : List Link) (label merged : ℕ → ℕ) (x : Link) → Grown n seen taken label → IsBelowNone x seen → x.high ≤ n → ¬ (label x.low ≡ label x.high) → AreMerged n label merged (label x.low) (label x.high) → Grown n (seen ++ x ∷ []) (taken ++ x ∷ []) merged
 grown_apart n seen taken label merged x grown last in_range differ merges = record {
   forest = record { ascending = all_pairs_push IsBelow taken x grown.forest.ascending last_taken; exact = λ l. (to l, back l) };
-  labels = λ u v u_in v_in. (λ equal. joins_more (WithLink (Contains seen) x) (Contains (seen ++ x ∷ [])) from_with u v ((joins_one_more (Contains seen) x u v).1 (to_through u v u_in v_in ((merges u v u_in v_in).0 equal))), λ joined. (merges u v u_in v_in).1 (from_through u v u_in v_in ((joins_one_more (Contains seen) x u v).0 (joins_more (Contains (seen ++ x ∷ [])) (WithLink (Contains seen) x) to_with u v joined))));
+  labels = λ u v u_in v_in. (now_joined u v u_in v_in, now_one u v u_in v_in);
 }
   where
     low_in : x.low ≤ n
@@ -147,15 +163,30 @@ grown_apart n seen taken label merged x grown last in_range differ merges = reco
       | inr is ↦ inr (sym is)
     ]
 
-    to_through : (u v : ℕ) → u ≤ n → v ≤ n → (label u ≡ label v) ⊎ ((label u ≡ label x.low) × (label x.high ≡ label v)) ⊎ ((label u ≡ label x.high) × (label x.low ≡ label v)) → JoinsThrough (Contains seen) x u v
+    to_through : (u v : ℕ) → u ≤ n → v ≤ n → AreOneWith (label x.low) (label x.high) (label u) (label v) → JoinsThrough (Contains seen) x u v
     to_through u v u_in v_in (inl same) = inl ((grown.labels u v u_in v_in).0 same)
     to_through u v u_in v_in (inr (inl (there, on))) = inr (inl ((grown.labels u x.low u_in low_in).0 there, (grown.labels x.high v in_range v_in).0 on))
     to_through u v u_in v_in (inr (inr (there, on))) = inr (inr ((grown.labels u x.high u_in in_range).0 there, (grown.labels x.low v low_in v_in).0 on))
 
-    from_through : (u v : ℕ) → u ≤ n → v ≤ n → JoinsThrough (Contains seen) x u v → (label u ≡ label v) ⊎ ((label u ≡ label x.low) × (label x.high ≡ label v)) ⊎ ((label u ≡ label x.high) × (label x.low ≡ label v))
+    from_through : (u v : ℕ) → u ≤ n → v ≤ n → JoinsThrough (Contains seen) x u v → AreOneWith (label x.low) (label x.high) (label u) (label v)
     from_through u v u_in v_in (inl joined) = inl ((grown.labels u v u_in v_in).1 joined)
     from_through u v u_in v_in (inr (inl (there, on))) = inr (inl ((grown.labels u x.low u_in low_in).1 there, (grown.labels x.high v in_range v_in).1 on))
     from_through u v u_in v_in (inr (inr (there, on))) = inr (inr ((grown.labels u x.high u_in in_range).1 there, (grown.labels x.low v low_in v_in).1 on))
+
+    now_joined : (u v : ℕ) → u ≤ n → v ≤ n → merged u ≡ merged v → Joins (Contains (seen ++ x ∷ [])) u v
+    now_joined u v u_in v_in equal =
+        joins_more
+        (WithLink (Contains seen) x)
+        (Contains (seen ++ x ∷ []))
+        from_with
+        u
+        v
+        ((joins_one_more (Contains seen) x u v).1 (to_through u v u_in v_in ((merges u v u_in v_in).0 equal)))
+
+    now_one : (u v : ℕ) → u ≤ n → v ≤ n → Joins (Contains (seen ++ x ∷ [])) u v → merged u ≡ merged v
+    now_one u v u_in v_in joined =
+        let with_link = joins_more (Contains (seen ++ x ∷ [])) (WithLink (Contains seen) x) to_with u v joined in
+        (merges u v u_in v_in).1 (from_through u v u_in v_in ((joins_one_more (Contains seen) x u v).0 with_link))
 
 -- a list with the same links has the same forest
 pub forest_of_same : (links links' forest : List Link) → ((l : Link) → Contains links l ↔ Contains links' l) → IsForestOf links forest → IsForestOf links' forest

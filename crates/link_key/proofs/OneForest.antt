@@ -5,7 +5,7 @@ use Rattle.std.proofs.lemmas.List.Elements.{Contains-get_or}
 use Rattle.link_key.specs.declared.links.Link.{Link}
 use Rattle.link_key.specs.Link.{IsBelow, IsAscending}
 use Rattle.link_key.specs.Walk.{Joins}
-use Rattle.link_key.specs.Forest.{LinksBelow, EachHasOneForest}
+use Rattle.link_key.specs.Forest.{LinksBelow, IsForestOf, EachHasOneForest}
 use Rattle.link_key.proofs.Members.{contains_cases, contains_head, contains_tail, contains_none}
 use Rattle.link_key.proofs.Keys.{trichotomy, below_dec, below_trans, ascending_head, ascending_tail, same_members}
 use Rattle.link_key.proofs.Walks.{Decided, joins_dec}
@@ -114,7 +114,7 @@ sift P test (l ∷ links) = sift_more P l links (test l) (sift P test links)
 -- Of each link it is decided whether smaller links join its ends; those of which they don't, in ascending
 -- order, are the forest. Another forest is an ascending list with the same members.
 pub each_has_one_forest : EachHasOneForest
-each_has_one_forest links = (forest.all, record { ascending = forest.ascending; exact = forest.members }, λ other is. same_members other forest.all is.ascending forest.ascending (λ l. (λ is_in. (forest.members l).1 ((is.exact l).0 is_in), λ is_in. (is.exact l).1 ((forest.members l).0 is_in))))
+each_has_one_forest links = (forest.all, record { ascending = forest.ascending; exact = forest.members }, λ other is. same_members other forest.all is.ascending forest.ascending (alike other is))
   where
     apart_dec : (l : Link) → Decided (¬ (Joins (LinksBelow links l) l.low l.high))
     apart_dec l = elim (joins_dec (λ m. IsBelow m l) (λ m. below_dec m l) links l.low l.high) [
@@ -124,3 +124,6 @@ each_has_one_forest links = (forest.all, record { ascending = forest.ascending; 
 
     forest : Sifted (λ l. ¬ (Joins (LinksBelow links l) l.low l.high)) links
     forest = sift (λ l. ¬ (Joins (LinksBelow links l) l.low l.high)) apart_dec links
+
+    alike : (other : List Link) → IsForestOf links other → (l : Link) → Contains other l ↔ Contains forest.all l
+    alike other is l = (λ is_in. (forest.members l).1 ((is.exact l).0 is_in), λ is_in. (is.exact l).1 ((forest.members l).0 is_in))

@@ -1,5 +1,5 @@
 -- A forest grown along a sorted list, with the labels in a table.
-use Rattle.std.proofs.Common.{◌≡◌, ℕ, ◌+◌, ◌<◌, ◌≤◌, ◌⊎◌, ◌↔◌, ◌==◌, if◌then◌else◌, is_lt, List, [], ◌∷◌, ◌++◌, length, get_or, take, sym, ap, ◌∙◌, subst, subst₂, inl, inr, arith, take_all, get_or-take, length-take}
+use Rattle.std.proofs.Common.{◌≡◌, ℕ, ◌+◌, ◌<◌, ◌≤◌, ◌↔◌, ◌==◌, if◌then◌else◌, is_lt, List, [], ◌∷◌, ◌++◌, length, get_or, take, sym, ap, ◌∙◌, subst, subst₂, inl, inr, arith, take_all, get_or-take, length-take}
 use Rattle.std.specs.List.Sorted.{IsSorted, IsPermutation}
 use Rattle.std.proofs.lemmas.List.{take_more, get_or_default}
 use Rattle.std.proofs.lemmas.List.Elements.{All-get_or}
@@ -11,21 +11,25 @@ use Rattle.link_key.specs.declared.links.Link.{Link}
 use Rattle.link_key.specs.Link.{key_cmp, EndsUpTo}
 use Rattle.link_key.specs.Forest.{IsForestOf}
 use Rattle.link_key.proofs.Keys.{key_cmp_total}
-use Rattle.link_key.proofs.Growing.{Grown, IsBelowNone, AreMerged, grown_none, grown_joined, grown_apart, forest_of_same}
+use Rattle.link_key.proofs.Growing.{Grown, IsBelowNone, AreMerged, AreOneWith, grown_none, grown_joined, grown_apart, forest_of_same}
+
+-- the label of a vertex
+abbrev pub label_in : List ℕ → ℕ → ℕ
+label_in table v = get_or table v 0
 
 -- The first i links of the sorted list were seen.
 pub record GrownTable (n : ℕ) (sorted : List Link) (i : ℕ) (taken : List Link) (table : List ℕ) : Type 0 where
   pub ends : EndsUpTo n sorted
   pub order : IsSorted key_cmp sorted
   pub len : length table ≡ n + 1
-  pub grown : Grown n (take i sorted) taken (λ v. get_or table v 0)
+  pub grown : Grown n (take i sorted) taken (label_in table)
 
 pub table_start : (n : ℕ) (links sorted taken : List Link) (table : List ℕ) → EndsUpTo n links → IsPermutation links sorted → IsSorted key_cmp sorted → taken ≡ [] → length table ≡ n + 1 → ((v : ℕ) → v < length table → get_or table v 0 ≡ v) → GrownTable n sorted 0 taken table
 table_start n links sorted taken table ends moved order none len own = record {
   ends = All-permutation (λ (l : Link). l.high ≤ n) links sorted moved ends;
   order = order;
   len = len;
-  grown = subst (λ t. Grown n [] t (λ v. get_or table v 0)) (sym none) (grown_none n (λ v. get_or table v 0) (λ u u_in. own u (omega arith)));
+  grown = subst (λ t. Grown n [] t (label_in table)) (sym none) (grown_none n (label_in table) (λ u u_in. own u (omega arith)));
 }
 
 -- in a sorted list a link is below none before it
@@ -51,7 +55,7 @@ renamed from to label = if label == from then to else label
 
 -- One label in place of another makes the two one: labels that differ become equal only where one of them is
 -- the label that goes and the other the label that stays.
-renamed_alike : (from to x y : ℕ) → (renamed from to x ≡ renamed from to y) ↔ (x ≡ y) ⊎ ((x ≡ to) × (from ≡ y)) ⊎ ((x ≡ from) × (to ≡ y))
+renamed_alike : (from to x y : ℕ) → (renamed from to x ≡ renamed from to y) ↔ AreOneWith to from x y
 renamed_alike from to x y = elim (cases_eq x from) [
   | inl x_goes ↦ elim (cases_eq y from) [
     | inl y_goes ↦ (λ same. inl (x_goes ∙ sym y_goes), λ either. (gone x x_goes) ∙ sym (gone y y_goes))
@@ -69,17 +73,17 @@ renamed_alike from to x y = elim (cases_eq x from) [
     kept : (label : ℕ) → ¬ (label ≡ from) → renamed from to label ≡ label
     kept label other = grind (arith, nat_tests)
 
-    either_gone : x ≡ from → ¬ (y ≡ from) → (x ≡ y) ⊎ ((x ≡ to) × (from ≡ y)) ⊎ ((x ≡ from) × (to ≡ y)) → renamed from to x ≡ renamed from to y
+    either_gone : x ≡ from → ¬ (y ≡ from) → AreOneWith to from x y → renamed from to x ≡ renamed from to y
     either_gone x_goes y_stays (inl same) = ap (renamed from to) same
     either_gone x_goes y_stays (inr (inl (_, is))) = absurd (y_stays (sym is))
     either_gone x_goes y_stays (inr (inr (_, is))) = gone x x_goes ∙ is ∙ sym (kept y y_stays)
 
-    either_kept : ¬ (x ≡ from) → y ≡ from → (x ≡ y) ⊎ ((x ≡ to) × (from ≡ y)) ⊎ ((x ≡ from) × (to ≡ y)) → renamed from to x ≡ renamed from to y
+    either_kept : ¬ (x ≡ from) → y ≡ from → AreOneWith to from x y → renamed from to x ≡ renamed from to y
     either_kept x_stays y_goes (inl same) = ap (renamed from to) same
     either_kept x_stays y_goes (inr (inl (is, _))) = kept x x_stays ∙ is ∙ sym (gone y y_goes)
     either_kept x_stays y_goes (inr (inr (is, _))) = absurd (x_stays is)
 
-    both_kept : ¬ (x ≡ from) → ¬ (y ≡ from) → (x ≡ y) ⊎ ((x ≡ to) × (from ≡ y)) ⊎ ((x ≡ from) × (to ≡ y)) → renamed from to x ≡ renamed from to y
+    both_kept : ¬ (x ≡ from) → ¬ (y ≡ from) → AreOneWith to from x y → renamed from to x ≡ renamed from to y
     both_kept x_stays y_stays (inl same) = ap (renamed from to) same
     both_kept x_stays y_stays (inr (inl (_, is))) = absurd (y_stays (sym is))
     both_kept x_stays y_stays (inr (inr (is, _))) = absurd (x_stays is)
@@ -97,45 +101,59 @@ pub record Read (n : ℕ) (sorted : List Link) (i : ℕ) (table : List ℕ) (x :
   pub high_is : high ≡ get_or table x.high high
 
 -- its ends are in the table
-pub high_in_table : (n : ℕ) (sorted : List Link) (i : ℕ) (taken : List Link) (table : List ℕ) (x : Link) → GrownTable n sorted i taken table → i < length sorted → x ≡ get_or sorted i x → x.high < length table
-high_in_table n sorted i taken table x so_far in_range is =
+pub high_in_table : {n : ℕ} {sorted : List Link} {i : ℕ} {taken : List Link} {table : List ℕ} (x : Link) → GrownTable n sorted i taken table → i < length sorted → x ≡ get_or sorted i x → x.high < length table
+high_in_table {n} {sorted} {i} x so_far in_range is =
     let in_graph = high_in n sorted i x so_far.ends in_range is in
     let len = so_far.len in
     omega arith
 
-low_label : (n : ℕ) (sorted : List Link) (i : ℕ) (taken : List Link) (table : List ℕ) (x : Link) (low high : ℕ) → GrownTable n sorted i taken table → Read n sorted i table x low high → low ≡ get_or table x.low 0
-low_label n sorted i taken table x low high so_far read =
-    let in_table = high_in_table n sorted i taken table x so_far read.in_range read.is in
-    let ascending = x.ascending in
-    read.low_is ∙ get_or_default table x.low low 0 (omega arith)
+module _ {n : ℕ} {sorted : List Link} {i : ℕ} {taken : List Link} {table : List ℕ} {x : Link} {low high : ℕ} (so_far : GrownTable n sorted i taken table) (read : Read n sorted i table x low high) where
+  low_label : low ≡ label_in table x.low
+  low_label =
+      let in_table = high_in_table x so_far read.in_range read.is in
+      let ascending = x.ascending in
+      read.low_is ∙ get_or_default table x.low low 0 (omega arith)
 
-high_label : (n : ℕ) (sorted : List Link) (i : ℕ) (taken : List Link) (table : List ℕ) (x : Link) (low high : ℕ) → GrownTable n sorted i taken table → Read n sorted i table x low high → high ≡ get_or table x.high 0
-high_label n sorted i taken table x low high so_far read =
-    read.high_is ∙ get_or_default table x.high high 0 (high_in_table n sorted i taken table x so_far read.in_range read.is)
+  high_label : high ≡ label_in table x.high
+  high_label = read.high_is ∙ get_or_default table x.high high 0 (high_in_table x so_far read.in_range read.is)
 
-pub table_joined : (n : ℕ) (sorted : List Link) (i : ℕ) (taken : List Link) (table : List ℕ) (x : Link) (low high : ℕ) → GrownTable n sorted i taken table → Read n sorted i table x low high → low ≡ high → GrownTable n sorted (i + 1) taken table
-table_joined n sorted i taken table x low high so_far read same = record {
-  ends = so_far.ends;
-  order = so_far.order;
-  len = so_far.len;
-  grown = subst (λ seen. Grown n seen taken (λ v. get_or table v 0)) (sym (seen_next sorted i x read.in_range read.is)) (grown_joined n (take i sorted) taken (λ v. get_or table v 0) x so_far.grown (below_none sorted i x so_far.order read.in_range read.is) (high_in n sorted i x so_far.ends read.in_range read.is) (sym (low_label n sorted i taken table x low high so_far read) ∙ same ∙ high_label n sorted i taken table x low high so_far read));
-}
+  last : IsBelowNone x (take i sorted)
+  last = below_none sorted i x so_far.order read.in_range read.is
 
-pub table_apart : (n : ℕ) (sorted : List Link) (i : ℕ) (taken : List Link) (table table' : List ℕ) (x : Link) (low high : ℕ) → GrownTable n sorted i taken table → Read n sorted i table x low high → ¬ (low ≡ high) → length table' ≡ length table → ((v : ℕ) → v < length table → get_or table' v 0 ≡ renamed high low (get_or table v 0)) → GrownTable n sorted (i + 1) (taken ++ x ∷ []) table'
-table_apart n sorted i taken table table' x low high so_far read differ same_len by_renaming = record {
-  ends = so_far.ends;
-  order = so_far.order;
-  len = same_len ∙ so_far.len;
-  grown = subst (λ seen. Grown n seen (taken ++ x ∷ []) (λ v. get_or table' v 0)) (sym (seen_next sorted i x read.in_range read.is)) (grown_apart n (take i sorted) taken (λ v. get_or table v 0) (λ v. get_or table' v 0) x so_far.grown (below_none sorted i x so_far.order read.in_range read.is) (high_in n sorted i x so_far.ends read.in_range read.is) (λ same. differ (low_is ∙ same ∙ sym high_is)) (subst₂ (λ a b. AreMerged n (λ v. get_or table v 0) (λ v. get_or table' v 0) a b) low_is high_is (merged_by_renaming n (λ v. get_or table v 0) (λ v. get_or table' v 0) low high (λ u u_in. by_renaming u (let len = so_far.len in omega arith)))));
-}
-  where
-    low_is : low ≡ get_or table x.low 0
-    low_is = low_label n sorted i taken table x low high so_far read
+  end_in : x.high ≤ n
+  end_in = high_in n sorted i x so_far.ends read.in_range read.is
 
-    high_is : high ≡ get_or table x.high 0
-    high_is = high_label n sorted i taken table x low high so_far read
+  next : take (i + 1) sorted ≡ take i sorted ++ x ∷ []
+  next = seen_next sorted i x read.in_range read.is
+
+  -- the link was passed over, its ends having one label
+  pub table_joined : low ≡ high → GrownTable n sorted (i + 1) taken table
+  table_joined same = record {
+    ends = so_far.ends;
+    order = so_far.order;
+    len = so_far.len;
+    grown = subst (λ seen. Grown n seen taken (label_in table)) (sym next) (grown_joined n (take i sorted) taken (label_in table) x so_far.grown last end_in (sym low_label ∙ same ∙ high_label));
+  }
+
+  -- the link was taken, and the label of its higher end became that of its lower one
+  pub table_apart : (table' : List ℕ) → ¬ (low ≡ high) → length table' ≡ length table → ((v : ℕ) → v < length table → label_in table' v ≡ renamed high low (label_in table v)) → GrownTable n sorted (i + 1) (taken ++ x ∷ []) table'
+  table_apart table' differ same_len by_renaming = record {
+    ends = so_far.ends;
+    order = so_far.order;
+    len = same_len ∙ so_far.len;
+    grown = subst (λ seen. Grown n seen (taken ++ x ∷ []) (label_in table')) (sym next) (grown_apart n (take i sorted) taken (label_in table) (label_in table') x so_far.grown last end_in (λ same. differ (low_label ∙ same ∙ sym high_label)) merged);
+  }
+    where
+      merged : AreMerged n (label_in table) (label_in table') (label_in table x.low) (label_in table x.high)
+      merged =
+          subst₂
+          (AreMerged n (label_in table) (label_in table'))
+          low_label
+          high_label
+          (merged_by_renaming n (label_in table) (label_in table') low high (λ u u_in. by_renaming u (let len = so_far.len in omega arith)))
 
 -- all links were seen
-pub table_end : (n : ℕ) (links sorted : List Link) (i : ℕ) (taken : List Link) (table : List ℕ) → IsPermutation links sorted → GrownTable n sorted i taken table → length sorted ≤ i → IsForestOf links taken
-table_end n links sorted i taken table moved so_far all =
-    forest_of_same sorted links taken (λ l. (Contains-permutation sorted links l (IsPermutation-sym links sorted moved), Contains-permutation links sorted l moved)) (subst (λ seen. IsForestOf seen taken) (take_all i sorted all) so_far.grown.forest)
+pub table_end : {n : ℕ} (links : List Link) {sorted : List Link} {i : ℕ} {taken : List Link} {table : List ℕ} → IsPermutation links sorted → GrownTable n sorted i taken table → length sorted ≤ i → IsForestOf links taken
+table_end links {sorted} {i} {taken} moved so_far all =
+    let all_seen = subst (λ seen. IsForestOf seen taken) (take_all i sorted all) so_far.grown.forest in
+    forest_of_same sorted links taken (λ l. (Contains-permutation sorted links l (IsPermutation-sym links sorted moved), Contains-permutation links sorted l moved)) all_seen

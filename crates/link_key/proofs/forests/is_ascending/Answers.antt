@@ -5,4 +5,6 @@ use Rattle.link_key.proofs.Keys.{is_below, ascending_by_neighbours}
 use Rattle.link_key.proofs.forests.is_ascending.Goals as goal
 
 pub returns : goal.returns
-returns c = ascending_by_neighbours c.args.links.now c.is_sorted_by.result (c.is_sorted_by.ensures.cases is_below (answers_always _ _ _ (λ f a r f' called. search rules)))
+returns c =
+    let answer = c.is_sorted_by.ensures.cases is_below (answers_always _ _ _ (λ f a r f' called. search rules)) in
+    ascending_by_neighbours c.args.links.now c.is_sorted_by.result answer
