@@ -1,0 +1,67 @@
+-- Laws of runs: one owner for each shard, and each shard once in its list.
+use Rattle.std.proofs.Common.{◌≡◌, ◌≢◌, ℕ, ◌==◌, not, cond, Bool, true, false, List, [], ◌∷◌, ◌++◌, AllPairs, Contains, refl, sym, ap, ◌∙◌, subst, arith, append_assoc, append-nil}
+use Rattle.std.proofs.lemmas.Bool.{eq-eqb}
+use Rattle.std.proofs.lemmas.List.Elements.{Contains-get_or}
+use Rattle.std.proofs.lemmas.List.Kept.{AllPairs-filter}
+use Rattle.std.proofs.lemmas.List.Quantifiers.{all_pairs_push}
+use Rattle.claim_board.specs.declared.event.Event.{Event}
+use Rattle.claim_board.specs.declared.event.Event.TheVariants.{Win, Turned, GiveBack}
+use Rattle.claim_board.specs.Machine.{seat_of, owner, IsAllowed, IsRun, of_seat, held}
+use Rattle.claim_board.specs.Laws.{OwnerIsHolder, HeldByOneSeat, HeldOnce, HandedOn}
+use Rattle.claim_board.proofs.Lists.{among_decides}
+use Rattle.claim_board.proofs.Runs.{IsRun-none, IsRun-push, held-push, of_seat-push, owns, Some-owns, owner_has}
+
+pub owner_is_holder : OwnerIsHolder
+owner_is_holder run is_run seat shard = (
+  (λ e. (among_decides shard (held (of_seat seat run))).0 (sym (owner_has run is_run seat shard) ∙ ap (owns seat) e ∙ eq-eqb seat seat refl)),
+  (λ has. Some-owns seat (owner run shard) (owner_has run is_run seat shard ∙ (among_decides shard (held (of_seat seat run))).1 has)),
+)
+
+pub held_by_one_seat : HeldByOneSeat
+held_by_one_seat run is_run one other shard first second =
+    let same = sym ((owner_is_holder run is_run one shard).1 first) ∙ (owner_is_holder run is_run other shard).1 second in
+    cc
+
+-- ---- each shard once
+
+-- a won shard was in no list, so it stands once
+next_once : (run : List Event) (event : Event) (seat : ℕ) (b : Bool) → (seat_of event == seat) ≡ b → IsRun run → IsAllowed run event → AllPairs (λ a b. a ≢ b) (held (of_seat seat run)) → AllPairs (λ a b. a ≢ b) (held (of_seat seat run ++ cond b (event ∷ []) []))
+next_once run event seat false is is_run allowed old = subst (λ (es : List Event). AllPairs (λ a b. a ≢ b) (held es)) (sym (append-nil (of_seat seat run))) old
+next_once run (Win by of) seat true is is_run allowed old =
+    subst (AllPairs (λ a b. a ≢ b)) (sym (held-push (of_seat seat run) (Win by of)))
+    (all_pairs_push (λ a b. a ≢ b) (held (of_seat seat run)) of old
+    (λ k d within same.
+    let has : Contains (held (of_seat seat run)) of = subst (Contains (held (of_seat seat run))) same (Contains-get_or (held (of_seat seat run)) k d within) in
+    let owned = sym allowed ∙ (owner_is_holder run is_run seat of).1 has in
+    cc))
+next_once run (Turned by of to) seat true is is_run allowed old = subst (AllPairs (λ a b. a ≢ b)) (sym (held-push (of_seat seat run) (Turned by of to))) old
+next_once run (GiveBack by of) seat true is is_run allowed old = subst (AllPairs (λ a b. a ≢ b)) (sym (held-push (of_seat seat run) (GiveBack by of))) (AllPairs-filter (λ a b. a ≢ b) (λ s. not (s == of)) (held (of_seat seat run)) old)
+
+-- the first part of a run is one
+IsRun-front : (run later : List Event) → IsRun (run ++ later) → IsRun run
+IsRun-front run later is before event rest e = is before event (rest ++ later) (ap (λ es. es ++ later) e ∙ append_assoc before (event ∷ rest) later)
+
+once-append : (run later : List Event) → IsRun (run ++ later) → ((seat : ℕ) → AllPairs (λ a b. a ≢ b) (held (of_seat seat run))) → (seat : ℕ) → AllPairs (λ a b. a ≢ b) (held (of_seat seat (run ++ later)))
+once-append run [] is old seat = subst (λ (r : List Event). AllPairs (λ a b. a ≢ b) (held (of_seat seat r))) (sym (append-nil run)) (old seat)
+once-append run (event ∷ later) is old seat =
+    let whole : (run ++ event ∷ []) ++ later ≡ run ++ event ∷ later = append_assoc run (event ∷ []) later in
+    let next : (seat : ℕ) → AllPairs (λ a b. a ≢ b) (held (of_seat seat (run ++ event ∷ []))) =
+    λ number. subst (λ (es : List Event). AllPairs (λ a b. a ≢ b) (held es)) (sym (of_seat-push number run event))
+    (next_once run event number (seat_of event == number) refl (IsRun-front run (event ∷ later) is) (is run event later refl) (old number)) in
+    subst (λ (r : List Event). AllPairs (λ a b. a ≢ b) (held (of_seat seat r))) whole (once-append (run ++ event ∷ []) later (subst IsRun (sym whole) is) next seat)
+
+pub held_once : HeldOnce
+held_once run is_run seat = once-append [] run is_run (λ number i j d before within. absurd (omega arith)) seat
+
+-- ---- a worked run
+
+pub handed_on_is : HandedOn
+handed_on_is = record {
+  is_run =
+      IsRun-push (Win 0 0 ∷ Turned 1 0 0 ∷ Turned 0 0 0 ∷ GiveBack 0 0 ∷ []) (Win 1 0)
+      (IsRun-push (Win 0 0 ∷ Turned 1 0 0 ∷ Turned 0 0 0 ∷ []) (GiveBack 0 0)
+      (IsRun-push (Win 0 0 ∷ Turned 1 0 0 ∷ []) (Turned 0 0 0) (IsRun-push (Win 0 0 ∷ []) (Turned 1 0 0) (IsRun-push [] (Win 0 0) IsRun-none refl) refl) refl) refl) refl;
+  owner_is = refl;
+  first = refl;
+  second = refl;
+}

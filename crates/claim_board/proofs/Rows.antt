@@ -1,0 +1,79 @@
+-- Seats in a row, each under the number that is its place, and the view of a token as they are dealt and gathered.
+use Rattle.std.proofs.Common.{◌≡◌, ◌⊎◌, ℕ, zero, suc, ◌+◌, ◌-◌, ◌<◌, List, [], ◌∷◌, ◌++◌, All, length, drop, replicate, Some, slice_get, refl, sym, ap, ◌∙◌, subst, inl, inr, ⊎_elim, arith}
+use Rattle.std.proofs.lemmas.List.Elements.{All-push}
+use Rattle.atomic_table.specs.Table.{Me, Joins}
+use Rattle.atomic_table.specs.Seated.{TableId}
+use Rattle.claim_board.specs.declared.event.Event.{Event}
+use Rattle.claim_board.specs.declared.rule.Size.{Size}
+use Rattle.claim_board.specs.declared.rule.View.{View}
+use Rattle.claim_board.specs.State.{BoardState, SeatState, InOrder}
+use Rattle.claim_board.specs.Rule.{several, lone, without_first, with_before, nobody}
+use Rattle.claim_board.specs.Kept.{InOrderAt}
+use Rattle.claim_board.proofs.Steps.{Rules}
+use Rattle.claim_board.proofs.Places.{join_allowed}
+
+-- ---- one seat more in the row, or one less
+
+pub get_end : {A : Type 0} (l : List A) (a b : A) (i : ℕ) → slice_get (l ++ a ∷ []) i ≡ Some b → (slice_get l i ≡ Some b) ⊎ ((i ≡ length l) × (a ≡ b))
+get_end [] a b zero e = inr (refl, cc)
+get_end [] a b (suc i) e = absurd (cc)
+get_end (x ∷ xs) a b zero e = inl e
+get_end (x ∷ xs) a b (suc i) e = ⊎_elim (λ h. inl h) (λ (t : (i ≡ length xs) × (a ≡ b)). inr (ap suc t.0, t.1)) (get_end xs a b i e)
+
+pub get_front : {A : Type 0} (l : List A) (a b : A) (i : ℕ) → slice_get l i ≡ Some b → slice_get (l ++ a ∷ []) i ≡ Some b
+get_front [] a b i e = absurd (cc)
+get_front (x ∷ xs) a b zero e = e
+get_front (x ∷ xs) a b (suc i) e = get_front xs a b i e
+
+pub get_last : {A : Type 0} (l : List A) (a : A) → slice_get (l ++ a ∷ []) (length l) ≡ Some a
+get_last [] a = refl
+get_last (x ∷ xs) a = get_last xs a
+
+pub InOrder-push : (board : BoardState) (seats new : List SeatState) (seat : SeatState) (number : ℕ) → new ≡ seats ++ seat ∷ [] → InOrder board seats → seat ≡ record { board = board; number = number; events = [] } → number ≡ length seats → InOrder board new
+InOrder-push board seats new seat number is old fresh here at other got =
+    ⊎_elim
+    (λ (h : slice_get seats at ≡ Some other). old at other h)
+    (λ (t : (at ≡ length seats) × (seat ≡ other)). let same = sym t.1 ∙ fresh in (ap (λ (s : SeatState). s.board) same, ap (λ (s : SeatState). s.number) same ∙ here ∙ sym t.0))
+    (get_end seats seat other at (sym (ap (λ l. slice_get l at) is) ∙ got))
+
+pub no_events-push : (board : BoardState) (seats new : List SeatState) (seat : SeatState) (number : ℕ) → new ≡ seats ++ seat ∷ [] → All (λ (s : SeatState). s.events ≡ []) seats → seat ≡ record { board = board; number = number; events = [] } → All (λ (s : SeatState). s.events ≡ []) new
+no_events-push board seats new seat number is old fresh = subst (All (λ (s : SeatState). s.events ≡ [])) (sym is) (All-push (λ (s : SeatState). s.events ≡ []) seats seat old (ap (λ (s : SeatState). s.events) fresh))
+
+pub InOrderAt-front : (table : TableId) (seats whole : List SeatState) (seat : SeatState) → whole ≡ seats ++ seat ∷ [] → InOrderAt table whole → InOrderAt table seats
+InOrderAt-front table seats whole seat is old number other at = old number other (ap (λ l. slice_get l number) is ∙ get_front seats seat other number at)
+
+pub InOrderAt-last : (table : TableId) (seats whole : List SeatState) (seat : SeatState) → whole ≡ seats ++ seat ∷ [] → InOrderAt table whole → (seat.board.table ≡ table) × (seat.number ≡ length seats)
+InOrderAt-last table seats whole seat is old = old (length seats) seat (ap (λ l. slice_get l (length seats)) is ∙ get_last seats seat)
+
+-- ---- the view as seats are dealt
+
+replicate-step : {A : Type 0} (n : ℕ) (a : A) → 0 < n → replicate n a ≡ a ∷ replicate (n - 1) a
+replicate-step zero a h = absurd (omega arith)
+replicate-step (suc n) a h = let e : suc n - 1 ≡ n = omega arith in rw e refl
+
+module _ (me : Me (Unit {0}) View) (n count : ℕ) (is : me ≡ (several me.0.size n (replicate count []), [])) (some : 0 < count) where
+  pub lists_are : me.0.lists ≡ [] ∷ replicate (count - 1) []
+  lists_are = ap (λ (m : Me (Unit {0}) View). m.0.lists) is ∙ replicate-step count [] some
+
+  pub dealt : (after : Me (Unit {0}) View) (next : ℕ) → after ≡ (without_first me.0, me.1) → next ≡ n + 1 → after ≡ (several after.0.size next (replicate (count - 1) []), [])
+  dealt after next told next_is =
+      let cut : after ≡ (several me.0.size next (replicate (count - 1) []), []) =
+      told
+      ∙ ap (λ (m : Me (Unit {0}) View). (without_first m.0, m.1)) is
+      ∙ ap (λ (ls : List (List Event)). (several me.0.size (n + 1) ls, [])) (ap (λ (ls : List (List Event)). drop 1 ls) (replicate-step count [] some))
+      ∙ ap (λ k. (several me.0.size k (replicate (count - 1) []), [])) (sym next_is) in
+      subst (λ (m : Me (Unit {0}) View). m ≡ (several m.0.size next (replicate (count - 1) []), [])) (sym cut) refl
+
+-- ---- the view as seats are gathered
+
+module _ (kept token : Me (Unit {0}) View) (number : ℕ) (events : List Event) (first : ℕ) (kept_is : kept ≡ (several kept.0.size first kept.0.lists, [])) (token_is : token ≡ (lone token.0.size number events, [])) where
+  pub joined_view : (after : Me (Unit {0}) View) → after ≡ (with_before kept.0 token.0, kept.1) → after ≡ (several token.0.size number (events ∷ kept.0.lists), [])
+  joined_view after told = told ∙ (λ i. (with_before kept.0 (token_is i).0, (kept_is i).1))
+
+  pub gathered : (after : Me (Unit {0}) View) → after ≡ (with_before kept.0 token.0, kept.1) → (after ≡ (several after.0.size number after.0.lists, [])) × (after.0.lists ≡ events ∷ kept.0.lists)
+  gathered after told = subst (λ (m : Me (Unit {0}) View). (m ≡ (several m.0.size number m.0.lists, [])) × (m.0.lists ≡ events ∷ kept.0.lists)) (sym (joined_view after told)) (refl, refl)
+
+  pub join_required : (key : Size) (id other : ℕ) → number + 1 ≡ first → Joins (Rules key) id kept.0 other token.0 (with_before kept.0 token.0) nobody
+  join_required key id other before =
+      subst (λ (m : Me (Unit {0}) View). Joins (Rules key) id kept.0 other m.0 (with_before kept.0 m.0) nobody) (sym token_is)
+      (join_allowed key token.0.size id other number kept.0 events (before ∙ sym (ap (λ (m : Me (Unit {0}) View). m.0.first) kept_is)))

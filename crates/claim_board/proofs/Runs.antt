@@ -1,0 +1,121 @@
+-- Runs of the machine: one event more, and that the owner of a shard is the seat whose list has it.
+use Rattle.std.proofs.Common.{◌≡◌, ◌≢◌, ◌⊎◌, ℕ, ◌==◌, ◌&&◌, ◌||◌, not, cond, Bool, true, false, List, [], ◌∷◌, ◌++◌, Option, Some, None, refl, sym, ap, ◌∙◌, subst, inl, inr, ⊎_elim, append_assoc, append-nil}
+use Rattle.std.proofs.lemmas.Bool.{eqb-true, eqb-false, eq-eqb, ne_eqb}
+use Rattle.std.proofs.lemmas.Grind.{fold-append}
+use Rattle.std.proofs.lemmas.List.Elements.{filter-append}
+use Rattle.claim_board.specs.declared.event.Event.{Event}
+use Rattle.claim_board.specs.declared.event.Event.TheVariants.{Win, Turned, GiveBack}
+use Rattle.claim_board.specs.Machine.{seat_of, owner_after, owner, IsAllowed, IsRun, of_seat, held_after, held}
+use Rattle.claim_board.specs.Kept.{among}
+use Rattle.claim_board.proofs.Lists.{among-push, among-filter}
+
+-- ---- one event more
+
+pub owner-push : (run : List Event) (event : Event) (shard : ℕ) → owner (run ++ event ∷ []) shard ≡ owner_after shard (owner run shard) event
+owner-push run event shard = fold-append (owner_after shard) None run (event ∷ [])
+
+pub held-push : (events : List Event) (event : Event) → held (events ++ event ∷ []) ≡ held_after (held events) event
+held-push events event = fold-append held_after [] events (event ∷ [])
+
+pub of_seat-push : (seat : ℕ) (run : List Event) (event : Event) → of_seat seat (run ++ event ∷ []) ≡ of_seat seat run ++ cond (seat_of event == seat) (event ∷ []) []
+of_seat-push seat run event = filter-append (λ e. seat_of e == seat) run (event ∷ [])
+
+pub of_seat-mine : (seat : ℕ) (run : List Event) (event : Event) → seat_of event ≡ seat → of_seat seat (run ++ event ∷ []) ≡ of_seat seat run ++ event ∷ []
+of_seat-mine seat run event is = of_seat-push seat run event ∙ ap (λ b. of_seat seat run ++ cond b (event ∷ []) []) (eq-eqb (seat_of event) seat is)
+
+pub of_seat-other : (seat : ℕ) (run : List Event) (event : Event) → seat_of event ≢ seat → of_seat seat (run ++ event ∷ []) ≡ of_seat seat run
+of_seat-other seat run event is = of_seat-push seat run event ∙ ap (λ b. of_seat seat run ++ cond b (event ∷ []) []) (ne_eqb (seat_of event) seat is) ∙ append-nil (of_seat seat run)
+
+-- an event of a longer list is its last one, or one of those before
+last_or_before : (run before later : List Event) (last event : Event) → run ++ last ∷ [] ≡ before ++ event ∷ later → ((before ≡ run) × (event ≡ last)) ⊎ ((rest : List Event) × (run ≡ before ++ event ∷ rest))
+last_or_before [] [] later last event e = inl (refl, cc)
+last_or_before [] (b ∷ []) later last event e = absurd (cc)
+last_or_before [] (b ∷ c ∷ bs) later last event e = absurd (cc)
+last_or_before (r ∷ rs) [] later last event e = let same : r ≡ event = cc in inr (rs, ap (λ x. x ∷ rs) same)
+last_or_before (r ∷ rs) (b ∷ bs) later last event e =
+    let same : r ≡ b = cc in
+    let rest : rs ++ last ∷ [] ≡ bs ++ event ∷ later = cc in
+    ⊎_elim
+    (λ (t : (bs ≡ rs) × (event ≡ last)). let t0 = t.0 in let t1 = t.1 in inl (cc, t1))
+    (λ (t : (more : List Event) × (rs ≡ bs ++ event ∷ more)). let t1 = t.1 in inr (t.0, cc))
+    (last_or_before rs bs later last event rest)
+
+pub IsRun-push : (run : List Event) (last : Event) → IsRun run → IsAllowed run last → IsRun (run ++ last ∷ [])
+IsRun-push run last is_run allowed before event later e =
+    ⊎_elim
+    (λ (t : (before ≡ run) × (event ≡ last)). subst (λ (x : List Event). IsAllowed x event) (sym t.0) (subst (λ (x : Event). IsAllowed run x) (sym t.1) allowed))
+    (λ (t : (rest : List Event) × (run ≡ before ++ event ∷ rest)). is_run before event t.0 t.1)
+    (last_or_before run before later last event e)
+
+pub IsRun-none : IsRun []
+IsRun-none [] event later e = absurd (cc)
+IsRun-none (b ∷ bs) event later e = absurd (cc)
+
+-- ---- the owner of a shard is the seat whose list has it
+-- The proof goes by one event at a time. A win makes its seat the owner of its shard and puts the shard at the end of
+-- that seat's list; the shard had no owner, so by what held before it stood in no list. A seat that is turned away changes
+-- neither. A give-back frees the shard and takes it out of the owner's list; every other list didn't have it.
+
+-- this seat is the owner
+abbrev pub owns : ℕ → Option ℕ → Bool
+owns seat None = false
+owns seat (Some other) = other == seat
+
+pub Some-owns : (seat : ℕ) (now : Option ℕ) → owns seat now ≡ true → now ≡ Some seat
+Some-owns seat None h = absurd (cc)
+Some-owns seat (Some other) h = ap Some (eqb-true other seat h)
+
+-- Each event keeps owners and lists in agreement. The event is at hand as two tests: b, that it is the seat's, and c, that it is of the shard
+abbrev Agree : List Event → ℕ → ℕ → Type 0
+Agree run seat shard = owns seat (owner run shard) ≡ among shard (held (of_seat seat run))
+
+or_true : (b : Bool) → (b || true) ≡ true
+or_true true = refl
+or_true false = refl
+
+or_false : (b : Bool) → (b || false) ≡ b
+or_false true = refl
+or_false false = refl
+
+win_agrees : (run : List Event) (seat shard by of : ℕ) (b c : Bool) → (by == seat) ≡ b → (of == shard) ≡ c → owner run of ≡ None → Agree run seat shard
+    → owns seat (cond c (Some by) (owner run shard)) ≡ among shard (held (of_seat seat run ++ cond b (Win by of ∷ []) []))
+win_agrees run seat shard by of true true mine here free old = mine ∙ sym (ap (among shard) (held-push (of_seat seat run) (Win by of)) ∙ among-push shard of (held (of_seat seat run)) ∙ ap (λ t. among shard (held (of_seat seat run)) || t) here ∙ or_true (among shard (held (of_seat seat run))))
+win_agrees run seat shard by of true false mine here free old = old ∙ sym (ap (among shard) (held-push (of_seat seat run) (Win by of)) ∙ among-push shard of (held (of_seat seat run)) ∙ ap (λ t. among shard (held (of_seat seat run)) || t) here ∙ or_false (among shard (held (of_seat seat run))))
+win_agrees run seat shard by of false true mine here free old =
+    mine ∙ sym (ap (λ es. among shard (held es)) (append-nil (of_seat seat run)) ∙ sym old ∙ ap (λ n. owns seat (owner run n)) (sym (eqb-true of shard here)) ∙ ap (owns seat) free)
+win_agrees run seat shard by of false false mine here free old = old ∙ sym (ap (λ es. among shard (held es)) (append-nil (of_seat seat run)))
+
+turned_agrees : (run : List Event) (seat shard by of to : ℕ) (b : Bool) → Agree run seat shard
+    → owns seat (owner run shard) ≡ among shard (held (of_seat seat run ++ cond b (Turned by of to ∷ []) []))
+turned_agrees run seat shard by of to true old = old ∙ sym (ap (among shard) (held-push (of_seat seat run) (Turned by of to)))
+turned_agrees run seat shard by of to false old = old ∙ sym (ap (λ es. among shard (held es)) (append-nil (of_seat seat run)))
+
+back_agrees : (run : List Event) (seat shard by of : ℕ) (b c : Bool) → (by == seat) ≡ b → (of == shard) ≡ c → owner run of ≡ Some by → Agree run seat shard
+    → owns seat (cond c None (owner run shard)) ≡ among shard (held (of_seat seat run ++ cond b (GiveBack by of ∷ []) []))
+back_agrees run seat shard by of true true mine here is old =
+    sym (ap (among shard) (held-push (of_seat seat run) (GiveBack by of)) ∙ among-filter shard of (held (of_seat seat run)) ∙ ap (λ t. not t && among shard (held (of_seat seat run))) (eq-eqb shard of (sym (eqb-true of shard here))))
+back_agrees run seat shard by of true false mine here is old =
+    old ∙ sym (ap (among shard) (held-push (of_seat seat run) (GiveBack by of)) ∙ among-filter shard of (held (of_seat seat run)) ∙ ap (λ t. not t && among shard (held (of_seat seat run))) (ne_eqb shard of (λ e. eqb-false of shard here (sym e))))
+back_agrees run seat shard by of false true mine here is old =
+    sym (ap (λ es. among shard (held es)) (append-nil (of_seat seat run)) ∙ sym old ∙ ap (λ n. owns seat (owner run n)) (sym (eqb-true of shard here)) ∙ ap (owns seat) is ∙ mine)
+back_agrees run seat shard by of false false mine here is old = old ∙ sym (ap (λ es. among shard (held es)) (append-nil (of_seat seat run)))
+
+next_agrees : (run : List Event) (event : Event) (seat shard : ℕ) → IsAllowed run event → Agree run seat shard
+    → owns seat (owner_after shard (owner run shard) event) ≡ among shard (held (of_seat seat run ++ cond (seat_of event == seat) (event ∷ []) []))
+next_agrees run (Win by of) seat shard allowed old = win_agrees run seat shard by of (by == seat) (of == shard) refl refl allowed old
+next_agrees run (Turned by of to) seat shard allowed old = turned_agrees run seat shard by of to (by == seat) old
+next_agrees run (GiveBack by of) seat shard allowed old = back_agrees run seat shard by of (by == seat) (of == shard) refl refl allowed old
+
+agree-push : (run : List Event) (event : Event) → IsAllowed run event → ((seat shard : ℕ) → Agree run seat shard) → (seat shard : ℕ) → Agree (run ++ event ∷ []) seat shard
+agree-push run event allowed old seat shard =
+    ap (owns seat) (owner-push run event shard) ∙ next_agrees run event seat shard allowed (old seat shard) ∙ sym (ap (λ es. among shard (held es)) (of_seat-push seat run event))
+
+agree-append : (run later : List Event) → IsRun (run ++ later) → ((seat shard : ℕ) → Agree run seat shard) → (seat shard : ℕ) → Agree (run ++ later) seat shard
+agree-append run [] is old seat shard = subst (λ (r : List Event). Agree r seat shard) (sym (append-nil run)) (old seat shard)
+agree-append run (event ∷ later) is old seat shard =
+    let whole : (run ++ event ∷ []) ++ later ≡ run ++ event ∷ later = append_assoc run (event ∷ []) later in
+    subst (λ (r : List Event). Agree r seat shard) whole
+    (agree-append (run ++ event ∷ []) later (subst IsRun (sym whole) is) (agree-push run event (is run event later refl) old) seat shard)
+
+pub owner_has : (run : List Event) → IsRun run → (seat shard : ℕ) → owns seat (owner run shard) ≡ among shard (held (of_seat seat run))
+owner_has run is seat shard = agree-append [] run is (λ p s. refl) seat shard

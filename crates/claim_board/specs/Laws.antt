@@ -1,0 +1,28 @@
+-- What every run of the board leaves.
+use Rattle.std.specs.Prelude.{◌≡◌, ◌≢◌, ◌↔◌, ℕ, List, [], ◌∷◌, Some, AllPairs, Contains}
+use Rattle.claim_board.specs.declared.event.Event.{Event}
+use Rattle.claim_board.specs.declared.event.Event.TheVariants.{Win, Turned, GiveBack}
+use Rattle.claim_board.specs.Machine.{owner, IsRun, of_seat, held}
+
+-- the owner of a shard is the seat whose list has it
+abbrev pub OwnerIsHolder : Type 0
+OwnerIsHolder = (run : List Event) → IsRun run → (seat shard : ℕ) → (owner run shard ≡ Some seat) ↔ Contains (held (of_seat seat run)) shard
+
+-- no shard is in the lists of two seats
+abbrev pub HeldByOneSeat : Type 0
+HeldByOneSeat = (run : List Event) → IsRun run → (one other shard : ℕ) → Contains (held (of_seat one run)) shard → Contains (held (of_seat other run)) shard → one ≡ other
+
+-- no shard is twice in the list of a seat
+abbrev pub HeldOnce : Type 0
+HeldOnce = (run : List Event) → IsRun run → (seat : ℕ) → AllPairs (λ a b. a ≢ b) (held (of_seat seat run))
+
+-- seat 0 wins shard 0, seat 1 and then seat 0 are turned away from it, seat 0 gives it back, and seat 1 wins it
+abbrev pub handed_on : List Event
+handed_on = Win 0 0 ∷ Turned 1 0 0 ∷ Turned 0 0 0 ∷ GiveBack 0 0 ∷ Win 1 0 ∷ []
+
+-- this is a run, and it leaves the shard with seat 1
+pub record HandedOn : Type 0 where
+  pub is_run : IsRun handed_on
+  pub owner_is : owner handed_on 0 ≡ Some 1
+  pub first : held (of_seat 0 handed_on) ≡ []
+  pub second : held (of_seat 1 handed_on) ≡ 0 ∷ []

@@ -1,0 +1,22 @@
+//! Laws of the board's machine, over all of its runs. A caller that needs one calls its function, which does nothing.
+ghost use Rattle.claim_board.specs.Laws.{OwnerIsHolder, HeldByOneSeat, HeldOnce, HandedOn};
+
+/// In every run the owner of a shard is the seat whose list has it.
+pub fn owner_is_holder()
+    ensures { OwnerIsHolder }
+{}
+
+/// In no run is a shard in the lists of two seats.
+pub fn held_by_one_seat()
+    ensures { HeldByOneSeat }
+{}
+
+/// In no run is a shard twice in the list of a seat.
+pub fn held_once()
+    ensures { HeldOnce }
+{}
+
+/// A worked run: a shard goes from seat 0 to seat 1, and both are turned away from it in between.
+pub fn handed_on()
+    ensures { HandedOn }
+{}
