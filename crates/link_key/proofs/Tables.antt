@@ -1,9 +1,9 @@
 -- A forest grown along a sorted list, with the labels in a table.
-use Rattle.std.proofs.Common.{◌≡◌, ℕ, ◌+◌, ◌<◌, ◌≤◌, ◌↔◌, ◌==◌, if◌then◌else◌, is_lt, List, [], ◌∷◌, ◌++◌, length, get_or, take, sym, ap, ◌∙◌, subst, subst₂, inl, inr, arith, take_all, get_or-take, length-take}
+use Rattle.std.proofs.Common.{◌≡◌, ℕ, ◌+◌, ◌<◌, ◌≤◌, ◌↔◌, ◌==◌, if◌then◌else◌, is_lt, List, [], ◌∷◌, ◌++◌, length, get_or, take, sym, ap, ◌∙◌, subst, subst₂, inl, inr, arith, take_all, get_or-take, length-take, length-append, le_refl}
 use Rattle.std.specs.List.Sorted.{IsSorted, IsPermutation}
 use Rattle.std.proofs.lemmas.List.{take_more, get_or_default}
 use Rattle.std.proofs.lemmas.List.Elements.{All-get_or}
-use Rattle.std.proofs.lemmas.List.Sorted.{sorted_far, ranks_by, Contains-permutation, IsPermutation-sym, All-permutation}
+use Rattle.std.proofs.lemmas.List.Sorted.{sorted_far, ranks_by, Contains-permutation, IsPermutation-sym, All-permutation, length_permutation}
 use mathlib.Core.Bool.{false≢true}
 use Rattle.std.proofs.lemmas.Bool.{cases_eq}
 use Rattle.std.proofs.lemmas.Bool.Decides.{nat_tests}
@@ -23,6 +23,7 @@ pub record GrownTable (n : ℕ) (sorted : List Link) (i : ℕ) (taken : List Lin
   pub order : IsSorted key_cmp sorted
   pub len : length table ≡ n + 1
   pub grown : Grown n (take i sorted) taken (label_in table)
+  pub few : length taken ≤ length (take i sorted)
 
 pub table_start : (n : ℕ) (links sorted taken : List Link) (table : List ℕ) → EndsUpTo n links → IsPermutation links sorted → IsSorted key_cmp sorted → taken ≡ [] → length table ≡ n + 1 → ((v : ℕ) → v < length table → get_or table v 0 ≡ v) → GrownTable n sorted 0 taken table
 table_start n links sorted taken table ends moved order none len own = record {
@@ -30,6 +31,7 @@ table_start n links sorted taken table ends moved order none len own = record {
   order = order;
   len = len;
   grown = subst (λ t. Grown n [] t (label_in table)) (sym none) (grown_none n (label_in table) (λ u u_in. own u (omega arith)));
+  few = subst (λ t. length t ≤ 0) (sym none) (le_refl 0);
 }
 
 -- in a sorted list a link is below none before it
@@ -133,6 +135,7 @@ module _ {n : ℕ} {sorted : List Link} {i : ℕ} {taken : List Link} {table : L
     order = so_far.order;
     len = so_far.len;
     grown = subst (λ seen. Grown n seen taken (label_in table)) (sym next) (grown_joined n (take i sorted) taken (label_in table) x so_far.grown last end_in (sym low_label ∙ same ∙ high_label));
+    few = subst (λ seen. length taken ≤ length seen) (sym next) (omega (arith, so_far.few, length-append (take i sorted) (x ∷ [])));
   }
 
   -- the link was taken, and the label of its higher end became that of its lower one
@@ -142,6 +145,7 @@ module _ {n : ℕ} {sorted : List Link} {i : ℕ} {taken : List Link} {table : L
     order = so_far.order;
     len = same_len ∙ so_far.len;
     grown = subst (λ seen. Grown n seen (taken ++ x ∷ []) (label_in table')) (sym next) (grown_apart n (take i sorted) taken (label_in table) (label_in table') x so_far.grown last end_in (λ same. differ (low_label ∙ same ∙ sym high_label)) merged);
+    few = subst (λ seen. length (taken ++ x ∷ []) ≤ length seen) (sym next) (omega (arith, so_far.few, length-append (take i sorted) (x ∷ []), length-append taken (x ∷ [])));
   }
     where
       merged : AreMerged n (label_in table) (label_in table') (label_in table x.low) (label_in table x.high)
@@ -151,6 +155,10 @@ module _ {n : ℕ} {sorted : List Link} {i : ℕ} {taken : List Link} {table : L
           low_label
           high_label
           (merged_by_renaming n (label_in table) (label_in table') low high (λ u u_in. by_renaming u (let len = so_far.len in omega arith)))
+
+-- no more links are taken than there are
+pub table_few : {n : ℕ} (links : List Link) {sorted : List Link} {i : ℕ} {taken : List Link} {table : List ℕ} → IsPermutation links sorted → GrownTable n sorted i taken table → length sorted ≤ i → length taken ≤ length links
+table_few links {sorted} {i} {taken} moved so_far all = omega (arith, so_far.few, ap length (take_all i sorted all), length_permutation links sorted moved)
 
 -- all links were seen
 pub table_end : {n : ℕ} (links : List Link) {sorted : List Link} {i : ℕ} {taken : List Link} {table : List ℕ} → IsPermutation links sorted → GrownTable n sorted i taken table → length sorted ≤ i → IsForestOf links taken
