@@ -1,0 +1,14 @@
+pub mod Lists
+pub mod Circles
+pub mod Labels
+pub mod Leaving
+pub mod Forests
+pub mod Steps
+pub mod Cutting
+pub mod Counting
+pub mod Rounds
+pub mod PlainSteps
+pub mod Relabelling
+pub mod OfferSteps
+pub mod RoundSteps
+pub mod Worked

@@ -1,0 +1,145 @@
+-- A labelling made link by link: at first each vertex labels itself, and a link makes the labels of its ends one.
+use Rattle.std.proofs.Common.{◌≡◌, ◌≢◌, ℕ, ◌+◌, ◌-◌, ◌<◌, ◌≤◌, ◌⊎◌, ◌==◌, min, max, cond, List, [], ◌∷◌, ◌++◌, length, get_or, take, Contains, refl, sym, ap, ap₂, ◌∙◌, subst, subst₂, inl, inr, arith, eq-eqb, ne_eqb}
+use Rattle.std.specs.Prelude.{if◌then◌else◌}
+use Rattle.std.proofs.lemmas.Bool.{cases_eq, cases_lt}
+use Rattle.std.proofs.lemmas.List.{take_more, get_or_default}
+use Rattle.std.proofs.lemmas.List.Elements.{Contains-append_left, Contains-push, Contains-push_cases}
+use Rattle.link_key.specs.declared.links.Link.{Link}
+use Rattle.link_key.specs.Link.{EndsUpTo}
+use Rattle.link_key.specs.Walk.{Joins}
+use Rattle.link_key.proofs.Members.{contains_none}
+use Rattle.link_key.proofs.Walks.{WithLink, joins_same, joins_symm, joins_trans, joins_link, joins_more, joins_equal, joins_one_more}
+use Rattle.round_theory.specs.LinkSet.{LinkSet, SameLinks}
+use Rattle.link_key.specs.Labels.{label_of}
+use Rattle.round_theory.specs.Labelling.{IsVertex, IsLeastJoined, IsLabelling}
+use Rattle.round_theory.proofs.Labels.{one_label, low_vertex, high_vertex, labelling_alike}
+
+-- without links each vertex labels itself
+pub labelling_none : (n : ℕ) (labels : List ℕ) → length labels ≡ n → ((k : ℕ) → k < length labels → get_or labels k 0 ≡ k + 1) → IsLabelling n (Contains []) labels
+labelling_none n labels long own = record {
+  each_vertex = long;
+  least = λ v vertex.
+      let itself : label_of labels v ≡ v = own (v - 1) (omega (arith, vertex.0, vertex.1)) ∙ omega (arith, vertex.0) in
+      record {
+        joined = joins_same (Contains []) v (label_of labels v) (sym itself);
+        least = λ w joined. let same : v ≡ w = joins_equal (Contains []) (λ x. x) (λ l l_in. absurd (contains_none l l_in)) v w joined in omega (arith, itself, same);
+      };
+}
+
+-- what had the one label has the other, and all else its own
+pub record IsMoved (n from to : ℕ) (old new : List ℕ) : Type 0 where
+  pub each_vertex : length new ≡ n
+  pub moved : (v : ℕ) → IsVertex n v → label_of old v ≡ from → label_of new v ≡ to
+  pub kept : (v : ℕ) → IsVertex n v → label_of old v ≢ from → label_of new v ≡ label_of old v
+
+pub moved_by_test : (n from to : ℕ) (old new : List ℕ) → length old ≡ n → length new ≡ n → ((k : ℕ) → k < length old → get_or new k 0 ≡ (if get_or old k 0 == from then to else get_or old k 0)) → IsMoved n from to old new
+moved_by_test n from to old new old_long new_long each = record {
+  each_vertex = new_long;
+  moved = λ v vertex same. each (v - 1) (omega (arith, vertex.0, vertex.1)) ∙ ap (λ b. cond b to (label_of old v)) (eq-eqb (label_of old v) from same);
+  kept = λ v vertex other. each (v - 1) (omega (arith, vertex.0, vertex.1)) ∙ ap (λ b. cond b to (label_of old v)) (ne_eqb (label_of old v) from other);
+}
+
+-- One more link: the greater of its ends' labels gives way to the lesser. Each vertex stays joined to its label; and
+-- where the link joins it to further vertices, those have one of the two labels at least.
+module _ (n : ℕ) (S : LinkSet) (old new : List ℕ) (l : Link) (is : IsLabelling n S old) (l_ends : l.high ≤ n) (moved : IsMoved n (max (label_of old l.low) (label_of old l.high)) (min (label_of old l.low) (label_of old l.high)) old new) where
+  abbrev a : ℕ
+  a = label_of old l.low
+
+  abbrev b : ℕ
+  b = label_of old l.high
+
+  at_low : IsLeastJoined S l.low a
+  at_low = is.least l.low (low_vertex n l l_ends)
+
+  at_high : IsLeastJoined S l.high b
+  at_high = is.least l.high (high_vertex n l l_ends)
+
+  old_joined : (u v : ℕ) → Joins S u v → Joins (WithLink S l) u v
+  old_joined = joins_more S (WithLink S l) (λ m m_in. inl m_in)
+
+  -- the link joins the two labels
+  labels_joined : Joins (WithLink S l) a b
+  labels_joined =
+      joins_trans (WithLink S l) a l.low b (joins_symm (WithLink S l) l.low a (old_joined l.low a at_low.joined))
+      (joins_trans (WithLink S l) l.low l.high b (joins_link (WithLink S l) l (inr refl)) (old_joined l.high b at_high.joined))
+
+  greater_to_lesser : Joins (WithLink S l) (max a b) (min a b)
+  greater_to_lesser = elim (cases_lt b a) [
+    | inl lt ↦ let hi : a ≡ max a b = omega arith in let lo : b ≡ min a b = omega arith in subst (λ x. Joins (WithLink S l) x (min a b)) hi (subst (Joins (WithLink S l) a) lo labels_joined)
+    | inr le ↦ let hi : b ≡ max a b = omega arith in let lo : a ≡ min a b = omega arith in subst (λ x. Joins (WithLink S l) x (min a b)) hi (subst (Joins (WithLink S l) b) lo (joins_symm (WithLink S l) a b labels_joined))
+  ]
+
+  -- a new label isn't greater than the old one
+  not_greater : (v : ℕ) → IsVertex n v → label_of new v ≤ label_of old v
+  not_greater v vertex = elim (cases_eq (label_of old v) (max a b)) [
+    | inl same ↦ omega (arith, moved.moved v vertex same, same)
+    | inr other ↦ omega (arith, moved.kept v vertex other)
+  ]
+
+  -- what had the label of one of the ends has the lesser of the two
+  lesser_of : (v : ℕ) → IsVertex n v → (label_of old v ≡ a) ⊎ (label_of old v ≡ b) → label_of new v ≡ min a b
+  lesser_of v vertex either = elim (cases_eq (label_of old v) (max a b)) [
+    | inl same ↦ moved.moved v vertex same
+    | inr other ↦ moved.kept v vertex other ∙ elim either [ inl is_a ↦ omega (arith, is_a, other) | inr is_b ↦ omega (arith, is_b, other) ]
+  ]
+
+  pub labelling_one_more : IsLabelling n (WithLink S l) new
+  labelling_one_more = record {
+    each_vertex = moved.each_vertex;
+    least = λ v vertex. record { joined = to_label v vertex; least = λ w joined. not_after v vertex w ((joins_one_more S l v w).0 joined) };
+  }
+    where
+      to_label : (v : ℕ) → IsVertex n v → Joins (WithLink S l) v (label_of new v)
+      to_label v vertex = elim (cases_eq (label_of old v) (max a b)) [
+        | inl same ↦ subst (Joins (WithLink S l) v) (sym (moved.moved v vertex same))
+            (joins_trans (WithLink S l) v (max a b) (min a b) (subst (Joins (WithLink S l) v) same (old_joined v (label_of old v) (is.least v vertex).joined)) greater_to_lesser)
+        | inr other ↦ subst (Joins (WithLink S l) v) (sym (moved.kept v vertex other)) (old_joined v (label_of old v) (is.least v vertex).joined)
+      ]
+
+      not_after : (v : ℕ) → IsVertex n v → (w : ℕ) → Joins S v w ⊎ (Joins S v l.low × Joins S l.high w) ⊎ (Joins S v l.high × Joins S l.low w) → label_of new v ≤ w
+      not_after v vertex w (inl joined) = omega (arith, not_greater v vertex, (is.least v vertex).least w joined)
+      not_after v vertex w (inr (inl (to, from))) =
+          omega (arith, lesser_of v vertex (inl ((one_label n S old is v l.low vertex (low_vertex n l l_ends)).1 to)), at_high.least w from)
+      not_after v vertex w (inr (inr (to, from))) =
+          omega (arith, lesser_of v vertex (inr ((one_label n S old is v l.high vertex (high_vertex n l l_ends)).1 to)), at_low.least w from)
+
+-- the links of a list's front with one more
+front_with_link : (links : List Link) (i : ℕ) (x : Link) → i < length links → x ≡ get_or links i x → SameLinks (WithLink (Contains (take i links)) x) (Contains (take (i + 1) links))
+front_with_link links i x within read l = (to, back)
+  where
+    front : take i links ++ x ∷ [] ≡ take (i + 1) links
+    front = sym (take_more links i x within ∙ ap (λ y. take i links ++ y ∷ []) (sym read))
+
+    to : WithLink (Contains (take i links)) x l → Contains (take (i + 1) links) l
+    to (inl in_front) = subst (λ xs. Contains xs l) front (Contains-append_left (take i links) (x ∷ []) l in_front)
+    to (inr same) = subst (λ xs. Contains xs l) front (subst (Contains (take i links ++ x ∷ [])) (sym same) (Contains-push (take i links) x))
+
+    back : Contains (take (i + 1) links) l → WithLink (Contains (take i links)) x l
+    back l_in = elim (Contains-push_cases (take i links) x l (subst (λ xs. Contains xs l) (sym front) l_in)) [ inl in_front ↦ inl in_front | inr same ↦ inr (sym same) ]
+
+-- the labels after one more link of a list
+pub labelling_more : (n : ℕ) (links : List Link) (i : ℕ) (x : Link) (old new : List ℕ) → i < length links → x ≡ get_or links i x → x.high ≤ n → IsLabelling n (Contains (take i links)) old → IsMoved n (max (label_of old x.low) (label_of old x.high)) (min (label_of old x.low) (label_of old x.high)) old new → IsLabelling n (Contains (take (i + 1) links)) new
+labelling_more n links i x old new within read ends is moved =
+    labelling_alike n (WithLink (Contains (take i links)) x) (Contains (take (i + 1) links)) new (front_with_link links i x within read)
+    (labelling_one_more n (Contains (take i links)) old new x is ends moved)
+
+-- the same, by what the code reads and writes
+pub labelling_step : (n : ℕ) (links : List Link) (i : ℕ) (x : Link) (old view new : List ℕ) (low high from to : ℕ) → i < length links → x ≡ get_or links i x → EndsUpTo n links → IsLabelling n (Contains (take i links)) old → low ≡ get_or old (x.low - 1) low → high ≡ get_or old (x.high - 1) high → from ≡ max low high → to ≡ min low high → view ≡ old → length new ≡ length view → ((k : ℕ) → k < length view → get_or new k 0 ≡ (if get_or view k 0 == from then to else get_or view k 0)) → IsLabelling n (Contains (take (i + 1) links)) new
+labelling_step n links i x old view new low high from to within read ends is low_read high_read from_is to_is view_is long each =
+    labelling_more n links i x old new within read x_ends is
+    (subst₂ (λ f t. IsMoved n f t old new) from_max to_min (moved_by_test n from to old new is.each_vertex (long ∙ ap length view_is ∙ is.each_vertex) (subst (λ xs. (k : ℕ) → k < length xs → get_or new k 0 ≡ (if get_or xs k 0 == from then to else get_or xs k 0)) view_is each)))
+  where
+    x_ends : x.high ≤ n
+    x_ends = subst (λ (y : Link). y.high ≤ n) (sym read) (ends i x within)
+
+    low_is : low ≡ label_of old x.low
+    low_is = low_read ∙ get_or_default old (x.low - 1) low 0 (omega (arith, is.each_vertex, x_ends, x.from_one, x.ascending))
+
+    high_is : high ≡ label_of old x.high
+    high_is = high_read ∙ get_or_default old (x.high - 1) high 0 (omega (arith, is.each_vertex, x_ends, x.from_one, x.ascending))
+
+    from_max : from ≡ max (label_of old x.low) (label_of old x.high)
+    from_max = from_is ∙ ap₂ max low_is high_is
+
+    to_min : to ≡ min (label_of old x.low) (label_of old x.high)
+    to_min = to_is ∙ ap₂ min low_is high_is

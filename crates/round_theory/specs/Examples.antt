@@ -1,0 +1,71 @@
+-- A worked example for each law: three vertices, each two of them linked by the same weight.
+use Rattle.std.specs.Prelude.{ℕ, pos, List, [], ◌∷◌, Contains}
+use Rattle.std.proofs.Common.{lit≤, lit<}
+use Rattle.link_key.specs.declared.links.Link.{Link}
+use Rattle.link_key.specs.Walk.{Joins}
+use Rattle.link_key.specs.Forest.{IsForestLink}
+use Rattle.round_theory.specs.LinkSet.{SameLinks, HasNoCircle}
+use Rattle.round_theory.specs.Labelling.{IsRelabelling}
+use Rattle.round_theory.specs.Offers.{IsLeastLeaving, Hearing, IsNamed}
+use Rattle.round_theory.specs.Rounds.{TakenAfter, IsMergingRounds}
+
+abbrev pub link_1_2 : Link
+link_1_2 = record { weight = pos 5; low = 1; high = 2; from_one = lit≤ tt; ascending = lit< tt; in_limit = lit≤ tt }
+
+abbrev pub link_2_3 : Link
+link_2_3 = record { weight = pos 5; low = 2; high = 3; from_one = lit≤ tt; ascending = lit< tt; in_limit = lit≤ tt }
+
+abbrev pub link_1_3 : Link
+link_1_3 = record { weight = pos 5; low = 1; high = 3; from_one = lit≤ tt; ascending = lit< tt; in_limit = lit≤ tt }
+
+abbrev pub triangle : List Link
+triangle = link_1_2 ∷ (link_2_3 ∷ (link_1_3 ∷ []))
+
+-- its forest
+abbrev pub two_sides : List Link
+two_sides = link_1_2 ∷ (link_1_3 ∷ [])
+
+-- each vertex labels itself
+abbrev pub apart : List ℕ
+apart = 1 ∷ (2 ∷ (3 ∷ []))
+
+-- the labels once the first link is taken
+abbrev pub first_joined : List ℕ
+first_joined = 1 ∷ (1 ∷ (3 ∷ []))
+
+-- a link joins its ends, and no third vertex
+abbrev pub OneLinkJoinsItsEnds : Type 0
+OneLinkJoinsItsEnds = Joins (Contains (link_1_2 ∷ [])) 2 1 × ¬ (Joins (Contains (link_1_2 ∷ [])) 2 3)
+
+-- equal weights: the ends decide
+abbrev pub TwoSidesAreForest : Type 0
+TwoSidesAreForest = SameLinks (Contains two_sides) (IsForestLink triangle)
+
+-- vertex 3 has two links of weight 5, and the one with the lesser ends is in the forest
+abbrev pub LesserEndsAreInForest : Type 0
+LesserEndsAreInForest = IsForestLink triangle link_1_3
+
+-- one round takes all of the forest
+abbrev pub OneRoundSuffices : Type 0
+OneRoundSuffices = IsMergingRounds 3 triangle 1
+
+abbrev pub OneRoundTakesForest : Type 0
+OneRoundTakesForest = SameLinks (TakenAfter 3 triangle 1) (IsForestLink triangle)
+
+-- the triangle cut behind its second link, the second shard heard first
+abbrev pub front : Hearing
+front = record { shard = link_1_2 ∷ (link_2_3 ∷ []); offers = (1, 0) ∷ ((2, 0) ∷ ((3, 1) ∷ [])) }
+
+abbrev pub back : Hearing
+back = record { shard = link_1_3 ∷ []; offers = (1, 0) ∷ ((3, 0) ∷ []) }
+
+abbrev pub LeastOfBothShards : Type 0
+LeastOfBothShards = IsLeastLeaving apart (IsNamed (back ∷ (front ∷ []))) 3 link_1_3
+
+-- a second link taken
+abbrev pub OneLinkMore : Type 0
+OneLinkMore = IsRelabelling 3 first_joined (Contains (link_1_3 ∷ [])) (1 ∷ (1 ∷ (1 ∷ [])))
+
+-- offers that hide a link: what is picked of them is no part of the forest, and has no circle all the same
+abbrev pub HeavierOffersCloseNoCircle : Type 0
+HeavierOffersCloseNoCircle = HasNoCircle (Contains (link_1_2 ∷ (link_2_3 ∷ [])))

@@ -1,0 +1,193 @@
+-- The laws of the rounds, each a statement about the definitions alone. A set of links is finite, so the laws tell it by a list of its members.
+use Rattle.std.specs.Prelude.{◌≡◌, ◌≢◌, ℕ, suc, ◌≤◌, max, ◌^◌, ◌⊎◌, ◌↔◌, List, ◌++◌, Contains, flat_map, IsPermutation}
+use Rattle.link_key.specs.declared.links.Link.{Link}
+use Rattle.link_key.specs.Link.{EndsUpTo}
+use Rattle.link_key.specs.Walk.{Joins}
+use Rattle.link_key.specs.Forest.{IsForestLink}
+use Rattle.round_theory.specs.LinkSet.{IsPartOf, SameLinks, HasNoCircle, Spans}
+use Rattle.link_key.specs.Labels.{label_of, AreLabels}
+use Rattle.round_theory.specs.Labelling.{IsVertex, IsLabelling, JoinsOver, IsRelabelling}
+use Rattle.round_theory.specs.Offers.{Leaves, IsLeastLeaving, IsPick, Hearing, IsNamed, HaveLinksOf, AreAllLight}
+use Rattle.round_theory.specs.Rounds.{AreRoundPicks, TakenAfter, IsMergingRounds}
+
+-- ---- a set of links has exactly one labelling
+
+-- it has one
+abbrev pub SetHasLabelling : Type 0
+SetHasLabelling = (n : ℕ) (taken : List Link) → (labels : List ℕ) × IsLabelling n (Contains taken) labels
+
+-- two labellings by it are the same
+abbrev pub LabellingIsUnique : Type 0
+LabellingIsUnique =
+    (n : ℕ) (taken : List Link) (a b : List ℕ) → IsLabelling n (Contains taken) a → IsLabelling n (Contains taken) b → a ≡ b
+
+-- two vertices have one label exactly when the set joins them
+abbrev pub OneLabelWhereJoined : Type 0
+OneLabelWhereJoined =
+    (n : ℕ) (taken : List Link) (labels : List ℕ) → IsLabelling n (Contains taken) labels
+    → (u v : ℕ) → IsVertex n u → IsVertex n v → (label_of labels u ≡ label_of labels v) ↔ Joins (Contains taken) u v
+
+-- it is such labels as the calls pass on: each label is a vertex, not after those that have it, and its own label
+abbrev pub LabellingIsLabels : Type 0
+LabellingIsLabels =
+    (n : ℕ) (taken : List Link) (labels : List ℕ) → n ≤ 2 ^ 26 → IsLabelling n (Contains taken) labels → AreLabels labels
+
+-- a set spans a list exactly where no link of the list leaves a label
+abbrev pub SpansWhereNoneLeaves : Type 0
+SpansWhereNoneLeaves =
+    (n : ℕ) (links taken : List Link) (labels : List ℕ) → EndsUpTo n links → IsLabelling n (Contains taken) labels
+    → Spans (Contains taken) links ↔ ((l : Link) (c : ℕ) → Contains links l → ¬ (Leaves labels l c))
+
+-- ---- the forest is the part of itself that spans
+
+abbrev pub ForestHasNoCircle : Type 0
+ForestHasNoCircle = (links : List Link) → HasNoCircle (IsForestLink links)
+
+abbrev pub ForestSpans : Type 0
+ForestSpans = (links : List Link) → Spans (IsForestLink links) links
+
+-- a part of the forest that spans the list is the forest
+abbrev pub SpanningPartIsForest : Type 0
+SpanningPartIsForest =
+    (links part : List Link) → IsPartOf (Contains part) (IsForestLink links) → Spans (Contains part) links
+    → SameLinks (Contains part) (IsForestLink links)
+
+-- ---- the cut property
+
+-- whatever the labels: where a link of the list leaves a label, a least one does
+abbrev pub LeastLeavingExists : Type 0
+LeastLeavingExists =
+    (links : List Link) (labels : List ℕ) (c : ℕ) (m : Link) → Contains links m → Leaves labels m c
+    → (l : Link) × IsLeastLeaving labels (Contains links) c l
+
+-- and it is in the forest
+abbrev pub LeastLeavingIsInForest : Type 0
+LeastLeavingIsInForest =
+    (links : List Link) (labels : List ℕ) (c : ℕ) (l : Link) → IsLeastLeaving labels (Contains links) c l → IsForestLink links l
+
+-- ---- the rounds end with the forest
+
+abbrev pub RoundsAreInForest : Type 0
+RoundsAreInForest = (n : ℕ) (links : List Link) (i : ℕ) → IsPartOf (TakenAfter n links i) (IsForestLink links)
+
+-- what is taken after a number of rounds is a finite set
+abbrev pub RoundsAreFinite : Type 0
+RoundsAreFinite = (n : ℕ) (links : List Link) (i : ℕ) → (taken : List Link) × SameLinks (Contains taken) (TakenAfter n links i)
+
+-- it depends on the set of the list's links alone, not on their order or repeats
+abbrev pub RoundsOfSameLinks : Type 0
+RoundsOfSameLinks =
+    (n : ℕ) (links other : List Link) → SameLinks (Contains links) (Contains other)
+    → (i : ℕ) → SameLinks (TakenAfter n links i) (TakenAfter n other i)
+
+-- the picks of the next round, added to what is taken after i rounds, make what is taken after one more
+abbrev pub RoundByRound : Type 0
+RoundByRound =
+    (n : ℕ) (links taken added : List Link) (i : ℕ) → SameLinks (Contains taken) (TakenAfter n links i)
+    → AreRoundPicks n links taken added → SameLinks (Contains (taken ++ added)) (TakenAfter n links (suc i))
+
+-- a round adds nothing exactly where no link of the list leaves a label
+abbrev pub AddsNothingWhereNoneLeaves : Type 0
+AddsNothingWhereNoneLeaves =
+    (n : ℕ) (links : List Link) → EndsUpTo n links
+    → (i : ℕ) (labels : List ℕ) → IsLabelling n (TakenAfter n links i) labels
+    → SameLinks (TakenAfter n links (suc i)) (TakenAfter n links i)
+    ↔ ((l : Link) (c : ℕ) → Contains links l → ¬ (Leaves labels l c))
+
+-- there is exactly one number of merging rounds
+abbrev pub OneNumberOfRounds : Type 0
+OneNumberOfRounds =
+    (n : ℕ) (links : List Link) → EndsUpTo n links
+    → (r : ℕ) × IsMergingRounds n links r × ((q : ℕ) → IsMergingRounds n links q → q ≡ r)
+
+-- from that round on what is taken is the forest
+abbrev pub ForestFromThenOn : Type 0
+ForestFromThenOn =
+    (n : ℕ) (links : List Link) → EndsUpTo n links
+    → (r : ℕ) → IsMergingRounds n links r → (i : ℕ) → r ≤ i → SameLinks (TakenAfter n links i) (IsForestLink links)
+
+-- ---- their number is at most the logarithm of the number of vertices
+
+abbrev pub RoundsAtMostLogarithm : Type 0
+RoundsAtMostLogarithm =
+    (n : ℕ) (links : List Link) → EndsUpTo n links → (r : ℕ) → IsMergingRounds n links r → 2 ^ r ≤ max 1 n
+
+-- and no round that adds a link comes too late for that
+abbrev pub MergingRoundIsInTime : Type 0
+MergingRoundIsInTime =
+    (n : ℕ) (links : List Link) → EndsUpTo n links
+    → (i : ℕ) → ¬ (SameLinks (TakenAfter n links (suc i)) (TakenAfter n links i)) → 2 ^ suc i ≤ n
+
+-- ---- however the list is cut, and in whatever order the shards are heard
+
+-- where the shards have the links of a list and all their offers are light, the least named link that leaves a label is the least of the list that does
+abbrev pub LightOffersSuffice : Type 0
+LightOffersSuffice =
+    (links : List Link) (labels : List ℕ) (heard : List Hearing) → HaveLinksOf heard links → AreAllLight labels heard
+    → (c : ℕ) (l : Link) → IsLeastLeaving labels (IsNamed heard) c l ↔ IsLeastLeaving labels (Contains links) c l
+
+-- so where the shards are cut from a list, end to end, and heard in another order
+abbrev pub AnyCutAnyOrder : Type 0
+AnyCutAnyOrder =
+    (labels : List ℕ) (cut heard : List Hearing) → IsPermutation cut heard → AreAllLight labels cut
+    → (c : ℕ) (l : Link)
+    → IsLeastLeaving labels (IsNamed heard) c l ↔ IsLeastLeaving labels (Contains (flat_map (λ h. h.shard) cut)) c l
+
+-- offers that aren't light name the same links in any order too
+abbrev pub OrderOfHearingIsFree : Type 0
+OrderOfHearingIsFree = (first second : List Hearing) → IsPermutation first second → SameLinks (IsNamed first) (IsNamed second)
+
+-- a link that leaves a label leaves the labels of both its ends, and no others
+abbrev pub LeavesBothEnds : Type 0
+LeavesBothEnds =
+    (labels : List ℕ) (l : Link) (c : ℕ) → Leaves labels l c
+    ↔ (label_of labels l.low ≢ label_of labels l.high) × ((c ≡ label_of labels l.low) ⊎ (c ≡ label_of labels l.high))
+
+-- ---- joining by steps
+
+-- the taken links and the added ones join what the added ones join over the components of the taken ones
+abbrev pub JoinedBySteps : Type 0
+JoinedBySteps =
+    (n : ℕ) (taken added : List Link) (labels : List ℕ) → EndsUpTo n taken → EndsUpTo n added
+    → IsLabelling n (Contains taken) labels
+    → (u v : ℕ) → IsVertex n u → IsVertex n v → Joins (Contains (taken ++ added)) u v ↔ JoinsOver labels (Contains added) u v
+
+-- so adding links changes the labelling just as joining the old components by them does
+abbrev pub RelabelledBySteps : Type 0
+RelabelledBySteps =
+    (n : ℕ) (taken added : List Link) (labels : List ℕ) → EndsUpTo n taken → EndsUpTo n added
+    → IsLabelling n (Contains taken) labels
+    → (new : List ℕ) → IsLabelling n (Contains (taken ++ added)) new ↔ IsRelabelling n labels (Contains added) new
+
+-- what it gives is one list of labels
+abbrev pub RelabellingIsUnique : Type 0
+RelabellingIsUnique =
+    (n : ℕ) (added : List Link) (old a b : List ℕ) → IsRelabelling n old (Contains added) a → IsRelabelling n old (Contains added) b
+    → a ≡ b
+
+-- and they are such as the calls pass on
+abbrev pub RelabellingIsLabels : Type 0
+RelabellingIsLabels =
+    (n : ℕ) (added : List Link) (old new : List ℕ) → n ≤ 2 ^ 26 → IsRelabelling n old (Contains added) new → AreLabels new
+
+-- ---- one round over any offers
+
+-- a pick is one of the offered links, and a new one
+abbrev pub PicksAreNew : Type 0
+PicksAreNew =
+    (n : ℕ) (taken offered : List Link) (labels : List ℕ) → EndsUpTo n taken → IsLabelling n (Contains taken) labels
+    → (l : Link) → IsPick labels (Contains offered) l → Contains offered l × ¬ (Contains taken l)
+
+-- a link that two labels pick is picked from its two sides
+abbrev pub PickedFromBothSides : Type 0
+PickedFromBothSides =
+    (labels : List ℕ) (offered : List Link) (c d : ℕ) (l : Link) → IsLeastLeaving labels (Contains offered) c l
+    → IsLeastLeaving labels (Contains offered) d l → c ≢ d
+    → ((c ≡ label_of labels l.low) × (d ≡ label_of labels l.high)) ⊎ ((c ≡ label_of labels l.high) × (d ≡ label_of labels l.low))
+
+-- picks added to a set without a circle leave it without one
+abbrev pub PicksCloseNoCircle : Type 0
+PicksCloseNoCircle =
+    (n : ℕ) (taken offered added : List Link) (labels : List ℕ) → EndsUpTo n taken
+    → IsLabelling n (Contains taken) labels → HasNoCircle (Contains taken)
+    → IsPartOf (Contains added) (IsPick labels (Contains offered)) → HasNoCircle (Contains (taken ++ added))

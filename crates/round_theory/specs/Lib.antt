@@ -1,0 +1,6 @@
+pub mod LinkSet
+pub mod Labelling
+pub mod Offers
+pub mod Rounds
+pub mod Laws
+pub mod Examples

@@ -1,0 +1,63 @@
+-- What leaves a component, and what is offered and picked for it.
+use Rattle.std.specs.Prelude.{◌≡◌, ◌≢◌, ℕ, ◌<◌, ◌⊎◌, ◌↔◌, List, length, slice_index_or, All, Contains, Any}
+use Rattle.link_key.specs.declared.links.Link.{Link}
+use Rattle.link_key.specs.Link.{IsBelow}
+use Rattle.link_key.specs.Offers.{Offer, AreOffers}
+use Rattle.round_theory.specs.LinkSet.{LinkSet}
+use Rattle.link_key.specs.Labels.{label_of}
+
+-- the link leaves label c: exactly one of its ends has that label
+abbrev pub Leaves : List ℕ → Link → ℕ → Type 0
+Leaves labels l c =
+    ((label_of labels l.low ≡ c) × (label_of labels l.high ≢ c))
+    ⊎ ((label_of labels l.low ≢ c) × (label_of labels l.high ≡ c))
+
+-- of the links of the set that leave label c, l is the least
+pub record IsLeastLeaving (labels : List ℕ) (S : LinkSet) (c : ℕ) (l : Link) : Type 0 where
+  pub member : S l
+  pub leaves : Leaves labels l c
+  pub least : (m : Link) → S m → Leaves labels m c → ¬ (IsBelow m l)
+
+-- the picks of a set of links under the labels: for each label the least link of the set that leaves it
+abbrev pub IsPick : List ℕ → LinkSet → LinkSet
+IsPick labels S l = (c : ℕ) × IsLeastLeaving labels S c l
+
+-- l stands in the list at place i, and at none before it
+pub record IsFirstPlace (links : List Link) (l : Link) (i : ℕ) : Type 0 where
+  pub within : i < length links
+  pub here : slice_index_or links i l ≡ l
+  pub first : (k : ℕ) → k < i → slice_index_or links k l ≢ l
+
+-- place i is where the least link of the list that leaves label c stands first
+abbrev pub IsLightOffer : List Link → List ℕ → ℕ → ℕ → Type 0
+IsLightOffer links labels c i = (l : Link) × IsLeastLeaving labels (Contains links) c l × IsFirstPlace links l i
+
+-- the light offers of a list under the labels: pairs of a label and a place, labels ascending, one for each label that some link of the list leaves
+pub record AreLightOffers (links : List Link) (labels : List ℕ) (offers : List Offer) : Type 0 where
+  pub ascending : AreOffers offers
+  pub exact : (c i : ℕ) → Contains offers (c, i) ↔ IsLightOffer links labels c i
+
+-- a shard, and the offers that were heard of it
+pub record Hearing : Type 0 where
+  pub shard : List Link
+  pub offers : List Offer
+
+-- one of the offers names the link: it stands in the shard at the offer's place
+pub record Names (h : Hearing) (l : Link) : Type 0 where
+  pub label : ℕ
+  pub place : ℕ
+  pub offered : Contains h.offers (label, place)
+  pub within : place < length h.shard
+  pub here : slice_index_or h.shard place l ≡ l
+
+-- the links that the offers of some shard name
+abbrev pub IsNamed : List Hearing → LinkSet
+IsNamed heard l = Any (λ h. Names h l) heard
+
+-- the shards have the links of the list, and no others
+abbrev pub HaveLinksOf : List Hearing → List Link → Type 0
+HaveLinksOf heard links = (l : Link) → Contains links l ↔ Any (λ h. Contains h.shard l) heard
+
+-- what was heard of each shard are its light offers
+abbrev pub AreAllLight : List ℕ → List Hearing → Type 0
+AreAllLight labels heard = All (λ h. AreLightOffers h.shard labels h.offers) heard
