@@ -1,5 +1,5 @@
-ghost use Rattle.std.specs.Prelude.{◌≡◌, ◌<◌, All, length};
-ghost use Rattle.claim_board.specs.State.{BoardState, SeatState, AreSeats};
+ghost use Rattle.std.specs.Prelude.{◌≡◌, ◌<◌};
+ghost use Rattle.claim_board.specs.State.{AreSeats};
 
 use crate::{Board, Claim, MOST_SHARDS, Seat};
 use std::alloc::Global;
