@@ -15,3 +15,4 @@ pub mod Sourcing
 pub mod Handing
 pub mod ForestLines
 pub mod Texts
+pub mod OneFault

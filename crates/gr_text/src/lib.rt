@@ -27,6 +27,8 @@ pub mod parsing;
 pub mod partial;
 mod piece;
 pub mod reader;
+#[cfg(test)]
+mod reader_tests;
 pub mod reading;
 pub mod sizes;
 pub mod so_far;

@@ -1,0 +1,173 @@
+use crate::{
+    GrFault, GrKind, GrReader, Graph, MAX_BYTES, ReadFault, parse, read_graph, read_graph_upto,
+};
+use byte_streams::FusedSource;
+use link_key::Link;
+use std::alloc::Allocator;
+use std::test::Fail;
+
+const SMALL_NET: &[u8; 108] =
+    b"c a small net\np sp 6 8\na 1 2 17\nc the usual shape\na 1 3 10\na 2 4 2\na 3 5 0\na 4 3 0\na 4 6 3\na 5 2 0\na 5 6 20\n";
+
+fn fault(line: u64, kind: GrKind) -> ReadFault {
+    ReadFault::Gr(GrFault { line, kind })
+}
+
+// Whether this is the graph that the text above means.
+fn is_small_net<A: Allocator>(graph: &Graph<A>) -> bool {
+    let arcs = [
+        (1, 2, 17),
+        (1, 3, 10),
+        (2, 4, 2),
+        (3, 5, 0),
+        (4, 3, 0),
+        (4, 6, 3),
+        (5, 2, 0),
+        (5, 6, 20),
+    ];
+    graph.n() == 6 && are_links(graph.links(), &arcs)
+}
+
+fn are_links(links: &[Link], arcs: &[(u32, u32, i32)]) -> bool {
+    links.len() == arcs.len()
+        && links.iter().zip(arcs).all(|(link, &(tail, head, weight))| Link::of_arc(
+            tail, head, weight,
+        ) == Some(*link))
+}
+
+#[test]
+fn tells_what_is_wrong_with_a_problem_line(rt: HostRuntime) {
+    let rows = [
+        (b"".as_slice(), 1, GrKind::MissingProblem),
+        (b"e 1 2".as_slice(), 1, GrKind::UnknownLine),
+        (b"p max 2 1".as_slice(), 1, GrKind::BadProblem),
+        (b"p sp 67108865 x".as_slice(), 1, GrKind::BadProblem),
+        (b"p sp 67108865 0".as_slice(), 1, GrKind::TooLarge),
+        (b"p sp 0 1073741825".as_slice(), 1, GrKind::TooLarge),
+        (b"p sp 2 1\np sp x".as_slice(), 2, GrKind::SecondProblem),
+        (
+            b"p sp 2 1\np sp 67108865 0".as_slice(),
+            2,
+            GrKind::SecondProblem,
+        ),
+    ];
+    for (text, line, kind) in rows {
+        assert_eq!(rt; parse(rt.alloc(), text).err(), Some(fault(line, kind)));
+    }
+}
+
+#[test]
+fn tells_what_is_wrong_with_an_arc_line(rt: HostRuntime) {
+    let rows = [
+        (b"a 1 2 3\np sp 2 1\n".as_slice(), 1, GrKind::NoProblemYet),
+        (b"a x\np sp 2 1\n".as_slice(), 1, GrKind::NoProblemYet),
+        (b"p sp 2 0\na x".as_slice(), 2, GrKind::TooManyArcs),
+        (b"p sp 2 0\na 1 3 4".as_slice(), 2, GrKind::TooManyArcs),
+        (b"p sp 2 1\na 1 2".as_slice(), 2, GrKind::BadArc),
+        (b"p sp 2 1\na 1 3".as_slice(), 2, GrKind::BadArc),
+        (
+            b"p sp 2 1\na 1 3 9999999999".as_slice(),
+            2,
+            GrKind::EndOutOfRange,
+        ),
+        (b"p sp 2 1\na 0 2 5".as_slice(), 2, GrKind::EndOutOfRange),
+        (
+            b"p sp 2 1\na 1 2 2147483648".as_slice(),
+            2,
+            GrKind::WeightOutOfRange,
+        ),
+        (b"p sp 2 2\na 1 2 5".as_slice(), 3, GrKind::MissingArcs),
+        (b"p sp 2 2\na 1 2 5\n".as_slice(), 3, GrKind::MissingArcs),
+    ];
+    for (text, line, kind) in rows {
+        assert_eq!(rt; parse(rt.alloc(), text).err(), Some(fault(line, kind)));
+    }
+}
+
+#[test]
+fn reads_weights_loops_and_repeats(rt: HostRuntime) {
+    let text = b"p sp 2 5\na 1 2 -2147483648\na 1 1 5\na 2 1 2147483647\na 2 1 -0\na 1 2 0";
+    let graph = parse(rt.alloc(), text).ok().expect(&rt, "a graph");
+    assert_eq!(rt; graph.n(), 2);
+    assert!(rt;
+        are_links(
+            graph.links(),
+            &[
+                (1, 2, -2147483648),
+                (1, 2, 2147483647),
+                (1, 2, 0),
+                (1, 2, 0)
+            ]
+        )
+    );
+}
+
+#[test]
+fn reads_bytes_one_after_another(rt: HostRuntime) {
+    let text =
+        b"c a small net\r\np\tsp\t006\t8\r\na\t1\t02\t0017\r\nc the usual shape\r\na\t1\t3\t10\r\na\t2\t4\t002\r\na\t3\t5\t0\r\na\t4\t3\t000\r\na\t4\t6\t3\r\n\ta\t5\t2\t-0\r\na\t5\t006\t20\r\n";
+    let mut reader = GrReader::new(rt.alloc(), MAX_BYTES);
+    for i in 0..text.len() {
+        assert_eq!(rt; reader.feed(&text[i..i + 1]), Ok(()));
+    }
+    assert_eq!(rt; reader.line(), 12);
+    assert!(rt; is_small_net(&reader.finish().ok().expect(&rt, "a graph")));
+}
+
+#[test]
+fn reads_two_pieces_cut_anywhere(rt: HostRuntime) {
+    for at in 0..=SMALL_NET.len() {
+        let mut reader = GrReader::new(rt.alloc(), MAX_BYTES);
+        assert_eq!(rt; reader.feed(&SMALL_NET[..at]), Ok(()));
+        assert_eq!(rt; reader.feed(&SMALL_NET[at..]), Ok(()));
+        assert!(rt; is_small_net(&reader.finish().ok().expect(&rt, "a graph")));
+    }
+}
+
+#[test]
+fn takes_no_more_than_its_limit(rt: HostRuntime) {
+    let mut short = GrReader::new(rt.alloc(), 9);
+    assert_eq!(rt; short.feed(b"p sp 0 0"), Ok(()));
+    assert_eq!(rt; short.line(), 1);
+    assert_eq!(rt; short.feed(b"\nc"), Err(ReadFault::TooLong));
+    assert_eq!(rt; short.finish().err(), Some(ReadFault::TooLong));
+    let mut enough = GrReader::new(rt.alloc(), 10);
+    assert_eq!(rt; enough.feed(b"p sp 0 0"), Ok(()));
+    assert_eq!(rt; enough.feed(b"\nc"), Ok(()));
+    assert_eq!(rt; enough.line(), 2);
+    assert_eq!(rt; enough.finish().ok().expect(&rt, "a graph").n(), 0);
+}
+
+#[test]
+fn answers_its_fault_from_then_on(rt: HostRuntime) {
+    let unknown = fault(1, GrKind::UnknownLine);
+    let mut reader = GrReader::new(rt.alloc(), MAX_BYTES);
+    assert_eq!(rt; reader.feed(b"x"), Ok(()));
+    assert_eq!(rt; reader.feed(b"\n"), Err(unknown));
+    assert_eq!(rt; reader.feed(b"p sp 0 0"), Err(unknown));
+    assert_eq!(rt; reader.finish().err(), Some(unknown));
+}
+
+#[test]
+fn reads_sources_that_fail(rt: HostRuntime) -> Result<(), Fail> {
+    let text = Vec::from_slice(rt.alloc(), b"p sp 2 2\na 1 2 5")?;
+    let mut breaks_off = FusedSource::new(text, 12, 5);
+    let lost = ReadFault::Source { line: 2 };
+    assert_eq!(rt; read_graph(rt.alloc(), &mut breaks_off).err(), Some(lost));
+    let text = Vec::from_slice(rt.alloc(), b"x\np")?;
+    let mut faulty = FusedSource::new(text, 3, 5);
+    assert_eq!(rt;
+        read_graph(rt.alloc(), &mut faulty).err(),
+        Some(fault(1, GrKind::UnknownLine))
+    );
+    Ok(())
+}
+
+#[test]
+fn reads_a_source_up_to_a_limit(rt: HostRuntime) {
+    let text = b"p sp 0 0\nc";
+    let long = read_graph_upto(rt.alloc(), &mut text.as_slice(), 9);
+    assert_eq!(rt; long.err(), Some(ReadFault::TooLong));
+    let graph = read_graph_upto(rt.alloc(), &mut text.as_slice(), 10);
+    assert_eq!(rt; graph.ok().expect(&rt, "a graph").n(), 0);
+}
