@@ -16,3 +16,4 @@ pub mod Handing
 pub mod ForestLines
 pub mod Texts
 pub mod OneFault
+pub mod Deciding

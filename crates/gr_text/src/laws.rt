@@ -1,14 +1,15 @@
 //! What the definitions promise of every text, each as the contract of a function that does nothing.
-ghost use Rattle.gr_text.specs.Laws.{HasOneFault, MeansOneGraph, NeverBoth};
+ghost use Rattle.gr_text.specs.Laws.{HasOneFault, MeansOneGraph, MeansOrFails, NeverBoth};
 
 /// A text means one graph at the most.
 pub fn a_text_means_one_graph()
     ensures { MeansOneGraph }
 {}
 
-/// A text that means a graph has no fault.
-pub fn a_text_never_means_a_graph_and_fails()
-    ensures { NeverBoth }
+/// A text means a graph or has a first fault, and not both.
+pub fn a_text_means_a_graph_or_has_a_fault()
+    ensures one { MeansOrFails }
+    ensures not_both { NeverBoth }
 {}
 
 /// A text has one first fault at the most: one line, and one kind.
