@@ -6,10 +6,14 @@ use crate::graphs::Graph;
 use crate::reader::GrReader;
 use std::alloc::Allocator;
 
-/// The largest number of bytes of a text.
+/// The largest number of bytes of a text: [`parse`] and `read_graph` take no longer one.
 pub const MAX_BYTES: u64 = 1 << 40;
 
 /// The graph that a text means.
+///
+/// Else the first fault of the text with its line, or `Memory` where the allocator refused the links;
+/// never `Source`. `TooLong` comes past [`MAX_BYTES`]. The time is linear in the bytes; the memory is that of
+/// the links, which are pushed one by one.
 pub fn parse<A: Allocator>(alloc: A, bytes: &[u8]) -> Result<Graph<A>, ReadFault>
     ensures { IsRead (2 ^ 40) bytes.now result }
 {

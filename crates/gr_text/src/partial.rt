@@ -5,7 +5,8 @@ ghost use Rattle.gr_text.specs.Word.{LineMeans, WordMeans};
 
 use crate::words::{Line, Word};
 
-/// What is kept of a line of which a part has come.
+/// What is kept of a line of which a part has come: its whole fields, the field that is coming, and whether
+/// any byte has come, since a text may end with a line that has none.
 #[derive(Clone, Copy)]
 pub struct Partial {
     pub on: Line,
@@ -41,7 +42,7 @@ impl Partial {
         }
     }
 
-    /// With one more byte of the line.
+    /// With one more byte of the line, which is no line feed. In constant time.
     #[inline]
     pub fn with(self, byte: u8) -> Partial
         ensures { (part : List ℕ) → IsKeptAs self part → IsKeptAs result (part ++ byte ∷ []) }

@@ -9,6 +9,10 @@ use std::alloc::{Allocator, Global};
 use std::marker::Model;
 
 /// A reader of a `.gr` text that is fed in pieces, of any lengths.
+///
+/// Where the text is cut makes no difference. The reader keeps no text: of the line that is coming it
+/// keeps a few words, whatever its length, and else only the links. Once it has a fault, each later
+/// call answers that fault.
 #[derive(Drop)]
 pub struct GrReader<A: Allocator = Global> {
     limit: u64,
@@ -40,7 +44,7 @@ impl<A: Allocator> Model for GrReader<A> {
 }
 
 impl<A: Allocator> GrReader<A> {
-    /// A reader that was fed nothing, and that takes at most `limit` bytes.
+    /// A reader that was fed nothing, and that takes at most `limit` bytes. It takes no memory yet.
     pub fn new(alloc: A, limit: u64) -> GrReader<A>
         requires { limit ≤ 2 ^ 40 }
         ensures limit { result.limit ≡ limit }
@@ -57,6 +61,10 @@ impl<A: Allocator> GrReader<A> {
     }
 
     /// Takes the next piece of the text.
+    ///
+    /// It fails with `Gr` where a line that has ended among the first `limit` bytes is faulty, else with
+    /// `TooLong` where more than `limit` bytes were fed, or with `Memory` where the allocator refused a
+    /// link. A line that hasn't ended yet isn't judged. The time is linear in the piece.
     pub fn feed(&mut self, piece: &[u8]) -> Result<(), ReadFault>
         ensures limit { self.new.limit ≡ self.old.limit }
         ensures within { self.new.fed ≤ self.new.limit }
@@ -82,14 +90,18 @@ impl<A: Allocator> GrReader<A> {
         Ok(())
     }
 
-    /// 1 plus the number of line feeds among the bytes fed, until a fault.
+    /// The number of the line that the next byte belongs to: 1 plus the number of line feeds among the
+    /// bytes fed, until a fault. In constant time.
     pub fn line(&self) -> u64
         ensures { (text : List ℕ) → HasRead self.now text → self.now.fault ≡ None → result ≡ 1 + count_by (λ b. b == line_feed) text }
     {
         self.reading.number
     }
 
-    /// Ends the text: judges its last line, and what lacks.
+    /// Ends the text: judges its last line, where it lacks its line feed, and then what lacks.
+    ///
+    /// It fails with the fault that the reader has, or else with the first fault of the whole text. The
+    /// links aren't copied.
     pub fn finish(self) -> Result<Graph<A>, ReadFault>
         ensures outcome { (text : List ℕ) → HasRead self text → IsRead self.limit text result }
         ensures again { IfSome self.fault (λ e. result ≡ Err e) }

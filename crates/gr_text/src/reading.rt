@@ -31,7 +31,8 @@ impl<A: Allocator> Reading<A> {
         }
     }
 
-    /// Reads a piece of the text.
+    /// Reads a piece of the text. It fails at the first line that ends in it and is faulty, or at an arc
+    /// whose link finds no memory; then it isn't to be read on.
     pub fn read(&mut self, piece: &[u8]) -> Result<(), ReadFault>
         requires sound { IsSound self.old.so_far.size self.old.so_far.count self.old.so_far.links.items }
         requires few_lines { self.old.number + length piece.now < 2 ^ 64 }
@@ -58,7 +59,7 @@ impl<A: Allocator> Reading<A> {
         Ok(())
     }
 
-    /// The graph of the whole text, which ends here.
+    /// The graph of the whole text, which ends here; a last line without its line feed is judged first.
     pub fn ended(mut self) -> Result<Graph<A>, ReadFault>
         requires sound { IsSound self.so_far.size self.so_far.count self.so_far.links.items }
         requires few_lines { self.number + 1 < 2 ^ 64 }

@@ -1,12 +1,12 @@
 ghost use Rattle.std.specs.Prelude.{◌≤◌, ◌^◌};
 
-/// The largest number of vertices.
+/// The largest number of vertices that a text may state.
 pub const MAX_VERTICES: u32 = 1 << 26;
 
-/// The largest number of arc lines.
+/// The largest number of arc lines that a text may state.
 pub const MAX_ARCS: u32 = 1 << 30;
 
-/// What a problem line states.
+/// What a problem line states, within the limits.
 #[derive(Clone, Copy, PartialEq, Eq)]
 pub struct Size {
     pub vertices: u32,

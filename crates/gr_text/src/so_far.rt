@@ -32,7 +32,8 @@ impl<A: Allocator> SoFar<A> {
         }
     }
 
-    /// Takes one more line, of this number.
+    /// Takes one more line, of this number. It fails with the fault of the line, or with `Memory` where its
+    /// link finds none; then nothing is taken of it.
     pub fn take_line(&mut self, number: u64, line: Line) -> Result<(), ReadFault>
         requires { IsSound self.old.size self.old.count self.old.links.items }
         ensures sound { IsSound self.new.size self.new.count self.new.links.items }

@@ -13,6 +13,8 @@ use std::alloc::Allocator;
 const PIECE: usize = 65_536;
 
 /// The graph of a source of at most 2^40 bytes.
+///
+/// As [`read_graph_upto`] with the limit [`MAX_BYTES`].
 pub fn read_graph<S: Source, A: Allocator>(alloc: A, source: &mut S) -> Result<Graph<A>, ReadFault>
     requires { S.can_read source.old }
     ensures outcome { IsReadOf (2 ^ 40) (S.remaining source.old) (S.remaining source.new) result }
@@ -23,6 +25,10 @@ pub fn read_graph<S: Source, A: Allocator>(alloc: A, source: &mut S) -> Result<G
 }
 
 /// The graph of a source of at most `limit` bytes.
+///
+/// The source is read to its end, up to the first fault, or until it gave more than `limit` bytes. The
+/// fault of a line that ended before a read failed comes first, then `Source`. It is read 64 KiB at a
+/// time into an array on the stack; the memory is that of the links, and the time linear in the bytes.
 pub fn read_graph_upto<S: Source, A: Allocator>(
     alloc: A,
     source: &mut S,

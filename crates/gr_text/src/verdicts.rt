@@ -11,7 +11,8 @@ use crate::faults::GrKind;
 use crate::sizes::{MAX_ARCS, MAX_VERTICES, Size};
 use crate::words::Line;
 
-/// What a line does after those before it.
+/// What a line does after those before it: nothing, it states the problem, it adds an arc (from, to and
+/// weight), or it has a fault.
 #[derive(Clone, Copy)]
 pub enum Verdict {
     Silent,
@@ -20,7 +21,8 @@ pub enum Verdict {
     Faulty(GrKind),
 }
 
-/// Judges a line by the lines before it.
+/// Judges a line by the lines before it: `size` is what their problem line states, where there is one, and
+/// `count` how many arc lines they have. In constant time.
 pub fn judge(size: Option<Size>, count: u32, line: Line) -> Verdict
     ensures fits { FitsAfter result size count }
     ensures told { (lines : List (List ℕ)) (bytes : List ℕ) (fields : List (List ℕ)) → Counts size count lines

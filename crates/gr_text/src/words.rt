@@ -2,7 +2,10 @@ ghost use Rattle.std.specs.Prelude.{◌≡◌, ◌≢◌, ◌↔◌, ℕ, ℤ, �
 ghost use Rattle.gr_text.specs.Fields.{IsFieldByte, IsDigit, Writes, WritesSigned};
 ghost use Rattle.gr_text.specs.Word.{WordMeans, LineMeans, IsCapped, KeepsNumber, KeepsSigned};
 
-/// What is kept of a field while its bytes come. Numbers above `u32::MAX` are kept as that.
+/// What is kept of a field while its bytes come, in constant memory.
+///
+/// Numbers above `u32::MAX` are kept as that: any such number is past every limit, so its faults stay the
+/// same. `Other` is a field that no line may have at any place, whatever bytes follow.
 #[derive(Clone, Copy)]
 pub enum Word {
     Empty,
@@ -17,7 +20,9 @@ pub enum Word {
     Other,
 }
 
-/// What is kept of a line while its fields come.
+/// What is kept of a line while its fields come, in constant memory.
+///
+/// `Bad..` is a line whose first field is known, and which is unlawful whatever fields follow.
 #[derive(Clone, Copy)]
 pub enum Line {
     Nothing,
@@ -43,7 +48,7 @@ fn extended(kept: u32, digit: u8) -> u32
 }
 
 impl Word {
-    /// The field with one more byte.
+    /// The field with one more byte, which is no blank. In constant time.
     #[inline]
     pub fn with(self, byte: u8) -> Word
         requires { IsFieldByte byte }
@@ -91,7 +96,7 @@ impl Word {
 }
 
 impl Word {
-    /// The number that the whole field writes.
+    // The number that the whole field writes.
     #[inline]
     fn as_number(self) -> Option<u32>
         ensures { (field : List ℕ) → WordMeans self field
@@ -103,7 +108,7 @@ impl Word {
         }
     }
 
-    /// The signed number that the whole field writes.
+    // The signed number that the whole field writes.
     #[inline]
     fn as_signed(self) -> Option<i64>
         ensures { (field : List ℕ) → WordMeans self field
@@ -133,7 +138,7 @@ impl Word {
 }
 
 impl Line {
-    /// The line that begins with this field.
+    // The line that begins with this field.
     fn begun(first: Word) -> Line
         ensures { (field : List ℕ) → field ≢ [] → WordMeans first field → LineMeans result (field ∷ []) }
     {
@@ -145,7 +150,7 @@ impl Line {
         }
     }
 
-    /// The line with one more whole field.
+    /// The line with one more whole field. In constant time.
     pub fn then(self, word: Word) -> Line
         ensures { (fields : List (List ℕ)) (field : List ℕ) → field ≢ [] → LineMeans self fields → WordMeans word field
             → LineMeans result (fields ++ field ∷ []) }
