@@ -1,3 +1,5 @@
+use thiserror::Error;
+
 /// What is wrong with a line, or lacks behind the last one.
 ///
 /// A line that has several of these faults is told by one. On a problem line `SecondProblem` comes before
@@ -30,7 +32,8 @@ pub enum GrKind {
 }
 
 /// The first fault of a text: that of its first faulty line.
-#[derive(Clone, Copy, Debug, PartialEq, Eq)]
+#[derive(Clone, Copy, Debug, PartialEq, Eq, Error)]
+#[error("line {line}: {kind:?}")]
 pub struct GrFault {
     /// The number of the line, from 1.
     pub line: u64,
@@ -38,14 +41,18 @@ pub struct GrFault {
 }
 
 /// Why no graph was read.
-#[derive(Clone, Copy, Debug, PartialEq, Eq)]
+#[derive(Clone, Copy, Debug, PartialEq, Eq, Error)]
 pub enum ReadFault {
     /// The text has a fault.
+    #[error(transparent)]
     Gr(GrFault),
     /// A read of the source failed. `line` is that of the next byte; no line that had ended was faulty.
+    #[error("line {line}: read failed")]
     Source { line: u64 },
     /// The text has more bytes than the limit, and no line that ended within it is faulty.
+    #[error("file is too long")]
     TooLong,
     /// The memory for the links was refused.
+    #[error("no memory")]
     Memory,
 }
