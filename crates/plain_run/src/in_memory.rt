@@ -1,0 +1,22 @@
+//! The run over bytes in memory.
+ghost use Rattle.std.specs.Prelude.{◌≤◌, ◌^◌, length, IfOk};
+ghost use Rattle.plain_run.specs.Plain.{IsForestTextOf, MeansNothing, IsFirstFaultOf};
+
+use crate::outcome::RunFault;
+use crate::run::run_plain;
+use std::alloc::Allocator;
+
+/// The text of the forest of a file whose bytes are in memory.
+///
+/// It costs what [`run_plain`] does, and memory for the text. A growth of the text that is refused is
+/// a failed write.
+pub fn plain_text<A: Allocator + Copy>(alloc: A, bytes: &[u8]) -> Result<Vec<u8, A>, RunFault>
+    ensures text { IfOk result (λ text. IsForestTextOf bytes.now text.items) }
+    ensures malformed { length bytes.now ≤ 2 ^ 40 → MeansNothing bytes.now
+        → IsFirstFaultOf bytes.now result }
+{
+    let mut source = bytes;
+    let mut text = Vec::new(alloc);
+    run_plain(alloc, &mut source, &mut text)?;
+    Ok(text)
+}
