@@ -1,0 +1,26 @@
+//! The statuses that the program ends with.
+ghost use Rattle.std.specs.Prelude.{◌≡◌};
+ghost use Rattle.boruvka.specs.Status.{status_for};
+
+use gr_text::ReadFault;
+use plain_run::RunFault;
+
+/// Wrong words.
+pub const USAGE: u8 = 2;
+
+/// A stream or a file failed.
+pub const DEVICE: u8 = 3;
+
+/// Memory was refused.
+pub const NO_MEMORY: u8 = 4;
+
+/// The status of a run that failed: 1 for what the file says, 3 for a source or a sink that failed, 4 for want of memory.
+pub fn status_of(fault: &RunFault) -> u8
+    ensures { result ≡ status_for fault.now }
+{
+    match fault {
+        RunFault::Read(ReadFault::Gr(_)) | RunFault::Read(ReadFault::TooLong) => 1,
+        RunFault::Read(ReadFault::Source { .. }) | RunFault::Write { .. } => DEVICE,
+        RunFault::Read(ReadFault::Memory) | RunFault::Memory => NO_MEMORY,
+    }
+}

@@ -1,0 +1,33 @@
+//! Lines for the user on standard error, written without taking memory. A failed write is ignored.
+use arrayvec::ArrayString;
+use byte_streams::{Sink, put};
+use std::fmt::{Display, Write};
+
+/// Writes a short text as a line. A text of more than 255 bytes isn't written.
+pub fn tell_line<S: Sink, T: Display>(sink: &mut S, text: &T)
+    requires { S.can_write sink.old }
+{
+    let mut line = ArrayString::<256>::new();
+    if write!(&mut line, "{text}\n").is_ok() {
+        let _ = put(sink, 0, line.as_str().as_bytes());
+    }
+}
+
+/// Writes what went wrong, behind the program's name.
+pub fn tell<S: Sink, T: Display>(sink: &mut S, fault: &T)
+    requires { S.can_write sink.old }
+{
+    let mut line = ArrayString::<256>::new();
+    if write!(&mut line, "boruvka: {fault}\n").is_ok() {
+        let _ = put(sink, 0, line.as_str().as_bytes());
+    }
+}
+
+/// Writes that a file can't be opened, whatever the length of its name.
+pub fn tell_unopened<S: Sink>(sink: &mut S, name: &str)
+    requires { S.can_write sink.old }
+{
+    if put(sink, 0, b"boruvka: cannot open ").is_ok() && put(sink, 0, name.as_bytes()).is_ok() {
+        let _ = put(sink, 0, b"\n");
+    }
+}
