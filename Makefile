@@ -1,0 +1,26 @@
+# `make run`      proves and builds the program, and runs it on examples/small.gr
+# `make test`     the gate: all proofs from nothing, the wrong bodies, the tests, the programs
+# `make install`  puts the proved program into $(PREFIX)/bin
+
+PREFIX ?= /usr/local
+PROGRAM := crates/boruvka/out/boruvka
+SOURCES := $(shell find crates -path '*/out' -prune -o -type f \( -name '*.rt' -o -name '*.antt' \) -print) crates.txt
+
+.PHONY: run test install
+
+run: $(PROGRAM)
+	@$(PROGRAM) --plain examples/small.gr
+
+test:
+	rt ci
+
+install: $(PROGRAM)
+	install -d $(DESTDIR)$(PREFIX)/bin
+	install -m 755 $(PROGRAM) $(DESTDIR)$(PREFIX)/bin/boruvka
+
+# `rt run` proves, builds and runs; what it built stays in out/.
+$(PROGRAM): $(SOURCES)
+	@echo "proving and building; the first time this takes some minutes" >&2
+	@cd crates/boruvka && rt run -- --plain ../../examples/small.gr > out.log 2>&1 || { cat out.log >&2; rm -f out.log; exit 1; }
+	@rm -f crates/boruvka/out.log
+	@touch $(PROGRAM)
