@@ -6,3 +6,4 @@ pub mod Growing
 pub mod Tables
 pub mod OneForest
 pub mod Apart
+pub mod Chains

@@ -1,5 +1,5 @@
 -- A forest grown along a sorted list, with the labels in a table.
-use Rattle.std.proofs.Common.{◌≡◌, ℕ, ◌+◌, ◌<◌, ◌≤◌, ◌↔◌, ◌==◌, if◌then◌else◌, is_lt, List, [], ◌∷◌, ◌++◌, length, get_or, take, sym, ap, ◌∙◌, subst, subst₂, inl, inr, arith, take_all, get_or-take, length-take, length-append, le_refl}
+use Rattle.std.proofs.Common.{◌≡◌, ℕ, ◌+◌, ◌<◌, ◌≤◌, ◌↔◌, ◌⊎◌, ◌==◌, if◌then◌else◌, is_lt, List, [], ◌∷◌, ◌++◌, length, get_or, take, sym, ap, ◌∙◌, subst, subst₂, inl, inr, arith, take_all, get_or-take, length-take, length-append, le_refl}
 use Rattle.std.specs.List.Sorted.{IsSorted, IsPermutation}
 use Rattle.std.proofs.lemmas.List.{take_more, get_or_default}
 use Rattle.std.proofs.lemmas.List.Elements.{All-get_or}
@@ -10,6 +10,7 @@ use Rattle.std.proofs.lemmas.Bool.Decides.{nat_tests}
 use Rattle.link_key.specs.declared.links.Link.{Link}
 use Rattle.link_key.specs.Link.{key_cmp, EndsUpTo}
 use Rattle.link_key.specs.Forest.{IsForestOf}
+use Rattle.link_key.specs.Components.{IsRelabelled}
 use Rattle.link_key.proofs.Keys.{key_cmp_total}
 use Rattle.link_key.proofs.Growing.{Grown, IsBelowNone, AreMerged, AreOneWith, grown_none, grown_joined, grown_apart, forest_of_same}
 
@@ -95,12 +96,21 @@ merged_by_renaming n label merged to from by_renaming u v u_in v_in =
     let alike = renamed_alike from to (label u) (label v) in
     (λ same. alike.0 (sym (by_renaming u u_in) ∙ same ∙ by_renaming v v_in), λ either. by_renaming u u_in ∙ alike.1 either ∙ sym (by_renaming v v_in))
 
+-- it doesn't matter which of the two labels goes
+merged_other_way : (n : ℕ) (label merged : ℕ → ℕ) (a b : ℕ) → AreMerged n label merged a b → AreMerged n label merged b a
+merged_other_way n label merged a b made u v u_in v_in = (λ same. other_way a b ((made u v u_in v_in).0 same), λ either. (made u v u_in v_in).1 (other_way b a either))
+  where
+    other_way : (a b : ℕ) → AreOneWith a b (label u) (label v) → AreOneWith b a (label u) (label v)
+    other_way a b (inl same) = inl same
+    other_way a b (inr (inl both)) = inr (inr both)
+    other_way a b (inr (inr both)) = inr (inl both)
+
 -- the links of the next place, and the labels of its ends, as they are read
 pub record Read (n : ℕ) (sorted : List Link) (i : ℕ) (table : List ℕ) (x : Link) (low high : ℕ) : Type 0 where
   pub in_range : i < length sorted
   pub is : x ≡ get_or sorted i x
-  pub low_is : low ≡ get_or table x.low low
-  pub high_is : high ≡ get_or table x.high high
+  pub low_is : low ≡ label_in table x.low
+  pub high_is : high ≡ label_in table x.high
 
 -- its ends are in the table
 pub high_in_table : {n : ℕ} {sorted : List Link} {i : ℕ} {taken : List Link} {table : List ℕ} (x : Link) → GrownTable n sorted i taken table → i < length sorted → x ≡ get_or sorted i x → x.high < length table
@@ -110,15 +120,6 @@ high_in_table {n} {sorted} {i} x so_far in_range is =
     omega arith
 
 module _ {n : ℕ} {sorted : List Link} {i : ℕ} {taken : List Link} {table : List ℕ} {x : Link} {low high : ℕ} (so_far : GrownTable n sorted i taken table) (read : Read n sorted i table x low high) where
-  low_label : low ≡ label_in table x.low
-  low_label =
-      let in_table = high_in_table x so_far read.in_range read.is in
-      let ascending = x.ascending in
-      read.low_is ∙ get_or_default table x.low low 0 (omega arith)
-
-  high_label : high ≡ label_in table x.high
-  high_label = read.high_is ∙ get_or_default table x.high high 0 (high_in_table x so_far read.in_range read.is)
-
   last : IsBelowNone x (take i sorted)
   last = below_none sorted i x so_far.order read.in_range read.is
 
@@ -134,27 +135,29 @@ module _ {n : ℕ} {sorted : List Link} {i : ℕ} {taken : List Link} {table : L
     ends = so_far.ends;
     order = so_far.order;
     len = so_far.len;
-    grown = subst (λ seen. Grown n seen taken (label_in table)) (sym next) (grown_joined n (take i sorted) taken (label_in table) x so_far.grown last end_in (sym low_label ∙ same ∙ high_label));
+    grown = subst (λ seen. Grown n seen taken (label_in table)) (sym next) (grown_joined n (take i sorted) taken (label_in table) x so_far.grown last end_in (sym read.low_is ∙ same ∙ read.high_is));
     few = subst (λ seen. length taken ≤ length seen) (sym next) (omega (arith, so_far.few, length-append (take i sorted) (x ∷ [])));
   }
 
-  -- the link was taken, and the label of its higher end became that of its lower one
-  pub table_apart : (table' : List ℕ) → ¬ (low ≡ high) → length table' ≡ length table → ((v : ℕ) → v < length table → label_in table' v ≡ renamed high low (label_in table v)) → GrownTable n sorted (i + 1) (taken ++ x ∷ []) table'
-  table_apart table' differ same_len by_renaming = record {
+  -- the link was taken, and the label of one of its ends became that of the other
+  pub table_apart : (table' : List ℕ) → ¬ (low ≡ high) → length table' ≡ length table → IsRelabelled low high table table' ⊎ IsRelabelled high low table table' → GrownTable n sorted (i + 1) (taken ++ x ∷ []) table'
+  table_apart table' differ same_len relabelled = record {
     ends = so_far.ends;
     order = so_far.order;
     len = same_len ∙ so_far.len;
-    grown = subst (λ seen. Grown n seen (taken ++ x ∷ []) (label_in table')) (sym next) (grown_apart n (take i sorted) taken (label_in table) (label_in table') x so_far.grown last end_in (λ same. differ (low_label ∙ same ∙ sym high_label)) merged);
+    grown = subst (λ seen. Grown n seen (taken ++ x ∷ []) (label_in table')) (sym next) (grown_apart n (take i sorted) taken (label_in table) (label_in table') x so_far.grown last end_in (λ same. differ (read.low_is ∙ same ∙ sym read.high_is)) merged);
     few = subst (λ seen. length (taken ++ x ∷ []) ≤ length seen) (sym next) (omega (arith, so_far.few, length-append (take i sorted) (x ∷ []), length-append taken (x ∷ [])));
   }
     where
+      in_table : (u : ℕ) → u ≤ n → u < length table
+      in_table u u_in = let len = so_far.len in omega arith
+
+      either_way : IsRelabelled low high table table' ⊎ IsRelabelled high low table table' → AreMerged n (label_in table) (label_in table') low high
+      either_way (inl by_renaming) = merged_other_way n (label_in table) (label_in table') high low (merged_by_renaming n (label_in table) (label_in table') high low (λ u u_in. by_renaming u (in_table u u_in)))
+      either_way (inr by_renaming) = merged_by_renaming n (label_in table) (label_in table') low high (λ u u_in. by_renaming u (in_table u u_in))
+
       merged : AreMerged n (label_in table) (label_in table') (label_in table x.low) (label_in table x.high)
-      merged =
-          subst₂
-          (AreMerged n (label_in table) (label_in table'))
-          low_label
-          high_label
-          (merged_by_renaming n (label_in table) (label_in table') low high (λ u u_in. by_renaming u (let len = so_far.len in omega arith)))
+      merged = subst₂ (AreMerged n (label_in table) (label_in table')) read.low_is read.high_is (either_way relabelled)
 
 -- no more links are taken than there are
 pub table_few : {n : ℕ} (links : List Link) {sorted : List Link} {i : ℕ} {taken : List Link} {table : List ℕ} → IsPermutation links sorted → GrownTable n sorted i taken table → length sorted ≤ i → length taken ≤ length links

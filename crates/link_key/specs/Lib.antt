@@ -4,3 +4,4 @@ pub mod Walk
 pub mod Forest
 pub mod Labels
 pub mod Offers
+pub mod Components

@@ -9,10 +9,12 @@
 //     arc (u, v, w)  --Link::of_arc-->  Link  --sort-->  ascending  --take where labels differ-->  Forest
 //
 // Where to start a change: what is meant stands in `specs/` (`Link`, `Walk`, `Forest`), and the laws that show it
-// to be right in `laws`. `plain` is the solver: its proof follows `proofs/Growing`, which knows nothing of tables,
-// so another way to keep the labels needs only another `proofs/Tables`.
+// to be right in `laws`. `plain` is the solver, which keeps labels in `components`, seen as the list of the labels.
+// Its proof follows `proofs/Growing`, which knows nothing of tables, and `proofs/Tables`, which knows that list alone:
+// another way to merge components needs only another `proofs/Chains`.
 #![tactic(auto)]
 
+mod components;
 pub mod forests;
 pub mod labellings;
 pub mod laws;
@@ -28,5 +30,7 @@ pub use offered::Offers;
 pub use plain::plain_forest;
 pub use shards::Shard;
 
+#[cfg(test)]
+mod slow;
 #[cfg(test)]
 mod tests;

@@ -6,12 +6,13 @@ use crate::labellings::Labels;
 use crate::links::Link;
 use crate::offered::Offers;
 use crate::plain::plain_forest;
+use crate::slow::slow_forest;
 use std::alloc::{AllocError, Global};
 use std::process::Abort;
 use std::test::Fail;
 
 // The links of the arcs, loops left out.
-fn links_of(
+pub(crate) fn links_of(
     rt: &impl Abort,
     alloc: Global,
     n: u32,
@@ -31,7 +32,7 @@ fn links_of(
     Ok(links)
 }
 
-// The forest of the arcs has just the links of the expected ones, in their order.
+// The forest of the arcs has just the links of the expected ones, in their order, and so has the slow one.
 fn expect_forest(
     rt: &impl Abort,
     alloc: Global,
@@ -44,6 +45,8 @@ fn expect_forest(
     let forest = plain_forest(alloc, n, links.as_slice())?;
     let wanted = links_of(rt, alloc, n, expected)?;
     assert_eq!(rt; forest.links(), wanted.as_slice());
+    let slow = slow_forest(rt, alloc, n, links.as_slice())?;
+    assert_eq!(rt; slow.as_slice(), wanted.as_slice());
     Ok(())
 }
 

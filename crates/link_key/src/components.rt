@@ -1,0 +1,124 @@
+ghost use Rattle.std.specs.Prelude.{◌≡◌, ◌≢◌, ℕ, ◌+◌, ◌<◌, ◌≤◌, ◌⊎◌, ◌^◌, ◌==◌, if◌then◌else◌, length, slice_index, EachIndex, IfOk};
+ghost use Rattle.link_key.specs.Components.{IsRelabelled, nth_after, IsLabelledAlong};
+
+use std::alloc::{AllocError, Allocator};
+use std::marker::Model;
+
+// The components of a graph with the vertices 1 to n, that are merged two at a time: seen as the list of the labels
+// of the numbers 0 to n.
+//
+// A component's label is one of its vertices. From that vertex its members form a chain by `next`, up to
+// `last[label]` and `sizes[label]` long. What stands in `next` behind the last member isn't read, nor are `last` and
+// `sizes` of what is no label. 16 bytes a vertex.
+#[derive(Drop)]
+pub(crate) struct Components<A: Allocator> {
+    labels: Vec<u32, A>,
+    next: Vec<u32, A>,
+    last: Vec<u32, A>,
+    sizes: Vec<u32, A>,
+}
+
+impl<A: Allocator> Model for Components<A> {
+    ghost use Rattle.std.specs.Prelude.{ℕ, List};
+    ghost use Rattle.link_key.specs.Components.{AreChained};
+
+    ghost Value = { List ℕ };
+
+    ghost view = { λ s. s.labels.items };
+
+    ghost invariant = { λ s. AreChained s.labels.items s.next.items s.last.items s.sizes.items };
+}
+
+impl<A: Allocator + Copy> Components<A> {
+    // Each of the numbers 0 to n by itself.
+    pub(crate) fn apart(alloc: A, n: u32) -> Result<Self, AllocError>
+        requires { n ≤ 2 ^ 26 }
+        ensures len { IfOk result (λ labels. length labels ≡ n + 1) }
+        ensures own { IfOk result (λ labels. EachIndex labels (λ v. slice_index labels v ≡ v)) }
+    {
+        let labels = own_numbers(alloc, n)?;
+        let next = own_numbers(alloc, n)?;
+        let last = own_numbers(alloc, n)?;
+        let sizes = vec![in alloc; 1; n as usize + 1]?;
+        Ok(Components {
+            labels,
+            next,
+            last,
+            sizes,
+        })
+    }
+}
+
+impl<A: Allocator> Components<A> {
+    // The label of the component of `v`.
+    pub(crate) fn label(&self, v: u32) -> u32
+        requires { v < length self.now }
+        ensures label { result ≡ slice_index self.now v }
+        ensures in_range { result < length self.now }
+        ensures own { slice_index self.now result ≡ result }
+    {
+        self.labels[v as usize]
+    }
+
+    // Makes the components with the labels `a` and `b` one. It costs time for the members of the smaller one.
+    pub(crate) fn merge(&mut self, a: u32, b: u32)
+        requires a_in_range { a < length self.old }
+        requires b_in_range { b < length self.old }
+        requires a_own { slice_index self.old a ≡ a }
+        requires b_own { slice_index self.old b ≡ b }
+        requires differ { a ≢ b }
+        ensures len { length self.new ≡ length self.old }
+        ensures merged { IsRelabelled a b self.old self.new ⊎ IsRelabelled b a self.old self.new }
+    {
+        if self.sizes[a as usize] < self.sizes[b as usize] {
+            self.absorb(a, b);
+        } else {
+            self.absorb(b, a);
+        }
+    }
+
+    // Gives the members of `from` the label `to`, and appends their chain to that of `to`.
+    fn absorb(&mut self, from: u32, to: u32)
+        requires from_in_range { from < length self.old }
+        requires to_in_range { to < length self.old }
+        requires from_own { slice_index self.old from ≡ from }
+        requires to_own { slice_index self.old to ≡ to }
+        requires differ { from ≢ to }
+        ensures len { length self.new ≡ length self.old }
+        ensures relabelled { IsRelabelled from to self.old self.new }
+    {
+        let size = self.sizes[from as usize];
+        relabel(&mut self.labels, &self.next, from, size, to);
+        let end = self.last[to as usize];
+        self.next[end as usize] = from;
+        self.last[to as usize] = self.last[from as usize];
+        self.sizes[to as usize] += size;
+        self.sizes[from as usize] = 0;
+    }
+}
+
+// The numbers 0 to n.
+fn own_numbers<A: Allocator + Copy>(alloc: A, n: u32) -> Result<Vec<u32, A>, AllocError>
+    requires { n ≤ 2 ^ 26 }
+    ensures len { IfOk result (λ numbers. length numbers.items ≡ n + 1) }
+    ensures own { IfOk result (λ numbers. EachIndex numbers.items (λ v. slice_index numbers.items v ≡ v)) }
+{
+    let mut numbers = Vec::with_capacity(alloc, n as usize + 1)?;
+    for v in 0..n + 1 {
+        numbers.push(v)?;
+    }
+    Ok(numbers)
+}
+
+// Gives the first `count` vertices of the chain that begins at `from` the label `to`.
+fn relabel(labels: &mut [u32], next: &[u32], from: u32, count: u32, to: u32)
+    requires len { length next.now ≡ length labels.old }
+    requires in_range { (k : ℕ) → k < count → nth_after next.now from k < length labels.old }
+    ensures { IsLabelledAlong next.now from count to labels.old labels.new }
+{
+    let mut v = from;
+    for _ in 0..count {
+        labels[v as usize] = to;
+        v = next[v as usize];
+    }
+}

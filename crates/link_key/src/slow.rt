@@ -1,0 +1,83 @@
+ghost use Rattle.std.specs.Prelude.{◌≤◌, ◌<◌, ◌^◌};
+
+use crate::links::Link;
+use crate::plain::plain_forest;
+use crate::tests::links_of;
+use std::alloc::{AllocError, Global};
+use std::process::Abort;
+use std::test::Fail;
+
+// The links whose ends aren't joined by smaller ones, by the plain program: where two labels become one, each vertex
+// is looked at.
+pub(crate) fn slow_forest(
+    rt: &impl Abort,
+    alloc: Global,
+    n: u32,
+    links: &[Link],
+) -> Result<Vec<Link>, AllocError>
+    requires { n ≤ 2 ^ 26 }
+{
+    let mut sorted = Vec::from_slice(alloc, links)?;
+    sorted.as_mut_slice().sort_unstable();
+    let mut labels: Vec<u32> = (0..n + 1).collect(alloc)?;
+    let mut taken = Vec::new(alloc);
+    for link in &sorted {
+        assert!(rt; (link.low as usize) < labels.len() && (link.high as usize) < labels.len());
+        let low = labels[link.low as usize];
+        let high = labels[link.high as usize];
+        if low != high {
+            rename(labels.as_mut_slice(), high, low);
+            taken.push(*link)?;
+        }
+    }
+    Ok(taken)
+}
+
+// Gives what has the label `from` the label `to`.
+fn rename(labels: &mut [u32], from: u32, to: u32) {
+    for label in labels.iter_mut() {
+        if *label == from {
+            *label = to;
+        }
+    }
+}
+
+// The next number below `bound` of a linear congruential generator.
+fn draw(state: &mut u64, bound: u32) -> u32
+    requires { 0 < bound }
+    ensures { result < bound }
+{
+    *state = state
+        .wrapping_mul(6364136223846793005)
+        .wrapping_add(1442695040888963407);
+    ((*state >> 33) % u64::from(bound)) as u32
+}
+
+// Sixty arcs between the vertices 1 to n, loops and repeats among them, of the weights -2 to 2.
+fn drawn_arcs(alloc: Global, seed: u64, n: u32) -> Result<Vec<(u32, u32, i32)>, AllocError>
+    requires some { 0 < n }
+    requires few { n ≤ 2 ^ 26 }
+{
+    let mut state = seed;
+    let mut arcs = Vec::new(alloc);
+    for _ in 0..60 {
+        let tail = draw(&mut state, n) + 1;
+        let head = draw(&mut state, n) + 1;
+        let weight = draw(&mut state, 5) as i32 - 2;
+        arcs.push((tail, head, weight))?;
+    }
+    Ok(arcs)
+}
+
+#[test]
+fn drawn_lists(rt: HostRuntime) -> Result<(), Fail> {
+    for seed in 0..300u32 {
+        let n = seed % 39 + 2;
+        let arcs = drawn_arcs(rt.alloc(), u64::from(seed), n)?;
+        let links = links_of(&rt, rt.alloc(), n, arcs.as_slice())?;
+        let forest = plain_forest(rt.alloc(), n, links.as_slice())?;
+        let slow = slow_forest(&rt, rt.alloc(), n, links.as_slice())?;
+        assert_eq!(rt; forest.links(), slow.as_slice());
+    }
+    Ok(())
+}
