@@ -37,6 +37,7 @@ pub enum GrKind {
 pub struct GrFault {
     /// The number of the line, from 1.
     pub line: u64,
+    /// What is wrong with it.
     pub kind: GrKind,
 }
 

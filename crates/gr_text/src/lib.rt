@@ -3,7 +3,8 @@
 //!
 //! **What it promises.** A text, a source or pieces fed one after another give a graph exactly where they
 //! mean one; else the fault of the first faulty line, with its number and its kind ([`GrFault`]). The
-//! text of a forest goes out byte for byte, or it is told how many of its bytes did.
+//! text of a forest goes out byte for byte, or it is told how many of its bytes did. [`laws`] says
+//! that these words leave nothing open: a text means one graph or has one first fault, and never both.
 //!
 //! **How it is built.** A byte goes into [`words`] (the field that is coming), a field into a `Line` (the
 //! line so far), a line into [`so_far`] (what the whole lines say) after a verdict of [`verdicts`]:

@@ -9,8 +9,11 @@ use crate::words::{Line, Word};
 /// any byte has come, since a text may end with a line that has none.
 #[derive(Clone, Copy)]
 pub struct Partial {
+    /// The whole fields.
     pub on: Line,
+    /// The field that is coming; empty behind a blank.
     pub word: Word,
+    /// Whether a byte has come, a blank too.
     pub begun: bool,
 }
 

@@ -152,6 +152,15 @@ fn answers_its_fault_from_then_on(rt: HostRuntime) {
 }
 
 #[test]
+fn reads_a_source_to_its_end(rt: HostRuntime) -> Result<(), Fail> {
+    let text = Vec::from_slice(rt.alloc(), SMALL_NET.as_slice())?;
+    let mut source = FusedSource::new(text, 109, 7);
+    let graph = read_graph(rt.alloc(), &mut source);
+    assert!(rt; is_small_net(&graph.ok().expect(&rt, "a graph")));
+    Ok(())
+}
+
+#[test]
 fn reads_sources_that_fail(rt: HostRuntime) -> Result<(), Fail> {
     let text = Vec::from_slice(rt.alloc(), b"p sp 2 2\na 1 2 5")?;
     let mut breaks_off = FusedSource::new(text, 12, 5);

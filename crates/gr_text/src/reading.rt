@@ -13,7 +13,9 @@ use std::alloc::Allocator;
 pub struct Reading<A: Allocator> {
     /// The number of the line that is being read.
     pub number: u64,
+    /// The part of it that has come.
     pub partial: Partial,
+    /// What the lines before it say.
     pub so_far: SoFar<A>,
 }
 

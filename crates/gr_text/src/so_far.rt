@@ -14,8 +14,11 @@ use std::alloc::Allocator;
 /// What the whole lines so far say.
 #[derive(Drop)]
 pub struct SoFar<A: Allocator> {
+    /// What their problem line states, once it has come.
     pub size: Option<Size>,
+    /// How many arc lines have come.
     pub count: u32,
+    /// The links of these, in order; loops have none.
     pub links: Vec<Link, A>,
 }
 

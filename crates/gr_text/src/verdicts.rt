@@ -11,13 +11,16 @@ use crate::faults::GrKind;
 use crate::sizes::{MAX_ARCS, MAX_VERTICES, Size};
 use crate::words::Line;
 
-/// What a line does after those before it: nothing, it states the problem, it adds an arc (from, to and
-/// weight), or it has a fault.
+/// What a line does after those before it.
 #[derive(Clone, Copy)]
 pub enum Verdict {
+    /// It says nothing.
     Silent,
+    /// It states the problem.
     Begins(Size),
+    /// It adds an arc: its tail, its head and its weight.
     Adds(u32, u32, i32),
+    /// It has a fault.
     Faulty(GrKind),
 }
 

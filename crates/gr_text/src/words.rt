@@ -8,15 +8,25 @@ ghost use Rattle.gr_text.specs.Word.{WordMeans, LineMeans, IsCapped, KeepsNumber
 /// same. `Other` is a field that no line may have at any place, whatever bytes follow.
 #[derive(Clone, Copy)]
 pub enum Word {
+    /// No byte has come.
     Empty,
+    /// `p`.
     LetterP,
+    /// `a`.
     LetterA,
+    /// `s`, which may still become `sp`.
     LetterS,
+    /// `sp`.
     Sp,
+    /// It begins with `c`.
     Comment,
+    /// Digits alone, at least one.
     Number(u32),
+    /// A minus alone.
     Minus,
+    /// A minus and then digits, at least one.
     Negative(u32),
+    /// Anything else.
     Other,
 }
 
