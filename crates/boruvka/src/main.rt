@@ -18,6 +18,8 @@
 mod chosen;
 mod command;
 mod statuses;
+#[cfg(test)]
+mod tests;
 mod told;
 mod words;
 
