@@ -1,0 +1,194 @@
+-- What the fields of a body say of the frames that have it.
+use Rattle.std.proofs.Common.{◌≡◌, ◌≢◌, ℕ, zero, suc, ◌+◌, ◌*◌, ◌/◌, ◌%◌, ◌^◌, ◌<◌, ◌≤◌, List, [], ◌∷◌, ◌++◌, length, map, take, drop, get_or, All, FitsSigned, refl, sym, ap, subst, ◌∙◌, append_assoc, append-nil, arith}
+use Rattle.std.specs.Int.{w16, w32, from_be_bytes}
+use Rattle.std.specs.List.{flat_map, AllByRecursion}
+use Rattle.std.specs.Simd.{first_chunks}
+use Rattle.std.proofs.lemmas.List.{length-append, nil_from_length, take-append-drop, length-drop, length-take}
+use Rattle.std.proofs.lemmas.List.Elements.{recursion_from_All}
+use Rattle.link_key.specs.declared.links.Link.{Link}
+use Rattle.link_key.specs.Labels.{AreLabels}
+use Rattle.link_key.specs.Offers.{Offer, AreOffers}
+use Rattle.frames.specs.AnswerValue.{AnswerValue}
+use Rattle.frames.specs.FrameValue.{FrameValue, HelloFrame, ShardFrame, AskFrame, AnswerFrame, FaultFrame}
+use Rattle.frames.specs.FrameText.{u16_text, u32_text, i32_text, link_text, offer_text, kind_of, body_of}
+use Rattle.frames.specs.Lawful.{IsU32, IsHello, IsShard, IsAsk, IsAnswer, IsFault, IsLawful}
+use Rattle.frames.specs.Refusals.{IsWithItems, IsOtherVersion, IsFrameOf, BodyRefused, AreNoLinks, IsNoLink, LinksRefused}
+use Rattle.frames.specs.declared.fault.FrameFault.{FrameFault}
+use Rattle.frames.specs.declared.fault.FrameFault.TheVariants.{BadKind, BadLength, BadField, BadVersion, Ended, Torn, Device, Memory}
+use Rattle.frames.proofs.Texts.{parts_same, IsBytes, IsBytes-drop, IsBytes-take, u16_length, u32_length, u16_front, u32_front, u32_back, i32_front, link_length, offer_length, items_length, items_same, link_front, offer_front, FitsWeight, FitsOffer}
+use Rattle.frames.proofs.OneText.{two_front, labels_fit}
+
+-- ---- a hello
+
+pub hello_version : (version : ℕ) (body : List ℕ) → version ≡ from_be_bytes w16 (take 2 body) → version ≡ 1 → IsOtherVersion 1 body → ⊥
+hello_version version body value one other = other.1 (sym value ∙ one)
+
+hello_unlike : (v : FrameValue) (version worker : ℕ) (body rest behind : List ℕ) → IsU32 worker → 64 ≤ worker → version ≡ 1
+    → body ≡ u16_text version ++ rest → rest ≡ u32_text worker ++ behind → length body ≡ 6 → IsFrameOf v 1 body → ⊥
+hello_unlike (HelloFrame v w) version worker body rest behind wide high one first second len is =
+    let none : behind ≡ [] = nil_from_length behind (omega (arith, ap length first, ap length second, length-append (u16_text version) rest, length-append (u32_text worker) behind, u16_length version, u32_length worker)) in
+    let fields = u16_front v version (u32_text w) rest (omega (arith, is.lawful.version)) (omega arith) (is.body ∙ first) in
+    let same = u32_front w worker [] behind (omega (arith, is.lawful.worker)) wide (append-nil (u32_text w) ∙ fields.1 ∙ second) in
+    omega (arith, same.0, is.lawful.worker)
+hello_unlike v version worker body rest behind wide high one first second len is = omega (arith, is.kind)
+
+pub hello_refused : (version worker : ℕ) (body rest behind : List ℕ) → IsU32 worker → 64 ≤ worker → version ≡ 1 → version ≡ from_be_bytes w16 (take 2 body)
+    → body ≡ u16_text version ++ rest → rest ≡ u32_text worker ++ behind → length body ≡ 6 → BodyRefused BadField 1 body
+hello_refused version worker body rest behind wide high one value first second len =
+    (hello_version version body value one, λ v is. hello_unlike v version worker body rest behind wide high one first second len is)
+
+pub hello_found : (version worker : ℕ) (body rest behind : List ℕ) → worker < 64 → version ≡ 1
+    → body ≡ u16_text version ++ rest → rest ≡ u32_text worker ++ behind → length body ≡ 6 → IsFrameOf (HelloFrame version worker) 1 body
+hello_found version worker body rest behind low one first second len =
+    let none : behind ≡ [] = nil_from_length behind (omega (arith, ap length first, ap length second, length-append (u16_text version) rest, length-append (u32_text worker) behind, u16_length version, u32_length worker)) in
+    let whole : rest ≡ u32_text worker = second ∙ ap (λ (t : List ℕ). u32_text worker ++ t) none ∙ append-nil (u32_text worker) in
+    record { lawful = record { version = one; worker = low }; kind = refl; body = sym (first ∙ ap (λ (t : List ℕ). u16_text version ++ t) whole) }
+
+-- ---- a shard
+
+shard_parts : (v : FrameValue) (n c : ℕ) (body rest links : List ℕ) → IsU32 n → IsU32 c → body ≡ u32_text n ++ rest → rest ≡ u32_text c ++ links
+    → IsFrameOf v 2 body → (ls : List Link) × IsShard n ls × (length ls ≡ c) × (flat_map link_text ls ≡ links)
+shard_parts (ShardFrame n' ls) n c body rest links wide wide' first second is =
+    let fields = two_front n' (length ls) n c (flat_map link_text ls) links (omega (arith, is.lawful.number)) (omega (arith, is.lawful.count)) wide wide' (is.body ∙ first ∙ ap (λ (t : List ℕ). u32_text n ++ t) second) in
+    (ls, subst (λ (k : ℕ). IsShard k ls) fields.0 is.lawful, fields.1, fields.2)
+shard_parts v n c body rest links wide wide' first second is = absurd (omega (arith, is.kind))
+
+pub shard_refused : (n c : ℕ) (body rest links : List ℕ) → IsU32 n → IsU32 c → body ≡ u32_text n ++ rest → rest ≡ u32_text c ++ links
+    → (n < 4096 → c ≡ length links / 12 → ⊥) → BodyRefused BadField 2 body
+shard_refused n c body rest links wide wide' first second never = (
+  λ other. omega (arith, other.0),
+  λ v is.
+      let (ls, lawful, count, same) = shard_parts v n c body rest links wide wide' first second is in
+      never lawful.number (omega (arith, ap length same, items_length link_text 12 link_length ls)),
+)
+
+pub shard_unlinked : (fault : FrameFault) (n c : ℕ) (body rest links : List ℕ) → IsU32 n → IsU32 c → body ≡ u32_text n ++ rest → rest ≡ u32_text c ++ links
+    → LinksRefused fault links → BodyRefused fault 2 body
+shard_unlinked BadField n c body rest links wide wide' first second none = (
+  λ other. omega (arith, other.0),
+  λ v is.
+      let (ls, lawful, count, same) = shard_parts v n c body rest links wide wide' first second is in
+      none ls lawful.weights same,
+)
+shard_unlinked Memory n c body rest links wide wide' first second none = (omega arith, omega arith)
+shard_unlinked BadKind n c body rest links wide wide' first second none = absurd none
+shard_unlinked BadLength n c body rest links wide wide' first second none = absurd none
+shard_unlinked BadVersion n c body rest links wide wide' first second none = absurd none
+shard_unlinked Ended n c body rest links wide wide' first second none = absurd none
+shard_unlinked Torn n c body rest links wide wide' first second none = absurd none
+shard_unlinked Device n c body rest links wide wide' first second none = absurd none
+
+pub shard_found : (n c : ℕ) (ls : List Link) (body rest links : List ℕ) → n < 4096 → c ≡ length links / 12 → IsWithItems 8 12 (2 ^ 24) (length body)
+    → body ≡ u32_text n ++ rest → rest ≡ u32_text c ++ links → flat_map link_text ls ≡ links → All FitsWeight ls → IsFrameOf (ShardFrame n ls) 2 body
+shard_found n c ls body rest links low counted (count, few, len) first second same fits =
+    let lens = items_length link_text 12 link_length ls in
+    let short : length links + 8 ≡ length body = omega (arith, ap length first, ap length second, length-append (u32_text n) rest, length-append (u32_text c) links, u32_length n, u32_length c) in
+    let total : length ls ≡ c = omega (arith, lens, ap length same) in
+    record {
+      lawful = record { number = low; count = omega (arith, lens, ap length same); weights = fits };
+      kind = refl;
+      body = sym (first ∙ ap (λ (t : List ℕ). u32_text n ++ t) (second ∙ ap (λ (t : List ℕ). u32_text c ++ t) (sym same) ∙ ap (λ (k : ℕ). u32_text k ++ flat_map link_text ls) (sym total)));
+    }
+
+-- ---- an ask
+
+ask_parts : (v : FrameValue) (r s c : ℕ) (body rest rest' labels : List ℕ) → IsU32 r → IsU32 s → IsU32 c
+    → body ≡ u32_text r ++ rest → rest ≡ u32_text s ++ rest' → rest' ≡ u32_text c ++ labels
+    → IsFrameOf v 3 body → (ls : List ℕ) × AreLabels ls × (length ls ≡ c) × (s < 4096) × (flat_map u32_text ls ≡ labels)
+ask_parts (AskFrame r' s' ls) r s c body rest rest' labels wide_r wide_s wide_c first second third is =
+    let fields = two_front r' s' r s (u32_text (length ls) ++ flat_map u32_text ls) rest' is.lawful.round (omega (arith, is.lawful.shard)) wide_r wide_s (is.body ∙ first ∙ ap (λ (t : List ℕ). u32_text r ++ t) second) in
+    let count = u32_front (length ls) c (flat_map u32_text ls) labels (omega (arith, is.lawful.labels.few_vertices)) wide_c (fields.2 ∙ third) in
+    (ls, is.lawful.labels, count.0, omega (arith, fields.1, is.lawful.shard), count.1)
+ask_parts v r s c body rest rest' labels wide_r wide_s wide_c first second third is = absurd (omega (arith, is.kind))
+
+pub ask_refused : (r s c : ℕ) (body rest rest' labels : List ℕ) → IsU32 r → IsU32 s → IsU32 c
+    → body ≡ u32_text r ++ rest → rest ≡ u32_text s ++ rest' → rest' ≡ u32_text c ++ labels
+    → (s < 4096 → c ≡ length labels / 4 → ⊥) → BodyRefused BadField 3 body
+ask_refused r s c body rest rest' labels wide_r wide_s wide_c first second third never = (
+  λ other. omega (arith, other.0),
+  λ v is.
+      let (ls, lawful, count, low, same) = ask_parts v r s c body rest rest' labels wide_r wide_s wide_c first second third is in
+      never low (omega (arith, ap length same, items_length u32_text 4 u32_length ls)),
+)
+
+pub ask_unlabelled : (r s c : ℕ) (body rest rest' labels ns : List ℕ) → IsU32 r → IsU32 s → IsU32 c
+    → body ≡ u32_text r ++ rest → rest ≡ u32_text s ++ rest' → rest' ≡ u32_text c ++ labels
+    → flat_map u32_text ns ≡ labels → All IsU32 ns → (AreLabels ns → ⊥) → BodyRefused BadField 3 body
+ask_unlabelled r s c body rest rest' labels ns wide_r wide_s wide_c first second third spelled fits never = (
+  λ other. omega (arith, other.0),
+  λ v is.
+      let (ls, lawful, count, low, same) = ask_parts v r s c body rest rest' labels wide_r wide_s wide_c first second third is in
+      let one : ls ≡ ns = items_same u32_text 4 IsU32 (omega arith) u32_length u32_front ls ns (labels_fit ls lawful) (recursion_from_All _ _ fits) (same ∙ sym spelled) in
+      never (subst AreLabels one lawful),
+)
+
+pub ask_found : (r s c : ℕ) (body rest rest' labels ls : List ℕ) → IsU32 r → s < 4096 → c ≡ length labels / 4
+    → body ≡ u32_text r ++ rest → rest ≡ u32_text s ++ rest' → rest' ≡ u32_text c ++ labels
+    → flat_map u32_text ls ≡ labels → AreLabels ls → IsFrameOf (AskFrame r s ls) 3 body
+ask_found r s c body rest rest' labels ls wide low counted first second third same are =
+    let total : length ls ≡ c = omega (arith, items_length u32_text 4 u32_length ls, ap length same) in
+    record {
+      lawful = record { round = wide; shard = low; labels = are };
+      kind = refl;
+      body = sym (first ∙ ap (λ (t : List ℕ). u32_text r ++ t) (second ∙ ap (λ (t : List ℕ). u32_text s ++ t) (third ∙ ap (λ (t : List ℕ). u32_text c ++ t) (sym same) ∙ ap (λ (k : ℕ). u32_text k ++ flat_map u32_text ls) (sym total))));
+    }
+
+-- ---- an answer
+
+answer_parts : (v : FrameValue) (r s c : ℕ) (body rest rest' offers : List ℕ) → IsU32 r → IsU32 s → IsU32 c
+    → body ≡ u32_text r ++ rest → rest ≡ u32_text s ++ rest' → rest' ≡ u32_text c ++ offers
+    → IsFrameOf v 4 body → (os : List Offer) × AreOffers os × AllByRecursion FitsOffer os × (length os ≡ c) × (flat_map offer_text os ≡ offers)
+answer_parts (AnswerFrame a) r s c body rest rest' offers wide_r wide_s wide_c first second third is =
+    let fields = two_front a.round a.shard r s (u32_text (length a.offers) ++ flat_map offer_text a.offers) rest' is.lawful.round is.lawful.shard wide_r wide_s (is.body ∙ first ∙ ap (λ (t : List ℕ). u32_text r ++ t) second) in
+    let count = u32_front (length a.offers) c (flat_map offer_text a.offers) offers (omega (arith, is.lawful.count)) wide_c (fields.2 ∙ third) in
+    (a.offers, is.lawful.ascending, recursion_from_All _ _ is.lawful.fit, count.0, count.1)
+answer_parts v r s c body rest rest' offers wide_r wide_s wide_c first second third is = absurd (omega (arith, is.kind))
+
+pub answer_refused : (r s c : ℕ) (body rest rest' offers : List ℕ) → IsU32 r → IsU32 s → IsU32 c
+    → body ≡ u32_text r ++ rest → rest ≡ u32_text s ++ rest' → rest' ≡ u32_text c ++ offers
+    → (c ≡ length offers / 8 → ⊥) → BodyRefused BadField 4 body
+answer_refused r s c body rest rest' offers wide_r wide_s wide_c first second third never = (
+  λ other. omega (arith, other.0),
+  λ v is.
+      let (os, ascending, fits, count, same) = answer_parts v r s c body rest rest' offers wide_r wide_s wide_c first second third is in
+      never (omega (arith, ap length same, items_length offer_text 8 offer_length os)),
+)
+
+pub answer_unsorted : (r s c : ℕ) (ps : List Offer) (body rest rest' offers : List ℕ) → IsU32 r → IsU32 s → IsU32 c
+    → body ≡ u32_text r ++ rest → rest ≡ u32_text s ++ rest' → rest' ≡ u32_text c ++ offers
+    → flat_map offer_text ps ≡ offers → All FitsOffer ps → (AreOffers ps → ⊥) → BodyRefused BadField 4 body
+answer_unsorted r s c ps body rest rest' offers wide_r wide_s wide_c first second third spelled fits never = (
+  λ other. omega (arith, other.0),
+  λ v is.
+      let (os, ascending, fit, count, same) = answer_parts v r s c body rest rest' offers wide_r wide_s wide_c first second third is in
+      let one : os ≡ ps = items_same offer_text 8 FitsOffer (omega arith) offer_length offer_front os ps fit (recursion_from_All _ _ fits) (same ∙ sym spelled) in
+      never (subst AreOffers one ascending),
+)
+
+pub answer_found : (r s c : ℕ) (os : List Offer) (body rest rest' offers : List ℕ) → IsU32 r → IsU32 s → c ≡ length offers / 8 → IsWithItems 12 8 (2 ^ 25) (length body)
+    → body ≡ u32_text r ++ rest → rest ≡ u32_text s ++ rest' → rest' ≡ u32_text c ++ offers
+    → flat_map offer_text os ≡ offers → All FitsOffer os → AreOffers os → IsFrameOf (AnswerFrame (record { round = r; shard = s; offers = os })) 4 body
+answer_found r s c os body rest rest' offers wide wide' counted (count, few, len) first second third same fits ascending =
+    let lens = items_length offer_text 8 offer_length os in
+    let short : length offers + 12 ≡ length body = omega (arith, ap length first, ap length second, ap length third, length-append (u32_text r) rest, length-append (u32_text s) rest', length-append (u32_text c) offers, u32_length r, u32_length s, u32_length c) in
+    let total : length os ≡ c = omega (arith, lens, ap length same) in
+    record {
+      lawful = record { round = wide; shard = wide'; count = omega (arith, lens, ap length same); fit = fits; ascending = ascending };
+      kind = refl;
+      body = sym (first ∙ ap (λ (t : List ℕ). u32_text r ++ t) (second ∙ ap (λ (t : List ℕ). u32_text s ++ t) (third ∙ ap (λ (t : List ℕ). u32_text c ++ t) (sym same) ∙ ap (λ (k : ℕ). u32_text k ++ flat_map offer_text os) (sym total))));
+    }
+
+-- ---- a fault
+
+fault_unlike : (v : FrameValue) (r s code : ℕ) (body rest rest' : List ℕ) → IsU32 r → IsU32 s → body ≡ u32_text r ++ rest → rest ≡ u32_text s ++ rest'
+    → code ≡ get_or rest' 0 0 → (1 ≤ code → code ≤ 3 → ⊥) → IsFrameOf v 5 body → ⊥
+fault_unlike (FaultFrame r' s' c) r s code body rest rest' wide wide' first second here never is =
+    let fields = two_front r' s' r s (c ∷ []) rest' is.lawful.round is.lawful.shard wide wide' (is.body ∙ first ∙ ap (λ (t : List ℕ). u32_text r ++ t) second) in
+    let same : c ≡ code = ap (λ (l : List ℕ). get_or l 0 0) fields.2 ∙ sym here in
+    never (omega (arith, is.lawful.code_from_one)) (omega (arith, is.lawful.code_to_three))
+fault_unlike v r s code body rest rest' wide wide' first second here never is = omega (arith, is.kind)
+
+pub fault_refused : (r s code : ℕ) (body rest rest' : List ℕ) → IsU32 r → IsU32 s → body ≡ u32_text r ++ rest → rest ≡ u32_text s ++ rest'
+    → code ≡ get_or rest' 0 0 → (1 ≤ code → code ≤ 3 → ⊥) → BodyRefused BadField 5 body
+fault_refused r s code body rest rest' wide wide' first second here never =
+    (λ other. omega (arith, other.0), λ v is. fault_unlike v r s code body rest rest' wide wide' first second here never is)

@@ -1,0 +1,108 @@
+-- Lists of items, written and read.
+use Rattle.std.proofs.Common.{◌≡◌, ◌≢◌, ℕ, zero, suc, ◌+◌, ◌*◌, ◌/◌, ◌%◌, ◌^◌, ◌<◌, ◌≤◌, ℤ, List, [], ◌∷◌, ◌++◌, length, map, set, take, drop, get_or, All, FitsSigned, refl, sym, ap, subst, ◌∙◌, append_assoc, append-nil, arith}
+use Rattle.std.specs.Int.{w32, from_be_bytes, cast_signed, cast_unsigned}
+use Rattle.std.specs.List.{flat_map, AllByRecursion}
+use Rattle.std.specs.Simd.{first_chunks}
+use Rattle.std.proofs.lemmas.Int.{of_z-to_z}
+use Rattle.std.proofs.lemmas.List.{length-append, nil_from_length, take-append-drop, length-drop, length-take, take_more, take_more_set, map-append, take_all}
+use Rattle.std.proofs.lemmas.List.Elements.{All-append, All-cons, All-nil, All-from_recursion, recursion_from_All}
+use Rattle.std.proofs.lemmas.List.Folds.{flat_map-map}
+use Rattle.std.proofs.lemmas.Grind.{flat_map-append}
+use Rattle.link_key.specs.declared.links.Link.{Link}
+use Rattle.frames.specs.FrameText.{u32_text, i32_text, link_text, offer_text}
+use Rattle.frames.specs.Lawful.{IsU32}
+use Rattle.frames.specs.Refusals.{AreNoLinks, IsNoLink}
+use Rattle.frames.proofs.Texts.{IsBytes, IsBytes-drop, IsBytes-take, u32_length, u32_back, parts_same, link_length, FitsOffer}
+use Rattle.frames.proofs.OneText.{two_front}
+use Rattle.link_key.specs.Offers.{Offer}
+
+-- ---- numbers, a piece at a time
+
+pub piece_more : (cells : List (List ℕ)) (piece : List ℕ) (i : ℕ) (cell : List ℕ) → i < length cells → i < length piece → cell ≡ u32_text (get_or piece i 0)
+    → take i cells ≡ map u32_text (take i piece) → take (i + 1) (set cells i cell) ≡ map u32_text (take (i + 1) piece)
+piece_more cells piece i cell room more is so_far =
+    take_more_set cells i cell room ∙ ap (λ (t : List (List ℕ)). t ++ cell ∷ []) so_far ∙ ap (λ (t : List ℕ). map u32_text (take i piece) ++ t ∷ []) is
+    ∙ sym (map-append u32_text (take i piece) (get_or piece i 0 ∷ [])) ∙ ap (map u32_text) (sym (take_more piece i 0 more))
+
+pub piece_whole : (cells : List (List ℕ)) (piece : List ℕ) → take (length piece) cells ≡ map u32_text (take (length piece) piece)
+    → flat_map (λ x. x) (take (length piece) cells) ≡ flat_map u32_text piece
+piece_whole cells piece written =
+    ap (flat_map (λ x. x)) (written ∙ ap (map u32_text) (take_all (length piece) piece (omega arith))) ∙ flat_map-map (λ x. x) u32_text piece
+
+-- ---- numbers, read
+
+pub numbers_back : (k : ℕ) (bytes : List ℕ) → length bytes ≡ 4 * k → IsBytes bytes → flat_map u32_text (map (from_be_bytes w32) (first_chunks 4 k bytes)) ≡ bytes
+numbers_back zero bytes len fits = sym (nil_from_length bytes (omega arith))
+numbers_back (suc k) bytes len fits =
+    let front = u32_back (take 4 bytes) (omega (arith, length-take 4 bytes)) (IsBytes-take 4 bytes fits) in
+    let rest = numbers_back k (drop 4 bytes) (omega (arith, length-drop 4 bytes)) (IsBytes-drop 4 bytes fits) in
+    ap (λ (t : List ℕ). u32_text (from_be_bytes w32 (take 4 bytes)) ++ t) rest ∙ ap (λ (t : List ℕ). t ++ drop 4 bytes) front ∙ take-append-drop 4 bytes
+
+number_below : (bytes : List ℕ) → IsBytes bytes → IsU32 (from_be_bytes w32 bytes)
+number_below bytes fits = omega (arith, fits 0, fits 1, fits 2, fits 3)
+
+numbers_fit : (k : ℕ) (bytes : List ℕ) → IsBytes bytes → AllByRecursion IsU32 (map (from_be_bytes w32) (first_chunks 4 k bytes))
+numbers_fit zero bytes fits = tt
+numbers_fit (suc k) bytes fits = (number_below (take 4 bytes) (IsBytes-take 4 bytes fits), numbers_fit k (drop 4 bytes) (IsBytes-drop 4 bytes fits))
+
+pub numbers_are : (bytes numbers : List ℕ) → length bytes % 4 ≡ 0 → IsBytes bytes → numbers ≡ map (from_be_bytes w32) (first_chunks 4 (length bytes / 4) bytes)
+    → (flat_map u32_text numbers ≡ bytes) × All IsU32 numbers
+numbers_are bytes numbers whole fits are = (
+  ap (flat_map u32_text) are ∙ numbers_back (length bytes / 4) bytes (omega arith) fits,
+  subst (All IsU32) (sym are) (All-from_recursion IsU32 _ (numbers_fit (length bytes / 4) bytes fits)),
+)
+
+-- ---- links, read
+
+pub link_unlike : (low high : ℕ) (bytes rest rest' : List ℕ) → IsU32 low → IsU32 high → bytes ≡ u32_text low ++ rest → rest ≡ u32_text high ++ rest'
+    → (1 ≤ low → low < high → high ≤ 2 ^ 26 → ⊥) → IsNoLink bytes
+link_unlike low high bytes rest rest' wide wide' first second never l fits same =
+    let ends = two_front l.low l.high low high (i32_text l.weight) rest' (omega (arith, l.ascending, l.in_limit)) (omega (arith, l.in_limit)) wide wide' (same ∙ first ∙ ap (λ (t : List ℕ). u32_text low ++ t) second) in
+    never (omega (arith, ends.0, l.from_one)) (omega (arith, ends.0, ends.1, l.ascending)) (omega (arith, ends.1, l.in_limit))
+
+-- the bits of a weight that was made of bits
+bits_back : (bits : ℕ) (z : ℤ) → IsU32 bits → z ≡ cast_signed w32 bits → cast_unsigned w32 (cast_signed w32 (cast_unsigned w32 z)) ≡ bits
+bits_back bits z wide is =
+    ap (λ (k : ℤ). cast_unsigned w32 (cast_signed w32 (cast_unsigned w32 k))) is
+    ∙ ap (λ (k : ℕ). cast_unsigned w32 (cast_signed w32 k)) (of_z-to_z w32 bits wide) ∙ of_z-to_z w32 bits wide
+
+pub link_back : (low high bits : ℕ) (z : ℤ) (bytes rest rest' rest'' : List ℕ) → IsU32 bits → z ≡ cast_signed w32 bits → length bytes ≡ 12
+    → bytes ≡ u32_text low ++ rest → rest ≡ u32_text high ++ rest' → rest' ≡ u32_text bits ++ rest''
+    → u32_text low ++ (u32_text high ++ u32_text (cast_unsigned w32 (cast_signed w32 (cast_unsigned w32 z)))) ≡ bytes
+link_back low high bits z bytes rest rest' rest'' wide is len first second third =
+    let none : rest'' ≡ [] = nil_from_length rest'' (omega (arith, ap length first, ap length second, ap length third, length-append (u32_text low) rest, length-append (u32_text high) rest', length-append (u32_text bits) rest'', u32_length low, u32_length high, u32_length bits)) in
+    let last : rest' ≡ u32_text bits = third ∙ ap (λ (t : List ℕ). u32_text bits ++ t) none ∙ append-nil (u32_text bits) in
+    ap (λ (k : ℕ). u32_text low ++ (u32_text high ++ u32_text k)) (bits_back bits z wide is)
+    ∙ ap (λ (t : List ℕ). u32_text low ++ (u32_text high ++ t)) (sym last) ∙ ap (λ (t : List ℕ). u32_text low ++ t) (sym second) ∙ sym first
+
+-- behind links that were read, twelve bytes that no link has
+none_behind : (read links : List Link) (front behind : List ℕ) → length front ≡ 12 → IsNoLink front
+    → AllByRecursion (λ l. FitsSigned w32 l.weight) links → flat_map link_text links ≡ flat_map link_text read ++ (front ++ behind) → ⊥
+none_behind read [] front behind len none fits same =
+    omega (arith, ap length same, length-append (flat_map link_text read) (front ++ behind), length-append front behind)
+none_behind [] (l ∷ links) front behind len none fits same =
+    none l fits.0 (parts_same (link_text l) front (flat_map link_text links) behind (link_length l ∙ sym len) same).0
+none_behind (r ∷ read) (l ∷ links) front behind len none fits same =
+    none_behind read links front behind len none fits.1
+    (parts_same (link_text l) (link_text r) (flat_map link_text links) (flat_map link_text read ++ (front ++ behind)) (link_length l ∙ sym (link_length r))
+    (same ∙ append_assoc (link_text r) (flat_map link_text read) (front ++ behind))).1
+
+pub no_links_behind : (read : List Link) (bytes rest front behind : List ℕ) → flat_map link_text read ++ rest ≡ bytes → front ≡ take 12 rest → behind ≡ drop 12 rest → length front ≡ 12
+    → IsNoLink front → AreNoLinks bytes
+no_links_behind read bytes rest front behind so_far first second len none links fits same =
+    let split : rest ≡ front ++ behind = sym (take-append-drop 12 rest) ∙ ap (λ (t : List ℕ). t ++ drop 12 rest) (sym first) ∙ ap (λ (t : List ℕ). front ++ t) (sym second) in
+    none_behind read links front behind len none (recursion_from_All _ _ fits) (same ∙ sym so_far ∙ ap (λ (t : List ℕ). flat_map link_text read ++ t) split)
+
+-- ---- offers, read
+
+pub offer_more : (new old : List Offer) (component place : ℕ) (bytes rest rest' rest'' : List ℕ) → flat_map offer_text old ++ rest ≡ bytes
+    → rest ≡ u32_text component ++ rest' → rest' ≡ u32_text place ++ rest'' → new ≡ old ++ (component, place) ∷ [] → flat_map offer_text new ++ rest'' ≡ bytes
+offer_more new old component place bytes rest rest' rest'' so_far first second is =
+    let pushed : flat_map offer_text new ≡ flat_map offer_text old ++ (u32_text component ++ u32_text place) =
+    ap (flat_map offer_text) is ∙ flat_map-append offer_text old ((component, place) ∷ []) ∙ ap (λ (t : List ℕ). flat_map offer_text old ++ t) (append-nil (u32_text component ++ u32_text place)) in
+    let split : rest ≡ (u32_text component ++ u32_text place) ++ rest'' = first ∙ ap (λ (t : List ℕ). u32_text component ++ t) second ∙ sym (append_assoc (u32_text component) (u32_text place) rest'') in
+    ap (λ (t : List ℕ). t ++ rest'') pushed ∙ append_assoc (flat_map offer_text old) (u32_text component ++ u32_text place) rest''
+    ∙ ap (λ (t : List ℕ). flat_map offer_text old ++ t) (sym split) ∙ so_far
+
+pub fits_more : (new old : List Offer) (component place : ℕ) → All FitsOffer old → FitsOffer (component, place) → new ≡ old ++ (component, place) ∷ [] → All FitsOffer new
+fits_more new old component place before this is = subst (All FitsOffer) (sym is) (All-append FitsOffer old ((component, place) ∷ []) before (All-cons FitsOffer (component, place) [] this (All-nil FitsOffer)))

@@ -1,0 +1,109 @@
+-- Each lawful frame has one text: the kind and the length come first, so the bodies part where they end,
+-- and each body's fields part one after the other.
+use Rattle.std.proofs.Common.{◌≡◌, ℕ, zero, suc, ◌+◌, ◌-◌, ◌*◌, ◌^◌, ◌<◌, ◌≤◌, List, [], ◌∷◌, ◌++◌, length, get_or, refl, sym, ap, subst, ◌∙◌, append_assoc, arith, FitsSigned}
+use Rattle.std.specs.Int.{w32}
+use Rattle.std.specs.List.{flat_map, AllByRecursion}
+use Rattle.std.proofs.lemmas.List.{length-append}
+use Rattle.std.proofs.lemmas.List.Elements.{recursion_from_All}
+use Rattle.link_key.specs.declared.links.Link.{Link}
+use Rattle.link_key.specs.Labels.{AreLabels}
+use Rattle.frames.specs.AnswerValue.{AnswerValue}
+use Rattle.frames.specs.FrameValue.{FrameValue, HelloFrame, ShardFrame, AskFrame, AnswerFrame, FaultFrame}
+use Rattle.frames.specs.FrameText.{u16_text, u32_text, link_text, offer_text, kind_of, body_of, text_of}
+use Rattle.frames.specs.Lawful.{IsU32, IsHello, IsShard, IsAsk, IsAnswer, IsFault, IsLawful}
+use Rattle.frames.specs.OneText.{EachHasOneText}
+use Rattle.frames.proofs.Texts.{parts_same, u16_length, u32_length, u16_front, u32_front, link_front, offer_front, FitsWeight, FitsOffer, link_length, offer_length, items_length, items_same}
+
+-- ---- the fields of each body, given that they fit
+
+pub hello_same : (v w v' w' : ℕ) → v < 2 ^ 16 → v' < 2 ^ 16 → IsU32 w → IsU32 w' → u16_text v ++ u32_text w ≡ u16_text v' ++ u32_text w' → (v ≡ v') × (w ≡ w')
+hello_same v w v' w' fits fits' wide wide' same =
+    let version = u16_front v v' (u32_text w) (u32_text w') fits fits' same in
+    let worker = u32_front w w' [] [] wide wide' (ap (λ (t : List ℕ). t ++ []) version.1) in
+    (version.0, worker.0)
+
+-- two numbers, and what follows them
+pub two_front : (a b c d : ℕ) (x y : List ℕ) → IsU32 a → IsU32 b → IsU32 c → IsU32 d
+    → u32_text a ++ (u32_text b ++ x) ≡ u32_text c ++ (u32_text d ++ y) → (a ≡ c) × (b ≡ d) × (x ≡ y)
+two_front a b c d x y fits_a fits_b fits_c fits_d same =
+    let first = u32_front a c (u32_text b ++ x) (u32_text d ++ y) fits_a fits_c same in
+    let second = u32_front b d x y fits_b fits_d first.1 in
+    (first.0, second.0, second.1)
+
+-- labels of vertices are at most 2^26
+labels_below : (labels : List ℕ) → ((k : ℕ) → k < length labels → get_or labels k 0 < 2 ^ 32) → AllByRecursion IsU32 labels
+labels_below [] below = tt
+labels_below (l ∷ labels) below = (below 0 (omega arith), labels_below labels (λ k lt. below (suc k) (omega arith)))
+
+pub labels_fit : (labels : List ℕ) → AreLabels labels → AllByRecursion IsU32 labels
+labels_fit labels are = labels_below labels (λ k lt.
+    let at = are.labelled (k + 1) (omega arith) (omega arith) in
+    let below : get_or labels (k + 1 - 1) 0 ≤ k + 1 = at.at_most_itself in
+    let place : k + 1 - 1 ≡ k = omega arith in
+    omega (arith, are.few_vertices, rw place at below))
+
+pub shard_same : (n n' : ℕ) (ls ls' : List Link) → IsShard n ls → IsU32 n' → length ls' < 2 ^ 32 → AllByRecursion FitsWeight ls'
+    → body_of (ShardFrame n ls) ≡ body_of (ShardFrame n' ls') → (n ≡ n') × (ls ≡ ls')
+shard_same n n' ls ls' lawful wide short fits same =
+    let fields = two_front n (length ls) n' (length ls') (flat_map link_text ls) (flat_map link_text ls') (omega (arith, lawful.number)) (omega (arith, lawful.count)) wide short same in
+    (fields.0, items_same link_text 12 FitsWeight (omega arith) link_length link_front ls ls' (recursion_from_All _ _ lawful.weights) fits fields.2)
+
+pub ask_same : (r r' s s' : ℕ) (ls ls' : List ℕ) → IsAsk r s ls → IsU32 r' → IsU32 s' → length ls' < 2 ^ 32 → AllByRecursion IsU32 ls'
+    → body_of (AskFrame r s ls) ≡ body_of (AskFrame r' s' ls') → (r ≡ r') × (s ≡ s') × (ls ≡ ls')
+ask_same r r' s s' ls ls' lawful wide wide' short fits same =
+    let front = two_front r s r' s' (u32_text (length ls) ++ flat_map u32_text ls) (u32_text (length ls') ++ flat_map u32_text ls') lawful.round (omega (arith, lawful.shard)) wide wide' same in
+    let count = u32_front (length ls) (length ls') (flat_map u32_text ls) (flat_map u32_text ls') (omega (arith, lawful.labels.few_vertices)) short front.2 in
+    (front.0, front.1, items_same u32_text 4 IsU32 (omega arith) u32_length u32_front ls ls' (labels_fit ls lawful.labels) fits count.1)
+
+pub answer_same : (a b : AnswerValue) → IsAnswer a → IsU32 b.round → IsU32 b.shard → length b.offers < 2 ^ 32 → AllByRecursion FitsOffer b.offers
+    → body_of (AnswerFrame a) ≡ body_of (AnswerFrame b) → a ≡ b
+answer_same a b lawful wide wide' short fits same =
+    let front = two_front a.round a.shard b.round b.shard (u32_text (length a.offers) ++ flat_map offer_text a.offers) (u32_text (length b.offers) ++ flat_map offer_text b.offers) lawful.round lawful.shard wide wide' same in
+    let count = u32_front (length a.offers) (length b.offers) (flat_map offer_text a.offers) (flat_map offer_text b.offers) (omega (arith, lawful.count)) short front.2 in
+    let offers = items_same offer_text 8 FitsOffer (omega arith) offer_length offer_front a.offers b.offers (recursion_from_All _ _ lawful.fit) fits count.1 in
+    λ i. record { round = front.0 i; shard = front.1 i; offers = offers i }
+
+pub fault_same : (r r' s s' c c' : ℕ) → IsU32 r → IsU32 r' → IsU32 s → IsU32 s' → body_of (FaultFrame r s c) ≡ body_of (FaultFrame r' s' c') → (r ≡ r') × (s ≡ s') × (c ≡ c')
+fault_same r r' s s' c c' wide wide' wide_s wide_s' same =
+    let front = two_front r s r' s' (c ∷ []) (c' ∷ []) wide wide_s wide' wide_s' same in
+    (front.0, front.1, ap (λ (l : List ℕ). get_or l 0 0) front.2)
+
+-- ---- bodies of one kind
+
+bodies_same : (v w : FrameValue) → IsLawful v → IsLawful w → kind_of v ≡ kind_of w → body_of v ≡ body_of w → v ≡ w
+bodies_same (HelloFrame v w) (HelloFrame v' w') first second kind same =
+    let fields = hello_same v w v' w' (omega (arith, first.version)) (omega (arith, second.version)) (omega (arith, first.worker)) (omega (arith, second.worker)) same in
+    λ i. HelloFrame (fields.0 i) (fields.1 i)
+bodies_same (ShardFrame n ls) (ShardFrame n' ls') first second kind same =
+    let fields = shard_same n n' ls ls' first (omega (arith, second.number)) (omega (arith, second.count)) (recursion_from_All _ _ second.weights) same in
+    λ i. ShardFrame (fields.0 i) (fields.1 i)
+bodies_same (AskFrame r s ls) (AskFrame r' s' ls') first second kind same =
+    let fields = ask_same r r' s s' ls ls' first second.round (omega (arith, second.shard)) (omega (arith, second.labels.few_vertices)) (labels_fit ls' second.labels) same in
+    λ i. AskFrame (fields.0 i) (fields.1 i) (fields.2 i)
+bodies_same (AnswerFrame a) (AnswerFrame b) first second kind same =
+    ap AnswerFrame (answer_same a b first second.round second.shard (omega (arith, second.count)) (recursion_from_All _ _ second.fit) same)
+bodies_same (FaultFrame r s c) (FaultFrame r' s' c') first second kind same =
+    let fields = fault_same r r' s s' c c' first.round second.round first.shard second.shard same in
+    λ i. FaultFrame (fields.0 i) (fields.1 i) (fields.2 i)
+bodies_same v w first second kind same = absurd (omega (arith, kind))
+
+-- ---- how long a lawful frame's body is
+
+pub body_short : (v : FrameValue) → IsLawful v → IsU32 (length (body_of v))
+body_short (HelloFrame v w) lawful = omega (arith, length-append (u16_text v) (u32_text w), u16_length v, u32_length w)
+body_short (ShardFrame n ls) lawful =
+    omega (arith, length-append (u32_text n) (u32_text (length ls) ++ flat_map link_text ls), length-append (u32_text (length ls)) (flat_map link_text ls), u32_length n, u32_length (length ls), items_length link_text 12 link_length ls, lawful.count)
+body_short (AskFrame r s ls) lawful =
+    omega (arith, length-append (u32_text r) (u32_text s ++ (u32_text (length ls) ++ flat_map u32_text ls)), length-append (u32_text s) (u32_text (length ls) ++ flat_map u32_text ls), length-append (u32_text (length ls)) (flat_map u32_text ls), u32_length r, u32_length s, u32_length (length ls), items_length u32_text 4 u32_length ls, lawful.labels.few_vertices)
+body_short (AnswerFrame a) lawful =
+    omega (arith, length-append (u32_text a.round) (u32_text a.shard ++ (u32_text (length a.offers) ++ flat_map offer_text a.offers)), length-append (u32_text a.shard) (u32_text (length a.offers) ++ flat_map offer_text a.offers), length-append (u32_text (length a.offers)) (flat_map offer_text a.offers), u32_length a.round, u32_length a.shard, u32_length (length a.offers), items_length offer_text 8 offer_length a.offers, lawful.count)
+body_short (FaultFrame r s c) lawful = omega (arith, length-append (u32_text r) (u32_text s ++ c ∷ []), length-append (u32_text s) (c ∷ []), u32_length r, u32_length s)
+
+pub one_text : EachHasOneText
+one_text v w x y first second same =
+    let kind : kind_of v ≡ kind_of w = ap (λ (l : List ℕ). get_or l 0 0) same in
+    let behind : (u32_text (length (body_of v)) ++ body_of v) ++ x ≡ (u32_text (length (body_of w)) ++ body_of w) ++ y = cc in
+    let fields = u32_front (length (body_of v)) (length (body_of w)) (body_of v ++ x) (body_of w ++ y) (body_short v first) (body_short w second)
+    (sym (append_assoc (u32_text (length (body_of v))) (body_of v) x) ∙ behind ∙ append_assoc (u32_text (length (body_of w))) (body_of w) y) in
+    let parts = parts_same (body_of v) (body_of w) x y fields.0 fields.1 in
+    (bodies_same v w first second kind parts.0, parts.1)

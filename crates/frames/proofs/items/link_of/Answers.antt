@@ -1,0 +1,17 @@
+use Rattle.std.proofs.Common.{arith, rules}
+use Rattle.frames.proofs.Listed.{link_unlike, link_back}
+use Rattle.frames.proofs.items.link_of.Goals as goal
+use Rattle.frames.proofs.items.link_of.Goals.{then-low-eq0-via-then-low-eq0, then-low-eq0-via-else-low-eq0+then-low-high, then-low-eq0-via-else-low-eq0+else-low-high+then-high}
+
+pub returns-then-low-eq0-clause-none : goal.returns-then-low-eq0-clause-none
+returns-then-low-eq0-clause-none c =
+    link_unlike c.split_u32-low.result.0 c.split_u32-high.result.0 _ _ _ c.split_u32-low.ensures.fits c.split_u32-high.ensures.fits c.split_u32-low.ensures.parts c.split_u32-high.ensures.parts
+    (λ from below to. elim c.then-low-eq0.branch [
+      | then-low-eq0-via-then-low-eq0 w ↦ omega arith
+      | then-low-eq0-via-else-low-eq0+then-low-high w ↦ omega arith
+      | then-low-eq0-via-else-low-eq0+else-low-high+then-high w ↦ omega arith
+    ])
+
+pub returns-clause-found : goal.returns-clause-found
+returns-clause-found c =
+    link_back _ _ c.split_u32-bits.result.0 c.cast_signed-weight.result _ _ _ _ c.split_u32-bits.ensures.fits c.cast_signed-weight.ensures c.requires c.split_u32-low.ensures.parts c.split_u32-high.ensures.parts c.split_u32-bits.ensures.parts

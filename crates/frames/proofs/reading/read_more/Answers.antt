@@ -1,0 +1,12 @@
+use Rattle.std.proofs.Common.{◌≡◌, ◌+◌, ◌-◌, ◌∙◌, [], length, take, drop, arith, rules}
+use Rattle.std.proofs.lemmas.List.{drop_all, length-drop}
+use borrow.Rule.Slice.PartMut.{post_of}
+use Rattle.frames.proofs.Streams.{piece_behind, resized_front}
+use Rattle.frames.proofs.reading.read_more.Goals as goal
+
+pub returns-in-Ok-clause-came : goal.returns-in-Ok-clause-came
+returns-in-Ok-clause-came g c =
+    let count : length c.fill.new.buf ≡ c.args.count = search rules in
+    let front : take c.len-start.result c.deref_mut.result.now ≡ c.args.body.now.items = resized_front c.args.body.now.items c.deref_mut.result.now (c.len-start.result + c.args.count) (c.len-start.result + c.args.count - c.args.body.now.len) c.len-start.result (c.deref_mut.ensures.value ∙ c.in_ok-resize.ensures.items) (omega arith) (omega arith) in
+    let none : post_of c.len-start.result (length c.deref_mut.result.now - c.len-start.result) c.deref_mut.result.now ≡ [] = drop_all (length c.deref_mut.result.now - c.len-start.result) (drop c.len-start.result c.deref_mut.result.now) (omega (arith, length-drop c.len-start.result c.deref_mut.result.now)) in
+    (c.fill.new.buf, count, piece_behind c.args.body.now.items c.fill.new.buf c.deref_mut.result.now _ _ c.len-start.result c.resize.new.self.len front none (search rules), c.in-Ok.ensures.whole)

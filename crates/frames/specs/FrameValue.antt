@@ -1,0 +1,22 @@
+-- Frames as values, without where their lists lie in memory.
+use Rattle.std.specs.Prelude.{ℕ, List}
+use Rattle.link_key.specs.declared.links.Link.{Link}
+use Rattle.frames.specs.AnswerValue.{AnswerValue}
+use Rattle.frames.specs.declared.frame.Frame.{Frame}
+use Rattle.frames.specs.declared.frame.Frame.TheVariants.{Hello, Shard, Ask, Answer, Fault}
+
+-- what a frame says: one of five kinds of message
+pub data FrameValue : Type 0 where
+  HelloFrame : (version worker : ℕ) → FrameValue
+  ShardFrame : (number : ℕ) (links : List Link) → FrameValue
+  AskFrame : (round shard : ℕ) (labels : List ℕ) → FrameValue
+  AnswerFrame : (answer : AnswerValue) → FrameValue
+  FaultFrame : (round shard code : ℕ) → FrameValue
+
+-- what a frame in memory says
+abbrev pub value_of : {A : Type 0} → Frame A → FrameValue
+value_of (Hello version worker) = HelloFrame version worker
+value_of (Shard number links) = ShardFrame number links
+value_of (Ask round shard labels) = AskFrame round shard labels
+value_of (Answer answer) = AnswerFrame answer
+value_of (Fault round shard code) = FaultFrame round shard code

@@ -1,0 +1,51 @@
+-- Lawful frames: the fields fit their widths, and say what they may say.
+use Rattle.std.specs.Prelude.{◌≡◌, ℕ, ◌<◌, ◌≤◌, ◌^◌, List, length, All, FitsSigned}
+use Rattle.std.specs.Int.{w32}
+use Rattle.link_key.specs.declared.links.Link.{Link}
+use Rattle.link_key.specs.Labels.{AreLabels}
+use Rattle.link_key.specs.Offers.{Offer, AreOffers}
+use Rattle.frames.specs.AnswerValue.{AnswerValue}
+use Rattle.frames.specs.FrameValue.{FrameValue, HelloFrame, ShardFrame, AskFrame, AnswerFrame, FaultFrame}
+
+-- a number of four bytes
+abbrev pub IsU32 : ℕ → Type 0
+IsU32 n = n < 2 ^ 32
+
+-- the first version, and one of 64 workers
+pub record IsHello (v w : ℕ) : Type 0 where
+  pub version : v ≡ 1
+  pub worker : w < 64
+
+-- a shard of at most 2^24 links; that their ends ascend and are at most 2^26 is part of what a link is
+pub record IsShard (n : ℕ) (ls : List Link) : Type 0 where
+  pub number : n < 4096
+  pub count : length ls ≤ 2 ^ 24
+  pub weights : All (λ l. FitsSigned w32 l.weight) ls
+
+-- labels of the vertices 1, 2, .. of a graph, for a shard
+pub record IsAsk (r s : ℕ) (ls : List ℕ) : Type 0 where
+  pub round : IsU32 r
+  pub shard : s < 4096
+  pub labels : AreLabels ls
+
+-- offers of strictly ascending components, of any shard in any round
+pub record IsAnswer (a : AnswerValue) : Type 0 where
+  pub round : IsU32 a.round
+  pub shard : IsU32 a.shard
+  pub count : length a.offers ≤ 2 ^ 25
+  pub fit : All (λ o. IsU32 o.0 × IsU32 o.1) a.offers
+  pub ascending : AreOffers a.offers
+
+-- one of three codes, of any shard in any round
+pub record IsFault (r s c : ℕ) : Type 0 where
+  pub round : IsU32 r
+  pub shard : IsU32 s
+  pub code_from_one : 1 ≤ c
+  pub code_to_three : c ≤ 3
+
+abbrev pub IsLawful : FrameValue → Type 0
+IsLawful (HelloFrame version worker) = IsHello version worker
+IsLawful (ShardFrame number links) = IsShard number links
+IsLawful (AskFrame round shard labels) = IsAsk round shard labels
+IsLawful (AnswerFrame answer) = IsAnswer answer
+IsLawful (FaultFrame round shard code) = IsFault round shard code

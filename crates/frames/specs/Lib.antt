@@ -1,0 +1,7 @@
+pub mod AnswerValue
+pub mod FrameValue
+pub mod FrameText
+pub mod Lawful
+pub mod Refusals
+pub mod OneText
+pub mod ReadFault

@@ -1,0 +1,104 @@
+-- When a stream of bytes gives no frame, and why: each fault stands where those before it in the list don't.
+use Rattle.std.specs.Prelude.{◌≡◌, ◌≢◌, ℕ, ◌+◌, ◌*◌, ◌<◌, ◌≤◌, ◌^◌, ◌⊎◌, ⊤, List, [], ◌++◌, length, slice_index, take, drop, All, FitsSigned}
+use Rattle.std.specs.List.{flat_map}
+use Rattle.std.specs.Int.{w16, w32, from_be_bytes}
+use Rattle.frames.specs.FrameValue.{FrameValue}
+use Rattle.link_key.specs.declared.links.Link.{Link}
+use Rattle.frames.specs.FrameText.{link_text, kind_of, body_of}
+use Rattle.frames.specs.Lawful.{IsLawful}
+use Rattle.frames.specs.declared.fault.FrameFault.{FrameFault}
+use Rattle.frames.specs.declared.fault.FrameFault.TheVariants.{BadKind, BadLength, BadField, BadVersion, Ended, Torn, Device, Memory}
+
+-- one of the five kinds
+pub record IsKind (kind : ℕ) : Type 0 where
+  pub from_one : 1 ≤ kind
+  pub to_five : kind ≤ 5
+
+-- so many bytes, and behind them at most so many items of so many bytes each
+abbrev pub IsWithItems : (fixed item most len : ℕ) → Type 0
+IsWithItems fixed item most len = (count : ℕ) × (count ≤ most) × (len ≡ fixed + item * count)
+
+-- a body of this kind may have this length
+pub record IsPossible (kind len : ℕ) : Type 0 where
+  pub known : IsKind kind
+  pub hello : kind ≡ 1 → len ≡ 6
+  pub shard : kind ≡ 2 → IsWithItems 8 12 (2 ^ 24) len
+  pub ask : kind ≡ 3 → IsWithItems 12 4 (2 ^ 26) len
+  pub answer : kind ≡ 4 → IsWithItems 12 8 (2 ^ 25) len
+  pub fault : kind ≡ 5 → len ≡ 9
+
+-- why a head is refused
+abbrev pub HeadRefused : FrameFault → ℕ → ℕ → Type 0
+HeadRefused BadKind kind len = ¬ IsKind kind
+HeadRefused BadLength kind len = IsKind kind × ¬ IsPossible kind len
+HeadRefused _ kind len = ⊥
+
+-- twelve bytes that no link has
+abbrev pub IsNoLink : List ℕ → Type 0
+IsNoLink bytes = (l : Link) → FitsSigned w32 l.weight → link_text l ≢ bytes
+
+-- bytes that no list of links has
+abbrev pub AreNoLinks : List ℕ → Type 0
+AreNoLinks bytes = (links : List Link) → All (λ l. FitsSigned w32 l.weight) links → flat_map link_text links ≢ bytes
+
+-- why a list of links was not read
+abbrev pub LinksRefused : FrameFault → List ℕ → Type 0
+LinksRefused BadField bytes = AreNoLinks bytes
+LinksRefused Memory bytes = ⊤
+LinksRefused _ bytes = ⊥
+
+-- a lawful frame of this kind, with this body
+pub record IsFrameOf (v : FrameValue) (k : ℕ) (bytes : List ℕ) : Type 0 where
+  pub lawful : IsLawful v
+  pub kind : kind_of v ≡ k
+  pub body : body_of v ≡ bytes
+
+-- a hello of another version than 1, whatever its worker
+abbrev pub IsOtherVersion : ℕ → List ℕ → Type 0
+IsOtherVersion kind body = (kind ≡ 1) × (from_be_bytes w16 (take 2 body) ≢ 1)
+
+-- a body with a list, for which memory is taken
+abbrev pub HasItems : ℕ → Type 0
+HasItems kind = (2 ≤ kind) × (kind ≤ 4)
+
+-- why a body is refused: by its version, or else since no lawful frame has it
+abbrev pub BodyRefused : FrameFault → ℕ → List ℕ → Type 0
+BodyRefused BadVersion kind body = IsOtherVersion kind body
+BodyRefused BadField kind body = ¬ IsOtherVersion kind body × ((v : FrameValue) → ¬ IsFrameOf v kind body)
+BodyRefused Memory kind body = HasItems kind
+BodyRefused _ kind body = ⊥
+
+-- the kind and the length that the first five bytes say, and the body behind them
+abbrev pub kind_at : List ℕ → ℕ
+kind_at stream = slice_index stream 0
+
+abbrev pub length_at : List ℕ → ℕ
+length_at stream = from_be_bytes w32 (take 4 (drop 1 stream))
+
+abbrev pub body_at : List ℕ → List ℕ
+body_at stream = take (length_at stream) (drop 5 stream)
+
+-- the stream has a whole head; a head that isn't refused; the whole body too
+abbrev pub HasHead : List ℕ → Type 0
+HasHead stream = 5 ≤ length stream
+
+abbrev pub HasGoodHead : List ℕ → Type 0
+HasGoodHead stream = HasHead stream × IsPossible (kind_at stream) (length_at stream)
+
+abbrev pub HasBody : List ℕ → Type 0
+HasBody stream = HasGoodHead stream × (5 + length_at stream ≤ length stream)
+
+-- the stream ends inside the head, or inside the body of a head that isn't refused
+abbrev pub IsTorn : List ℕ → Type 0
+IsTorn stream = ((0 < length stream) × (length stream < 5)) ⊎ (HasGoodHead stream × (length stream < 5 + length_at stream))
+
+-- why a stream is refused; a failed read and want of memory may come at any place
+abbrev pub StreamRefused : FrameFault → List ℕ → Type 0
+StreamRefused Ended stream = stream ≡ []
+StreamRefused Torn stream = IsTorn stream
+StreamRefused BadKind stream = HasHead stream × HeadRefused BadKind (kind_at stream) (length_at stream)
+StreamRefused BadLength stream = HasHead stream × HeadRefused BadLength (kind_at stream) (length_at stream)
+StreamRefused BadVersion stream = HasBody stream × BodyRefused BadVersion (kind_at stream) (body_at stream)
+StreamRefused BadField stream = HasBody stream × BodyRefused BadField (kind_at stream) (body_at stream)
+StreamRefused Device stream = ⊤
+StreamRefused Memory stream = HasGoodHead stream

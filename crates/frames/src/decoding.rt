@@ -1,0 +1,120 @@
+//! Frames from bytes.
+ghost use Rattle.std.specs.Prelude.{◌≡◌, ◌^◌, length, IfOk, IfErr};
+ghost use Rattle.frames.specs.FrameValue.{value_of};
+ghost use Rattle.frames.specs.Refusals.{IsPossible, IsWithItems, IsFrameOf, BodyRefused};
+
+use crate::fault::FrameFault;
+use crate::fields::{split_u16, split_u32};
+use crate::frame::{Answer, Frame, Links};
+use crate::head::Head;
+use crate::items::{links_of, numbers_of, offers_of};
+use link_key::{Labels, Offers};
+use std::alloc::Allocator;
+
+/// The frame of a head and its body.
+///
+/// `BadVersion` where it is a hello of another version than 1, else `BadField` where no lawful frame
+/// has this body. One list is made beside the body's bytes, and looked at once more; a hello and a
+/// fault take no memory. `Memory` where that list's growth was refused.
+pub fn decode_body<A: Allocator>(alloc: A, head: Head, body: &[u8]) -> Result<Frame<A>, FrameFault>
+    requires length { length body.now ≡ head.length }
+    requires possible { IsPossible head.kind head.length }
+    ensures frame { IfOk result (λ f. IsFrameOf (value_of f) head.kind body.now) }
+    ensures refused { IfErr result (λ fault. BodyRefused fault head.kind body.now) }
+{
+    match head.kind {
+        1 => decode_hello(body),
+        2 => decode_shard(alloc, body),
+        3 => decode_ask(alloc, body),
+        4 => decode_answer(alloc, body),
+        _ => decode_fault(body),
+    }
+}
+
+fn decode_hello<A: Allocator>(body: &[u8]) -> Result<Frame<A>, FrameFault>
+    requires { length body.now ≡ 6 }
+    ensures frame { IfOk result (λ f. IsFrameOf (value_of f) 1 body.now) }
+    ensures refused { IfErr result (λ fault. BodyRefused fault 1 body.now) }
+{
+    let (version, rest) = split_u16(body);
+    let (worker, _) = split_u32(rest);
+    if version != 1 {
+        return Err(FrameFault::BadVersion);
+    }
+    if worker >= 64 {
+        return Err(FrameFault::BadField);
+    }
+    Ok(Frame::Hello { version, worker })
+}
+
+fn decode_shard<A: Allocator>(alloc: A, body: &[u8]) -> Result<Frame<A>, FrameFault>
+    requires { IsWithItems 8 12 (2 ^ 24) (length body.now) }
+    ensures frame { IfOk result (λ f. IsFrameOf (value_of f) 2 body.now) }
+    ensures refused { IfErr result (λ fault. BodyRefused fault 2 body.now) }
+{
+    let (number, rest) = split_u32(body);
+    let (count, rest) = split_u32(rest);
+    if number >= 4096 || count as usize != rest.len() / 12 {
+        return Err(FrameFault::BadField);
+    }
+    let links = Links::of_list(links_of(alloc, rest)?);
+    Ok(Frame::Shard { number, links })
+}
+
+fn decode_ask<A: Allocator>(alloc: A, body: &[u8]) -> Result<Frame<A>, FrameFault>
+    requires { IsWithItems 12 4 (2 ^ 26) (length body.now) }
+    ensures frame { IfOk result (λ f. IsFrameOf (value_of f) 3 body.now) }
+    ensures refused { IfErr result (λ fault. BodyRefused fault 3 body.now) }
+{
+    let (round, rest) = split_u32(body);
+    let (shard, rest) = split_u32(rest);
+    let (count, rest) = split_u32(rest);
+    if shard >= 4096 || count as usize != rest.len() / 4 {
+        return Err(FrameFault::BadField);
+    }
+    let numbers = numbers_of(alloc, rest)?;
+    match Labels::of_list(numbers) {
+        Some(labels) => Ok(Frame::Ask {
+            round,
+            shard,
+            labels,
+        }),
+        None => Err(FrameFault::BadField),
+    }
+}
+
+fn decode_answer<A: Allocator>(alloc: A, body: &[u8]) -> Result<Frame<A>, FrameFault>
+    requires { IsWithItems 12 8 (2 ^ 25) (length body.now) }
+    ensures frame { IfOk result (λ f. IsFrameOf (value_of f) 4 body.now) }
+    ensures refused { IfErr result (λ fault. BodyRefused fault 4 body.now) }
+{
+    let (round, rest) = split_u32(body);
+    let (shard, rest) = split_u32(rest);
+    let (count, rest) = split_u32(rest);
+    if count as usize != rest.len() / 8 {
+        return Err(FrameFault::BadField);
+    }
+    let pairs = offers_of(alloc, rest)?;
+    match Offers::of_pairs(pairs) {
+        Some(offers) => Ok(Frame::Answer(Answer {
+            round,
+            shard,
+            offers,
+        })),
+        None => Err(FrameFault::BadField),
+    }
+}
+
+fn decode_fault<A: Allocator>(body: &[u8]) -> Result<Frame<A>, FrameFault>
+    requires { length body.now ≡ 9 }
+    ensures frame { IfOk result (λ f. IsFrameOf (value_of f) 5 body.now) }
+    ensures refused { IfErr result (λ fault. BodyRefused fault 5 body.now) }
+{
+    let (round, rest) = split_u32(body);
+    let (shard, rest) = split_u32(rest);
+    let code = rest[0];
+    if code == 0 || code > 3 {
+        return Err(FrameFault::BadField);
+    }
+    Ok(Frame::Fault { round, shard, code })
+}

@@ -1,0 +1,129 @@
+//! Frames as bytes.
+ghost use Rattle.std.specs.Prelude.{◌≡◌, ◌+◌, ◌<◌, ◌≤◌, ◌^◌, ◌∷◌, ◌++◌, length, IfOk, OnOk};
+ghost use Rattle.std.specs.List.{flat_map};
+ghost use Rattle.frames.specs.FrameValue.{value_of, HelloFrame, ShardFrame, AskFrame, AnswerFrame, FaultFrame};
+ghost use Rattle.frames.specs.FrameText.{u32_text, link_text, offer_text, text_of};
+ghost use Rattle.frames.specs.Lawful.{IsLawful};
+
+use crate::fields::{put_u16, put_u32};
+use crate::frame::{Answer, Frame};
+use crate::items::{put_links, put_numbers, put_offers};
+use link_key::{Labels, Link, Shard};
+use std::alloc::{AllocError, Allocator};
+
+/// The text of a frame.
+///
+/// Memory for the whole text is taken once, and each byte is written once. The only error is want
+/// of memory.
+pub fn encode<A: Allocator, B: Allocator>(
+    alloc: A,
+    frame: &Frame<B>,
+) -> Result<Vec<u8, A>, AllocError>
+    requires { IsLawful (value_of frame.now) }
+    ensures { IfOk result (λ text. text.items ≡ text_of (value_of frame.now)) }
+{
+    match frame {
+        Frame::Hello { version, worker } => encode_hello(alloc, *version, *worker),
+        Frame::Shard { number, links } => encode_shard(
+            alloc,
+            &Shard {
+                number: *number,
+                links: links.as_slice(),
+            },
+        ),
+        Frame::Ask {
+            round,
+            shard,
+            labels,
+        } => encode_ask(alloc, *round, *shard, labels),
+        Frame::Answer(answer) => encode_answer(alloc, answer),
+        Frame::Fault { round, shard, code } => {
+            let mut text = Vec::with_capacity(alloc, 14)?;
+            text.extend_from_slice(&fault_bytes(*round, *shard, *code))?;
+            Ok(text)
+        }
+    }
+}
+
+/// The text of a hello of this version and worker.
+fn encode_hello<A: Allocator>(alloc: A, version: u16, worker: u32) -> Result<Vec<u8, A>, AllocError>
+    ensures { IfOk result (λ text. text.items ≡ text_of (HelloFrame version worker)) }
+{
+    let mut text = begin(alloc, 1, 6)?;
+    put_u16(&mut text, version)?;
+    put_u32(&mut text, worker)?;
+    Ok(text)
+}
+
+/// The text of a shard's frame: the same as that of the frame which holds these links, without a
+/// copy of them. The only error is want of memory.
+pub fn encode_shard<A: Allocator>(alloc: A, shard: &Shard) -> Result<Vec<u8, A>, AllocError>
+    requires number { shard.now.number < 4096 }
+    requires count { length shard.now.links.now ≤ 2 ^ 24 }
+    ensures { IfOk result (λ text. text.items ≡ text_of (ShardFrame shard.now.number shard.now.links.now)) }
+{
+    let count = shard.links.len() as u32;
+    let mut text = begin(alloc, 2, 8 + 12 * count)?;
+    put_u32(&mut text, shard.number)?;
+    put_u32(&mut text, count)?;
+    put_links(&mut text, shard.links)?;
+    Ok(text)
+}
+
+/// The text of the frame that asks for a shard's offers under these labels, without a copy of the
+/// labels. The only error is want of memory.
+pub fn encode_ask<A: Allocator, B: Allocator>(
+    alloc: A,
+    round: u32,
+    shard: u32,
+    labels: &Labels<B>,
+) -> Result<Vec<u8, A>, AllocError>
+    requires { shard < 4096 }
+    ensures { IfOk result (λ text. text.items ≡ text_of (AskFrame round shard labels.now)) }
+{
+    let count = labels.n();
+    let mut text = begin(alloc, 3, 12 + 4 * count)?;
+    put_u32(&mut text, round)?;
+    put_u32(&mut text, shard)?;
+    put_u32(&mut text, count)?;
+    put_numbers(&mut text, labels.as_slice())?;
+    Ok(text)
+}
+
+fn encode_answer<A: Allocator, B: Allocator>(
+    alloc: A,
+    answer: &Answer<B>,
+) -> Result<Vec<u8, A>, AllocError>
+    requires { length answer.now.offers ≤ 2 ^ 25 }
+    ensures { IfOk result (λ text. text.items ≡ text_of (AnswerFrame answer.now)) }
+{
+    let offers = answer.offers.pairs();
+    let count = offers.len() as u32;
+    let mut text = begin(alloc, 4, 12 + 8 * count)?;
+    put_u32(&mut text, answer.round)?;
+    put_u32(&mut text, answer.shard)?;
+    put_u32(&mut text, count)?;
+    put_offers(&mut text, offers)?;
+    Ok(text)
+}
+
+/// The text of a fault: the answer to an ask of this round and shard that can't be met. It takes
+/// no memory.
+#[tactic(auto, unfolding(crate::specs::FrameText::u32_text))]
+pub fn fault_bytes(round: u32, shard: u32, code: u8) -> [u8; 14]
+    ensures { result ≡ text_of (FaultFrame round shard code) }
+{
+    let [r0, r1, r2, r3] = round.to_be_bytes();
+    let [s0, s1, s2, s3] = shard.to_be_bytes();
+    [5, 0, 0, 0, 9, r0, r1, r2, r3, s0, s1, s2, s3, code]
+}
+
+// A text with room for the whole frame, and its head.
+fn begin<A: Allocator>(alloc: A, kind: u8, length: u32) -> Result<Vec<u8, A>, AllocError>
+    ensures { IfOk result (λ text. text.items ≡ kind ∷ u32_text length) }
+{
+    let mut text = Vec::with_capacity(alloc, 5 + length as usize)?;
+    text.push(kind)?;
+    put_u32(&mut text, length)?;
+    Ok(text)
+}

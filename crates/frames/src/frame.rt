@@ -1,0 +1,96 @@
+//! The values that frames carry.
+ghost use Rattle.std.specs.Prelude.{◌≡◌};
+
+use link_key::{Labels, Link, Offers};
+use std::alloc::{Allocator, Global};
+use std::marker::Model;
+
+/// The links of a shard's frame, which contracts see as a list: 12 bytes each, in any order, with repeats.
+#[derive(Drop)]
+pub struct Links<A: Allocator = Global> {
+    links: Vec<Link, A>,
+}
+
+impl<A: Allocator> Model for Links<A> {
+    ghost use Rattle.std.specs.Prelude.{List};
+    ghost use Rattle.link_key.specs.declared.links.Link.{Link};
+
+    ghost Value = { List Link };
+
+    ghost view = { λ s. s.links.items };
+}
+
+impl<A: Allocator> Links<A> {
+    /// The links of a list, in its order. It keeps the list's memory and takes none.
+    pub fn of_list(links: Vec<Link, A>) -> Self
+        ensures { result ≡ links.items }
+    {
+        Links { links }
+    }
+
+    /// The links, in order.
+    pub fn as_slice(&self) -> &[Link]
+        ensures { result.now ≡ self.now }
+    {
+        self.links.as_slice()
+    }
+
+    /// The list itself, without a copy.
+    pub fn into_list(self) -> Vec<Link, A>
+        ensures { result.items ≡ self }
+    {
+        let Links { links } = self;
+        links
+    }
+}
+
+/// What a worker answers to an ask: the round and the shard that it was asked for, and for each component
+/// that a link of the shard leaves the place of the least one.
+#[derive(Drop)]
+pub struct Answer<A: Allocator = Global> {
+    pub round: u32,
+    pub shard: u32,
+    pub offers: Offers<A>,
+}
+
+impl<A: Allocator> Model for Answer<A> {
+    ghost use Rattle.frames.specs.AnswerValue.{AnswerValue};
+
+    ghost Value = { AnswerValue };
+
+    ghost view = { λ s. record { round = s.round; shard = s.shard; offers = s.offers } };
+}
+
+/// A message between the coordinator and a worker. The fields may say anything that fits them;
+/// [`Frame::is_lawful`] tells the frames that have a text.
+#[derive(Drop)]
+pub enum Frame<A: Allocator = Global> {
+    /// The first message of a worker, by which it tells its number.
+    Hello {
+        version: u16,
+        worker: u32,
+    },
+
+    /// The links of a shard, for a worker to keep under its number.
+    Shard {
+        number: u32,
+        links: Links<A>,
+    },
+
+    /// Asks for the offers of a shard under the labels of all vertices.
+    Ask {
+        round: u32,
+        shard: u32,
+        labels: Labels<A>,
+    },
+
+    /// The offers of a shard.
+    Answer(Answer<A>),
+
+    /// An ask that can't be met: 1 for want of memory, 2 for a shard that isn't held, 3 for a link whose end has no label.
+    Fault {
+        round: u32,
+        shard: u32,
+        code: u8,
+    },
+}

@@ -1,0 +1,60 @@
+//! Heads: the kind of a frame and the length of its body.
+ghost use Rattle.std.specs.Prelude.{◌≡◌, ◌∷◌, ◌<◌, ◌↔◌, IsTrue, IfOk, IfErr};
+ghost use Rattle.frames.specs.FrameText.{u32_text};
+ghost use Rattle.frames.specs.Refusals.{IsWithItems, IsKind, IsPossible, HeadRefused, kind_at, length_at};
+
+use crate::fault::FrameFault;
+use crate::fields::split_u32;
+
+/// The first five bytes of a frame: its kind, and how many bytes its body has.
+#[derive(Clone, Copy, Debug, PartialEq, Eq)]
+pub struct Head {
+    pub kind: u8,
+    pub length: u32,
+}
+
+/// The head that the first five bytes of a frame say. `BadKind` where the kind isn't 1 to 5, else
+/// `BadLength` where no body of that kind has that length. It takes no memory.
+pub fn decode_head(bytes: &[u8; 5]) -> Result<Head, FrameFault>
+    ensures kind { IfOk result (λ head. head.kind ≡ kind_at bytes.now) }
+    ensures length { IfOk result (λ head. head.length ≡ length_at bytes.now) }
+    ensures text { IfOk result (λ head. bytes.now ≡ head.kind ∷ u32_text head.length) }
+    ensures possible { IfOk result (λ head. IsPossible head.kind head.length) }
+    ensures refused { IfErr result (λ fault. HeadRefused fault (kind_at bytes.now) (length_at bytes.now)) }
+{
+    let kind = bytes[0];
+    let (length, _) = split_u32(&bytes[1..]);
+    if kind == 0 || kind > 5 {
+        return Err(FrameFault::BadKind);
+    }
+    if !is_possible(kind, length) {
+        return Err(FrameFault::BadLength);
+    }
+    Ok(Head { kind, length })
+}
+
+// Whether a body of this kind may have this length.
+fn is_possible(kind: u8, length: u32) -> bool
+    requires { IsKind kind }
+    ensures { IsTrue result ↔ IsPossible kind length }
+{
+    match kind {
+        1 => length == 6,
+        2 => is_with_items(8, 12, 1 << 24, length),
+        3 => is_with_items(12, 4, 1 << 26, length),
+        4 => is_with_items(12, 8, 1 << 25, length),
+        _ => length == 9,
+    }
+}
+
+// Whether the length is that of `fixed` bytes and at most `most` items of `item` bytes each.
+fn is_with_items(fixed: u32, item: u32, most: u32, length: u32) -> bool
+    requires { 0 < item }
+    ensures { IsTrue result ↔ IsWithItems fixed item most length }
+{
+    if length < fixed {
+        return false;
+    }
+    let items = length - fixed;
+    items % item == 0 && items / item <= most
+}

@@ -1,0 +1,154 @@
+//! Lists in bodies: texts of one length, one behind the other.
+ghost use Rattle.std.specs.Prelude.{◌≡◌, ◌++◌, ◌≤◌, ◌%◌, length, map, All, FitsSigned, OnOk, IfOk, IfErr, IfSome, IfNone};
+ghost use Rattle.std.specs.Int.{w32, from_be_bytes};
+ghost use Rattle.std.specs.List.{flat_map};
+ghost use Rattle.frames.specs.FrameText.{u32_text, link_text, offer_text};
+ghost use Rattle.frames.specs.Lawful.{IsU32};
+ghost use Rattle.frames.specs.Refusals.{IsNoLink, LinksRefused};
+
+use crate::fault::FrameFault;
+use crate::fields::{put_u32, split_u32};
+use link_key::Link;
+use std::alloc::{AllocError, Allocator};
+
+// How many numbers are turned into bytes at a time, on the stack.
+const PIECE: usize = 1024;
+
+// Writes numbers at the end.
+pub(crate) fn put_numbers<A: Allocator>(
+    text: &mut Vec<u8, A>,
+    numbers: &[u32],
+) -> Result<(), AllocError>
+    ensures { OnOk result (text.new.items ≡ text.old.items ++ flat_map u32_text numbers.now) }
+{
+    let mut rest = numbers;
+    while !rest.is_empty() {
+        let (piece, behind) = rest.split_at(rest.len().min(PIECE));
+        put_piece(text, piece)?;
+        rest = behind;
+    }
+    Ok(())
+}
+
+// Writes the numbers of one piece at the end.
+fn put_piece<A: Allocator>(text: &mut Vec<u8, A>, piece: &[u32]) -> Result<(), AllocError>
+    requires { length piece.now ≤ PIECE }
+    ensures { OnOk result (text.new.items ≡ text.old.items ++ flat_map u32_text piece.now) }
+{
+    let mut cells = [[0; 4]; PIECE];
+    for i in 0..piece.len() {
+        cells[i] = piece[i].to_be_bytes();
+    }
+    text.extend_from_slice(cells[..piece.len()].as_flattened())
+}
+
+// Writes links at the end.
+pub(crate) fn put_links<A: Allocator>(
+    text: &mut Vec<u8, A>,
+    links: &[Link],
+) -> Result<(), AllocError>
+    ensures { OnOk result (text.new.items ≡ text.old.items ++ flat_map link_text links.now) }
+{
+    for link in links {
+        put_link(text, link)?;
+    }
+    Ok(())
+}
+
+fn put_link<A: Allocator>(text: &mut Vec<u8, A>, link: &Link) -> Result<(), AllocError>
+    ensures { OnOk result (text.new.items ≡ text.old.items ++ link_text link.now) }
+{
+    put_u32(text, link.low)?;
+    put_u32(text, link.high)?;
+    put_u32(text, link.weight.cast_unsigned())
+}
+
+// Writes offers at the end.
+pub(crate) fn put_offers<A: Allocator>(
+    text: &mut Vec<u8, A>,
+    offers: &[(u32, u32)],
+) -> Result<(), AllocError>
+    ensures { OnOk result (text.new.items ≡ text.old.items ++ flat_map offer_text offers.now) }
+{
+    for &(component, place) in offers {
+        put_u32(text, component)?;
+        put_u32(text, place)?;
+    }
+    Ok(())
+}
+
+// The numbers whose bytes these are.
+pub(crate) fn numbers_of<A: Allocator>(alloc: A, bytes: &[u8]) -> Result<Vec<u32, A>, AllocError>
+    requires { length bytes.now % 4 ≡ 0 }
+    ensures spelled { IfOk result (λ numbers. flat_map u32_text numbers.items ≡ bytes.now) }
+    ensures fit { IfOk result (λ numbers. All IsU32 numbers.items) }
+{
+    let (cells, _) = bytes.as_chunks::<4>();
+    let numbers = numbers_in(alloc, cells)?;
+    Ok(numbers)
+}
+
+fn numbers_in<A: Allocator>(alloc: A, cells: &[[u8; 4]]) -> Result<Vec<u32, A>, AllocError>
+    ensures { IfOk result (λ numbers. numbers.items ≡ map (from_be_bytes w32) cells.now) }
+{
+    cells
+        .iter()
+        .map(|cell| u32::from_be_bytes(*cell))
+        .collect(alloc)
+}
+
+// The offers whose bytes these are.
+pub(crate) fn offers_of<A: Allocator>(
+    alloc: A,
+    bytes: &[u8],
+) -> Result<Vec<(u32, u32), A>, AllocError>
+    requires { length bytes.now % 8 ≡ 0 }
+    ensures spelled { IfOk result (λ offers. flat_map offer_text offers.items ≡ bytes.now) }
+    ensures fit { IfOk result (λ offers. All (λ o. IsU32 o.0 × IsU32 o.1) offers.items) }
+{
+    let mut offers = Vec::with_capacity(alloc, bytes.len() / 8)?;
+    let mut rest = bytes;
+    while !rest.is_empty() {
+        let (component, behind) = split_u32(rest);
+        let (place, behind) = split_u32(behind);
+        offers.push((component, place))?;
+        rest = behind;
+    }
+    Ok(offers)
+}
+
+// The links whose bytes these are; `BadField` where they are no links.
+pub(crate) fn links_of<A: Allocator>(alloc: A, bytes: &[u8]) -> Result<Vec<Link, A>, FrameFault>
+    requires { length bytes.now % 12 ≡ 0 }
+    ensures spelled { IfOk result (λ links. flat_map link_text links.items ≡ bytes.now) }
+    ensures fit { IfOk result (λ links. All (λ l. FitsSigned w32 l.weight) links.items) }
+    ensures refused { IfErr result (λ fault. LinksRefused fault bytes.now) }
+{
+    let mut links = Vec::with_capacity(alloc, bytes.len() / 12)?;
+    let mut rest = bytes;
+    while !rest.is_empty() {
+        let (front, behind) = rest.split_at(12);
+        match link_of(front) {
+            Some(link) => links.push(link)?,
+            None => return Err(FrameFault::BadField),
+        }
+        rest = behind;
+    }
+    Ok(links)
+}
+
+// The link whose bytes these are.
+fn link_of(bytes: &[u8]) -> Option<Link>
+    requires { length bytes.now ≡ 12 }
+    ensures found { IfSome result (λ link. link_text link ≡ bytes.now) }
+    ensures none { IfNone result (IsNoLink bytes.now) }
+{
+    let (low, rest) = split_u32(bytes);
+    let (high, rest) = split_u32(rest);
+    let (bits, _) = split_u32(rest);
+    if low == 0 || low >= high || high > 1 << 26 {
+        return None;
+    }
+    let weight = bits.cast_signed();
+    Some(Link { weight, low, high })
+}

@@ -1,0 +1,90 @@
+//! Whether a frame is lawful.
+ghost use Rattle.std.specs.Prelude.{◌↔◌, All, FitsSigned, IsTrue};
+ghost use Rattle.std.specs.Int.{w32};
+ghost use Rattle.frames.specs.FrameValue.{value_of};
+ghost use Rattle.frames.specs.Lawful.{IsU32, IsLawful, IsShard, IsAsk, IsAnswer, IsFault};
+
+use crate::frame::Frame;
+use link_key::{Labels, Link, Offers};
+use std::alloc::Allocator;
+
+impl<A: Allocator> Frame<A> {
+    /// Whether the frame says what a frame may say, so that it has a text.
+    ///
+    /// A hello is of version 1 and of a worker below 64; a shard's number is below 4,096, with at most
+    /// 2^24 links; an ask is for a shard below 4,096; an answer has at most 2^25 offers; a fault's code is
+    /// 1, 2 or 3. It takes no memory and looks at no list.
+    pub fn is_lawful(&self) -> bool
+        ensures { IsTrue result ↔ IsLawful (value_of self.now) }
+    {
+        match self {
+            Frame::Hello { version, worker } => *version == 1 && *worker < 64,
+            Frame::Shard { number, links } => is_shard(*number, links.as_slice()),
+            Frame::Ask {
+                round,
+                shard,
+                labels,
+            } => is_ask(*round, *shard, labels),
+            Frame::Answer(answer) => is_answer(answer.round, answer.shard, &answer.offers),
+            Frame::Fault { round, shard, code } => is_fault(*round, *shard, *code),
+        }
+    }
+}
+
+fn is_shard(number: u32, links: &[Link]) -> bool
+    ensures { IsTrue result ↔ IsShard number links.now }
+{
+    see_weights(links);
+    number < 4096 && links.len() <= 1 << 24
+}
+
+fn is_ask<A: Allocator>(round: u32, shard: u32, labels: &Labels<A>) -> bool
+    ensures { IsTrue result ↔ IsAsk round shard labels.now }
+{
+    let _labels = labels.as_slice();
+    shard < 4096
+}
+
+fn is_answer<A: Allocator>(round: u32, shard: u32, offers: &Offers<A>) -> bool
+    ensures { IsTrue result ↔ IsAnswer (record { round = round; shard = shard; offers = offers.now }) }
+{
+    let offers = offers.pairs();
+    see_offers(offers);
+    offers.len() <= 1 << 25
+}
+
+fn is_fault(round: u32, shard: u32, code: u8) -> bool
+    ensures { IsTrue result ↔ IsFault round shard code }
+{
+    1 <= code && code <= 3
+}
+
+// A proof knows that a number fits its type only where the code reads it. The compiler drops the loop.
+fn see_weights(links: &[Link])
+    ensures { All (λ l. FitsSigned w32 l.weight) links.now }
+{
+    for link in links {
+        see_weight(link.weight);
+    }
+}
+
+fn see_weight(weight: i32)
+    ensures { FitsSigned w32 weight }
+{
+    let _seen = weight;
+}
+
+// The same of offers.
+fn see_offers(offers: &[(u32, u32)])
+    ensures { All (λ o. IsU32 o.0 × IsU32 o.1) offers.now }
+{
+    for offer in offers {
+        see_offer(*offer);
+    }
+}
+
+fn see_offer(offer: (u32, u32))
+    ensures { IsU32 offer.0 × IsU32 offer.1 }
+{
+    let _seen = offer;
+}

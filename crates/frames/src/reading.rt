@@ -1,0 +1,132 @@
+//! Frames from a stream of bytes.
+ghost use Rattle.std.specs.Prelude.{◌≡◌, ℕ, List, ◌+◌, ◌<◌, ◌≤◌, ◌^◌, ◌++◌, length, IfOk, IfErr, IfSome, OnOk, vec_len};
+ghost use Rattle.std.specs.Io.KnownBytes.{Consumes};
+ghost use Rattle.byte_streams.specs.Counts.{Rises, Stands};
+ghost use Rattle.frames.specs.FrameValue.{value_of};
+ghost use Rattle.frames.specs.FrameText.{text_of};
+ghost use Rattle.frames.specs.Lawful.{IsLawful};
+ghost use Rattle.frames.specs.Refusals.{StreamRefused};
+ghost use Rattle.frames.specs.ReadFault.{WhereFailed, WhereEnded, HeadStopped, BodyStopped};
+
+use crate::decoding::decode_body;
+use crate::fault::FrameFault;
+use crate::frame::Frame;
+use crate::head::decode_head;
+use byte_streams::{FillFault, Source, fill};
+use std::alloc::Allocator;
+
+// How many bytes a body grows by at most, once those before them have come.
+const PIECE: usize = 65_536;
+
+/// The next frame of a stream.
+///
+/// `Ended` where the stream ended before the frame's first byte, `Torn` where it ended inside the
+/// frame, `Device` where a read failed; else the fault of the head or of the body. After a fault
+/// nothing is said of how much of the stream was taken.
+///
+/// The body grows by pieces of at most 65,536 bytes as they come, so a head that announces more than
+/// the stream has costs no more than about twice what came. `Memory` where such a growth was refused, or
+/// that of the list made of the body.
+pub fn read_frame<A: Allocator + Copy, S: Source>(
+    alloc: A,
+    source: &mut S,
+) -> Result<Frame<A>, FrameFault>
+    requires { S.can_read source.old }
+
+    // The text of the frame was taken, and nothing else.
+    ensures lawful { IfOk result (λ f. IsLawful (value_of f)) }
+    ensures text { IfOk result (λ f. Consumes (S.remaining source.old) (S.remaining source.new) (text_of (value_of f))) }
+
+    // Which fault it is, where the stream's bytes are known.
+    ensures refused { IfErr result (λ fault. IfSome (S.remaining source.old) (StreamRefused fault)) }
+
+    // A failure and an end are told apart, and each is counted once.
+    ensures failures { WhereFailed result
+        (Rises (S.failures source.old) (S.failures source.new))
+        (Stands (S.failures source.old) (S.failures source.new)) }
+    ensures ends { WhereEnded result
+        (Rises (S.ends source.old) (S.ends source.new))
+        (Stands (S.ends source.old) (S.ends source.new)) }
+
+    ensures again { OnOk result (S.can_read source.new) }
+{
+    let bytes = read_head(source)?;
+    let head = decode_head(&bytes)?;
+    let body = read_body(alloc, source, head.length)?;
+    decode_body(alloc, head, body.as_slice())
+}
+
+fn read_head<S: Source>(source: &mut S) -> Result<[u8; 5], FrameFault>
+    requires { S.can_read source.old }
+    ensures came { IfOk result (λ bytes. Consumes (S.remaining source.old) (S.remaining source.new) bytes) }
+    ensures stopped { IfErr result (λ fault. HeadStopped fault (S.remaining source.old)) }
+    ensures failures { WhereFailed result
+        (Rises (S.failures source.old) (S.failures source.new))
+        (Stands (S.failures source.old) (S.failures source.new)) }
+    ensures ends { WhereEnded result
+        (Rises (S.ends source.old) (S.ends source.new))
+        (Stands (S.ends source.old) (S.ends source.new)) }
+    ensures again { OnOk result (S.can_read source.new) }
+{
+    let mut bytes = [0; 5];
+    match fill(source, &mut bytes) {
+        Ok(()) => Ok(bytes),
+        Err(FillFault::Failed(_)) => Err(FrameFault::Device),
+        Err(FillFault::Ended(0)) => Err(FrameFault::Ended),
+        Err(FillFault::Ended(_)) => Err(FrameFault::Torn),
+    }
+}
+
+// The next `len` bytes.
+fn read_body<A: Allocator, S: Source>(
+    alloc: A,
+    source: &mut S,
+    len: u32,
+) -> Result<Vec<u8, A>, FrameFault>
+    requires { S.can_read source.old }
+    ensures len { IfOk result (λ body. length body.items ≡ len) }
+    ensures came { IfOk result (λ body. Consumes (S.remaining source.old) (S.remaining source.new) body.items) }
+    ensures stopped { IfErr result (λ fault. BodyStopped fault (S.remaining source.old) len) }
+    ensures failures { WhereFailed result
+        (Rises (S.failures source.old) (S.failures source.new))
+        (Stands (S.failures source.old) (S.failures source.new)) }
+    ensures ends { WhereEnded result
+        (Rises (S.ends source.old) (S.ends source.new))
+        (Stands (S.ends source.old) (S.ends source.new)) }
+    ensures again { OnOk result (S.can_read source.new) }
+{
+    let mut body = Vec::new(alloc);
+    while body.len() < len as usize {
+        let count = (len as usize - body.len()).min(PIECE);
+        read_more(&mut body, source, count)?;
+    }
+    Ok(body)
+}
+
+// The next `count` bytes, behind those that came before.
+fn read_more<A: Allocator, S: Source>(
+    body: &mut Vec<u8, A>,
+    source: &mut S,
+    count: usize,
+) -> Result<(), FrameFault>
+    requires can { S.can_read source.old }
+    requires fits { vec_len body.old + count < 2 ^ 32 }
+    ensures came { OnOk result ((piece : List ℕ) × (length piece ≡ count) × (body.new.items ≡ body.old.items ++ piece)
+        × Consumes (S.remaining source.old) (S.remaining source.new) piece) }
+    ensures stopped { IfErr result (λ fault. BodyStopped fault (S.remaining source.old) count) }
+    ensures failures { WhereFailed result
+        (Rises (S.failures source.old) (S.failures source.new))
+        (Stands (S.failures source.old) (S.failures source.new)) }
+    ensures ends { WhereEnded result
+        (Rises (S.ends source.old) (S.ends source.new))
+        (Stands (S.ends source.old) (S.ends source.new)) }
+    ensures again { OnOk result (S.can_read source.new) }
+{
+    let start = body.len();
+    body.resize(start + count, 0)?;
+    match fill(source, &mut body[start..]) {
+        Ok(()) => Ok(()),
+        Err(FillFault::Failed(_)) => Err(FrameFault::Device),
+        Err(FillFault::Ended(_)) => Err(FrameFault::Torn),
+    }
+}

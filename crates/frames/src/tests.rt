@@ -1,0 +1,257 @@
+use crate::{
+    Answer, Frame, FrameFault, Head, Links, decode_body, decode_head, encode, encode_ask,
+    encode_shard, fault_bytes, read_frame,
+};
+use byte_streams::FusedSource;
+use link_key::{Labels, Link, Offers, Shard};
+use std::alloc::{AllocError, Global};
+use std::process::Abort;
+use std::test::Fail;
+
+const HELLO: [u8; 11] = [1, 0, 0, 0, 6, 0, 1, 0, 0, 0, 0];
+
+const SHARD: [u8; 49] = [
+    2, 0, 0, 0, 44, 0, 0, 0, 0, 0, 0, 0, 3, 0, 0, 0, 1, 0, 0, 0, 2, 0, 0, 0, 5, 0, 0, 0, 2, 0, 0,
+    0, 3, 0, 0, 0, 5, 0, 0, 0, 1, 0, 0, 0, 3, 0, 0, 0, 5,
+];
+
+const ASK: [u8; 29] = [
+    3, 0, 0, 0, 24, 0, 0, 0, 1, 0, 0, 0, 0, 0, 0, 0, 3, 0, 0, 0, 1, 0, 0, 0, 2, 0, 0, 0, 3,
+];
+
+const ANSWER: [u8; 41] = [
+    4, 0, 0, 0, 36, 0, 0, 0, 1, 0, 0, 0, 0, 0, 0, 0, 3, 0, 0, 0, 1, 0, 0, 0, 0, 0, 0, 0, 2, 0, 0,
+    0, 0, 0, 0, 0, 3, 0, 0, 0, 2,
+];
+
+const FAULT: [u8; 14] = [5, 0, 0, 0, 9, 0, 0, 0, 1, 0, 0, 0, 5, 2];
+
+// The links of a triangle whose edges weigh 5.
+fn triangle(alloc: Global) -> Result<Vec<Link>, AllocError> {
+    let mut links = Vec::new(alloc);
+    for (low, high) in [(1, 2), (2, 3), (1, 3)] {
+        if let Some(link) = Link::of_arc(low, high, 5) {
+            links.push(link)?;
+        }
+    }
+    Ok(links)
+}
+
+fn expect_fault(rt: &impl Abort, alloc: Global, bytes: &[u8], expected: FrameFault) {
+    let mut source = bytes;
+    match read_frame(alloc, &mut source) {
+        Ok(_) => assert!(rt; false),
+        Err(fault) => assert_eq!(rt; fault, expected),
+    }
+}
+
+// The frame's text is these bytes, and it is what they are read as, and no more is taken.
+fn expect_text(rt: &impl Abort, alloc: Global, frame: &Frame, bytes: &[u8]) -> Result<(), Fail> {
+    assert!(rt; frame.is_lawful());
+    assert_eq!(rt; encode(alloc, frame)?.as_slice(), bytes);
+    let mut text = Vec::from_slice(alloc, bytes)?;
+    text.push(77)?;
+    let mut source = text.as_slice();
+    let again = read_frame(alloc, &mut source)?;
+    assert!(rt; again.is_lawful());
+    assert_eq!(rt; encode(alloc, &again)?.as_slice(), bytes);
+    assert_eq!(rt; source, [77].as_slice());
+    Ok(())
+}
+
+#[test]
+fn hello_of_worker_0(rt: HostRuntime) -> Result<(), Fail> {
+    let frame = Frame::Hello {
+        version: 1,
+        worker: 0,
+    };
+    expect_text(&rt, rt.alloc(), &frame, &HELLO)?;
+    match read_frame(rt.alloc(), &mut HELLO.as_slice())? {
+        Frame::Hello { version, worker } => assert_eq!(rt; (version, worker), (1, 0)),
+        _ => assert!(rt; false),
+    }
+    Ok(())
+}
+
+#[test]
+fn shard_of_a_triangle(rt: HostRuntime) -> Result<(), Fail> {
+    let links = triangle(rt.alloc())?;
+    let shard = Shard {
+        number: 0,
+        links: links.as_slice(),
+    };
+    assert!(rt; shard.links.len() == 3);
+    assert_eq!(rt;
+        encode_shard(rt.alloc(), &shard)?.as_slice(),
+        SHARD.as_slice()
+    );
+    match read_frame(rt.alloc(), &mut SHARD.as_slice())? {
+        Frame::Shard {
+            number,
+            links: read,
+        } => {
+            assert_eq!(rt; number, 0);
+            assert_eq!(rt; read.as_slice(), links.as_slice());
+            assert_eq!(rt; read.into_list().len(), 3);
+        }
+        _ => assert!(rt; false),
+    }
+    let frame = Frame::Shard {
+        number: 0,
+        links: Links::of_list(links),
+    };
+    expect_text(&rt, rt.alloc(), &frame, &SHARD)
+}
+
+#[test]
+fn ask_with_each_vertex_apart(rt: HostRuntime) -> Result<(), Fail> {
+    let labels = Labels::apart(rt.alloc(), 3)?;
+    assert_eq!(rt;
+        encode_ask(rt.alloc(), 1, 0, &labels)?.as_slice(),
+        ASK.as_slice()
+    );
+    let frame = Frame::Ask {
+        round: 1,
+        shard: 0,
+        labels,
+    };
+    expect_text(&rt, rt.alloc(), &frame, &ASK)?;
+    match read_frame(rt.alloc(), &mut ASK.as_slice())? {
+        Frame::Ask {
+            round,
+            shard,
+            labels,
+        } => {
+            assert_eq!(rt; (round, shard), (1, 0));
+            assert_eq!(rt; labels.as_slice(), [1, 2, 3].as_slice());
+        }
+        _ => assert!(rt; false),
+    }
+    Ok(())
+}
+
+#[test]
+fn answer_of_three_offers(rt: HostRuntime) -> Result<(), Fail> {
+    let pairs = [(1, 0), (2, 0), (3, 2)];
+    let offers = Offers::of_pairs(pairs.to_vec(rt.alloc())?).expect(&rt, "ascending");
+    let frame = Frame::Answer(Answer {
+        round: 1,
+        shard: 0,
+        offers,
+    });
+    expect_text(&rt, rt.alloc(), &frame, &ANSWER)?;
+    match read_frame(rt.alloc(), &mut ANSWER.as_slice())? {
+        Frame::Answer(answer) => {
+            assert_eq!(rt; (answer.round, answer.shard), (1, 0));
+            assert_eq!(rt; answer.offers.pairs(), pairs.as_slice());
+        }
+        _ => assert!(rt; false),
+    }
+    Ok(())
+}
+
+#[test]
+fn fault_for_a_shard_not_held(rt: HostRuntime) -> Result<(), Fail> {
+    assert_eq!(rt; fault_bytes(1, 5, 2).as_slice(), FAULT.as_slice());
+    let frame = Frame::Fault {
+        round: 1,
+        shard: 5,
+        code: 2,
+    };
+    expect_text(&rt, rt.alloc(), &frame, &FAULT)
+}
+
+#[test]
+fn lists_that_are_not_lawful(rt: HostRuntime) {
+    let descending = [
+        4, 0, 0, 0, 28, 0, 0, 0, 1, 0, 0, 0, 0, 0, 0, 0, 2, 0, 0, 0, 2, 0, 0, 0, 0, 0, 0, 0, 1, 0,
+        0, 0, 0,
+    ];
+    expect_fault(&rt, rt.alloc(), &descending, FrameFault::BadField);
+    let mut label_of_another = ASK;
+    label_of_another[24] = 1;
+    label_of_another[28] = 2;
+    expect_fault(&rt, rt.alloc(), &label_of_another, FrameFault::BadField);
+}
+
+#[test]
+fn streams_that_end(rt: HostRuntime) {
+    expect_fault(&rt, rt.alloc(), &ANSWER[..40], FrameFault::Torn);
+    expect_fault(&rt, rt.alloc(), &ANSWER[..3], FrameFault::Torn);
+    expect_fault(&rt, rt.alloc(), &[], FrameFault::Ended);
+    expect_fault(&rt, rt.alloc(), &[3, 16, 0, 0, 12], FrameFault::Torn);
+}
+
+#[test]
+fn heads_that_are_refused(rt: HostRuntime) {
+    expect_fault(&rt, rt.alloc(), &[6, 0, 0, 0, 0], FrameFault::BadKind);
+    expect_fault(&rt, rt.alloc(), &[1, 0, 0, 0, 7], FrameFault::BadLength);
+    expect_fault(&rt, rt.alloc(), &[4, 0, 0, 0, 13], FrameFault::BadLength);
+}
+
+#[test]
+fn fields_that_are_refused(rt: HostRuntime) {
+    let mut version_2 = HELLO;
+    version_2[6] = 2;
+    expect_fault(&rt, rt.alloc(), &version_2, FrameFault::BadVersion);
+    let mut worker_64 = HELLO;
+    worker_64[10] = 64;
+    expect_fault(&rt, rt.alloc(), &worker_64, FrameFault::BadField);
+    let mut code_4 = FAULT;
+    code_4[13] = 4;
+    expect_fault(&rt, rt.alloc(), &code_4, FrameFault::BadField);
+}
+
+#[test]
+fn lengths_of_heads(rt: HostRuntime) {
+    let links = Head {
+        kind: 2,
+        length: 0x0c00_0008,
+    };
+    assert_eq!(rt; decode_head(&[2, 12, 0, 0, 8]), Ok(links));
+    assert_eq!(rt; decode_head(&[2, 12, 0, 0, 20]), Err(FrameFault::BadLength));
+    let labels = Head {
+        kind: 3,
+        length: 0x1000_000c,
+    };
+    assert_eq!(rt; decode_head(&[3, 16, 0, 0, 12]), Ok(labels));
+    assert_eq!(rt; decode_head(&[3, 16, 0, 0, 16]), Err(FrameFault::BadLength));
+    let offers = Head {
+        kind: 4,
+        length: 0x1000_000c,
+    };
+    assert_eq!(rt; decode_head(&[4, 16, 0, 0, 12]), Ok(offers));
+    assert_eq!(rt; decode_head(&[4, 16, 0, 0, 20]), Err(FrameFault::BadLength));
+    assert_eq!(rt; decode_head(&[5, 0, 0, 0, 8]), Err(FrameFault::BadLength));
+    assert_eq!(rt; decode_head(&[0, 0, 0, 0, 9]), Err(FrameFault::BadKind));
+}
+
+#[test]
+fn body_of_a_fault(rt: HostRuntime) -> Result<(), Fail> {
+    let bytes = [5, 0, 0, 0, 9];
+    let head = decode_head(&bytes)?;
+    let body = &FAULT[5..];
+    assert_eq!(rt; head.length, 9);
+    assert!(rt; body.len() == 9);
+    match decode_body(rt.alloc(), head, body)? {
+        Frame::Fault { round, shard, code } => assert_eq!(rt; (round, shard, code), (1, 5, 2)),
+        _ => assert!(rt; false),
+    }
+    Ok(())
+}
+
+// A read that fails is told at each place where it comes.
+#[test]
+fn reads_that_fail(rt: HostRuntime) -> Result<(), Fail> {
+    for passes in 0..29 {
+        let bytes = Vec::from_slice(rt.alloc(), &ASK)?;
+        let mut source = FusedSource::new(bytes, passes, 4);
+        match read_frame(rt.alloc(), &mut source) {
+            Ok(_) => assert!(rt; false),
+            Err(fault) => assert_eq!(rt; fault, FrameFault::Device),
+        }
+    }
+    let mut source = FusedSource::new(Vec::from_slice(rt.alloc(), &ASK)?, 29, 4);
+    assert!(rt; read_frame(rt.alloc(), &mut source)?.is_lawful());
+    Ok(())
+}
