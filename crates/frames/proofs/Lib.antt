@@ -5,3 +5,4 @@ pub mod Written
 pub mod Decoded
 pub mod Listed
 pub mod Streams
+pub mod NeverRefused

@@ -105,7 +105,7 @@ body_stopped (Some stream) b fault kind len bytes wide possible came head stoppe
     stopped_fault fault kind len stream rest wide possible (split ∙ ap (λ (t : List ℕ). t ++ rest) head) (subst (λ (o : Option (List ℕ)). BodyStopped fault o len) left stopped)
 
 -- a stream with a head and a body
-whole_body : (kind len : ℕ) (stream body rest : List ℕ) → IsU32 len → IsPossible kind len → length body ≡ len → stream ≡ (kind ∷ u32_text len) ++ (body ++ rest)
+pub whole_body : (kind len : ℕ) (stream body rest : List ℕ) → IsU32 len → IsPossible kind len → length body ≡ len → stream ≡ (kind ∷ u32_text len) ++ (body ++ rest)
     → HasBody stream × (kind_at stream ≡ kind) × (body_at stream ≡ body)
 whole_body kind len stream body rest wide possible count is =
     let count-is : length_at stream ≡ len = ap length_at is ∙ length_is kind len (body ++ rest) wide in

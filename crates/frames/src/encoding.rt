@@ -60,7 +60,8 @@ fn encode_hello<A: Allocator>(alloc: A, version: u16, worker: u32) -> Result<Vec
 pub fn encode_shard<A: Allocator>(alloc: A, shard: &Shard) -> Result<Vec<u8, A>, AllocError>
     requires number { shard.now.number < 4096 }
     requires count { length shard.now.links.now ≤ 2 ^ 24 }
-    ensures { IfOk result (λ text. text.items ≡ text_of (ShardFrame shard.now.number shard.now.links.now)) }
+    ensures { IfOk result
+        (λ text. text.items ≡ text_of (ShardFrame shard.now.number shard.now.links.now)) }
 {
     let count = shard.links.len() as u32;
     let mut text = begin(alloc, 2, 8 + 12 * count)?;

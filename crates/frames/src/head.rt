@@ -20,7 +20,8 @@ pub fn decode_head(bytes: &[u8; 5]) -> Result<Head, FrameFault>
     ensures length { IfOk result (λ head. head.length ≡ length_at bytes.now) }
     ensures text { IfOk result (λ head. bytes.now ≡ head.kind ∷ u32_text head.length) }
     ensures possible { IfOk result (λ head. IsPossible head.kind head.length) }
-    ensures refused { IfErr result (λ fault. HeadRefused fault (kind_at bytes.now) (length_at bytes.now)) }
+    ensures refused { IfErr result
+        (λ fault. HeadRefused fault (kind_at bytes.now) (length_at bytes.now)) }
 {
     let kind = bytes[0];
     let (length, _) = split_u32(&bytes[1..]);

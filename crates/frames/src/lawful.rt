@@ -46,7 +46,8 @@ fn is_ask<A: Allocator>(round: u32, shard: u32, labels: &Labels<A>) -> bool
 }
 
 fn is_answer<A: Allocator>(round: u32, shard: u32, offers: &Offers<A>) -> bool
-    ensures { IsTrue result ↔ IsAnswer (record { round = round; shard = shard; offers = offers.now }) }
+    ensures { IsTrue result
+        ↔ IsAnswer (record { round = round; shard = shard; offers = offers.now }) }
 {
     let offers = offers.pairs();
     see_offers(offers);

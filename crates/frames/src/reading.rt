@@ -35,7 +35,8 @@ pub fn read_frame<A: Allocator + Copy, S: Source>(
 
     // The text of the frame was taken, and nothing else.
     ensures lawful { IfOk result (λ f. IsLawful (value_of f)) }
-    ensures text { IfOk result (λ f. Consumes (S.remaining source.old) (S.remaining source.new) (text_of (value_of f))) }
+    ensures text { IfOk result
+        (λ f. Consumes (S.remaining source.old) (S.remaining source.new) (text_of (value_of f))) }
 
     // Which fault it is, where the stream's bytes are known.
     ensures refused { IfErr result (λ fault. IfSome (S.remaining source.old) (StreamRefused fault)) }
@@ -58,7 +59,8 @@ pub fn read_frame<A: Allocator + Copy, S: Source>(
 
 fn read_head<S: Source>(source: &mut S) -> Result<[u8; 5], FrameFault>
     requires { S.can_read source.old }
-    ensures came { IfOk result (λ bytes. Consumes (S.remaining source.old) (S.remaining source.new) bytes) }
+    ensures came { IfOk result
+        (λ bytes. Consumes (S.remaining source.old) (S.remaining source.new) bytes) }
     ensures stopped { IfErr result (λ fault. HeadStopped fault (S.remaining source.old)) }
     ensures failures { WhereFailed result
         (Rises (S.failures source.old) (S.failures source.new))
@@ -85,7 +87,8 @@ fn read_body<A: Allocator, S: Source>(
 ) -> Result<Vec<u8, A>, FrameFault>
     requires { S.can_read source.old }
     ensures len { IfOk result (λ body. length body.items ≡ len) }
-    ensures came { IfOk result (λ body. Consumes (S.remaining source.old) (S.remaining source.new) body.items) }
+    ensures came { IfOk result
+        (λ body. Consumes (S.remaining source.old) (S.remaining source.new) body.items) }
     ensures stopped { IfErr result (λ fault. BodyStopped fault (S.remaining source.old) len) }
     ensures failures { WhereFailed result
         (Rises (S.failures source.old) (S.failures source.new))
@@ -111,7 +114,8 @@ fn read_more<A: Allocator, S: Source>(
 ) -> Result<(), FrameFault>
     requires can { S.can_read source.old }
     requires fits { vec_len body.old + count < 2 ^ 32 }
-    ensures came { OnOk result ((piece : List ℕ) × (length piece ≡ count) × (body.new.items ≡ body.old.items ++ piece)
+    ensures came { OnOk result ((piece : List ℕ) × (length piece ≡ count)
+        × (body.new.items ≡ body.old.items ++ piece)
         × Consumes (S.remaining source.old) (S.remaining source.new) piece) }
     ensures stopped { IfErr result (λ fault. BodyStopped fault (S.remaining source.old) count) }
     ensures failures { WhereFailed result
