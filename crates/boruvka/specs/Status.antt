@@ -1,6 +1,6 @@
 -- How the program ends.
-use Rattle.std.specs.Prelude.{◌≡◌, ℕ, ◌≤◌, ◌⊎◌, List, Option}
-use Rattle.std.specs.Io.KnownBytes.{Appends, Keeps}
+use Rattle.std.specs.Prelude.{◌≡◌, ℕ, ◌⊎◌, List, Option}
+use Rattle.std.specs.Io.KnownBytes.{Appends}
 use Rattle.byte_streams.specs.Sink.{WentOut}
 use Rattle.gr_text.specs.ForestText.{forest_text}
 use Rattle.gr_text.specs.declared.faults.ReadFault.TheVariants as read
