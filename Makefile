@@ -1,12 +1,13 @@
 # `make run`      proves and builds the program, and runs it on examples/small.gr
 # `make test`     the gate: all proofs from nothing, the wrong bodies, the tests, the programs
 # `make install`  puts the proved program into $(PREFIX)/bin
+# `make bench`    times it beside a C++ program; needs Python 3, a C++17 compiler and GNU time
 
 PREFIX ?= /usr/local
 PROGRAM := crates/boruvka/out/boruvka
 SOURCES := $(shell find crates -path '*/out' -prune -o -type f \( -name '*.rt' -o -name '*.antt' \) -print) crates.txt
 
-.PHONY: run test install
+.PHONY: run test install bench
 
 run: $(PROGRAM)
 	@$(PROGRAM) --plain examples/small.gr
@@ -17,6 +18,9 @@ test:
 install: $(PROGRAM)
 	install -d $(DESTDIR)$(PREFIX)/bin
 	install -m 755 $(PROGRAM) $(DESTDIR)$(PREFIX)/bin/boruvka
+
+bench: $(PROGRAM)
+	python3 benches/run.py $(PROGRAM)
 
 # `rt run` proves, builds and runs; what it built stays in out/.
 $(PROGRAM): $(SOURCES)

@@ -16,9 +16,8 @@ use std::alloc::Allocator;
 /// Reads a graph of at most 2^40 bytes, finds its minimum spanning forest by one thread, and writes the
 /// forest's text.
 ///
-/// The forest is whole before the first byte is written. For m links, n vertices and k links in the
-/// forest it takes O(m log m + n k) time, and memory for two lists of the links, 4 bytes a vertex and the
-/// forest.
+/// The forest is whole before the first byte is written. For b bytes, m links and n vertices it takes
+/// O(b + m log m + n log n) time, and memory for two lists of the links, 16 bytes a vertex and the forest.
 pub fn run_plain<S: Source, W: Sink, A: Allocator + Copy>(
     alloc: A,
     source: &mut S,

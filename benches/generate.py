@@ -1,0 +1,46 @@
+#!/usr/bin/env python3
+"""Writes a graph for measuring as a .gr text to standard output: the same one for the same arguments.
+
+    generate.py grid N [SEED]      like a road network: a grid of about N vertices, a tenth of its links left out,
+                                   the vertices numbered at random in blocks of 64, and both directions of each link
+                                   beside each other
+    generate.py random N [SEED]    4 N arcs between vertices drawn at random
+"""
+import random
+import sys
+
+
+def grid(n, rng):
+    side = max(1, int(n**0.5))
+    n = side * side
+    blocks = [list(range(at, min(at + 64, n))) for at in range(0, n, 64)]
+    rng.shuffle(blocks)
+    number = [0] * n
+    for place, v in enumerate(v for block in blocks for v in block):
+        number[v] = place + 1
+    arcs = []
+    for v in range(n):
+        neighbours = ([v + 1] if v % side + 1 < side else []) + ([v + side] if v + side < n else [])
+        for w in neighbours:
+            if rng.random() < 0.9:
+                weight = rng.randint(1, 10000)
+                arcs.append((number[v], number[w], weight))
+                arcs.append((number[w], number[v], weight))
+    return n, arcs
+
+
+def at_random(n, rng):
+    return n, [(rng.randint(1, n), rng.randint(1, n), rng.randint(1, 10**6)) for _ in range(4 * n)]
+
+
+def main():
+    kind, n = sys.argv[1], int(sys.argv[2])
+    seed = int(sys.argv[3]) if len(sys.argv) > 3 else 1
+    n, arcs = {"grid": grid, "random": at_random}[kind](n, random.Random(seed))
+    write = sys.stdout.write
+    write(f"p sp {n} {len(arcs)}\n")
+    for u, v, weight in arcs:
+        write(f"a {u} {v} {weight}\n")
+
+
+main()
