@@ -96,12 +96,16 @@ fn are_labels(labels: &[u32]) -> bool
     true
 }
 
-// Whether the label of vertex v is from 1 to v, and its own label.
+// Whether the label of vertex v is from 1 to v, and its own label. One comparison sees both bounds, since 0 wraps
+// round to a place behind all.
+#[inline]
 fn is_labelled(labels: &[u32], v: usize) -> bool
     requires from_one { 1 ≤ v }
     requires to_n { v ≤ length labels.now }
+    requires few_vertices { v ≤ 2 ^ 26 }
     ensures { IsTrue result ↔ IsLabelled labels.now v }
 {
     let label = labels[v - 1];
-    label != 0 && label as usize <= v && labels[label as usize - 1] == label
+    let place = label.wrapping_sub(1) as usize;
+    place < v && labels[place] == label
 }
