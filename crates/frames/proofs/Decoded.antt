@@ -1,21 +1,19 @@
 -- What the fields of a body say of the frames that have it.
-use Rattle.std.proofs.Common.{◌≡◌, ◌≢◌, ℕ, zero, suc, ◌+◌, ◌*◌, ◌/◌, ◌%◌, ◌^◌, ◌<◌, ◌≤◌, List, [], ◌∷◌, ◌++◌, length, map, take, drop, get_or, All, FitsSigned, refl, sym, ap, subst, ◌∙◌, append_assoc, append-nil, arith}
-use Rattle.std.specs.Int.{w16, w32, from_be_bytes}
+use Rattle.std.proofs.Common.{◌≡◌, ℕ, ◌+◌, ◌/◌, ◌^◌, ◌<◌, ◌≤◌, List, [], ◌∷◌, ◌++◌, length, take, get_or, All, refl, sym, ap, subst, ◌∙◌, append-nil, arith}
+use Rattle.std.specs.Int.{w16, from_be_bytes}
 use Rattle.std.specs.List.{flat_map, AllByRecursion}
-use Rattle.std.specs.Simd.{first_chunks}
-use Rattle.std.proofs.lemmas.List.{length-append, nil_from_length, take-append-drop, length-drop, length-take}
+use Rattle.std.proofs.lemmas.List.{length-append, nil_from_length}
 use Rattle.std.proofs.lemmas.List.Elements.{recursion_from_All}
 use Rattle.link_key.specs.declared.links.Link.{Link}
 use Rattle.link_key.specs.Labels.{AreLabels}
 use Rattle.link_key.specs.Offers.{Offer, AreOffers}
-use Rattle.frames.specs.AnswerValue.{AnswerValue}
 use Rattle.frames.specs.FrameValue.{FrameValue, HelloFrame, ShardFrame, AskFrame, AnswerFrame, FaultFrame}
-use Rattle.frames.specs.FrameText.{u16_text, u32_text, i32_text, link_text, offer_text, kind_of, body_of}
-use Rattle.frames.specs.Lawful.{IsU32, IsHello, IsShard, IsAsk, IsAnswer, IsFault, IsLawful}
-use Rattle.frames.specs.Refusals.{IsWithItems, IsOtherVersion, IsFrameOf, BodyRefused, AreNoLinks, IsNoLink, LinksRefused}
+use Rattle.frames.specs.FrameText.{u16_text, u32_text, link_text, offer_text}
+use Rattle.frames.specs.Lawful.{IsU32, IsShard}
+use Rattle.frames.specs.Refusals.{IsWithItems, IsOtherVersion, IsFrameOf, BodyRefused, LinksRefused}
 use Rattle.frames.specs.declared.fault.FrameFault.{FrameFault}
 use Rattle.frames.specs.declared.fault.FrameFault.TheVariants.{BadKind, BadLength, BadField, BadVersion, Ended, Torn, Device, Memory}
-use Rattle.frames.proofs.Texts.{parts_same, IsBytes, IsBytes-drop, IsBytes-take, u16_length, u32_length, u16_front, u32_front, u32_back, i32_front, link_length, offer_length, items_length, items_same, link_front, offer_front, FitsWeight, FitsOffer}
+use Rattle.frames.proofs.Texts.{u16_length, u32_length, u16_front, u32_front, link_length, offer_length, items_length, items_same, offer_front, FitsWeight, FitsOffer}
 use Rattle.frames.proofs.OneText.{two_front, labels_fit}
 
 -- ---- a hello

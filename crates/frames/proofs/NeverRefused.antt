@@ -1,5 +1,5 @@
 -- What begins with a lawful frame's text is not refused.
-use Rattle.std.proofs.Common.{◌≡◌, ℕ, ◌+◌, ◌*◌, ◌^◌, ◌<◌, ◌≤◌, List, [], ◌∷◌, ◌++◌, length, take, refl, sym, ap, subst, ◌∙◌, append_assoc, arith, inl, inr}
+use Rattle.std.proofs.Common.{◌≡◌, ℕ, [], ◌∷◌, ◌++◌, length, refl, sym, ap, subst, ◌∙◌, append_assoc, arith, inl, inr}
 use Rattle.std.specs.Int.{w16, from_be_bytes}
 use Rattle.std.specs.List.{flat_map}
 use Rattle.std.proofs.lemmas.List.{length-append, take_at}
@@ -7,8 +7,7 @@ use Rattle.frames.specs.FrameValue.{FrameValue, HelloFrame, ShardFrame, AskFrame
 use Rattle.frames.specs.FrameText.{u16_text, u32_text, link_text, offer_text, kind_of, body_of, text_of}
 use Rattle.frames.specs.Lawful.{IsLawful}
 use Rattle.frames.specs.OneText.{IsNeverRefused}
-use Rattle.frames.specs.Refusals.{IsPossible, IsOtherVersion, IsFrameOf, HasBody, kind_at, length_at, body_at, StreamRefused}
-use Rattle.frames.specs.declared.fault.FrameFault.TheVariants.{BadKind, BadLength, BadField, BadVersion, Ended, Torn}
+use Rattle.frames.specs.Refusals.{IsPossible, IsOtherVersion, kind_at}
 use Rattle.frames.proofs.Texts.{u16_length, u32_length, u16_again, link_length, offer_length, items_length}
 use Rattle.frames.proofs.OneText.{body_short}
 use Rattle.frames.proofs.Streams.{whole_body}

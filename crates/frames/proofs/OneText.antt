@@ -1,7 +1,6 @@
 -- Each lawful frame has one text: the kind and the length come first, so the bodies part where they end,
 -- and each body's fields part one after the other.
-use Rattle.std.proofs.Common.{◌≡◌, ℕ, zero, suc, ◌+◌, ◌-◌, ◌*◌, ◌^◌, ◌<◌, ◌≤◌, List, [], ◌∷◌, ◌++◌, length, get_or, refl, sym, ap, subst, ◌∙◌, append_assoc, arith, FitsSigned}
-use Rattle.std.specs.Int.{w32}
+use Rattle.std.proofs.Common.{◌≡◌, ℕ, suc, ◌+◌, ◌-◌, ◌^◌, ◌<◌, ◌≤◌, List, [], ◌∷◌, ◌++◌, length, get_or, sym, ap, ◌∙◌, append_assoc, arith}
 use Rattle.std.specs.List.{flat_map, AllByRecursion}
 use Rattle.std.proofs.lemmas.List.{length-append}
 use Rattle.std.proofs.lemmas.List.Elements.{recursion_from_All}
@@ -9,8 +8,8 @@ use Rattle.link_key.specs.declared.links.Link.{Link}
 use Rattle.link_key.specs.Labels.{AreLabels}
 use Rattle.frames.specs.AnswerValue.{AnswerValue}
 use Rattle.frames.specs.FrameValue.{FrameValue, HelloFrame, ShardFrame, AskFrame, AnswerFrame, FaultFrame}
-use Rattle.frames.specs.FrameText.{u16_text, u32_text, link_text, offer_text, kind_of, body_of, text_of}
-use Rattle.frames.specs.Lawful.{IsU32, IsHello, IsShard, IsAsk, IsAnswer, IsFault, IsLawful}
+use Rattle.frames.specs.FrameText.{u16_text, u32_text, link_text, offer_text, kind_of, body_of}
+use Rattle.frames.specs.Lawful.{IsU32, IsShard, IsAsk, IsAnswer, IsLawful}
 use Rattle.frames.specs.OneText.{EachHasOneText}
 use Rattle.frames.proofs.Texts.{parts_same, u16_length, u32_length, u16_front, u32_front, link_front, offer_front, FitsWeight, FitsOffer, link_length, offer_length, items_length, items_same}
 

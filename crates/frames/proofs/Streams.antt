@@ -1,18 +1,18 @@
 -- What the parts of a stream say of the whole.
-use Rattle.std.proofs.Common.{◌≡◌, ℕ, zero, suc, ◌+◌, ◌-◌, ◌^◌, ◌<◌, ◌≤◌, List, [], ◌∷◌, ◌++◌, length, take, drop, get_or, replicate, Option, Some, None, IfSome, refl, sym, ap, subst, ◌∙◌, append_assoc, append-nil, arith, inl, inr}
-use Rattle.std.specs.Int.{w16, w32, from_be_bytes}
+use Rattle.std.proofs.Common.{◌≡◌, ℕ, ◌+◌, ◌<◌, ◌≤◌, List, [], ◌∷◌, ◌++◌, length, take, drop, replicate, Option, Some, None, IfSome, refl, sym, ap, subst, ◌∙◌, append-nil, arith, inl, inr}
+use Rattle.std.specs.Int.{w32, from_be_bytes}
 use Rattle.std.specs.Io.KnownBytes.{Consumes}
 use Rattle.std.proofs.KnownBytes.{Consumes-trans}
-use Rattle.std.proofs.lemmas.List.{nil_from_length, length-append, take_at, drop_at, take_all, length-take, take-append-le}
+use Rattle.std.proofs.lemmas.List.{nil_from_length, length-append, take_at, drop_at, take_all}
 use Rattle.byte_streams.proofs.Streaming.{consumes-told}
 use Rattle.frames.specs.FrameValue.{FrameValue}
-use Rattle.frames.specs.FrameText.{u32_text, kind_of, body_of, text_of}
+use Rattle.frames.specs.FrameText.{u32_text, body_of, text_of}
 use Rattle.frames.specs.Lawful.{IsU32}
-use Rattle.frames.specs.Refusals.{IsKind, IsPossible, HeadRefused, IsFrameOf, BodyRefused, kind_at, length_at, body_at, HasHead, HasGoodHead, HasBody, StreamRefused}
+use Rattle.frames.specs.Refusals.{IsPossible, HeadRefused, IsFrameOf, BodyRefused, kind_at, length_at, body_at, HasGoodHead, HasBody, StreamRefused}
 use Rattle.frames.specs.ReadFault.{HeadStopped, BodyStopped}
 use Rattle.frames.specs.declared.fault.FrameFault.{FrameFault}
 use Rattle.frames.specs.declared.fault.FrameFault.TheVariants.{BadKind, BadLength, BadField, BadVersion, Ended, Torn, Device, Memory}
-use Rattle.frames.proofs.Texts.{IsBytes, IsBytes-take, u32_length, u32_again, u32_back}
+use Rattle.frames.proofs.Texts.{u32_length, u32_again}
 
 -- ---- a head
 

@@ -1,11 +1,11 @@
 -- A text is what was written: the head, and the fields one behind the other.
-use Rattle.std.proofs.Common.{◌≡◌, ℕ, ◌+◌, ◌*◌, List, [], ◌∷◌, ◌++◌, length, refl, sym, ap, subst, ◌∙◌, append_assoc, arith}
+use Rattle.std.proofs.Common.{◌≡◌, ℕ, ◌+◌, ◌*◌, List, ◌∷◌, ◌++◌, length, ap, subst, ◌∙◌, append_assoc, arith}
 use Rattle.std.specs.List.{flat_map}
 use Rattle.std.proofs.lemmas.List.{length-append}
 use Rattle.link_key.specs.declared.links.Link.{Link}
 use Rattle.frames.specs.AnswerValue.{AnswerValue}
-use Rattle.frames.specs.FrameValue.{FrameValue, HelloFrame, ShardFrame, AskFrame, AnswerFrame, FaultFrame}
-use Rattle.frames.specs.FrameText.{u16_text, u32_text, link_text, offer_text, kind_of, body_of, text_of}
+use Rattle.frames.specs.FrameValue.{HelloFrame, ShardFrame, AskFrame, AnswerFrame}
+use Rattle.frames.specs.FrameText.{u16_text, u32_text, link_text, offer_text, text_of}
 use Rattle.frames.proofs.Texts.{u16_length, u32_length, link_length, offer_length, items_length}
 
 -- a head with the length of the body that follows it

@@ -1,7 +1,7 @@
 -- What a fault of a read says of the stream, where its bytes are known.
-use Rattle.std.specs.Prelude.{◌≡◌, ℕ, ◌<◌, ⊤, List, [], length, Option, IfSome, Result, Ok, Err}
+use Rattle.std.specs.Prelude.{◌≡◌, ℕ, ◌<◌, ⊤, List, [], length, Option, IfSome, Result, Err}
 use Rattle.frames.specs.declared.fault.FrameFault.{FrameFault}
-use Rattle.frames.specs.declared.fault.FrameFault.TheVariants.{BadKind, BadLength, BadField, BadVersion, Ended, Torn, Device, Memory}
+use Rattle.frames.specs.declared.fault.FrameFault.TheVariants.{Ended, Torn, Device, Memory}
 
 -- P where a read failed, else Q
 abbrev pub WhereFailed : {T : Type 0} → Result T FrameFault → Type 0 → Type 0 → Type 0

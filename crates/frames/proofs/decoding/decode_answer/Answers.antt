@@ -1,4 +1,4 @@
-use Rattle.std.proofs.Common.{arith, refl, sym, subst, All}
+use Rattle.std.proofs.Common.{refl, sym, subst, All}
 use Rattle.link_key.specs.Offers.{AreOffers}
 use Rattle.frames.proofs.Texts.{FitsOffer}
 use Rattle.frames.proofs.Decoded.{answer_refused, answer_found, answer_unsorted}

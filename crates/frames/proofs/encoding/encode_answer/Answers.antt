@@ -1,4 +1,4 @@
-use Rattle.std.proofs.Common.{refl, ap, length, sym, ◌∙◌}
+use Rattle.std.proofs.Common.{ap, length}
 use Rattle.frames.proofs.Written.{answer_written}
 use Rattle.frames.proofs.encoding.encode_answer.Goals as goal
 

@@ -1,4 +1,4 @@
-use Rattle.std.proofs.Common.{◌≡◌, length, arith, rules}
+use Rattle.std.proofs.Common.{◌≡◌, length, rules}
 use Rattle.frames.proofs.Streams.{head_split}
 use Rattle.frames.proofs.head.decode_head.Goals as goal
 

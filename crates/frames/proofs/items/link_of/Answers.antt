@@ -1,4 +1,4 @@
-use Rattle.std.proofs.Common.{arith, rules}
+use Rattle.std.proofs.Common.{arith}
 use Rattle.frames.proofs.Listed.{link_unlike, link_back}
 use Rattle.frames.proofs.items.link_of.Goals as goal
 use Rattle.frames.proofs.items.link_of.Goals.{then-low-eq0-via-then-low-eq0, then-low-eq0-via-else-low-eq0+then-low-high, then-low-eq0-via-else-low-eq0+else-low-high+then-high}

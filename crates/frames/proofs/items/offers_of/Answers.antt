@@ -1,5 +1,4 @@
-use Rattle.std.proofs.Common.{arith, rules}
-use Rattle.std.proofs.lemmas.Grind.{common_steps}
+use Rattle.std.proofs.Common.{arith}
 use Rattle.frames.proofs.Listed.{offer_more, fits_more}
 use Rattle.frames.proofs.items.offers_of.Goals as goal
 

@@ -1,4 +1,4 @@
-use Rattle.std.proofs.Common.{List, ℕ, subst, arith, rules}
+use Rattle.std.proofs.Common.{List, ℕ, subst, arith}
 use Rattle.std.proofs.lemmas.Result.{IfOk-weaker, IfErr-weaker}
 use Rattle.frames.specs.FrameValue.{value_of}
 use Rattle.frames.specs.Refusals.{IsFrameOf, BodyRefused}
