@@ -1,4 +1,4 @@
-ghost use Rattle.std.specs.Prelude.{◌≡◌, ◌≤◌, ◌^◌, ◌↔◌, length, IsSome, IfSome, IfOk, IsTrue};
+ghost use Rattle.std.specs.Prelude.{◌≡◌, ℕ, ◌+◌, ◌<◌, ◌≤◌, ◌^◌, ◌↔◌, length, slice_index, IsSome, IfSome, IfOk, IsTrue};
 ghost use Rattle.link_key.specs.Labels.{label_of, IsLabelled, AreLabels, AreApart};
 
 use std::alloc::{AllocError, Allocator, Global};
@@ -81,19 +81,54 @@ impl<A: Allocator> Labels<A> {
     }
 }
 
-// Whether the list holds labels of the vertices 1, 2, .. in order.
+// How many labels are compared with their vertices at once.
+const PIECE: usize = 256;
+
+// Whether the list holds labels of the vertices 1, 2, .. in order. In a run's first round each vertex has its own,
+// which is seen at a fraction of the cost of looking where each label points.
 fn are_labels(labels: &[u32]) -> bool
     ensures { IsTrue result ↔ AreLabels labels.now }
 {
     if labels.len() > 1 << 26 {
         return false;
     }
-    for v in 1..labels.len() + 1 {
+    for v in own_front(labels) + 1..labels.len() + 1 {
         if !is_labelled(labels, v) {
             return false;
         }
     }
     true
+}
+
+// How many labels at the front are their vertices' own, by whole pieces.
+fn own_front(labels: &[u32]) -> usize
+    requires { length labels.now ≤ 2 ^ 26 }
+    ensures front { result ≤ length labels.now }
+    ensures own { (v : ℕ) → 1 ≤ v → v ≤ result → label_of labels.now v ≡ v }
+{
+    let pieces = labels.len() / PIECE;
+    for i in 0..pieces {
+        let from = i * PIECE;
+        if !are_own(&labels[from..from + PIECE], from as u32) {
+            return from;
+        }
+    }
+    pieces * PIECE
+}
+
+// Whether each label is that of its own vertex, where so many vertices stand before them. It looks at all of them,
+// so that they are compared many at a time.
+fn are_own(piece: &[u32], before: u32) -> bool
+    requires { before + length piece.now < 2 ^ 32 }
+    ensures { IsTrue result → (k : ℕ) → k < length piece.now → slice_index piece.now k ≡ before + k + 1 }
+{
+    let mut own = true;
+    let mut vertex = before;
+    for label in piece {
+        vertex += 1;
+        own &= *label == vertex;
+    }
+    own
 }
 
 // Whether the label of vertex v is from 1 to v, and its own label. One comparison sees both bounds, since 0 wraps
