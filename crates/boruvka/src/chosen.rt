@@ -5,16 +5,24 @@ use std::alloc::AllocError;
 /// What the words ask for.
 #[derive(Debug, Drop)]
 pub struct Options {
+    /// How many workers scan the shards: 0 to 64.
     pub workers: u32,
+    /// How many shards the links are cut into: 1 to 4,096.
     pub shards: u32,
+    /// Whether the forest is found by one thread.
     pub plain: bool,
+    /// Whether the report goes to standard error.
     pub report: bool,
+    /// The file that is read; standard input where there is none.
     pub file: Option<String>,
 }
 
+/// Why the words ask for nothing.
 #[derive(Debug, Drop)]
 pub enum OptionsFault {
+    /// They are none that the program takes, or they ask for the help; it has the text to print.
     Usage(clap::Error),
+    /// A growth was refused.
     Memory,
 }
 
