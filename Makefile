@@ -5,6 +5,7 @@
 
 PREFIX ?= /usr/local
 PROGRAM := crates/boruvka/out/boruvka
+STEPS := crates/plain_bench/out/plain_bench
 SOURCES := $(shell find crates -path '*/out' -prune -o -type f \( -name '*.rt' -o -name '*.antt' \) -print) crates.txt
 
 .PHONY: run test install bench
@@ -19,8 +20,8 @@ install: $(PROGRAM)
 	install -d $(DESTDIR)$(PREFIX)/bin
 	install -m 755 $(PROGRAM) $(DESTDIR)$(PREFIX)/bin/boruvka
 
-bench: $(PROGRAM)
-	python3 benches/run.py $(PROGRAM)
+bench: $(PROGRAM) $(STEPS)
+	python3 benches/run.py $(PROGRAM) $(STEPS)
 
 # `rt run` proves, builds and runs; what it built stays in out/.
 $(PROGRAM): $(SOURCES)
@@ -28,3 +29,8 @@ $(PROGRAM): $(SOURCES)
 	@cd crates/boruvka && rt run -- --plain ../../examples/small.gr > out.log 2>&1 || { cat out.log >&2; rm -f out.log; exit 1; }
 	@rm -f crates/boruvka/out.log
 	@touch $(PROGRAM)
+
+$(STEPS): $(SOURCES)
+	@cd crates/plain_bench && rt run < stdin > out.log 2>&1 || { cat out.log >&2; rm -f out.log; exit 1; }
+	@rm -f crates/plain_bench/out.log
+	@touch $(STEPS)

@@ -5,6 +5,7 @@
                                    the vertices numbered at random in blocks of 64, and both directions of each link
                                    beside each other
     generate.py random N [SEED]    4 N arcs between vertices drawn at random
+    generate.py path N [SEED]      N arcs, each from a vertex to the next, so that the forest has them all
 """
 import random
 import sys
@@ -33,10 +34,14 @@ def at_random(n, rng):
     return n, [(rng.randint(1, n), rng.randint(1, n), rng.randint(1, 10**6)) for _ in range(4 * n)]
 
 
+def path(n, rng):
+    return n + 1, [(v, v + 1, rng.randint(-10**9, 10**9)) for v in range(1, n + 1)]
+
+
 def main():
     kind, n = sys.argv[1], int(sys.argv[2])
     seed = int(sys.argv[3]) if len(sys.argv) > 3 else 1
-    n, arcs = {"grid": grid, "random": at_random}[kind](n, random.Random(seed))
+    n, arcs = {"grid": grid, "random": at_random, "path": path}[kind](n, random.Random(seed))
     write = sys.stdout.write
     write(f"p sp {n} {len(arcs)}\n")
     for u, v, weight in arcs:

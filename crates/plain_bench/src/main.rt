@@ -1,0 +1,34 @@
+//! Times the three steps of a plain run: it reads a `.gr` text from standard input, solves it, and writes the forest's
+//! text to standard output.
+//!
+//! What each step took goes to standard error, in microseconds.
+#![tactic(auto)]
+
+use anyhow::bail;
+use gr_text::{read_graph, write_forest};
+use link_key::plain_forest;
+use std::time::Instant;
+
+fn main(rt: HostRuntime) -> anyhow::Result<()> {
+    let start = Instant::now(&rt)?;
+    let graph = read_graph(rt.alloc(), &mut rt.stdin())?;
+    let read = start.elapsed(&rt)?;
+
+    let start = Instant::now(&rt)?;
+    let forest = plain_forest(rt.alloc(), graph.n(), graph.links())?;
+    let solved = start.elapsed(&rt)?;
+
+    let start = Instant::now(&rt)?;
+    if write_forest(&mut rt.stdout(), graph.n(), &forest).is_err() {
+        bail!("the output failed");
+    }
+    let written = start.elapsed(&rt)?;
+
+    eprintln!(rt;
+        "read {} solve {} write {}",
+        read.as_micros(),
+        solved.as_micros(),
+        written.as_micros()
+    )?;
+    Ok(())
+}
