@@ -1,11 +1,12 @@
 //! Measures an ask of a million labels, both ways, beside a plain copy of the same bytes.
 //!
-//! Standard output is constant; the times, the least of several runs, go to standard error.
+//! Each step makes its bytes or its labels anew and gives them back before the next step, so that all meet the
+//! allocator alike. Standard output is constant; the times, the least of several runs, go to standard error.
 #![tactic(auto)]
 
 use frames::{Frame, decode_body, decode_head, encode_ask};
 use link_key::Labels;
-use std::alloc::Global;
+use std::alloc::{AllocError, Global};
 use std::time::{Duration, Instant};
 
 // How many labels the ask has, and how often each step is run.
@@ -13,63 +14,104 @@ const LABELS: u32 = 1 << 20;
 
 const RUNS: usize = 9;
 
-// The least times of the three steps.
-#[derive(Clone, Copy)]
-struct Least {
-    copied: Duration,
-    encoded: Duration,
-    decoded: Duration,
-}
-
 fn main(rt: HostRuntime) -> anyhow::Result<()> {
-    let labels = Labels::apart(rt.alloc(), LABELS)?;
-    let text = encode_ask(rt.alloc(), 1, 0, &labels)?;
-    let mut least = Least {
-        copied: Duration::MAX,
-        encoded: Duration::MAX,
-        decoded: Duration::MAX,
-    };
-    for _ in 0..RUNS {
-        let start = Instant::now(&rt)?;
-        let copy = Vec::from_slice(rt.alloc(), text.as_slice())?;
-        least.copied = least.copied.min(start.elapsed(&rt)?);
-
-        let start = Instant::now(&rt)?;
-        let again = encode_ask(rt.alloc(), 1, 0, &labels)?;
-        least.encoded = least.encoded.min(start.elapsed(&rt)?);
-
-        let start = Instant::now(&rt)?;
-        let frame = decode(rt.alloc(), copy.as_slice());
-        least.decoded = least.decoded.min(start.elapsed(&rt)?);
-        println!(rt;
-            "bytes {} same {} labels {}",
-            text.len(),
-            again == copy,
-            frame
+    let apart = Labels::apart(rt.alloc(), LABELS)?;
+    measure(&rt, "each vertex by itself", &apart)?;
+    if let Some(neighbours) = Labels::of_list(neighbours_labels(rt.alloc())?) {
+        measure(&rt, "components of eight neighbours", &neighbours)?;
+    }
+    if let Some(scattered) = Labels::of_list(scattered_labels(rt.alloc())?) {
+        measure(
+            &rt,
+            "a quarter of a million components, scattered",
+            &scattered,
         )?;
     }
+    Ok(())
+}
+
+// Prints the least times of the three steps.
+fn measure(rt: &HostRuntime, name: &str, labels: &Labels) -> anyhow::Result<()> {
+    let text = encode_ask(rt.alloc(), 1, 0, labels)?;
+    let mut copied = Duration::MAX;
+    let mut encoded = Duration::MAX;
+    let mut decoded = Duration::MAX;
+    for _ in 0..RUNS {
+        copied = copied.min(time_copy(rt, text.as_slice())?);
+        encoded = encoded.min(time_encoding(rt, labels)?);
+        decoded = decoded.min(time_decoding(rt, text.as_slice())?);
+    }
+    println!(rt; "{name}: {} bytes", text.len())?;
     eprintln!(rt;
-        "copy {} us, encode {} us, decode {} us",
-        least.copied.as_micros(),
-        least.encoded.as_micros(),
-        least.decoded.as_micros()
+        "{name}: copy {} us, encode {} us, decode {} us",
+        copied.as_micros(),
+        encoded.as_micros(),
+        decoded.as_micros()
     )?;
     Ok(())
 }
 
-// How many labels the ask of these bytes has, and 0 where they are no ask.
-fn decode(alloc: Global, bytes: &[u8]) -> u32 {
-    let Some((front, body)) = bytes.split_first_chunk::<5>() else {
-        return 0;
-    };
-    let Ok(head) = decode_head(front) else {
-        return 0;
-    };
+fn time_copy(rt: &HostRuntime, bytes: &[u8]) -> anyhow::Result<Duration> {
+    let start = Instant::now(rt)?;
+    let copy = Vec::from_slice(rt.alloc(), bytes)?;
+    let took = start.elapsed(rt)?;
+    println!(rt; "copied {} bytes", copy.len())?;
+    Ok(took)
+}
+
+fn time_encoding(rt: &HostRuntime, labels: &Labels) -> anyhow::Result<Duration> {
+    let start = Instant::now(rt)?;
+    let text = encode_ask(rt.alloc(), 1, 0, labels)?;
+    let took = start.elapsed(rt)?;
+    println!(rt; "encoded {} bytes", text.len())?;
+    Ok(took)
+}
+
+fn time_decoding(rt: &HostRuntime, bytes: &[u8]) -> anyhow::Result<Duration> {
+    let start = Instant::now(rt)?;
+    let labels = decode(rt.alloc(), bytes);
+    let took = start.elapsed(rt)?;
+    println!(rt; "decoded {} labels", labels.map_or(0, |labels| labels.n()))?;
+    Ok(took)
+}
+
+// The labels of the ask of these bytes; none where they are no ask.
+fn decode(alloc: Global, bytes: &[u8]) -> Option<Labels> {
+    let (front, body) = bytes.split_first_chunk::<5>()?;
+    let head = decode_head(front).ok()?;
     if body.len() != head.length as usize {
-        return 0;
+        return None;
     }
     match decode_body(alloc, head, body) {
-        Ok(Frame::Ask { labels, .. }) => labels.n(),
-        _ => 0,
+        Ok(Frame::Ask { labels, .. }) => Some(labels),
+        _ => None,
     }
+}
+
+// Each eight vertices in a row have the label of the first of them.
+fn neighbours_labels(alloc: Global) -> Result<Vec<u32>, AllocError> {
+    let mut labels = Vec::with_capacity(alloc, LABELS as usize)?;
+    for place in 0..LABELS {
+        labels.push(place / 8 * 8 + 1)?;
+    }
+    Ok(labels)
+}
+
+// Every fourth vertex or so keeps its own label, and the others get that of any vertex before them: the slowest
+// labels to look at, since each points elsewhere.
+fn scattered_labels(alloc: Global) -> Result<Vec<u32>, AllocError> {
+    let mut labels = Vec::with_capacity(alloc, LABELS as usize)?;
+    let mut state: u64 = 1926;
+    for vertex in 1..LABELS + 1 {
+        state = state
+            .wrapping_mul(6_364_136_223_846_793_005)
+            .wrapping_add(1_442_695_040_888_963_407);
+        let drawn = (state >> 33) as usize;
+        let label = match labels.get(drawn % vertex as usize) {
+            Some(label) if state >> 62 != 0 => *label,
+            _ => vertex,
+        };
+        labels.push(label)?;
+    }
+    Ok(labels)
 }
