@@ -92,7 +92,13 @@ fn are_labels(labels: &[u32]) -> bool
     if labels.len() > 1 << 26 {
         return false;
     }
-    for v in own_front(labels) + 1..labels.len() + 1 {
+    let fours = labels.len() / 4;
+    for i in own_front(labels) / 4..fours {
+        if !are_four_labelled(labels, 4 * i + 1) {
+            return false;
+        }
+    }
+    for v in 4 * fours + 1..labels.len() + 1 {
         if !is_labelled(labels, v) {
             return false;
         }
@@ -129,6 +135,21 @@ fn are_own(piece: &[u32], before: u32) -> bool
         own &= *label == vertex;
     }
     own
+}
+
+// The same of vertex v and the three behind it.
+#[inline]
+fn are_four_labelled(labels: &[u32], v: usize) -> bool
+    requires from_one { 1 ≤ v }
+    requires to_n { v + 3 ≤ length labels.now }
+    requires few_vertices { length labels.now ≤ 2 ^ 26 }
+    ensures { IsTrue result ↔ (IsLabelled labels.now v × IsLabelled labels.now (v + 1)
+        × IsLabelled labels.now (v + 2) × IsLabelled labels.now (v + 3)) }
+{
+    is_labelled(labels, v)
+        && is_labelled(labels, v + 1)
+        && is_labelled(labels, v + 2)
+        && is_labelled(labels, v + 3)
 }
 
 // Whether the label of vertex v is from 1 to v, and its own label. One comparison sees both bounds, since 0 wraps
