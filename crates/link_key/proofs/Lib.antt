@@ -6,4 +6,4 @@ pub mod Growing
 pub mod Tables
 pub mod OneForest
 pub mod Apart
-pub mod Chains
+pub mod Rings

@@ -1,5 +1,5 @@
--- Components of a graph, each a chain of its members.
-use Rattle.std.specs.Prelude.{◌≡◌, ◌≢◌, ℕ, zero, suc, ◌+◌, ◌-◌, ◌<◌, ◌≤◌, ◌⊎◌, ◌^◌, ◌==◌, if◌then◌else◌, List, length, slice_index, EachIndex}
+-- Components of a graph, each a ring of its members.
+use Rattle.std.specs.Prelude.{◌≡◌, ◌≢◌, ℕ, zero, suc, ◌+◌, ◌<◌, ◌≤◌, ◌⊎◌, ◌^◌, ◌==◌, if◌then◌else◌, List, length, slice_index, EachIndex}
 use Rattle.std.specs.List.{sum}
 
 -- the labels once what had the label `from` was given the label `to`
@@ -17,21 +17,20 @@ pub record IsLabelledAlong (next : List ℕ) (v count to : ℕ) (labels labels' 
   pub along : (k : ℕ) → k < count → slice_index labels' (nth_after next v k) ≡ to
   pub others : (u : ℕ) → (slice_index labels' u ≡ slice_index labels u) ⊎ ((k : ℕ) × (k < count) × (nth_after next v k ≡ u) × (slice_index labels' u ≡ to))
 
--- c is a label, and its members are a chain of `size` vertices from c to `last`, which is met but once
-pub record IsChain (labels next : List ℕ) (c last size : ℕ) : Type 0 where
+-- c is a label, and its members are a ring: `size` steps from c lead back to c, and no fewer do
+pub record IsRing (labels next : List ℕ) (c size : ℕ) : Type 0 where
   pub some : 0 < size
   pub members : (k : ℕ) → k < size → (nth_after next c k < length labels) × (slice_index labels (nth_after next c k) ≡ c)
-  pub ends : nth_after next c (size - 1) ≡ last
-  pub ends_once : (k : ℕ) → k + 1 < size → nth_after next c k ≢ last
+  pub closes : nth_after next c size ≡ c
+  pub once : (k : ℕ) → 0 < k → k < size → nth_after next c k ≢ c
 
--- each vertex is in the chain of its label
-pub record AreChained (labels next last sizes : List ℕ) : Type 0 where
+-- each vertex is in the ring of its label
+pub record AreRings (labels next sizes : List ℕ) : Type 0 where
   pub few : length labels ≤ 2 ^ 26 + 1
   pub next_len : length next ≡ length labels
-  pub last_len : length last ≡ length labels
   pub sizes_len : length sizes ≡ length labels
   pub total : sum sizes ≤ length labels
   pub reached : (v : ℕ) → v < length labels → (k : ℕ) × (k < slice_index sizes (slice_index labels v)) × (nth_after next (slice_index labels v) k ≡ v)
   pub labels_in : (v : ℕ) → v < length labels → slice_index labels v < length labels
   pub own : (v : ℕ) → v < length labels → slice_index labels (slice_index labels v) ≡ slice_index labels v
-  pub chain : (c : ℕ) → c < length labels → slice_index labels c ≡ c → IsChain labels next c (slice_index last c) (slice_index sizes c)
+  pub ring : (c : ℕ) → c < length labels → slice_index labels c ≡ c → IsRing labels next c (slice_index sizes c)

@@ -7,26 +7,24 @@ use std::marker::Model;
 // The components of a graph with the vertices 1 to n, that are merged two at a time: seen as the list of the labels
 // of the numbers 0 to n.
 //
-// A component's label is one of its vertices. From that vertex its members form a chain by `next`, up to
-// `last[label]` and `sizes[label]` long. What stands in `next` behind the last member isn't read, nor are `last` and
-// `sizes` of what is no label. 16 bytes a vertex.
+// A component's label is one of its vertices. Its members form a ring by `next`: `sizes[label]` steps from the label
+// visit each of them once and lead back to it. `sizes` of what is no label isn't read. 12 bytes a vertex.
 #[derive(Drop)]
 pub(crate) struct Components<A: Allocator> {
     labels: Vec<u32, A>,
     next: Vec<u32, A>,
-    last: Vec<u32, A>,
     sizes: Vec<u32, A>,
 }
 
 impl<A: Allocator> Model for Components<A> {
     ghost use Rattle.std.specs.Prelude.{ℕ, List};
-    ghost use Rattle.link_key.specs.Components.{AreChained};
+    ghost use Rattle.link_key.specs.Components.{AreRings};
 
     ghost Value = { List ℕ };
 
     ghost view = { λ s. s.labels.items };
 
-    ghost invariant = { λ s. AreChained s.labels.items s.next.items s.last.items s.sizes.items };
+    ghost invariant = { λ s. AreRings s.labels.items s.next.items s.sizes.items };
 }
 
 impl<A: Allocator + Copy> Components<A> {
@@ -38,12 +36,10 @@ impl<A: Allocator + Copy> Components<A> {
     {
         let labels = own_numbers(alloc, n)?;
         let next = own_numbers(alloc, n)?;
-        let last = own_numbers(alloc, n)?;
         let sizes = vec![in alloc; 1; n as usize + 1]?;
         Ok(Components {
             labels,
             next,
-            last,
             sizes,
         })
     }
@@ -77,7 +73,8 @@ impl<A: Allocator> Components<A> {
         }
     }
 
-    // Gives the members of `from` the label `to`, and appends their chain to that of `to`.
+    // Gives the members of `from` the label `to`, and makes their ring and that of `to` one: where `from` and `to`
+    // swap what comes next, a walk from either goes round the other's ring before its own.
     fn absorb(&mut self, from: u32, to: u32)
         requires from_in_range { from < length self.old }
         requires to_in_range { to < length self.old }
@@ -89,9 +86,7 @@ impl<A: Allocator> Components<A> {
     {
         let size = self.sizes[from as usize];
         relabel(&mut self.labels, &self.next, from, size, to);
-        let end = self.last[to as usize];
-        self.next[end as usize] = from;
-        self.last[to as usize] = self.last[from as usize];
+        self.next.swap(from as usize, to as usize);
         self.sizes[to as usize] += size;
         self.sizes[from as usize] = 0;
     }
@@ -110,7 +105,7 @@ fn own_numbers<A: Allocator + Copy>(alloc: A, n: u32) -> Result<Vec<u32, A>, All
     Ok(numbers)
 }
 
-// Gives the first `count` vertices of the chain that begins at `from` the label `to`.
+// Gives the first `count` vertices of the walk that begins at `from` the label `to`.
 fn relabel(labels: &mut [u32], next: &[u32], from: u32, count: u32, to: u32)
     requires len { length next.now ≡ length labels.old }
     requires in_range { (k : ℕ) → k < count → nth_after next.now from k < length labels.old }

@@ -11,7 +11,7 @@
 // Where to start a change: what is meant stands in `specs/` (`Link`, `Walk`, `Forest`), and the laws that show it
 // to be right in `laws`. `plain` is the solver, which keeps labels in `components`, seen as the list of the labels.
 // Its proof follows `proofs/Growing`, which knows nothing of tables, and `proofs/Tables`, which knows that list alone:
-// another way to merge components needs only another `proofs/Chains`.
+// another way to merge components needs only another `proofs/Rings`.
 #![tactic(auto)]
 
 mod components;

@@ -1,5 +1,5 @@
 use Rattle.std.proofs.Common.{sym}
-use Rattle.link_key.proofs.Chains.{after_none, after_one_more, along_none, along_one_more}
+use Rattle.link_key.proofs.Rings.{after_none, after_one_more, along_none, along_one_more}
 use Rattle.link_key.proofs.components.relabel.Goals as goal
 
 pub loop-init : goal.loop-init
