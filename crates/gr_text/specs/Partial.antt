@@ -5,6 +5,7 @@ use Rattle.gr_text.specs.Fields.{IsFieldByte, BeginsBlank, AreFields}
 use Rattle.gr_text.specs.Word.{WordMeans, LineMeans}
 use Rattle.gr_text.specs.declared.partial.Partial.{Partial}
 use Rattle.gr_text.specs.declared.words.Line.{Line}
+use Rattle.gr_text.specs.declared.words.Word.{Word}
 
 -- the fields, and one more where it isn't empty
 abbrev pub with_field : List (List ℕ) → List ℕ → List (List ℕ)
@@ -27,6 +28,10 @@ is_begun (b ∷ bytes) = true
 abbrev pub IsKeptAs : Partial → List ℕ → Type 0
 IsKeptAs partial part = (partial.begun ≡ is_begun part)
     × ((fields : List (List ℕ)) × (last : List ℕ) × AreParts part fields last × LineMeans partial.on fields × WordMeans partial.word last)
+
+-- the same line, where this is kept of the field that is coming
+abbrev pub with_word : Partial → Word → Partial
+with_word partial word = record { on = partial.on; word = word; begun = partial.begun }
 
 -- what is kept of a whole line
 abbrev pub IsWhole : Line → List ℕ → Type 0

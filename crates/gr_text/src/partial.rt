@@ -1,6 +1,6 @@
 ghost use Rattle.std.specs.Prelude.{◌≡◌, ◌≢◌, ℕ, List, [], ◌∷◌, ◌++◌};
 ghost use Rattle.gr_text.specs.Fields.{IsBlank, IsFieldByte};
-ghost use Rattle.gr_text.specs.Partial.{IsKeptAs, IsWhole, with_field};
+ghost use Rattle.gr_text.specs.Partial.{IsKeptAs, IsWhole, with_field, with_word};
 ghost use Rattle.gr_text.specs.Word.{LineMeans, WordMeans};
 
 use crate::words::{Line, Word};
@@ -45,39 +45,27 @@ impl Partial {
         }
     }
 
-    /// With one more byte of the line, which is no line feed. In constant time.
+    /// Takes one more byte of the field that is coming, and answers what is kept of the field then. `word` is
+    /// what was kept of it before, in place of its own. In constant time.
     #[inline]
-    pub fn with(self, byte: u8) -> Partial
-        ensures { (part : List ℕ) → IsKeptAs self part → IsKeptAs result (part ++ byte ∷ []) }
-    {
-        match byte {
-            b' ' | b'\t' | b'\r' => self.with_blank(byte),
-            _ => self.with_field_byte(byte),
-        }
-    }
-
-    #[inline]
-    fn with_blank(self, byte: u8) -> Partial
-        requires { IsBlank byte }
-        ensures { (part : List ℕ) → IsKeptAs self part → IsKeptAs result (part ++ byte ∷ []) }
-    {
-        Partial {
-            on: self.on.closed(self.word),
-            word: Word::Empty,
-            begun: true,
-        }
-    }
-
-    #[inline]
-    fn with_field_byte(self, byte: u8) -> Partial
+    pub fn take_field_byte(&mut self, word: Word, byte: u8) -> Word
         requires { IsFieldByte byte }
-        ensures { (part : List ℕ) → IsKeptAs self part → IsKeptAs result (part ++ byte ∷ []) }
+        ensures { (part : List ℕ) → IsKeptAs (with_word self.old word) part
+            → IsKeptAs (with_word self.new result) (part ++ byte ∷ []) }
     {
-        Partial {
-            on: self.on,
-            word: self.word.with(byte),
-            begun: true,
-        }
+        self.begun = true;
+        word.with(byte)
+    }
+
+    /// Takes a blank, which ends the field that was coming, if one has begun. `word` is what was kept of it, in
+    /// place of its own; of the next field nothing has come. In constant time.
+    #[inline]
+    pub fn take_blank(&mut self, word: Word)
+        ensures { (part : List ℕ) (blank : ℕ) → IsBlank blank → IsKeptAs (with_word self.old word) part
+            → IsKeptAs (with_word self.new Word.Empty) (part ++ blank ∷ []) }
+    {
+        self.on = self.on.closed(word);
+        self.begun = true;
     }
 
     /// The whole line, where no more bytes come.

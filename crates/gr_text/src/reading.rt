@@ -1,4 +1,6 @@
-ghost use Rattle.std.specs.Prelude.{◌≡◌, ℕ, ◌+◌, ◌<◌, ◌≤◌, ◌^◌, List, [], ◌∷◌, ◌++◌, length, MatchResult, IfOk};
+ghost use Rattle.std.specs.Prelude.{◌≡◌, ℕ, ◌+◌, ◌<◌, ◌≤◌, ◌^◌, List, [], ◌∷◌, ◌++◌, length, MatchResult};
+ghost use Rattle.gr_text.specs.Lines.{line_feed};
+ghost use Rattle.gr_text.specs.Partial.{with_word};
 ghost use Rattle.gr_text.specs.Reading.{IsSound};
 ghost use Rattle.gr_text.specs.Reader.{Stands, StopsAt, IsReadWhole};
 
@@ -6,6 +8,7 @@ use crate::faults::ReadFault;
 use crate::graphs::Graph;
 use crate::partial::Partial;
 use crate::so_far::SoFar;
+use crate::words::Word;
 use std::alloc::Allocator;
 
 /// What was read of a text: whole lines, and a part of the next one.
@@ -34,7 +37,8 @@ impl<A: Allocator> Reading<A> {
     }
 
     /// Reads a piece of the text. It fails at the first line that ends in it and is faulty, or at an arc
-    /// whose link finds no memory; then it isn't to be read on.
+    /// whose link finds no memory; then it isn't to be read on. Each byte takes constant time, and one that
+    /// goes on with a number only a few instructions.
     pub fn read(&mut self, piece: &[u8]) -> Result<(), ReadFault>
         requires sound { IsSound self.old.so_far.size self.old.so_far.count self.old.so_far.links.items }
         requires few_lines { self.old.number + length piece.now < 2 ^ 64 }
@@ -46,18 +50,19 @@ impl<A: Allocator> Reading<A> {
             (λ _. Stands self.new.so_far.size self.new.so_far.count self.new.so_far.links.items self.new.partial self.new.number (text ++ piece.now))
             (λ e. StopsAt e (text ++ piece.now)) }
     {
-        let mut at = Place {
-            number: self.number,
-            partial: self.partial,
-        };
+        // What is kept of the field that is coming stays in registers, since nearly every byte changes it.
+        let mut word = self.partial.word;
         for &byte in piece {
-            match at.after(&mut self.so_far, byte) {
-                Ok(next) => at = next,
-                Err(fault) => return Err(fault),
+            if byte > b' ' {
+                word = self.partial.take_field_byte(word, byte);
+            } else {
+                match self.take_low_byte(word, byte) {
+                    Ok(next) => word = next,
+                    Err(fault) => return Err(fault),
+                }
             }
         }
-        self.number = at.number;
-        self.partial = at.partial;
+        self.partial.word = word;
         Ok(())
     }
 
@@ -79,38 +84,52 @@ impl<A: Allocator> Reading<A> {
     }
 }
 
-// Where the reader stands in the text: the number of a line, and what is kept of it.
-#[derive(Clone, Copy)]
-struct Place {
-    number: u64,
-    partial: Partial,
-}
-
-impl Place {
-    // The place behind one more byte.
-    #[inline]
-    fn after<A: Allocator>(self, so_far: &mut SoFar<A>, byte: u8) -> Result<Place, ReadFault>
-        requires sound { IsSound so_far.old.size so_far.old.count so_far.old.links.items }
-        requires few_lines { self.number + 1 < 2 ^ 64 }
-        ensures sound { IsSound so_far.new.size so_far.new.count so_far.new.links.items }
-        ensures few_lines { IfOk result (λ next. next.number ≤ self.number + 1) }
-        ensures told { (text rest : List ℕ) → Stands so_far.old.size so_far.old.count so_far.old.links.items self.partial self.number text
+impl<A: Allocator> Reading<A> {
+    // Takes a byte up to the space: what ends a field or the line, or a rare byte of the field. `word` is what
+    // was kept of that field, in place of the word of `partial`; it answers what is kept then.
+    fn take_low_byte(&mut self, word: Word, byte: u8) -> Result<Word, ReadFault>
+        requires sound { IsSound self.old.so_far.size self.old.so_far.count self.old.so_far.links.items }
+        requires few_lines { self.old.number + 1 < 2 ^ 64 }
+        ensures sound { IsSound self.new.so_far.size self.new.so_far.count self.new.so_far.links.items }
+        ensures few_lines { self.new.number ≤ self.old.number + 1 }
+        ensures told { (text rest : List ℕ)
+            → Stands self.old.so_far.size self.old.so_far.count self.old.so_far.links.items (with_word self.old.partial word) self.old.number text
             → MatchResult result
-            (λ next. Stands so_far.new.size so_far.new.count so_far.new.links.items next.partial next.number (text ++ byte ∷ []))
+            (λ next. Stands self.new.so_far.size self.new.so_far.count self.new.so_far.links.items (with_word self.new.partial next) self.new.number (text ++ byte ∷ []))
             (λ e. StopsAt e ((text ++ byte ∷ []) ++ rest)) }
     {
-        if byte != b'\n' {
-            return Ok(Place {
-                number: self.number,
-                partial: self.partial.with(byte),
-            });
+        match byte {
+            b'\n' => self.take_line_feed(word),
+            b' ' | b'\t' | b'\r' => {
+                self.partial.take_blank(word);
+                Ok(Word::Empty)
+            }
+            _ => Ok(self.partial.take_field_byte(word, byte)),
         }
-        match so_far.take_line(self.number, self.partial.whole()) {
-            Ok(()) => Ok(Place {
-                number: self.number + 1,
-                partial: Partial::new(),
-            }),
-            Err(fault) => Err(fault),
+    }
+
+    // Takes a line feed, which ends the line. `word` and the answer are as at `take_low_byte`.
+    #[inline]
+    fn take_line_feed(&mut self, word: Word) -> Result<Word, ReadFault>
+        requires sound { IsSound self.old.so_far.size self.old.so_far.count self.old.so_far.links.items }
+        requires few_lines { self.old.number + 1 < 2 ^ 64 }
+        ensures sound { IsSound self.new.so_far.size self.new.so_far.count self.new.so_far.links.items }
+        ensures few_lines { self.new.number ≤ self.old.number + 1 }
+        ensures told { (text rest : List ℕ)
+            → Stands self.old.so_far.size self.old.so_far.count self.old.so_far.links.items (with_word self.old.partial word) self.old.number text
+            → MatchResult result
+            (λ next. Stands self.new.so_far.size self.new.so_far.count self.new.so_far.links.items (with_word self.new.partial next) self.new.number (text ++ line_feed ∷ []))
+            (λ e. StopsAt e ((text ++ line_feed ∷ []) ++ rest)) }
+    {
+        let line = Partial {
+            word,
+            ..self.partial
+        };
+        if let Err(fault) = self.so_far.take_line(self.number, line.whole()) {
+            return Err(fault);
         }
+        self.number += 1;
+        self.partial = Partial::new();
+        Ok(self.partial.word)
     }
 }

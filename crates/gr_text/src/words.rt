@@ -58,16 +58,17 @@ fn extended(kept: u32, digit: u8) -> u32
 }
 
 impl Word {
-    /// The field with one more byte, which is no blank. In constant time.
+    /// The field with one more byte, which is no blank. In constant time. A digit that goes on with a number
+    /// comes first, since most bytes of a text are such.
     #[inline]
     pub fn with(self, byte: u8) -> Word
         requires { IsFieldByte byte }
         ensures { (bytes : List ℕ) → WordMeans self bytes → WordMeans result (bytes ++ byte ∷ []) }
     {
-        if byte.is_ascii_digit() {
-            self.with_digit(byte)
-        } else {
-            self.with_other(byte)
+        match self {
+            Word::Number(kept) if byte.is_ascii_digit() => Word::Number(extended(kept, byte)),
+            _ if byte.is_ascii_digit() => self.with_digit(byte),
+            _ => self.with_other(byte),
         }
     }
 

@@ -1,4 +1,5 @@
-use Rattle.std.proofs.Common.{◌≡◌, ℕ, List, ◌+◌, ◌≤◌, ◌++◌, take}
+use Rattle.std.proofs.Common.{ℕ, List, ◌+◌, ◌≤◌, ◌++◌, take}
+use Rattle.gr_text.specs.Partial.{with_word}
 use Rattle.gr_text.specs.Reading.{IsSound}
 use Rattle.gr_text.specs.Reader.{Stands}
 use Rattle.gr_text.proofs.reading.Reading.read.Given as goal
@@ -7,8 +8,7 @@ use Rattle.gr_text.proofs.reading.Reading.read.Given as goal
 abbrev pub invariant-loop-byte : goal.invariant-loop-byte
 invariant-loop-byte g l = record {
   sound : IsSound l.self.so_far.size l.self.so_far.count l.self.so_far.links.items;
-  same_number : l.self.number ≡ l.fn.self.number;
-  few_lines : l.at.number ≤ l.fn.self.number + l.byte-index;
+  few_lines : l.self.number ≤ l.fn.self.number + l.byte-index;
   told : (text : List ℕ) → Stands l.fn.self.so_far.size l.fn.self.so_far.count l.fn.self.so_far.links.items l.fn.self.partial l.fn.self.number text
-      → Stands l.self.so_far.size l.self.so_far.count l.self.so_far.links.items l.at.partial l.at.number (text ++ take l.byte-index l.piece);
+      → Stands l.self.so_far.size l.self.so_far.count l.self.so_far.links.items (with_word l.self.partial l.word) l.self.number (text ++ take l.byte-index l.piece);
 }

@@ -1,6 +1,6 @@
 use Rattle.std.proofs.Common.{[], ◌∷◌, ◌++◌}
 use Rattle.gr_text.proofs.Parts.{AreParts-byte, is_begun-push}
-use Rattle.gr_text.proofs.partial.Partial.with_field_byte.Goals as goal
+use Rattle.gr_text.proofs.partial.Partial.take_field_byte.Goals as goal
 
 pub returns : goal.returns
 returns c = λ part (begun, (fields, last, parts, on, word)). (
