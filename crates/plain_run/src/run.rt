@@ -17,7 +17,7 @@ use std::alloc::Allocator;
 /// forest's text.
 ///
 /// The forest is whole before the first byte is written. For b bytes, m links and n vertices it takes
-/// O(b + m log m + n log n) time, and memory for two lists of the links, 16 bytes a vertex and the forest.
+/// O(b + m log m + n log n) time, and memory for two lists of the links, 12 bytes a vertex and the forest.
 pub fn run_plain<S: Source, W: Sink, A: Allocator + Copy>(
     alloc: A,
     source: &mut S,
