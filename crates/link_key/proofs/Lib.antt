@@ -7,3 +7,4 @@ pub mod Tables
 pub mod OneForest
 pub mod Apart
 pub mod Rings
+pub mod WideKeys

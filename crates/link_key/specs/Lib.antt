@@ -5,3 +5,4 @@ pub mod Forest
 pub mod Labels
 pub mod Offers
 pub mod Components
+pub mod WideKey
