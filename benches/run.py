@@ -48,31 +48,42 @@ def shown(parts):
     return "read {:.0f}, solve {:.0f}, write {:.0f}".format(*parts)
 
 
-def measure(program, steps, kruskal, folder, kind, n, times):
-    """Prints one graph's times; gives the number of its arcs and the whole times of both programs."""
-    graph, ours, stepped, theirs, counted = (os.path.join(folder, name) for name in ("graph", "ours", "stepped", "theirs", "counted"))
-    with open(graph, "wb") as out:
-        subprocess.run([sys.executable, os.path.join(HERE, "generate.py"), kind, str(n)], stdout=out, check=True)
-    with open(graph, "rb") as text:
-        arcs = int(text.readline().split()[3])
-    peak, peak_cpp = peak_of([program, "--plain"], graph, ours), peak_of([kruskal], graph, theirs)
-    whole, whole_cpp, count = 1e9, 1e9, 1e9
-    parts, parts_cpp = [1e9] * 3, [1e9] * 3
-    for _ in range(times):
-        whole = min(whole, run([program, "--plain"], graph, ours)[0])
-        took, told = run([kruskal], graph, theirs)
-        whole_cpp, parts_cpp = min(whole_cpp, took), least(parts_cpp, parts_of(told))
-        _, told = run([steps], graph, stepped)
-        parts = least(parts, [part / 1000 for part in parts_of(told)])
-        count = min(count, run(["wc", "-l"], graph, counted)[0])
-        if not bytes_of(ours) == bytes_of(stepped) == bytes_of(theirs):
-            sys.exit(f"{kind} {n}: the answers differ")
-    size, size_out = os.path.getsize(graph) / 1e6, os.path.getsize(ours) / 1e6
-    print(f"{kind} {n}: {arcs} arcs, {size:.1f} MB in, {size_out:.1f} MB out")
-    print(f"    boruvka {whole:.0f} ms ({shown(parts)}), {peak} KiB; reads {size / parts[0] * 1000:.0f} MB/s, writes {size_out / parts[2] * 1000:.0f} MB/s")
-    print(f"    C++     {whole_cpp:.0f} ms ({shown(parts_cpp)}), {peak_cpp} KiB")
-    print(f"    ratio   {whole / whole_cpp:.2f}, of solving {parts[1] / parts_cpp[1]:.2f}; wc -l {count:.1f} ms", flush=True)
-    return arcs, whole, whole_cpp
+class Measured:
+    """A graph, the answers to it, and the least times seen so far."""
+
+    def __init__(self, folder, kind, n, programs):
+        self.kind, self.n, self.programs = kind, n, programs
+        names = ("graph", "ours", "stepped", "theirs", "counted")
+        self.graph, self.ours, self.stepped, self.theirs, self.counted = (
+            os.path.join(folder, f"{kind}_{n}_{name}") for name in names
+        )
+        with open(self.graph, "wb") as out:
+            subprocess.run([sys.executable, os.path.join(HERE, "generate.py"), kind, str(n)], stdout=out, check=True)
+        with open(self.graph, "rb") as text:
+            self.arcs = int(text.readline().split()[3])
+        program, _, kruskal = programs
+        self.peak, self.peak_cpp = peak_of([program, "--plain"], self.graph, self.ours), peak_of([kruskal], self.graph, self.theirs)
+        self.whole, self.whole_cpp, self.count = 1e9, 1e9, 1e9
+        self.parts, self.parts_cpp = [1e9] * 3, [1e9] * 3
+
+    def take_turn(self):
+        program, steps, kruskal = self.programs
+        self.whole = min(self.whole, run([program, "--plain"], self.graph, self.ours)[0])
+        took, told = run([kruskal], self.graph, self.theirs)
+        self.whole_cpp, self.parts_cpp = min(self.whole_cpp, took), least(self.parts_cpp, parts_of(told))
+        _, told = run([steps], self.graph, self.stepped)
+        self.parts = least(self.parts, [part / 1000 for part in parts_of(told)])
+        self.count = min(self.count, run(["wc", "-l"], self.graph, self.counted)[0])
+        if not bytes_of(self.ours) == bytes_of(self.stepped) == bytes_of(self.theirs):
+            sys.exit(f"{self.kind} {self.n}: the answers differ")
+
+    def tell(self):
+        size, size_out = os.path.getsize(self.graph) / 1e6, os.path.getsize(self.ours) / 1e6
+        read, solve, write = self.parts
+        print(f"{self.kind} {self.n}: {self.arcs} arcs, {size:.1f} MB in, {size_out:.1f} MB out")
+        print(f"    boruvka {self.whole:.0f} ms ({shown(self.parts)}), {self.peak} KiB; reads {size / read * 1000:.0f} MB/s, writes {size_out / write * 1000:.0f} MB/s")
+        print(f"    C++     {self.whole_cpp:.0f} ms ({shown(self.parts_cpp)}), {self.peak_cpp} KiB")
+        print(f"    ratio   {self.whole / self.whole_cpp:.2f}, of solving {solve / self.parts_cpp[1]:.2f}; wc -l {self.count:.1f} ms")
 
 
 def main():
@@ -82,10 +93,19 @@ def main():
         kruskal = os.path.join(folder, "kruskal")
         source = os.path.join(HERE, "kruskal.cpp")
         subprocess.run([os.environ.get("CXX", "c++"), "-O2", "-std=c++17", "-o", kruskal, source], check=True)
-        told = {(kind, n): measure(program, steps, kruskal, folder, kind, n, times) for kind, n in GRAPHS}
+        graphs = {(kind, n): Measured(folder, kind, n, (program, steps, kruskal)) for kind, n in GRAPHS}
+        # All graphs in each turn, so that a slow minute of the machine falls on all of them.
+        for _ in range(times):
+            for graph in graphs.values():
+                graph.take_turn()
+        for graph in graphs.values():
+            graph.tell()
     for kind in ("grid", "random"):
-        (arcs, whole, whole_cpp), (more_arcs, more, more_cpp) = told[kind, 10**5], told[kind, 10**6]
-        growth, growth_cpp = more / more_arcs / (whole / arcs), more_cpp / more_arcs / (whole_cpp / arcs)
+        small, large = graphs[kind, 10**5], graphs[kind, 10**6]
+        growth, growth_cpp = (
+            after / large.arcs / (before / small.arcs)
+            for before, after in ((small.whole, large.whole), (small.whole_cpp, large.whole_cpp))
+        )
         print(f"{kind}: time per arc grows {growth:.2f} times, C++ {growth_cpp:.2f} times, ratio {growth / growth_cpp:.2f}")
 
 

@@ -4,6 +4,7 @@ pub mod Keys
 pub mod Walks
 pub mod Growing
 pub mod Tables
+pub mod Pieces
 pub mod OneForest
 pub mod Apart
 pub mod Rings

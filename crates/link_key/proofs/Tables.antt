@@ -1,5 +1,5 @@
 -- A forest grown along a sorted list, with the labels in a table.
-use Rattle.std.proofs.Common.{◌≡◌, ℕ, ◌+◌, ◌<◌, ◌≤◌, ◌↔◌, ◌⊎◌, ◌==◌, if◌then◌else◌, is_lt, List, [], ◌∷◌, ◌++◌, length, get_or, take, sym, ap, ◌∙◌, subst, subst₂, inl, inr, arith, take_all, get_or-take, length-take, length-append, le_refl}
+use Rattle.std.proofs.Common.{◌≡◌, ℕ, ◌+◌, ◌<◌, ◌≤◌, ◌↔◌, ◌⊎◌, ◌==◌, if◌then◌else◌, is_lt, List, [], ◌∷◌, ◌++◌, length, get_or, take, zero, suc, refl, sym, ap, ◌∙◌, subst, subst₂, inl, inr, arith, take_all, get_or-take, length-take, length-append, le_refl}
 use Rattle.std.specs.List.Sorted.{IsSorted, IsPermutation}
 use Rattle.std.proofs.lemmas.List.{take_more, get_or_default}
 use Rattle.std.proofs.lemmas.List.Elements.{All-get_or}
@@ -10,7 +10,7 @@ use Rattle.std.proofs.lemmas.Bool.Decides.{nat_tests}
 use Rattle.link_key.specs.declared.links.Link.{Link}
 use Rattle.link_key.specs.Link.{key_cmp, EndsUpTo}
 use Rattle.link_key.specs.Forest.{IsForestOf}
-use Rattle.link_key.specs.Components.{IsRelabelled}
+use Rattle.link_key.specs.Components.{IsRelabelled, HasOneLabel}
 use Rattle.link_key.proofs.Keys.{key_cmp_total}
 use Rattle.link_key.proofs.Growing.{Grown, IsBelowNone, AreMerged, AreOneWith, grown_none, grown_joined, grown_apart, forest_of_same}
 
@@ -112,6 +112,12 @@ pub record Read (n : ℕ) (sorted : List Link) (i : ℕ) (table : List ℕ) (x :
   pub low_is : low ≡ label_in table x.low
   pub high_is : high ≡ label_in table x.high
 
+-- what stands at a place of a list
+at_place : {X : Type 0} (xs : List X) (i : ℕ) → i < length xs → (x : X) × (x ≡ get_or xs i x)
+at_place [] i lt = absurd (omega (arith, lt))
+at_place (x ∷ xs) zero lt = (x, refl)
+at_place (x ∷ xs) (suc i) lt = at_place xs i (omega (arith, lt))
+
 -- its ends are in the table
 pub high_in_table : {n : ℕ} {sorted : List Link} {i : ℕ} {taken : List Link} {table : List ℕ} (x : Link) → GrownTable n sorted i taken table → i < length sorted → x ≡ get_or sorted i x → x.high < length table
 high_in_table {n} {sorted} {i} x so_far in_range is =
@@ -158,6 +164,32 @@ module _ {n : ℕ} {sorted : List Link} {i : ℕ} {taken : List Link} {table : L
 
       merged : AreMerged n (label_in table) (label_in table') (label_in table x.low) (label_in table x.high)
       merged = subst₂ (AreMerged n (label_in table) (label_in table')) read.low_is read.high_is (either_way relabelled)
+
+-- it is the same table at any place behind the last link
+pub table_behind : {n : ℕ} {sorted : List Link} {i : ℕ} {taken : List Link} {table : List ℕ} (i' : ℕ) → length sorted ≤ i → length sorted ≤ i' → GrownTable n sorted i taken table → GrownTable n sorted i' taken table
+table_behind {n} {sorted} {i} {taken} {table} i' all all' so_far =
+    let same : take i sorted ≡ take i' sorted = take_all i sorted all ∙ sym (take_all i' sorted all') in
+    record {
+      ends = so_far.ends;
+      order = so_far.order;
+      len = so_far.len;
+      grown = subst (λ seen. Grown n seen taken (label_in table)) same so_far.grown;
+      few = subst (λ seen. length taken ≤ length seen) same so_far.few;
+    }
+
+-- Each of k links was passed over, its ends having one label.
+pub table_passed : {n : ℕ} {sorted : List Link} {i : ℕ} {taken : List Link} {table : List ℕ} (k : ℕ) → i + k ≤ length sorted → ((j : ℕ) (d : Link) → j < k → HasOneLabel table (get_or sorted (i + j) d)) → GrownTable n sorted i taken table → GrownTable n sorted (i + k) taken table
+table_passed {n} {sorted} {i} {taken} {table} zero within one_label so_far = subst (λ j. GrownTable n sorted j taken table) (sym (omega arith)) so_far
+table_passed {n} {sorted} {i} {taken} {table} (suc k) within one_label so_far =
+    let before = table_passed k (omega (arith, within)) (λ j d lt. one_label j d (omega (arith, lt))) so_far in
+    let (x, is) = at_place sorted (i + k) (omega (arith, within)) in
+    let read : Read n sorted (i + k) table x (label_in table x.low) (label_in table x.high) = record {
+      in_range = omega (arith, within);
+      is = is;
+      low_is = refl;
+      high_is = refl;
+    } in
+    subst (λ j. GrownTable n sorted j taken table) (omega arith) (table_joined before read (subst (HasOneLabel table) (sym is) (one_label k x (omega arith))))
 
 -- no more links are taken than there are
 pub table_few : {n : ℕ} (links : List Link) {sorted : List Link} {i : ℕ} {taken : List Link} {table : List ℕ} → IsPermutation links sorted → GrownTable n sorted i taken table → length sorted ≤ i → length taken ≤ length links

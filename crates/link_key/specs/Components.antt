@@ -1,10 +1,15 @@
 -- Components of a graph, each a ring of its members.
 use Rattle.std.specs.Prelude.{◌≡◌, ◌≢◌, ℕ, zero, suc, ◌+◌, ◌<◌, ◌≤◌, ◌⊎◌, ◌^◌, ◌==◌, if◌then◌else◌, List, length, slice_index, EachIndex}
 use Rattle.std.specs.List.{sum}
+use Rattle.link_key.specs.declared.links.Link.{Link}
 
 -- the labels once what had the label `from` was given the label `to`
 abbrev pub IsRelabelled : ℕ → ℕ → List ℕ → List ℕ → Type 0
 IsRelabelled from to labels labels' = EachIndex labels (λ v. slice_index labels' v ≡ (if slice_index labels v == from then to else slice_index labels v))
+
+-- both ends of the link have one label
+abbrev pub HasOneLabel : List ℕ → Link → Type 0
+HasOneLabel labels l = slice_index labels l.low ≡ slice_index labels l.high
 
 -- the vertex that comes k steps after v
 unfoldable pub nth_after : List ℕ → ℕ → ℕ → ℕ

@@ -1,6 +1,8 @@
-ghost use Rattle.std.specs.Prelude.{◌≡◌, ◌≢◌, ℕ, ◌+◌, ◌<◌, ◌≤◌, ◌⊎◌, ◌^◌, ◌==◌, if◌then◌else◌, length, slice_index, EachIndex, IfOk};
-ghost use Rattle.link_key.specs.Components.{IsRelabelled, nth_after, IsLabelledAlong};
+ghost use Rattle.std.specs.Prelude.{◌≡◌, ◌≢◌, ℕ, ◌+◌, ◌<◌, ◌≤◌, ◌⊎◌, ◌^◌, ◌==◌, if◌then◌else◌, length, slice_index, EachIndex, IfOk, IsTrue};
+ghost use Rattle.std.specs.List.{All};
+ghost use Rattle.link_key.specs.Components.{IsRelabelled, nth_after, IsLabelledAlong, HasOneLabel};
 
+use crate::links::Link;
 use std::alloc::{AllocError, Allocator};
 use std::marker::Model;
 
@@ -54,6 +56,20 @@ impl<A: Allocator> Components<A> {
         ensures own { slice_index self.now result ≡ result }
     {
         self.labels[v as usize]
+    }
+
+    // Whether the ends of each of these links have one label. It looks at all of them, so that no look waits for what
+    // another one finds.
+    pub(crate) fn joins_all(&self, links: &[Link]) -> bool
+        requires { All (λ l. l.high < length self.now) links.now }
+        ensures { IsTrue result → All (HasOneLabel self.now) links.now }
+    {
+        let labels = self.labels.as_slice();
+        let mut joined = true;
+        for link in links {
+            joined &= labels[link.low as usize] == labels[link.high as usize];
+        }
+        joined
     }
 
     // Makes the components with the labels `a` and `b` one. It costs time for the members of the smaller one.
