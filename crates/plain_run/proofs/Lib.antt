@@ -1,1 +1,2 @@
 mod Malformed
+mod InMemory

@@ -32,6 +32,14 @@ ReadsGraph before after = (graph : GraphValue) × IsReadOf (2 ^ 40) before after
 abbrev pub IsForestTextOf : List ℕ → List ℕ → Type 0
 IsForestTextOf bytes text = (graph : GraphValue) × (forest : List Link) × Gives bytes graph forest × (text ≡ forest_text graph.vertices forest)
 
+-- the bytes are a file within the limit, and mean a graph
+abbrev pub MeansGraph : List ℕ → Type 0
+MeansGraph bytes = (length bytes ≤ 2 ^ 40) × ((graph : GraphValue) × IsGraphOf bytes graph)
+
+-- so many bytes are no more than the text of the forest that the bytes give has
+abbrev pub IsPartOfText : List ℕ → ℕ → Type 0
+IsPartOfText bytes written = (text : List ℕ) × IsForestTextOf bytes text × (written ≤ length text)
+
 -- the report: how many vertices and links, and no rounds, shards, asks or workers
 abbrev pub plain_report : GraphValue → Report
 plain_report graph = record { vertices = graph.vertices; links = length graph.links; rounds = 0; shards = 0; asked = 0; answered = 0; alone = 0; closed = 0 }

@@ -1,6 +1,7 @@
 //! The run over bytes in memory.
 ghost use Rattle.std.specs.Prelude.{◌≤◌, ◌^◌, length, IfOk};
-ghost use Rattle.plain_run.specs.Plain.{IsForestTextOf, MeansNothing, IsFirstFaultOf};
+ghost use Rattle.gr_text.specs.Reader.{FailsBy};
+ghost use Rattle.plain_run.specs.Plain.{OnRead, OnWrite, OnNoMemory, IsForestTextOf, IsPartOfText, MeansGraph, MeansNothing, IsFirstFaultOf};
 
 use crate::outcome::RunFault;
 use crate::run::run_plain;
@@ -12,6 +13,12 @@ use std::alloc::Allocator;
 /// a failed write.
 pub fn plain_text<A: Allocator + Copy>(alloc: A, bytes: &[u8]) -> Result<Vec<u8, A>, RunFault>
     ensures text { IfOk result (λ text. IsForestTextOf bytes.now text.items) }
+
+    // A file that isn't read has this fault; any other end is that of bytes that mean a graph.
+    ensures refused { OnRead result (λ fault. FailsBy fault (2 ^ 40) bytes.now) }
+    ensures memory { OnNoMemory result (MeansGraph bytes.now) }
+    ensures write { OnWrite result (IsPartOfText bytes.now) }
+
     ensures malformed { length bytes.now ≤ 2 ^ 40 → MeansNothing bytes.now
         → IsFirstFaultOf bytes.now result }
 {
