@@ -1,6 +1,7 @@
 //! What the program does.
 ghost use Rattle.std.specs.Prelude.{◌≡◌, ◌≢◌, ◌≤◌, ◌⊎◌, true, false, IsNone, IsSome};
 ghost use Rattle.std.specs.Io.KnownBytes.{Keeps};
+ghost use Rattle.std.specs.IoError.{error_kind};
 ghost use Rattle.clap.specs.Values.{kind_of};
 ghost use Rattle.boruvka.specs.Status.{streams, sink_alone, WritesForest, WritesPart, IsSilent, IsMistake, EndsWith};
 
@@ -13,6 +14,7 @@ use plain_run::{RunFault, run_plain};
 use std::alloc::{Alloc, Global};
 use std::convert::AsStr;
 use std::fs::{File, Files};
+use std::io::{self, ErrorKind};
 
 // Runs, and tells the report or what went wrong.
 fn run_and_tell<I: Source, O: Sink, E: Sink>(
@@ -205,4 +207,19 @@ where
             NO_MEMORY
         }
     }
+}
+
+/// Tells why the words of the command line weren't got, and answers the status: 4 for want of memory, and
+/// else 2, for a word that isn't UTF-8.
+pub fn without_words<E: Sink>(error: &io::Error, errors: &mut E) -> u8
+    requires { E.can_write errors.old }
+    ensures memory { error_kind error.now ≡ ErrorKind.OutOfMemory → result ≡ 4 }
+    ensures wrong { error_kind error.now ≢ ErrorKind.OutOfMemory → result ≡ 2 }
+{
+    if error.kind() == ErrorKind::OutOfMemory {
+        tell(errors, &"no memory");
+        return NO_MEMORY;
+    }
+    tell(errors, &"a word is not UTF-8");
+    USAGE
 }

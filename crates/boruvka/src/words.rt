@@ -4,8 +4,10 @@ ghost use Rattle.boruvka.specs.Numbers.{IsOwn, IsOwnArg, IsOtherName, HoldsFrom}
 
 use crate::chosen::{Options, OptionsFault};
 use clap::{Arg, ArgAction, ArgMatches, Command};
-use std::alloc::{AllocError, Global};
+use std::alloc::{Alloc, AllocError, Global};
 use std::convert::AsStr;
+use std::env::{self, Env};
+use std::io;
 
 fn workers_arg<'a>(alloc: Global) -> Arg<'a>
     ensures { IsOwnArg result }
@@ -83,7 +85,18 @@ fn number<'a>(matches: &ArgMatches<'a>, name: &str, default: u32) -> u32
     matches.get_one::<u32>(name).unwrap_or(default)
 }
 
-/// Reads the words, the program's name first.
+/// All words of the command line, the program's name first.
+///
+/// The error's kind is `OutOfMemory` where memory was refused; else a word isn't UTF-8.
+pub fn all_words<R: Env + Alloc<A = Global>>(rt: &R) -> io::Result<Vec<String>> {
+    let words = env::args(rt)?.collect(rt.alloc())?;
+    Ok(words)
+}
+
+/// What the words ask for, the program's name first.
+///
+/// Words that the program doesn't take, those that ask for the help, and numbers past their ranges are
+/// `Usage`.
 pub fn options<'a, S: AsStr>(alloc: Global, words: &'a [S]) -> Result<Options, OptionsFault>
     ensures workers { IfOk result (λ o. o.workers ≤ 64) }
     ensures some_shards { IfOk result (λ o. 1 ≤ o.shards) }
