@@ -1,12 +1,12 @@
 use crate::chosen::OptionsFault;
-use crate::command::command;
+use crate::command::{command, without_words};
 use crate::statuses::status_of;
-use crate::words::options;
-use byte_streams::FusedSink;
+use crate::words::{all_words, options};
+use byte_streams::{FusedSink, FusedSource};
 use plain_run::RunFault;
 use std::alloc::{Alloc, Global};
 use std::fs::{self, File, Files};
-use std::io::Write;
+use std::io::{self, ErrorKind, Write};
 use std::process::Abort;
 use std::test::Fail;
 
@@ -179,45 +179,191 @@ fn prints_the_help(rt: HostRuntime) -> Result<(), Fail> {
     Ok(())
 }
 
+// A failed write to errors changes nothing else.
 #[test]
-fn judges_the_words(rt: HostRuntime) -> Result<(), Fail> {
-    let alloc = rt.alloc();
-    let plain = options(alloc, &["boruvka", "--plain"]).map_err(|_| "lawful words")?;
-    assert!(rt; plain.plain && !plain.report && plain.workers == 2 && plain.shards == 64);
-    assert!(rt; plain.file.is_none());
-    let all = [
-        "boruvka",
-        "--workers",
-        "64",
-        "--shards=4096",
-        "--report",
-        "a.gr",
+fn ignores_errors_that_fail(rt: HostRuntime) -> Result<(), Fail> {
+    let words = ["boruvka", "--plain", "--report"];
+    let late = b"a 1 2 3\np sp 2 1\n".as_slice();
+    let files = [
+        (SMALL_NET.as_slice(), 0, SMALL_FOREST.as_slice()),
+        (late, 1, b"".as_slice()),
     ];
-    let all = options(alloc, &all).map_err(|_| "lawful words")?;
-    assert!(rt; all.workers == 64 && all.shards == 4096 && all.report && !all.plain);
-    for wrong in ["--workers=65", "--shards=0", "--shards=4097", "--wrong"] {
-        let is_usage = matches!(
-            options(alloc, &["boruvka", wrong]),
-            Err(OptionsFault::Usage(_))
-        );
-        assert!(rt; is_usage);
-        let mut errors = Vec::new(alloc);
-        let mut input = SMALL_NET.as_slice();
-        let mut output = Vec::new(alloc);
+    for (file, status, text) in files {
+        let mut input = file;
+        let mut output = Vec::new(rt.alloc());
+        let mut errors = FusedSink::new(rt.alloc(), 0, 1)?;
         assert_eq!(rt;
-            command(
-                &rt,
-                &["boruvka", wrong],
-                &mut input,
-                &mut output,
-                &mut errors
-            ),
-            2
+            command(&rt, &words, &mut input, &mut output, &mut errors),
+            status
         );
-        assert!(rt; output.is_empty() && !errors.is_empty());
+        assert_eq!(rt; output.as_slice(), text);
+        assert!(rt; errors.held().is_empty());
     }
+    Ok(())
+}
+
+// A run that fails has no report.
+#[test]
+fn reports_only_what_ended_well(rt: HostRuntime) -> Result<(), Fail> {
+    let words = ["boruvka", "--plain", "--report"];
+    expect(
+        &rt,
+        &words,
+        b"",
+        1,
+        b"",
+        b"boruvka: line 1: MissingProblem\n",
+    );
+    let mut errors = Vec::new(rt.alloc());
+    let mut input = SMALL_NET.as_slice();
+    let mut output = FusedSink::new(rt.alloc(), 10, 7)?;
+    let status = command(&rt, &words, &mut input, &mut output, &mut errors);
+    assert_eq!(rt; status, 3);
+    assert_eq!(rt;
+        errors.as_slice(),
+        b"boruvka: write failed after 10 bytes\n".as_slice()
+    );
+    Ok(())
+}
+
+// The source gives the first line and four bytes of the second, and then fails.
+#[test]
+fn tells_the_line_of_a_failed_read(rt: HostRuntime) -> Result<(), Fail> {
+    let file = Vec::from_slice(rt.alloc(), b"p sp 2 2\na 1 2 5")?;
+    let mut input = FusedSource::new(file, 12, 5);
+    let mut output = Vec::new(rt.alloc());
+    let mut errors = Vec::new(rt.alloc());
+    let status = command(
+        &rt,
+        &["boruvka", "--plain"],
+        &mut input,
+        &mut output,
+        &mut errors,
+    );
+    assert_eq!(rt; status, 3);
+    assert!(rt; output.is_empty());
+    assert_eq!(rt;
+        errors.as_slice(),
+        b"boruvka: line 2: read failed\n".as_slice()
+    );
+    Ok(())
+}
+
+// An empty word and a minus are names of files like others.
+#[test]
+fn opens_whatever_name_it_is_given(rt: HostRuntime) -> Result<(), Fail> {
+    let empty = b"boruvka: cannot open \n";
+    expect(&rt, &["boruvka", "--plain", ""], SMALL_NET, 3, b"", empty);
+    let minus = b"boruvka: cannot open -\n";
+    expect(&rt, &["boruvka", "--plain", "-"], SMALL_NET, 3, b"", minus);
+    Ok(())
+}
+
+#[test]
+fn tells_a_help_that_cannot_be_written(rt: HostRuntime) -> Result<(), Fail> {
+    let mut errors = Vec::new(rt.alloc());
+    let mut input = SMALL_NET.as_slice();
+    let mut output = FusedSink::new(rt.alloc(), 10, 7)?;
+    let status = command(
+        &rt,
+        &["boruvka", "--help"],
+        &mut input,
+        &mut output,
+        &mut errors,
+    );
+    assert_eq!(rt; status, 3);
+    assert_eq!(rt; output.held(), b"Computes t".as_slice());
+    assert_eq!(rt;
+        errors.as_slice(),
+        b"boruvka: write failed after 10 bytes\n".as_slice()
+    );
+    Ok(())
+}
+
+// The words are lawful, and ask for so many workers and shards, and for this file.
+fn expect_options(
+    rt: &(impl Abort + Alloc<A = Global>),
+    words: &[&str],
+    workers: u32,
+    shards: u32,
+    file: Option<&str>,
+) {
+    let Ok(chosen) = options(rt.alloc(), words) else {
+        panic!(rt; "lawful words");
+    };
+    assert_eq!(rt; chosen.workers, workers);
+    assert_eq!(rt; chosen.shards, shards);
+    match (&chosen.file, file) {
+        (Some(name), Some(wanted)) => assert_eq!(rt; name.as_str(), wanted),
+        (None, None) => {}
+        _ => panic!(rt; "another file"),
+    }
+}
+
+#[test]
+fn takes_numbers_within_their_ranges(rt: HostRuntime) -> Result<(), Fail> {
+    expect_options(&rt, &["boruvka"], 2, 64, None);
+    expect_options(&rt, &["boruvka", "a.gr"], 2, 64, Some("a.gr"));
+    expect_options(&rt, &["boruvka", "--workers", "0"], 0, 64, None);
+    expect_options(&rt, &["boruvka", "--workers", "64"], 64, 64, None);
+    expect_options(&rt, &["boruvka", "--shards", "1"], 2, 1, None);
+    expect_options(&rt, &["boruvka", "--shards", "4096"], 2, 4096, None);
+    let between = ["boruvka", "--workers=7", "--shards", "100", "a.gr"];
+    expect_options(&rt, &between, 7, 100, Some("a.gr"));
+    let most = ["boruvka", "--workers", "64", "--shards=4096", "--report"];
+    expect_options(&rt, &most, 64, 4096, None);
+    expect_options(&rt, &["boruvka", "--plain"], 2, 64, None);
+    Ok(())
+}
+
+#[test]
+fn takes_the_words_for_what_they_ask(rt: HostRuntime) -> Result<(), Fail> {
+    let plain = options(rt.alloc(), &["boruvka", "--plain"]).map_err(|_| "lawful words")?;
+    assert!(rt; plain.plain && !plain.report);
+    let report = options(rt.alloc(), &["boruvka", "--report"]).map_err(|_| "lawful words")?;
+    assert!(rt; report.report && !report.plain);
+    Ok(())
+}
+
+// These words are refused as the usage says, and nothing goes to the output.
+fn expect_refused(rt: &(impl Abort + Files + Alloc<A = Global>), words: &[&str]) {
+    let is_usage = matches!(options(rt.alloc(), words), Err(OptionsFault::Usage(_)));
+    assert!(rt; is_usage);
+    let mut errors = Vec::new(rt.alloc());
+    let mut input = SMALL_NET.as_slice();
+    let mut output = Vec::new(rt.alloc());
+    let status = command(rt, words, &mut input, &mut output, &mut errors);
+    assert_eq!(rt; status, 2);
+    assert!(rt; output.is_empty() && !errors.is_empty());
+}
+
+#[test]
+fn refuses_wrong_words(rt: HostRuntime) -> Result<(), Fail> {
+    for wrong in ["--workers=65", "--shards=0", "--shards=4097", "--wrong"] {
+        expect_refused(&rt, &["boruvka", wrong]);
+    }
+    expect_refused(&rt, &["boruvka", "--workers", "65"]);
+    expect_refused(&rt, &["boruvka", "--shards", "0"]);
+    expect_refused(&rt, &["boruvka", "--plain", "a.gr", "b.gr"]);
     let wrong =
         b"error: unexpected argument '--wrong' found\n\n  tip: to pass '--wrong' as a value, use '-- --wrong'\n\nUsage: boruvka [OPTIONS] [FILE]\n\nFor more information, try '--help'.\n";
     expect(&rt, &["boruvka", "--wrong"], SMALL_NET, 2, b"", wrong);
+    Ok(())
+}
+
+#[test]
+fn tells_why_there_are_no_words(rt: HostRuntime) -> Result<(), Fail> {
+    let mut errors = Vec::new(rt.alloc());
+    let memory = io::Error::from(ErrorKind::OutOfMemory);
+    assert_eq!(rt; without_words(&memory, &mut errors), 4);
+    assert_eq!(rt; errors.as_slice(), b"boruvka: no memory\n".as_slice());
+    errors.clear();
+    let no_text = io::Error::from(ErrorKind::InvalidData);
+    assert_eq!(rt; without_words(&no_text, &mut errors), 2);
+    assert_eq!(rt;
+        errors.as_slice(),
+        b"boruvka: a word is not UTF-8\n".as_slice()
+    );
+    assert!(rt; !all_words(&rt)?.is_empty());
     Ok(())
 }
