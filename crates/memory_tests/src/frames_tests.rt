@@ -1,0 +1,101 @@
+// Frames that are read from bytes: the body's block, and the list that is made of it.
+use frames::{FrameFault, read_frame};
+use std::alloc::Global;
+use std::process::Abort;
+use test_memory::{Refusals, Refusing};
+
+const HELLO: [u8; 11] = [1, 0, 0, 0, 6, 0, 1, 0, 0, 0, 0];
+
+const SHARD: [u8; 25] = [
+    2, 0, 0, 0, 20, 0, 0, 0, 0, 0, 0, 0, 1, 0, 0, 0, 1, 0, 0, 0, 2, 0, 0, 0, 5,
+];
+
+const ASK: [u8; 29] = [
+    3, 0, 0, 0, 24, 0, 0, 0, 1, 0, 0, 0, 0, 0, 0, 0, 3, 0, 0, 0, 1, 0, 0, 0, 1, 0, 0, 0, 3,
+];
+
+const ANSWER: [u8; 33] = [
+    4, 0, 0, 0, 28, 0, 0, 0, 1, 0, 0, 0, 0, 0, 0, 0, 2, 0, 0, 0, 1, 0, 0, 0, 0, 0, 0, 0, 2, 0, 0,
+    0, 0,
+];
+
+const FAULT: [u8; 14] = [5, 0, 0, 0, 9, 0, 0, 0, 1, 0, 0, 0, 5, 2];
+
+// The second link's ends are equal.
+const SHARD_WITH_A_LOOP: [u8; 37] = [
+    2, 0, 0, 0, 32, 0, 0, 0, 0, 0, 0, 0, 2, 0, 0, 0, 1, 0, 0, 0, 2, 0, 0, 0, 5, 0, 0, 0, 3, 0, 0,
+    0, 3, 0, 0, 0, 5,
+];
+
+// The label of vertex 3 is 2, whose own label is 1.
+const ASK_WITHOUT_LABELS: [u8; 29] = [
+    3, 0, 0, 0, 24, 0, 0, 0, 1, 0, 0, 0, 0, 0, 0, 0, 3, 0, 0, 0, 1, 0, 0, 0, 1, 0, 0, 0, 2,
+];
+
+// The components are 2 and then 1.
+const ANSWER_THAT_DESCENDS: [u8; 33] = [
+    4, 0, 0, 0, 28, 0, 0, 0, 1, 0, 0, 0, 0, 0, 0, 0, 2, 0, 0, 0, 2, 0, 0, 0, 0, 0, 0, 0, 1, 0, 0,
+    0, 0,
+];
+
+const FAULT_WITH_CODE_4: [u8; 14] = [5, 0, 0, 0, 9, 0, 0, 0, 1, 0, 0, 0, 5, 4];
+
+// The frame is refused with this fault, blocks were handed out, and none of them lives.
+fn expect_nothing_lives(rt: &impl Abort, alloc: Global, bytes: &[u8], expected: FrameFault) {
+    let memory = Refusing::new(alloc, Refusals::none());
+    let mut source = bytes;
+    match read_frame(&memory, &mut source) {
+        Ok(_) => assert!(rt; false),
+        Err(fault) => assert_eq!(rt; fault, expected),
+    }
+    assert!(rt; memory.given() > 0);
+    assert_eq!(rt; memory.live(), 0);
+}
+
+#[test]
+fn a_refused_body_is_dropped(rt: HostRuntime) {
+    let bad = FrameFault::BadField;
+    expect_nothing_lives(&rt, rt.alloc(), &SHARD_WITH_A_LOOP, bad);
+    expect_nothing_lives(&rt, rt.alloc(), &ASK_WITHOUT_LABELS, bad);
+    expect_nothing_lives(&rt, rt.alloc(), &ANSWER_THAT_DESCENDS, bad);
+    expect_nothing_lives(&rt, rt.alloc(), &FAULT_WITH_CODE_4, bad);
+}
+
+#[test]
+fn a_torn_body_is_dropped(rt: HostRuntime) {
+    expect_nothing_lives(&rt, rt.alloc(), &ASK[..28], FrameFault::Torn);
+}
+
+// While the frame lives, so do this many blocks and no more, and none once it is dropped.
+fn expect_blocks(rt: &impl Abort, alloc: Global, bytes: &[u8], blocks: u64) {
+    let memory = Refusing::new(alloc, Refusals::none());
+    let mut source = bytes;
+    let frame = read_frame(&memory, &mut source);
+    assert!(rt; frame.is_ok());
+    assert_eq!(rt; memory.live(), blocks);
+    drop(frame);
+    assert_eq!(rt; memory.live(), 0);
+}
+
+#[test]
+fn a_frame_keeps_its_list_alone(rt: HostRuntime) {
+    expect_blocks(&rt, rt.alloc(), &SHARD, 1);
+    expect_blocks(&rt, rt.alloc(), &ASK, 1);
+    expect_blocks(&rt, rt.alloc(), &ANSWER, 1);
+    expect_blocks(&rt, rt.alloc(), &HELLO, 0);
+    expect_blocks(&rt, rt.alloc(), &FAULT, 0);
+}
+
+// Each allocation of a frame refused in turn: the fault is want of memory, and nothing lives.
+#[test]
+fn what_came_before_a_refusal_is_dropped(rt: HostRuntime) {
+    for number in 1..3u64 {
+        let memory = Refusing::new(rt.alloc(), Refusals::since(number));
+        let mut source = ASK.as_slice();
+        match read_frame(&memory, &mut source) {
+            Ok(_) => assert!(rt; false),
+            Err(fault) => assert_eq!(rt; fault, FrameFault::Memory),
+        }
+        assert_eq!(rt; (memory.given(), memory.live()), (number - 1, 0));
+    }
+}
