@@ -53,7 +53,8 @@ impl<A: Allocator + Copy> Board<A> {
     /// A board with all shards free, and its seats in order, from number 0 on.
     ///
     /// `Memory` comes where the allocator refused the row of the seats or the table of the words, and no other fault
-    /// comes. It takes 8 bytes for each shard and some 500 for each seat, and one step on a word for each seat.
+    /// comes. It takes 8 bytes for each shard and some 500 for each seat, and one step on a word for each seat but the
+    /// last.
     pub fn open(alloc: A, shards: u32, seats: u32) -> Result<(Board<A>, Vec<Seat, A>), BoardFault>
         requires shards { (0 < shards) × (shards ≤ 4096) }
         requires seats { (0 < seats) × (seats ≤ 64) }
@@ -118,7 +119,7 @@ impl<A: Allocator> Board<A> {
     /// Who owns each shard at the end, from all seats of the board in order, as `open` gave them.
     ///
     /// It takes no memory and always answers `Ok`: what it answers keeps the board's words. The row of the seats is freed.
-    /// It takes one step on a word for each seat.
+    /// It takes one step on a word for each seat but the last.
     pub fn close(self, mut seats: Vec<Seat, A>) -> Result<Owners<A>, BoardFault>
         requires seats { AreSeats self seats.items }
         ensures ok { IsOk result }

@@ -48,7 +48,8 @@
 //! - What an event is and which is allowed when: `event` and `specs/Machine.antt`, then `specs/Rule.antt`.
 //! - A new kind of step: its `Play` in `rule`, what it tells in `specs/Rule.antt`, its proof in `proofs/Steps.antt`.
 //! - What contracts see of boards and seats: `specs/State.antt`. What the fields keep: `specs/Kept.antt`.
-//! - More than 64 seats or 4,096 shards: `IsInRange` of `specs/Kept.antt`, `open`, and the bits of `shard_set`.
+//! - More than 64 seats: `IsInRange` and `IsClosed` of `specs/Kept.antt`, and `open`.
+//! - More than 4,096 shards: `IsInRange`, `open`, and the bits of `shard_set`.
 #![tactic(auto)]
 
 mod board;

@@ -13,7 +13,10 @@ impl<A: Allocator> Frame<A> {
     ///
     /// A hello is of version 1 and of a worker below 64; a shard's number is below 4,096, with at most
     /// 2^24 links; an ask is for a shard below 4,096; an answer has at most 2^25 offers; a fault's code is
-    /// 1, 2 or 3. It takes no memory and looks at no list.
+    /// 1, 2 or 3.
+    ///
+    /// It takes no memory. For a shard it goes through the links once, and for an answer through the offers;
+    /// of labels it asks nothing, since `Labels` keep their rule.
     pub fn is_lawful(&self) -> bool
         ensures { IsTrue result ↔ IsLawful (value_of self.now) }
     {
@@ -60,7 +63,8 @@ fn is_fault(round: u32, shard: u32, code: u8) -> bool
     1 <= code && code <= 3
 }
 
-// A proof knows that a number fits its type only where the code reads it. The compiler drops the loop.
+// A proof knows that a number fits its type only where the code reads it, so each weight is read. Nothing is
+// done with it: a build may leave the loop out, and no contract says that it does.
 fn see_weights(links: &[Link])
     ensures { All (λ l. FitsSigned w32 l.weight) links.now }
 {

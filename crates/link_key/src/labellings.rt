@@ -137,7 +137,7 @@ fn are_own(piece: &[u32], before: u32) -> bool
     own
 }
 
-// The same of vertex v and the three behind it.
+// Whether the labels of vertex v and of the three behind it are from 1 to their vertices, and their own labels.
 #[inline]
 fn are_four_labelled(labels: &[u32], v: usize) -> bool
     requires from_one { 1 ≤ v }

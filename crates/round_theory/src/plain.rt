@@ -1,7 +1,8 @@
 //! The definitions, run as they read: short and slow.
 //!
-//! For n vertices and m links a labelling costs O(m n) time, and so do the offers and the picks of a round. A run of r
-//! rounds costs r times that, where r is at most the logarithm of n, and memory for the links taken and 4 bytes a vertex.
+//! For n vertices and m links a labelling costs O(m n) time, and so do the offers and the picks of a round.
+//! `taken_after` costs that for each of the rounds that it is asked for, and `merging_rounds` for one round more than it
+//! answers, which is at most the logarithm of n. Both take memory for the links taken and 4 bytes a vertex.
 //! An error is want of memory, and no other.
 
 ghost use Rattle.std.specs.Prelude.{◌≡◌, ◌≢◌, ℕ, ◌+◌, ◌<◌, ◌≤◌, ◌^◌, ◌==◌, ◌↔◌, if◌then◌else◌, List, length, slice_index, Contains, AllPairs, EachIndex, IsTrue, MatchOption, IfOk};
