@@ -53,8 +53,13 @@ fn draw(state: &mut u64, bound: u32) -> u32
     ((*state >> 33) % u64::from(bound)) as u32
 }
 
-// Sixty arcs between the vertices 1 to n, loops and repeats among them, of the weights -2 to 2.
-fn drawn_arcs(alloc: Global, seed: u64, n: u32) -> Result<Vec<(u32, u32, i32)>, AllocError>
+// Sixty arcs between the vertices 1 to n, loops and repeats among them, each of one of these weights.
+fn drawn_arcs(
+    alloc: Global,
+    seed: u64,
+    n: u32,
+    weights: &[i32; 5],
+) -> Result<Vec<(u32, u32, i32)>, AllocError>
     requires some { 0 < n }
     requires few { n ≤ 2 ^ 26 }
 {
@@ -63,21 +68,35 @@ fn drawn_arcs(alloc: Global, seed: u64, n: u32) -> Result<Vec<(u32, u32, i32)>, 
     for _ in 0..60 {
         let tail = draw(&mut state, n) + 1;
         let head = draw(&mut state, n) + 1;
-        let weight = draw(&mut state, 5) as i32 - 2;
-        arcs.push((tail, head, weight))?;
+        let place = draw(&mut state, 5) as usize;
+        arcs.push((tail, head, weights[place]))?;
     }
     Ok(arcs)
 }
 
-#[test]
-fn drawn_lists(rt: HostRuntime) -> Result<(), Fail> {
+// The solver and the plain program give one forest of each of 300 drawn lists with these weights.
+fn expect_one_forest(rt: &impl Abort, alloc: Global, weights: &[i32; 5]) -> Result<(), Fail> {
     for seed in 0..300u32 {
         let n = seed % 39 + 2;
-        let arcs = drawn_arcs(rt.alloc(), u64::from(seed), n)?;
-        let links = links_of(&rt, rt.alloc(), n, arcs.as_slice())?;
-        let forest = plain_forest(rt.alloc(), n, links.as_slice())?;
-        let slow = slow_forest(&rt, rt.alloc(), n, links.as_slice())?;
+        let arcs = drawn_arcs(alloc, u64::from(seed), n, weights)?;
+        let links = links_of(rt, alloc, n, arcs.as_slice())?;
+        let forest = plain_forest(alloc, n, links.as_slice())?;
+        let slow = slow_forest(rt, alloc, n, links.as_slice())?;
         assert_eq!(rt; forest.links(), slow.as_slice());
     }
     Ok(())
+}
+
+#[test]
+fn drawn_lists(rt: HostRuntime) -> Result<(), Fail> {
+    expect_one_forest(&rt, rt.alloc(), &[-2, -1, 0, 1, 2])
+}
+
+#[test]
+fn drawn_lists_of_extreme_weights(rt: HostRuntime) -> Result<(), Fail> {
+    expect_one_forest(
+        &rt,
+        rt.alloc(),
+        &[i32::MIN, i32::MIN + 1, 0, i32::MAX - 1, i32::MAX],
+    )
 }

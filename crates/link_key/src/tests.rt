@@ -67,6 +67,11 @@ fn a_small_net(rt: HostRuntime) -> Result<(), Fail> {
 }
 
 #[test]
+fn no_vertices(rt: HostRuntime) -> Result<(), Fail> {
+    expect_forest(&rt, rt.alloc(), 0, &[], &[])
+}
+
+#[test]
 fn a_loop_alone(rt: HostRuntime) -> Result<(), Fail> {
     expect_forest(&rt, rt.alloc(), 1, &[(1, 1, 5)], &[])
 }
