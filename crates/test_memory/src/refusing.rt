@@ -51,8 +51,8 @@ impl<B: Allocator> Refusing<B> {
         self.given_back.so_far()
     }
 
-    /// How many blocks live: they were handed out and haven't come back. Where another thread allocates meanwhile, a
-    /// block that it takes may be missed.
+    /// How many blocks live: they were handed out and haven't come back. Exact where no other thread takes or gives back
+    /// a block meanwhile.
     pub fn live(&self) -> u64 {
         let given_back = self.given_back();
         self.given().saturating_sub(given_back)
