@@ -255,3 +255,12 @@ fn reads_that_fail(rt: HostRuntime) -> Result<(), Fail> {
     assert!(rt; read_frame(rt.alloc(), &mut source)?.is_lawful());
     Ok(())
 }
+
+#[test]
+fn texts_of_faults(rt: HostRuntime) -> Result<(), Fail> {
+    let torn = format!(in rt.alloc(); "{}", FrameFault::Torn)?;
+    let kind = format!(in rt.alloc(); "{}", FrameFault::BadKind)?;
+    assert_eq!(rt; torn.as_str(), "stream ended inside a frame");
+    assert_eq!(rt; kind.as_str(), "frame of an unknown kind");
+    Ok(())
+}
