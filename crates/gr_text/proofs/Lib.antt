@@ -14,6 +14,7 @@ pub mod Ending
 pub mod Sourcing
 pub mod Handing
 pub mod ForestLines
+pub mod ForestSize
 pub mod Texts
 pub mod OneFault
 pub mod Deciding

@@ -9,5 +9,6 @@ pub mod Reading
 pub mod Partial
 pub mod Reader
 pub mod Sourced
+pub mod Written
 pub mod Handing
 pub mod Laws

@@ -1,10 +1,10 @@
 //! The writer of a forest's text.
-ghost use Rattle.std.specs.Prelude.{◌≡◌, ℕ, ◌+◌, ◌^◌, ◌<◌, ◌≤◌, [], length, take, Some, IsOk, IfOk, IfErr, OnOk, OnErr};
+ghost use Rattle.std.specs.Prelude.{◌≡◌, ℕ, ◌+◌, ◌≤◌, [], length, Some, IsOk, IfOk, IfErr, OnOk, OnErr};
 ghost use Rattle.std.specs.Io.KnownBytes.{Appends};
 ghost use Rattle.byte_streams.specs.Counts.{Rises, Stands};
-ghost use Rattle.byte_streams.specs.Sink.{WentOut};
 ghost use Rattle.gr_text.specs.ForestText.{forest_text};
-ghost use Rattle.gr_text.specs.Handing.{HandsOn};
+ghost use Rattle.gr_text.specs.Handing.{HandsOn, HandsPart};
+ghost use Rattle.gr_text.specs.Written.{told_count, FrontWentOut};
 
 use crate::piece::Piece;
 use crate::spelled::Spelled;
@@ -15,44 +15,43 @@ use std::alloc::Allocator;
 /// The sink failed, or took no byte of what was left.
 #[derive(Clone, Copy, Debug, PartialEq, Eq)]
 pub struct WriteFault {
-    /// How many bytes of the text the sink took.
+    /// How many bytes of the text the sink took; `u64::MAX` where they are more.
     pub written: u64,
 }
 
-// Hands all that waits to the sink, as the next part of a text of which `written` bytes went out before.
+// Hands all that waits to the sink, as the next part of a text of which `written` bytes went out before. The
+// number that is told stops at `u64::MAX`.
 fn hand_on<W: Sink>(sink: &mut W, written: u64, piece: &mut Piece) -> Result<u64, WriteFault>
-    requires can { W.can_write sink.old }
-    requires fits { written + length piece.old < 2 ^ 64 }
+    requires { W.can_write sink.old }
 
     ensures whole { IfOk result (λ total. HandsOn (W.contents sink.old) (W.contents sink.new)
         written total piece.old piece.new) }
     ensures emptied { OnOk result (piece.new ≡ []) }
-    ensures part { IfErr result (λ fault. WentOut (W.contents sink.old) (W.contents sink.new)
+    ensures part { IfErr result (λ fault. HandsPart (W.contents sink.old) (W.contents sink.new)
         written fault.written piece.old) }
     ensures failed { OnErr result (Rises (W.setbacks sink.old) (W.setbacks sink.new)) }
     ensures passed { OnOk result (Stands (W.setbacks sink.old) (W.setbacks sink.new)) }
     ensures again { OnOk result (W.can_write sink.new) }
 {
-    match put(sink, written, piece.as_slice()) {
-        Ok(total) => {
+    match put(sink, 0, piece.as_slice()) {
+        Ok(count) => {
             piece.clear();
-            Ok(total)
+            Ok(written.saturating_add(count))
         }
         Err(fault) => Err(WriteFault {
-            written: fault.written,
+            written: written.saturating_add(fault.written),
         }),
     }
 }
 
 // Hands what waits to the sink where another line might not fit.
 fn make_room<W: Sink>(sink: &mut W, written: u64, piece: &mut Piece) -> Result<u64, WriteFault>
-    requires can { W.can_write sink.old }
-    requires fits { written + length piece.old < 2 ^ 64 }
+    requires { W.can_write sink.old }
 
     ensures moved { IfOk result (λ total. HandsOn (W.contents sink.old) (W.contents sink.new)
         written total piece.old piece.new) }
     ensures room { OnOk result (length piece.new + 64 ≤ 8192) }
-    ensures part { IfErr result (λ fault. WentOut (W.contents sink.old) (W.contents sink.new)
+    ensures part { IfErr result (λ fault. HandsPart (W.contents sink.old) (W.contents sink.new)
         written fault.written piece.old) }
     ensures failed { OnErr result (Rises (W.setbacks sink.old) (W.setbacks sink.new)) }
     ensures passed { OnOk result (Stands (W.setbacks sink.old) (W.setbacks sink.new)) }
@@ -65,31 +64,28 @@ fn make_room<W: Sink>(sink: &mut W, written: u64, piece: &mut Piece) -> Result<u
 }
 
 /// Writes the text of a forest of `n` vertices, flushes the sink once, and answers how many bytes the
-/// text has.
+/// text has, or `u64::MAX` where they are more.
 ///
 /// The first line is `p sp n k`, and each of the k links has a line `a low high weight`, in ascending
 /// order of their keys. The fault comes where a write or the flush fails, or where a write takes no
 /// byte; there is no second try. Lines are put together in 8 KiB on the stack and written as one
 /// piece, so the sink is called about once for 8 KiB; it takes no memory beside. The time is linear
-/// in the bytes of the text. The number of bytes has to fit its type: 2^57 links are more than any
-/// memory holds.
+/// in the bytes of the text.
 pub fn write_forest<W: Sink, A: Allocator>(
     sink: &mut W,
     n: u32,
     forest: &Forest<A>,
 ) -> Result<u64, WriteFault>
-    requires can { W.can_write sink.old }
-    requires few { length forest.now ≤ 2 ^ 57 }
+    requires { W.can_write sink.old }
 
     // At the end the sink has taken exactly the whole text.
     ensures whole { OnOk result
         (Appends (W.contents sink.old) (W.contents sink.new) (forest_text n forest.now)) }
-    ensures count { IfOk result (λ written. written ≡ length (forest_text n forest.now)) }
+    ensures count { IfOk result (λ written. written ≡ told_count (length (forest_text n forest.now))) }
 
-    // At a fault it has taken exactly as many bytes of the text as the fault says.
-    ensures prefix { IfErr result (λ fault. Appends (W.contents sink.old) (W.contents sink.new)
-        (take fault.written (forest_text n forest.now))) }
-    ensures within { IfErr result (λ fault. fault.written ≤ length (forest_text n forest.now)) }
+    // At a fault it has taken the front of the text, of as many bytes as the fault tells.
+    ensures part { IfErr result (λ fault. FrontWentOut (W.contents sink.old) (W.contents sink.new)
+        fault.written (forest_text n forest.now)) }
 
     ensures failed { OnErr result (Rises (W.setbacks sink.old) (W.setbacks sink.new)) }
     ensures passed { OnOk result (Stands (W.setbacks sink.old) (W.setbacks sink.new)) }

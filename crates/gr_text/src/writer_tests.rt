@@ -31,7 +31,6 @@ fn small_net() -> [Option<Link>; 5] {
 #[test]
 fn writes_a_small_net(rt: HostRuntime) -> Result<(), Fail> {
     let forest = forest_of(rt.alloc(), &small_net())?.expect(&rt, "ascending");
-    assert!(rt; forest.links().len() <= 5);
     let mut sink = Vec::new(rt.alloc());
     assert_eq!(rt; write_forest(&mut sink, 6, &forest), Ok(50));
     assert_eq!(rt; sink.as_slice(), SMALL_NET.as_slice());
@@ -47,7 +46,6 @@ fn writes_weights_of_both_signs(rt: HostRuntime) -> Result<(), Fail> {
         Link::of_arc(67108863, 67108864, 2147483647),
     ];
     let forest = forest_of(rt.alloc(), &links)?.expect(&rt, "ascending");
-    assert!(rt; forest.links().len() <= 4);
     let mut sink = Vec::new(rt.alloc());
     assert_eq!(rt; write_forest(&mut sink, 67108864, &forest), Ok(82));
     assert_eq!(rt;
@@ -60,7 +58,6 @@ fn writes_weights_of_both_signs(rt: HostRuntime) -> Result<(), Fail> {
 #[test]
 fn writes_no_links(rt: HostRuntime) -> Result<(), Fail> {
     let forest = forest_of(rt.alloc(), &[])?.expect(&rt, "ascending");
-    assert!(rt; forest.links().is_empty());
     let mut sink = FusedSink::new(rt.alloc(), 10, 7)?;
     assert_eq!(rt; write_forest(&mut sink, 0, &forest), Ok(9));
     assert_eq!(rt; sink.held(), b"p sp 0 0\n".as_slice());
@@ -71,7 +68,6 @@ fn writes_no_links(rt: HostRuntime) -> Result<(), Fail> {
 #[test]
 fn tells_the_bytes_that_went_out(rt: HostRuntime) -> Result<(), Fail> {
     let forest = forest_of(rt.alloc(), &small_net())?.expect(&rt, "ascending");
-    assert!(rt; forest.links().len() <= 5);
     for passes in [0usize, 10, 49] {
         let fault = WriteFault {
             written: passes as u64,
@@ -90,7 +86,6 @@ fn tells_the_bytes_that_went_out(rt: HostRuntime) -> Result<(), Fail> {
 #[test]
 fn tells_a_flush_that_failed(rt: HostRuntime) -> Result<(), Fail> {
     let forest = forest_of(rt.alloc(), &small_net())?.expect(&rt, "ascending");
-    assert!(rt; forest.links().len() <= 5);
     let mut failing = FusedSink::new(rt.alloc(), 50, 7)?;
     assert_eq!(rt;
         write_forest(&mut failing, 6, &forest),
@@ -116,7 +111,6 @@ fn writes_many_pieces(rt: HostRuntime) -> Result<(), Fail> {
         text.extend_from_slice(line.as_bytes())?;
     }
     let forest = Forest::of_list(links).expect(&rt, "ascending");
-    assert!(rt; forest.links().len() <= 2000);
     let mut sink = Vec::new(rt.alloc());
     assert_eq!(rt; write_forest(&mut sink, 8, &forest), Ok(22012));
     assert_eq!(rt; sink.as_slice(), text.as_slice());
@@ -125,6 +119,7 @@ fn writes_many_pieces(rt: HostRuntime) -> Result<(), Fail> {
         write_forest(&mut failing, 8, &forest),
         Err(WriteFault { written: 20000 })
     );
-    assert_eq!(rt; failing.held(), &text.as_slice()[..failing.held().len()]);
+    assert_eq!(rt; failing.held().len(), 20000);
+    assert!(rt; text.as_slice().starts_with(failing.held()));
     Ok(())
 }

@@ -1,5 +1,5 @@
 //! The run.
-ghost use Rattle.std.specs.Prelude.{◌≡◌, ℕ, ◌^◌, ◌≤◌, List, length, Some, Ok, IfOk};
+ghost use Rattle.std.specs.Prelude.{◌≡◌, ℕ, ◌^◌, ◌≤◌, List, length, Some, Ok, IfOk, OnOk};
 ghost use Rattle.std.specs.Io.KnownBytes.{Appends, Keeps};
 ghost use Rattle.byte_streams.specs.Counts.{Rises, Stands};
 ghost use Rattle.byte_streams.specs.Sink.{WentOut};
@@ -52,6 +52,9 @@ pub fn run_plain<S: Source, W: Sink, A: Allocator + Copy>(
         (Stands (S.failures source.old) (S.failures source.new)) }
     ensures setbacks { AtWrite result (Rises (W.setbacks sink.old) (W.setbacks sink.new))
         (Stands (W.setbacks sink.old) (W.setbacks sink.new)) }
+
+    // After a run that ends well the sink can be written again.
+    ensures again { OnOk result (W.can_write sink.new) }
 
     // So a file that means nothing is refused by its first fault, where no read fails.
     ensures malformed { (bytes : List ℕ) (k : ℕ) → S.remaining source.old ≡ Some bytes

@@ -1,5 +1,4 @@
 -- The lines so far went out or wait, in order, and no setback came.
-use Rattle.std.proofs.Common.{◌+◌, ◌*◌, ◌≤◌, length}
 use Rattle.byte_streams.specs.Counts.{Stands}
 use Rattle.gr_text.specs.Handing.{HandsOn}
 use Rattle.gr_text.proofs.ForestLines.{lines_before}
@@ -8,7 +7,6 @@ use Rattle.gr_text.proofs.writer.write_forest.Given as goal
 abbrev pub invariant-loop-link : goal.invariant-loop-link
 invariant-loop-link g l = record {
   text : HandsOn (g.W.Sink.contents l.initial.sink) (g.W.Sink.contents l.sink) 0 l.written (lines_before l.fn.n l.links l.link-index) l.piece;
-  short : l.written + length l.piece ≤ 64 * (l.link-index + 1);
   setbacks : Stands (g.W.Sink.setbacks l.initial.sink) (g.W.Sink.setbacks l.sink);
   can : g.W.Sink.can_write l.sink;
 }

@@ -1,0 +1,51 @@
+-- How long the text of a forest is at the most. std writes a number in at most 64 digits, whichever it is, so a line
+-- has at most 256 bytes, and what is told of the text of 2^55 links is still the number itself.
+use Rattle.std.proofs.Common.{ℕ, zero, suc, ◌+◌, ◌*◌, ◌/◌, ◌%◌, ◌^◌, ◌≤◌, Bool, true, false, cond, List, [], ◌∷◌, length, decimal, get_or, arith, length-append}
+use Rattle.std.specs.Prelude.{ℤ, pos, negsuc, ◌==◌, Option}
+use Rattle.std.specs.Fmt.{digits_onto, digits, digit_glyph, signed_decimal}
+use Rattle.std.specs.List.{flat_map}
+use Rattle.std.proofs.lemmas.List.Concat.{length-flat_map}
+use Rattle.std.proofs.lemmas.List.Sums.{sum_by-le}
+use Rattle.link_key.specs.declared.links.Link.{Link}
+use Rattle.byte_streams.specs.Sink.{WentOut}
+use Rattle.gr_text.specs.ForestText.{header_of, line_of, forest_text}
+use Rattle.gr_text.specs.Written.{FrontWentOut}
+use Rattle.gr_text.proofs.Handing.{front_is_exact}
+
+-- each turn of the spelling puts one digit in front
+digits_fit : (k base : ℕ) (upper : Bool) (n : ℕ) (behind : List ℕ) → length (digits_onto k base upper n behind) ≤ k + length behind
+digits_fit zero base upper n behind = omega arith
+digits_fit (suc k) base upper n behind =
+    let digit = digit_glyph upper (n % base) in
+    elim (n / base == 0) as (λ b. length (cond b (digit ∷ behind) (digits_onto k base upper (n / base) (digit ∷ behind))) ≤ suc k + length behind) [
+      | true ↦ omega arith
+      | false ↦ omega (arith, digits_fit k base upper (n / base) (digit ∷ behind))
+    ]
+
+decimal_fits : (n : ℕ) → length (decimal n) ≤ 64
+unfolding digits
+decimal_fits n = omega (arith, digits_fit 64 10 false n [])
+
+signed_fits : (z : ℤ) → length (signed_decimal z) ≤ 65
+signed_fits (pos n) = omega (arith, decimal_fits n)
+signed_fits (negsuc n) = omega (arith, decimal_fits (suc n))
+
+header_fits : (n k : ℕ) → length (header_of n k) ≤ 256
+header_fits n k = simp length-append (omega (arith, decimal_fits n, decimal_fits k))
+
+line_fits : (l : Link) → length (line_of l) ≤ 256
+line_fits l = simp length-append (omega (arith, decimal_fits l.low, decimal_fits l.high, signed_fits l.weight))
+
+text_fits : (n : ℕ) (links : List Link) → length (forest_text n links) ≤ 256 + length links * 256
+text_fits n links = omega (
+  arith,
+  length-append (header_of n (length links)) (flat_map line_of links),
+  header_fits n (length links),
+  length-flat_map line_of links,
+  sum_by-le (λ l. length (line_of l)) 256 links (λ k d within. line_fits (get_or links k d)),
+)
+
+-- what is told of the text of a forest that isn't huge is the number itself
+pub few_are_told : (a b : Option (List ℕ)) (written n : ℕ) (forest : List Link) → length forest ≤ 2 ^ 55
+    → FrontWentOut a b written (forest_text n forest) → WentOut a b 0 written (forest_text n forest)
+few_are_told a b written n forest few front = front_is_exact a b written (forest_text n forest) (omega (arith, text_fits n forest)) front
