@@ -114,6 +114,7 @@ fn reads_bytes_one_after_another(rt: HostRuntime) {
     }
     assert_eq!(rt; reader.line(), 12);
     assert!(rt; is_small_net(&reader.finish().ok().expect(&rt, "a graph")));
+    assert!(rt; is_small_net(&parse(rt.alloc(), text).ok().expect(&rt, "a graph")));
 }
 
 #[test]

@@ -1,7 +1,7 @@
 use crate::writer::{WriteFault, write_forest};
-use byte_streams::FusedSink;
+use byte_streams::{Failed, FusedSink, Sink};
 use link_key::{Forest, Link};
-use std::alloc::{AllocError, Allocator};
+use std::alloc::{AllocError, Allocator, Global};
 use std::test::Fail;
 
 const SMALL_NET: &[u8; 50] = b"p sp 6 5\na 2 5 0\na 3 4 0\na 3 5 0\na 4 6 3\na 1 3 10\n";
@@ -98,7 +98,50 @@ fn tells_a_flush_that_failed(rt: HostRuntime) -> Result<(), Fail> {
     Ok(())
 }
 
-// 2000 links of 12 bytes each, which is more than one piece holds.
+// A sink that counts its flushes, and the writes that come behind the first one.
+#[derive(Drop)]
+struct Flushed {
+    bytes: Vec<u8>,
+    flushes: u32,
+    late_writes: u32,
+}
+
+impl Flushed {
+    fn new(alloc: Global) -> Self {
+        Flushed {
+            bytes: Vec::new(alloc),
+            flushes: 0,
+            late_writes: 0,
+        }
+    }
+}
+
+impl Sink for Flushed {
+    fn write(&mut self, buf: &[u8]) -> Result<usize, Failed> {
+        if self.flushes > 0 {
+            self.late_writes = self.late_writes.saturating_add(1);
+        }
+        self.bytes.extend_from_slice(buf).map_err(|_| Failed)?;
+        Ok(buf.len())
+    }
+
+    fn flush(&mut self) -> Result<(), Failed> {
+        self.flushes = self.flushes.saturating_add(1);
+        Ok(())
+    }
+}
+
+#[test]
+fn flushes_once_behind_the_last_byte(rt: HostRuntime) -> Result<(), Fail> {
+    let forest = forest_of(rt.alloc(), &small_net())?.expect(&rt, "ascending");
+    let mut sink = Flushed::new(rt.alloc());
+    assert_eq!(rt; write_forest(&mut sink, 6, &forest), Ok(50));
+    assert_eq!(rt; sink.bytes.as_slice(), SMALL_NET.as_slice());
+    assert_eq!(rt; (sink.flushes, sink.late_writes), (1, 0));
+    Ok(())
+}
+
+// 2000 links whose lines have 11 bytes each, which is more than one piece holds.
 #[test]
 fn writes_many_pieces(rt: HostRuntime) -> Result<(), Fail> {
     let mut links = Vec::new(rt.alloc());
