@@ -5,8 +5,11 @@ ghost use Rattle.std.specs.Io.KnownBytes.{Keeps, ReadConsumes, WriteAppends};
 ghost use Rattle.byte_streams.specs.Counts.{Rises, Stands};
 ghost use Rattle.byte_streams.specs.Sink.{IsRefusal};
 
+use thiserror::Error;
+
 /// The stream failed in the call that answers this, whatever the cause: an interrupted call too.
-#[derive(Clone, Copy, Debug, PartialEq, Eq)]
+#[derive(Clone, Copy, Debug, PartialEq, Eq, Error)]
+#[error("the stream failed")]
 pub struct Failed;
 
 /// A source of bytes that tells, to contracts, what it gives and when it fails.

@@ -6,19 +6,23 @@ ghost use Rattle.byte_streams.specs.FillFault.{MatchFill, OnEnded, filled_before
 ghost use Rattle.byte_streams.specs.Sink.{WentOut};
 
 use crate::{Failed, Sink, Source};
+use thiserror::Error;
 
 /// Why [`fill`] didn't fill its buffer, with the number of bytes that had come by then.
-#[derive(Clone, Copy, Debug, PartialEq, Eq)]
+#[derive(Clone, Copy, Debug, PartialEq, Eq, Error)]
 pub enum FillFault {
     /// A read failed.
+    #[error("read failed after {0} bytes")]
     Failed(usize),
 
     /// The stream ended.
+    #[error("stream ended after {0} bytes")]
     Ended(usize),
 }
 
 /// A write failed, or took no byte of what was left.
-#[derive(Clone, Copy, Debug, PartialEq, Eq)]
+#[derive(Clone, Copy, Debug, PartialEq, Eq, Error)]
+#[error("write failed after {written} bytes")]
 pub struct PutFault {
     /// How many bytes of the text the sink took in all, in this call and before it.
     pub written: u64,

@@ -11,9 +11,11 @@ use crate::spelled::Spelled;
 use byte_streams::{Failed, Sink, put};
 use link_key::Forest;
 use std::alloc::Allocator;
+use thiserror::Error;
 
 /// The sink failed, or took no byte of what was left.
-#[derive(Clone, Copy, Debug, PartialEq, Eq)]
+#[derive(Clone, Copy, Debug, PartialEq, Eq, Error)]
+#[error("write failed after {written} bytes")]
 pub struct WriteFault {
     /// How many bytes of the text the sink took; `u64::MAX` where they are more.
     pub written: u64,

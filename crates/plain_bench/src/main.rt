@@ -4,7 +4,6 @@
 //! What each step took goes to standard error, in microseconds.
 #![tactic(auto)]
 
-use anyhow::bail;
 use gr_text::{read_graph, write_forest};
 use link_key::plain_forest;
 use std::time::Instant;
@@ -19,9 +18,7 @@ fn main(rt: HostRuntime) -> anyhow::Result<()> {
     let solved = start.elapsed(&rt)?;
 
     let start = Instant::now(&rt)?;
-    if write_forest(&mut rt.stdout(), graph.n(), &forest).is_err() {
-        bail!("the output failed");
-    }
+    write_forest(&mut rt.stdout(), graph.n(), &forest)?;
     let written = start.elapsed(&rt)?;
 
     eprintln!(rt;
