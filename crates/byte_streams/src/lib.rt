@@ -2,8 +2,10 @@
 //!
 //! std's `Read` and `Write` tell contracts which bytes went through, and nothing of failures, so no
 //! contract over them can say "the reader failed in that call" or "a writer that doesn't fail takes
-//! the whole text". [`Source`] and [`Sink`] tell both, where it is known: always over memory, never
-//! over a device. What is promised here:
+//! the whole text". [`Source`] and [`Sink`] tell both, as far as the stream knows it. A slice tells its
+//! bytes and that no read fails, and no ends; a `Vec` tells its bytes, and no setbacks; [`Untold`] tells
+//! the bytes that std tells; a device tells nothing. Only [`FusedSource`] and [`FusedSink`] tell
+//! everything. What is promised here:
 //!
 //! - [`fill`] fills a buffer with the next bytes of a source, or says whether a read failed or the
 //!   stream ended, and after how many bytes; a source that has the bytes and doesn't fail fills it.

@@ -15,8 +15,9 @@ pub struct Failed;
 /// A source of bytes that tells, to contracts, what it gives and when it fails.
 ///
 /// Each of the three things that it may tell is a `None` by default, for a source that doesn't know
-/// it: a clause about it then says nothing. A source over memory tells them, so that what a caller
-/// proves "where the source tells" is a theorem there.
+/// it: a clause about it then says nothing. [`FusedSource`](crate::FusedSource) tells all three, and a
+/// slice its bytes and its failures, which are none, so that what a caller proves "where the source
+/// tells" is a theorem there.
 pub trait Source {
     // The bytes that reads will give from here on, where they are known.
     ghost remaining: { Self → Option (List ℕ) } = { λ _. None };
@@ -54,7 +55,8 @@ pub trait Source {
 
 /// A sink of bytes that tells, to contracts, what it took and when it failed.
 ///
-/// As for a [`Source`], a `None` is a sink that doesn't know.
+/// As for a [`Source`], a `None` is a sink that doesn't know. [`FusedSink`](crate::FusedSink) tells both
+/// its bytes and its setbacks, a `Vec` its bytes alone.
 pub trait Sink {
     // The bytes that the sink has taken, where they are known.
     ghost contents: { Self → Option (List ℕ) } = { λ _. None };

@@ -18,7 +18,10 @@
 //! (`specs/`); no layer keeps the text.
 //!
 //! **Where to start a change.** What a line may say: `specs/Statement.antt`, then [`words`]. What is wrong
-//! with a line, and which fault comes first: `specs/Fault.antt`, then [`verdicts`]. Limits: [`sizes`].
+//! with a line, and which fault comes first: `specs/Fault.antt`, then [`verdicts`]. The limits of vertices
+//! and arc lines: [`sizes`], and `2 ^ 26` and `2 ^ 30` in `specs/` and [`graphs`]. The limit of bytes:
+//! [`MAX_BYTES`], and `2 ^ 40` in the contracts of [`parsing`], [`reader`] and [`sourced`]. That of weights:
+//! `IsWeight` in `specs/Graph.antt`, then [`verdicts`].
 #![tactic(auto)]
 
 pub mod faults;
