@@ -122,3 +122,18 @@ fn devices_fail_and_end(rt: HostRuntime) -> Result<(), Fail> {
     assert_eq!(rt; sink.flush(), Ok(()));
     Ok(())
 }
+
+#[test]
+fn faults_are_told_in_words(rt: HostRuntime) -> Result<(), Fail> {
+    let texts = [
+        format!(in rt.alloc(); "{}", Failed)?,
+        format!(in rt.alloc(); "{}", FillFault::Failed(3))?,
+        format!(in rt.alloc(); "{}", FillFault::Ended(4))?,
+        format!(in rt.alloc(); "{}", PutFault { written: 5 })?,
+    ];
+    assert_eq!(rt; texts[0].as_str(), "the stream failed");
+    assert_eq!(rt; texts[1].as_str(), "read failed after 3 bytes");
+    assert_eq!(rt; texts[2].as_str(), "stream ended after 4 bytes");
+    assert_eq!(rt; texts[3].as_str(), "write failed after 5 bytes");
+    Ok(())
+}
