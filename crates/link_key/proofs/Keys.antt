@@ -2,6 +2,8 @@
 use Rattle.std.proofs.Common.{◌≡◌, suc, ◌<◌, ◌≤◌, ◌^◌, Bool, true, IsTrue, is_lt, ◌⊎◌, ◌↔◌, List, [], ◌∷◌, Contains, Ordering, Less, Equal, Greater, int_cmp, nat_cmp, refl, sym, ap, ap₂, ◌∙◌, subst, inl, inr, arith}
 use Rattle.std.specs.Ordering.{ordering_then, ordering_reverse}
 use Rattle.std.specs.List.{IsAllAdjacentAnswer}
+use Rattle.std.specs.Prelude.{FitsSigned}
+use Rattle.std.specs.Int.{w32}
 use Rattle.std.specs.Cmp.{IsTotalOrder}
 use Rattle.std.proofs.lemmas.Cmp.{int_cmp_total, nat_cmp_total, on_total, then_total, tied_itself}
 use Rattle.std.proofs.lemmas.Map.Lookups.{exact_signed, exact_unsigned, exact_pairs}
@@ -21,6 +23,7 @@ link_eq l m weight low high = λ i. record {
   from_one = is_prop→PathP (λ j. 1 ≤ low j) (λ j. le_prop) l.from_one m.from_one i;
   ascending = is_prop→PathP (λ j. low j < high j) (λ j. le_prop) l.ascending m.ascending i;
   in_limit = is_prop→PathP (λ j. high j ≤ 2 ^ 26) (λ j. le_prop) l.in_limit m.in_limit i;
+  weight_fits = is_prop→PathP (λ j. FitsSigned w32 (weight j)) (λ j. hlevel le_prop) l.weight_fits m.weight_fits i;
 }
 
 pub key_cmp_total : IsTotalOrder key_cmp

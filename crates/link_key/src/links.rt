@@ -1,4 +1,5 @@
-ghost use Rattle.std.specs.Prelude.{◌≡◌, ℕ, ◌<◌, ◌≤◌, ◌^◌, ◌↔◌, IsNone, IfSome, min, max};
+ghost use Rattle.std.specs.Prelude.{◌≡◌, ℕ, ◌<◌, ◌≤◌, ◌^◌, ◌↔◌, IsNone, IfSome, min, max, FitsSigned};
+ghost use Rattle.std.specs.Int.{w32};
 
 /// A link of an undirected graph: two different vertices, the lower one first, and a weight.
 ///
@@ -13,6 +14,7 @@ pub struct Link {
     ghost from_one: { 1 ≤ low },
     ghost ascending: { low < high },
     ghost in_limit: { high ≤ 2 ^ 26 },
+    ghost weight_fits: { FitsSigned w32 weight },
 }
 
 impl Link {

@@ -10,13 +10,13 @@ use Rattle.round_theory.specs.Offers.{IsLeastLeaving, Hearing, IsNamed}
 use Rattle.round_theory.specs.Rounds.{TakenAfter, IsMergingRounds}
 
 abbrev pub link_1_2 : Link
-link_1_2 = record { weight = pos 5; low = 1; high = 2; from_one = lit≤ tt; ascending = lit< tt; in_limit = lit≤ tt }
+link_1_2 = record { weight = pos 5; low = 1; high = 2; from_one = lit≤ tt; ascending = lit< tt; in_limit = lit≤ tt; weight_fits = record { sfits = lit< tt } }
 
 abbrev pub link_2_3 : Link
-link_2_3 = record { weight = pos 5; low = 2; high = 3; from_one = lit≤ tt; ascending = lit< tt; in_limit = lit≤ tt }
+link_2_3 = record { weight = pos 5; low = 2; high = 3; from_one = lit≤ tt; ascending = lit< tt; in_limit = lit≤ tt; weight_fits = record { sfits = lit< tt } }
 
 abbrev pub link_1_3 : Link
-link_1_3 = record { weight = pos 5; low = 1; high = 3; from_one = lit≤ tt; ascending = lit< tt; in_limit = lit≤ tt }
+link_1_3 = record { weight = pos 5; low = 1; high = 3; from_one = lit≤ tt; ascending = lit< tt; in_limit = lit≤ tt; weight_fits = record { sfits = lit< tt } }
 
 abbrev pub triangle : List Link
 triangle = link_1_2 ∷ (link_2_3 ∷ (link_1_3 ∷ []))
