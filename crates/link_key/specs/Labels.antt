@@ -1,5 +1,6 @@
 -- Labels of the vertices of a graph.
-use Rattle.std.specs.Prelude.{◌≡◌, ℕ, ◌-◌, ◌≤◌, ◌^◌, List, length, slice_index}
+use Rattle.std.specs.Prelude.{◌≡◌, ℕ, ◌-◌, ◌≤◌, List, length, slice_index}
+use Rattle.limits.specs.declared.TheConstants.{MAX_VERTICES}
 
 -- the label of vertex v: the labels stand in the order of the vertices, which are numbered from 1
 abbrev pub label_of : List ℕ → ℕ → ℕ
@@ -13,7 +14,7 @@ pub record IsLabelled (labels : List ℕ) (v : ℕ) : Type 0 where
 
 -- labels of the vertices 1, 2, .. of a graph
 pub record AreLabels (labels : List ℕ) : Type 0 where
-  pub few_vertices : length labels ≤ 2 ^ 26
+  pub few_vertices : length labels ≤ MAX_VERTICES
   pub labelled : (v : ℕ) → 1 ≤ v → v ≤ length labels → IsLabelled labels v
 
 -- each of the vertices 1 to n is labelled by itself

@@ -1,0 +1,26 @@
+//! The limits of this project, each with one name, for code, contracts and definitions alike.
+//!
+//! What is promised here: nothing but the numbers. A crate that tests a limit cites its name, and so does the
+//! contract that promises the test; the definitions of `specs/` import it from this crate's constants.
+//!
+//! Where to start a change: here; every crate that cites the constant is checked again, and `docs/GR_FORMAT.md`
+//! and `docs/PROTOCOL.md` say the numbers in words.
+#![tactic(auto)]
+
+/// The most vertices that a graph may have: 2^26.
+pub const MAX_VERTICES: u32 = 1 << 26;
+
+/// The most arc lines that a file may have: 2^30.
+pub const MAX_ARCS: u32 = 1 << 30;
+
+/// The most bytes that a file may have: 2^40.
+pub const MAX_BYTES: u64 = 1 << 40;
+
+/// The most shards that a list of links may be cut into.
+pub const MAX_SHARDS: usize = 4096;
+
+/// The most links that a shard may have: 2^24.
+pub const MAX_SHARD_LINKS: usize = 1 << 24;
+
+/// The most workers of a run, and so the most lines to workers.
+pub const MAX_WORKERS: u32 = 64;
