@@ -1,0 +1,431 @@
+#!/usr/bin/env python3
+"""Tries wrong bodies many at a time: each has to be refused by the prover.
+
+usage: tests/wrong_bodies.py [--must-fail] [--self-test] [CRATE..]
+
+Each `crates/NAME/wrong-bodies/*.edit` turns the body of a function. As many edits as touch different functions go
+into one copy of the crate, and one `rt check` of that copy has to tell each of these functions as not proved: a
+body changes no contract, so each function is judged by itself. An edit that stands in another's way, or that
+changes more than bodies, waits for a copy of its own. A function that is told as not proved counts only for a
+reason of its own: a clause, a condition or a bound that isn't proved where it stands or in its proof files. Where
+its proof files only name what the edit took away, the edit is tried alone, and if that is all that is said it is
+told as suspicious.
+
+  --must-fail   the edits of must-fail/ too, in the same way (`rt must-fail` tries them one at a time)
+  --self-test   puts one body that is right among the wrong ones of each crate, which has to be told as survived
+  CRATE..       only these crates
+
+An edit has the form that `rt must-fail` takes, with a first line `why:` that says which clause refuses it and why
+that matters:
+
+    why: `FUNCTION`: `clause` refuses it: the reason
+    file: src/FILE.rt
+    old: a text that stands once in that file
+    new: what stands there in its place
+
+The crate's own `out/` and those of the crates below it are copied, so that only what an edit touches is proved
+again. RT is the command that checks (`rt`, if not set). The last line is `N wrong bodies refused, M survived`, and
+the status is 0 only where none survived and each edit could be tried.
+"""
+import os
+import re
+import resource
+import shlex
+import shutil
+import subprocess
+import sys
+import tempfile
+import time
+from dataclasses import dataclass, field
+
+ROOT = os.path.dirname(os.path.dirname(os.path.realpath(__file__)))
+RT = shlex.split(os.environ.get("RT", "rt"))
+NAME_OF_EDIT = re.compile(r"[A-Za-z0-9_-][A-Za-z0-9_.-]*\.edit")
+# What a proof file says where it names something that the edit took away.
+NAMES_ALONE = re.compile(r"has no field|is not in scope|has no `|was not admitted")
+
+
+@dataclass
+class Change:
+    file: str
+    old: str
+    new: str
+
+
+@dataclass
+class Edit:
+    crate: str
+    name: str
+    why: str
+    changes: list
+    touched: set = field(default_factory=set)  # the functions, as `Function.key`; empty: more than bodies
+
+
+@dataclass
+class Function:
+    file: str
+    owner: str  # "" of a function that stands alone, else `Type` or `TypeTrait`
+    name: str
+    begin: int
+    body: int
+    end: int
+
+    @property
+    def key(self):
+        return self.file, self.owner, self.name
+
+    def path(self, crate):
+        """How `rt check` names it."""
+        inside = self.file[len("src/") : -len(".rt")].split("/")
+        if inside[-1] in ("lib", "main", "mod"):
+            inside.pop()
+        return "::".join([crate, *inside, *([self.owner] if self.owner else []), self.name])
+
+    def folder(self, crate):
+        """Where its proof files stand."""
+        return "proofs/" + "/".join(self.path(crate).split("::")[1:]) + "/"
+
+
+def blanked(text):
+    """The text with each comment, string and character as blanks, so that its braces can be counted."""
+    pattern = r'//[^\n]*|/\*.*?\*/|b?"(?:\\.|[^"\\])*"|b?\'(?:\\[^\n]{1,8}?|[^\'\\\n])\''
+    return re.sub(pattern, lambda it: re.sub(r"[^\n]", " ", it[0]), text, flags=re.S)
+
+
+def type_name(text, parameters):
+    """A type as `rt check` spells it in the name of an impl: `Vec<u8, A>` is `VecU8`, `&[u8]` is `RefSliceU8`."""
+    words = []
+    for word in re.findall(r"[A-Za-z_]\w*(?:::[A-Za-z_]\w*)*|&|\[", re.sub(r"'\w+", "", text)):
+        word = {"&": "Ref", "[": "Slice"}.get(word, word.split("::")[-1])
+        if word not in parameters:
+            words.append(word[0].upper() + word[1:])
+    return "".join(words)
+
+
+def owner_of(header):
+    """The owner's name by the header of an impl or a trait."""
+    found = re.match(r"(?:unsafe\s+)?(impl|trait)\b\s*", header)
+    rest, parameters = header[found.end() :], set()
+    if rest.startswith("<"):
+        depth = 0
+        for at, letter in enumerate(rest):
+            depth += (letter == "<") - (letter == ">" and rest[at - 1] != "-")
+            if not depth:
+                break
+        parameters = set(re.findall(r"[<,]\s*(?:const\s+)?(\w+)", rest[: at + 1]))
+        rest = rest[at + 1 :]
+    rest = re.split(r"\bwhere\b", rest)[0].strip()
+    if found[1] == "trait":
+        return re.match(r"\w+", rest)[0]
+    trait, _, target = rest.partition(" for ")
+    if not target:
+        return type_name(rest, parameters)
+    return type_name(target, parameters) + type_name(re.match(r"[\w:]+", trait)[0], parameters)
+
+
+def functions_of(file, text):
+    """The functions of a file, those inside an impl or a trait with its name."""
+    plain, found, owners, depth, at = blanked(text), [], [], 0, 0
+    starts = re.compile(r"(?m)^[ \t]*((?:unsafe\s+)?(?:impl|trait)\b|(?:pub(?:\([^)]*\))?\s+)?(?:const\s+)?(?:unsafe\s+)?(?:ghost\s+)?fn\s+(\w+))|[{}]")
+    openers = []
+    while True:
+        it = starts.search(plain, at)
+        if not it:
+            return found
+        if it[0].strip() in "{}":
+            depth += 1 if it[0].strip() == "{" else -1
+            while openers and openers[-1] > depth:
+                openers.pop()
+                owners.pop()
+            at = it.end()
+        elif it[2]:
+            body, end = block(plain, it.end())
+            if body is not None:
+                found.append(Function(file, owners[-1] if owners else "", it[2], it.start(1), body, end))
+            at = end
+        else:
+            brace = plain.index("{", it.end())
+            owners.append(owner_of(re.sub(r"\s+", " ", plain[it.start(1) : brace]).removeprefix("pub ")))
+            depth += 1
+            openers.append(depth)
+            at = brace + 1
+
+
+def block(plain, at):
+    """Where the body of a function begins and ends; clauses have braces of their own, and the body's is the last block."""
+    depth, within, begin = 0, 0, None
+    while at < len(plain):
+        letter = plain[at]
+        within += (letter in "([") - (letter in ")]")
+        if letter == "{":
+            begin = at if not depth else begin
+            depth += 1
+        elif letter == "}":
+            depth -= 1
+            if depth < 0:
+                return None, at
+            if not depth and not re.match(r"\s*(?:ensures|requires|decreases|ghost\b|\{|,|follows)", plain[at + 1 :]):
+                return begin, at + 1
+        elif letter == ";" and not depth and not within:
+            return None, at + 1
+        at += 1
+    return None, at
+
+
+def read_edit(crate, path):
+    why, file, old, changes = "", "", None, []
+    with open(path, encoding="utf-8") as lines:
+        for line in lines.read().split("\n"):
+            if line.startswith("why: "):
+                why = line[len("why: ") :].strip()
+            elif line.startswith("file: "):
+                file = line[len("file: ") :].strip()
+            elif line.startswith("old: "):
+                old = line[len("old: ") :]
+            elif line.startswith("new:"):
+                changes.append(Change(file, old, line[len("new:") :].removeprefix(" ")))
+                old = None
+    return Edit(crate, os.path.basename(path)[: -len(".edit")], why, changes)
+
+
+def why_unfit(edit, texts):
+    """Says why an edit can't be tried, if it can't, and else notes which functions it touches."""
+    if not edit.changes:
+        return "it has no pair of an old and a new text"
+    if not edit.why:
+        return "it has no line that says why"
+    for change in edit.changes:
+        if not change.file.startswith("src/") or change.file not in texts:
+            return f"there is no file {change.file} of code"
+    if applied(edit, texts) is None:
+        return "an old text doesn't stand once in its file"
+    for change in edit.changes:
+        at = texts[change.file].find(change.old)
+        if at < 0:
+            # it stands in what an earlier change of this edit made
+            continue
+        inside = [it for it in functions_of(change.file, texts[change.file]) if it.begin <= at < it.end]
+        if not inside:
+            edit.touched = set()
+            return None
+        edit.touched.add(max(inside, key=lambda it: it.begin).key)
+    return None
+
+
+def applied(edit, texts):
+    """The texts after the edit, or None where an old text doesn't stand once."""
+    made = dict(texts)
+    for change in edit.changes:
+        if made[change.file].count(change.old) != 1:
+            return None
+        made[change.file] = made[change.file].replace(change.old, change.new)
+    return made
+
+
+def packed(edits, texts):
+    """The copies: lists of edits that touch different functions, each with the texts that they make together."""
+    copies = []
+    for edit in edits:
+        for copy in copies:
+            if not edit.touched or copy["whole"] or edit.touched & copy["touched"]:
+                continue
+            made = applied(edit, copy["texts"])
+            if made is not None:
+                copy["edits"].append(edit)
+                copy["texts"] = made
+                copy["touched"] |= edit.touched
+                break
+        else:
+            copies.append({"edits": [edit], "texts": applied(edit, texts), "touched": set(edit.touched), "whole": not edit.touched})
+    return copies
+
+
+class Room:
+    """A copy of a crate, with what stands below it, in a folder of its own."""
+
+    def __init__(self, crate, lines, folder):
+        self.crate, self.folder = crate, f"{folder}/crates/{crate}"
+        names = below(crate, lines)
+        os.makedirs(f"{folder}/crates")
+        with open(f"{folder}/crates.txt", "w", encoding="utf-8") as it:
+            it.write("".join(lines[name] for name in [*names, crate]))
+        if os.path.exists(f"{ROOT}/HANDLES"):
+            shutil.copy(f"{ROOT}/HANDLES", folder)
+        for name in names:
+            skip = shutil.ignore_patterns("incremental", "must-fail", "wrong-bodies")
+            shutil.copytree(f"{ROOT}/crates/{name}", f"{folder}/crates/{name}", ignore=skip)
+        self.source = f"{ROOT}/crates/{crate}"
+        for part in ("src", "specs", "proofs"):
+            if os.path.isdir(f"{self.source}/{part}"):
+                shutil.copytree(f"{self.source}/{part}", f"{self.folder}/{part}")
+        self.texts = {}
+        for at, _, files in os.walk(f"{self.folder}/src"):
+            for name in files:
+                path = f"{at}/{name}"
+                with open(path, encoding="utf-8") as it:
+                    self.texts[os.path.relpath(path, self.folder)] = it.read()
+
+    def check(self, texts):
+        """What `rt check` says of the crate with these texts, over the work that the crate's own checks kept."""
+        shutil.rmtree(f"{self.folder}/out", ignore_errors=True)
+        if os.path.isdir(f"{self.source}/out/incremental"):
+            shutil.copytree(f"{self.source}/out/incremental", f"{self.folder}/out/incremental")
+        for file, text in texts.items():
+            with open(f"{self.folder}/{file}", "w", encoding="utf-8") as it:
+                it.write(text)
+        how = {"stdin": subprocess.DEVNULL, "stdout": subprocess.PIPE, "stderr": subprocess.STDOUT, "errors": "replace"}
+        said = subprocess.run([*RT, "check"], cwd=self.folder, **how).stdout
+        return said, next((it for it in reversed(said.split("\n")) if it.startswith("logic=")), "")
+
+
+def below(crate, lines):
+    """The crates below one, lowest first."""
+    found = []
+    for name in lines[crate].partition(":")[2].split():
+        if name in lines:
+            found += [it for it in [*below(name, lines), name] if it not in found]
+    return found
+
+
+def crate_lines():
+    with open(f"{ROOT}/crates.txt", encoding="utf-8") as it:
+        lines = [line for line in it if line.strip() and not line.startswith("#")]
+    return {re.match(r"\w+", line)[0]: line for line in lines}
+
+
+def verdict(edit, texts, said):
+    """'refused', 'named' (only names are missing) or 'survived', and the reason that was told."""
+    spans, folders, paths = [], [], []
+    for file in {it.file for it in edit.changes}:
+        for it in functions_of(file, texts[file]):
+            if it.key in edit.touched:
+                begin, end = (texts[file].count("\n", 0, at) + 1 for at in (it.begin, it.end))
+                spans.append((file, begin, end))
+                folders.append(it.folder(edit.crate))
+                paths.append(it.path(edit.crate))
+    names = None
+    for line in said.split("\n"):
+        told = re.match(r"(?:note: |error: )?(?:\./)?((?:src|proofs)/\S+?):(\d+):\d+: (.*)", line)
+        if told and told[1].startswith("src/"):
+            at = int(told[2])
+            is_here = not edit.touched or any(told[1] == file and begin <= at <= end for file, begin, end in spans)
+            if is_here and "it is not proved" in told[3]:
+                return "refused", line
+        elif told and told[3].startswith("error"):
+            if not edit.touched or any(told[1].startswith(it) for it in folders):
+                if not NAMES_ALONE.search(told[3]):
+                    return "refused", line
+                names = names or line
+        else:
+            of = re.match(r"fn (\S+): (?:no proof|not proved)(.*)", line)
+            if of and (not edit.touched or of[1] in paths) and re.search(r"did not prove|could not|no measure", of[2]):
+                return "refused", line
+    return ("named", names) if names else ("survived", "")
+
+
+# A body that is right: what it adds is read by nothing, so that no clause can refuse it.
+RIGHT = "{ let _right: u8 = 0; "
+
+
+def planted(crate, edits, texts):
+    """An edit that is right, in a function that the wrong ones leave alone."""
+    taken = set().union(*(it.touched for it in edits)) if edits else set()
+    for file in sorted(texts):
+        if "test" in file:
+            continue
+        for it in functions_of(file, texts[file]):
+            head = texts[file][it.begin : it.body]
+            whole = texts[file][it.begin : it.body + 1]
+            if it.key not in taken and head.startswith("pub fn") and texts[file].count(whole) == 1:
+                edit = Edit(crate, "planted_body_that_is_right", "nothing refuses it", [Change(file, whole, head + RIGHT)])
+                edit.touched = {it.key}
+                return edit
+    return None
+
+
+def try_crate(crate, lines, folders, tests_itself):
+    """The numbers of edits that were refused, that survived and that couldn't be tried."""
+    edits, unfit = [], 0
+    with tempfile.TemporaryDirectory(prefix="wrong-bodies-") as folder:
+        room = Room(crate, lines, folder)
+        for part in folders:
+            where = f"{ROOT}/crates/{crate}/{part}"
+            for name in sorted(os.listdir(where)) if os.path.isdir(where) else []:
+                if not NAME_OF_EDIT.fullmatch(name):
+                    why = None if name.endswith(".md") else "its name doesn't end in .edit"
+                else:
+                    edit = read_edit(crate, f"{where}/{name}")
+                    why = why_unfit(edit, room.texts)
+                    edits += [] if why else [edit]
+                if why:
+                    print(f"{crate}/{part}/{name}: BAD EDIT: {why}", flush=True)
+                    unfit += 1
+        if not edits:
+            return 0, 0, unfit
+        # the crate's own check keeps its work in out/, over which the copies are checked
+        how = {"stdin": subprocess.DEVNULL, "stdout": subprocess.PIPE, "stderr": subprocess.STDOUT, "errors": "replace"}
+        own = subprocess.run([*RT, "check"], cwd=f"{ROOT}/crates/{crate}", **how)
+        if own.returncode:
+            print(f"{crate}: the crate itself is not proved, so nothing was tried", flush=True)
+            return 0, 0, unfit + len(edits)
+        right = planted(crate, edits, room.texts) if tests_itself else None
+        queue = packed([right] * bool(right) + edits, room.texts)
+        refused, survived = 0, []
+        while queue:
+            copy = queue.pop(0)
+            said, last = room.check(copy["texts"])
+            # the next copy begins with the crate's own texts again
+            room_texts = dict(room.texts)
+            if not last and len(copy["edits"]) > 1:
+                queue += [{"edits": [it], "texts": applied(it, room_texts), "touched": it.touched, "whole": True} for it in copy["edits"]]
+                continue
+            for edit in copy["edits"]:
+                if not last:
+                    first = next((it for it in said.split("\n") if "error" in it), said[:200])
+                    print(f"{crate}/{edit.name}: BAD EDIT: it did not reach the prover: {first[:200]}", flush=True)
+                    unfit += 1
+                    continue
+                how_it_ended, line = verdict(edit, copy["texts"], said) if last.startswith("logic=not-proved") else ("survived", "")
+                if how_it_ended == "named" and len(copy["edits"]) > 1:
+                    queue.append({"edits": [edit], "texts": applied(edit, room_texts), "touched": edit.touched, "whole": True})
+                elif how_it_ended == "survived":
+                    survived.append(edit.name)
+                    print(f"{crate}/{edit.name}: SURVIVED", flush=True)
+                else:
+                    refused += 1
+                    note = " (SUSPICIOUS: only a proof file's names are missing; turn a value in its place)" if how_it_ended == "named" else ""
+                    print(f"{crate}/{edit.name}: refused{note}: {line[:160]}", flush=True)
+        if right:
+            if right.name in survived:
+                survived.remove(right.name)
+                print(f"{crate}: the planted body that is right was found", flush=True)
+            else:
+                print(f"{crate}: the planted body that is right was NOT found", flush=True)
+                unfit += 1
+        return refused, len(survived), unfit
+
+
+def main(words):
+    options = {it for it in words if it.startswith("-")}
+    if options - {"--must-fail", "--self-test"}:
+        print(__doc__, end="", file=sys.stderr)
+        return 2
+    lines, begun = crate_lines(), time.monotonic()
+    names = [it for it in words if not it.startswith("-")] or list(lines)
+    folders = ["wrong-bodies"] + ["must-fail"] * ("--must-fail" in options)
+    refused = survived = unfit = 0
+    for name in names:
+        if not any(os.path.isdir(f"{ROOT}/crates/{name}/{part}") for part in folders):
+            continue
+        found = try_crate(name, lines, folders, "--self-test" in options)
+        refused, survived, unfit = refused + found[0], survived + found[1], unfit + found[2]
+    used = resource.getrusage(resource.RUSAGE_CHILDREN)
+    print(f"{time.monotonic() - begun:.0f} s, {used.ru_utime + used.ru_stime:.0f} s of processor time")
+    if unfit:
+        print(f"{unfit} could not be tried")
+    print(f"{refused} wrong bodies refused, {survived} survived")
+    return 1 if survived or unfit else 0
+
+
+if __name__ == "__main__":
+    sys.exit(main(sys.argv[1:]))
