@@ -1,8 +1,9 @@
 -- A shard among the shards of a list, and places in lists.
-use Rattle.std.proofs.Common.{◌≡◌, ◌⊎◌, ℕ, zero, suc, ◌<◌, ◌==◌, ◌&&◌, ◌||◌, not, Bool, true, false, List, [], ◌∷◌, ◌++◌, length, get_or, replicate, Contains, Decides, filter, cond, refl, sym, ap, ◌∙◌, subst, inl, inr, ⊎_elim, arith}
+use Rattle.std.proofs.Common.{◌≡◌, ◌⊎◌, ℕ, zero, suc, ◌<◌, ◌==◌, ◌&&◌, ◌||◌, not, Bool, true, false, List, [], ◌∷◌, ◌++◌, length, get_or, replicate, Contains, Decides, filter, cond, refl, sym, ap, ap₂, ◌∙◌, subst, inl, inr, ⊎_elim, arith, append-nil, ne_eqb}
 use mathlib.Core.Option.{some, some-ne-none, some-injective}
 use lib.ListN.{get_elem?}
 use Rattle.std.proofs.lemmas.Bool.{eqb-true, eq-eqb}
+use Rattle.std.proofs.lemmas.List.Elements.{filter-append}
 use Rattle.std.proofs.lemmas.List.Folds.{Any-from_list_any, list_any-from_Any, list_any-append}
 use Rattle.claim_board.specs.Kept.{among}
 
@@ -47,6 +48,20 @@ filter_step shard gone s ss false rest is = rw rest (left_in shard gone s (among
 pub among-filter : (shard gone : ℕ) (shards : List ℕ) → among shard (filter (λ s. not (s == gone)) shards) ≡ (not (shard == gone) && among shard shards)
 among-filter shard gone [] = sym (and_false (not (shard == gone)))
 among-filter shard gone (s ∷ ss) = filter_step shard gone s ss (s == gone) (among-filter shard gone ss) refl
+
+-- a list without the shard stays as it is when the shard is taken out of it
+filter_absent : (shard : ℕ) (shards : List ℕ) → ¬ (Contains shards shard) → filter (λ s. not (s == shard)) shards ≡ shards
+filter_absent shard [] absent = refl
+filter_absent shard (s ∷ ss) absent =
+    ap (λ b. cond (not b) (s ∷ filter (λ x. not (x == shard)) ss) (filter (λ x. not (x == shard)) ss)) (ne_eqb s shard (λ same. absent (0, omega arith, same)))
+    ∙ ap (λ xs. s ∷ xs) (filter_absent shard ss (λ has. absent (suc has.0, omega (arith, has.1), has.2)))
+
+-- and a list with the shard behind it becomes that list again
+pub taken_out : (shard : ℕ) (before : List ℕ) → ¬ (Contains before shard) → filter (λ s. not (s == shard)) (before ++ shard ∷ []) ≡ before
+taken_out shard before absent =
+    filter-append (λ s. not (s == shard)) before (shard ∷ [])
+    ∙ ap₂ (λ xs ys. xs ++ ys) (filter_absent shard before absent) (ap (λ b. cond (not b) (shard ∷ []) []) (eq-eqb shard shard refl))
+    ∙ append-nil before
 
 -- ---- places
 

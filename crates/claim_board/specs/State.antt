@@ -1,5 +1,5 @@
 -- What contracts see of a board, of its seats and of the answer to a claim.
-use Rattle.std.specs.Prelude.{◌≡◌, ℕ, ◌≤◌, List, [], length, slice_get, slice_index_or, ⊤, Contains, Option, Some, None}
+use Rattle.std.specs.Prelude.{◌≡◌, ℕ, ◌<◌, ◌≤◌, List, [], length, flat_map, slice_get, slice_index_or, ⊤, Contains, Option, Some, None}
 use Rattle.atomic_table.specs.Seated.{TableId}
 use Rattle.claim_board.specs.declared.claim.Claim.{Claim}
 use Rattle.claim_board.specs.declared.claim.Claim.TheVariants.{Won, Held}
@@ -36,6 +36,16 @@ InOrder board seats = (number : ℕ) (seat : SeatState) → slice_get seats numb
 pub record AreSeats (board : BoardState) (seats : List SeatState) : Type 0 where
   pub all : length seats ≡ board.seats
   pub in_order : InOrder board seats
+
+-- a seat of the board that did nothing yet
+pub record IsFresh (board : BoardState) (seat : SeatState) : Type 0 where
+  pub of_board : seat.board ≡ board
+  pub number : seat.number < board.seats
+  pub no_events : seat.events ≡ []
+
+-- the shards that the seats hold, seat by seat
+abbrev pub all_held : List SeatState → List ℕ
+all_held seats = flat_map (λ (seat : SeatState). held seat.events) seats
 
 -- the seat of this number has the shard in its list
 abbrev pub IsHeldBy : List SeatState → ℕ → ℕ → Type 0

@@ -1,7 +1,7 @@
 //! The board: a word for each shard, in a table that its seats share.
-ghost use Rattle.std.specs.Prelude.{◌≡◌, ℕ, ◌<◌, ◌≤◌, ◌==◌, ◌↔◌, not, [], ◌∷◌, ◌++◌, length, filter, All, Contains, IfOk, IfErr, IsOk};
+ghost use Rattle.std.specs.Prelude.{◌≡◌, ◌≢◌, ℕ, ◌<◌, ◌≤◌, ◌==◌, ◌↔◌, not, List, [], ◌∷◌, ◌++◌, length, filter, All, AllPairs, Contains, IfOk, IfErr, IsOk};
 ghost use Rattle.claim_board.specs.Machine.{held};
-ghost use Rattle.claim_board.specs.State.{SeatState, OnWon, IfHeld, AreSeats, IsHeldBy, owner_told, CameFromRun};
+ghost use Rattle.claim_board.specs.State.{OnWon, IfHeld, AreSeats, IsFresh, all_held, IsHeldBy, owner_told, CameFromRun};
 ghost use Rattle.claim_board.specs.Rule.{opener};
 ghost use Rattle.claim_board.specs.Kept.{IsInRange};
 ghost use Rattle.claim_board.specs.declared.claim.Claim.TheVariants.{Held};
@@ -60,7 +60,7 @@ impl<A: Allocator + Copy> Board<A> {
         requires seats { (0 < seats) × (seats ≤ 64) }
         ensures size { IfOk result (λ r. (r.0.shards ≡ shards) × (r.0.seats ≡ seats)) }
         ensures seats { IfOk result (λ r. AreSeats r.0 r.1.items) }
-        ensures no_events { IfOk result (λ r. All (λ (seat : SeatState). seat.events ≡ []) r.1.items) }
+        ensures fresh { IfOk result (λ r. All (IsFresh r.0) r.1.items) }
         ensures fault { IfErr result (λ fault. fault ≡ Memory) }
     {
         let Ok(mut row) = Vec::with_capacity(alloc, seats as usize) else {
@@ -101,7 +101,8 @@ impl<A: Allocator> Board<A> {
         }
     }
 
-    /// Frees a shard that the seat holds, by one `compare_exchange`. It never waits and takes no memory.
+    /// Frees a shard that the seat holds, by one `compare_exchange`. It never waits and takes no memory. A shard that was
+    /// won last and is given back leaves the seat's list as it was before.
     pub fn give_back(&self, seat: &mut Seat, shard: u32)
         requires seat { seat.old.board ≡ self.now }
         requires shard { shard < self.now.shards }
@@ -109,6 +110,7 @@ impl<A: Allocator> Board<A> {
         ensures same { (seat.new.board ≡ seat.old.board) × (seat.new.number ≡ seat.old.number) }
         ensures given_back { seat.new.events ≡ seat.old.events ++ GiveBack seat.old.number shard ∷ [] }
         ensures list { held seat.new.events ≡ filter (λ s. not (s == shard)) (held seat.old.events) }
+        ensures undone { (before : List ℕ) → ¬ Contains before shard → held seat.old.events ≡ before ++ shard ∷ [] → held seat.new.events ≡ before }
     {
         let mine = u64::from(seat.number) + 1;
         let shared = &self.table.shared;
@@ -116,7 +118,8 @@ impl<A: Allocator> Board<A> {
         seat.shards.remove(shard);
     }
 
-    /// Who owns each shard at the end, from all seats of the board in order, as `open` gave them.
+    /// Who owns each shard at the end, from all seats of the board in order, as `open` gave them. No shard is in the lists
+    /// of two of them.
     ///
     /// It takes no memory and always answers `Ok`: what it answers keeps the board's words. The row of the seats is freed.
     /// It takes one step on a word for each seat but the last.
@@ -126,6 +129,7 @@ impl<A: Allocator> Board<A> {
         ensures shards { IfOk result (λ owners. length owners ≡ self.shards) }
         ensures owners { IfOk result (λ owners. (shard number : ℕ) → (owner_told owners shard ≡ Some number) ↔ IsHeldBy seats.items number shard) }
         ensures run { IfOk result (λ owners. CameFromRun seats.items owners) }
+        ensures apart { AllPairs (λ a b. a ≢ b) (all_held seats.items) }
     {
         let Board { table } = self;
         let Some(last) = seats.pop() else {

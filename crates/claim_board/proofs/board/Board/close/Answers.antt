@@ -4,6 +4,7 @@ use Rattle.claim_board.specs.State.{BoardState}
 use Rattle.claim_board.specs.Rule.{AgreesWithRun}
 use Rattle.claim_board.specs.Kept.{owners_of}
 use Rattle.claim_board.proofs.Closing.{word_within, came, owners_are, kept_view}
+use Rattle.claim_board.proofs.Apart.{closed_apart}
 use Rattle.claim_board.proofs.board.Board.close.Goals as goal
 
 pub invariant_of-result : goal.invariant_of-result
@@ -30,3 +31,6 @@ returns-clause-run g c =
 
 pub returns-clause-owners : goal.returns-clause-owners
 returns-clause-owners g c = owners_are c.args.seats.items (owners_of (slots_items c.close_with.result.words)) (returns-clause-run g c)
+
+pub returns-clause-apart : goal.returns-clause-apart
+returns-clause-apart g c = closed_apart c.args.seats.items (owners_of (slots_items c.close_with.result.words)) (returns-clause-run g c)

@@ -1,7 +1,12 @@
-use Rattle.std.proofs.Common.{◌<◌, ◌&&◌, not, ◌==◌, Contains, sym, ap, subst, ◌∙◌}
+use Rattle.std.proofs.Common.{◌<◌, ◌&&◌, filter, not, ◌==◌, Contains, sym, ap, subst, ◌∙◌}
+use Rattle.atomic_table.specs.Table.{Me}
+use Rattle.claim_board.specs.declared.event.Event.TheVariants.{GiveBack}
+use Rattle.claim_board.specs.declared.rule.View.{View}
 use Rattle.claim_board.specs.Machine.{held}
 use Rattle.claim_board.specs.State.{BoardState, SeatState}
-use Rattle.claim_board.proofs.Lists.{among-filter}
+use Rattle.claim_board.specs.Rule.{first_events}
+use Rattle.claim_board.proofs.Runs.{held-push}
+use Rattle.claim_board.proofs.Lists.{among-filter, taken_out}
 use Rattle.claim_board.proofs.Steps.{give_back_allowed_as, seat_after}
 use Rattle.claim_board.proofs.board.Board.give_back.Goals as goal
 
@@ -21,3 +26,11 @@ pub invariant_of-seat : goal.invariant_of-seat
 invariant_of-seat g c =
     seat_after _ _ _ _ _ _ c.seat.invariant c.compare_exchange.ensures.2
     (λ shard. c.remove.ensures shard ∙ ap (λ b. not (shard == c.args.shard) && b) (c.seat.invariant.list shard) ∙ sym (among-filter shard c.args.shard _))
+
+pub returns-clause-undone : goal.returns-clause-undone
+returns-clause-undone g c = λ before absent was.
+    let me = c.seat.inside.token.me in
+    let told = ap (λ (m : Me (Unit {0}) View). held (first_events m.0.lists)) c.compare_exchange.ensures.2 in
+    let out = held-push (first_events me.0.lists) (GiveBack me.0.first c.args.shard) in
+    let old = ap (λ (s : SeatState). held s.events) c.seat.view_is in
+    told ∙ out ∙ ap (filter (λ s. not (s == c.args.shard))) (old ∙ was) ∙ taken_out c.args.shard before absent
