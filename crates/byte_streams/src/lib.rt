@@ -38,6 +38,3 @@ pub use devices::Untold;
 pub use fused::{FusedSink, FusedSource};
 pub use traits::{Failed, Sink, Source};
 pub use transfer::{FillFault, PutFault, fill, put};
-
-#[cfg(test)]
-mod tests;

@@ -62,8 +62,6 @@ mod rule;
 mod seat;
 mod seating;
 mod shard_set;
-#[cfg(test)]
-mod tests;
 
 pub use board::Board;
 pub use claim::Claim;

@@ -40,6 +40,3 @@ pub use fault::FrameFault;
 pub use frame::{Answer, Frame, Links};
 pub use head::{Head, decode_head};
 pub use reading::read_frame;
-
-#[cfg(test)]
-mod tests;

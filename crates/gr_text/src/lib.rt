@@ -31,8 +31,6 @@ pub mod parsing;
 pub mod partial;
 mod piece;
 pub mod reader;
-#[cfg(test)]
-mod reader_tests;
 pub mod reading;
 pub mod sizes;
 pub mod so_far;
@@ -41,8 +39,6 @@ mod spelled;
 pub mod verdicts;
 pub mod words;
 pub mod writer;
-#[cfg(test)]
-mod writer_tests;
 
 pub use faults::{GrFault, GrKind, ReadFault};
 pub use graphs::Graph;

@@ -38,8 +38,3 @@ pub use links::Link;
 pub use offered::Offers;
 pub use plain::plain_forest;
 pub use shards::Shard;
-
-#[cfg(test)]
-mod slow;
-#[cfg(test)]
-mod tests;

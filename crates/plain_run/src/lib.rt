@@ -23,6 +23,3 @@ mod run;
 pub use in_memory::plain_text;
 pub use outcome::{Report, RunFault};
 pub use run::run_plain;
-
-#[cfg(test)]
-mod tests;

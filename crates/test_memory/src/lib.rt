@@ -33,6 +33,3 @@ mod refusing;
 
 pub use refusals::Refusals;
 pub use refusing::Refusing;
-
-#[cfg(test)]
-mod tests;

@@ -1,10 +1,10 @@
-use crate::writer::{WriteFault, write_forest};
+// The texts of forests, and how much of one went out.
+use crate::graphs::SMALL_NET;
 use byte_streams::{Failed, FusedSink, Sink};
+use gr_text::{WriteFault, write_forest};
 use link_key::{Forest, Link};
 use std::alloc::{AllocError, Allocator, Global};
 use std::test::Fail;
-
-const SMALL_NET: &[u8; 50] = b"p sp 6 5\na 2 5 0\na 3 4 0\na 3 5 0\na 4 6 3\na 1 3 10\n";
 
 // The forest of some links, which have to ascend.
 fn forest_of<A: Allocator + Copy>(
@@ -33,7 +33,7 @@ fn writes_a_small_net(rt: HostRuntime) -> Result<(), Fail> {
     let forest = forest_of(rt.alloc(), &small_net())?.expect(&rt, "ascending");
     let mut sink = Vec::new(rt.alloc());
     assert_eq!(rt; write_forest(&mut sink, 6, &forest), Ok(50));
-    assert_eq!(rt; sink.as_slice(), SMALL_NET.as_slice());
+    assert_eq!(rt; sink.as_slice(), SMALL_NET.text);
     Ok(())
 }
 
@@ -74,10 +74,10 @@ fn tells_the_bytes_that_went_out(rt: HostRuntime) -> Result<(), Fail> {
         };
         let mut failing = FusedSink::new(rt.alloc(), passes, 7)?;
         assert_eq!(rt; write_forest(&mut failing, 6, &forest), Err(fault));
-        assert_eq!(rt; failing.held(), &SMALL_NET[..passes]);
+        assert_eq!(rt; failing.held(), &SMALL_NET.text[..passes]);
         let mut stopping = FusedSink::stopped(rt.alloc(), passes, 7)?;
         assert_eq!(rt; write_forest(&mut stopping, 6, &forest), Err(fault));
-        assert_eq!(rt; stopping.held(), &SMALL_NET[..passes]);
+        assert_eq!(rt; stopping.held(), &SMALL_NET.text[..passes]);
     }
     Ok(())
 }
@@ -91,10 +91,10 @@ fn tells_a_flush_that_failed(rt: HostRuntime) -> Result<(), Fail> {
         write_forest(&mut failing, 6, &forest),
         Err(WriteFault { written: 50 })
     );
-    assert_eq!(rt; failing.held(), SMALL_NET.as_slice());
+    assert_eq!(rt; failing.held(), SMALL_NET.text);
     let mut stopping = FusedSink::stopped(rt.alloc(), 50, 7)?;
     assert_eq!(rt; write_forest(&mut stopping, 6, &forest), Ok(50));
-    assert_eq!(rt; stopping.held(), SMALL_NET.as_slice());
+    assert_eq!(rt; stopping.held(), SMALL_NET.text);
     Ok(())
 }
 
@@ -136,7 +136,7 @@ fn flushes_once_behind_the_last_byte(rt: HostRuntime) -> Result<(), Fail> {
     let forest = forest_of(rt.alloc(), &small_net())?.expect(&rt, "ascending");
     let mut sink = Flushed::new(rt.alloc());
     assert_eq!(rt; write_forest(&mut sink, 6, &forest), Ok(50));
-    assert_eq!(rt; sink.bytes.as_slice(), SMALL_NET.as_slice());
+    assert_eq!(rt; sink.bytes.as_slice(), SMALL_NET.text);
     assert_eq!(rt; (sink.flushes, sink.late_writes), (1, 0));
     Ok(())
 }

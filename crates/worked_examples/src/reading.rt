@@ -1,19 +1,18 @@
-use crate::{
+// Texts in the `.gr` format: what they mean, their faults, pieces and limits.
+use crate::graphs::{Row, SMALL_NET};
+use byte_streams::FusedSource;
+use gr_text::{
     GrFault, GrKind, GrReader, Graph, MAX_BYTES, ReadFault, parse, read_graph, read_graph_upto,
 };
-use byte_streams::FusedSource;
 use link_key::Link;
 use std::alloc::Allocator;
 use std::test::Fail;
-
-const SMALL_NET: &[u8; 108] =
-    b"c a small net\np sp 6 8\na 1 2 17\nc the usual shape\na 1 3 10\na 2 4 2\na 3 5 0\na 4 3 0\na 4 6 3\na 5 2 0\na 5 6 20\n";
 
 fn fault(line: u64, kind: GrKind) -> ReadFault {
     ReadFault::Gr(GrFault { line, kind })
 }
 
-// Whether this is the graph that the text above means.
+// Whether this is the graph that the small net's file means.
 fn is_small_net<A: Allocator>(graph: &Graph<A>) -> bool {
     let links = [
         (1, 2, 17),
@@ -29,7 +28,7 @@ fn is_small_net<A: Allocator>(graph: &Graph<A>) -> bool {
 }
 
 // Whether the links have these lower ends, higher ends and weights.
-fn are_links(links: &[Link], expected: &[(u32, u32, i32)]) -> bool {
+fn are_links(links: &[Link], expected: &[Row]) -> bool {
     links.len() == expected.len()
         && links
             .iter()
@@ -119,7 +118,7 @@ fn reads_bytes_one_after_another(rt: HostRuntime) {
 
 #[test]
 fn reads_two_pieces_cut_anywhere(rt: HostRuntime) {
-    let text = SMALL_NET.as_slice();
+    let text = SMALL_NET.file;
     for at in 0..=text.len() {
         let mut reader = GrReader::new(rt.alloc(), MAX_BYTES);
         assert_eq!(rt; reader.feed(&text[..at]), Ok(()));
@@ -154,7 +153,7 @@ fn answers_its_fault_from_then_on(rt: HostRuntime) {
 
 #[test]
 fn reads_a_source_to_its_end(rt: HostRuntime) -> Result<(), Fail> {
-    let text = Vec::from_slice(rt.alloc(), SMALL_NET.as_slice())?;
+    let text = Vec::from_slice(rt.alloc(), SMALL_NET.file)?;
     let mut source = FusedSource::new(text, 109, 7);
     let graph = read_graph(rt.alloc(), &mut source);
     assert!(rt; is_small_net(&graph.ok().expect(&rt, "a graph")));

@@ -1,5 +1,6 @@
-use crate::{Refusals, Refusing};
+// The allocator that counts its blocks and refuses chosen allocations.
 use std::test::Fail;
+use test_memory::{Refusals, Refusing};
 
 #[test]
 fn counts_blocks(rt: HostRuntime) -> Result<(), Fail> {

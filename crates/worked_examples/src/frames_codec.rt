@@ -1,8 +1,9 @@
-use crate::{
+// Frames and their bytes, and each refusal.
+use byte_streams::FusedSource;
+use frames::{
     Answer, Frame, FrameFault, Head, Links, decode_body, decode_head, encode, encode_ask,
     encode_shard, fault_bytes, read_frame,
 };
-use byte_streams::FusedSource;
 use link_key::{Labels, Link, Offers, Shard};
 use std::alloc::{AllocError, Global};
 use std::process::Abort;

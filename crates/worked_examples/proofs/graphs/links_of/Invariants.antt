@@ -1,5 +1,5 @@
 use Rattle.link_key.specs.Link.{EndsUpTo}
-use Rattle.link_key.proofs.tests.links_of.Given as goal
+use Rattle.worked_examples.proofs.graphs.links_of.Given as goal
 
 abbrev pub invariant-loop-u : goal.invariant-loop-u
 invariant-loop-u g l = EndsUpTo l.n l.links.items

@@ -1,7 +1,8 @@
+// Claims of shards, by one seat and by many.
 ghost use Rattle.std.specs.Prelude.{◌≡◌, ◌<◌};
 ghost use Rattle.claim_board.specs.State.{AreSeats};
 
-use crate::{Board, Claim, MOST_SHARDS, Seat};
+use claim_board::{Board, Claim, MOST_SHARDS, Seat};
 use std::alloc::Global;
 use std::sync::atomic::{AtomicU64, Ordering};
 use std::test::Fail;

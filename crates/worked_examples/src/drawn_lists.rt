@@ -1,8 +1,8 @@
+// The solver beside a plain program, over drawn lists of arcs.
 ghost use Rattle.std.specs.Prelude.{◌≤◌, ◌<◌, ◌^◌};
 
-use crate::links::Link;
-use crate::plain::plain_forest;
-use crate::tests::links_of;
+use crate::graphs::{Row, links_of};
+use link_key::{Link, plain_forest};
 use std::alloc::{AllocError, Global};
 use std::process::Abort;
 use std::test::Fail;
@@ -54,12 +54,7 @@ fn draw(state: &mut u64, bound: u32) -> u32
 }
 
 // Sixty arcs between the vertices 1 to n, loops and repeats among them, each of one of these weights.
-fn drawn_arcs(
-    alloc: Global,
-    seed: u64,
-    n: u32,
-    weights: &[i32; 5],
-) -> Result<Vec<(u32, u32, i32)>, AllocError>
+fn drawn_arcs(alloc: Global, seed: u64, n: u32, weights: &[i32; 5]) -> Result<Vec<Row>, AllocError>
     requires some { 0 < n }
     requires few { n ≤ 2 ^ 26 }
 {

@@ -1,4 +1,7 @@
-use crate::{Failed, FillFault, FusedSink, FusedSource, PutFault, Sink, Source, Untold, fill, put};
+// Sources and sinks, and those that fail at a chosen byte.
+use byte_streams::{
+    Failed, FillFault, FusedSink, FusedSource, PutFault, Sink, Source, Untold, fill, put,
+};
 use std::fs::{File, OpenOptions};
 use std::test::Fail;
 

@@ -1,0 +1,71 @@
+// Links of arcs, labels, offers and forests, and the forests of the worked graphs.
+use crate::drawn_lists::slow_forest;
+use crate::graphs::{Row, WORKED, links_of};
+use link_key::{Forest, Labels, Link, Offers, plain_forest};
+use std::alloc::Global;
+use std::process::Abort;
+use std::test::Fail;
+
+// The forest of the arcs has just the links of the expected ones, in their order, and so has the slow one.
+fn expect_forest(
+    rt: &impl Abort,
+    alloc: Global,
+    n: u32,
+    arcs: &[Row],
+    expected: &[Row],
+) -> Result<(), Fail> {
+    assert!(rt; n <= 1 << 26);
+    let links = links_of(rt, alloc, n, arcs)?;
+    let forest = plain_forest(alloc, n, links.as_slice())?;
+    let wanted = links_of(rt, alloc, n, expected)?;
+    assert_eq!(rt; forest.links(), wanted.as_slice());
+    let slow = slow_forest(rt, alloc, n, links.as_slice())?;
+    assert_eq!(rt; slow.as_slice(), wanted.as_slice());
+    Ok(())
+}
+
+#[test]
+fn forests_of_the_worked_graphs(rt: HostRuntime) -> Result<(), Fail> {
+    for graph in WORKED {
+        expect_forest(&rt, rt.alloc(), graph.n, graph.arcs, graph.forest)?;
+    }
+    Ok(())
+}
+
+#[test]
+fn arcs_to_links(rt: HostRuntime) {
+    let link = Link::of_arc(5, 2, 0);
+    assert_eq!(rt; link.map(|l| (l.weight, l.low, l.high)), Some((0, 2, 5)));
+    assert_eq!(rt; Link::of_arc(3, 3, 1), None);
+}
+
+#[test]
+fn ascending_lists(rt: HostRuntime) -> Result<(), Fail> {
+    let ascending = links_of(&rt, rt.alloc(), 3, &[(1, 2, 5), (1, 3, 5)])?;
+    let repeated = links_of(&rt, rt.alloc(), 3, &[(1, 2, 5), (1, 2, 5)])?;
+    let wanted = ascending.clone()?;
+    let forest = Forest::of_list(ascending).expect(&rt, "ascending");
+    assert_eq!(rt; forest.links(), wanted.as_slice());
+    assert!(rt; Forest::of_list(repeated).is_none());
+    Ok(())
+}
+
+#[test]
+fn labels_of_vertices(rt: HostRuntime) -> Result<(), Fail> {
+    let apart = Labels::apart(rt.alloc(), 3)?;
+    assert_eq!(rt; apart.as_slice(), [1, 2, 3].as_slice());
+    let own = Labels::of_list([1, 1, 1].to_vec(rt.alloc())?).expect(&rt, "labels");
+    assert_eq!(rt; own.n(), 3);
+    assert_eq!(rt; own.of(3), 1);
+    assert!(rt; Labels::of_list([1, 1, 2].to_vec(rt.alloc())?).is_none());
+    Ok(())
+}
+
+#[test]
+fn offers_of_pairs(rt: HostRuntime) -> Result<(), Fail> {
+    let pairs = [(1, 0), (2, 0), (3, 2)];
+    let offers = Offers::of_pairs(pairs.to_vec(rt.alloc())?).expect(&rt, "ascending");
+    assert_eq!(rt; offers.pairs(), pairs.as_slice());
+    assert!(rt; Offers::of_pairs([(1, 0), (1, 2)].to_vec(rt.alloc())?).is_none());
+    Ok(())
+}

@@ -1,0 +1,83 @@
+// Files to the texts of their forests.
+use crate::graphs::{SMALL_NET, WORKED, Worked};
+use byte_streams::{FusedSink, FusedSource};
+use gr_text::{GrFault, GrKind, ReadFault};
+use plain_run::{Report, RunFault, plain_text, run_plain};
+use std::alloc::Global;
+use std::process::Abort;
+use std::test::Fail;
+
+// The run ends well with the forest's text, and counts vertices and links and nothing else.
+fn expect_text(rt: &impl Abort, alloc: Global, graph: Worked, links: u64) {
+    let mut source = graph.file;
+    let mut sink = Vec::new(alloc);
+    let report = Report {
+        vertices: graph.n,
+        links,
+        rounds: 0,
+        shards: 0,
+        asked: 0,
+        answered: 0,
+        alone: 0,
+        closed: 0,
+    };
+    assert_eq!(rt; run_plain(alloc, &mut source, &mut sink), Ok(report));
+    assert_eq!(rt; sink.as_slice(), graph.text);
+    assert!(rt; source.is_empty());
+}
+
+// Their links, repeats counted and loops left out.
+const LINKS: [u64; 7] = [8, 0, 0, 3, 3, 7, 2];
+
+#[test]
+fn texts_of_the_worked_graphs(rt: HostRuntime) {
+    for (graph, links) in WORKED.into_iter().zip(LINKS) {
+        expect_text(&rt, rt.alloc(), graph, links);
+    }
+}
+
+// A sink that fails, or takes nothing more, after ten bytes holds just these.
+#[test]
+fn a_sink_that_stops(rt: HostRuntime) -> Result<(), Fail> {
+    let fault = RunFault::Write { written: 10 };
+    let mut source = SMALL_NET.file;
+    let mut failing = FusedSink::new(rt.alloc(), 10, 3)?;
+    assert_eq!(rt;
+        run_plain(rt.alloc(), &mut source, &mut failing),
+        Err(fault)
+    );
+    assert_eq!(rt; failing.held(), b"p sp 6 5\na".as_slice());
+    let mut source = SMALL_NET.file;
+    let mut stopping = FusedSink::stopped(rt.alloc(), 10, 3)?;
+    assert_eq!(rt;
+        run_plain(rt.alloc(), &mut source, &mut stopping),
+        Err(fault)
+    );
+    assert_eq!(rt; stopping.held(), b"p sp 6 5\na".as_slice());
+    Ok(())
+}
+
+// Nothing is written of a file that is refused, nor of one whose source fails.
+#[test]
+fn a_file_that_is_not_read(rt: HostRuntime) -> Result<(), Fail> {
+    let file = b"p sp 2 2\na 1 2 5";
+    let mut sink = FusedSink::new(rt.alloc(), 10, 3)?;
+    let missing = RunFault::Read(ReadFault::Gr(GrFault {
+        line: 3,
+        kind: GrKind::MissingArcs,
+    }));
+    let mut source = file.as_slice();
+    assert_eq!(rt; run_plain(rt.alloc(), &mut source, &mut sink), Err(missing));
+    let failed = RunFault::Read(ReadFault::Source { line: 2 });
+    let mut source = FusedSource::new(Vec::from_slice(rt.alloc(), file)?, 12, 5);
+    assert_eq!(rt; run_plain(rt.alloc(), &mut source, &mut sink), Err(failed));
+    assert!(rt; sink.held().is_empty());
+    Ok(())
+}
+
+#[test]
+fn a_file_in_memory(rt: HostRuntime) -> Result<(), Fail> {
+    let text = plain_text(rt.alloc(), SMALL_NET.file).map_err(|_| "a lawful file")?;
+    assert_eq!(rt; text.as_slice(), SMALL_NET.text);
+    Ok(())
+}
