@@ -328,19 +328,17 @@ RIGHT = "{ let _right: u8 = 0; "
 
 
 def planted(crate, edits, texts):
-    """An edit that is right, in a function that the wrong ones leave alone."""
+    """An edit that is right, if there can be one in a function that the wrong ones leave alone."""
     taken = set().union(*(it.touched for it in edits)) if edits else set()
+    found = []
     for file in sorted(texts):
-        if "test" in file:
-            continue
         for it in functions_of(file, texts[file]):
-            head = texts[file][it.begin : it.body]
             whole = texts[file][it.begin : it.body + 1]
-            if it.key not in taken and head.startswith("pub fn") and texts[file].count(whole) == 1:
-                edit = Edit(crate, "planted_body_that_is_right", "nothing refuses it", [Change(file, whole, head + RIGHT)])
+            if "test" not in file and whole.startswith("pub fn") and texts[file].count(whole) == 1:
+                edit = Edit(crate, "planted_body_that_is_right", "nothing refuses it", [Change(file, whole, whole[:-1] + RIGHT)])
                 edit.touched = {it.key}
-                return edit
-    return None
+                found.append(edit)
+    return next((it for it in found if not it.touched & taken), found[0] if found else None)
 
 
 def try_crate(crate, lines, folders, tests_itself):
@@ -402,6 +400,9 @@ def try_crate(crate, lines, folders, tests_itself):
             else:
                 print(f"{crate}: the planted body that is right was NOT found", flush=True)
                 unfit += 1
+        elif tests_itself:
+            print(f"{crate}: no function to plant a body that is right in", flush=True)
+            unfit += 1
         return refused, len(survived), unfit
 
 
