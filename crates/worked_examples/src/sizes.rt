@@ -4,7 +4,9 @@
 use crate::graphs::{Row, links_of};
 use byte_streams::FusedSource;
 use claim_board::Board;
-use frames::{Answer, Frame, Links, encode, encode_ask, encode_shard, read_frame};
+use frames::{
+    Answer, Frame, Links, decode_body, decode_head, encode, encode_ask, encode_shard, read_frame,
+};
 use gr_text::{GrReader, Graph, MAX_BYTES, parse, read_graph, read_graph_upto, write_forest};
 use link_key::{Forest, Labels, Link, Offers, Shard, plain_forest};
 use plain_run::{plain_text, run_plain};
@@ -22,7 +24,7 @@ fn path(alloc: Global, count: u32) -> Result<Vec<Row>, AllocError> {
     let mut arcs = Vec::new(alloc);
     for v in 0..count {
         let first = v.wrapping_add(1);
-        arcs.push((first, first.wrapping_add(1), first as i32))?;
+        arcs.push((first, first.wrapping_add(1), first.cast_signed()))?;
     }
     Ok(arcs)
 }
@@ -141,24 +143,21 @@ fn a_run_of_ten_thousand_arcs(rt: HostRuntime) -> Result<(), Fail> {
     Ok(())
 }
 
-// The bytes of a SHARD with these links, all of them of a path.
-fn shard_bytes(alloc: Global, number: u32, links: &[Link]) -> Result<Vec<u8>, Fail> {
+// The bytes of a SHARD with these links, of which there are so many.
+fn shard_bytes(alloc: Global, number: u32, count: u32, links: &[Link]) -> Result<Vec<u8>, Fail> {
     let mut text = Vec::from_slice(alloc, &[2])?;
-    put_number(
-        &mut text,
-        (links.len() as u32).wrapping_mul(12).wrapping_add(8),
-    )?;
+    put_number(&mut text, count.wrapping_mul(12).wrapping_add(8))?;
     put_number(&mut text, number)?;
-    put_number(&mut text, links.len() as u32)?;
+    put_number(&mut text, count)?;
     for link in links {
         put_number(&mut text, link.low)?;
         put_number(&mut text, link.high)?;
-        put_number(&mut text, link.weight as u32)?;
+        put_number(&mut text, link.weight.cast_unsigned())?;
     }
     Ok(text)
 }
 
-// The frame's text is these bytes, and they are read as a frame of the same text, as is one by one piece after another.
+// The frame's text is these bytes, and it is what they are read as, whole, in pieces, and as a head and a body.
 fn expect_text(rt: &impl Abort, alloc: Global, frame: &Frame, bytes: &[u8]) -> Result<(), Fail> {
     assert!(rt; frame.is_lawful());
     assert_eq!(rt; encode(alloc, frame)?.as_slice(), bytes);
@@ -169,6 +168,14 @@ fn expect_text(rt: &impl Abort, alloc: Global, frame: &Frame, bytes: &[u8]) -> R
     let pieced = read_frame(alloc, &mut slow)?;
     assert!(rt; pieced.is_lawful());
     assert_eq!(rt; encode(alloc, &pieced)?.as_slice(), bytes);
+    let Some((first, body)) = bytes.split_first_chunk::<5>() else {
+        panic!(rt; "a head");
+    };
+    let head = decode_head(first)?;
+    assert!(rt; body.len() == head.length as usize);
+    let decoded = decode_body(alloc, head, body)?;
+    assert!(rt; decoded.is_lawful());
+    assert_eq!(rt; encode(alloc, &decoded)?.as_slice(), bytes);
     Ok(())
 }
 
@@ -176,7 +183,7 @@ fn expect_shard(rt: &impl Abort, alloc: Global, number: u32, count: u32) -> Resu
     let arcs = path(alloc, count)?;
     assert!(rt; count <= MORE && number < 4096);
     let links = links_of(rt, alloc, count + 1, arcs.as_slice())?;
-    let bytes = shard_bytes(alloc, number, links.as_slice())?;
+    let bytes = shard_bytes(alloc, number, count, links.as_slice())?;
     let shard = Shard {
         number,
         links: links.as_slice(),
@@ -249,7 +256,10 @@ fn expect_seats(rt: &impl Abort, alloc: Global, count: u32) -> Result<(), Fail> 
     assert!(rt; 1 <= count && count <= 64);
     let (board, seats) = Board::open(alloc, 2, count)?;
     let all = seats.len();
-    let in_order = seats.iter().enumerate().all(|(place, seat)| seat.number() as usize == place);
+    let in_order = seats
+        .iter()
+        .enumerate()
+        .all(|(place, seat)| seat.number() as usize == place);
     let owners = board.close(seats)?;
     assert_eq!(rt; (all, in_order), (count as usize, true));
     assert_eq!(rt; (owners.of(0), owners.of(1)), (None, None));
