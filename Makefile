@@ -1,36 +1,58 @@
-# `make run`      proves and builds the program, and runs it on examples/small.gr
-# `make test`     the gate: all proofs from nothing, the wrong bodies, the tests, the programs
-# `make install`  puts the proved program into $(PREFIX)/bin
-# `make bench`    times it beside a C++ program; needs Python 3, a C++17 compiler and GNU time
+# `make help` says what each target does.
 
 PREFIX ?= /usr/local
 PROGRAM := crates/boruvka/out/boruvka
 STEPS := crates/plain_bench/out/plain_bench
 SOURCES := $(shell find crates -path '*/out' -prune -o -type f \( -name '*.rt' -o -name '*.antt' \) -print) crates.txt
+# (a path that may have a space, in single quotes for the shell)
+BIN := '$(subst ','\'',$(DESTDIR)$(PREFIX))/bin'
 
-.PHONY: run test install bench
+.PHONY: help run test wrong install uninstall bench clean
+
+help:
+	@echo 'make run        proves and builds the program, and runs it on examples/small.gr'
+	@echo 'make test       the gate: all proofs from nothing, the wrong bodies of must-fail/, the tests, the program whole'
+	@echo 'make wrong      tries the wrong bodies of wrong-bodies/, many at a time'
+	@echo 'make install    puts the proved program into PREFIX/bin (PREFIX=$(PREFIX))'
+	@echo 'make uninstall  takes it away'
+	@echo 'make bench      times it beside a C++ program; needs Python 3, a C++17 compiler and GNU time'
+	@echo 'make clean      removes what was built and what checks kept (out/ of each crate): the next run proves all anew'
 
 run: $(PROGRAM)
 	@$(PROGRAM) --plain examples/small.gr
 
 test:
-	rt ci
+	@python3 tests/gate.py
+
+wrong:
+	@python3 tests/wrong_bodies.py
 
 install: $(PROGRAM)
-	install -d $(DESTDIR)$(PREFIX)/bin
-	install -m 755 $(PROGRAM) $(DESTDIR)$(PREFIX)/bin/boruvka
+	install -d $(BIN)
+	install -m 755 $(PROGRAM) $(BIN)/boruvka
+
+uninstall:
+	rm -f $(BIN)/boruvka
 
 bench: $(PROGRAM) $(STEPS)
 	python3 benches/run.py $(PROGRAM) $(STEPS)
 
-# `rt run` proves, builds and runs; what it built stays in out/.
+clean:
+	rm -rf crates/*/out crates/*/out.log
+
+# `rt run` proves, builds and runs; what it built stays in out/. What it says goes to out.log, and which crate it is
+# at to standard error.
+PROGRESS := awk '/^rt: chose --jobs/ { print "proving " $$NF; fflush() }' >&2
+
 $(PROGRAM): $(SOURCES)
-	@echo "proving and building; the first time this takes some minutes" >&2
-	@cd crates/boruvka && rt run -- --plain ../../examples/small.gr > out.log 2>&1 || { cat out.log >&2; rm -f out.log; exit 1; }
+	@echo 'proving and building; the first time this takes some minutes' >&2
+	@cd crates/boruvka && { rt run -- --plain ../../examples/small.gr 2>&1 || echo failed > out.failed; } | tee out.log | $(PROGRESS)
+	@cd crates/boruvka && { test ! -e out.failed || { cat out.log >&2; rm -f out.failed out.log; exit 1; }; }
 	@rm -f crates/boruvka/out.log
 	@touch $(PROGRAM)
 
 $(STEPS): $(SOURCES)
-	@cd crates/plain_bench && rt run < stdin > out.log 2>&1 || { cat out.log >&2; rm -f out.log; exit 1; }
+	@cd crates/plain_bench && { rt run < stdin 2>&1 || echo failed > out.failed; } | tee out.log | $(PROGRESS)
+	@cd crates/plain_bench && { test ! -e out.failed || { cat out.log >&2; rm -f out.failed out.log; exit 1; }; }
 	@rm -f crates/plain_bench/out.log
 	@touch $(STEPS)

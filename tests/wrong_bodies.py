@@ -74,16 +74,14 @@ class Function:
     def key(self):
         return self.file, self.owner, self.name
 
-    def path(self, crate):
-        """How `rt check` names it."""
+    def is_told_as(self, path):
+        """Whether `rt check` names it by this path without the crate's name: a method stands where its type does."""
         inside = self.file[len("src/") : -len(".rt")].split("/")
         if inside[-1] in ("lib", "main", "mod"):
             inside.pop()
-        return "::".join([crate, *inside, *([self.owner] if self.owner else []), self.name])
-
-    def folder(self, crate):
-        """Where its proof files stand."""
-        return "proofs/" + "/".join(self.path(crate).split("::")[1:]) + "/"
+        if self.owner:
+            return path[-2:] == [self.owner, self.name]
+        return path == [*inside, self.name]
 
 
 def blanked(text):
@@ -120,7 +118,7 @@ def owner_of(header):
     trait, _, target = rest.partition(" for ")
     if not target:
         return type_name(rest, parameters)
-    return type_name(target, parameters) + type_name(re.match(r"[\w:]+", trait)[0], parameters)
+    return type_name(target, parameters) + type_name(trait, parameters)
 
 
 def functions_of(file, text):
@@ -295,14 +293,13 @@ def crate_lines():
 
 def verdict(edit, texts, said):
     """'refused', 'named' (only names are missing) or 'survived', and the reason that was told."""
-    spans, folders, paths = [], [], []
+    spans, touched = [], []
     for file in {it.file for it in edit.changes}:
         for it in functions_of(file, texts[file]):
             if it.key in edit.touched:
                 begin, end = (texts[file].count("\n", 0, at) + 1 for at in (it.begin, it.end))
                 spans.append((file, begin, end))
-                folders.append(it.folder(edit.crate))
-                paths.append(it.path(edit.crate))
+                touched.append(it)
     names = None
     for line in said.split("\n"):
         told = re.match(r"(?:note: |error: )?(?:\./)?((?:src|proofs)/\S+?):(\d+):\d+: (.*)", line)
@@ -312,13 +309,15 @@ def verdict(edit, texts, said):
             if is_here and "it is not proved" in told[3]:
                 return "refused", line
         elif told and told[3].startswith("error"):
-            if not edit.touched or any(told[1].startswith(it) for it in folders):
+            path = told[1].split("/")[1:-1]
+            if not edit.touched or any(it.is_told_as(path) for it in touched):
                 if not NAMES_ALONE.search(told[3]):
                     return "refused", line
                 names = names or line
         else:
-            of = re.match(r"fn (\S+): (?:no proof|not proved)(.*)", line)
-            if of and (not edit.touched or of[1] in paths) and re.search(r"did not prove|could not|no measure", of[2]):
+            of = re.match(r"fn \w+::(\S+): (?:no proof|not proved)(.*)", line)
+            is_own = of and (not edit.touched or any(it.is_told_as(of[1].split("::")) for it in touched))
+            if is_own and "did not prove" in of[2]:
                 return "refused", line
     return ("named", names) if names else ("survived", "")
 
@@ -328,19 +327,17 @@ RIGHT = "{ let _right: u8 = 0; "
 
 
 def planted(crate, edits, texts):
-    """An edit that is right, in a function that the wrong ones leave alone."""
+    """An edit that is right, if there can be one in a function that the wrong ones leave alone."""
     taken = set().union(*(it.touched for it in edits)) if edits else set()
+    found = []
     for file in sorted(texts):
-        if "test" in file:
-            continue
         for it in functions_of(file, texts[file]):
-            head = texts[file][it.begin : it.body]
             whole = texts[file][it.begin : it.body + 1]
-            if it.key not in taken and head.startswith("pub fn") and texts[file].count(whole) == 1:
-                edit = Edit(crate, "planted_body_that_is_right", "nothing refuses it", [Change(file, whole, head + RIGHT)])
+            if "test" not in file and whole.startswith("pub fn") and texts[file].count(whole) == 1:
+                edit = Edit(crate, "planted_body_that_is_right", "nothing refuses it", [Change(file, whole, whole[:-1] + RIGHT)])
                 edit.touched = {it.key}
-                return edit
-    return None
+                found.append(edit)
+    return next((it for it in found if not it.touched & taken), found[0] if found else None)
 
 
 def try_crate(crate, lines, folders, tests_itself):
@@ -402,6 +399,9 @@ def try_crate(crate, lines, folders, tests_itself):
             else:
                 print(f"{crate}: the planted body that is right was NOT found", flush=True)
                 unfit += 1
+        elif tests_itself:
+            print(f"{crate}: no function to plant a body that is right in", flush=True)
+            unfit += 1
         return refused, len(survived), unfit
 
 

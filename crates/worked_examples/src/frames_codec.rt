@@ -203,6 +203,51 @@ fn fields_that_are_refused(rt: HostRuntime) {
     expect_fault(&rt, rt.alloc(), &code_4, FrameFault::BadField);
 }
 
+// There are 4,096 shards, numbered from 0.
+#[test]
+fn shard_numbers_past_the_last(rt: HostRuntime) {
+    let mut shard = SHARD;
+    shard[7] = 16;
+    expect_fault(&rt, rt.alloc(), &shard, FrameFault::BadField);
+    let mut ask = ASK;
+    ask[11] = 16;
+    expect_fault(&rt, rt.alloc(), &ask, FrameFault::BadField);
+}
+
+// A count that isn't that of the items behind it, one less and one more.
+#[test]
+fn counts_that_are_wrong(rt: HostRuntime) {
+    for count in [2, 4] {
+        let mut shard = SHARD;
+        shard[12] = count;
+        expect_fault(&rt, rt.alloc(), &shard, FrameFault::BadField);
+        let mut ask = ASK;
+        ask[16] = count;
+        expect_fault(&rt, rt.alloc(), &ask, FrameFault::BadField);
+        let mut answer = ANSWER;
+        answer[16] = count;
+        expect_fault(&rt, rt.alloc(), &answer, FrameFault::BadField);
+    }
+}
+
+// A link's ends are from 1 to 2^26, and differ.
+#[test]
+fn links_that_are_none(rt: HostRuntime) {
+    let mut low_0 = SHARD;
+    low_0[16] = 0;
+    expect_fault(&rt, rt.alloc(), &low_0, FrameFault::BadField);
+    let mut high_past_the_last = SHARD;
+    high_past_the_last[17] = 4;
+    high_past_the_last[20] = 1;
+    expect_fault(&rt, rt.alloc(), &high_past_the_last, FrameFault::BadField);
+    let mut turned_round = SHARD;
+    turned_round[16] = 3;
+    expect_fault(&rt, rt.alloc(), &turned_round, FrameFault::BadField);
+    let mut loop_at_2 = SHARD;
+    loop_at_2[16] = 2;
+    expect_fault(&rt, rt.alloc(), &loop_at_2, FrameFault::BadField);
+}
+
 #[test]
 fn lengths_of_heads(rt: HostRuntime) {
     let links = Head {
@@ -254,14 +299,5 @@ fn reads_that_fail(rt: HostRuntime) -> Result<(), Fail> {
     }
     let mut source = FusedSource::new(Vec::from_slice(rt.alloc(), &ASK)?, 29, 4);
     assert!(rt; read_frame(rt.alloc(), &mut source)?.is_lawful());
-    Ok(())
-}
-
-#[test]
-fn texts_of_faults(rt: HostRuntime) -> Result<(), Fail> {
-    let torn = format!(in rt.alloc(); "{}", FrameFault::Torn)?;
-    let kind = format!(in rt.alloc(); "{}", FrameFault::BadKind)?;
-    assert_eq!(rt; torn.as_str(), "stream ended inside a frame");
-    assert_eq!(rt; kind.as_str(), "frame of an unknown kind");
     Ok(())
 }

@@ -28,6 +28,8 @@ mod board;
 #[cfg(test)]
 mod drawn_lists;
 #[cfg(test)]
+mod fault_texts;
+#[cfg(test)]
 mod frames_codec;
 #[cfg(test)]
 mod graphs;
@@ -43,6 +45,8 @@ mod memory_of_lists;
 mod plain_runs;
 #[cfg(test)]
 mod reading;
+#[cfg(test)]
+mod sizes;
 #[cfg(test)]
 mod streams;
 #[cfg(test)]

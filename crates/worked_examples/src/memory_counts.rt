@@ -58,3 +58,20 @@ fn a_growth_is_refused(rt: HostRuntime) -> Result<(), Fail> {
     assert_eq!(rt; (memory.asked(), memory.given(), memory.live()), (2, 1, 0));
     Ok(())
 }
+
+// A growth past any small size is handed on to the allocator behind it.
+#[test]
+fn ten_thousand_numbers_are_kept(rt: HostRuntime) -> Result<(), Fail> {
+    let memory = Refusing::new(rt.alloc(), Refusals::none());
+    let mut numbers = Vec::new(&memory);
+    for number in 0..10_000u32 {
+        numbers.push(number)?;
+    }
+    for number in 0..10_000u32 {
+        assert_eq!(rt; numbers.get(number as usize), Some(&number));
+    }
+    assert_eq!(rt; memory.live(), 1);
+    drop(numbers);
+    assert_eq!(rt; memory.live(), 0);
+    Ok(())
+}

@@ -1,0 +1,104 @@
+// What each fault is told as.
+use claim_board::BoardFault;
+use frames::FrameFault;
+use gr_text::{GrFault, GrKind, ReadFault, WriteFault};
+use plain_run::{Report, RunFault};
+use std::alloc::Global;
+use std::fmt::Display;
+use std::process::Abort;
+use std::test::Fail;
+
+fn expect_text<T: Display>(
+    rt: &impl Abort,
+    alloc: Global,
+    told: &T,
+    expected: &str,
+) -> Result<(), Fail> {
+    let text = format!(in alloc; "{told}")?;
+    assert_eq!(rt; text.as_str(), expected);
+    Ok(())
+}
+
+#[test]
+fn of_frames(rt: HostRuntime) -> Result<(), Fail> {
+    let texts = [
+        (FrameFault::BadKind, "frame of an unknown kind"),
+        (FrameFault::BadLength, "frame of an impossible length"),
+        (FrameFault::BadField, "frame with an unlawful field"),
+        (FrameFault::BadVersion, "hello of another version"),
+        (FrameFault::Ended, "stream ended before a frame"),
+        (FrameFault::Torn, "stream ended inside a frame"),
+        (FrameFault::Device, "read failed"),
+        (FrameFault::Memory, "no memory"),
+    ];
+    for (fault, text) in texts {
+        expect_text(&rt, rt.alloc(), &fault, text)?;
+    }
+    Ok(())
+}
+
+#[test]
+fn of_each_faulty_line(rt: HostRuntime) -> Result<(), Fail> {
+    let texts = [
+        (GrKind::UnknownLine, "line 7: UnknownLine"),
+        (GrKind::NoProblemYet, "line 7: NoProblemYet"),
+        (GrKind::SecondProblem, "line 7: SecondProblem"),
+        (GrKind::BadProblem, "line 7: BadProblem"),
+        (GrKind::TooLarge, "line 7: TooLarge"),
+        (GrKind::BadArc, "line 7: BadArc"),
+        (GrKind::EndOutOfRange, "line 7: EndOutOfRange"),
+        (GrKind::WeightOutOfRange, "line 7: WeightOutOfRange"),
+        (GrKind::TooManyArcs, "line 7: TooManyArcs"),
+        (GrKind::MissingProblem, "line 7: MissingProblem"),
+        (GrKind::MissingArcs, "line 7: MissingArcs"),
+    ];
+    for (kind, text) in texts {
+        let fault = GrFault { line: 7, kind };
+        expect_text(&rt, rt.alloc(), &fault, text)?;
+        expect_text(&rt, rt.alloc(), &ReadFault::Gr(fault), text)?;
+        expect_text(&rt, rt.alloc(), &RunFault::Read(ReadFault::Gr(fault)), text)?;
+    }
+    Ok(())
+}
+
+#[test]
+fn of_reading_writing_and_running(rt: HostRuntime) -> Result<(), Fail> {
+    let texts = [
+        (ReadFault::Source { line: 2 }, "line 2: read failed"),
+        (ReadFault::TooLong, "file is too long"),
+        (ReadFault::Memory, "no memory"),
+    ];
+    for (fault, text) in texts {
+        expect_text(&rt, rt.alloc(), &fault, text)?;
+        expect_text(&rt, rt.alloc(), &RunFault::Read(fault), text)?;
+    }
+    expect_text(&rt, rt.alloc(), &RunFault::Memory, "no memory")?;
+    let write = "write failed after 10 bytes";
+    expect_text(&rt, rt.alloc(), &RunFault::Write { written: 10 }, write)?;
+    expect_text(&rt, rt.alloc(), &WriteFault { written: 10 }, write)
+}
+
+#[test]
+fn of_the_board(rt: HostRuntime) -> Result<(), Fail> {
+    let memory = "no memory for the board";
+    expect_text(&rt, rt.alloc(), &BoardFault::Memory, memory)?;
+    let table = "the board's table was refused";
+    expect_text(&rt, rt.alloc(), &BoardFault::NoTable, table)
+}
+
+// Each number of a report stands behind its own name.
+#[test]
+fn of_a_report(rt: HostRuntime) -> Result<(), Fail> {
+    let report = Report {
+        vertices: 1,
+        links: 2,
+        rounds: 3,
+        shards: 4,
+        asked: 5,
+        answered: 6,
+        alone: 7,
+        closed: 8,
+    };
+    let text = "vertices=1 links=2 rounds=3 shards=4 asked=5 answered=6 alone=7 closed=8";
+    expect_text(&rt, rt.alloc(), &report, text)
+}
