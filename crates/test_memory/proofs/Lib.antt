@@ -1,1 +1,2 @@
 mod Counts
+pub mod InTurn

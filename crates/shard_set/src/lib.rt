@@ -1,0 +1,71 @@
+//! A set of shards, one bit for each of them.
+//!
+//! What is promised here: a [`ShardSet`] holds shards below `MAX_SHARDS`, and contracts see its words, of which
+//! `has_shard` tells whether a shard is in it. `insert` and `remove` change what is said of their one shard and of no other, and no call takes memory.
+//!
+//! ```text
+//!   shard 70 ──► word 70 / 64 = 1, bit 70 % 64 = 6
+//!
+//!   [ word 0 | word 1 | word 2 | .. | word 63 ]
+//! ```
+//!
+//! Where to start a change: `specs/Shards` says what the words mean, and `proofs/Bits` what a write of one bit does to all
+//! of them. The number of words follows from `MAX_SHARDS`.
+#![tactic(auto)]
+
+ghost use Rattle.std.specs.Prelude.{◌≡◌, ℕ, ◌<◌, ◌==◌, ◌&&◌, ◌||◌, not, false};
+ghost use Rattle.shard_set.specs.Shards.{has_shard};
+
+use limits::MAX_SHARDS;
+use std::marker::Model;
+
+const WORDS: usize = MAX_SHARDS / 64;
+
+/// A set of shards below `MAX_SHARDS`. It has 512 bytes, and each call but `empty` takes one step.
+#[derive(Drop)]
+pub struct ShardSet {
+    bits: [u64; WORDS],
+}
+
+impl Model for ShardSet {
+    ghost use Rattle.std.specs.Prelude.{ℕ, List};
+
+    ghost Value = { List ℕ };
+
+    ghost view = { λ s. s.bits };
+}
+
+impl ShardSet {
+    /// The set of no shard.
+    pub fn empty() -> ShardSet
+        ensures { (shard : ℕ) → has_shard result shard ≡ false }
+    {
+        ShardSet { bits: [0; WORDS] }
+    }
+
+    /// Whether the shard is in the set. A shard from `MAX_SHARDS` on is in none.
+    pub fn has(&self, shard: u32) -> bool
+        ensures { result ≡ has_shard self.now shard }
+    {
+        match self.bits.get((shard / 64) as usize) {
+            Some(word) => word >> (shard % 64) & 1 == 1,
+            None => false,
+        }
+    }
+
+    /// Puts the shard into the set, where it may be already.
+    pub fn insert(&mut self, shard: u32)
+        requires { shard < MAX_SHARDS }
+        ensures { (s : ℕ) → has_shard self.new s ≡ (s == shard || has_shard self.old s) }
+    {
+        self.bits[(shard / 64) as usize] |= 1 << (shard % 64);
+    }
+
+    /// Takes the shard out of the set, if it is there.
+    pub fn remove(&mut self, shard: u32)
+        requires { shard < MAX_SHARDS }
+        ensures { (s : ℕ) → has_shard self.new s ≡ (not (s == shard) && has_shard self.old s) }
+    {
+        self.bits[(shard / 64) as usize] &= !(1 << (shard % 64));
+    }
+}
