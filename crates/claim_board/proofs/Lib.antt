@@ -1,4 +1,3 @@
-pub mod Bits
 pub mod Lists
 pub mod Runs
 pub mod Held

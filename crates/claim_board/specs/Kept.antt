@@ -1,18 +1,15 @@
 -- What the fields of a seat and of a board keep.
-use Rattle.std.specs.Prelude.{◌≡◌, ℕ, zero, suc, ◌==◌, ◌/◌, ◌%◌, ◌<◌, ◌≤◌, Bool, List, [], map, slice_get, slice_index, Option, Some, None}
-use Rattle.std.specs.Int.{bit_at}
+use Rattle.std.specs.Prelude.{◌≡◌, ℕ, zero, suc, ◌==◌, ◌<◌, ◌≤◌, Bool, List, [], map, slice_get, slice_index, Option, Some, None}
 use Rattle.std.specs.List.{list_any}
 use Rattle.atomic_table.specs.Seated.{TableId}
 use Rattle.atomic_table.specs.Table.{Me}
+use Rattle.shard_set.specs.Shards.{has_shard}
+use Rattle.claim_board.specs.declared.most.TheConstants.{MOST_SHARDS, MOST_SEATS}
 use Rattle.claim_board.specs.declared.rule.Size.{Size}
 use Rattle.claim_board.specs.declared.rule.View.{View}
 use Rattle.claim_board.specs.Machine.{held}
 use Rattle.claim_board.specs.Rule.{lone, first_events}
 use Rattle.claim_board.specs.State.{BoardState, SeatState}
-
--- the bit of the shard is 1
-abbrev pub has_shard : List ℕ → ℕ → Bool
-has_shard bits shard = bit_at (slice_index bits (shard / 64)) (shard % 64) == 1
 
 -- the shard is one of these
 abbrev pub among : ℕ → List ℕ → Bool
@@ -25,12 +22,12 @@ board_state table size = record { table = table; shards = size.shards; seats = s
 abbrev pub seat_state : TableId → View → SeatState
 seat_state table view = record { board = board_state table view.size; number = view.first; events = first_events view.lists }
 
--- 1 to 4,096 shards, and 1 to 64 seats
+-- some shards and seats, and no more than a board may have
 pub record IsInRange (size : Size) : Type 0 where
   pub some_shard : 0 < size.shards
-  pub shards : size.shards ≤ 4096
+  pub shards : size.shards ≤ MOST_SHARDS
   pub some_seat : 0 < size.seats
-  pub seats : size.seats ≤ 64
+  pub seats : size.seats ≤ MOST_SEATS
 
 -- the token's view is of this number alone, and the bits are the shards of its list
 pub record IsSeat (me : Me (Unit {0}) View) (number : ℕ) (bits : List ℕ) : Type 0 where
@@ -66,4 +63,4 @@ InOrderAt table seats = (number : ℕ) (seat : SeatState) → slice_get seats nu
 pub record IsClosed (row : List ℕ) (words slots shards : ℕ) : Type 0 where
   pub words_count : words ≡ shards
   pub slots_count : slots ≡ 0
-  pub of_seats : (shard : ℕ) → slice_index row shard ≤ 64
+  pub of_seats : (shard : ℕ) → slice_index row shard ≤ MOST_SEATS

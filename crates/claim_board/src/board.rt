@@ -10,11 +10,11 @@ ghost use Rattle.claim_board.specs.declared.fault.BoardFault.TheVariants.{Memory
 
 use crate::claim::Claim;
 use crate::fault::BoardFault;
+use crate::most::{MOST_SEATS, MOST_SHARDS};
 use crate::owners::Owners;
 use crate::rule::{Claims, GivesBack, Ruled, Size, Token, View};
 use crate::seat::Seat;
 use crate::seating::{deal, gather};
-use crate::shard_set::MOST_SHARDS;
 use atomic_table::Table;
 use std::alloc::{AllocError, Allocator};
 use std::marker::Model;
@@ -56,8 +56,8 @@ impl<A: Allocator + Copy> Board<A> {
     /// comes. It takes 8 bytes for each shard and some 500 for each seat, and one step on a word for each seat but the
     /// last.
     pub fn open(alloc: A, shards: u32, seats: u32) -> Result<(Board<A>, Vec<Seat, A>), BoardFault>
-        requires shards { (0 < shards) × (shards ≤ 4096) }
-        requires seats { (0 < seats) × (seats ≤ 64) }
+        requires shards { (0 < shards) × (shards ≤ MOST_SHARDS) }
+        requires seats { (0 < seats) × (seats ≤ MOST_SEATS) }
         ensures size { IfOk result (λ r. (r.0.shards ≡ shards) × (r.0.seats ≡ seats)) }
         ensures seats { IfOk result (λ r. AreSeats r.0 r.1.items) }
         ensures fresh { IfOk result (λ r. All (IsFresh r.0) r.1.items) }

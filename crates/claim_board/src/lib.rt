@@ -48,8 +48,8 @@
 //! - What an event is and which is allowed when: `event` and `specs/Machine.antt`, then `specs/Rule.antt`.
 //! - A new kind of step: its `Play` in `rule`, what it tells in `specs/Rule.antt`, its proof in `proofs/Steps.antt`.
 //! - What contracts see of boards and seats: `specs/State.antt`. What the fields keep: `specs/Kept.antt`.
-//! - More than 64 seats: `IsInRange` and `IsClosed` of `specs/Kept.antt`, and `open`.
-//! - More than 4,096 shards: `IsInRange`, `open`, and the bits of `shard_set`.
+//! - More seats: `MOST_SEATS` in `most`.
+//! - More shards: `MOST_SHARDS` in `most`, which is at most the `MAX_SHARDS` of `shard_set`'s sets.
 #![tactic(auto)]
 
 mod board;
@@ -57,16 +57,16 @@ mod claim;
 mod event;
 mod fault;
 pub mod laws;
+mod most;
 mod owners;
 mod rule;
 mod seat;
 mod seating;
-mod shard_set;
 
 pub use board::Board;
 pub use claim::Claim;
 pub use event::Event;
 pub use fault::BoardFault;
+pub use most::{MOST_SEATS, MOST_SHARDS};
 pub use owners::Owners;
 pub use seat::Seat;
-pub use shard_set::MOST_SHARDS;

@@ -3,7 +3,7 @@ ghost use Rattle.std.specs.Prelude.{◌≡◌, ◌<◌, ◌↔◌, [], IsTrue, C
 ghost use Rattle.claim_board.specs.Machine.{held};
 
 use crate::rule::Token;
-use crate::shard_set::ShardSet;
+use shard_set::ShardSet;
 use std::marker::Model;
 
 /// One of the seats of a board, which claims shards for whoever holds it. It is `Send`, so it may go to another thread
@@ -24,7 +24,7 @@ impl Model for Seat {
 
     ghost view = { λ s. seat_state s.token.table_id s.token.me.0 };
 
-    ghost invariant = { λ s. IsSeat s.token.me s.number s.shards.bits };
+    ghost invariant = { λ s. IsSeat s.token.me s.number s.shards };
 }
 
 impl Seat {

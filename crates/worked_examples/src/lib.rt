@@ -46,6 +46,10 @@ mod plain_runs;
 #[cfg(test)]
 mod reading;
 #[cfg(test)]
+mod refusals;
+#[cfg(test)]
+mod shard_sets;
+#[cfg(test)]
 mod sizes;
 #[cfg(test)]
 mod streams;
