@@ -14,8 +14,8 @@ use Rattle.frames.specs.Lawful.{IsU32, IsShard}
 use Rattle.frames.specs.Refusals.{IsWithItems, IsOtherVersion, IsFrameOf, ShardBegun, IsListBegun, BodyRefused, LinksRefused}
 use Rattle.frames.specs.declared.fault.FrameFault.{FrameFault}
 use Rattle.frames.specs.declared.fault.FrameFault.TheVariants.{BadKind, BadLength, BadField, BadVersion, Ended, Torn, Device, Memory}
-use Rattle.frames.proofs.Texts.{u16_length, u32_length, u16_front, u32_front, link_length, offer_length, items_length, items_same, offer_front, FitsOffer}
-use Rattle.frames.proofs.OneText.{two_front, labels_fit}
+use Rattle.frames.proofs.Texts.{u16_length, u32_length, u16_prefix, u32_prefix, link_length, offer_length, items_length, items_same, offer_prefix, FitsOffer}
+use Rattle.frames.proofs.OneText.{two_prefix, labels_fit}
 
 -- ---- a hello
 
@@ -26,8 +26,8 @@ hello_unlike : (v : FrameValue) (version worker : ℕ) (body rest behind : List 
     → body ≡ u16_text version ++ rest → rest ≡ u32_text worker ++ behind → length body ≡ 6 → IsFrameOf v 1 body → ⊥
 hello_unlike (HelloFrame v w) version worker body rest behind wide high one first second len is =
     let none : behind ≡ [] = nil_from_length behind (omega (arith, ap length first, ap length second, length-append (u16_text version) rest, length-append (u32_text worker) behind, u16_length version, u32_length worker)) in
-    let fields = u16_front v version (u32_text w) rest (omega (arith, is.lawful.version)) (omega arith) (is.body ∙ first) in
-    let same = u32_front w worker [] behind (omega (arith, is.lawful.worker)) wide (append-nil (u32_text w) ∙ fields.1 ∙ second) in
+    let fields = u16_prefix v version (u32_text w) rest (omega (arith, is.lawful.version)) (omega arith) (is.body ∙ first) in
+    let same = u32_prefix w worker [] behind (omega (arith, is.lawful.worker)) wide (append-nil (u32_text w) ∙ fields.1 ∙ second) in
     omega (arith, same.0, is.lawful.worker)
 hello_unlike v version worker body rest behind wide high one first second len is = omega (arith, is.kind)
 
@@ -48,7 +48,7 @@ hello_found version worker body rest behind low one first second len =
 shard_parts : (v : FrameValue) (n c : ℕ) (body rest links : List ℕ) → IsU32 n → IsU32 c → body ≡ u32_text n ++ rest → rest ≡ u32_text c ++ links
     → IsFrameOf v 2 body → (ls : List Link) × IsShard n ls × (length ls ≡ c) × (flat_map link_text ls ≡ links)
 shard_parts (ShardFrame n' ls) n c body rest links wide wide' first second is =
-    let fields = two_front n' (length ls) n c (flat_map link_text ls) links (omega (arith, is.lawful.number)) (omega (arith, is.lawful.count)) wide wide' (is.body ∙ first ∙ ap (λ (t : List ℕ). u32_text n ++ t) second) in
+    let fields = two_prefix n' (length ls) n c (flat_map link_text ls) links (omega (arith, is.lawful.number)) (omega (arith, is.lawful.count)) wide wide' (is.body ∙ first ∙ ap (λ (t : List ℕ). u32_text n ++ t) second) in
     (ls, subst (λ (k : ℕ). IsShard k ls) fields.0 is.lawful, fields.1, fields.2)
 shard_parts v n c body rest links wide wide' first second is = absurd (omega (arith, is.kind))
 
@@ -107,8 +107,8 @@ ask_parts : (v : FrameValue) (r s c : ℕ) (body rest rest' labels : List ℕ) �
     → body ≡ u32_text r ++ rest → rest ≡ u32_text s ++ rest' → rest' ≡ u32_text c ++ labels
     → IsFrameOf v 3 body → (ls : List ℕ) × AreLabels ls × (length ls ≡ c) × (s < MAX_SHARDS) × (flat_map u32_text ls ≡ labels)
 ask_parts (AskFrame r' s' ls) r s c body rest rest' labels wide_r wide_s wide_c first second third is =
-    let fields = two_front r' s' r s (u32_text (length ls) ++ flat_map u32_text ls) rest' is.lawful.round (omega (arith, is.lawful.shard)) wide_r wide_s (is.body ∙ first ∙ ap (λ (t : List ℕ). u32_text r ++ t) second) in
-    let count = u32_front (length ls) c (flat_map u32_text ls) labels (omega (arith, is.lawful.labels.few_vertices)) wide_c (fields.2 ∙ third) in
+    let fields = two_prefix r' s' r s (u32_text (length ls) ++ flat_map u32_text ls) rest' is.lawful.round (omega (arith, is.lawful.shard)) wide_r wide_s (is.body ∙ first ∙ ap (λ (t : List ℕ). u32_text r ++ t) second) in
+    let count = u32_prefix (length ls) c (flat_map u32_text ls) labels (omega (arith, is.lawful.labels.few_vertices)) wide_c (fields.2 ∙ third) in
     (ls, is.lawful.labels, count.0, omega (arith, fields.1, is.lawful.shard), count.1)
 ask_parts v r s c body rest rest' labels wide_r wide_s wide_c first second third is = absurd (omega (arith, is.kind))
 
@@ -145,7 +145,7 @@ ask_unlabelled r s c body rest rest' labels ns wide_r wide_s wide_c first second
   λ other. omega (arith, other.0),
   λ v is.
       let (ls, lawful, count, low, same) = ask_parts v r s c body rest rest' labels wide_r wide_s wide_c first second third is in
-      let one : ls ≡ ns = items_same u32_text 4 IsU32 (omega arith) u32_length u32_front ls ns (labels_fit ls lawful) (recursion_from_All _ _ fits) (same ∙ sym spelled) in
+      let one : ls ≡ ns = items_same u32_text 4 IsU32 (omega arith) u32_length u32_prefix ls ns (labels_fit ls lawful) (recursion_from_All _ _ fits) (same ∙ sym spelled) in
       never (subst AreLabels one lawful),
 )
 
@@ -166,8 +166,8 @@ answer_parts : (v : FrameValue) (r s c : ℕ) (body rest rest' offers : List ℕ
     → body ≡ u32_text r ++ rest → rest ≡ u32_text s ++ rest' → rest' ≡ u32_text c ++ offers
     → IsFrameOf v 4 body → (os : List Offer) × AreOffers os × AllByRecursion FitsOffer os × (length os ≡ c) × (flat_map offer_text os ≡ offers)
 answer_parts (AnswerFrame a) r s c body rest rest' offers wide_r wide_s wide_c first second third is =
-    let fields = two_front a.round a.shard r s (u32_text (length a.offers) ++ flat_map offer_text a.offers) rest' is.lawful.round is.lawful.shard wide_r wide_s (is.body ∙ first ∙ ap (λ (t : List ℕ). u32_text r ++ t) second) in
-    let count = u32_front (length a.offers) c (flat_map offer_text a.offers) offers (omega (arith, is.lawful.count)) wide_c (fields.2 ∙ third) in
+    let fields = two_prefix a.round a.shard r s (u32_text (length a.offers) ++ flat_map offer_text a.offers) rest' is.lawful.round is.lawful.shard wide_r wide_s (is.body ∙ first ∙ ap (λ (t : List ℕ). u32_text r ++ t) second) in
+    let count = u32_prefix (length a.offers) c (flat_map offer_text a.offers) offers (omega (arith, is.lawful.count)) wide_c (fields.2 ∙ third) in
     (a.offers, is.lawful.ascending, recursion_from_All _ _ is.lawful.fit, count.0, count.1)
 answer_parts v r s c body rest rest' offers wide_r wide_s wide_c first second third is = absurd (omega (arith, is.kind))
 
@@ -203,7 +203,7 @@ answer_unsorted r s c ps body rest rest' offers wide_r wide_s wide_c first secon
   λ other. omega (arith, other.0),
   λ v is.
       let (os, ascending, fit, count, same) = answer_parts v r s c body rest rest' offers wide_r wide_s wide_c first second third is in
-      let one : os ≡ ps = items_same offer_text 8 FitsOffer (omega arith) offer_length offer_front os ps fit (recursion_from_All _ _ fits) (same ∙ sym spelled) in
+      let one : os ≡ ps = items_same offer_text 8 FitsOffer (omega arith) offer_length offer_prefix os ps fit (recursion_from_All _ _ fits) (same ∙ sym spelled) in
       never (subst AreOffers one ascending),
 )
 
@@ -225,7 +225,7 @@ answer_found r s c os body rest rest' offers wide wide' counted (count, few, len
 fault_unlike : (v : FrameValue) (r s code : ℕ) (body rest rest' : List ℕ) → IsU32 r → IsU32 s → body ≡ u32_text r ++ rest → rest ≡ u32_text s ++ rest'
     → code ≡ get_or rest' 0 0 → (1 ≤ code → code ≤ 3 → ⊥) → IsFrameOf v 5 body → ⊥
 fault_unlike (FaultFrame r' s' c) r s code body rest rest' wide wide' first second here never is =
-    let fields = two_front r' s' r s (c ∷ []) rest' is.lawful.round is.lawful.shard wide wide' (is.body ∙ first ∙ ap (λ (t : List ℕ). u32_text r ++ t) second) in
+    let fields = two_prefix r' s' r s (c ∷ []) rest' is.lawful.round is.lawful.shard wide wide' (is.body ∙ first ∙ ap (λ (t : List ℕ). u32_text r ++ t) second) in
     let same : c ≡ code = ap (λ (l : List ℕ). get_or l 0 0) fields.2 ∙ sym here in
     never (omega (arith, is.lawful.code_from_one)) (omega (arith, is.lawful.code_to_three))
 fault_unlike v r s code body rest rest' wide wide' first second here never is = omega (arith, is.kind)

@@ -169,10 +169,10 @@ body_refused fault kind len bytes body s t u wide possible count head first seco
 
 pub piece_behind : (old buf whole post rest : List ℕ) (start len : ℕ) → take start whole ≡ old → post ≡ [] → length old + length buf ≡ len
     → take len (take start whole ++ (buf ++ post) ++ rest) ≡ old ++ buf
-piece_behind old buf whole post rest start len front none count =
-    let shown : take start whole ++ (buf ++ post) ≡ old ++ buf = ap (λ (t : List ℕ). t ++ (buf ++ post)) front ∙ ap (λ (t : List ℕ). old ++ (buf ++ t)) none ∙ ap (λ (t : List ℕ). old ++ t) (append-nil buf) in
+piece_behind old buf whole post rest start len prefix none count =
+    let shown : take start whole ++ (buf ++ post) ≡ old ++ buf = ap (λ (t : List ℕ). t ++ (buf ++ post)) prefix ∙ ap (λ (t : List ℕ). old ++ (buf ++ t)) none ∙ ap (λ (t : List ℕ). old ++ t) (append-nil buf) in
     ap (λ (t : List ℕ). take len (t ++ rest)) shown ∙ take_at (old ++ buf) rest len (length-append old buf ∙ count)
 
-pub resized_front : (old whole : List ℕ) (n k start : ℕ) → whole ≡ take n old ++ replicate k 0 → length old ≤ n → start ≡ length old → take start whole ≡ old
-resized_front old whole n k start is long begin =
+pub resized_prefix : (old whole : List ℕ) (n k start : ℕ) → whole ≡ take n old ++ replicate k 0 → length old ≤ n → start ≡ length old → take start whole ≡ old
+resized_prefix old whole n k start is long begin =
     ap (take start) (is ∙ ap (λ (t : List ℕ). t ++ replicate k 0) (take_all n old long)) ∙ take_at old (replicate k 0) start (sym begin)
