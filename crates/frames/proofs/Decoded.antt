@@ -1,41 +1,42 @@
 -- What the fields of a body say of the frames that have it.
-use Rattle.std.proofs.Common.{◌≡◌, ℕ, ◌+◌, ◌/◌, ◌^◌, ◌<◌, ◌≤◌, List, [], ◌∷◌, ◌++◌, length, take, get_or, All, refl, sym, ap, subst, ◌∙◌, append-nil, arith}
+use Rattle.std.proofs.Common.{◌≡◌, ℕ, ◌+◌, ◌*◌, ◌/◌, ◌<◌, ◌≤◌, List, [], ◌∷◌, ◌++◌, length, take, get_or, All, refl, sym, ap, subst, ◌∙◌, append-nil, arith, inl, inr}
 use Rattle.std.specs.Int.{w16, from_be_bytes}
 use Rattle.std.specs.List.{flat_map, AllByRecursion}
 use Rattle.std.proofs.lemmas.List.{length-append, nil_from_length}
 use Rattle.std.proofs.lemmas.List.Elements.{recursion_from_All}
+use Rattle.limits.specs.declared.TheConstants.{MAX_SHARDS, MAX_SHARD_LINKS, MAX_VERTICES, MAX_WORKERS}
 use Rattle.link_key.specs.declared.links.Link.{Link}
 use Rattle.link_key.specs.Labels.{AreLabels}
 use Rattle.link_key.specs.Offers.{Offer, AreOffers}
 use Rattle.frames.specs.FrameValue.{FrameValue, HelloFrame, ShardFrame, AskFrame, AnswerFrame, FaultFrame}
 use Rattle.frames.specs.FrameText.{u16_text, u32_text, link_text, offer_text}
 use Rattle.frames.specs.Lawful.{IsU32, IsShard}
-use Rattle.frames.specs.Refusals.{IsWithItems, IsOtherVersion, IsFrameOf, BodyRefused, LinksRefused}
+use Rattle.frames.specs.Refusals.{IsWithItems, IsOtherVersion, IsFrameOf, ShardBegun, IsListBegun, BodyRefused, LinksRefused}
 use Rattle.frames.specs.declared.fault.FrameFault.{FrameFault}
 use Rattle.frames.specs.declared.fault.FrameFault.TheVariants.{BadKind, BadLength, BadField, BadVersion, Ended, Torn, Device, Memory}
-use Rattle.frames.proofs.Texts.{u16_length, u32_length, u16_front, u32_front, link_length, offer_length, items_length, items_same, offer_front, FitsWeight, FitsOffer}
-use Rattle.frames.proofs.OneText.{two_front, labels_fit}
+use Rattle.frames.proofs.Texts.{u16_length, u32_length, u16_prefix, u32_prefix, link_length, offer_length, items_length, items_same, offer_prefix, FitsOffer}
+use Rattle.frames.proofs.OneText.{two_prefix, labels_fit}
 
 -- ---- a hello
 
 pub hello_version : (version : ℕ) (body : List ℕ) → version ≡ from_be_bytes w16 (take 2 body) → version ≡ 1 → IsOtherVersion 1 body → ⊥
 hello_version version body value one other = other.1 (sym value ∙ one)
 
-hello_unlike : (v : FrameValue) (version worker : ℕ) (body rest behind : List ℕ) → IsU32 worker → 64 ≤ worker → version ≡ 1
+hello_unlike : (v : FrameValue) (version worker : ℕ) (body rest behind : List ℕ) → IsU32 worker → MAX_WORKERS ≤ worker → version ≡ 1
     → body ≡ u16_text version ++ rest → rest ≡ u32_text worker ++ behind → length body ≡ 6 → IsFrameOf v 1 body → ⊥
 hello_unlike (HelloFrame v w) version worker body rest behind wide high one first second len is =
     let none : behind ≡ [] = nil_from_length behind (omega (arith, ap length first, ap length second, length-append (u16_text version) rest, length-append (u32_text worker) behind, u16_length version, u32_length worker)) in
-    let fields = u16_front v version (u32_text w) rest (omega (arith, is.lawful.version)) (omega arith) (is.body ∙ first) in
-    let same = u32_front w worker [] behind (omega (arith, is.lawful.worker)) wide (append-nil (u32_text w) ∙ fields.1 ∙ second) in
+    let fields = u16_prefix v version (u32_text w) rest (omega (arith, is.lawful.version)) (omega arith) (is.body ∙ first) in
+    let same = u32_prefix w worker [] behind (omega (arith, is.lawful.worker)) wide (append-nil (u32_text w) ∙ fields.1 ∙ second) in
     omega (arith, same.0, is.lawful.worker)
 hello_unlike v version worker body rest behind wide high one first second len is = omega (arith, is.kind)
 
-pub hello_refused : (version worker : ℕ) (body rest behind : List ℕ) → IsU32 worker → 64 ≤ worker → version ≡ 1 → version ≡ from_be_bytes w16 (take 2 body)
+pub hello_refused : (version worker : ℕ) (body rest behind : List ℕ) → IsU32 worker → MAX_WORKERS ≤ worker → version ≡ 1 → version ≡ from_be_bytes w16 (take 2 body)
     → body ≡ u16_text version ++ rest → rest ≡ u32_text worker ++ behind → length body ≡ 6 → BodyRefused BadField 1 body
 hello_refused version worker body rest behind wide high one value first second len =
     (hello_version version body value one, λ v is. hello_unlike v version worker body rest behind wide high one first second len is)
 
-pub hello_found : (version worker : ℕ) (body rest behind : List ℕ) → worker < 64 → version ≡ 1
+pub hello_found : (version worker : ℕ) (body rest behind : List ℕ) → worker < MAX_WORKERS → version ≡ 1
     → body ≡ u16_text version ++ rest → rest ≡ u32_text worker ++ behind → length body ≡ 6 → IsFrameOf (HelloFrame version worker) 1 body
 hello_found version worker body rest behind low one first second len =
     let none : behind ≡ [] = nil_from_length behind (omega (arith, ap length first, ap length second, length-append (u16_text version) rest, length-append (u32_text worker) behind, u16_length version, u32_length worker)) in
@@ -47,12 +48,12 @@ hello_found version worker body rest behind low one first second len =
 shard_parts : (v : FrameValue) (n c : ℕ) (body rest links : List ℕ) → IsU32 n → IsU32 c → body ≡ u32_text n ++ rest → rest ≡ u32_text c ++ links
     → IsFrameOf v 2 body → (ls : List Link) × IsShard n ls × (length ls ≡ c) × (flat_map link_text ls ≡ links)
 shard_parts (ShardFrame n' ls) n c body rest links wide wide' first second is =
-    let fields = two_front n' (length ls) n c (flat_map link_text ls) links (omega (arith, is.lawful.number)) (omega (arith, is.lawful.count)) wide wide' (is.body ∙ first ∙ ap (λ (t : List ℕ). u32_text n ++ t) second) in
+    let fields = two_prefix n' (length ls) n c (flat_map link_text ls) links (omega (arith, is.lawful.number)) (omega (arith, is.lawful.count)) wide wide' (is.body ∙ first ∙ ap (λ (t : List ℕ). u32_text n ++ t) second) in
     (ls, subst (λ (k : ℕ). IsShard k ls) fields.0 is.lawful, fields.1, fields.2)
 shard_parts v n c body rest links wide wide' first second is = absurd (omega (arith, is.kind))
 
 pub shard_refused : (n c : ℕ) (body rest links : List ℕ) → IsU32 n → IsU32 c → body ≡ u32_text n ++ rest → rest ≡ u32_text c ++ links
-    → (n < 4096 → c ≡ length links / 12 → ⊥) → BodyRefused BadField 2 body
+    → (n < MAX_SHARDS → c ≡ length links / 12 → ⊥) → BodyRefused BadField 2 body
 shard_refused n c body rest links wide wide' first second never = (
   λ other. omega (arith, other.0),
   λ v is.
@@ -61,29 +62,41 @@ shard_refused n c body rest links wide wide' first second never = (
 )
 
 pub shard_unlinked : (fault : FrameFault) (n c : ℕ) (body rest links : List ℕ) → IsU32 n → IsU32 c → body ≡ u32_text n ++ rest → rest ≡ u32_text c ++ links
-    → LinksRefused fault links → BodyRefused fault 2 body
-shard_unlinked BadField n c body rest links wide wide' first second none = (
+    → ShardBegun body → LinksRefused fault links → BodyRefused fault 2 body
+shard_unlinked BadField n c body rest links wide wide' first second begun none = (
   λ other. omega (arith, other.0),
   λ v is.
       let (ls, lawful, count, same) = shard_parts v n c body rest links wide wide' first second is in
-      none ls lawful.weights same,
+      none ls same,
 )
-shard_unlinked Memory n c body rest links wide wide' first second none = (omega arith, omega arith)
-shard_unlinked BadKind n c body rest links wide wide' first second none = absurd none
-shard_unlinked BadLength n c body rest links wide wide' first second none = absurd none
-shard_unlinked BadVersion n c body rest links wide wide' first second none = absurd none
-shard_unlinked Ended n c body rest links wide wide' first second none = absurd none
-shard_unlinked Torn n c body rest links wide wide' first second none = absurd none
-shard_unlinked Device n c body rest links wide wide' first second none = absurd none
+shard_unlinked Memory n c body rest links wide wide' first second begun none = inl (refl, begun)
+shard_unlinked BadKind n c body rest links wide wide' first second begun none = absurd none
+shard_unlinked BadLength n c body rest links wide wide' first second begun none = absurd none
+shard_unlinked BadVersion n c body rest links wide wide' first second begun none = absurd none
+shard_unlinked Ended n c body rest links wide wide' first second begun none = absurd none
+shard_unlinked Torn n c body rest links wide wide' first second begun none = absurd none
+shard_unlinked Device n c body rest links wide wide' first second begun none = absurd none
 
-pub shard_found : (n c : ℕ) (ls : List Link) (body rest links : List ℕ) → n < 4096 → c ≡ length links / 12 → IsWithItems 8 12 (2 ^ 24) (length body)
-    → body ≡ u32_text n ++ rest → rest ≡ u32_text c ++ links → flat_map link_text ls ≡ links → All FitsWeight ls → IsFrameOf (ShardFrame n ls) 2 body
-shard_found n c ls body rest links low counted (count, few, len) first second same fits =
+-- a shard's body of this length, with these fields before its links
+pub shard_begun : (n c : ℕ) (body rest links : List ℕ) → n < MAX_SHARDS → c ≡ length links / 12 → IsWithItems 8 12 MAX_SHARD_LINKS (length body)
+    → body ≡ u32_text n ++ rest → rest ≡ u32_text c ++ links → ShardBegun body
+shard_begun n c body rest links low counted (count, few, len) first second = record {
+  number = n;
+  count = c;
+  links = links;
+  split = first ∙ ap (λ (t : List ℕ). u32_text n ++ t) second;
+  in_range = low;
+  counted = omega (arith, counted, len, ap length first, ap length second, length-append (u32_text n) rest, length-append (u32_text c) links, u32_length n, u32_length c);
+}
+
+pub shard_found : (n c : ℕ) (ls : List Link) (body rest links : List ℕ) → n < MAX_SHARDS → c ≡ length links / 12 → IsWithItems 8 12 MAX_SHARD_LINKS (length body)
+    → body ≡ u32_text n ++ rest → rest ≡ u32_text c ++ links → flat_map link_text ls ≡ links → IsFrameOf (ShardFrame n ls) 2 body
+shard_found n c ls body rest links low counted (count, few, len) first second same =
     let lens = items_length link_text 12 link_length ls in
     let short : length links + 8 ≡ length body = omega (arith, ap length first, ap length second, length-append (u32_text n) rest, length-append (u32_text c) links, u32_length n, u32_length c) in
     let total : length ls ≡ c = omega (arith, lens, ap length same) in
     record {
-      lawful = record { number = low; count = omega (arith, lens, ap length same); weights = fits };
+      lawful = record { number = low; count = omega (arith, lens, ap length same) };
       kind = refl;
       body = sym (first ∙ ap (λ (t : List ℕ). u32_text n ++ t) (second ∙ ap (λ (t : List ℕ). u32_text c ++ t) (sym same) ∙ ap (λ (k : ℕ). u32_text k ++ flat_map link_text ls) (sym total)));
     }
@@ -92,16 +105,32 @@ shard_found n c ls body rest links low counted (count, few, len) first second sa
 
 ask_parts : (v : FrameValue) (r s c : ℕ) (body rest rest' labels : List ℕ) → IsU32 r → IsU32 s → IsU32 c
     → body ≡ u32_text r ++ rest → rest ≡ u32_text s ++ rest' → rest' ≡ u32_text c ++ labels
-    → IsFrameOf v 3 body → (ls : List ℕ) × AreLabels ls × (length ls ≡ c) × (s < 4096) × (flat_map u32_text ls ≡ labels)
+    → IsFrameOf v 3 body → (ls : List ℕ) × AreLabels ls × (length ls ≡ c) × (s < MAX_SHARDS) × (flat_map u32_text ls ≡ labels)
 ask_parts (AskFrame r' s' ls) r s c body rest rest' labels wide_r wide_s wide_c first second third is =
-    let fields = two_front r' s' r s (u32_text (length ls) ++ flat_map u32_text ls) rest' is.lawful.round (omega (arith, is.lawful.shard)) wide_r wide_s (is.body ∙ first ∙ ap (λ (t : List ℕ). u32_text r ++ t) second) in
-    let count = u32_front (length ls) c (flat_map u32_text ls) labels (omega (arith, is.lawful.labels.few_vertices)) wide_c (fields.2 ∙ third) in
+    let fields = two_prefix r' s' r s (u32_text (length ls) ++ flat_map u32_text ls) rest' is.lawful.round (omega (arith, is.lawful.shard)) wide_r wide_s (is.body ∙ first ∙ ap (λ (t : List ℕ). u32_text r ++ t) second) in
+    let count = u32_prefix (length ls) c (flat_map u32_text ls) labels (omega (arith, is.lawful.labels.few_vertices)) wide_c (fields.2 ∙ third) in
     (ls, is.lawful.labels, count.0, omega (arith, fields.1, is.lawful.shard), count.1)
 ask_parts v r s c body rest rest' labels wide_r wide_s wide_c first second third is = absurd (omega (arith, is.kind))
 
+-- an ask's body of this length, with these fields before its labels
+pub ask_begun : (r s c : ℕ) (body rest rest' labels : List ℕ) → s < MAX_SHARDS → c ≡ length labels / 4 → IsWithItems 12 4 MAX_VERTICES (length body)
+    → body ≡ u32_text r ++ rest → rest ≡ u32_text s ++ rest' → rest' ≡ u32_text c ++ labels → IsListBegun 3 body
+ask_begun r s c body rest rest' labels low counted (count, few, len) first second third = inr (inl (
+  refl,
+  record {
+    round = r;
+    shard = s;
+    count = c;
+    labels = labels;
+    split = first ∙ ap (λ (t : List ℕ). u32_text r ++ t) (second ∙ ap (λ (t : List ℕ). u32_text s ++ t) third);
+    in_range = low;
+    counted = omega (arith, counted, len, ap length first, ap length second, ap length third, length-append (u32_text r) rest, length-append (u32_text s) rest', length-append (u32_text c) labels, u32_length r, u32_length s, u32_length c);
+  },
+))
+
 pub ask_refused : (r s c : ℕ) (body rest rest' labels : List ℕ) → IsU32 r → IsU32 s → IsU32 c
     → body ≡ u32_text r ++ rest → rest ≡ u32_text s ++ rest' → rest' ≡ u32_text c ++ labels
-    → (s < 4096 → c ≡ length labels / 4 → ⊥) → BodyRefused BadField 3 body
+    → (s < MAX_SHARDS → c ≡ length labels / 4 → ⊥) → BodyRefused BadField 3 body
 ask_refused r s c body rest rest' labels wide_r wide_s wide_c first second third never = (
   λ other. omega (arith, other.0),
   λ v is.
@@ -116,11 +145,11 @@ ask_unlabelled r s c body rest rest' labels ns wide_r wide_s wide_c first second
   λ other. omega (arith, other.0),
   λ v is.
       let (ls, lawful, count, low, same) = ask_parts v r s c body rest rest' labels wide_r wide_s wide_c first second third is in
-      let one : ls ≡ ns = items_same u32_text 4 IsU32 (omega arith) u32_length u32_front ls ns (labels_fit ls lawful) (recursion_from_All _ _ fits) (same ∙ sym spelled) in
+      let one : ls ≡ ns = items_same u32_text 4 IsU32 (omega arith) u32_length u32_prefix ls ns (labels_fit ls lawful) (recursion_from_All _ _ fits) (same ∙ sym spelled) in
       never (subst AreLabels one lawful),
 )
 
-pub ask_found : (r s c : ℕ) (body rest rest' labels ls : List ℕ) → IsU32 r → s < 4096 → c ≡ length labels / 4
+pub ask_found : (r s c : ℕ) (body rest rest' labels ls : List ℕ) → IsU32 r → s < MAX_SHARDS → c ≡ length labels / 4
     → body ≡ u32_text r ++ rest → rest ≡ u32_text s ++ rest' → rest' ≡ u32_text c ++ labels
     → flat_map u32_text ls ≡ labels → AreLabels ls → IsFrameOf (AskFrame r s ls) 3 body
 ask_found r s c body rest rest' labels ls wide low counted first second third same are =
@@ -137,10 +166,25 @@ answer_parts : (v : FrameValue) (r s c : ℕ) (body rest rest' offers : List ℕ
     → body ≡ u32_text r ++ rest → rest ≡ u32_text s ++ rest' → rest' ≡ u32_text c ++ offers
     → IsFrameOf v 4 body → (os : List Offer) × AreOffers os × AllByRecursion FitsOffer os × (length os ≡ c) × (flat_map offer_text os ≡ offers)
 answer_parts (AnswerFrame a) r s c body rest rest' offers wide_r wide_s wide_c first second third is =
-    let fields = two_front a.round a.shard r s (u32_text (length a.offers) ++ flat_map offer_text a.offers) rest' is.lawful.round is.lawful.shard wide_r wide_s (is.body ∙ first ∙ ap (λ (t : List ℕ). u32_text r ++ t) second) in
-    let count = u32_front (length a.offers) c (flat_map offer_text a.offers) offers (omega (arith, is.lawful.count)) wide_c (fields.2 ∙ third) in
+    let fields = two_prefix a.round a.shard r s (u32_text (length a.offers) ++ flat_map offer_text a.offers) rest' is.lawful.round is.lawful.shard wide_r wide_s (is.body ∙ first ∙ ap (λ (t : List ℕ). u32_text r ++ t) second) in
+    let count = u32_prefix (length a.offers) c (flat_map offer_text a.offers) offers (omega (arith, is.lawful.count)) wide_c (fields.2 ∙ third) in
     (a.offers, is.lawful.ascending, recursion_from_All _ _ is.lawful.fit, count.0, count.1)
 answer_parts v r s c body rest rest' offers wide_r wide_s wide_c first second third is = absurd (omega (arith, is.kind))
+
+-- an answer's body of this length, with these fields before its offers
+pub answer_begun : (r s c : ℕ) (body rest rest' offers : List ℕ) → c ≡ length offers / 8 → IsWithItems 12 8 (2 * MAX_SHARD_LINKS) (length body)
+    → body ≡ u32_text r ++ rest → rest ≡ u32_text s ++ rest' → rest' ≡ u32_text c ++ offers → IsListBegun 4 body
+answer_begun r s c body rest rest' offers counted (count, few, len) first second third = inr (inr (
+  refl,
+  record {
+    round = r;
+    shard = s;
+    count = c;
+    offers = offers;
+    split = first ∙ ap (λ (t : List ℕ). u32_text r ++ t) (second ∙ ap (λ (t : List ℕ). u32_text s ++ t) third);
+    counted = omega (arith, counted, len, ap length first, ap length second, ap length third, length-append (u32_text r) rest, length-append (u32_text s) rest', length-append (u32_text c) offers, u32_length r, u32_length s, u32_length c);
+  },
+))
 
 pub answer_refused : (r s c : ℕ) (body rest rest' offers : List ℕ) → IsU32 r → IsU32 s → IsU32 c
     → body ≡ u32_text r ++ rest → rest ≡ u32_text s ++ rest' → rest' ≡ u32_text c ++ offers
@@ -159,11 +203,11 @@ answer_unsorted r s c ps body rest rest' offers wide_r wide_s wide_c first secon
   λ other. omega (arith, other.0),
   λ v is.
       let (os, ascending, fit, count, same) = answer_parts v r s c body rest rest' offers wide_r wide_s wide_c first second third is in
-      let one : os ≡ ps = items_same offer_text 8 FitsOffer (omega arith) offer_length offer_front os ps fit (recursion_from_All _ _ fits) (same ∙ sym spelled) in
+      let one : os ≡ ps = items_same offer_text 8 FitsOffer (omega arith) offer_length offer_prefix os ps fit (recursion_from_All _ _ fits) (same ∙ sym spelled) in
       never (subst AreOffers one ascending),
 )
 
-pub answer_found : (r s c : ℕ) (os : List Offer) (body rest rest' offers : List ℕ) → IsU32 r → IsU32 s → c ≡ length offers / 8 → IsWithItems 12 8 (2 ^ 25) (length body)
+pub answer_found : (r s c : ℕ) (os : List Offer) (body rest rest' offers : List ℕ) → IsU32 r → IsU32 s → c ≡ length offers / 8 → IsWithItems 12 8 (2 * MAX_SHARD_LINKS) (length body)
     → body ≡ u32_text r ++ rest → rest ≡ u32_text s ++ rest' → rest' ≡ u32_text c ++ offers
     → flat_map offer_text os ≡ offers → All FitsOffer os → AreOffers os → IsFrameOf (AnswerFrame (record { round = r; shard = s; offers = os })) 4 body
 answer_found r s c os body rest rest' offers wide wide' counted (count, few, len) first second third same fits ascending =
@@ -181,7 +225,7 @@ answer_found r s c os body rest rest' offers wide wide' counted (count, few, len
 fault_unlike : (v : FrameValue) (r s code : ℕ) (body rest rest' : List ℕ) → IsU32 r → IsU32 s → body ≡ u32_text r ++ rest → rest ≡ u32_text s ++ rest'
     → code ≡ get_or rest' 0 0 → (1 ≤ code → code ≤ 3 → ⊥) → IsFrameOf v 5 body → ⊥
 fault_unlike (FaultFrame r' s' c) r s code body rest rest' wide wide' first second here never is =
-    let fields = two_front r' s' r s (c ∷ []) rest' is.lawful.round is.lawful.shard wide wide' (is.body ∙ first ∙ ap (λ (t : List ℕ). u32_text r ++ t) second) in
+    let fields = two_prefix r' s' r s (c ∷ []) rest' is.lawful.round is.lawful.shard wide wide' (is.body ∙ first ∙ ap (λ (t : List ℕ). u32_text r ++ t) second) in
     let same : c ≡ code = ap (λ (l : List ℕ). get_or l 0 0) fields.2 ∙ sym here in
     never (omega (arith, is.lawful.code_from_one)) (omega (arith, is.lawful.code_to_three))
 fault_unlike v r s code body rest rest' wide wide' first second here never is = omega (arith, is.kind)

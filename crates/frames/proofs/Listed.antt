@@ -13,7 +13,7 @@ use Rattle.frames.specs.FrameText.{u32_text, i32_text, link_text, offer_text}
 use Rattle.frames.specs.Lawful.{IsU32}
 use Rattle.frames.specs.Refusals.{AreNoLinks, IsNoLink}
 use Rattle.frames.proofs.Texts.{IsBytes, IsBytes-drop, IsBytes-take, u32_length, u32_back, parts_same, link_length, FitsOffer}
-use Rattle.frames.proofs.OneText.{two_front}
+use Rattle.frames.proofs.OneText.{two_prefix}
 use Rattle.link_key.specs.Offers.{Offer}
 
 -- ---- numbers, a piece at a time
@@ -34,9 +34,9 @@ piece_whole cells piece written =
 pub numbers_back : (k : ℕ) (bytes : List ℕ) → length bytes ≡ 4 * k → IsBytes bytes → flat_map u32_text (map (from_be_bytes w32) (first_chunks 4 k bytes)) ≡ bytes
 numbers_back zero bytes len fits = sym (nil_from_length bytes (omega arith))
 numbers_back (suc k) bytes len fits =
-    let front = u32_back (take 4 bytes) (omega (arith, length-take 4 bytes)) (IsBytes-take 4 bytes fits) in
+    let prefix = u32_back (take 4 bytes) (omega (arith, length-take 4 bytes)) (IsBytes-take 4 bytes fits) in
     let rest = numbers_back k (drop 4 bytes) (omega (arith, length-drop 4 bytes)) (IsBytes-drop 4 bytes fits) in
-    ap (λ (t : List ℕ). u32_text (from_be_bytes w32 (take 4 bytes)) ++ t) rest ∙ ap (λ (t : List ℕ). t ++ drop 4 bytes) front ∙ take-append-drop 4 bytes
+    ap (λ (t : List ℕ). u32_text (from_be_bytes w32 (take 4 bytes)) ++ t) rest ∙ ap (λ (t : List ℕ). t ++ drop 4 bytes) prefix ∙ take-append-drop 4 bytes
 
 number_below : (bytes : List ℕ) → IsBytes bytes → IsU32 (from_be_bytes w32 bytes)
 number_below bytes fits = omega (arith, fits 0, fits 1, fits 2, fits 3)
@@ -56,8 +56,8 @@ numbers_are bytes numbers whole fits are = (
 
 pub link_unlike : (low high : ℕ) (bytes rest rest' : List ℕ) → IsU32 low → IsU32 high → bytes ≡ u32_text low ++ rest → rest ≡ u32_text high ++ rest'
     → (1 ≤ low → low < high → high ≤ 2 ^ 26 → ⊥) → IsNoLink bytes
-link_unlike low high bytes rest rest' wide wide' first second never l fits same =
-    let ends = two_front l.low l.high low high (i32_text l.weight) rest' (omega (arith, l.ascending, l.in_limit)) (omega (arith, l.in_limit)) wide wide' (same ∙ first ∙ ap (λ (t : List ℕ). u32_text low ++ t) second) in
+link_unlike low high bytes rest rest' wide wide' first second never l same =
+    let ends = two_prefix l.low l.high low high (i32_text l.weight) rest' (omega (arith, l.ascending, l.in_limit)) (omega (arith, l.in_limit)) wide wide' (same ∙ first ∙ ap (λ (t : List ℕ). u32_text low ++ t) second) in
     never (omega (arith, ends.0, l.from_one)) (omega (arith, ends.0, ends.1, l.ascending)) (omega (arith, ends.1, l.in_limit))
 
 -- the bits of a weight that was made of bits
@@ -76,22 +76,22 @@ link_back low high bits z bytes rest rest' rest'' wide is len first second third
     ∙ ap (λ (t : List ℕ). u32_text low ++ (u32_text high ++ t)) (sym last) ∙ ap (λ (t : List ℕ). u32_text low ++ t) (sym second) ∙ sym first
 
 -- behind links that were read, twelve bytes that no link has
-none_behind : (read links : List Link) (front behind : List ℕ) → length front ≡ 12 → IsNoLink front
-    → AllByRecursion (λ l. FitsSigned w32 l.weight) links → flat_map link_text links ≡ flat_map link_text read ++ (front ++ behind) → ⊥
-none_behind read [] front behind len none fits same =
-    omega (arith, ap length same, length-append (flat_map link_text read) (front ++ behind), length-append front behind)
-none_behind [] (l ∷ links) front behind len none fits same =
-    none l fits.0 (parts_same (link_text l) front (flat_map link_text links) behind (link_length l ∙ sym len) same).0
-none_behind (r ∷ read) (l ∷ links) front behind len none fits same =
-    none_behind read links front behind len none fits.1
-    (parts_same (link_text l) (link_text r) (flat_map link_text links) (flat_map link_text read ++ (front ++ behind)) (link_length l ∙ sym (link_length r))
-    (same ∙ append_assoc (link_text r) (flat_map link_text read) (front ++ behind))).1
+none_behind : (read links : List Link) (prefix behind : List ℕ) → length prefix ≡ 12 → IsNoLink prefix
+    → flat_map link_text links ≡ flat_map link_text read ++ (prefix ++ behind) → ⊥
+none_behind read [] prefix behind len none same =
+    omega (arith, ap length same, length-append (flat_map link_text read) (prefix ++ behind), length-append prefix behind)
+none_behind [] (l ∷ links) prefix behind len none same =
+    none l (parts_same (link_text l) prefix (flat_map link_text links) behind (link_length l ∙ sym len) same).0
+none_behind (r ∷ read) (l ∷ links) prefix behind len none same =
+    none_behind read links prefix behind len none
+    (parts_same (link_text l) (link_text r) (flat_map link_text links) (flat_map link_text read ++ (prefix ++ behind)) (link_length l ∙ sym (link_length r))
+    (same ∙ append_assoc (link_text r) (flat_map link_text read) (prefix ++ behind))).1
 
-pub no_links_behind : (read : List Link) (bytes rest front behind : List ℕ) → flat_map link_text read ++ rest ≡ bytes → front ≡ take 12 rest → behind ≡ drop 12 rest → length front ≡ 12
-    → IsNoLink front → AreNoLinks bytes
-no_links_behind read bytes rest front behind so_far first second len none links fits same =
-    let split : rest ≡ front ++ behind = sym (take-append-drop 12 rest) ∙ ap (λ (t : List ℕ). t ++ drop 12 rest) (sym first) ∙ ap (λ (t : List ℕ). front ++ t) (sym second) in
-    none_behind read links front behind len none (recursion_from_All _ _ fits) (same ∙ sym so_far ∙ ap (λ (t : List ℕ). flat_map link_text read ++ t) split)
+pub no_links_behind : (read : List Link) (bytes rest prefix behind : List ℕ) → flat_map link_text read ++ rest ≡ bytes → prefix ≡ take 12 rest → behind ≡ drop 12 rest → length prefix ≡ 12
+    → IsNoLink prefix → AreNoLinks bytes
+no_links_behind read bytes rest prefix behind so_far first second len none links same =
+    let split : rest ≡ prefix ++ behind = sym (take-append-drop 12 rest) ∙ ap (λ (t : List ℕ). t ++ drop 12 rest) (sym first) ∙ ap (λ (t : List ℕ). prefix ++ t) (sym second) in
+    none_behind read links prefix behind len none (same ∙ sym so_far ∙ ap (λ (t : List ℕ). flat_map link_text read ++ t) split)
 
 -- ---- offers, read
 

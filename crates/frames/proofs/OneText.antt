@@ -11,22 +11,22 @@ use Rattle.frames.specs.FrameValue.{FrameValue, HelloFrame, ShardFrame, AskFrame
 use Rattle.frames.specs.FrameText.{u16_text, u32_text, link_text, offer_text, kind_of, body_of}
 use Rattle.frames.specs.Lawful.{IsU32, IsShard, IsAsk, IsAnswer, IsLawful}
 use Rattle.frames.specs.OneText.{EachHasOneText}
-use Rattle.frames.proofs.Texts.{parts_same, u16_length, u32_length, u16_front, u32_front, link_front, offer_front, FitsWeight, FitsOffer, link_length, offer_length, items_length, items_same}
+use Rattle.frames.proofs.Texts.{parts_same, u16_length, u32_length, u16_prefix, u32_prefix, link_prefix, offer_prefix, FitsWeight, FitsOffer, weights_fit, link_length, offer_length, items_length, items_same}
 
 -- ---- the fields of each body, given that they fit
 
 pub hello_same : (v w v' w' : ℕ) → v < 2 ^ 16 → v' < 2 ^ 16 → IsU32 w → IsU32 w' → u16_text v ++ u32_text w ≡ u16_text v' ++ u32_text w' → (v ≡ v') × (w ≡ w')
 hello_same v w v' w' fits fits' wide wide' same =
-    let version = u16_front v v' (u32_text w) (u32_text w') fits fits' same in
-    let worker = u32_front w w' [] [] wide wide' (ap (λ (t : List ℕ). t ++ []) version.1) in
+    let version = u16_prefix v v' (u32_text w) (u32_text w') fits fits' same in
+    let worker = u32_prefix w w' [] [] wide wide' (ap (λ (t : List ℕ). t ++ []) version.1) in
     (version.0, worker.0)
 
 -- two numbers, and what follows them
-pub two_front : (a b c d : ℕ) (x y : List ℕ) → IsU32 a → IsU32 b → IsU32 c → IsU32 d
+pub two_prefix : (a b c d : ℕ) (x y : List ℕ) → IsU32 a → IsU32 b → IsU32 c → IsU32 d
     → u32_text a ++ (u32_text b ++ x) ≡ u32_text c ++ (u32_text d ++ y) → (a ≡ c) × (b ≡ d) × (x ≡ y)
-two_front a b c d x y fits_a fits_b fits_c fits_d same =
-    let first = u32_front a c (u32_text b ++ x) (u32_text d ++ y) fits_a fits_c same in
-    let second = u32_front b d x y fits_b fits_d first.1 in
+two_prefix a b c d x y fits_a fits_b fits_c fits_d same =
+    let first = u32_prefix a c (u32_text b ++ x) (u32_text d ++ y) fits_a fits_c same in
+    let second = u32_prefix b d x y fits_b fits_d first.1 in
     (first.0, second.0, second.1)
 
 -- labels of vertices are at most 2^26
@@ -41,31 +41,31 @@ labels_fit labels are = labels_below labels (λ k lt.
     let place : k + 1 - 1 ≡ k = omega arith in
     omega (arith, are.few_vertices, rw place at below))
 
-pub shard_same : (n n' : ℕ) (ls ls' : List Link) → IsShard n ls → IsU32 n' → length ls' < 2 ^ 32 → AllByRecursion FitsWeight ls'
+pub shard_same : (n n' : ℕ) (ls ls' : List Link) → IsShard n ls → IsU32 n' → length ls' < 2 ^ 32
     → body_of (ShardFrame n ls) ≡ body_of (ShardFrame n' ls') → (n ≡ n') × (ls ≡ ls')
-shard_same n n' ls ls' lawful wide short fits same =
-    let fields = two_front n (length ls) n' (length ls') (flat_map link_text ls) (flat_map link_text ls') (omega (arith, lawful.number)) (omega (arith, lawful.count)) wide short same in
-    (fields.0, items_same link_text 12 FitsWeight (omega arith) link_length link_front ls ls' (recursion_from_All _ _ lawful.weights) fits fields.2)
+shard_same n n' ls ls' lawful wide short same =
+    let fields = two_prefix n (length ls) n' (length ls') (flat_map link_text ls) (flat_map link_text ls') (omega (arith, lawful.number)) (omega (arith, lawful.count)) wide short same in
+    (fields.0, items_same link_text 12 FitsWeight (omega arith) link_length link_prefix ls ls' (weights_fit ls) (weights_fit ls') fields.2)
 
 pub ask_same : (r r' s s' : ℕ) (ls ls' : List ℕ) → IsAsk r s ls → IsU32 r' → IsU32 s' → length ls' < 2 ^ 32 → AllByRecursion IsU32 ls'
     → body_of (AskFrame r s ls) ≡ body_of (AskFrame r' s' ls') → (r ≡ r') × (s ≡ s') × (ls ≡ ls')
 ask_same r r' s s' ls ls' lawful wide wide' short fits same =
-    let front = two_front r s r' s' (u32_text (length ls) ++ flat_map u32_text ls) (u32_text (length ls') ++ flat_map u32_text ls') lawful.round (omega (arith, lawful.shard)) wide wide' same in
-    let count = u32_front (length ls) (length ls') (flat_map u32_text ls) (flat_map u32_text ls') (omega (arith, lawful.labels.few_vertices)) short front.2 in
-    (front.0, front.1, items_same u32_text 4 IsU32 (omega arith) u32_length u32_front ls ls' (labels_fit ls lawful.labels) fits count.1)
+    let prefix = two_prefix r s r' s' (u32_text (length ls) ++ flat_map u32_text ls) (u32_text (length ls') ++ flat_map u32_text ls') lawful.round (omega (arith, lawful.shard)) wide wide' same in
+    let count = u32_prefix (length ls) (length ls') (flat_map u32_text ls) (flat_map u32_text ls') (omega (arith, lawful.labels.few_vertices)) short prefix.2 in
+    (prefix.0, prefix.1, items_same u32_text 4 IsU32 (omega arith) u32_length u32_prefix ls ls' (labels_fit ls lawful.labels) fits count.1)
 
 pub answer_same : (a b : AnswerValue) → IsAnswer a → IsU32 b.round → IsU32 b.shard → length b.offers < 2 ^ 32 → AllByRecursion FitsOffer b.offers
     → body_of (AnswerFrame a) ≡ body_of (AnswerFrame b) → a ≡ b
 answer_same a b lawful wide wide' short fits same =
-    let front = two_front a.round a.shard b.round b.shard (u32_text (length a.offers) ++ flat_map offer_text a.offers) (u32_text (length b.offers) ++ flat_map offer_text b.offers) lawful.round lawful.shard wide wide' same in
-    let count = u32_front (length a.offers) (length b.offers) (flat_map offer_text a.offers) (flat_map offer_text b.offers) (omega (arith, lawful.count)) short front.2 in
-    let offers = items_same offer_text 8 FitsOffer (omega arith) offer_length offer_front a.offers b.offers (recursion_from_All _ _ lawful.fit) fits count.1 in
-    λ i. record { round = front.0 i; shard = front.1 i; offers = offers i }
+    let prefix = two_prefix a.round a.shard b.round b.shard (u32_text (length a.offers) ++ flat_map offer_text a.offers) (u32_text (length b.offers) ++ flat_map offer_text b.offers) lawful.round lawful.shard wide wide' same in
+    let count = u32_prefix (length a.offers) (length b.offers) (flat_map offer_text a.offers) (flat_map offer_text b.offers) (omega (arith, lawful.count)) short prefix.2 in
+    let offers = items_same offer_text 8 FitsOffer (omega arith) offer_length offer_prefix a.offers b.offers (recursion_from_All _ _ lawful.fit) fits count.1 in
+    λ i. record { round = prefix.0 i; shard = prefix.1 i; offers = offers i }
 
 pub fault_same : (r r' s s' c c' : ℕ) → IsU32 r → IsU32 r' → IsU32 s → IsU32 s' → body_of (FaultFrame r s c) ≡ body_of (FaultFrame r' s' c') → (r ≡ r') × (s ≡ s') × (c ≡ c')
 fault_same r r' s s' c c' wide wide' wide_s wide_s' same =
-    let front = two_front r s r' s' (c ∷ []) (c' ∷ []) wide wide_s wide' wide_s' same in
-    (front.0, front.1, ap (λ (l : List ℕ). get_or l 0 0) front.2)
+    let prefix = two_prefix r s r' s' (c ∷ []) (c' ∷ []) wide wide_s wide' wide_s' same in
+    (prefix.0, prefix.1, ap (λ (l : List ℕ). get_or l 0 0) prefix.2)
 
 -- ---- bodies of one kind
 
@@ -74,7 +74,7 @@ bodies_same (HelloFrame v w) (HelloFrame v' w') first second kind same =
     let fields = hello_same v w v' w' (omega (arith, first.version)) (omega (arith, second.version)) (omega (arith, first.worker)) (omega (arith, second.worker)) same in
     λ i. HelloFrame (fields.0 i) (fields.1 i)
 bodies_same (ShardFrame n ls) (ShardFrame n' ls') first second kind same =
-    let fields = shard_same n n' ls ls' first (omega (arith, second.number)) (omega (arith, second.count)) (recursion_from_All _ _ second.weights) same in
+    let fields = shard_same n n' ls ls' first (omega (arith, second.number)) (omega (arith, second.count)) same in
     λ i. ShardFrame (fields.0 i) (fields.1 i)
 bodies_same (AskFrame r s ls) (AskFrame r' s' ls') first second kind same =
     let fields = ask_same r r' s s' ls ls' first second.round (omega (arith, second.shard)) (omega (arith, second.labels.few_vertices)) (labels_fit ls' second.labels) same in
@@ -102,7 +102,7 @@ pub one_text : EachHasOneText
 one_text v w x y first second same =
     let kind : kind_of v ≡ kind_of w = ap (λ (l : List ℕ). get_or l 0 0) same in
     let behind : (u32_text (length (body_of v)) ++ body_of v) ++ x ≡ (u32_text (length (body_of w)) ++ body_of w) ++ y = cc in
-    let fields = u32_front (length (body_of v)) (length (body_of w)) (body_of v ++ x) (body_of w ++ y) (body_short v first) (body_short w second)
+    let fields = u32_prefix (length (body_of v)) (length (body_of w)) (body_of v ++ x) (body_of w ++ y) (body_short v first) (body_short w second)
     (sym (append_assoc (u32_text (length (body_of v))) (body_of v) x) ∙ behind ∙ append_assoc (u32_text (length (body_of w))) (body_of w) y) in
     let parts = parts_same (body_of v) (body_of w) x y fields.0 fields.1 in
     (bodies_same v w first second kind parts.0, parts.1)

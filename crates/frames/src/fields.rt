@@ -1,4 +1,4 @@
-//! The numbers that fields are, read from the front of a slice and written to the end of a vector.
+//! The numbers that fields are, read from the beginning of a slice and written to the end of a vector.
 ghost use Rattle.std.specs.Prelude.{◌≡◌, ◌++◌, ◌≤◌, ◌+◌, length, take, OnOk};
 ghost use Rattle.std.specs.Int.{w16, w32, from_be_bytes};
 ghost use Rattle.frames.specs.FrameText.{u16_text, u32_text};
@@ -6,18 +6,18 @@ ghost use Rattle.frames.specs.Lawful.{IsU32};
 
 use std::alloc::{AllocError, Allocator};
 
-// The two-byte number at the front, and what follows it.
+// The two-byte number at the beginning, and what follows it.
 pub(crate) fn split_u16(bytes: &[u8]) -> (u16, &[u8])
     requires { 2 ≤ length bytes.now }
     ensures parts { bytes.now ≡ u16_text result.0 ++ result.1.now }
     ensures value { result.0 ≡ from_be_bytes w16 (take 2 bytes.now) }
     ensures rest_len { length result.1.now + 2 ≡ length bytes.now }
 {
-    let (front, rest) = bytes.split_at(2);
-    (u16::from_be_bytes([front[0], front[1]]), rest)
+    let (prefix, rest) = bytes.split_at(2);
+    (u16::from_be_bytes([prefix[0], prefix[1]]), rest)
 }
 
-// The four-byte number at the front, and what follows it.
+// The four-byte number at the beginning, and what follows it.
 pub(crate) fn split_u32(bytes: &[u8]) -> (u32, &[u8])
     requires { 4 ≤ length bytes.now }
     ensures parts { bytes.now ≡ u32_text result.0 ++ result.1.now }
@@ -25,8 +25,8 @@ pub(crate) fn split_u32(bytes: &[u8]) -> (u32, &[u8])
     ensures rest_len { length result.1.now + 4 ≡ length bytes.now }
     ensures fits { IsU32 result.0 }
 {
-    let (front, rest) = bytes.split_at(4);
-    let number = u32::from_be_bytes([front[0], front[1], front[2], front[3]]);
+    let (prefix, rest) = bytes.split_at(4);
+    let number = u32::from_be_bytes([prefix[0], prefix[1], prefix[2], prefix[3]]);
     (number, rest)
 }
 

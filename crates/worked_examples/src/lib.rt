@@ -28,9 +28,13 @@ mod board;
 #[cfg(test)]
 mod drawn_lists;
 #[cfg(test)]
+mod failing_devices;
+#[cfg(test)]
 mod fault_texts;
 #[cfg(test)]
 mod frames_codec;
+#[cfg(test)]
+mod given_streams;
 #[cfg(test)]
 mod graphs;
 #[cfg(test)]

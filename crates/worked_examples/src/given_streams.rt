@@ -1,0 +1,129 @@
+// Frames read of a source that tells what it gave, and not what will come.
+ghost use Rattle.std.specs.Prelude.{Some, None, ◌≡◌, IfOk, ◌<◌, ◌-◌, ◌^◌};
+
+use byte_streams::{Failed, FusedSource, Source};
+use frames::{Frame, FrameFault, read_frame};
+use std::alloc::Global;
+use std::process::Abort;
+use std::test::Fail;
+use test_memory::{Refusals, Refusing};
+
+// A source over memory that tells the bytes which it gave, and nothing else.
+#[derive(Drop)]
+struct GivenAlone(FusedSource);
+
+impl Source for GivenAlone {
+    ghost state = { λ s. record { left = None; given = Some s.0.given; failures = None; ends = None } };
+
+    ghost lasts = { λ _ _. Unit {0} };
+
+    ghost can_read = { λ s. (s.0.failures < 2 ^ 64 - 1) × (s.0.ends < 2 ^ 64 - 1) };
+
+    fn read(&mut self, buf: &mut [u8]) -> Result<usize, Failed> {
+        self.0.read(buf)
+    }
+}
+
+const HELLO: [u8; 11] = [1, 0, 0, 0, 6, 0, 1, 0, 0, 0, 63];
+
+// A shard of one link, between the vertices 1 and 2, of weight 5.
+const SHARD: [u8; 25] = [
+    2, 0, 0, 0, 20, 0, 0, 0, 7, 0, 0, 0, 1, 0, 0, 0, 1, 0, 0, 0, 2, 0, 0, 0, 5,
+];
+
+// A source of these bytes, in pieces of three, that fails once it gave `passes` of them.
+fn source_of(alloc: Global, bytes: &[u8], passes: usize) -> Result<GivenAlone, Fail>
+    ensures { IfOk result (λ source. (source.0.failures ≡ 0) × (source.0.ends ≡ 0)) }
+{
+    Ok(GivenAlone(FusedSource::new(Vec::from_slice(alloc, bytes)?, passes, 3)))
+}
+
+fn expect_fault(
+    rt: &impl Abort,
+    alloc: Global,
+    bytes: &[u8],
+    passes: usize,
+    expected: FrameFault,
+) -> Result<(), Fail> {
+    match read_frame(alloc, &mut source_of(alloc, bytes, passes)?) {
+        Ok(_) => assert!(rt; false),
+        Err(fault) => assert_eq!(rt; fault, expected),
+    }
+    Ok(())
+}
+
+#[test]
+fn frames_that_follow_each_other_are_read_one_by_one(rt: HostRuntime) -> Result<(), Fail> {
+    let mut bytes = Vec::from_slice(rt.alloc(), &HELLO)?;
+    bytes.extend_from_slice(&SHARD)?;
+    let mut source = source_of(rt.alloc(), bytes.as_slice(), 100)?;
+    match read_frame(rt.alloc(), &mut source)? {
+        Frame::Hello { version, worker } => assert_eq!(rt; (version, worker), (1, 63)),
+        _ => assert!(rt; false),
+    }
+    match read_frame(rt.alloc(), &mut source)? {
+        Frame::Shard { number, links } => {
+            assert_eq!(rt; number, 7);
+            assert_eq!(rt; links.as_slice().len(), 1);
+        }
+        _ => assert!(rt; false),
+    }
+    Ok(())
+}
+
+#[test]
+fn a_stream_that_ends_is_torn_but_between_frames(rt: HostRuntime) -> Result<(), Fail> {
+    expect_fault(&rt, rt.alloc(), &[], 100, FrameFault::Ended)?;
+    expect_fault(&rt, rt.alloc(), &HELLO[..3], 100, FrameFault::Torn)?;
+    expect_fault(&rt, rt.alloc(), &HELLO[..10], 100, FrameFault::Torn)
+}
+
+#[test]
+fn a_read_that_fails_is_told_where_it_comes(rt: HostRuntime) -> Result<(), Fail> {
+    for passes in 0..11 {
+        expect_fault(&rt, rt.alloc(), &HELLO, passes, FrameFault::Device)?;
+    }
+    Ok(())
+}
+
+#[test]
+fn a_bad_head_is_told_by_its_kind_and_then_its_length(rt: HostRuntime) -> Result<(), Fail> {
+    expect_fault(&rt, rt.alloc(), &[6, 0, 0, 0, 6], 100, FrameFault::BadKind)?;
+    expect_fault(&rt, rt.alloc(), &[0, 0, 0, 0, 7], 100, FrameFault::BadKind)?;
+    expect_fault(
+        &rt,
+        rt.alloc(),
+        &[1, 0, 0, 0, 7],
+        100,
+        FrameFault::BadLength,
+    )
+}
+
+#[test]
+fn a_bad_body_is_told_by_its_version_and_then_its_fields(rt: HostRuntime) -> Result<(), Fail> {
+    let other_version = [1, 0, 0, 0, 6, 0, 2, 0, 0, 0, 64];
+    expect_fault(&rt, rt.alloc(), &other_version, 100, FrameFault::BadVersion)?;
+    let worker_64 = [1, 0, 0, 0, 6, 0, 1, 0, 0, 0, 64];
+    expect_fault(&rt, rt.alloc(), &worker_64, 100, FrameFault::BadField)
+}
+
+// The body is the first growth, and the links are the second. A shard of another count is refused
+// before memory for its links is asked for.
+#[test]
+fn want_of_memory_is_told_for_a_good_head_and_good_fields(rt: HostRuntime) -> Result<(), Fail> {
+    for number in 1..3u64 {
+        let memory = Refusing::new(rt.alloc(), Refusals::since(number));
+        match read_frame(&memory, &mut source_of(rt.alloc(), &SHARD, 100)?) {
+            Ok(_) => assert!(rt; false),
+            Err(fault) => assert_eq!(rt; fault, FrameFault::Memory),
+        }
+    }
+    let mut two_links = SHARD;
+    two_links[12] = 2;
+    let memory = Refusing::new(rt.alloc(), Refusals::since(2));
+    match read_frame(&memory, &mut source_of(rt.alloc(), &two_links, 100)?) {
+        Ok(_) => assert!(rt; false),
+        Err(fault) => assert_eq!(rt; fault, FrameFault::BadField),
+    }
+    Ok(())
+}
