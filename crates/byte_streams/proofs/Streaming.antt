@@ -1,11 +1,11 @@
 -- What two calls on a stream do together, and what a call does to a stream that tells.
-use Rattle.std.proofs.Common.{◌≡◌, ℕ, ◌+◌, ◌-◌, ◌<◌, ◌≤◌, List, [], ◌++◌, length, take, drop, Some, None, IfSome, refl, sym, ap, subst, ◌∙◌, arith, append-nil, append_assoc, length-append, length-take-le, le_refl, take_all, suc, zero}
+use Rattle.std.proofs.Common.{◌≡◌, ℕ, ◌+◌, ◌-◌, ◌<◌, ◌≤◌, List, [], ◌++◌, length, take, drop, Some, None, IfSome, refl, sym, ap, subst, ◌∙◌, arith, append-nil, length-append, length-take-le, le_refl, take_all, suc, zero}
 use Rattle.std.proofs.Math.Seq.{take-add, take-append-add}
 use Rattle.std.proofs.lemmas.List.{nil_from_length, take-append-le, take_rest}
 use Rattle.std.specs.Prelude.{Option}
-use Rattle.std.specs.Io.KnownBytes.{Appends, Consumes, IsAtEnd, Keeps}
-use Rattle.std.proofs.KnownBytes.{Appends-nil, Appends-trans, Consumes-nil, Consumes-trans, Consumes-whole}
-use Rattle.byte_streams.specs.Streams.{RisesBy, SourceState, tells_left, Gave, HadNoFailure, SinkState, tells_held, Took, WentOut, HadNoSetback}
+use Rattle.std.specs.Io.KnownBytes.{Appends, Consumes}
+use Rattle.std.proofs.KnownBytes.{Appends-nil, Appends-trans, Consumes-nil, Consumes-trans}
+use Rattle.byte_streams.specs.Streams.{RisesBy, SourceState, Gave, HadNoFailure, SinkState, Took, WentOut, HadNoSetback}
 use borrow.Rule.Slice.PartMut.{put_mid, post_of}
 
 -- ---- counts
@@ -97,10 +97,6 @@ gave_to_end m e xs bs s t told ended gave = subst (λ left. IfSome left (λ all.
 pub gave_unfailing : (m e : ℕ) (bs : List ℕ) (s t : SourceState) → HadNoFailure s t → Gave m e bs s t → m ≡ 0
 gave_unfailing m e bs s t (n, before, after) gave = rises-same m n s.failures t.failures before after gave.failures
 
--- what std says of a source that tells its bytes to come: some came
-pub gave_some : (bs : List ℕ) (a b : Option (List ℕ)) → Consumes a b bs → Gave 0 0 bs (tells_left a) (tells_left b)
-gave_some bs a b came = record { left = came; given = λ _. tt; failures = tt; ends = tt; at_end = λ ended. absurd (omega arith) }
-
 -- what a read of `buf[at..]` gave stands behind the first `at` bytes of the buffer
 take-put_mid_more : (at k n : ℕ) (buf part : List ℕ) → at ≤ length buf → n ≤ length part
     → take (at + n) (put_mid at k buf part) ≡ take at buf ++ take n part
@@ -150,15 +146,6 @@ took_told m xs bs s t told took = appends-told s.held t.held xs bs told took.hel
 -- a sink that tells its setbacks and had none
 pub took_unhindered : (m : ℕ) (bs : List ℕ) (s t : SinkState) → HadNoSetback s t → Took m bs s t → m ≡ 0
 took_unhindered m bs s t (n, before, after) took = rises-same m n s.setbacks t.setbacks before after took.setbacks
-
--- what std says of a sink that tells its bytes: it took some, or kept what it had
-pub took_some : (bs : List ℕ) (a b : Option (List ℕ)) → Appends a b bs → Took 0 bs (tells_held a) (tells_held b)
-took_some bs a b out = record { held = out; setbacks = tt }
-
-pub appends-kept : (a b : Option (List ℕ)) → Keeps a b → Appends a b []
-appends-kept None b kept = tt
-appends-kept (Some xs) None kept = absurd kept
-appends-kept (Some xs) (Some ys) kept = kept ∙ sym (append-nil xs)
 
 -- the first `at` bytes of the field went out, and then n of those that a write of `field[at..]` was given
 pub took_from_rest : (m n at : ℕ) (field : List ℕ) (s t u : SinkState) → Took 0 (take at field) s t
