@@ -72,7 +72,7 @@ light_names labels h light c l is =
     record { label = c; place = at.0; offered = (light.exact c at.0).1 (l, is, at.1); within = at.1.within; here = at.1.here }
 
 -- what is below l, and not below k, which isn't below l
-not_between : (k l m : Link) → ¬ (IsBelow k l) → ¬ (IsBelow m k) → ¬ (IsBelow m l)
+pub not_between : (k l m : Link) → ¬ (IsBelow k l) → ¬ (IsBelow m k) → ¬ (IsBelow m l)
 not_between k l m k_not m_not below = elim (trichotomy m k) [
   | inl lower ↦ m_not lower
   | inr rest ↦ elim rest [

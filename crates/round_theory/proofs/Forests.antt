@@ -1,4 +1,4 @@
--- The forest of a list has no circle and spans the list, and no smaller part of it spans.
+-- The forest of a list has no cycle and spans the list, and no smaller part of it spans.
 use Rattle.std.proofs.Common.{ℕ, zero, suc, ◌≤◌, List, length, Contains, subst, inl, inr, arith}
 use Rattle.link_key.specs.declared.links.Link.{Link}
 use Rattle.link_key.specs.Link.{IsBelow}
@@ -7,19 +7,19 @@ use Rattle.link_key.specs.Forest.{LinksBelow, IsForestLink}
 use Rattle.link_key.proofs.Members.{contains_dec}
 use Rattle.link_key.proofs.Keys.{link_dec, below_dec, below_irrefl, below_trans}
 use Rattle.link_key.proofs.Walks.{joins_link, joins_more, joins_replace, joins_dec}
-use Rattle.round_theory.specs.LinkSet.{LinkSet, Either, Without, IsPartOf, SameLinks, HasNoCircle, Spans}
+use Rattle.round_theory.specs.LinkSet.{LinkSet, Either, Without, IsPartOf, SameLinks, HasNoCycle, Spans}
 use Rattle.round_theory.proofs.Lists.{without_one}
-use Rattle.round_theory.proofs.Circles.{walked, no_circle_part, no_circle_either}
+use Rattle.round_theory.proofs.Cycles.{walked, no_cycle_part, no_cycle_either}
 
 -- no link at all
 abbrev NoLink : LinkSet
 NoLink l = ⊥
 
 -- Forest links, taken in the order of their keys, never find their ends joined: that is what makes them forest links.
-pub forest_no_circle : (links : List Link) → HasNoCircle (IsForestLink links)
-forest_no_circle links =
-    no_circle_part (IsForestLink links) (Either NoLink (IsForestLink links)) (λ l is_in. inr is_in)
-    (no_circle_either NoLink (IsForestLink links) (λ l is_in joined. is_in)
+pub forest_no_cycle : (links : List Link) → HasNoCycle (IsForestLink links)
+forest_no_cycle links =
+    no_cycle_part (IsForestLink links) (Either NoLink (IsForestLink links)) (λ l is_in. inr is_in)
+    (no_cycle_either NoLink (IsForestLink links) (λ l is_in joined. is_in)
     (λ m is_forest Q each joined. is_forest.1 (joins_more (Either NoLink (Contains Q)) (LinksBelow links m) (to m Q each) m.low m.high joined)))
   where
     to : (m : Link) (Q : List Link) → ((q : Link) → Contains Q q → IsForestLink links q × IsBelow q m) → (k : Link) → Either NoLink (Contains Q) k → LinksBelow links m k
@@ -47,7 +47,7 @@ pub forest_spans : (links : List Link) → Spans (IsForestLink links) links
 forest_spans links = joins_replace (Contains links) (IsForestLink links) (λ l is_in. ends_joined links (length links) links (omega arith) l is_in (λ m below. below.0))
 
 -- A part of the forest that spans the list is the forest: it joins the ends of each forest link by a walk, and as the
--- forest has no circle, the walk takes the link itself.
+-- forest has no cycle, the walk takes the link itself.
 pub spanning_part_is_forest : (links : List Link) (P : LinkSet) → IsPartOf P (IsForestLink links) → Spans P links → SameLinks P (IsForestLink links)
 spanning_part_is_forest links P part spans l = (part l, taken)
   where
@@ -56,6 +56,6 @@ spanning_part_is_forest links P part spans l = (part l, taken)
         let around = walked P l.low l.high (spans l.low l.high (joins_link (Contains links) l is_forest.0)) in
         elim (contains_dec link_dec around.walk l) [
           | inl in_walk ↦ around.within l in_walk
-          | inr not_in ↦ absurd (forest_no_circle links l is_forest (joins_more (Contains around.walk) (Without (IsForestLink links) l)
+          | inr not_in ↦ absurd (forest_no_cycle links l is_forest (joins_more (Contains around.walk) (Without (IsForestLink links) l)
               (λ m m_in. (part m (around.within m m_in), λ same. not_in (subst (λ x. Contains around.walk x) same m_in))) l.low l.high around.joined))
         ]

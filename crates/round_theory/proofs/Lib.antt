@@ -1,5 +1,5 @@
 pub mod Lists
-pub mod Circles
+pub mod Cycles
 pub mod Labels
 pub mod Leaving
 pub mod Forests
@@ -10,5 +10,7 @@ pub mod Rounds
 pub mod PlainSteps
 pub mod Relabelling
 pub mod OfferSteps
+pub mod Unions
+pub mod LightOffers
 pub mod RoundSteps
 pub mod Worked

@@ -91,26 +91,26 @@ offered_link links labels c i place l offer read =
     let within = offer.2.within in
     let short = length-take i links in
     let in_list : place < length links = omega (arith, within, short) in
-    let in_front : place < i = omega (arith, within, short) in
-    read ∙ get_or_default links place l offer.0 in_list ∙ sym (get_or-take i links place offer.0 in_front) ∙ offer.2.here
+    let in_prefix : place < i = omega (arith, within, short) in
+    read ∙ get_or_default links place l offer.0 in_list ∙ sym (get_or-take i links place offer.0 in_prefix) ∙ offer.2.here
 
 module _ (links : List Link) (labels : List ℕ) (c i : ℕ) (x : Link) (within : i < length links) (read : x ≡ get_or links i x) where
-  -- the list's front with one more link
-  front : take i links ++ x ∷ [] ≡ take (i + 1) links
-  front = sym (take_more links i x within ∙ ap (λ y. take i links ++ y ∷ []) (sym read))
+  -- the list's prefix with one more link
+  prefix : take i links ++ x ∷ [] ≡ take (i + 1) links
+  prefix = sym (take_more links i x within ∙ ap (λ y. take i links ++ y ∷ []) (sym read))
 
   long : length (take i links) ≡ i
   long = length-take-le i links (omega arith)
 
   -- the link doesn't leave the label
   pub best_out : (best : Option ℕ) → IsBest (take i links) labels c best → ¬ (Leaves labels x c) → IsBest (take (i + 1) links) labels c best
-  best_out best is out = subst (λ seen. IsBest seen labels c best) front (best_kept (take i links) labels c x best is (λ l place same at leaves. absurd (out leaves)) (λ _. out))
+  best_out best is out = subst (λ seen. IsBest seen labels c best) prefix (best_kept (take i links) labels c x best is (λ l place same at leaves. absurd (out leaves)) (λ _. out))
 
   -- it is the first that does
   pub best_first : (best : Option ℕ) → best ≡ None → IsBest (take i links) labels c best → Leaves labels x c → IsBest (take (i + 1) links) labels c (Some i)
   best_first best none is leaves =
       let nothing = subst (IsBest (take i links) labels c) none is in
-      subst (λ seen. IsBest seen labels c (Some i)) front
+      subst (λ seen. IsBest seen labels c (Some i)) prefix
       (subst (λ place. IsBest (take i links ++ x ∷ []) labels c (Some place)) long
       (light_offer_new (take i links) labels c x leaves (λ m m_in m_leaves. absurd (nothing m m_in m_leaves))))
 
@@ -118,7 +118,7 @@ module _ (links : List Link) (labels : List ℕ) (c i : ℕ) (x : Link) (within 
   pub best_stays : (best : Option ℕ) (place : ℕ) (l : Link) → best ≡ Some place → l ≡ get_or links place l → IsBest (take i links) labels c best → is_le (key_cmp l x) ≡ true → IsBest (take (i + 1) links) labels c (Some place)
   best_stays best place l some l_read is le =
       let offer = subst (IsBest (take i links) labels c) some is in
-      subst (λ seen. IsBest seen labels c (Some place)) front
+      subst (λ seen. IsBest seen labels c (Some place)) prefix
       (light_offer_kept (take i links) labels c place x offer
       (λ _. subst (λ k. ¬ (IsBelow x k)) (offered_link links labels c i place l offer l_read) (not_below_from_le l x le)))
 
@@ -127,6 +127,6 @@ module _ (links : List Link) (labels : List ℕ) (c i : ℕ) (x : Link) (within 
   best_new best place l some l_read is gt leaves =
       let offer = subst (IsBest (take i links) labels c) some is in
       let lower = subst (IsBelow x) (offered_link links labels c i place l offer l_read) (below_from_gt l x gt) in
-      subst (λ seen. IsBest seen labels c (Some i)) front
+      subst (λ seen. IsBest seen labels c (Some i)) prefix
       (subst (λ p. IsBest (take i links ++ x ∷ []) labels c (Some p)) long
       (light_offer_new (take i links) labels c x leaves (below_each labels (take i links) c offer.0 x offer.1 lower)))

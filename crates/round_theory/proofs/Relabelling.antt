@@ -1,5 +1,5 @@
 -- A labelling made link by link: at first each vertex labels itself, and a link makes the labels of its ends one.
-use Rattle.std.proofs.Common.{◌≡◌, ◌≢◌, ℕ, ◌+◌, ◌-◌, ◌<◌, ◌≤◌, ◌⊎◌, ◌==◌, min, max, cond, List, [], ◌∷◌, ◌++◌, length, get_or, take, Contains, refl, sym, ap, ap₂, ◌∙◌, subst, subst₂, inl, inr, arith, eq-eqb, ne_eqb}
+use Rattle.std.proofs.Common.{◌≡◌, ◌≢◌, ℕ, ◌+◌, ◌-◌, ◌<◌, ◌≤◌, ◌⊎◌, ◌==◌, ◌↔◌, min, max, cond, List, [], ◌∷◌, ◌++◌, length, get_or, take, Contains, refl, sym, ap, ap₂, ◌∙◌, subst, subst₂, inl, inr, arith, eq-eqb, ne_eqb}
 use Rattle.std.specs.Prelude.{if◌then◌else◌}
 use Rattle.std.proofs.lemmas.Bool.{cases_eq, cases_lt}
 use Rattle.std.proofs.lemmas.List.{take_more, get_or_default}
@@ -10,7 +10,7 @@ use Rattle.link_key.specs.Walk.{Joins}
 use Rattle.link_key.proofs.Members.{contains_none}
 use Rattle.link_key.proofs.Walks.{WithLink, joins_same, joins_symm, joins_trans, joins_link, joins_more, joins_equal, joins_one_more}
 use Rattle.round_theory.specs.LinkSet.{LinkSet, SameLinks}
-use Rattle.link_key.specs.Labels.{label_of}
+use Rattle.link_key.specs.Labels.{label_of, AreApart}
 use Rattle.round_theory.specs.Labelling.{IsVertex, IsLeastJoined, IsLabelling}
 use Rattle.round_theory.proofs.Labels.{one_label, low_vertex, high_vertex, labelling_alike}
 
@@ -25,6 +25,16 @@ labelling_none n labels long own = record {
         least = λ w joined. let same : v ≡ w = joins_equal (Contains []) (λ x. x) (λ l l_in. absurd (contains_none l l_in)) v w joined in omega (arith, itself, same);
       };
 }
+
+-- labels of their own vertices are the labelling by no links
+pub apart_by_no_links : (n : ℕ) (labels : List ℕ) → AreApart n labels ↔ IsLabelling n (Contains []) labels
+apart_by_no_links n labels = (
+  λ apart. labelling_none n labels apart.vertices (λ k lt. let back : k + 1 - 1 ≡ k = omega arith in subst (λ j. get_or labels j 0 ≡ k + 1) back (apart.itself (k + 1) (omega arith) (omega (arith, apart.vertices)))),
+  λ is. record {
+    vertices = is.each_vertex;
+    itself = λ v low high. sym (joins_equal (Contains []) (λ x. x) (λ l l_in. absurd (contains_none l l_in)) v (label_of labels v) (is.least v (low, high)).joined);
+  },
+)
 
 -- what had the one label has the other, and all else its own
 pub record IsMoved (n from to : ℕ) (old new : List ℕ) : Type 0 where
@@ -103,24 +113,24 @@ module _ (n : ℕ) (S : LinkSet) (old new : List ℕ) (l : Link) (is : IsLabelli
       not_after v vertex w (inr (inr (to, from))) =
           omega (arith, lesser_of v vertex (inr ((one_label n S old is v l.high vertex (high_vertex n l l_ends)).1 to)), at_low.least w from)
 
--- the links of a list's front with one more
-front_with_link : (links : List Link) (i : ℕ) (x : Link) → i < length links → x ≡ get_or links i x → SameLinks (WithLink (Contains (take i links)) x) (Contains (take (i + 1) links))
-front_with_link links i x within read l = (to, back)
+-- the links of a list's prefix with one more
+prefix_with_link : (links : List Link) (i : ℕ) (x : Link) → i < length links → x ≡ get_or links i x → SameLinks (WithLink (Contains (take i links)) x) (Contains (take (i + 1) links))
+prefix_with_link links i x within read l = (to, back)
   where
-    front : take i links ++ x ∷ [] ≡ take (i + 1) links
-    front = sym (take_more links i x within ∙ ap (λ y. take i links ++ y ∷ []) (sym read))
+    prefix : take i links ++ x ∷ [] ≡ take (i + 1) links
+    prefix = sym (take_more links i x within ∙ ap (λ y. take i links ++ y ∷ []) (sym read))
 
     to : WithLink (Contains (take i links)) x l → Contains (take (i + 1) links) l
-    to (inl in_front) = subst (λ xs. Contains xs l) front (Contains-append_left (take i links) (x ∷ []) l in_front)
-    to (inr same) = subst (λ xs. Contains xs l) front (subst (Contains (take i links ++ x ∷ [])) (sym same) (Contains-push (take i links) x))
+    to (inl in_prefix) = subst (λ xs. Contains xs l) prefix (Contains-append_left (take i links) (x ∷ []) l in_prefix)
+    to (inr same) = subst (λ xs. Contains xs l) prefix (subst (Contains (take i links ++ x ∷ [])) (sym same) (Contains-push (take i links) x))
 
     back : Contains (take (i + 1) links) l → WithLink (Contains (take i links)) x l
-    back l_in = elim (Contains-push_cases (take i links) x l (subst (λ xs. Contains xs l) (sym front) l_in)) [ inl in_front ↦ inl in_front | inr same ↦ inr (sym same) ]
+    back l_in = elim (Contains-push_cases (take i links) x l (subst (λ xs. Contains xs l) (sym prefix) l_in)) [ inl in_prefix ↦ inl in_prefix | inr same ↦ inr (sym same) ]
 
 -- the labels after one more link of a list
 pub labelling_more : (n : ℕ) (links : List Link) (i : ℕ) (x : Link) (old new : List ℕ) → i < length links → x ≡ get_or links i x → x.high ≤ n → IsLabelling n (Contains (take i links)) old → IsMoved n (max (label_of old x.low) (label_of old x.high)) (min (label_of old x.low) (label_of old x.high)) old new → IsLabelling n (Contains (take (i + 1) links)) new
 labelling_more n links i x old new within read ends is moved =
-    labelling_alike n (WithLink (Contains (take i links)) x) (Contains (take (i + 1) links)) new (front_with_link links i x within read)
+    labelling_alike n (WithLink (Contains (take i links)) x) (Contains (take (i + 1) links)) new (prefix_with_link links i x within read)
     (labelling_one_more n (Contains (take i links)) old new x is ends moved)
 
 -- the same, by what the code reads and writes

@@ -80,15 +80,15 @@ rounds_end n links taken added rounds ends are none = record { still = still; fi
 -- two lists whose elements are each once, and none in both
 pub all_pairs_append : {X : Type 0} (R : X → X → Type 0) (xs ys : List X) → AllPairs R xs → AllPairs R ys → ((x y : X) → Contains xs x → Contains ys y → R x y) → AllPairs R (xs ++ ys)
 all_pairs_append R xs ys xs_pairs ys_pairs across i j d lt within = elim (cases_lt j (length xs)) [
-  | inl j_front ↦ subst₂ R (sym (get_or_append_left xs ys d i (omega arith))) (sym (get_or_append_left xs ys d j j_front)) (xs_pairs i j d lt j_front)
-  | inr j_back ↦
+  | inl j_left ↦ subst₂ R (sym (get_or_append_left xs ys d i (omega arith))) (sym (get_or_append_left xs ys d j j_left)) (xs_pairs i j d lt j_left)
+  | inr j_right ↦
       let j_in : j - length xs < length ys = omega (arith, within, length-append xs ys) in
-      let at_j = get_or-append_right xs ys (length xs) j d refl j_back in
+      let at_j = get_or-append_right xs ys (length xs) j d refl j_right in
       elim (cases_lt i (length xs)) [
-        | inl i_front ↦ subst₂ R (sym (get_or_append_left xs ys d i i_front)) (sym at_j) (across (get_or xs i d) (get_or ys (j - length xs) d) (Contains-get_or xs i d i_front) (Contains-get_or ys (j - length xs) d j_in))
-        | inr i_back ↦
+        | inl i_left ↦ subst₂ R (sym (get_or_append_left xs ys d i i_left)) (sym at_j) (across (get_or xs i d) (get_or ys (j - length xs) d) (Contains-get_or xs i d i_left) (Contains-get_or ys (j - length xs) d j_in))
+        | inr i_right ↦
             let order : i - length xs < j - length xs = omega arith in
-            subst₂ R (sym (get_or-append_right xs ys (length xs) i d refl i_back)) (sym at_j) (ys_pairs (i - length xs) (j - length xs) d order j_in)
+            subst₂ R (sym (get_or-append_right xs ys (length xs) i d refl i_right)) (sym at_j) (ys_pairs (i - length xs) (j - length xs) d order j_in)
       ]
 ]
 

@@ -1,4 +1,4 @@
--- Adding links to a set: what they join over its components, and that picks close no circle.
+-- Adding links to a set: what they join over its components, and that picks close no cycle.
 use Rattle.std.proofs.Common.{refl, ◌^◌, ◌≤◌, arith, ◌≡◌, ◌≢◌, ℕ, ◌⊎◌, ◌↔◌, List, [], ◌∷◌, ◌++◌, Contains, sym, ap, ◌∙◌, inl, inr}
 use Rattle.std.specs.List.{AllByRecursion}
 use Rattle.std.proofs.lemmas.List.Elements.{Contains-append_cases, Contains-append_left, Contains-append_right}
@@ -6,12 +6,12 @@ use Rattle.link_key.specs.declared.links.Link.{Link}
 use Rattle.link_key.specs.Link.{IsBelow, EndsUpTo}
 use Rattle.link_key.specs.Walk.{IsWalk, Joins}
 use Rattle.link_key.proofs.Walks.{joins_trans, joins_link, joins_link_back, joins_more, joins_least, joins_alike}
-use Rattle.round_theory.specs.LinkSet.{LinkSet, Either, IsPartOf, SameLinks, HasNoCircle}
+use Rattle.round_theory.specs.LinkSet.{LinkSet, Either, IsPartOf, SameLinks, HasNoCycle}
 use Rattle.link_key.specs.Labels.{label_of, IsLabelled, AreLabels}
 use Rattle.round_theory.specs.Labelling.{IsVertex, IsLabelling, IsWalkOver, JoinsOver, IsRelabelling}
 use Rattle.round_theory.specs.Offers.{IsLeastLeaving, IsPick}
 use Rattle.round_theory.proofs.Lists.{HasEndsUpTo, set_ends}
-use Rattle.round_theory.proofs.Circles.{no_circle_part, no_circle_either}
+use Rattle.round_theory.proofs.Cycles.{no_cycle_part, no_cycle_either}
 use Rattle.round_theory.proofs.Labels.{same_labels, one_label, low_vertex, high_vertex, ends_label, labelling_alike}
 use Rattle.round_theory.proofs.Leaving.{crossing_ends, leaves_apart, leaves_end}
 
@@ -156,8 +156,8 @@ pick_apart n S O labels ends is l (c, least) in_S =
 
 -- Picks in the order of their keys never find their ends joined: a walk between the ends of a pick leaves the
 -- component that picked it by another offered link, and not by a smaller one, as the pick is the least.
-pub picks_close_no_circle : (n : ℕ) (S O : LinkSet) (labels : List ℕ) → HasEndsUpTo n S → IsLabelling n S labels → HasNoCircle S → HasNoCircle (Either S (IsPick labels O))
-picks_close_no_circle n S O labels ends is none = no_circle_either S (IsPick labels O) none closes
+pub picks_close_no_cycle : (n : ℕ) (S O : LinkSet) (labels : List ℕ) → HasEndsUpTo n S → IsLabelling n S labels → HasNoCycle S → HasNoCycle (Either S (IsPick labels O))
+picks_close_no_cycle n S O labels ends is none = no_cycle_either S (IsPick labels O) none closes
   where
     closes : (m : Link) → IsPick labels O m → (Q : List Link) → ((q : Link) → Contains Q q → IsPick labels O q × IsBelow q m) → ¬ (Joins (Either S (Contains Q)) m.low m.high)
     closes m (c, least) Q each joined =
@@ -167,16 +167,20 @@ picks_close_no_circle n S O labels ends is none = no_circle_either S (IsPick lab
           | inr in_Q ↦ least.least out.link (each out.link in_Q).0.1.member out.leaves (each out.link in_Q).1
         ]
 
-pub added_close_no_circle : (n : ℕ) (taken offered added : List Link) (labels : List ℕ) → EndsUpTo n taken → IsLabelling n (Contains taken) labels → HasNoCircle (Contains taken) → IsPartOf (Contains added) (IsPick labels (Contains offered)) → HasNoCircle (Contains (taken ++ added))
-added_close_no_circle n taken offered added labels ends is none part =
-    no_circle_part (Contains (taken ++ added)) (Either (Contains taken) (IsPick labels (Contains offered))) to
-    (picks_close_no_circle n (Contains taken) (Contains offered) labels (set_ends n taken ends) is none)
+pub added_close_no_cycle : (O : LinkSet) (n : ℕ) (taken added : List Link) (labels : List ℕ) → EndsUpTo n taken → IsLabelling n (Contains taken) labels → HasNoCycle (Contains taken) → IsPartOf (Contains added) (IsPick labels O) → HasNoCycle (Contains (taken ++ added))
+added_close_no_cycle O n taken added labels ends is none part =
+    no_cycle_part (Contains (taken ++ added)) (Either (Contains taken) (IsPick labels O)) to
+    (picks_close_no_cycle n (Contains taken) O labels (set_ends n taken ends) is none)
   where
-    to : IsPartOf (Contains (taken ++ added)) (Either (Contains taken) (IsPick labels (Contains offered)))
+    to : IsPartOf (Contains (taken ++ added)) (Either (Contains taken) (IsPick labels O))
     to l is_in = elim ((append_either taken added l).0 is_in) [ inl in_taken ↦ inl in_taken | inr in_added ↦ inr (part l in_added) ]
 
-pub picked_from_both_sides : (labels : List ℕ) (offered : List Link) (c d : ℕ) (l : Link) → IsLeastLeaving labels (Contains offered) c l → IsLeastLeaving labels (Contains offered) d l → c ≢ d → ((c ≡ label_of labels l.low) × (d ≡ label_of labels l.high)) ⊎ ((c ≡ label_of labels l.high) × (d ≡ label_of labels l.low))
-picked_from_both_sides labels offered c d l for_c for_d other = elim (leaves_end labels l c for_c.leaves) [
+-- a pick is an offered link, and a new one
+pub pick_is_new : (O : LinkSet) (n : ℕ) (taken : List Link) (labels : List ℕ) → EndsUpTo n taken → IsLabelling n (Contains taken) labels → (l : Link) → IsPick labels O l → O l × ¬ (Contains taken l)
+pick_is_new O n taken labels ends is l pick = (pick.1.member, pick_apart n (Contains taken) O labels (set_ends n taken ends) is l pick)
+
+pub picked_from_both_sides : (O : LinkSet) (labels : List ℕ) (c d : ℕ) (l : Link) → IsLeastLeaving labels O c l → IsLeastLeaving labels O d l → c ≢ d → ((c ≡ label_of labels l.low) × (d ≡ label_of labels l.high)) ⊎ ((c ≡ label_of labels l.high) × (d ≡ label_of labels l.low))
+picked_from_both_sides O labels c d l for_c for_d other = elim (leaves_end labels l c for_c.leaves) [
   | inl c_low ↦ elim (leaves_end labels l d for_d.leaves) [ inl d_low ↦ absurd (other (c_low ∙ sym d_low)) | inr d_high ↦ inl (c_low, d_high) ]
   | inr c_high ↦ elim (leaves_end labels l d for_d.leaves) [ inl d_low ↦ inr (c_high, d_low) | inr d_high ↦ absurd (other (c_high ∙ sym d_high)) ]
 ]

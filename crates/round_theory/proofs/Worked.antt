@@ -11,8 +11,8 @@ use Rattle.link_key.specs.Labels.{label_of, AreLabels}
 use Rattle.link_key.proofs.Members.{contains_cases, contains_head, contains_tail, contains_none}
 use Rattle.round_theory.specs.LinkSet.{SameLinks, IsPartOf}
 use Rattle.round_theory.specs.Labelling.{IsVertex, IsLabelling}
-use Rattle.round_theory.specs.Offers.{Leaves, IsLeastLeaving, IsPick, IsFirstPlace, AreLightOffers}
-use Rattle.round_theory.specs.Examples.{link_1_2, link_2_3, link_1_3, triangle, two_sides, apart, first_joined, front, back}
+use Rattle.round_theory.specs.Offers.{Leaves, IsLeastLeaving, NoneLeaves, IsLesser, IsPick, IsFirstPlace, AreLightOffers}
+use Rattle.round_theory.specs.Examples.{link_1_2, link_2_3, link_1_3, triangle, two_sides, apart, first_joined, first_part, second_part}
 use Rattle.round_theory.specs.Rounds.{TakenAfter, IsMergingRounds}
 use Rattle.round_theory.proofs.RoundSteps.{nothing_taken}
 use Rattle.round_theory.proofs.Labels.{labelling_alike, labelling_is_labels}
@@ -192,54 +192,74 @@ picks_are_two_sides l = (to, back_to)
 first_place_here : (l : Link) (links : List Link) → IsFirstPlace (l ∷ links) l 0
 first_place_here l links = record { within = omega arith; here = refl; first = λ k lt. absurd (omega arith) }
 
-pub front_light : AreLightOffers front.shard apart front.offers
+pub first_light : AreLightOffers first_part.shard apart first_part.offers
 unfolding leaves_test least_test
-front_light =
-    offers_all front.shard apart front_ends apart_labels 4 front.offers (lit< tt)
-    (offers_push front.shard apart 3 1 ((1, 0) ∷ ((2, 0) ∷ []))
-    (offers_push front.shard apart 2 0 ((1, 0) ∷ [])
-    (offers_push front.shard apart 1 0 [] (offers_none front.shard apart front_ends apart_labels)
-    (link_1_2, is_least apart front.shard 1 link_1_2 head refl refl, first_place_here link_1_2 (link_2_3 ∷ [])))
-    (link_1_2, is_least apart front.shard 2 link_1_2 head refl refl, first_place_here link_1_2 (link_2_3 ∷ [])))
-    (link_2_3, is_least apart front.shard 3 link_2_3 second refl refl, second_place))
+first_light =
+    offers_all first_part.shard apart first_part_ends apart_labels 4 first_part.offers (lit< tt)
+    (offers_push first_part.shard apart 3 1 ((1, 0) ∷ ((2, 0) ∷ []))
+    (offers_push first_part.shard apart 2 0 ((1, 0) ∷ [])
+    (offers_push first_part.shard apart 1 0 [] (offers_none first_part.shard apart first_part_ends apart_labels)
+    (link_1_2, is_least apart first_part.shard 1 link_1_2 head refl refl, first_place_here link_1_2 (link_2_3 ∷ [])))
+    (link_1_2, is_least apart first_part.shard 2 link_1_2 head refl refl, first_place_here link_1_2 (link_2_3 ∷ [])))
+    (link_2_3, is_least apart first_part.shard 3 link_2_3 second refl refl, second_place))
   where
-    front_ends : EndsUpTo 3 front.shard
-    front_ends = All-from_recursion (λ (l : Link). l.high ≤ 3) front.shard (lit≤ tt, (lit≤ tt, tt))
+    first_part_ends : EndsUpTo 3 first_part.shard
+    first_part_ends = All-from_recursion (λ (l : Link). l.high ≤ 3) first_part.shard (lit≤ tt, (lit≤ tt, tt))
 
-    head : Contains front.shard link_1_2
+    head : Contains first_part.shard link_1_2
     head = contains_head link_1_2 (link_2_3 ∷ [])
 
-    second : Contains front.shard link_2_3
+    second : Contains first_part.shard link_2_3
     second = contains_tail link_1_2 link_2_3 (link_2_3 ∷ []) (contains_head link_2_3 [])
 
-    second_place : IsFirstPlace front.shard link_2_3 1
+    second_place : IsFirstPlace first_part.shard link_2_3 1
     second_place = record { within = lit< tt; here = refl; first = before }
       where
-        before : (k : ℕ) → k < 1 → slice_index_or front.shard k link_2_3 ≢ link_2_3
+        before : (k : ℕ) → k < 1 → slice_index_or first_part.shard k link_2_3 ≢ link_2_3
         before zero lt same = let low : 1 ≡ 2 = ap (λ (l : Link). l.low) same in omega (arith, low)
         before (suc k) lt same = omega arith
 
-pub back_light : AreLightOffers back.shard apart back.offers
+pub second_light : AreLightOffers second_part.shard apart second_part.offers
 unfolding leaves_test least_test none_test
-back_light =
-    offers_all back.shard apart second_ends apart_labels 4 back.offers (lit< tt)
-    (offers_push back.shard apart 3 0 ((1, 0) ∷ [])
-    (offers_skip back.shard apart 2 ((1, 0) ∷ [])
-    (offers_push back.shard apart 1 0 [] (offers_none back.shard apart second_ends apart_labels)
-    (link_1_3, is_least apart back.shard 1 link_1_3 head refl refl, first_place_here link_1_3 []))
-    (none_leaves apart back.shard 2 refl))
-    (link_1_3, is_least apart back.shard 3 link_1_3 head refl refl, first_place_here link_1_3 []))
+second_light =
+    offers_all second_part.shard apart second_ends apart_labels 4 second_part.offers (lit< tt)
+    (offers_push second_part.shard apart 3 0 ((1, 0) ∷ [])
+    (offers_skip second_part.shard apart 2 ((1, 0) ∷ [])
+    (offers_push second_part.shard apart 1 0 [] (offers_none second_part.shard apart second_ends apart_labels)
+    (link_1_3, is_least apart second_part.shard 1 link_1_3 head refl refl, first_place_here link_1_3 []))
+    (none_leaves apart second_part.shard 2 refl))
+    (link_1_3, is_least apart second_part.shard 3 link_1_3 head refl refl, first_place_here link_1_3 []))
   where
-    head : Contains back.shard link_1_3
+    head : Contains second_part.shard link_1_3
     head = contains_head link_1_3 []
 
+-- the least links of each part
+pub first_part_2 : IsLeastLeaving apart (Contains first_part.shard) 2 link_1_2
+unfolding leaves_test least_test
+first_part_2 = is_least apart first_part.shard 2 link_1_2 (contains_head link_1_2 (link_2_3 ∷ [])) refl refl
+
+pub first_part_3 : IsLeastLeaving apart (Contains first_part.shard) 3 link_2_3
+unfolding leaves_test least_test
+first_part_3 = is_least apart first_part.shard 3 link_2_3 (contains_tail link_1_2 link_2_3 (link_2_3 ∷ []) (contains_head link_2_3 [])) refl refl
+
+pub second_part_3 : IsLeastLeaving apart (Contains second_part.shard) 3 link_1_3
+unfolding leaves_test least_test
+second_part_3 = is_least apart second_part.shard 3 link_1_3 (contains_head link_1_3 []) refl refl
+
+pub second_part_none : NoneLeaves apart (Contains second_part.shard) 2
+unfolding leaves_test none_test
+second_part_none = none_leaves apart second_part.shard 2 refl
+
+pub lesser_side : IsLesser link_2_3 link_1_3 link_1_3
+lesser_side = inr (refl, λ below. cc)
+
 -- what is picked of offers that hide the third link
-pub heavier_picks : IsPartOf (Contains front.shard) (IsPick apart (Contains front.shard))
+pub heavier_picks : IsPartOf (Contains first_part.shard) (IsPick apart (Contains first_part.shard))
 unfolding leaves_test least_test
 heavier_picks l l_in = elim (contains_cases link_1_2 l (link_2_3 ∷ []) l_in) [
-  | inl same ↦ (1, subst (IsLeastLeaving apart (Contains front.shard) 1) (sym same) (is_least apart front.shard 1 link_1_2 (contains_head link_1_2 (link_2_3 ∷ [])) refl refl))
+  | inl same ↦ (1, subst (IsLeastLeaving apart (Contains first_part.shard) 1) (sym same) (is_least apart first_part.shard 1 link_1_2 (contains_head link_1_2 (link_2_3 ∷ [])) refl refl))
   | inr later ↦ elim (contains_cases link_2_3 l [] later) [
-    | inl same ↦ (3, subst (IsLeastLeaving apart (Contains front.shard) 3) (sym same) (is_least apart front.shard 3 link_2_3 (contains_tail link_1_2 link_2_3 (link_2_3 ∷ []) (contains_head link_2_3 [])) refl refl))
+    | inl same ↦ (3, subst (IsLeastLeaving apart (Contains first_part.shard) 3) (sym same) (is_least apart first_part.shard 3 link_2_3 (contains_tail link_1_2 link_2_3 (link_2_3 ∷ []) (contains_head link_2_3 [])) refl refl))
     | inr none ↦ absurd (contains_none l none)
   ]
 ]

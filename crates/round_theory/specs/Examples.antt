@@ -1,12 +1,14 @@
 -- A worked example for each law: three vertices, each two of them linked by the same weight.
-use Rattle.std.specs.Prelude.{ℕ, pos, List, [], ◌∷◌, Contains}
+use Rattle.std.specs.Prelude.{◌≡◌, ℕ, pos, List, [], ◌∷◌, All, Contains}
 use Rattle.std.proofs.Common.{lit≤, lit<}
 use Rattle.link_key.specs.declared.links.Link.{Link}
 use Rattle.link_key.specs.Walk.{Joins}
 use Rattle.link_key.specs.Forest.{IsForestLink}
-use Rattle.round_theory.specs.LinkSet.{SameLinks, HasNoCircle}
+use Rattle.link_key.specs.Labels.{AreApart}
+use Rattle.link_key.specs.Offers.{Offer}
+use Rattle.round_theory.specs.LinkSet.{SameLinks, HasNoCycle}
 use Rattle.round_theory.specs.Labelling.{IsRelabelling}
-use Rattle.round_theory.specs.Offers.{IsLeastLeaving, Hearing, IsNamed}
+use Rattle.round_theory.specs.Offers.{IsLeastLeaving, AreLightOffers, OffersLeaving, Hearing, IsNamed}
 use Rattle.round_theory.specs.Rounds.{TakenAfter, IsMergingRounds}
 
 abbrev pub link_1_2 : Link
@@ -53,19 +55,35 @@ abbrev pub OneRoundTakesForest : Type 0
 OneRoundTakesForest = SameLinks (TakenAfter 3 triangle 1) (IsForestLink triangle)
 
 -- the triangle cut behind its second link, the second shard heard first
-abbrev pub front : Hearing
-front = record { shard = link_1_2 ∷ (link_2_3 ∷ []); offers = (1, 0) ∷ ((2, 0) ∷ ((3, 1) ∷ [])) }
+abbrev pub first_part : Hearing
+first_part = record { shard = link_1_2 ∷ (link_2_3 ∷ []); offers = (1, 0) ∷ ((2, 0) ∷ ((3, 1) ∷ [])) }
 
-abbrev pub back : Hearing
-back = record { shard = link_1_3 ∷ []; offers = (1, 0) ∷ ((3, 0) ∷ []) }
+abbrev pub second_part : Hearing
+second_part = record { shard = link_1_3 ∷ []; offers = (1, 0) ∷ ((3, 0) ∷ []) }
 
 abbrev pub LeastOfBothShards : Type 0
-LeastOfBothShards = IsLeastLeaving apart (IsNamed (back ∷ (front ∷ []))) 3 link_1_3
+LeastOfBothShards = IsLeastLeaving apart (IsNamed (second_part ∷ (first_part ∷ []))) 3 link_1_3
 
 -- a second link taken
 abbrev pub OneLinkMore : Type 0
 OneLinkMore = IsRelabelling 3 first_joined (Contains (link_1_3 ∷ [])) (1 ∷ (1 ∷ (1 ∷ [])))
 
--- offers that hide a link: what is picked of them is no part of the forest, and has no circle all the same
-abbrev pub HeavierOffersCloseNoCircle : Type 0
-HeavierOffersCloseNoCircle = HasNoCircle (Contains (link_1_2 ∷ (link_2_3 ∷ [])))
+-- offers that hide a link: what is picked of them is no part of the forest, and has no cycle all the same
+abbrev pub HeavierOffersCloseNoCycle : Type 0
+HeavierOffersCloseNoCycle = HasNoCycle (Contains (link_1_2 ∷ (link_2_3 ∷ [])))
+
+-- the labels of no link at all
+abbrev pub EachLabelsItself : Type 0
+EachLabelsItself = AreApart 3 apart
+
+-- of the links of both parts the second part's is the least that leaves vertex 3, and the first part's the only one that leaves vertex 2
+abbrev pub LesserOfBothParts : Type 0
+LesserOfBothParts = IsLeastLeaving apart (Contains triangle) 3 link_1_3 × IsLeastLeaving apart (Contains triangle) 2 link_1_2
+
+-- the first part has no other light offers
+abbrev pub OneListOfOffers : Type 0
+OneListOfOffers = (offers : List Offer) → AreLightOffers first_part.shard apart offers → offers ≡ first_part.offers
+
+-- each of them leaves its vertex
+abbrev pub EachOfferLeaves : Type 0
+EachOfferLeaves = All (OffersLeaving first_part.shard apart) first_part.offers

@@ -1,13 +1,15 @@
--- The laws of the rounds, each a statement about the definitions alone. A set of links is finite, so the laws tell it by a list of its members.
-use Rattle.std.specs.Prelude.{◌≡◌, ◌≢◌, ℕ, suc, ◌≤◌, max, ◌^◌, ◌⊎◌, ◌↔◌, List, ◌++◌, Contains, flat_map, IsPermutation}
+-- The laws of the rounds, each a statement about the definitions alone. A set of links is finite, so the laws tell it by a list: of its members, or of the hearings that name them.
+use Rattle.std.specs.Prelude.{◌≡◌, ◌≢◌, ℕ, suc, ◌≤◌, max, ◌^◌, ◌⊎◌, ◌↔◌, List, [], ◌++◌, All, Contains, flat_map, IsPermutation}
+use Rattle.limits.specs.declared.TheConstants.{MAX_VERTICES}
 use Rattle.link_key.specs.declared.links.Link.{Link}
 use Rattle.link_key.specs.Link.{EndsUpTo}
 use Rattle.link_key.specs.Walk.{Joins}
 use Rattle.link_key.specs.Forest.{IsForestLink}
-use Rattle.round_theory.specs.LinkSet.{IsPartOf, SameLinks, HasNoCircle, Spans}
-use Rattle.link_key.specs.Labels.{label_of, AreLabels}
+use Rattle.round_theory.specs.LinkSet.{LinkSet, Either, IsPartOf, SameLinks, HasNoCycle, Spans}
+use Rattle.link_key.specs.Labels.{label_of, AreLabels, AreApart}
+use Rattle.link_key.specs.Offers.{Offer}
 use Rattle.round_theory.specs.Labelling.{IsVertex, IsLabelling, JoinsOver, IsRelabelling}
-use Rattle.round_theory.specs.Offers.{Leaves, IsLeastLeaving, IsPick, Hearing, IsNamed, HaveLinksOf, AreAllLight}
+use Rattle.round_theory.specs.Offers.{Leaves, IsLeastLeaving, NoneLeaves, IsLesser, IsPick, AreLightOffers, OffersLeaving, Hearing, IsNamed, HaveLinksOf, AreAllLight}
 use Rattle.round_theory.specs.Rounds.{AreRoundPicks, TakenAfter, IsMergingRounds}
 
 -- ---- a set of links has exactly one labelling
@@ -30,7 +32,11 @@ OneLabelWhereJoined =
 -- it is such labels as the calls pass on: each label is a vertex, not after those that have it, and its own label
 abbrev pub LabellingIsLabels : Type 0
 LabellingIsLabels =
-    (n : ℕ) (taken : List Link) (labels : List ℕ) → n ≤ 2 ^ 26 → IsLabelling n (Contains taken) labels → AreLabels labels
+    (n : ℕ) (taken : List Link) (labels : List ℕ) → n ≤ MAX_VERTICES → IsLabelling n (Contains taken) labels → AreLabels labels
+
+-- labels of their own vertices are the labelling by no links
+abbrev pub ApartByNoLinks : Type 0
+ApartByNoLinks = (n : ℕ) (labels : List ℕ) → AreApart n labels ↔ IsLabelling n (Contains []) labels
 
 -- a set spans a list exactly where no link of the list leaves a label
 abbrev pub SpansWhereNoneLeaves : Type 0
@@ -40,8 +46,8 @@ SpansWhereNoneLeaves =
 
 -- ---- the forest is the part of itself that spans
 
-abbrev pub ForestHasNoCircle : Type 0
-ForestHasNoCircle = (links : List Link) → HasNoCircle (IsForestLink links)
+abbrev pub ForestHasNoCycle : Type 0
+ForestHasNoCycle = (links : List Link) → HasNoCycle (IsForestLink links)
 
 abbrev pub ForestSpans : Type 0
 ForestSpans = (links : List Link) → Spans (IsForestLink links) links
@@ -168,26 +174,73 @@ RelabellingIsUnique =
 -- and they are such as the calls pass on
 abbrev pub RelabellingIsLabels : Type 0
 RelabellingIsLabels =
-    (n : ℕ) (added : List Link) (old new : List ℕ) → n ≤ 2 ^ 26 → IsRelabelling n old (Contains added) new → AreLabels new
+    (n : ℕ) (added : List Link) (old new : List ℕ) → n ≤ MAX_VERTICES → IsRelabelling n old (Contains added) new → AreLabels new
 
 -- ---- one round over any offers
 
+-- a law of each set of links that a list tells: the members of a list of links, or what the offers that were heard name
+abbrev pub OfEachSet : (LinkSet → Type 0) → Type 0
+OfEachSet Law = ((links : List Link) → Law (Contains links)) × ((heard : List Hearing) → Law (IsNamed heard))
+
 -- a pick is one of the offered links, and a new one
-abbrev pub PicksAreNew : Type 0
-PicksAreNew =
-    (n : ℕ) (taken offered : List Link) (labels : List ℕ) → EndsUpTo n taken → IsLabelling n (Contains taken) labels
-    → (l : Link) → IsPick labels (Contains offered) l → Contains offered l × ¬ (Contains taken l)
+abbrev pub PicksAreNew : LinkSet → Type 0
+PicksAreNew offered =
+    (n : ℕ) (taken : List Link) (labels : List ℕ) → EndsUpTo n taken → IsLabelling n (Contains taken) labels
+    → (l : Link) → IsPick labels offered l → offered l × ¬ (Contains taken l)
 
 -- a link that two labels pick is picked from its two sides
-abbrev pub PickedFromBothSides : Type 0
-PickedFromBothSides =
-    (labels : List ℕ) (offered : List Link) (c d : ℕ) (l : Link) → IsLeastLeaving labels (Contains offered) c l
-    → IsLeastLeaving labels (Contains offered) d l → c ≢ d
+abbrev pub PickedFromBothSides : LinkSet → Type 0
+PickedFromBothSides offered =
+    (labels : List ℕ) (c d : ℕ) (l : Link) → IsLeastLeaving labels offered c l → IsLeastLeaving labels offered d l → c ≢ d
     → ((c ≡ label_of labels l.low) × (d ≡ label_of labels l.high)) ⊎ ((c ≡ label_of labels l.high) × (d ≡ label_of labels l.low))
 
--- picks added to a set without a circle leave it without one
-abbrev pub PicksCloseNoCircle : Type 0
-PicksCloseNoCircle =
-    (n : ℕ) (taken offered added : List Link) (labels : List ℕ) → EndsUpTo n taken
-    → IsLabelling n (Contains taken) labels → HasNoCircle (Contains taken)
-    → IsPartOf (Contains added) (IsPick labels (Contains offered)) → HasNoCircle (Contains (taken ++ added))
+-- picks added to a set without a cycle leave it without one
+abbrev pub PicksCloseNoCycle : LinkSet → Type 0
+PicksCloseNoCycle offered =
+    (n : ℕ) (taken added : List Link) (labels : List ℕ) → EndsUpTo n taken
+    → IsLabelling n (Contains taken) labels → HasNoCycle (Contains taken)
+    → IsPartOf (Contains added) (IsPick labels offered) → HasNoCycle (Contains (taken ++ added))
+
+-- ---- the least of two sets together
+
+-- a law of each two sets that lists tell, and of the set that the two lists end to end tell
+abbrev pub OfEachUnion : (LinkSet → LinkSet → LinkSet → Type 0) → Type 0
+OfEachUnion Law =
+    ((first second : List Link) → Law (Contains first) (Contains second) (Contains (first ++ second)))
+    × ((first second : List Hearing) → Law (IsNamed first) (IsNamed second) (IsNamed (first ++ second)))
+
+-- it has the links of both
+abbrev pub UnionHasBoth : LinkSet → LinkSet → LinkSet → Type 0
+UnionHasBoth first second both = SameLinks both (Either first second)
+
+-- its least link that leaves a label is the lesser of their leasts
+abbrev pub LeastOfBoth : LinkSet → LinkSet → LinkSet → Type 0
+LeastOfBoth first second both =
+    (labels : List ℕ) (c : ℕ) (l m : Link) → IsLeastLeaving labels first c l → IsLeastLeaving labels second c m
+    → (k : Link) → IsLeastLeaving labels both c k ↔ IsLesser l m k
+
+-- and where no link of the one leaves the label, the least of the other
+abbrev pub LeastOfFirst : LinkSet → LinkSet → LinkSet → Type 0
+LeastOfFirst first second both =
+    (labels : List ℕ) (c : ℕ) → NoneLeaves labels second c
+    → (k : Link) → IsLeastLeaving labels both c k ↔ IsLeastLeaving labels first c k
+
+abbrev pub LeastOfSecond : LinkSet → LinkSet → LinkSet → Type 0
+LeastOfSecond first second both =
+    (labels : List ℕ) (c : ℕ) → NoneLeaves labels first c
+    → (k : Link) → IsLeastLeaving labels both c k ↔ IsLeastLeaving labels second c k
+
+-- ---- a list has exactly one list of light offers
+
+abbrev pub LightOffersExist : Type 0
+LightOffersExist = (links : List Link) (labels : List ℕ) → (offers : List Offer) × AreLightOffers links labels offers
+
+abbrev pub LightOffersAreUnique : Type 0
+LightOffersAreUnique =
+    (links : List Link) (labels : List ℕ) (a b : List Offer) → AreLightOffers links labels a → AreLightOffers links labels b → a ≡ b
+
+-- each of them names a link of the list that leaves its label
+abbrev pub LightOffersLeave : Type 0
+LightOffersLeave =
+    (links : List Link) (labels : List ℕ) (offers : List Offer) → AreLightOffers links labels offers
+    → All (OffersLeaving links labels) offers

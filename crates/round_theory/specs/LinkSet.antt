@@ -24,8 +24,8 @@ abbrev pub SameLinks : LinkSet → LinkSet → Type 0
 SameLinks S T = (l : Link) → S l ↔ T l
 
 -- no link of the set has its ends joined by the others
-abbrev pub HasNoCircle : LinkSet → Type 0
-HasNoCircle S = (l : Link) → S l → ¬ (Joins (Without S l) l.low l.high)
+abbrev pub HasNoCycle : LinkSet → Type 0
+HasNoCycle S = (l : Link) → S l → ¬ (Joins (Without S l) l.low l.high)
 
 -- the set joins whatever the list joins
 abbrev pub Spans : LinkSet → List Link → Type 0

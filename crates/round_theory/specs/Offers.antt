@@ -18,6 +18,14 @@ pub record IsLeastLeaving (labels : List ℕ) (S : LinkSet) (c : ℕ) (l : Link)
   pub leaves : Leaves labels l c
   pub least : (m : Link) → S m → Leaves labels m c → ¬ (IsBelow m l)
 
+-- no link of the set leaves label c
+abbrev pub NoneLeaves : List ℕ → LinkSet → ℕ → Type 0
+NoneLeaves labels S c = (l : Link) → S l → ¬ (Leaves labels l c)
+
+-- k is the lesser of the links l and m
+abbrev pub IsLesser : Link → Link → Link → Type 0
+IsLesser l m k = ((k ≡ l) × ¬ (IsBelow m l)) ⊎ ((k ≡ m) × ¬ (IsBelow l m))
+
 -- the picks of a set of links under the labels: for each label the least link of the set that leaves it
 abbrev pub IsPick : List ℕ → LinkSet → LinkSet
 IsPick labels S l = (c : ℕ) × IsLeastLeaving labels S c l
@@ -36,6 +44,11 @@ IsLightOffer links labels c i = (l : Link) × IsLeastLeaving labels (Contains li
 pub record AreLightOffers (links : List Link) (labels : List ℕ) (offers : List Offer) : Type 0 where
   pub ascending : AreOffers offers
   pub exact : (c i : ℕ) → Contains offers (c, i) ↔ IsLightOffer links labels c i
+
+-- the offer's place is one of the list, and the link there leaves the offer's label
+pub record OffersLeaving (links : List Link) (labels : List ℕ) (offer : Offer) : Type 0 where
+  pub within : offer.1 < length links
+  pub leaves : (l : Link) → slice_index_or links offer.1 l ≡ l → Leaves labels l offer.0
 
 -- a shard, and the offers that were heard of it
 pub record Hearing : Type 0 where

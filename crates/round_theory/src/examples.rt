@@ -1,6 +1,6 @@
 //! Each law applied to a triangle, whose three links weigh the same.
 
-ghost use Rattle.round_theory.specs.Examples.{OneLinkJoinsItsEnds, TwoSidesAreForest, LesserEndsAreInForest, OneRoundSuffices, OneRoundTakesForest, LeastOfBothShards, OneLinkMore, HeavierOffersCloseNoCircle};
+ghost use Rattle.round_theory.specs.Examples.{OneLinkJoinsItsEnds, TwoSidesAreForest, LesserEndsAreInForest, OneRoundSuffices, OneRoundTakesForest, LeastOfBothShards, OneLinkMore, HeavierOffersCloseNoCycle, EachLabelsItself, LesserOfBothParts, OneListOfOffers, EachOfferLeaves};
 
 use crate::laws;
 
@@ -50,9 +50,31 @@ pub fn second_link()
     laws::joining_by_steps();
 }
 
-/// Offers that hide a link make picks that close no circle.
+/// Offers that hide a link make picks that close no cycle.
 pub fn heavier_offers()
-    ensures { HeavierOffersCloseNoCircle }
+    ensures { HeavierOffersCloseNoCycle }
 {
-    laws::picks_close_no_circle();
+    laws::picks_close_no_cycle();
+}
+
+/// The labelling by no links labels each vertex by itself.
+pub fn no_links()
+    ensures { EachLabelsItself }
+{
+    laws::one_labelling();
+}
+
+/// The least of the triangle that leaves a vertex, by those of its two parts.
+pub fn two_parts()
+    ensures { LesserOfBothParts }
+{
+    laws::least_of_both();
+}
+
+/// The light offers of a part are one list, and each of them leaves its vertex.
+pub fn offers_of_a_part()
+    ensures one { OneListOfOffers }
+    ensures leave { EachOfferLeaves }
+{
+    laws::one_list_of_light_offers();
 }

@@ -1,6 +1,6 @@
 //! The laws: each is the contract of a function that does nothing.
 
-ghost use Rattle.round_theory.specs.Laws.{SetHasLabelling, LabellingIsUnique, OneLabelWhereJoined, LabellingIsLabels, SpansWhereNoneLeaves, ForestHasNoCircle, ForestSpans, SpanningPartIsForest, LeastLeavingExists, LeastLeavingIsInForest, RoundsAreInForest, RoundsAreFinite, RoundsOfSameLinks, RoundByRound, AddsNothingWhereNoneLeaves, OneNumberOfRounds, ForestFromThenOn, RoundsAtMostLogarithm, MergingRoundIsInTime, LightOffersSuffice, AnyCutAnyOrder, OrderOfHearingIsFree, LeavesBothEnds, JoinedBySteps, RelabelledBySteps, RelabellingIsUnique, RelabellingIsLabels, PicksAreNew, PickedFromBothSides, PicksCloseNoCircle};
+ghost use Rattle.round_theory.specs.Laws.{SetHasLabelling, LabellingIsUnique, OneLabelWhereJoined, LabellingIsLabels, ApartByNoLinks, SpansWhereNoneLeaves, ForestHasNoCycle, ForestSpans, SpanningPartIsForest, LeastLeavingExists, LeastLeavingIsInForest, RoundsAreInForest, RoundsAreFinite, RoundsOfSameLinks, RoundByRound, AddsNothingWhereNoneLeaves, OneNumberOfRounds, ForestFromThenOn, RoundsAtMostLogarithm, MergingRoundIsInTime, LightOffersSuffice, AnyCutAnyOrder, OrderOfHearingIsFree, LeavesBothEnds, JoinedBySteps, RelabelledBySteps, RelabellingIsUnique, RelabellingIsLabels, OfEachSet, PicksAreNew, PickedFromBothSides, PicksCloseNoCycle, OfEachUnion, UnionHasBoth, LeastOfBoth, LeastOfFirst, LeastOfSecond, LightOffersExist, LightOffersAreUnique, LightOffersLeave};
 
 /// A set of links has exactly one labelling of the vertices 1 to n.
 pub fn one_labelling()
@@ -8,12 +8,13 @@ pub fn one_labelling()
     ensures unique { LabellingIsUnique }
     ensures joined { OneLabelWhereJoined }
     ensures labels { LabellingIsLabels }
+    ensures apart { ApartByNoLinks }
     ensures spans { SpansWhereNoneLeaves }
 {}
 
-/// The forest of a list has no circle and spans the list, and no other part of it spans the list.
+/// The forest of a list has no cycle and spans the list, and no other part of it spans the list.
 pub fn forest_spans()
-    ensures no_circle { ForestHasNoCircle }
+    ensures no_cycle { ForestHasNoCycle }
     ensures spans { ForestSpans }
     ensures only { SpanningPartIsForest }
 {}
@@ -58,9 +59,25 @@ pub fn joining_by_steps()
     ensures labels { RelabellingIsLabels }
 {}
 
-/// Whatever is offered, light or not, the picks are new links and close no circle.
-pub fn picks_close_no_circle()
-    ensures new { PicksAreNew }
-    ensures both_sides { PickedFromBothSides }
-    ensures no_circle { PicksCloseNoCircle }
+/// Whatever is offered, light or not, the picks are new links and close no cycle.
+pub fn picks_close_no_cycle()
+    ensures new { OfEachSet PicksAreNew }
+    ensures both_sides { OfEachSet PickedFromBothSides }
+    ensures no_cycle { OfEachSet PicksCloseNoCycle }
+{}
+
+/// The least link of two sets together that leaves a component is the lesser of the two sets' leasts.
+pub fn least_of_both()
+    ensures union { OfEachUnion UnionHasBoth }
+    ensures lesser { OfEachUnion LeastOfBoth }
+    ensures first { OfEachUnion LeastOfFirst }
+    ensures second { OfEachUnion LeastOfSecond }
+{}
+
+/// A list of links has exactly one list of light offers under given labels, and each of them names a link that leaves
+/// its component.
+pub fn one_list_of_light_offers()
+    ensures exists { LightOffersExist }
+    ensures unique { LightOffersAreUnique }
+    ensures leave { LightOffersLeave }
 {}

@@ -14,6 +14,7 @@ ghost use Rattle.round_theory.specs.Labelling.{IsLabelling};
 ghost use Rattle.round_theory.specs.Offers.{Leaves, IsPick, IsLightOffer, AreLightOffers};
 ghost use Rattle.round_theory.specs.Rounds.{AreRoundPicks, TakenAfter, IsMergingRounds};
 
+use limits::MAX_VERTICES;
 use link_key::Link;
 use std::alloc::{AllocError, Allocator};
 
@@ -23,7 +24,7 @@ pub fn labelling<A: Allocator + Copy>(
     n: u32,
     taken: &[Link],
 ) -> Result<Vec<u32, A>, AllocError>
-    requires few_vertices { n ≤ 2 ^ 26 }
+    requires few_vertices { n ≤ MAX_VERTICES }
     requires ends { EndsUpTo n taken.now }
     ensures labelling { IfOk result (λ labels. IsLabelling n (Contains taken.now) labels.items) }
     ensures labels { IfOk result (λ labels. AreLabels labels.items) }
@@ -39,7 +40,7 @@ pub fn labelling<A: Allocator + Copy>(
 
 // A label for each vertex: itself.
 fn own_labels<A: Allocator + Copy>(alloc: A, n: u32) -> Result<Vec<u32, A>, AllocError>
-    requires { n ≤ 2 ^ 26 }
+    requires { n ≤ MAX_VERTICES }
     ensures each_vertex { IfOk result (λ labels. length labels.items ≡ n) }
     ensures own { IfOk result (λ labels. EachIndex labels.items (λ k. slice_index labels.items k ≡ k + 1)) }
 {
@@ -146,7 +147,7 @@ pub fn round_picks<A: Allocator + Copy>(
     links: &[Link],
     taken: &[Link],
 ) -> Result<Vec<Link, A>, AllocError>
-    requires few_vertices { n ≤ 2 ^ 26 }
+    requires few_vertices { n ≤ MAX_VERTICES }
     requires ends { EndsUpTo n links.now }
     requires taken_ends { EndsUpTo n taken.now }
     ensures picks { IfOk result (λ added. AreRoundPicks n links.now taken.now added.items) }
@@ -163,7 +164,7 @@ pub fn taken_after<A: Allocator + Copy>(
     links: &[Link],
     rounds: u32,
 ) -> Result<Vec<Link, A>, AllocError>
-    requires few_vertices { n ≤ 2 ^ 26 }
+    requires few_vertices { n ≤ MAX_VERTICES }
     requires ends { EndsUpTo n links.now }
     ensures taken { IfOk result (λ taken. SameLinks (Contains taken.items) (TakenAfter n links.now rounds)) }
     ensures each_once { IfOk result (λ taken. AllPairs (λ l m. l ≢ m) taken.items) }
@@ -182,7 +183,7 @@ pub fn merging_rounds<A: Allocator + Copy>(
     n: u32,
     links: &[Link],
 ) -> Result<u32, AllocError>
-    requires few_vertices { n ≤ 2 ^ 26 }
+    requires few_vertices { n ≤ MAX_VERTICES }
     requires ends { EndsUpTo n links.now }
     ensures rounds { IfOk result (IsMergingRounds n links.now) }
 {

@@ -1,4 +1,4 @@
--- Sets of links without a circle.
+-- Sets of links without a cycle.
 use Rattle.std.proofs.Common.{◌≡◌, ◌≢◌, ℕ, zero, suc, ◌≤◌, ◌⊎◌, List, [], ◌∷◌, length, Contains, sym, ◌∙◌, subst, inl, inr, arith}
 use Rattle.std.proofs.lemmas.List.Elements.{All-from_recursion, recursion_from_All, All-contains, All-contains_itself}
 use Rattle.link_key.specs.declared.links.Link.{Link}
@@ -7,7 +7,7 @@ use Rattle.link_key.specs.Walk.{Joins}
 use Rattle.link_key.proofs.Members.{contains_cases, contains_head, contains_tail, contains_none}
 use Rattle.link_key.proofs.Keys.{link_dec}
 use Rattle.link_key.proofs.Walks.{WithLink, joins_link, joins_symm, joins_trans, joins_more, joins_one_more}
-use Rattle.round_theory.specs.LinkSet.{LinkSet, Either, Without, IsPartOf, HasNoCircle}
+use Rattle.round_theory.specs.LinkSet.{LinkSet, Either, Without, IsPartOf, HasNoCycle}
 use Rattle.round_theory.proofs.Lists.{greatest_of, part_in}
 
 -- the links of a walk that joins two vertices
@@ -23,16 +23,16 @@ walked S u v (walk, all, leads) = record {
   joined = (walk, recursion_from_All (Contains walk) walk (All-contains_itself walk), leads);
 }
 
--- a part of a set without a circle has none
-pub no_circle_part : (S T : LinkSet) → IsPartOf S T → HasNoCircle T → HasNoCircle S
-no_circle_part S T part none l is_in joined =
+-- a part of a set without a cycle has none
+pub no_cycle_part : (S T : LinkSet) → IsPartOf S T → HasNoCycle T → HasNoCycle S
+no_cycle_part S T part none l is_in joined =
     none l (part l is_in) (joins_more (Without S l) (Without T l) (λ m within. (part m within.0, within.1)) l.low l.high joined)
 
--- One more link whose ends the set doesn't join leaves it without a circle. The link itself closes none. If
+-- One more link whose ends the set doesn't join leaves it without a cycle. The link itself closes none. If
 -- another link's ends are joined by the rest, then by a walk that takes the new link, and this walk and the
 -- other link join the new link's ends.
-pub no_circle_one_more : (S : LinkSet) (l : Link) → HasNoCircle S → ¬ (Joins S l.low l.high) → HasNoCircle (WithLink S l)
-no_circle_one_more S l none apart m is_in joined = elim (link_dec m l) [
+pub no_cycle_one_more : (S : LinkSet) (l : Link) → HasNoCycle S → ¬ (Joins S l.low l.high) → HasNoCycle (WithLink S l)
+no_cycle_one_more S l none apart m is_in joined = elim (link_dec m l) [
   | inl is ↦ apart (subst (λ (k : Link). Joins S k.low k.high) is (joins_more (Without (WithLink S l) m) S (of_old is) m.low m.high joined))
   | inr other ↦ closes (old other is_in) ((joins_one_more (Without S m) l m.low m.high).0 (joins_more (Without (WithLink S l) m) (WithLink (Without S m) l) new m.low m.high joined))
 ]
@@ -63,31 +63,31 @@ abbrev pub Ascends : LinkSet → LinkSet → Type 0
 Ascends S P = (m : Link) → P m → (Q : List Link) → ((q : Link) → Contains Q q → P q × IsBelow q m) → ¬ (Joins (Either S (Contains Q)) m.low m.high)
 
 -- the same for finitely many links of P: take the greatest one last
-no_circle_list : (S P : LinkSet) → HasNoCircle S → Ascends S P → (fuel : ℕ) (Q : List Link) → length Q ≤ fuel → ((q : Link) → Contains Q q → P q) → HasNoCircle (Either S (Contains Q))
-no_circle_list S P none ascends fuel [] small each = no_circle_part (Either S (Contains [])) S old none
+no_cycle_list : (S P : LinkSet) → HasNoCycle S → Ascends S P → (fuel : ℕ) (Q : List Link) → length Q ≤ fuel → ((q : Link) → Contains Q q → P q) → HasNoCycle (Either S (Contains Q))
+no_cycle_list S P none ascends fuel [] small each = no_cycle_part (Either S (Contains [])) S old none
   where
     old : (k : Link) → Either S (Contains []) k → S k
     old k (inl in_S) = in_S
     old k (inr in_Q) = absurd (contains_none k in_Q)
-no_circle_list S P none ascends zero (q ∷ Q) small each = absurd (omega arith)
-no_circle_list S P none ascends (suc fuel) (q ∷ Q) small each =
+no_cycle_list S P none ascends zero (q ∷ Q) small each = absurd (omega arith)
+no_cycle_list S P none ascends (suc fuel) (q ∷ Q) small each =
     let top = greatest_of q Q in
     let fewer : length top.others ≤ fuel = omega (arith, top.shorter) in
-    no_circle_part (Either S (Contains (q ∷ Q))) (WithLink (Either S (Contains top.others)) top.greatest)
+    no_cycle_part (Either S (Contains (q ∷ Q))) (WithLink (Either S (Contains top.others)) top.greatest)
     (λ k k_in. elim k_in [
       | inl in_S ↦ inl (inl in_S)
       | inr in_Q ↦ elim (top.rest k in_Q) [ inl is ↦ inr is | inr in_others ↦ inl (inr in_others) ]
     ])
-    (no_circle_one_more (Either S (Contains top.others)) top.greatest
-    (no_circle_list S P none ascends fuel top.others fewer (λ k k_in. each k (top.below k k_in).0))
+    (no_cycle_one_more (Either S (Contains top.others)) top.greatest
+    (no_cycle_list S P none ascends fuel top.others fewer (λ k k_in. each k (top.below k k_in).0))
     (ascends top.greatest (each top.greatest top.member) top.others (λ k k_in. (each k (top.below k k_in).0, (top.below k k_in).1))))
 
--- A set without a circle stays without one when links are added that, taken in the order of their keys, never
--- find their ends joined. A circle has finitely many of the added links, so it would stand among those.
-pub no_circle_either : (S P : LinkSet) → HasNoCircle S → Ascends S P → HasNoCircle (Either S P)
-no_circle_either S P none ascends l is_in joined =
+-- A set without a cycle stays without one when links are added that, taken in the order of their keys, never
+-- find their ends joined. A cycle has finitely many of the added links, so it would stand among those.
+pub no_cycle_either : (S P : LinkSet) → HasNoCycle S → Ascends S P → HasNoCycle (Either S P)
+no_cycle_either S P none ascends l is_in joined =
     let around = walked (Without (Either S P) l) l.low l.high joined in
     let links = l ∷ around.walk in
     let some = part_in S P links (λ m m_in. elim (contains_cases l m around.walk m_in) [ inl is ↦ subst (Either S P) (sym is) is_in | inr in_walk ↦ (around.within m in_walk).0 ]) in
-    no_circle_list S P none ascends (length some.part) some.part (omega arith) some.within l (some.covers l (contains_head l around.walk))
+    no_cycle_list S P none ascends (length some.part) some.part (omega arith) some.within l (some.covers l (contains_head l around.walk))
     (joins_more (Contains around.walk) (Without (Either S (Contains some.part)) l) (λ m m_in. (some.covers m (contains_tail l m around.walk m_in), (around.within m m_in).1)) l.low l.high around.joined)
