@@ -1,0 +1,7 @@
+//! Worked examples of the product, each a test that needs public calls alone.
+#![tactic(auto)]
+
+#[cfg(test)]
+mod cuts;
+#[cfg(test)]
+mod rounds;
