@@ -9,3 +9,4 @@ pub mod OneForest
 pub mod Apart
 pub mod Rings
 pub mod WideKeys
+pub mod Spans

@@ -6,3 +6,4 @@ pub mod Labels
 pub mod Offers
 pub mod Components
 pub mod WideKey
+pub mod Cut

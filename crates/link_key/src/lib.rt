@@ -24,6 +24,7 @@
 #![tactic(auto)]
 
 mod components;
+pub mod cuts;
 pub mod forests;
 pub mod labellings;
 pub mod laws;
@@ -32,6 +33,7 @@ pub mod offered;
 pub mod plain;
 pub mod shards;
 
+pub use cuts::{check_even, check_places, Cut, CutFault};
 pub use forests::Forest;
 pub use labellings::Labels;
 pub use links::Link;

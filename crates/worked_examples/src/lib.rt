@@ -26,6 +26,8 @@
 #[cfg(test)]
 mod board;
 #[cfg(test)]
+mod cuts;
+#[cfg(test)]
 mod drawn_lists;
 #[cfg(test)]
 mod failing_devices;
@@ -51,6 +53,8 @@ mod plain_runs;
 mod reading;
 #[cfg(test)]
 mod refusals;
+#[cfg(test)]
+mod rounds;
 #[cfg(test)]
 mod shard_sets;
 #[cfg(test)]

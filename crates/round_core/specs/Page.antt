@@ -1,0 +1,94 @@
+-- A round's book, as contracts see it.
+use Rattle.std.specs.Prelude.{◌≡◌, ℕ, ◌+◌, ◌<◌, ◌≤◌, ◌==◌, Bool, true, false, not, cond, List, [], ◌∷◌, ◌++◌, length, map, replicate, All, Option, Some, None, slice_get, slice_index_or, slice_set, count_by, flat_map, if◌then◌else◌}
+use Rattle.std.specs.List.{list_all}
+use Rattle.std.specs.Option.{option_map_or, option_to_list}
+use Rattle.limits.specs.declared.TheConstants.{MAX_SHARDS}
+use Rattle.link_key.specs.declared.links.Link.{Link}
+use Rattle.link_key.specs.Link.{EndsUpTo}
+use Rattle.link_key.specs.Labels.{label_of, AreLabels}
+use Rattle.link_key.specs.Offers.{Offer}
+use Rattle.link_key.specs.Cut.{links_at}
+use Rattle.frames.specs.AnswerValue.{AnswerValue}
+use Rattle.round_theory.specs.Offers.{Hearing, AreLightOffers}
+use Rattle.round_core.specs.Picks.{AreNoPicks}
+use Rattle.round_core.specs.declared.refusals.Refusal.{Refusal}
+use Rattle.round_core.specs.declared.refusals.Refusal.TheVariants.{Stale, Stranger, Double, NotALink}
+
+-- the round, the cut and the labels that are asked about, which shards were taken, and the answers taken, in order
+pub record Page : Type 0 where
+  pub round : ℕ
+  pub cut : List (List Link)
+  pub labels : List ℕ
+  pub taken : List Bool
+  pub answers : List AnswerValue
+
+-- no answer is taken yet
+abbrev pub opened : ℕ → List (List Link) → List ℕ → Page
+opened round cut labels = record { round = round; cut = cut; labels = labels; taken = replicate (length cut) false; answers = [] }
+
+-- whether an answer for the shard was taken
+abbrev pub is_taken : Page → ℕ → Bool
+is_taken p s = slice_index_or p.taken s true
+
+-- how many shards are missing
+abbrev pub missing : Page → ℕ
+missing p = count_by not p.taken
+
+-- whether exactly one end of the link has the label c
+abbrev pub is_leaving : List ℕ → ℕ → Link → Bool
+is_leaving labels c l = cond (label_of labels l.low == c) (not (label_of labels l.high == c)) (label_of labels l.high == c)
+
+-- whether the offer names a link of the list that leaves its component
+abbrev pub is_offer : List Link → List ℕ → Offer → Bool
+is_offer links labels o = option_map_or (is_leaving labels o.0) (slice_get links o.1) false
+
+-- why an answer to an ask for the shard is refused
+abbrev pub refusal : Page → ℕ → AnswerValue → Option Refusal
+refusal p s a =
+    if a.round == p.round then (if a.shard == s then (if is_taken p s then Some Double
+    else (if list_all (is_offer (links_at p.cut s) p.labels) a.offers then None else Some NotALink))
+    else Some Stranger) else Some Stale
+
+-- the book once an answer is taken
+abbrev pub heard : Page → AnswerValue → Page
+heard p a = record { round = p.round; cut = p.cut; labels = p.labels; taken = slice_set p.taken a.shard true; answers = p.answers ++ a ∷ [] }
+
+-- an answer beside the links of its shard
+abbrev pub hearing_of : List (List Link) → AnswerValue → Hearing
+hearing_of cut a = record { shard = links_at cut a.shard; offers = a.offers }
+
+-- what was heard of the shards
+abbrev pub hearings : Page → List Hearing
+hearings p = map (hearing_of p.cut) p.answers
+
+-- the answer is one of this round for a shard of the cut, and each of its offers names a link that leaves its component
+pub record IsRight (round : ℕ) (cut : List (List Link)) (labels : List ℕ) (a : AnswerValue) : Type 0 where
+  pub round_is : a.round ≡ round
+  pub within : a.shard < length cut
+  pub offers : list_all (is_offer (links_at cut a.shard) labels) a.offers ≡ true
+
+-- what holds of each book
+pub record IsPage (p : Page) : Type 0 where
+  pub labels : AreLabels p.labels
+  pub ends : All (EndsUpTo (length p.labels)) p.cut
+  pub few : length p.cut ≤ MAX_SHARDS
+  pub each_shard : length p.taken ≡ length p.cut
+  pub counted : missing p + length p.answers ≡ length p.cut
+  pub right : All (IsRight p.round p.cut p.labels) p.answers
+
+-- a book whose memory has room for an answer of each shard and a pick of each label
+pub record IsBook (p : Page) (room : ℕ) (best : List (Option Link)) : Type 0 where
+  pub page : IsPage p
+  pub room_for_answers : length p.cut ≤ room
+  pub room_for_picks : length best ≡ length p.labels
+  pub no_picks : AreNoPicks best
+
+-- the links of a shard that its offers name, in their order
+abbrev pub named_links : List Link → List Offer → List Link
+named_links links offers = flat_map (λ (o : Offer). option_to_list (slice_get links o.1)) offers
+
+-- the light offers of a shard that is missing, told of this round and for that shard, are no answer to refuse
+abbrev pub LightOffersAreTaken : Type 0
+LightOffersAreTaken =
+    (p : Page) (s : ℕ) (a : AnswerValue) → is_taken p s ≡ false → a.round ≡ p.round → a.shard ≡ s
+    → AreLightOffers (links_at p.cut s) p.labels a.offers → refusal p s a ≡ None

@@ -1,0 +1,219 @@
+ghost use Rattle.std.specs.Prelude.{◌≡◌, ◌≢◌, ℕ, List, ◌+◌, ◌-◌, ◌<◌, ◌≤◌, [], ◌∷◌, ◌++◌, length, All, Some, None, not, OnOk, OnErr, IfOk, IfErr, Contains, true};
+ghost use Rattle.std.specs.List.{list_all};
+ghost use Rattle.link_key.specs.declared.links.Link.{Link as TheLink};
+ghost use Rattle.link_key.specs.Link.{EndsUpTo};
+ghost use Rattle.link_key.specs.Labels.{AreLabels};
+ghost use Rattle.round_theory.specs.Offers.{IsNamed};
+ghost use Rattle.round_core.specs.Page.{Page, opened, is_taken, missing, is_leaving, is_offer, refusal, heard, hearings, named_links};
+ghost use Rattle.round_core.specs.Picks.{ArePicks, AreNoPicks};
+
+use crate::picks::{count, Picks};
+use crate::refusals::Refusal;
+use frames::Answer;
+use limits::MAX_SHARDS;
+use link_key::{Cut, Labels, Link};
+use std::alloc::{AllocError, Allocator, Global};
+use std::marker::Model;
+
+/// The book of a round: what was asked, and the answers taken so far, one for each shard of the cut.
+///
+/// It believes no answer: what isn't of this round, for a shard that is missing, or offers what is no outgoing link is
+/// refused. It keeps the answers that it takes. Its own memory is 17 bytes a shard or more and 16 bytes a vertex, all
+/// of it got when it is opened.
+#[derive(Drop)]
+pub struct RoundBook<'a, A: Allocator = Global> {
+    round: u32,
+    cut: &'a Cut<'a, A>,
+    labels: &'a Labels<A>,
+    taken: Vec<bool, A>,
+    answers: Vec<Answer<A>, A>,
+    best: Vec<Option<Link>, A>,
+}
+
+impl<'a, A: Allocator> Model for RoundBook<'a, A> {
+    ghost use Rattle.round_core.specs.Page.{Page, IsBook};
+    ghost use Rattle.std.specs.Prelude.{vec_capacity};
+
+    ghost Value = { Page };
+
+    ghost view = { λ s. record { round = s.round; cut = s.cut.now; labels = s.labels.now; taken = s.taken.items; answers = s.answers.items } };
+
+    ghost invariant = { λ s. IsBook (record { round = s.round; cut = s.cut.now; labels = s.labels.now; taken = s.taken.items; answers = s.answers.items }) (vec_capacity s.answers) s.best.items };
+}
+
+impl<'a, A: Allocator + Copy> RoundBook<'a, A> {
+    /// A book for the round of this number, with no answer yet. The only error is want of memory.
+    pub fn open(
+        alloc: A,
+        round: u32,
+        cut: &'a Cut<'a, A>,
+        labels: &'a Labels<A>,
+    ) -> Result<Self, AllocError>
+        requires ends { All (EndsUpTo (length labels.now)) cut.now }
+        ensures opened { IfOk result (λ book. book ≡ opened round cut.now labels.now) }
+    {
+        let shards = cut.len() as usize;
+        let taken = vec![in alloc; false; shards]?;
+        let answers = Vec::with_capacity(alloc, shards)?;
+        let best = none_yet(alloc, labels.n())?;
+        Ok(RoundBook {
+            round,
+            cut,
+            labels,
+            taken,
+            answers,
+            best,
+        })
+    }
+}
+
+impl<'a, A: Allocator> RoundBook<'a, A> {
+    /// The number of the round.
+    pub fn round(&self) -> u32
+        ensures { result ≡ self.now.round }
+    {
+        self.round
+    }
+
+    /// The number of shards of the cut.
+    pub fn len(&self) -> u32
+        ensures shards { result ≡ length self.now.cut }
+        ensures each { length self.now.taken ≡ length self.now.cut }
+        ensures few { result ≤ MAX_SHARDS }
+    {
+        self.taken.len() as u32
+    }
+
+    /// Whether no answer for the shard was taken yet.
+    pub fn is_missing(&self, shard: u32) -> bool
+        requires { shard < length self.now.cut }
+        ensures { result ≡ not (is_taken self.now shard) }
+    {
+        !self.taken[shard as usize]
+    }
+
+    /// How many shards have no answer yet.
+    pub fn missing(&self) -> usize
+        ensures { result ≡ missing self.now }
+    {
+        self.taken.len() - self.answers.len()
+    }
+
+    /// Whether an answer to an ask for the shard would be taken, else why it is refused. It looks at each offer once.
+    pub fn judge(&self, shard: u32, answer: &Answer<A>) -> Result<(), Refusal>
+        requires { shard < length self.now.cut }
+        ensures allowed { OnOk result (refusal self.now shard answer.now ≡ None) }
+        ensures refused { IfErr result (λ cause. refusal self.now shard answer.now ≡ Some cause) }
+    {
+        if answer.round != self.round {
+            return Err(Refusal::Stale);
+        }
+        if answer.shard != shard {
+            return Err(Refusal::Stranger);
+        }
+        if self.taken[shard as usize] {
+            return Err(Refusal::Double);
+        }
+        let links = self.cut.shard(shard).links;
+        if !are_offers(links, self.labels.as_slice(), answer.offers.pairs()) {
+            return Err(Refusal::NotALink);
+        }
+        Ok(())
+    }
+
+    /// Takes an answer to an ask for the shard; it is refused just where `judge` refuses it, and dropped, and the book
+    /// stays as it was. It takes no memory.
+    pub fn take(&mut self, shard: u32, answer: Answer<A>) -> Result<(), Refusal>
+        requires { shard < length self.old.cut }
+        ensures allowed { OnOk result (refusal self.old shard answer ≡ None) }
+        ensures refused { IfErr result (λ cause. refusal self.old shard answer ≡ Some cause) }
+        ensures took { OnOk result (self.new ≡ heard self.old answer) }
+        ensures same { OnErr result (self.new ≡ self.old) }
+    {
+        self.judge(shard, &answer)?;
+        self.taken[shard as usize] = true;
+        self.answers.push_reserved(answer);
+        Ok(())
+    }
+
+    /// The picks of the round, once each shard has an answer: for each label the least link that leaves it among all
+    /// links offered. It looks at each offer once, and takes no memory.
+    pub fn close(self) -> Picks<A>
+        requires { missing self ≡ 0 }
+        ensures picks { ArePicks self.entry.labels (IsNamed (hearings self.entry)) result }
+    {
+        let RoundBook {
+            round: _,
+            cut,
+            labels,
+            taken: _,
+            answers,
+            mut best,
+        } = self;
+        for answer in &answers {
+            let links = cut.shard(answer.shard).links;
+            count_all(&mut best, labels.as_slice(), links, answer.offers.pairs());
+        }
+        Picks { best }
+    }
+}
+
+// No pick for each of n labels.
+fn none_yet<A: Allocator + Copy>(alloc: A, n: u32) -> Result<Vec<Option<Link>, A>, AllocError>
+    ensures each_vertex { IfOk result (λ best. length best.items ≡ n) }
+    ensures none { IfOk result (λ best. AreNoPicks best.items) }
+{
+    let mut best = Vec::with_capacity(alloc, n as usize)?;
+    for _ in 0..n {
+        best.push(None)?;
+    }
+    Ok(best)
+}
+
+// Whether each pair is the place of a link with exactly one end under the label.
+fn are_offers(links: &[Link], labels: &[u32], pairs: &[(u32, u32)]) -> bool
+    requires labels { AreLabels labels.now }
+    requires ends { EndsUpTo (length labels.now) links.now }
+    ensures { result ≡ list_all (is_offer links.now labels.now) pairs.now }
+{
+    for pair in pairs {
+        if !is_offered(links, labels, *pair) {
+            return false;
+        }
+    }
+    true
+}
+
+// Whether the pair is the place of a link with exactly one end under the label.
+#[inline]
+fn is_offered(links: &[Link], labels: &[u32], pair: (u32, u32)) -> bool
+    requires labels { AreLabels labels.now }
+    requires ends { EndsUpTo (length labels.now) links.now }
+    ensures { result ≡ is_offer links.now labels.now pair }
+{
+    let place = pair.1 as usize;
+    place < links.len() && leaves(labels, links[place], pair.0)
+}
+
+// Whether exactly one end of the link has the label.
+#[inline]
+fn leaves(labels: &[u32], link: Link, label: u32) -> bool
+    requires ends { link.high ≤ length labels.now }
+    ensures { result ≡ is_leaving labels.now label link }
+{
+    (labels[link.low as usize - 1] == label) != (labels[link.high as usize - 1] == label)
+}
+
+// Counts each offered link of a shard for both of its components.
+fn count_all(best: &mut [Option<Link>], labels: &[u32], links: &[Link], pairs: &[(u32, u32)])
+    requires labels { AreLabels labels.now }
+    requires ends { EndsUpTo (length labels.now) links.now }
+    requires each_vertex { length best.old ≡ length labels.now }
+    requires offers { list_all (is_offer links.now labels.now) pairs.now ≡ true }
+    ensures { (seen : List TheLink) → ArePicks labels.now (Contains seen) best.old
+        → ArePicks labels.now (Contains (seen ++ named_links links.now pairs.now)) best.new }
+{
+    for (_, place) in pairs {
+        count(best, labels, links[*place as usize]);
+    }
+}

@@ -1,0 +1,86 @@
+//! Lists of links cut into shards.
+ghost use Rattle.std.specs.Prelude.{◌≤◌, ◌^◌, length, IfOk};
+
+use link_key::{check_even, check_places, Cut, CutFault, Link};
+use std::alloc::{AllocError, Global};
+use std::process::Abort;
+use std::test::Fail;
+
+// The path of so many links, each of weight 1.
+fn path(rt: &impl Abort, alloc: Global, links: u32) -> Result<Vec<Link>, AllocError> {
+    assert!(rt; links < 1 << 20);
+    let mut path = Vec::new(alloc);
+    for v in 1..links + 1 {
+        if let Some(link) = Link::of_arc(v, v + 1, 1) {
+            path.push(link)?;
+        }
+    }
+    Ok(path)
+}
+
+// The sizes of a cut's shards; each shard has its number, and joined together they are the links.
+fn sizes(rt: &impl Abort, alloc: Global, cut: &Cut, links: &[Link]) -> Result<Vec<usize>, AllocError> {
+    let mut sizes = Vec::new(alloc);
+    let mut joined = Vec::new(alloc);
+    for number in 0..cut.len() {
+        let shard = cut.shard(number);
+        assert_eq!(rt; shard.number, number);
+        sizes.push(shard.links.len())?;
+        joined.extend_from_slice(shard.links)?;
+    }
+    assert_eq!(rt; joined.as_slice(), links);
+    Ok(sizes)
+}
+
+#[test]
+fn even_shards(rt: HostRuntime) -> Result<(), Fail> {
+    let alloc = rt.alloc();
+    let links = path(&rt, alloc, 8)?;
+    assert!(rt; links.len() <= 1 << 30);
+    let cut = Cut::even(alloc, links.as_slice(), 3).expect(&rt, "a cut");
+    let sizes_of_cut = sizes(&rt, alloc, &cut, links.as_slice())?;
+    assert_eq!(rt; sizes_of_cut.as_slice(), [2, 3, 3].as_slice());
+    let none = Cut::even(alloc, &[], 4).expect(&rt, "a cut");
+    let sizes_of_none = sizes(&rt, alloc, &none, &[])?;
+    assert_eq!(rt; sizes_of_none.as_slice(), [0, 0, 0, 0].as_slice());
+    Ok(())
+}
+
+#[test]
+fn shards_at_places(rt: HostRuntime) -> Result<(), Fail> {
+    let alloc = rt.alloc();
+    let links = path(&rt, alloc, 8)?;
+    assert!(rt; links.len() <= 1 << 30);
+    let cut = Cut::at(alloc, links.as_slice(), &[2, 2, 8]).expect(&rt, "a cut");
+    let sizes_of_cut = sizes(&rt, alloc, &cut, links.as_slice())?;
+    assert_eq!(rt; sizes_of_cut.as_slice(), [2, 0, 6, 0].as_slice());
+    Ok(())
+}
+
+#[test]
+fn refused_cuts(rt: HostRuntime) -> Result<(), Fail> {
+    let alloc = rt.alloc();
+    let links = path(&rt, alloc, 8)?;
+    assert!(rt; links.len() <= 1 << 30);
+    let links = links.as_slice();
+    assert_eq!(rt; Cut::at(alloc, links, &[3, 2]).err(), Some(CutFault::BadPlaces));
+    assert_eq!(rt; Cut::even(alloc, links, 0).err(), Some(CutFault::NoShards));
+    assert_eq!(rt; Cut::even(alloc, links, 4097).err(), Some(CutFault::TooManyShards));
+    assert_eq!(rt; check_even(16777217, 1), Err(CutFault::ShardTooLarge));
+    assert_eq!(rt; check_even(16777217, 2), Ok(()));
+    assert_eq!(rt; check_places(8, &[9]), Err(CutFault::BadPlaces));
+    assert_eq!(rt; check_places(8, &[8]), Ok(()));
+    Ok(())
+}
+
+#[test]
+fn as_many_shards_as_there_may_be(rt: HostRuntime) -> Result<(), Fail> {
+    let alloc = rt.alloc();
+    let links = path(&rt, alloc, 10000)?;
+    assert!(rt; links.len() <= 1 << 30);
+    let cut = Cut::even(alloc, links.as_slice(), 4096).expect(&rt, "a cut");
+    let sizes_of_cut = sizes(&rt, alloc, &cut, links.as_slice())?;
+    assert_eq!(rt; sizes_of_cut.len(), 4096);
+    assert!(rt; sizes_of_cut.iter().all(|size| *size == 2 || *size == 3));
+    Ok(())
+}

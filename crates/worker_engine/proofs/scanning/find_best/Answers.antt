@@ -1,0 +1,38 @@
+use Rattle.std.proofs.Common.{◌≡◌, ◌≢◌, ◌-◌, get_or, set, take, None, refl, sym, subst, arith}
+use Rattle.std.proofs.lemmas.List.{get_or-set_other}
+use Rattle.link_key.specs.Labels.{label_of}
+use Rattle.round_theory.proofs.Leaving.{leaves_low, leaves_high}
+use Rattle.round_theory.proofs.OfferSteps.{left_label_is_vertex}
+use Rattle.worker_engine.specs.Scanning.{IsBest, AreBest}
+use Rattle.worker_engine.proofs.Scans.{bests_stay, bests_change, end_at}
+use Rattle.worker_engine.proofs.scanning.find_best.Goals as goal
+use Rattle.worker_engine.proofs.scanning.find_best.Goals.{then-low-high, else-low-high}
+
+pub loop-place-preserved : goal.loop-place-preserved
+loop-place-preserved c =
+    let links = c.args.links.now in
+    let labels = c.args.labels.now in
+    let place = c.loop-place.place in
+    let table = c.loop-place.table in
+    let l = c.index-links-place.result in
+    let read = c.index-links-place.is in
+    let within = c.loop-place-test.true in
+    let are = c.loop-place.invariant in
+    elim c.if-low-high.branch [
+      | then-low-high w ↦
+          let low = label_of labels l.low in
+          let high = label_of labels l.high in
+          let apart : low ≢ high = w.if-low-high.true in
+          let ends = end_at _ links place l c.requires.ends within read in
+          let leaves_at_low = leaves_low labels l apart in
+          let leaves_at_high = leaves_high labels l apart in
+          let low_vertex = left_label_is_vertex labels l low c.requires.labels ends leaves_at_low in
+          let high_vertex = left_label_is_vertex labels l high c.requires.labels ends leaves_at_high in
+          let other = get_or-set_other table (low - 1) (high - 1) w.better.result None (λ same. apart (omega (arith, same, low_vertex, high_vertex))) in
+          subst (AreBest (take _ links) labels) (sym w.table-is)
+          (bests_change links labels place within table l low high w.better.result w.better-then-low-high.result read refl refl apart low_vertex high_vertex
+          (w.better.ensures.better labels low l read leaves_at_low (are.best low low_vertex))
+          (w.better-then-low-high.ensures.better labels high l read leaves_at_high (subst (IsBest (take place links) labels high) (sym other) (are.best high high_vertex)))
+          are)
+      | else-low-high w ↦ subst (AreBest (take _ links) labels) (sym w.table-is) (bests_stay links labels place within table l read w.if-low-high.false are)
+    ]
