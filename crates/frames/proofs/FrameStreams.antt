@@ -2,10 +2,8 @@
 use Rattle.std.proofs.Common.{◌≡◌, ℕ, ◌<◌, ◌≤◌, List, [], ◌∷◌, ◌++◌, length, take, drop, refl, sym, ap, subst, ◌∙◌, ⊎_elim, append_assoc, append-nil, take-append-drop, arith}
 use Rattle.std.proofs.lemmas.Bool.{cases_lt}
 use Rattle.std.proofs.lemmas.List.{length-append, take_at, take-append-le, append_cancel_left}
-use Rattle.std.specs.List.{flat_map, AllByRecursion}
 use Rattle.frames.specs.FrameValue.{FrameValue}
 use Rattle.frames.specs.FrameText.{text_of}
-use Rattle.frames.specs.Lawful.{IsLawful}
 use Rattle.frames.specs.Refusals.{StreamRefused}
 use Rattle.frames.specs.declared.fault.FrameFault.{FrameFault}
 use Rattle.frames.specs.declared.fault.FrameFault.TheVariants.{BadKind, BadLength, BadField, BadVersion, Ended, Torn, Device, Memory}

@@ -1,14 +1,13 @@
 -- What the parts of a stream say of the whole.
-use Rattle.std.proofs.Common.{◌≡◌, ℕ, ◌+◌, ◌<◌, ◌≤◌, ◌⊎◌, List, [], ◌∷◌, ◌++◌, length, take, drop, replicate, refl, sym, ap, subst, ◌∙◌, append-nil, arith, inl, inr, length-take-le}
+use Rattle.std.proofs.Common.{◌≡◌, ℕ, ◌+◌, ◌<◌, ◌≤◌, List, [], ◌∷◌, ◌++◌, length, take, drop, replicate, refl, sym, ap, subst, ◌∙◌, append-nil, arith, inl, inr, length-take-le}
 use Rattle.std.specs.Int.{w32, from_be_bytes}
-use Rattle.std.proofs.lemmas.Bool.{cases_lt}
 use Rattle.std.proofs.lemmas.List.{nil_from_length, length-append, take_at, drop_at, take_all}
 use Rattle.byte_streams.specs.Streams.{SourceState, Gave}
-use Rattle.byte_streams.proofs.Streaming.{gave_nothing, gave_more}
+use Rattle.byte_streams.proofs.Streaming.{gave_more}
 use Rattle.frames.specs.FrameValue.{FrameValue}
 use Rattle.frames.specs.FrameText.{u32_text, body_of, text_of}
 use Rattle.frames.specs.Lawful.{IsU32}
-use Rattle.frames.specs.Refusals.{IsPossible, HeadRefused, IsFrameOf, BodyRefused, kind_at, length_at, body_at, HasGoodHead, HasBody, IsInBody, IsTorn, StreamRefused}
+use Rattle.frames.specs.Refusals.{IsPossible, HeadRefused, IsFrameOf, BodyRefused, kind_at, length_at, body_at, HasGoodHead, HasBody, IsInBody, StreamRefused}
 use Rattle.frames.specs.ReadFault.{failures_of, ends_of, IsReadRefused, CutsShort, IsCutShort}
 use Rattle.frames.specs.declared.fault.FrameFault.{FrameFault}
 use Rattle.frames.specs.declared.fault.FrameFault.TheVariants.{BadKind, BadLength, BadField, BadVersion, Ended, Torn, Device, Memory}
@@ -52,23 +51,7 @@ pub frame_gave : (v : FrameValue) (kind len : ℕ) (bytes body : List ℕ) (s t 
 frame_gave v kind len bytes body s t u first second head count is =
     subst (λ (bs : List ℕ). Gave 0 0 bs s u) (sym (frame_text v kind len bytes body head count is)) (gave_more 0 0 bytes body s t u first second)
 
--- ---- a head that didn't come, or was refused
-
-pub ended_refused : (s t : SourceState) → Gave 0 1 [] s t → IsReadRefused Ended s t
-ended_refused s t gave = record { bytes = []; gave = gave; within = inl (omega arith); refused = refl }
-
-pub torn_refused : (n : ℕ) (buf : List ℕ) (s t : SourceState) → length buf ≡ 5 → 0 < n → (n < length buf) × Gave 0 1 (take n buf) s t → IsReadRefused Torn s t
-torn_refused n buf s t five some (short, gave) =
-    let count : length (take n buf) ≡ n = length-take-le n buf (omega arith) in
-    record { bytes = take n buf; gave = gave; within = inl (omega arith); refused = inl (omega arith, omega arith) }
-
-pub device_refused : (n : ℕ) (buf : List ℕ) (s t : SourceState) → length buf ≡ 5 → (n < length buf) × Gave 1 0 (take n buf) s t → IsReadRefused Device s t
-device_refused n buf s t five (short, gave) =
-    let count : length (take n buf) ≡ n = length-take-le n buf (omega arith) in
-    record { bytes = take n buf; gave = gave; within = inl (omega arith); refused = part count (cases_lt 0 n) } where
-      part : length (take n buf) ≡ n → (0 < n) ⊎ (n ≤ 0) → (take n buf ≡ []) ⊎ IsTorn (take n buf)
-      part count (inl some) = inr (inl (omega arith, omega arith))
-      part count (inr none) = inl (nil_from_length (take n buf) (omega arith))
+-- ---- a head that was refused
 
 pub head_refused : (fault : FrameFault) (bytes : List ℕ) (s t : SourceState) → length bytes ≡ 5 → Gave 0 0 bytes s t → HeadRefused fault (kind_at bytes) (length_at bytes)
     → IsReadRefused fault s t
@@ -82,10 +65,6 @@ head_refused Device bytes s t five gave refused = absurd refused
 head_refused Memory bytes s t five gave refused = absurd refused
 
 -- ---- a body that didn't come
-
--- no memory for the next bytes
-pub cut_before : (count : ℕ) (s : SourceState) → 0 < count → IsCutShort Memory count s s
-cut_before count s some = record { bytes = []; gave = gave_nothing s; short = some; cause = inr (inr refl) }
 
 -- some of the next bytes
 pub cut_within : (fault : FrameFault) (n count : ℕ) (buf : List ℕ) (s t : SourceState) → CutsShort fault → length buf ≡ count
