@@ -2,3 +2,4 @@ pub mod Scans
 pub mod Offering
 pub mod Replying
 pub mod Sessions
+pub mod Steps

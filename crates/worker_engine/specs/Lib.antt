@@ -2,3 +2,4 @@ pub mod Scanning
 pub mod Serving
 pub mod Session
 pub mod Laws
+pub mod Served

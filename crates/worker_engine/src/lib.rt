@@ -8,6 +8,8 @@
 mod engine;
 pub mod laws;
 mod scanning;
+mod session;
 
 pub use engine::{Engine, NO_LABEL, NO_MEMORY, NOT_HELD};
 pub use scanning::scan;
+pub use session::{ServeFault, Served, serve, serve_upto};
