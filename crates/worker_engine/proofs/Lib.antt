@@ -1,1 +1,5 @@
 pub mod Scans
+pub mod Offering
+pub mod Replying
+pub mod Sessions
+pub mod Steps

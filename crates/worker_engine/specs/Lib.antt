@@ -1,1 +1,5 @@
 pub mod Scanning
+pub mod Serving
+pub mod Session
+pub mod Laws
+pub mod Served

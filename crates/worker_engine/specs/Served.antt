@@ -1,0 +1,156 @@
+-- How a session ends: what the source gave it, and what the sink took.
+use Rattle.std.specs.Prelude.{◌≡◌, ◌≢◌, ℕ, ◌+◌, ◌<◌, ◌≤◌, ◌⊎◌, List, [], ◌∷◌, ◌++◌, length, take, Option, Some, None}
+use Rattle.byte_streams.specs.Streams.{SourceState, Gave, SinkState, Took}
+use Rattle.link_key.specs.declared.links.Link.{Link}
+use Rattle.frames.specs.FrameValue.{FrameValue, ShardFrame, AskFrame, AnswerFrame, FaultFrame}
+use Rattle.frames.specs.FrameText.{text_of}
+use Rattle.frames.specs.FrameStream.{texts_of}
+use Rattle.frames.specs.Refusals.{StreamRefused}
+use Rattle.frames.specs.ReadFault.{failures_of, ends_of}
+use Rattle.frames.specs.declared.fault.FrameFault.{FrameFault}
+use Rattle.frames.specs.declared.fault.FrameFault.TheVariants.{Ended}
+use Rattle.worker_engine.specs.declared.session.Served.{Served}
+use Rattle.worker_engine.specs.declared.session.ServeFault.{ServeFault}
+use Rattle.worker_engine.specs.declared.session.ServeFault.TheVariants.{Read, Write, Memory, TooMany}
+use Rattle.worker_engine.specs.declared.session.Written.{Written}
+use Rattle.worker_engine.specs.declared.session.Written.TheVariants.{Nothing, AnAnswer, AFault}
+use Rattle.worker_engine.specs.Serving.{Shelf, shelf_with, MayFollow, Serves}
+
+-- how many answers there are, and how many faults
+abbrev pub answer_bit : FrameValue → ℕ
+answer_bit (AnswerFrame answer) = 1
+answer_bit v = 0
+
+abbrev pub answers_in : List FrameValue → ℕ
+answers_in [] = 0
+answers_in (v ∷ frames) = answer_bit v + answers_in frames
+
+abbrev pub fault_bit : FrameValue → ℕ
+fault_bit (FaultFrame round shard code) = 1
+fault_bit v = 0
+
+abbrev pub faults_in : List FrameValue → ℕ
+faults_in [] = 0
+faults_in (v ∷ frames) = fault_bit v + faults_in frames
+
+-- the whole lawful frames that a session heard, and what it owes for them
+pub record Heard (worker : ℕ) : Type 0 where
+  pub frames : List FrameValue
+  pub out : List ℕ
+  pub serves : Serves worker (texts_of frames) out
+
+-- the counts are those of the frames heard, and of the answers and faults owed
+pub record AreCounts (worker : ℕ) (heard : Heard worker) (served : Served) : Type 0 where
+  pub frames : served.frames ≡ length heard.frames
+  pub answers : served.answers ≡ answers_in heard.serves.replies
+  pub faults : served.faults ≡ faults_in heard.serves.replies
+
+-- the source ended behind whole lawful frames, and what is owed for them was written
+pub record EndsWell (worker : ℕ) (served : Served) (source source' : SourceState) (sink sink' : SinkState) : Type 0 where
+  pub heard : Heard worker
+  pub counts : AreCounts worker heard served
+  pub gave : Gave 0 1 (texts_of heard.frames) source source'
+  pub took : Took 0 heard.out sink sink'
+
+-- no frame was read behind those that were heard, and what is owed for these was written
+pub record EndsAtRead (worker : ℕ) (fault : FrameFault) (source source' : SourceState) (sink sink' : SinkState) : Type 0 where
+  pub heard : Heard worker
+  pub bytes : List ℕ
+  pub inside : fault ≢ Ended
+  pub refused : StreamRefused fault bytes
+  pub gave : Gave (failures_of fault) (ends_of fault) (texts_of heard.frames ++ bytes) source source'
+  pub took : Took 0 heard.out sink sink'
+
+-- a write failed: a prefix of what is owed was written, and not all of it
+pub record EndsAtWrite (worker : ℕ) (source source' : SourceState) (sink sink' : SinkState) : Type 0 where
+  pub heard : Heard worker
+  pub count : ℕ
+  pub short : count < length heard.out
+  pub gave : Gave 0 0 (texts_of heard.frames) source source'
+  pub took : Took 1 (take count heard.out) sink sink'
+
+-- memory was wanting for the hello, of which nothing was written then, or for a shard: what is owed was written
+pub record EndsAtMemory (worker : ℕ) (source source' : SourceState) (sink sink' : SinkState) : Type 0 where
+  pub heard : Heard worker
+  pub written : List ℕ
+  pub cause : ((heard.frames ≡ []) × (written ≡ []))
+      ⊎ ((written ≡ heard.out) × ((before : List FrameValue) × (number : ℕ) × (links : List Link) × (heard.frames ≡ before ++ ShardFrame number links ∷ [])))
+  pub gave : Gave 0 0 (texts_of heard.frames) source source'
+  pub took : Took 0 written sink sink'
+
+-- as many frames as the limit were heard, and what is owed for them was written
+pub record EndsAtLimit (worker limit : ℕ) (source source' : SourceState) (sink sink' : SinkState) : Type 0 where
+  pub heard : Heard worker
+  pub all : length heard.frames ≡ limit
+  pub gave : Gave 0 0 (texts_of heard.frames) source source'
+  pub took : Took 0 heard.out sink sink'
+
+-- how a session ends that doesn't end well
+abbrev pub EndsBy : ℕ → ℕ → ServeFault → SourceState → SourceState → SinkState → SinkState → Type 0
+EndsBy worker limit (Read fault) source source' sink sink' = EndsAtRead worker fault source source' sink sink'
+EndsBy worker limit Write source source' sink sink' = EndsAtWrite worker source source' sink sink'
+EndsBy worker limit Memory source source' sink sink' = EndsAtMemory worker source source' sink sink'
+EndsBy worker limit TooMany source source' sink sink' = EndsAtLimit worker limit source source' sink sink'
+
+-- ---- one frame
+
+-- what was written is told
+abbrev pub IsTold : Written → List FrameValue → Type 0
+IsTold Nothing now = now ≡ []
+IsTold AnAnswer now = (length now ≡ 1) × (answers_in now ≡ 1) × (faults_in now ≡ 0)
+IsTold AFault now = (length now ≡ 1) × (answers_in now ≡ 0) × (faults_in now ≡ 1)
+
+-- a frame was heard, and what is owed for it was written
+pub record Stepped (v : FrameValue) (written : Written) (shelf shelf' : Shelf) (sink sink' : SinkState) : Type 0 where
+  pub now : List FrameValue
+  pub kept : shelf' ≡ shelf_with shelf v
+  pub may : MayFollow shelf v now
+  pub told : IsTold written now
+  pub took : Took 0 (texts_of now) sink sink'
+
+-- the round and the shard of an ask
+abbrev pub ask_in : FrameValue → Option (ℕ × ℕ)
+ask_in (AskFrame round shard labels) = Some (round, shard)
+ask_in v = None
+
+-- what stands for a reply: itself, or a fault for want of memory in place of an answer
+abbrev pub StandsFor : FrameValue → FrameValue → Type 0
+StandsFor (AnswerFrame answer) v = (v ≡ AnswerFrame answer) ⊎ (v ≡ FaultFrame answer.round answer.shard 1)
+StandsFor reply v = v ≡ reply
+
+-- something that stands for the reply was written
+pub record WroteFor (reply : FrameValue) (written : Written) (sink sink' : SinkState) : Type 0 where
+  pub v : FrameValue
+  pub stands : StandsFor reply v
+  pub told : IsTold written (v ∷ [])
+  pub took : Took 0 (text_of v) sink sink'
+
+-- less than a text was written, and then a write failed
+pub record CutOff (text : List ℕ) (sink sink' : SinkState) : Type 0 where
+  pub count : ℕ
+  pub short : count < length text
+  pub took : Took 1 (take count text) sink sink'
+
+-- something that stands for the reply was written in part
+pub record CutFor (reply : FrameValue) (sink sink' : SinkState) : Type 0 where
+  pub v : FrameValue
+  pub stands : StandsFor reply v
+  pub cut : CutOff (text_of v) sink sink'
+
+-- a reply to a frame was written in part
+pub record CutReply (v : FrameValue) (shelf : Shelf) (sink sink' : SinkState) : Type 0 where
+  pub now : List FrameValue
+  pub may : MayFollow shelf v now
+  pub cut : CutOff (texts_of now) sink sink'
+
+-- a frame wasn't heard: a write failed, or there was no memory to keep a shard
+abbrev pub Failed : ServeFault → FrameValue → Shelf → SinkState → SinkState → Type 0
+Failed Write v shelf sink sink' = CutReply v shelf sink sink'
+Failed Memory v shelf sink sink' = ((number : ℕ) × (links : List Link) × (v ≡ ShardFrame number links)) × Took 0 [] sink sink'
+Failed fault v shelf sink sink' = ⊥
+
+-- the hello wasn't written
+abbrev pub Ungreeted : ServeFault → List ℕ → SinkState → SinkState → Type 0
+Ungreeted Write hello sink sink' = CutOff hello sink sink'
+Ungreeted Memory hello sink sink' = Took 0 [] sink sink'
+Ungreeted fault hello sink sink' = ⊥

@@ -1,0 +1,259 @@
+//! A worker's session: frames from a source, replies to a sink.
+ghost use Rattle.std.specs.Prelude.{◌≡◌, ◌≢◌, ◌+◌, ◌-◌, ◌<◌, ◌≤◌, ◌^◌, List, IfOk, IfErr, OnOk, OnErr, length};
+ghost use Rattle.byte_streams.specs.Streams.{Took};
+ghost use Rattle.frames.specs.FrameValue.{FrameValue, value_of, HelloFrame, FaultFrame};
+ghost use Rattle.frames.specs.FrameText.{text_of};
+ghost use Rattle.frames.specs.Lawful.{IsLawful};
+ghost use Rattle.worker_engine.specs.Serving.{shelf_of};
+ghost use Rattle.worker_engine.specs.Served.{EndsWell, EndsBy, IsTold, answers_in, faults_in, answer_bit, fault_bit, ask_in, Stepped, WroteFor, CutFor, CutOff, Failed, Ungreeted};
+ghost use Rattle.worker_engine.specs.declared.session.ServeFault.TheVariants.{Read, Write};
+ghost use Rattle.frames.specs.declared.fault.FrameFault.TheVariants.{Ended};
+ghost use Rattle.worker_engine.specs.declared.session.Written.TheVariants.{AFault};
+
+use crate::engine::{Engine, NO_MEMORY};
+use byte_streams::{Sink, Source, put};
+use frames::{Frame, FrameFault, encode, fault_bytes, read_frame};
+use limits::MAX_WORKERS;
+use std::alloc::Allocator;
+use thiserror::Error;
+
+/// What a session heard and wrote.
+#[derive(Clone, Copy, Debug, PartialEq, Eq)]
+pub struct Served {
+    /// How many frames were heard.
+    pub frames: u64,
+
+    /// How many answers were written.
+    pub answers: u64,
+
+    /// How many faults were written.
+    pub faults: u64,
+}
+
+/// Why a session ended before its stream did. It is over then.
+#[derive(Clone, Copy, Debug, PartialEq, Eq, Error)]
+pub enum ServeFault {
+    /// No whole lawful frame could be read; never that the stream ended before one.
+    #[error("{0}")]
+    Read(FrameFault),
+
+    /// A write failed, or took nothing.
+    #[error("write failed")]
+    Write,
+
+    /// There was no memory for the hello, or to keep a shard.
+    #[error("no memory")]
+    Memory,
+
+    /// As many frames as the limit were heard.
+    #[error("too many frames")]
+    TooMany,
+}
+
+// What was written for a frame.
+#[derive(Clone, Copy)]
+pub(crate) enum Written {
+    Nothing,
+    AnAnswer,
+    AFault,
+}
+
+/// A worker's session with a limit.
+pub fn serve_upto<A: Allocator + Copy, S: Source, W: Sink>(
+    alloc: A,
+    worker: u32,
+    source: &mut S,
+    sink: &mut W,
+    frames: u64,
+) -> Result<Served, ServeFault>
+    requires worker { worker < MAX_WORKERS }
+    requires can_read { S.can_read source.old }
+    requires can_write { W.can_write sink.old }
+    ensures ends_well { IfOk result (λ served. EndsWell worker served
+        (S.state source.old) (S.state source.new) (W.state sink.old) (W.state sink.new)) }
+    ensures ends_by { IfErr result (λ fault. EndsBy worker frames fault
+        (S.state source.old) (S.state source.new) (W.state sink.old) (W.state sink.new)) }
+    ensures in_limit { IfOk result (λ served. served.frames < frames) }
+{
+    greet(alloc, worker, sink)?;
+    let mut engine = Engine::new(alloc);
+    let mut served = Served {
+        frames: 0,
+        answers: 0,
+        faults: 0,
+    };
+    while served.frames < frames {
+        let frame = match read_frame(alloc, source) {
+            Ok(frame) => frame,
+            Err(fault) => return stopped(served, fault),
+        };
+        let written = hear(alloc, &mut engine, frame, sink)?;
+        served.count(written);
+    }
+    Err(ServeFault::TooMany)
+}
+
+/// A worker's session.
+pub fn serve<A: Allocator + Copy, S: Source, W: Sink>(
+    alloc: A,
+    worker: u32,
+    source: &mut S,
+    sink: &mut W,
+) -> Result<Served, ServeFault>
+    requires worker { worker < MAX_WORKERS }
+    requires can_read { S.can_read source.old }
+    requires can_write { W.can_write sink.old }
+    ensures ends_well { IfOk result (λ served. EndsWell worker served
+        (S.state source.old) (S.state source.new) (W.state sink.old) (W.state sink.new)) }
+    ensures ends_by { IfErr result (λ fault. EndsBy worker (2 ^ 32) fault
+        (S.state source.old) (S.state source.new) (W.state sink.old) (W.state sink.new)) }
+    ensures in_limit { IfOk result (λ served. served.frames < 2 ^ 32) }
+{
+    serve_upto(alloc, worker, source, sink, 1 << 32)
+}
+
+// How a session ends where no frame was read: well where the stream ended before one.
+fn stopped(served: Served, fault: FrameFault) -> Result<Served, ServeFault>
+    ensures over { IfOk result (λ told. (told ≡ served) × (fault ≡ Ended)) }
+    ensures read { IfErr result (λ told. (told ≡ Read fault) × (fault ≢ Ended)) }
+{
+    match fault {
+        FrameFault::Ended => Ok(served),
+        _ => Err(ServeFault::Read(fault)),
+    }
+}
+
+impl Served {
+    // Counts a frame, and what was written for it.
+    fn count(&mut self, written: Written)
+        requires few_frames { self.old.frames < 2 ^ 64 - 1 }
+        requires few_replies { self.old.answers + self.old.faults ≤ self.old.frames }
+        ensures frames { self.new.frames ≡ self.old.frames + 1 }
+        ensures replies { (now : List FrameValue) → IsTold written now
+            → (self.new.answers ≡ self.old.answers + answers_in now) × (self.new.faults ≡ self.old.faults + faults_in now) }
+        ensures few { self.new.answers + self.new.faults ≤ self.new.frames }
+    {
+        self.frames += 1;
+        match written {
+            Written::Nothing => {}
+            Written::AnAnswer => self.answers += 1,
+            Written::AFault => self.faults += 1,
+        }
+    }
+}
+
+// Writes the hello.
+fn greet<A: Allocator + Copy, W: Sink>(
+    alloc: A,
+    worker: u32,
+    sink: &mut W,
+) -> Result<(), ServeFault>
+    requires worker { worker < MAX_WORKERS }
+    requires can { W.can_write sink.old }
+    ensures greeted { OnOk result (Took 0 (text_of (HelloFrame 1 worker)) (W.state sink.old) (W.state sink.new)) }
+    ensures ungreeted { IfErr result (λ fault. Ungreeted fault (text_of (HelloFrame 1 worker)) (W.state sink.old) (W.state sink.new)) }
+    ensures again { OnOk result (W.can_write sink.new) }
+{
+    let hello: Frame<A> = Frame::Hello { version: 1, worker };
+    match encode(alloc, &hello) {
+        Ok(text) => write_whole(sink, text.as_slice()),
+        Err(_) => Err(ServeFault::Memory),
+    }
+}
+
+// Writes a whole text.
+fn write_whole<W: Sink>(sink: &mut W, text: &[u8]) -> Result<(), ServeFault>
+    requires can { W.can_write sink.old }
+    requires fits { length text.now < 2 ^ 64 }
+    ensures whole { OnOk result (Took 0 text.now (W.state sink.old) (W.state sink.new)) }
+    ensures write { IfErr result (λ fault. fault ≡ Write) }
+    ensures cut { OnErr result (CutOff text.now (W.state sink.old) (W.state sink.new)) }
+    ensures again { OnOk result (W.can_write sink.new) }
+{
+    match put(sink, 0, text) {
+        Ok(_) => Ok(()),
+        Err(_) => Err(ServeFault::Write),
+    }
+}
+
+// Hears a frame and writes what is owed for it. A fault needs no memory.
+fn hear<A: Allocator + Copy, W: Sink>(
+    alloc: A,
+    engine: &mut Engine<A>,
+    frame: Frame<A>,
+    sink: &mut W,
+) -> Result<Written, ServeFault>
+    requires lawful { IsLawful (value_of frame) }
+    requires can { W.can_write sink.old }
+    ensures stepped { IfOk result (λ written. Stepped (value_of frame) written (shelf_of engine.old) (shelf_of engine.new)
+        (W.state sink.old) (W.state sink.new)) }
+    ensures failed { IfErr result (λ fault. Failed fault (value_of frame) (shelf_of engine.old) (W.state sink.old) (W.state sink.new)) }
+    ensures again { OnOk result (W.can_write sink.new) }
+{
+    let ask = asked(&frame);
+    match engine.hear(frame) {
+        Ok(None) => Ok(Written::Nothing),
+        Ok(Some(reply)) => write_reply(alloc, &reply, sink),
+        Err(_) => match ask {
+            Some((round, shard)) => write_fault(sink, round, shard, NO_MEMORY),
+            None => Err(ServeFault::Memory),
+        },
+    }
+}
+
+// The round and the shard of an ask.
+fn asked<A: Allocator>(frame: &Frame<A>) -> Option<(u32, u32)>
+    ensures { result ≡ ask_in (value_of frame.now) }
+{
+    match frame {
+        Frame::Ask { round, shard, .. } => Some((*round, *shard)),
+        _ => None,
+    }
+}
+
+// Writes a reply, or a fault for want of memory in place of an answer.
+fn write_reply<A: Allocator + Copy, W: Sink>(
+    alloc: A,
+    reply: &Frame<A>,
+    sink: &mut W,
+) -> Result<Written, ServeFault>
+    requires lawful { IsLawful (value_of reply.now) }
+    requires kind { answer_bit (value_of reply.now) + fault_bit (value_of reply.now) ≡ 1 }
+    requires can { W.can_write sink.old }
+    ensures wrote { IfOk result (λ written. WroteFor (value_of reply.now) written (W.state sink.old) (W.state sink.new)) }
+    ensures write { IfErr result (λ fault. fault ≡ Write) }
+    ensures cut { OnErr result (CutFor (value_of reply.now) (W.state sink.old) (W.state sink.new)) }
+    ensures again { OnOk result (W.can_write sink.new) }
+{
+    match reply {
+        Frame::Fault { round, shard, code } => write_fault(sink, *round, *shard, *code),
+        Frame::Answer(answer) => match encode(alloc, reply) {
+            Ok(text) => match write_whole(sink, text.as_slice()) {
+                Ok(()) => Ok(Written::AnAnswer),
+                Err(fault) => Err(fault),
+            },
+            Err(_) => write_fault(sink, answer.round, answer.shard, NO_MEMORY),
+        },
+        _ => unreachable!(),
+    }
+}
+
+// Writes a fault.
+fn write_fault<W: Sink>(
+    sink: &mut W,
+    round: u32,
+    shard: u32,
+    code: u8,
+) -> Result<Written, ServeFault>
+    requires can { W.can_write sink.old }
+    ensures told { IfOk result (λ written. written ≡ AFault) }
+    ensures took { OnOk result (Took 0 (text_of (FaultFrame round shard code)) (W.state sink.old) (W.state sink.new)) }
+    ensures write { IfErr result (λ fault. fault ≡ Write) }
+    ensures cut { OnErr result (CutOff (text_of (FaultFrame round shard code)) (W.state sink.old) (W.state sink.new)) }
+    ensures again { OnOk result (W.can_write sink.new) }
+{
+    match write_whole(sink, &fault_bytes(round, shard, code)) {
+        Ok(()) => Ok(Written::AFault),
+        Err(fault) => Err(fault),
+    }
+}
