@@ -1,19 +1,20 @@
 -- What the fields of a body say of the frames that have it.
-use Rattle.std.proofs.Common.{◌≡◌, ℕ, ◌+◌, ◌/◌, ◌^◌, ◌<◌, ◌≤◌, List, [], ◌∷◌, ◌++◌, length, take, get_or, All, refl, sym, ap, subst, ◌∙◌, append-nil, arith}
+use Rattle.std.proofs.Common.{◌≡◌, ℕ, ◌+◌, ◌*◌, ◌/◌, ◌<◌, ◌≤◌, List, [], ◌∷◌, ◌++◌, length, take, get_or, All, refl, sym, ap, subst, ◌∙◌, append-nil, arith, inl, inr}
 use Rattle.std.specs.Int.{w16, from_be_bytes}
 use Rattle.std.specs.List.{flat_map, AllByRecursion}
 use Rattle.std.proofs.lemmas.List.{length-append, nil_from_length}
 use Rattle.std.proofs.lemmas.List.Elements.{recursion_from_All}
+use Rattle.limits.specs.declared.TheConstants.{MAX_SHARDS, MAX_SHARD_LINKS, MAX_VERTICES, MAX_WORKERS}
 use Rattle.link_key.specs.declared.links.Link.{Link}
 use Rattle.link_key.specs.Labels.{AreLabels}
 use Rattle.link_key.specs.Offers.{Offer, AreOffers}
 use Rattle.frames.specs.FrameValue.{FrameValue, HelloFrame, ShardFrame, AskFrame, AnswerFrame, FaultFrame}
 use Rattle.frames.specs.FrameText.{u16_text, u32_text, link_text, offer_text}
 use Rattle.frames.specs.Lawful.{IsU32, IsShard}
-use Rattle.frames.specs.Refusals.{IsWithItems, IsOtherVersion, IsFrameOf, BodyRefused, LinksRefused}
+use Rattle.frames.specs.Refusals.{IsWithItems, IsOtherVersion, IsFrameOf, ShardBegun, IsListBegun, BodyRefused, LinksRefused}
 use Rattle.frames.specs.declared.fault.FrameFault.{FrameFault}
 use Rattle.frames.specs.declared.fault.FrameFault.TheVariants.{BadKind, BadLength, BadField, BadVersion, Ended, Torn, Device, Memory}
-use Rattle.frames.proofs.Texts.{u16_length, u32_length, u16_front, u32_front, link_length, offer_length, items_length, items_same, offer_front, FitsWeight, FitsOffer}
+use Rattle.frames.proofs.Texts.{u16_length, u32_length, u16_front, u32_front, link_length, offer_length, items_length, items_same, offer_front, FitsOffer}
 use Rattle.frames.proofs.OneText.{two_front, labels_fit}
 
 -- ---- a hello
@@ -21,7 +22,7 @@ use Rattle.frames.proofs.OneText.{two_front, labels_fit}
 pub hello_version : (version : ℕ) (body : List ℕ) → version ≡ from_be_bytes w16 (take 2 body) → version ≡ 1 → IsOtherVersion 1 body → ⊥
 hello_version version body value one other = other.1 (sym value ∙ one)
 
-hello_unlike : (v : FrameValue) (version worker : ℕ) (body rest behind : List ℕ) → IsU32 worker → 64 ≤ worker → version ≡ 1
+hello_unlike : (v : FrameValue) (version worker : ℕ) (body rest behind : List ℕ) → IsU32 worker → MAX_WORKERS ≤ worker → version ≡ 1
     → body ≡ u16_text version ++ rest → rest ≡ u32_text worker ++ behind → length body ≡ 6 → IsFrameOf v 1 body → ⊥
 hello_unlike (HelloFrame v w) version worker body rest behind wide high one first second len is =
     let none : behind ≡ [] = nil_from_length behind (omega (arith, ap length first, ap length second, length-append (u16_text version) rest, length-append (u32_text worker) behind, u16_length version, u32_length worker)) in
@@ -30,12 +31,12 @@ hello_unlike (HelloFrame v w) version worker body rest behind wide high one firs
     omega (arith, same.0, is.lawful.worker)
 hello_unlike v version worker body rest behind wide high one first second len is = omega (arith, is.kind)
 
-pub hello_refused : (version worker : ℕ) (body rest behind : List ℕ) → IsU32 worker → 64 ≤ worker → version ≡ 1 → version ≡ from_be_bytes w16 (take 2 body)
+pub hello_refused : (version worker : ℕ) (body rest behind : List ℕ) → IsU32 worker → MAX_WORKERS ≤ worker → version ≡ 1 → version ≡ from_be_bytes w16 (take 2 body)
     → body ≡ u16_text version ++ rest → rest ≡ u32_text worker ++ behind → length body ≡ 6 → BodyRefused BadField 1 body
 hello_refused version worker body rest behind wide high one value first second len =
     (hello_version version body value one, λ v is. hello_unlike v version worker body rest behind wide high one first second len is)
 
-pub hello_found : (version worker : ℕ) (body rest behind : List ℕ) → worker < 64 → version ≡ 1
+pub hello_found : (version worker : ℕ) (body rest behind : List ℕ) → worker < MAX_WORKERS → version ≡ 1
     → body ≡ u16_text version ++ rest → rest ≡ u32_text worker ++ behind → length body ≡ 6 → IsFrameOf (HelloFrame version worker) 1 body
 hello_found version worker body rest behind low one first second len =
     let none : behind ≡ [] = nil_from_length behind (omega (arith, ap length first, ap length second, length-append (u16_text version) rest, length-append (u32_text worker) behind, u16_length version, u32_length worker)) in
@@ -52,7 +53,7 @@ shard_parts (ShardFrame n' ls) n c body rest links wide wide' first second is =
 shard_parts v n c body rest links wide wide' first second is = absurd (omega (arith, is.kind))
 
 pub shard_refused : (n c : ℕ) (body rest links : List ℕ) → IsU32 n → IsU32 c → body ≡ u32_text n ++ rest → rest ≡ u32_text c ++ links
-    → (n < 4096 → c ≡ length links / 12 → ⊥) → BodyRefused BadField 2 body
+    → (n < MAX_SHARDS → c ≡ length links / 12 → ⊥) → BodyRefused BadField 2 body
 shard_refused n c body rest links wide wide' first second never = (
   λ other. omega (arith, other.0),
   λ v is.
@@ -61,29 +62,41 @@ shard_refused n c body rest links wide wide' first second never = (
 )
 
 pub shard_unlinked : (fault : FrameFault) (n c : ℕ) (body rest links : List ℕ) → IsU32 n → IsU32 c → body ≡ u32_text n ++ rest → rest ≡ u32_text c ++ links
-    → LinksRefused fault links → BodyRefused fault 2 body
-shard_unlinked BadField n c body rest links wide wide' first second none = (
+    → ShardBegun body → LinksRefused fault links → BodyRefused fault 2 body
+shard_unlinked BadField n c body rest links wide wide' first second begun none = (
   λ other. omega (arith, other.0),
   λ v is.
       let (ls, lawful, count, same) = shard_parts v n c body rest links wide wide' first second is in
-      none ls lawful.weights same,
+      none ls same,
 )
-shard_unlinked Memory n c body rest links wide wide' first second none = (omega arith, omega arith)
-shard_unlinked BadKind n c body rest links wide wide' first second none = absurd none
-shard_unlinked BadLength n c body rest links wide wide' first second none = absurd none
-shard_unlinked BadVersion n c body rest links wide wide' first second none = absurd none
-shard_unlinked Ended n c body rest links wide wide' first second none = absurd none
-shard_unlinked Torn n c body rest links wide wide' first second none = absurd none
-shard_unlinked Device n c body rest links wide wide' first second none = absurd none
+shard_unlinked Memory n c body rest links wide wide' first second begun none = inl (refl, begun)
+shard_unlinked BadKind n c body rest links wide wide' first second begun none = absurd none
+shard_unlinked BadLength n c body rest links wide wide' first second begun none = absurd none
+shard_unlinked BadVersion n c body rest links wide wide' first second begun none = absurd none
+shard_unlinked Ended n c body rest links wide wide' first second begun none = absurd none
+shard_unlinked Torn n c body rest links wide wide' first second begun none = absurd none
+shard_unlinked Device n c body rest links wide wide' first second begun none = absurd none
 
-pub shard_found : (n c : ℕ) (ls : List Link) (body rest links : List ℕ) → n < 4096 → c ≡ length links / 12 → IsWithItems 8 12 (2 ^ 24) (length body)
-    → body ≡ u32_text n ++ rest → rest ≡ u32_text c ++ links → flat_map link_text ls ≡ links → All FitsWeight ls → IsFrameOf (ShardFrame n ls) 2 body
-shard_found n c ls body rest links low counted (count, few, len) first second same fits =
+-- a shard's body of this length, with these fields before its links
+pub shard_begun : (n c : ℕ) (body rest links : List ℕ) → n < MAX_SHARDS → c ≡ length links / 12 → IsWithItems 8 12 MAX_SHARD_LINKS (length body)
+    → body ≡ u32_text n ++ rest → rest ≡ u32_text c ++ links → ShardBegun body
+shard_begun n c body rest links low counted (count, few, len) first second = record {
+  number = n;
+  count = c;
+  links = links;
+  split = first ∙ ap (λ (t : List ℕ). u32_text n ++ t) second;
+  in_range = low;
+  counted = omega (arith, counted, len, ap length first, ap length second, length-append (u32_text n) rest, length-append (u32_text c) links, u32_length n, u32_length c);
+}
+
+pub shard_found : (n c : ℕ) (ls : List Link) (body rest links : List ℕ) → n < MAX_SHARDS → c ≡ length links / 12 → IsWithItems 8 12 MAX_SHARD_LINKS (length body)
+    → body ≡ u32_text n ++ rest → rest ≡ u32_text c ++ links → flat_map link_text ls ≡ links → IsFrameOf (ShardFrame n ls) 2 body
+shard_found n c ls body rest links low counted (count, few, len) first second same =
     let lens = items_length link_text 12 link_length ls in
     let short : length links + 8 ≡ length body = omega (arith, ap length first, ap length second, length-append (u32_text n) rest, length-append (u32_text c) links, u32_length n, u32_length c) in
     let total : length ls ≡ c = omega (arith, lens, ap length same) in
     record {
-      lawful = record { number = low; count = omega (arith, lens, ap length same); weights = fits };
+      lawful = record { number = low; count = omega (arith, lens, ap length same) };
       kind = refl;
       body = sym (first ∙ ap (λ (t : List ℕ). u32_text n ++ t) (second ∙ ap (λ (t : List ℕ). u32_text c ++ t) (sym same) ∙ ap (λ (k : ℕ). u32_text k ++ flat_map link_text ls) (sym total)));
     }
@@ -92,16 +105,32 @@ shard_found n c ls body rest links low counted (count, few, len) first second sa
 
 ask_parts : (v : FrameValue) (r s c : ℕ) (body rest rest' labels : List ℕ) → IsU32 r → IsU32 s → IsU32 c
     → body ≡ u32_text r ++ rest → rest ≡ u32_text s ++ rest' → rest' ≡ u32_text c ++ labels
-    → IsFrameOf v 3 body → (ls : List ℕ) × AreLabels ls × (length ls ≡ c) × (s < 4096) × (flat_map u32_text ls ≡ labels)
+    → IsFrameOf v 3 body → (ls : List ℕ) × AreLabels ls × (length ls ≡ c) × (s < MAX_SHARDS) × (flat_map u32_text ls ≡ labels)
 ask_parts (AskFrame r' s' ls) r s c body rest rest' labels wide_r wide_s wide_c first second third is =
     let fields = two_front r' s' r s (u32_text (length ls) ++ flat_map u32_text ls) rest' is.lawful.round (omega (arith, is.lawful.shard)) wide_r wide_s (is.body ∙ first ∙ ap (λ (t : List ℕ). u32_text r ++ t) second) in
     let count = u32_front (length ls) c (flat_map u32_text ls) labels (omega (arith, is.lawful.labels.few_vertices)) wide_c (fields.2 ∙ third) in
     (ls, is.lawful.labels, count.0, omega (arith, fields.1, is.lawful.shard), count.1)
 ask_parts v r s c body rest rest' labels wide_r wide_s wide_c first second third is = absurd (omega (arith, is.kind))
 
+-- an ask's body of this length, with these fields before its labels
+pub ask_begun : (r s c : ℕ) (body rest rest' labels : List ℕ) → s < MAX_SHARDS → c ≡ length labels / 4 → IsWithItems 12 4 MAX_VERTICES (length body)
+    → body ≡ u32_text r ++ rest → rest ≡ u32_text s ++ rest' → rest' ≡ u32_text c ++ labels → IsListBegun 3 body
+ask_begun r s c body rest rest' labels low counted (count, few, len) first second third = inr (inl (
+  refl,
+  record {
+    round = r;
+    shard = s;
+    count = c;
+    labels = labels;
+    split = first ∙ ap (λ (t : List ℕ). u32_text r ++ t) (second ∙ ap (λ (t : List ℕ). u32_text s ++ t) third);
+    in_range = low;
+    counted = omega (arith, counted, len, ap length first, ap length second, ap length third, length-append (u32_text r) rest, length-append (u32_text s) rest', length-append (u32_text c) labels, u32_length r, u32_length s, u32_length c);
+  },
+))
+
 pub ask_refused : (r s c : ℕ) (body rest rest' labels : List ℕ) → IsU32 r → IsU32 s → IsU32 c
     → body ≡ u32_text r ++ rest → rest ≡ u32_text s ++ rest' → rest' ≡ u32_text c ++ labels
-    → (s < 4096 → c ≡ length labels / 4 → ⊥) → BodyRefused BadField 3 body
+    → (s < MAX_SHARDS → c ≡ length labels / 4 → ⊥) → BodyRefused BadField 3 body
 ask_refused r s c body rest rest' labels wide_r wide_s wide_c first second third never = (
   λ other. omega (arith, other.0),
   λ v is.
@@ -120,7 +149,7 @@ ask_unlabelled r s c body rest rest' labels ns wide_r wide_s wide_c first second
       never (subst AreLabels one lawful),
 )
 
-pub ask_found : (r s c : ℕ) (body rest rest' labels ls : List ℕ) → IsU32 r → s < 4096 → c ≡ length labels / 4
+pub ask_found : (r s c : ℕ) (body rest rest' labels ls : List ℕ) → IsU32 r → s < MAX_SHARDS → c ≡ length labels / 4
     → body ≡ u32_text r ++ rest → rest ≡ u32_text s ++ rest' → rest' ≡ u32_text c ++ labels
     → flat_map u32_text ls ≡ labels → AreLabels ls → IsFrameOf (AskFrame r s ls) 3 body
 ask_found r s c body rest rest' labels ls wide low counted first second third same are =
@@ -141,6 +170,21 @@ answer_parts (AnswerFrame a) r s c body rest rest' offers wide_r wide_s wide_c f
     let count = u32_front (length a.offers) c (flat_map offer_text a.offers) offers (omega (arith, is.lawful.count)) wide_c (fields.2 ∙ third) in
     (a.offers, is.lawful.ascending, recursion_from_All _ _ is.lawful.fit, count.0, count.1)
 answer_parts v r s c body rest rest' offers wide_r wide_s wide_c first second third is = absurd (omega (arith, is.kind))
+
+-- an answer's body of this length, with these fields before its offers
+pub answer_begun : (r s c : ℕ) (body rest rest' offers : List ℕ) → c ≡ length offers / 8 → IsWithItems 12 8 (2 * MAX_SHARD_LINKS) (length body)
+    → body ≡ u32_text r ++ rest → rest ≡ u32_text s ++ rest' → rest' ≡ u32_text c ++ offers → IsListBegun 4 body
+answer_begun r s c body rest rest' offers counted (count, few, len) first second third = inr (inr (
+  refl,
+  record {
+    round = r;
+    shard = s;
+    count = c;
+    offers = offers;
+    split = first ∙ ap (λ (t : List ℕ). u32_text r ++ t) (second ∙ ap (λ (t : List ℕ). u32_text s ++ t) third);
+    counted = omega (arith, counted, len, ap length first, ap length second, ap length third, length-append (u32_text r) rest, length-append (u32_text s) rest', length-append (u32_text c) offers, u32_length r, u32_length s, u32_length c);
+  },
+))
 
 pub answer_refused : (r s c : ℕ) (body rest rest' offers : List ℕ) → IsU32 r → IsU32 s → IsU32 c
     → body ≡ u32_text r ++ rest → rest ≡ u32_text s ++ rest' → rest' ≡ u32_text c ++ offers
@@ -163,7 +207,7 @@ answer_unsorted r s c ps body rest rest' offers wide_r wide_s wide_c first secon
       never (subst AreOffers one ascending),
 )
 
-pub answer_found : (r s c : ℕ) (os : List Offer) (body rest rest' offers : List ℕ) → IsU32 r → IsU32 s → c ≡ length offers / 8 → IsWithItems 12 8 (2 ^ 25) (length body)
+pub answer_found : (r s c : ℕ) (os : List Offer) (body rest rest' offers : List ℕ) → IsU32 r → IsU32 s → c ≡ length offers / 8 → IsWithItems 12 8 (2 * MAX_SHARD_LINKS) (length body)
     → body ≡ u32_text r ++ rest → rest ≡ u32_text s ++ rest' → rest' ≡ u32_text c ++ offers
     → flat_map offer_text os ≡ offers → All FitsOffer os → AreOffers os → IsFrameOf (AnswerFrame (record { round = r; shard = s; offers = os })) 4 body
 answer_found r s c os body rest rest' offers wide wide' counted (count, few, len) first second third same fits ascending =

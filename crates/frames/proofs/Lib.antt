@@ -6,3 +6,5 @@ pub mod Decoded
 pub mod Listed
 pub mod Streams
 pub mod NeverRefused
+pub mod FrameStreams
+pub mod Refusing

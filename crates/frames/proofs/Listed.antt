@@ -56,7 +56,7 @@ numbers_are bytes numbers whole fits are = (
 
 pub link_unlike : (low high : ℕ) (bytes rest rest' : List ℕ) → IsU32 low → IsU32 high → bytes ≡ u32_text low ++ rest → rest ≡ u32_text high ++ rest'
     → (1 ≤ low → low < high → high ≤ 2 ^ 26 → ⊥) → IsNoLink bytes
-link_unlike low high bytes rest rest' wide wide' first second never l fits same =
+link_unlike low high bytes rest rest' wide wide' first second never l same =
     let ends = two_front l.low l.high low high (i32_text l.weight) rest' (omega (arith, l.ascending, l.in_limit)) (omega (arith, l.in_limit)) wide wide' (same ∙ first ∙ ap (λ (t : List ℕ). u32_text low ++ t) second) in
     never (omega (arith, ends.0, l.from_one)) (omega (arith, ends.0, ends.1, l.ascending)) (omega (arith, ends.1, l.in_limit))
 
@@ -77,21 +77,21 @@ link_back low high bits z bytes rest rest' rest'' wide is len first second third
 
 -- behind links that were read, twelve bytes that no link has
 none_behind : (read links : List Link) (front behind : List ℕ) → length front ≡ 12 → IsNoLink front
-    → AllByRecursion (λ l. FitsSigned w32 l.weight) links → flat_map link_text links ≡ flat_map link_text read ++ (front ++ behind) → ⊥
-none_behind read [] front behind len none fits same =
+    → flat_map link_text links ≡ flat_map link_text read ++ (front ++ behind) → ⊥
+none_behind read [] front behind len none same =
     omega (arith, ap length same, length-append (flat_map link_text read) (front ++ behind), length-append front behind)
-none_behind [] (l ∷ links) front behind len none fits same =
-    none l fits.0 (parts_same (link_text l) front (flat_map link_text links) behind (link_length l ∙ sym len) same).0
-none_behind (r ∷ read) (l ∷ links) front behind len none fits same =
-    none_behind read links front behind len none fits.1
+none_behind [] (l ∷ links) front behind len none same =
+    none l (parts_same (link_text l) front (flat_map link_text links) behind (link_length l ∙ sym len) same).0
+none_behind (r ∷ read) (l ∷ links) front behind len none same =
+    none_behind read links front behind len none
     (parts_same (link_text l) (link_text r) (flat_map link_text links) (flat_map link_text read ++ (front ++ behind)) (link_length l ∙ sym (link_length r))
     (same ∙ append_assoc (link_text r) (flat_map link_text read) (front ++ behind))).1
 
 pub no_links_behind : (read : List Link) (bytes rest front behind : List ℕ) → flat_map link_text read ++ rest ≡ bytes → front ≡ take 12 rest → behind ≡ drop 12 rest → length front ≡ 12
     → IsNoLink front → AreNoLinks bytes
-no_links_behind read bytes rest front behind so_far first second len none links fits same =
+no_links_behind read bytes rest front behind so_far first second len none links same =
     let split : rest ≡ front ++ behind = sym (take-append-drop 12 rest) ∙ ap (λ (t : List ℕ). t ++ drop 12 rest) (sym first) ∙ ap (λ (t : List ℕ). front ++ t) (sym second) in
-    none_behind read links front behind len none (recursion_from_All _ _ fits) (same ∙ sym so_far ∙ ap (λ (t : List ℕ). flat_map link_text read ++ t) split)
+    none_behind read links front behind len none (same ∙ sym so_far ∙ ap (λ (t : List ℕ). flat_map link_text read ++ t) split)
 
 -- ---- offers, read
 

@@ -11,7 +11,7 @@ use Rattle.frames.specs.FrameValue.{FrameValue, HelloFrame, ShardFrame, AskFrame
 use Rattle.frames.specs.FrameText.{u16_text, u32_text, link_text, offer_text, kind_of, body_of}
 use Rattle.frames.specs.Lawful.{IsU32, IsShard, IsAsk, IsAnswer, IsLawful}
 use Rattle.frames.specs.OneText.{EachHasOneText}
-use Rattle.frames.proofs.Texts.{parts_same, u16_length, u32_length, u16_front, u32_front, link_front, offer_front, FitsWeight, FitsOffer, link_length, offer_length, items_length, items_same}
+use Rattle.frames.proofs.Texts.{parts_same, u16_length, u32_length, u16_front, u32_front, link_front, offer_front, FitsWeight, FitsOffer, weights_fit, link_length, offer_length, items_length, items_same}
 
 -- ---- the fields of each body, given that they fit
 
@@ -41,11 +41,11 @@ labels_fit labels are = labels_below labels (λ k lt.
     let place : k + 1 - 1 ≡ k = omega arith in
     omega (arith, are.few_vertices, rw place at below))
 
-pub shard_same : (n n' : ℕ) (ls ls' : List Link) → IsShard n ls → IsU32 n' → length ls' < 2 ^ 32 → AllByRecursion FitsWeight ls'
+pub shard_same : (n n' : ℕ) (ls ls' : List Link) → IsShard n ls → IsU32 n' → length ls' < 2 ^ 32
     → body_of (ShardFrame n ls) ≡ body_of (ShardFrame n' ls') → (n ≡ n') × (ls ≡ ls')
-shard_same n n' ls ls' lawful wide short fits same =
+shard_same n n' ls ls' lawful wide short same =
     let fields = two_front n (length ls) n' (length ls') (flat_map link_text ls) (flat_map link_text ls') (omega (arith, lawful.number)) (omega (arith, lawful.count)) wide short same in
-    (fields.0, items_same link_text 12 FitsWeight (omega arith) link_length link_front ls ls' (recursion_from_All _ _ lawful.weights) fits fields.2)
+    (fields.0, items_same link_text 12 FitsWeight (omega arith) link_length link_front ls ls' (weights_fit ls) (weights_fit ls') fields.2)
 
 pub ask_same : (r r' s s' : ℕ) (ls ls' : List ℕ) → IsAsk r s ls → IsU32 r' → IsU32 s' → length ls' < 2 ^ 32 → AllByRecursion IsU32 ls'
     → body_of (AskFrame r s ls) ≡ body_of (AskFrame r' s' ls') → (r ≡ r') × (s ≡ s') × (ls ≡ ls')
@@ -74,7 +74,7 @@ bodies_same (HelloFrame v w) (HelloFrame v' w') first second kind same =
     let fields = hello_same v w v' w' (omega (arith, first.version)) (omega (arith, second.version)) (omega (arith, first.worker)) (omega (arith, second.worker)) same in
     λ i. HelloFrame (fields.0 i) (fields.1 i)
 bodies_same (ShardFrame n ls) (ShardFrame n' ls') first second kind same =
-    let fields = shard_same n n' ls ls' first (omega (arith, second.number)) (omega (arith, second.count)) (recursion_from_All _ _ second.weights) same in
+    let fields = shard_same n n' ls ls' first (omega (arith, second.number)) (omega (arith, second.count)) same in
     λ i. ShardFrame (fields.0 i) (fields.1 i)
 bodies_same (AskFrame r s ls) (AskFrame r' s' ls') first second kind same =
     let fields = ask_same r r' s s' ls ls' first second.round (omega (arith, second.shard)) (omega (arith, second.labels.few_vertices)) (labels_fit ls' second.labels) same in

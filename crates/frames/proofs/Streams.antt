@@ -1,15 +1,15 @@
 -- What the parts of a stream say of the whole.
-use Rattle.std.proofs.Common.{◌≡◌, ℕ, ◌+◌, ◌<◌, ◌≤◌, List, [], ◌∷◌, ◌++◌, length, take, drop, replicate, Option, Some, None, IfSome, refl, sym, ap, subst, ◌∙◌, append-nil, arith, inl, inr}
+use Rattle.std.proofs.Common.{◌≡◌, ℕ, ◌+◌, ◌<◌, ◌≤◌, ◌⊎◌, List, [], ◌∷◌, ◌++◌, length, take, drop, replicate, refl, sym, ap, subst, ◌∙◌, append-nil, arith, inl, inr, length-take-le}
 use Rattle.std.specs.Int.{w32, from_be_bytes}
-use Rattle.std.specs.Io.KnownBytes.{Consumes}
-use Rattle.std.proofs.KnownBytes.{Consumes-trans}
+use Rattle.std.proofs.lemmas.Bool.{cases_lt}
 use Rattle.std.proofs.lemmas.List.{nil_from_length, length-append, take_at, drop_at, take_all}
-use Rattle.byte_streams.proofs.Streaming.{consumes-told}
+use Rattle.byte_streams.specs.Streams.{SourceState, Gave}
+use Rattle.byte_streams.proofs.Streaming.{gave_nothing, gave_more}
 use Rattle.frames.specs.FrameValue.{FrameValue}
 use Rattle.frames.specs.FrameText.{u32_text, body_of, text_of}
 use Rattle.frames.specs.Lawful.{IsU32}
-use Rattle.frames.specs.Refusals.{IsPossible, HeadRefused, IsFrameOf, BodyRefused, kind_at, length_at, body_at, HasGoodHead, HasBody, StreamRefused}
-use Rattle.frames.specs.ReadFault.{HeadStopped, BodyStopped}
+use Rattle.frames.specs.Refusals.{IsPossible, HeadRefused, IsFrameOf, BodyRefused, kind_at, length_at, body_at, HasGoodHead, HasBody, IsInBody, IsTorn, StreamRefused}
+use Rattle.frames.specs.ReadFault.{failures_of, ends_of, IsReadRefused, CutsShort, IsCutShort}
 use Rattle.frames.specs.declared.fault.FrameFault.{FrameFault}
 use Rattle.frames.specs.declared.fault.FrameFault.TheVariants.{BadKind, BadLength, BadField, BadVersion, Ended, Torn, Device, Memory}
 use Rattle.frames.proofs.Texts.{u32_length, u32_again}
@@ -47,62 +47,84 @@ frame_text v kind len bytes body head count is =
     ∙ ap (λ (t : List ℕ). (kind ∷ u32_text len) ++ t) is.body
     ∙ ap (λ (t : List ℕ). t ++ body) (sym head)
 
-pub frame_consumed : (a b c : Option (List ℕ)) (v : FrameValue) (kind len : ℕ) (bytes body : List ℕ) → Consumes a b bytes → Consumes b c body
-    → bytes ≡ kind ∷ u32_text len → length body ≡ len → IsFrameOf v kind body → Consumes a c (text_of v)
-frame_consumed a b c v kind len bytes body first second head count is =
-    subst (Consumes a c) (sym (frame_text v kind len bytes body head count is)) (Consumes-trans a b c bytes body first second)
+pub frame_gave : (v : FrameValue) (kind len : ℕ) (bytes body : List ℕ) (s t u : SourceState) → Gave 0 0 bytes s t → Gave 0 0 body t u
+    → bytes ≡ kind ∷ u32_text len → length body ≡ len → IsFrameOf v kind body → Gave 0 0 (text_of v) s u
+frame_gave v kind len bytes body s t u first second head count is =
+    subst (λ (bs : List ℕ). Gave 0 0 bs s u) (sym (frame_text v kind len bytes body head count is)) (gave_more 0 0 bytes body s t u first second)
 
--- ---- faults
+-- ---- a head that didn't come, or was refused
 
-pub head_stopped : (a : Option (List ℕ)) (fault : FrameFault) → HeadStopped fault a → IfSome a (StreamRefused fault)
-head_stopped None fault stopped = tt
-head_stopped (Some stream) Ended stopped = stopped
-head_stopped (Some stream) Torn stopped = inl stopped
-head_stopped (Some stream) Device stopped = tt
-head_stopped (Some stream) BadKind stopped = absurd stopped
-head_stopped (Some stream) BadLength stopped = absurd stopped
-head_stopped (Some stream) BadField stopped = absurd stopped
-head_stopped (Some stream) BadVersion stopped = absurd stopped
-head_stopped (Some stream) Memory stopped = absurd stopped
+pub ended_refused : (s t : SourceState) → Gave 0 1 [] s t → IsReadRefused Ended s t
+ended_refused s t gave = record { bytes = []; gave = gave; within = inl (omega arith); refused = refl }
 
-head_fault : (fault : FrameFault) (kind len : ℕ) (stream rest : List ℕ) → IsU32 len → stream ≡ (kind ∷ u32_text len) ++ rest → HeadRefused fault kind len → StreamRefused fault stream
-head_fault BadKind kind len stream rest wide is refused =
-    subst (StreamRefused BadKind) (sym is) (omega (arith, head_length kind len rest), refused)
-head_fault BadLength kind len stream rest wide is refused =
-    subst (StreamRefused BadLength) (sym is) (omega (arith, head_length kind len rest), subst (HeadRefused BadLength kind) (sym (length_is kind len rest wide)) refused)
-head_fault BadField kind len stream rest wide is refused = absurd refused
-head_fault BadVersion kind len stream rest wide is refused = absurd refused
-head_fault Ended kind len stream rest wide is refused = absurd refused
-head_fault Torn kind len stream rest wide is refused = absurd refused
-head_fault Device kind len stream rest wide is refused = absurd refused
-head_fault Memory kind len stream rest wide is refused = absurd refused
+pub torn_refused : (n : ℕ) (buf : List ℕ) (s t : SourceState) → length buf ≡ 5 → 0 < n → (n < length buf) × Gave 0 1 (take n buf) s t → IsReadRefused Torn s t
+torn_refused n buf s t five some (short, gave) =
+    let count : length (take n buf) ≡ n = length-take-le n buf (omega arith) in
+    record { bytes = take n buf; gave = gave; within = inl (omega arith); refused = inl (omega arith, omega arith) }
 
-pub head_refused : (a b : Option (List ℕ)) (fault : FrameFault) (kind len : ℕ) (bytes : List ℕ) → IsU32 len → Consumes a b bytes → bytes ≡ kind ∷ u32_text len
-    → HeadRefused fault kind len → IfSome a (StreamRefused fault)
-head_refused None b fault kind len bytes wide came head refused = tt
-head_refused (Some stream) b fault kind len bytes wide came head refused =
-    let (rest, left, split) = consumes-told (Some stream) b stream bytes refl came in
-    head_fault fault kind len stream rest wide (split ∙ ap (λ (t : List ℕ). t ++ rest) head) refused
+pub device_refused : (n : ℕ) (buf : List ℕ) (s t : SourceState) → length buf ≡ 5 → (n < length buf) × Gave 1 0 (take n buf) s t → IsReadRefused Device s t
+device_refused n buf s t five (short, gave) =
+    let count : length (take n buf) ≡ n = length-take-le n buf (omega arith) in
+    record { bytes = take n buf; gave = gave; within = inl (omega arith); refused = part count (cases_lt 0 n) } where
+      part : length (take n buf) ≡ n → (0 < n) ⊎ (n ≤ 0) → (take n buf ≡ []) ⊎ IsTorn (take n buf)
+      part count (inl some) = inr (inl (omega arith, omega arith))
+      part count (inr none) = inl (nil_from_length (take n buf) (omega arith))
 
-stopped_fault : (fault : FrameFault) (kind len : ℕ) (stream rest : List ℕ) → IsU32 len → IsPossible kind len → stream ≡ (kind ∷ u32_text len) ++ rest
-    → BodyStopped fault (Some rest) len → StreamRefused fault stream
-stopped_fault Torn kind len stream rest wide possible is short =
-    let there : length stream < 5 + length_at stream = subst (λ (s : List ℕ). length s < 5 + length_at s) (sym is) (omega (arith, head_length kind len rest, length_is kind len rest wide, short)) in
-    inr (good_head kind len stream rest wide possible is, there)
-stopped_fault Device kind len stream rest wide possible is short = tt
-stopped_fault Memory kind len stream rest wide possible is short = good_head kind len stream rest wide possible is
-stopped_fault BadKind kind len stream rest wide possible is short = absurd short
-stopped_fault BadLength kind len stream rest wide possible is short = absurd short
-stopped_fault BadField kind len stream rest wide possible is short = absurd short
-stopped_fault BadVersion kind len stream rest wide possible is short = absurd short
-stopped_fault Ended kind len stream rest wide possible is short = absurd short
+pub head_refused : (fault : FrameFault) (bytes : List ℕ) (s t : SourceState) → length bytes ≡ 5 → Gave 0 0 bytes s t → HeadRefused fault (kind_at bytes) (length_at bytes)
+    → IsReadRefused fault s t
+head_refused BadKind bytes s t five gave refused = record { bytes = bytes; gave = gave; within = inl (omega arith); refused = (omega arith, refused) }
+head_refused BadLength bytes s t five gave refused = record { bytes = bytes; gave = gave; within = inl (omega arith); refused = (omega arith, refused) }
+head_refused BadField bytes s t five gave refused = absurd refused
+head_refused BadVersion bytes s t five gave refused = absurd refused
+head_refused Ended bytes s t five gave refused = absurd refused
+head_refused Torn bytes s t five gave refused = absurd refused
+head_refused Device bytes s t five gave refused = absurd refused
+head_refused Memory bytes s t five gave refused = absurd refused
 
-pub body_stopped : (a b : Option (List ℕ)) (fault : FrameFault) (kind len : ℕ) (bytes : List ℕ) → IsU32 len → IsPossible kind len → Consumes a b bytes → bytes ≡ kind ∷ u32_text len
-    → BodyStopped fault b len → IfSome a (StreamRefused fault)
-body_stopped None b fault kind len bytes wide possible came head stopped = tt
-body_stopped (Some stream) b fault kind len bytes wide possible came head stopped =
-    let (rest, left, split) = consumes-told (Some stream) b stream bytes refl came in
-    stopped_fault fault kind len stream rest wide possible (split ∙ ap (λ (t : List ℕ). t ++ rest) head) (subst (λ (o : Option (List ℕ)). BodyStopped fault o len) left stopped)
+-- ---- a body that didn't come
+
+-- no memory for the next bytes
+pub cut_before : (count : ℕ) (s : SourceState) → 0 < count → IsCutShort Memory count s s
+cut_before count s some = record { bytes = []; gave = gave_nothing s; short = some; cause = inr (inr refl) }
+
+-- some of the next bytes
+pub cut_within : (fault : FrameFault) (n count : ℕ) (buf : List ℕ) (s t : SourceState) → CutsShort fault → length buf ≡ count
+    → (n < length buf) × Gave (failures_of fault) (ends_of fault) (take n buf) s t → IsCutShort fault count s t
+cut_within fault n count buf s t cause size (short, gave) =
+    record { bytes = take n buf; gave = gave; short = omega (arith, length-take-le n buf (omega arith)); cause = cause }
+
+-- so many bytes of the body, and then some of the next
+pub cut_more : (fault : FrameFault) (count len : ℕ) (body : List ℕ) (s t u : SourceState) → length body + count ≤ len → Gave 0 0 body s t
+    → IsCutShort fault count t u → IsCutShort fault len s u
+cut_more fault count len body s t u within first cut = record {
+  bytes = body ++ cut.bytes;
+  gave = gave_more (failures_of fault) (ends_of fault) body cut.bytes s t u first cut.gave;
+  short = omega (arith, length-append body cut.bytes, cut.short);
+  cause = cut.cause;
+}
+
+cut_cause : (fault : FrameFault) (all : List ℕ) → IsInBody all → CutsShort fault → StreamRefused fault all
+cut_cause fault all inside (inl torn) = subst (λ (f : FrameFault). StreamRefused f all) (sym torn) (inr inside)
+cut_cause fault all inside (inr (inl device)) = subst (λ (f : FrameFault). StreamRefused f all) (sym device) (inr (inr inside))
+cut_cause fault all inside (inr (inr memory)) = subst (λ (f : FrameFault). StreamRefused f all) (sym memory) (inl inside)
+
+-- a head, and some of its body
+pub cut_refused : (fault : FrameFault) (kind len : ℕ) (bytes : List ℕ) (s t u : SourceState) → IsU32 len → IsPossible kind len → bytes ≡ kind ∷ u32_text len
+    → Gave 0 0 bytes s t → IsCutShort fault len t u → IsReadRefused fault s u
+cut_refused fault kind len bytes s t u wide possible head first cut =
+    let split : bytes ++ cut.bytes ≡ (kind ∷ u32_text len) ++ cut.bytes = ap (λ (l : List ℕ). l ++ cut.bytes) head in
+    let good : HasGoodHead (bytes ++ cut.bytes) = good_head kind len (bytes ++ cut.bytes) cut.bytes wide possible split in
+    let size : length (bytes ++ cut.bytes) ≡ 5 + length cut.bytes = ap length split ∙ head_length kind len cut.bytes in
+    let told : length_at (bytes ++ cut.bytes) ≡ len = ap length_at split ∙ length_is kind len cut.bytes wide in
+    let inside : length (bytes ++ cut.bytes) < 5 + length_at (bytes ++ cut.bytes) = omega (arith, size, told, cut.short) in
+    record {
+      bytes = bytes ++ cut.bytes;
+      gave = gave_more (failures_of fault) (ends_of fault) bytes cut.bytes s t u first cut.gave;
+      within = inr (good, omega (arith, inside));
+      refused = cut_cause fault (bytes ++ cut.bytes) (good, inside) cut.cause;
+    }
+
+-- ---- a body that was refused
 
 -- a stream with a head and a body
 pub whole_body : (kind len : ℕ) (stream body rest : List ℕ) → IsU32 len → IsPossible kind len → length body ≡ len → stream ≡ (kind ∷ u32_text len) ++ (body ++ rest)
@@ -113,28 +135,35 @@ whole_body kind len stream body rest wide possible count is =
     let there : body_at stream ≡ body = ap (λ (n : ℕ). take n (drop 5 stream)) count-is ∙ ap (λ (t : List ℕ). take len (drop 5 t)) is ∙ ap (take len) (behind_is kind len (body ++ rest)) ∙ take_at body rest len count in
     ((good_head kind len stream (body ++ rest) wide possible is, long), ap kind_at is, there)
 
-body_fault : (fault : FrameFault) (kind len : ℕ) (stream body rest : List ℕ) → IsU32 len → IsPossible kind len → length body ≡ len → stream ≡ (kind ∷ u32_text len) ++ (body ++ rest)
-    → BodyRefused fault kind body → StreamRefused fault stream
-body_fault BadVersion kind len stream body rest wide possible count is refused =
-    let whole = whole_body kind len stream body rest wide possible count is in
-    (whole.0, subst (λ (k : ℕ). BodyRefused BadVersion k (body_at stream)) (sym whole.1) (subst (BodyRefused BadVersion kind) (sym whole.2) refused))
-body_fault BadField kind len stream body rest wide possible count is refused =
-    let whole = whole_body kind len stream body rest wide possible count is in
-    (whole.0, subst (λ (k : ℕ). BodyRefused BadField k (body_at stream)) (sym whole.1) (subst (BodyRefused BadField kind) (sym whole.2) refused))
-body_fault Memory kind len stream body rest wide possible count is refused = good_head kind len stream (body ++ rest) wide possible is
-body_fault BadKind kind len stream body rest wide possible count is refused = absurd refused
-body_fault BadLength kind len stream body rest wide possible count is refused = absurd refused
-body_fault Ended kind len stream body rest wide possible count is refused = absurd refused
-body_fault Torn kind len stream body rest wide possible count is refused = absurd refused
-body_fault Device kind len stream body rest wide possible count is refused = absurd refused
+body_fault : (fault : FrameFault) (all : List ℕ) → HasBody all → BodyRefused fault (kind_at all) (body_at all)
+    → StreamRefused fault all × (failures_of fault ≡ 0) × (ends_of fault ≡ 0)
+body_fault BadVersion all whole refused = ((whole, refused), refl, refl)
+body_fault BadField all whole refused = ((whole, refused), refl, refl)
+body_fault Memory all whole refused = (inr (whole, refused), refl, refl)
+body_fault BadKind all whole refused = absurd refused
+body_fault BadLength all whole refused = absurd refused
+body_fault Ended all whole refused = absurd refused
+body_fault Torn all whole refused = absurd refused
+body_fault Device all whole refused = absurd refused
 
-pub body_refused : (a b c : Option (List ℕ)) (fault : FrameFault) (kind len : ℕ) (bytes body : List ℕ) → IsU32 len → IsPossible kind len → length body ≡ len
-    → Consumes a b bytes → bytes ≡ kind ∷ u32_text len → Consumes b c body → BodyRefused fault kind body → IfSome a (StreamRefused fault)
-body_refused None b c fault kind len bytes body wide possible count first head second refused = tt
-body_refused (Some stream) b c fault kind len bytes body wide possible count first head second refused =
-    let (middle, left, split) = consumes-told (Some stream) b stream bytes refl first in
-    let (rest, left', split') = consumes-told b c middle body left second in
-    body_fault fault kind len stream body rest wide possible count (split ∙ ap (λ (t : List ℕ). t ++ middle) head ∙ ap (λ (t : List ℕ). (kind ∷ u32_text len) ++ t) split') refused
+-- a head and its body
+pub body_refused : (fault : FrameFault) (kind len : ℕ) (bytes body : List ℕ) (s t u : SourceState) → IsU32 len → IsPossible kind len → length body ≡ len
+    → bytes ≡ kind ∷ u32_text len → Gave 0 0 bytes s t → Gave 0 0 body t u → BodyRefused fault kind body → IsReadRefused fault s u
+body_refused fault kind len bytes body s t u wide possible count head first second refused =
+    let split : bytes ++ body ≡ (kind ∷ u32_text len) ++ body = ap (λ (l : List ℕ). l ++ body) head in
+    let whole = whole_body kind len (bytes ++ body) body [] wide possible count (split ∙ ap (λ (l : List ℕ). (kind ∷ u32_text len) ++ l) (sym (append-nil body))) in
+    let size : length (bytes ++ body) ≡ 5 + length body = ap length split ∙ head_length kind len body in
+    let told : length_at (bytes ++ body) ≡ len = ap length_at split ∙ length_is kind len body wide in
+    let there : BodyRefused fault (kind_at (bytes ++ body)) (body_at (bytes ++ body)) =
+    subst (λ (k : ℕ). BodyRefused fault k (body_at (bytes ++ body))) (sym whole.1) (subst (BodyRefused fault kind) (sym whole.2) refused) in
+    let is = body_fault fault (bytes ++ body) whole.0 there in
+    let gave : Gave 0 0 (bytes ++ body) s u = gave_more 0 0 bytes body s t u first second in
+    record {
+      bytes = bytes ++ body;
+      gave = subst (λ (k : ℕ). Gave k (ends_of fault) (bytes ++ body) s u) (sym is.1) (subst (λ (k : ℕ). Gave 0 k (bytes ++ body) s u) (sym is.2) gave);
+      within = inr (whole.0.0, omega (arith, size, told, count));
+      refused = is.0;
+    }
 
 -- ---- a piece of the body
 

@@ -71,9 +71,13 @@ i32_front m n x y first second same =
 
 -- ---- items of lists
 
--- the ends of a link are at most 2^26, so a link's text is wide enough where its weight fits
+-- the ends and the weight of a link fit their texts
 abbrev pub FitsWeight : Link → Type 0
 FitsWeight l = FitsSigned w32 l.weight
+
+pub weights_fit : (links : List Link) → AllByRecursion FitsWeight links
+weights_fit [] = tt
+weights_fit (l ∷ links) = (l.weight_fits, weights_fit links)
 
 pub link_front : (l m : Link) (x y : List ℕ) → FitsWeight l → FitsWeight m → link_text l ++ x ≡ link_text m ++ y → (l ≡ m) × (x ≡ y)
 link_front l m x y first second same =

@@ -1,6 +1,6 @@
 -- Lawful frames: the fields fit their widths, and say what they may say.
-use Rattle.std.specs.Prelude.{◌≡◌, ℕ, ◌<◌, ◌≤◌, ◌^◌, List, length, All, FitsSigned}
-use Rattle.std.specs.Int.{w32}
+use Rattle.std.specs.Prelude.{◌≡◌, ℕ, ◌<◌, ◌≤◌, ◌^◌, ◌*◌, List, length, All}
+use Rattle.limits.specs.declared.TheConstants.{MAX_SHARDS, MAX_SHARD_LINKS, MAX_WORKERS}
 use Rattle.link_key.specs.declared.links.Link.{Link}
 use Rattle.link_key.specs.Labels.{AreLabels}
 use Rattle.link_key.specs.Offers.{AreOffers}
@@ -11,28 +11,27 @@ use Rattle.frames.specs.FrameValue.{FrameValue, HelloFrame, ShardFrame, AskFrame
 abbrev pub IsU32 : ℕ → Type 0
 IsU32 n = n < 2 ^ 32
 
--- the first version, and one of 64 workers
+-- the first version, and one of the workers
 pub record IsHello (v w : ℕ) : Type 0 where
   pub version : v ≡ 1
-  pub worker : w < 64
+  pub worker : w < MAX_WORKERS
 
--- a shard of at most 2^24 links; that their ends ascend and are at most 2^26 is part of what a link is
+-- a shard of a cut; that the ends of its links ascend and are vertices is part of what a link is
 pub record IsShard (n : ℕ) (ls : List Link) : Type 0 where
-  pub number : n < 4096
-  pub count : length ls ≤ 2 ^ 24
-  pub weights : All (λ l. FitsSigned w32 l.weight) ls
+  pub number : n < MAX_SHARDS
+  pub count : length ls ≤ MAX_SHARD_LINKS
 
 -- labels of the vertices 1, 2, .. of a graph, for a shard
 pub record IsAsk (r s : ℕ) (ls : List ℕ) : Type 0 where
   pub round : IsU32 r
-  pub shard : s < 4096
+  pub shard : s < MAX_SHARDS
   pub labels : AreLabels ls
 
--- offers of strictly ascending components, of any shard in any round
+-- offers of strictly ascending components, at most one for each end of a link, of any shard in any round
 pub record IsAnswer (a : AnswerValue) : Type 0 where
   pub round : IsU32 a.round
   pub shard : IsU32 a.shard
-  pub count : length a.offers ≤ 2 ^ 25
+  pub count : length a.offers ≤ 2 * MAX_SHARD_LINKS
   pub fit : All (λ o. IsU32 o.0 × IsU32 o.1) a.offers
   pub ascending : AreOffers a.offers
 

@@ -4,4 +4,5 @@ pub mod FrameText
 pub mod Lawful
 pub mod Refusals
 pub mod OneText
+pub mod FrameStream
 pub mod ReadFault

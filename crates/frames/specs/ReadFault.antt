@@ -1,29 +1,45 @@
--- What a fault of a read says of the stream, where its bytes are known.
-use Rattle.std.specs.Prelude.{◌≡◌, ℕ, ◌<◌, ⊤, List, [], length, Option, IfSome, Result, Err}
+-- What a read of a frame that failed says of the stream.
+use Rattle.std.specs.Prelude.{◌≡◌, ℕ, ◌+◌, ◌<◌, ◌≤◌, ◌⊎◌, List, length, IfSome}
+use Rattle.byte_streams.specs.Streams.{SourceState, Gave}
+use Rattle.frames.specs.Refusals.{HasGoodHead, StreamRefused, length_at}
+use Rattle.frames.specs.FrameStream.{IsTelling}
 use Rattle.frames.specs.declared.fault.FrameFault.{FrameFault}
 use Rattle.frames.specs.declared.fault.FrameFault.TheVariants.{Ended, Torn, Device, Memory}
 
--- P where a read failed, else Q
-abbrev pub WhereFailed : {T : Type 0} → Result T FrameFault → Type 0 → Type 0 → Type 0
-WhereFailed (Err Device) P Q = P
-WhereFailed _ P Q = Q
+-- how many reads failed
+abbrev pub failures_of : FrameFault → ℕ
+failures_of Device = 1
+failures_of _ = 0
 
--- P where the stream ended, else Q
-abbrev pub WhereEnded : {T : Type 0} → Result T FrameFault → Type 0 → Type 0 → Type 0
-WhereEnded (Err Ended) P Q = P
-WhereEnded (Err Torn) P Q = P
-WhereEnded _ P Q = Q
+-- how many reads found the end
+abbrev pub ends_of : FrameFault → ℕ
+ends_of Ended = 1
+ends_of Torn = 1
+ends_of _ = 0
 
--- why a head didn't come
-abbrev pub HeadStopped : FrameFault → Option (List ℕ) → Type 0
-HeadStopped Ended stream = IfSome stream (λ bytes. bytes ≡ [])
-HeadStopped Torn stream = IfSome stream (λ bytes. (0 < length bytes) × (length bytes < 5))
-HeadStopped Device stream = ⊤
-HeadStopped _ stream = ⊥
+-- no more than a frame: at most a head, or a head that isn't refused and at most its body
+abbrev pub IsWithinFrame : List ℕ → Type 0
+IsWithinFrame bytes = (length bytes ≤ 5) ⊎ (HasGoodHead bytes × (length bytes ≤ 5 + length_at bytes))
 
--- why so many bytes of a body didn't come
-abbrev pub BodyStopped : FrameFault → Option (List ℕ) → ℕ → Type 0
-BodyStopped Torn stream len = IfSome stream (λ bytes. length bytes < len)
-BodyStopped Device stream len = ⊤
-BodyStopped Memory stream len = ⊤
-BodyStopped _ stream len = ⊥
+-- some bytes came, no more than a frame, and they are refused for this fault
+pub record IsReadRefused (fault : FrameFault) (before after : SourceState) : Type 0 where
+  pub bytes : List ℕ
+  pub gave : Gave (failures_of fault) (ends_of fault) bytes before after
+  pub within : IsWithinFrame bytes
+  pub refused : StreamRefused fault bytes
+
+-- a fault that leaves a body unread
+abbrev pub CutsShort : FrameFault → Type 0
+CutsShort fault = (fault ≡ Torn) ⊎ ((fault ≡ Device) ⊎ (fault ≡ Memory))
+
+-- fewer than `len` bytes of a body came
+pub record IsCutShort (fault : FrameFault) (len : ℕ) (before after : SourceState) : Type 0 where
+  pub bytes : List ℕ
+  pub gave : Gave (failures_of fault) (ends_of fault) bytes before after
+  pub short : length bytes < len
+  pub cause : CutsShort fault
+
+-- Where a source tells all that it has left, a refusal is one of all of it, unless a read failed or memory was wanting.
+abbrev pub RefusalIsOfTheStream : Type 0
+RefusalIsOfTheStream = (fault : FrameFault) (before after : SourceState) → IsTelling fault → IsReadRefused fault before after
+    → IfSome before.left (StreamRefused fault)

@@ -1,10 +1,11 @@
 -- When a stream of bytes gives no frame, and why: each fault stands where those before it in the list don't.
-use Rattle.std.specs.Prelude.{◌≡◌, ◌≢◌, ℕ, ◌+◌, ◌*◌, ◌<◌, ◌≤◌, ◌^◌, ◌⊎◌, ⊤, List, [], length, slice_index, take, drop, All, FitsSigned}
+use Rattle.std.specs.Prelude.{◌≡◌, ◌≢◌, ℕ, ◌+◌, ◌*◌, ◌<◌, ◌≤◌, ◌^◌, ◌⊎◌, ⊤, List, [], ◌++◌, length, slice_index, take, drop}
 use Rattle.std.specs.List.{flat_map}
 use Rattle.std.specs.Int.{w16, w32, from_be_bytes}
+use Rattle.limits.specs.declared.TheConstants.{MAX_SHARDS, MAX_SHARD_LINKS, MAX_VERTICES}
 use Rattle.frames.specs.FrameValue.{FrameValue}
 use Rattle.link_key.specs.declared.links.Link.{Link}
-use Rattle.frames.specs.FrameText.{link_text, kind_of, body_of}
+use Rattle.frames.specs.FrameText.{u32_text, link_text, kind_of, body_of}
 use Rattle.frames.specs.Lawful.{IsLawful}
 use Rattle.frames.specs.declared.fault.FrameFault.{FrameFault}
 use Rattle.frames.specs.declared.fault.FrameFault.TheVariants.{BadKind, BadLength, BadField, BadVersion, Ended, Torn, Device, Memory}
@@ -22,9 +23,9 @@ IsWithItems fixed item most len = (count : ℕ) × (count ≤ most) × (len ≡ 
 pub record IsPossible (kind len : ℕ) : Type 0 where
   pub known : IsKind kind
   pub hello : kind ≡ 1 → len ≡ 6
-  pub shard : kind ≡ 2 → IsWithItems 8 12 (2 ^ 24) len
-  pub ask : kind ≡ 3 → IsWithItems 12 4 (2 ^ 26) len
-  pub answer : kind ≡ 4 → IsWithItems 12 8 (2 ^ 25) len
+  pub shard : kind ≡ 2 → IsWithItems 8 12 MAX_SHARD_LINKS len
+  pub ask : kind ≡ 3 → IsWithItems 12 4 MAX_VERTICES len
+  pub answer : kind ≡ 4 → IsWithItems 12 8 (2 * MAX_SHARD_LINKS) len
   pub fault : kind ≡ 5 → len ≡ 9
 
 -- why a head is refused
@@ -35,11 +36,11 @@ HeadRefused _ kind len = ⊥
 
 -- twelve bytes that no link has
 abbrev pub IsNoLink : List ℕ → Type 0
-IsNoLink bytes = (l : Link) → FitsSigned w32 l.weight → link_text l ≢ bytes
+IsNoLink bytes = (l : Link) → link_text l ≢ bytes
 
 -- bytes that no list of links has
 abbrev pub AreNoLinks : List ℕ → Type 0
-AreNoLinks bytes = (links : List Link) → All (λ l. FitsSigned w32 l.weight) links → flat_map link_text links ≢ bytes
+AreNoLinks bytes = (links : List Link) → flat_map link_text links ≢ bytes
 
 -- why a list of links was not read
 abbrev pub LinksRefused : FrameFault → List ℕ → Type 0
@@ -57,15 +58,43 @@ pub record IsFrameOf (v : FrameValue) (k : ℕ) (bytes : List ℕ) : Type 0 wher
 abbrev pub IsOtherVersion : ℕ → List ℕ → Type 0
 IsOtherVersion kind body = (kind ≡ 1) × (from_be_bytes w16 (take 2 body) ≢ 1)
 
--- a body with a list, for which memory is taken
-abbrev pub HasItems : ℕ → Type 0
-HasItems kind = (2 ≤ kind) × (kind ≤ 4)
+-- a shard's body whose number is lawful, and whose count is that of the links behind it
+pub record ShardBegun (body : List ℕ) : Type 0 where
+  pub number : ℕ
+  pub count : ℕ
+  pub links : List ℕ
+  pub split : body ≡ u32_text number ++ (u32_text count ++ links)
+  pub in_range : number < MAX_SHARDS
+  pub counted : length links ≡ 12 * count
 
--- why a body is refused: by its version, or else since no lawful frame has it
+-- an ask's body whose shard is lawful, and whose count is that of the labels behind it
+pub record AskBegun (body : List ℕ) : Type 0 where
+  pub round : ℕ
+  pub shard : ℕ
+  pub count : ℕ
+  pub labels : List ℕ
+  pub split : body ≡ u32_text round ++ (u32_text shard ++ (u32_text count ++ labels))
+  pub in_range : shard < MAX_SHARDS
+  pub counted : length labels ≡ 4 * count
+
+-- an answer's body whose count is that of the offers behind it
+pub record AnswerBegun (body : List ℕ) : Type 0 where
+  pub round : ℕ
+  pub shard : ℕ
+  pub count : ℕ
+  pub offers : List ℕ
+  pub split : body ≡ u32_text round ++ (u32_text shard ++ (u32_text count ++ offers))
+  pub counted : length offers ≡ 8 * count
+
+-- a body with a list, for which memory is taken, and lawful fields before the list
+abbrev pub IsListBegun : ℕ → List ℕ → Type 0
+IsListBegun kind body = ((kind ≡ 2) × ShardBegun body) ⊎ (((kind ≡ 3) × AskBegun body) ⊎ ((kind ≡ 4) × AnswerBegun body))
+
+-- why a body is refused: by its version, or else since no lawful frame has it; or memory for its list was wanting
 abbrev pub BodyRefused : FrameFault → ℕ → List ℕ → Type 0
 BodyRefused BadVersion kind body = IsOtherVersion kind body
 BodyRefused BadField kind body = ¬ IsOtherVersion kind body × ((v : FrameValue) → ¬ IsFrameOf v kind body)
-BodyRefused Memory kind body = HasItems kind
+BodyRefused Memory kind body = IsListBegun kind body
 BodyRefused _ kind body = ⊥
 
 -- the kind and the length that the first five bytes say, and the body behind them
@@ -88,11 +117,15 @@ HasGoodHead stream = HasHead stream × IsPossible (kind_at stream) (length_at st
 abbrev pub HasBody : List ℕ → Type 0
 HasBody stream = HasGoodHead stream × (5 + length_at stream ≤ length stream)
 
+-- a head that isn't refused, and less than its body
+abbrev pub IsInBody : List ℕ → Type 0
+IsInBody stream = HasGoodHead stream × (length stream < 5 + length_at stream)
+
 -- the stream ends inside the head, or inside the body of a head that isn't refused
 abbrev pub IsTorn : List ℕ → Type 0
-IsTorn stream = ((0 < length stream) × (length stream < 5)) ⊎ (HasGoodHead stream × (length stream < 5 + length_at stream))
+IsTorn stream = ((0 < length stream) × (length stream < 5)) ⊎ IsInBody stream
 
--- why a stream is refused; a failed read and want of memory may come at any place
+-- why a stream, or what came of it, is refused; a read failed before a whole frame came, and memory was wanting for the body or for its list
 abbrev pub StreamRefused : FrameFault → List ℕ → Type 0
 StreamRefused Ended stream = stream ≡ []
 StreamRefused Torn stream = IsTorn stream
@@ -100,5 +133,5 @@ StreamRefused BadKind stream = HasHead stream × HeadRefused BadKind (kind_at st
 StreamRefused BadLength stream = HasHead stream × HeadRefused BadLength (kind_at stream) (length_at stream)
 StreamRefused BadVersion stream = HasBody stream × BodyRefused BadVersion (kind_at stream) (body_at stream)
 StreamRefused BadField stream = HasBody stream × BodyRefused BadField (kind_at stream) (body_at stream)
-StreamRefused Device stream = ⊤
-StreamRefused Memory stream = HasGoodHead stream
+StreamRefused Device stream = (stream ≡ []) ⊎ IsTorn stream
+StreamRefused Memory stream = IsInBody stream ⊎ (HasBody stream × BodyRefused Memory (kind_at stream) (body_at stream))

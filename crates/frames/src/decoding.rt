@@ -1,5 +1,5 @@
 //! Frames from bytes.
-ghost use Rattle.std.specs.Prelude.{◌≡◌, ◌^◌, length, IfOk, IfErr};
+ghost use Rattle.std.specs.Prelude.{◌≡◌, ◌*◌, length, IfOk, IfErr};
 ghost use Rattle.frames.specs.FrameValue.{value_of};
 ghost use Rattle.frames.specs.Refusals.{IsPossible, IsWithItems, IsFrameOf, BodyRefused};
 
@@ -8,6 +8,7 @@ use crate::fields::{split_u16, split_u32};
 use crate::frame::{Answer, Frame, Links};
 use crate::head::Head;
 use crate::items::{links_of, numbers_of, offers_of};
+use limits::{MAX_SHARD_LINKS, MAX_SHARDS, MAX_VERTICES, MAX_WORKERS};
 use link_key::{Labels, Offers};
 use std::alloc::Allocator;
 
@@ -15,7 +16,8 @@ use std::alloc::Allocator;
 ///
 /// `BadVersion` where it is a hello of another version than 1, else `BadField` where no lawful frame
 /// has this body. One list is made beside the body's bytes, and looked at once more; a hello and a
-/// fault take no memory. `Memory` where that list's growth was refused.
+/// fault take no memory. `Memory` where that list's growth was refused, which is asked for only once
+/// the fields before the list were found lawful.
 pub fn decode_body<A: Allocator>(alloc: A, head: Head, body: &[u8]) -> Result<Frame<A>, FrameFault>
     requires length { length body.now ≡ head.length }
     requires possible { IsPossible head.kind head.length }
@@ -41,20 +43,20 @@ fn decode_hello<A: Allocator>(body: &[u8]) -> Result<Frame<A>, FrameFault>
     if version != 1 {
         return Err(FrameFault::BadVersion);
     }
-    if worker >= 64 {
+    if worker >= MAX_WORKERS {
         return Err(FrameFault::BadField);
     }
     Ok(Frame::Hello { version, worker })
 }
 
 fn decode_shard<A: Allocator>(alloc: A, body: &[u8]) -> Result<Frame<A>, FrameFault>
-    requires { IsWithItems 8 12 (2 ^ 24) (length body.now) }
+    requires { IsWithItems 8 12 MAX_SHARD_LINKS (length body.now) }
     ensures frame { IfOk result (λ f. IsFrameOf (value_of f) 2 body.now) }
     ensures refused { IfErr result (λ fault. BodyRefused fault 2 body.now) }
 {
     let (number, rest) = split_u32(body);
     let (count, rest) = split_u32(rest);
-    if number >= 4096 || count as usize != rest.len() / 12 {
+    if number as usize >= MAX_SHARDS || count as usize != rest.len() / 12 {
         return Err(FrameFault::BadField);
     }
     let links = Links::of_list(links_of(alloc, rest)?);
@@ -62,14 +64,14 @@ fn decode_shard<A: Allocator>(alloc: A, body: &[u8]) -> Result<Frame<A>, FrameFa
 }
 
 fn decode_ask<A: Allocator>(alloc: A, body: &[u8]) -> Result<Frame<A>, FrameFault>
-    requires { IsWithItems 12 4 (2 ^ 26) (length body.now) }
+    requires { IsWithItems 12 4 MAX_VERTICES (length body.now) }
     ensures frame { IfOk result (λ f. IsFrameOf (value_of f) 3 body.now) }
     ensures refused { IfErr result (λ fault. BodyRefused fault 3 body.now) }
 {
     let (round, rest) = split_u32(body);
     let (shard, rest) = split_u32(rest);
     let (count, rest) = split_u32(rest);
-    if shard >= 4096 || count as usize != rest.len() / 4 {
+    if shard as usize >= MAX_SHARDS || count as usize != rest.len() / 4 {
         return Err(FrameFault::BadField);
     }
     let numbers = numbers_of(alloc, rest)?;
@@ -84,7 +86,7 @@ fn decode_ask<A: Allocator>(alloc: A, body: &[u8]) -> Result<Frame<A>, FrameFaul
 }
 
 fn decode_answer<A: Allocator>(alloc: A, body: &[u8]) -> Result<Frame<A>, FrameFault>
-    requires { IsWithItems 12 8 (2 ^ 25) (length body.now) }
+    requires { IsWithItems 12 8 (2 * MAX_SHARD_LINKS) (length body.now) }
     ensures frame { IfOk result (λ f. IsFrameOf (value_of f) 4 body.now) }
     ensures refused { IfErr result (λ fault. BodyRefused fault 4 body.now) }
 {

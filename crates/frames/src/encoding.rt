@@ -1,5 +1,5 @@
 //! Frames as bytes.
-ghost use Rattle.std.specs.Prelude.{◌≡◌, ◌+◌, ◌<◌, ◌≤◌, ◌^◌, ◌∷◌, ◌++◌, length, IfOk, OnOk};
+ghost use Rattle.std.specs.Prelude.{◌≡◌, ◌+◌, ◌*◌, ◌<◌, ◌≤◌, ◌∷◌, ◌++◌, length, IfOk, OnOk};
 ghost use Rattle.std.specs.List.{flat_map};
 ghost use Rattle.frames.specs.FrameValue.{value_of, HelloFrame, ShardFrame, AskFrame, AnswerFrame, FaultFrame};
 ghost use Rattle.frames.specs.FrameText.{u32_text, link_text, offer_text, text_of};
@@ -8,6 +8,7 @@ ghost use Rattle.frames.specs.Lawful.{IsLawful};
 use crate::fields::{put_u16, put_u32};
 use crate::frame::{Answer, Frame};
 use crate::items::{put_links, put_numbers, put_offers};
+use limits::{MAX_SHARD_LINKS, MAX_SHARDS};
 use link_key::{Labels, Link, Shard};
 use std::alloc::{AllocError, Allocator};
 
@@ -58,8 +59,8 @@ fn encode_hello<A: Allocator>(alloc: A, version: u16, worker: u32) -> Result<Vec
 /// The text of a shard's frame: the same as that of the frame which holds these links, without a
 /// copy of them. The only error is want of memory.
 pub fn encode_shard<A: Allocator>(alloc: A, shard: &Shard) -> Result<Vec<u8, A>, AllocError>
-    requires number { shard.now.number < 4096 }
-    requires count { length shard.now.links.now ≤ 2 ^ 24 }
+    requires number { shard.now.number < MAX_SHARDS }
+    requires count { length shard.now.links.now ≤ MAX_SHARD_LINKS }
     ensures { IfOk result
         (λ text. text.items ≡ text_of (ShardFrame shard.now.number shard.now.links.now)) }
 {
@@ -79,7 +80,7 @@ pub fn encode_ask<A: Allocator, B: Allocator>(
     shard: u32,
     labels: &Labels<B>,
 ) -> Result<Vec<u8, A>, AllocError>
-    requires { shard < 4096 }
+    requires { shard < MAX_SHARDS }
     ensures { IfOk result (λ text. text.items ≡ text_of (AskFrame round shard labels.now)) }
 {
     let count = labels.n();
@@ -95,7 +96,7 @@ fn encode_answer<A: Allocator, B: Allocator>(
     alloc: A,
     answer: &Answer<B>,
 ) -> Result<Vec<u8, A>, AllocError>
-    requires { length answer.now.offers ≤ 2 ^ 25 }
+    requires { length answer.now.offers ≤ 2 * MAX_SHARD_LINKS }
     ensures { IfOk result (λ text. text.items ≡ text_of (AnswerFrame answer.now)) }
 {
     let offers = answer.offers.pairs();

@@ -5,6 +5,7 @@ ghost use Rattle.frames.specs.Refusals.{IsWithItems, IsKind, IsPossible, HeadRef
 
 use crate::fault::FrameFault;
 use crate::fields::split_u32;
+use limits::{MAX_SHARD_LINKS, MAX_VERTICES};
 
 /// The first five bytes of a frame: its kind, and how many bytes its body has.
 #[derive(Clone, Copy, Debug, PartialEq, Eq)]
@@ -41,9 +42,9 @@ fn is_possible(kind: u8, length: u32) -> bool
 {
     match kind {
         1 => length == 6,
-        2 => is_with_items(8, 12, 1 << 24, length),
-        3 => is_with_items(12, 4, 1 << 26, length),
-        4 => is_with_items(12, 8, 1 << 25, length),
+        2 => is_with_items(8, 12, MAX_SHARD_LINKS as u32, length),
+        3 => is_with_items(12, 4, MAX_VERTICES, length),
+        4 => is_with_items(12, 8, 2 * MAX_SHARD_LINKS as u32, length),
         _ => length == 9,
     }
 }

