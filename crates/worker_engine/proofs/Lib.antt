@@ -1,1 +1,4 @@
 pub mod Scans
+pub mod Offering
+pub mod Replying
+pub mod Sessions

@@ -1,1 +1,4 @@
 pub mod Scanning
+pub mod Serving
+pub mod Session
+pub mod Laws

@@ -1,0 +1,146 @@
+-- Replies to frames, one after the other.
+use Rattle.std.proofs.Common.{◌≡◌, ℕ, ◌+◌, ◌<◌, ◌≤◌, ◌^◌, Option, Some, None, List, [], ◌∷◌, ◌++◌, length, refl, sym, ap, subst, ◌∙◌, inl, inr, append_assoc, append-nil, arith}
+use Rattle.std.specs.Prelude.{IfSome, ◌==◌, if◌then◌else◌}
+use Rattle.std.proofs.lemmas.Bool.{eq-eqb, ne_eqb}
+use Rattle.std.proofs.lemmas.Bool.Decides.{eqb_tells}
+use Rattle.std.proofs.lemmas.List.{length-append}
+use Rattle.limits.specs.declared.TheConstants.{MAX_SHARD_LINKS}
+use Rattle.link_key.specs.declared.links.Link.{Link}
+use Rattle.frames.specs.FrameValue.{FrameValue, HelloFrame, ShardFrame, AskFrame, AnswerFrame, FaultFrame}
+use Rattle.frames.specs.FrameText.{text_of}
+use Rattle.frames.specs.Lawful.{IsLawful, IsAsk, IsFault}
+use Rattle.frames.specs.FrameStream.{texts_of, AreLawful, AreFramesOf}
+use Rattle.frames.proofs.Texts.{parts_same}
+use Rattle.frames.proofs.FrameStreams.{texts-append, lawful-append, lawful_prefix, prefix_has_prefix_frames}
+use Rattle.worker_engine.specs.Serving.{Shelf, empty_shelf, shelf_with, shelf_after, AreShort, IsReply, IsWantOfMemory, MayReply, AreReplyTo, MayFollow, AreReplies, Serves, ask_bit, asks_in}
+use Rattle.worker_engine.proofs.Offering.{light_answer_is_lawful}
+
+-- what is written for frames that stand behind others comes behind what is written for those
+pub replies_split : (shelf : Shelf) (fs gs out : List FrameValue) → AreReplies shelf (fs ++ gs) out
+    → (early late : List FrameValue) × (out ≡ early ++ late) × AreReplies shelf fs early × AreReplies (shelf_after shelf fs) gs late
+replies_split shelf [] gs out are = ([], out, refl, refl, are)
+replies_split shelf (f ∷ fs) gs out are =
+    let (now, later, split, heard, rest) = are in
+    let (early, late, is, first, second) = replies_split (shelf_with shelf f) fs gs later rest in
+    (now ++ early, late, split ∙ ap (λ (t : List FrameValue). now ++ t) is ∙ sym (append_assoc now early late), (now, early, refl, heard, first), second)
+
+pub replies_join : (shelf : Shelf) (fs gs early late : List FrameValue) → AreReplies shelf fs early → AreReplies (shelf_after shelf fs) gs late
+    → AreReplies shelf (fs ++ gs) (early ++ late)
+replies_join shelf [] gs early late first second = subst (AreReplies shelf gs) (ap (λ (t : List FrameValue). t ++ late) (sym first)) second
+replies_join shelf (f ∷ fs) gs early late first second =
+    let (now, later, split, heard, rest) = first in
+    (now, later ++ late, ap (λ (t : List FrameValue). t ++ late) split ∙ append_assoc now later late, heard, replies_join (shelf_with shelf f) fs gs later late rest second)
+
+pub shelf_after-append : (shelf : Shelf) (fs gs : List FrameValue) → shelf_after shelf (fs ++ gs) ≡ shelf_after (shelf_after shelf fs) gs
+shelf_after-append shelf [] gs = refl
+shelf_after-append shelf (f ∷ fs) gs = shelf_after-append (shelf_with shelf f) fs gs
+
+pub asks-append : (fs gs : List FrameValue) → asks_in (fs ++ gs) ≡ asks_in fs + asks_in gs
+asks-append [] gs = omega arith
+asks-append (f ∷ fs) gs = omega (arith, asks-append fs gs)
+
+-- one reply per ask
+reply_count : (shelf : Shelf) (f : FrameValue) (out : List FrameValue) → MayFollow shelf f out → length out ≡ ask_bit f
+reply_count shelf (AskFrame r s ls) out heard = ap length heard.1
+reply_count shelf (HelloFrame v w) out heard = ap length heard
+reply_count shelf (ShardFrame n ls) out heard = ap length heard
+reply_count shelf (AnswerFrame a) out heard = ap length heard
+reply_count shelf (FaultFrame r s c) out heard = ap length heard
+
+pub replies_count : (shelf : Shelf) (fs out : List FrameValue) → AreReplies shelf fs out → length out ≡ asks_in fs
+replies_count shelf [] out are = ap length are
+replies_count shelf (f ∷ fs) out are =
+    let (now, later, split, heard, rest) = are in
+    omega (arith, ap length split, length-append now later, reply_count shelf f now heard, replies_count (shelf_with shelf f) fs later rest)
+
+-- where as many replies came as there were asks before the last frame, an ask, the next one is the reply to it, and the last
+pub last_reply : (shelf : Shelf) (fs : List FrameValue) (round shard : ℕ) (labels : List ℕ) (came : List FrameValue) (v : FrameValue) (more : List FrameValue)
+    → AreReplies shelf (fs ++ AskFrame round shard labels ∷ []) (came ++ v ∷ more) → length came ≡ asks_in fs
+    → MayReply (shelf_after shelf fs shard) round shard labels v
+last_reply shelf fs round shard labels came v more are count =
+    let (early, late, split, first, second) = replies_split shelf fs (AskFrame round shard labels ∷ []) (came ++ v ∷ more) are in
+    let parts = parts_same came early (v ∷ more) late (count ∙ sym (replies_count shelf fs early first)) split in
+    let (now, later, is, heard, none) = second in
+    let (reply, one, good) = heard in
+    let same : v ∷ more ≡ reply ∷ [] = parts.1 ∙ is ∙ ap (λ (t : List FrameValue). t ++ later) one ∙ ap (λ (t : List FrameValue). reply ∷ t) none in
+    let first_is : reply ≡ v = cc in
+    subst (MayReply (shelf_after shelf fs shard) round shard labels) first_is good
+
+-- as many replies as asks are all of them
+pub no_more_replies : (shelf : Shelf) (fs came more : List FrameValue) → AreReplies shelf fs (came ++ more) → length came ≡ asks_in fs → more ≡ []
+no_more_replies shelf fs came [] are count = refl
+no_more_replies shelf fs came (v ∷ more) are count =
+    absurd (omega (arith, length-append came (v ∷ more), replies_count shelf fs (came ++ v ∷ more) are))
+
+-- what is written for a stream begins with what may be written for a prefix of it
+pub prefix_has_prefix_replies : (worker : ℕ) (prefix rest out : List ℕ) → Serves worker (prefix ++ rest) out
+    → (early : List ℕ) × (late : List ℕ) × (out ≡ early ++ late) × Serves worker prefix early
+prefix_has_prefix_replies worker prefix rest out serves =
+    let (some, more, is, are) = prefix_has_prefix_frames prefix rest serves.frames serves.heard in
+    let all : AreReplies empty_shelf (some ++ more) serves.replies = subst (λ (fs : List FrameValue). AreReplies empty_shelf fs serves.replies) is serves.answered in
+    let (early, late, split, first, second) = replies_split empty_shelf some more serves.replies all in
+    let hello : List ℕ = text_of (HelloFrame 1 worker) in (
+      hello ++ texts_of early,
+      texts_of late,
+      serves.written ∙ ap (λ (rs : List FrameValue). hello ++ texts_of rs) split ∙ ap (λ (t : List ℕ). hello ++ t) (texts-append early late) ∙ sym (append_assoc hello (texts_of early) (texts_of late)),
+      record { frames = some; replies = early; heard = are; answered = first; written = refl },
+    )
+
+-- one more frame is heard
+pub replies_more : (fs out now : List FrameValue) (v : FrameValue) → AreReplies empty_shelf fs out → MayFollow (shelf_after empty_shelf fs) v now
+    → AreReplies empty_shelf (fs ++ v ∷ []) (out ++ now)
+replies_more fs out now v are heard = replies_join empty_shelf fs (v ∷ []) out now are (now, [], sym (append-nil now), heard, refl)
+
+-- an engine's reply is one that may be written
+pub reply_may_follow : (shelf : Shelf) (v : FrameValue) (out : List FrameValue) → AreReplyTo shelf v out → MayFollow shelf v out
+reply_may_follow shelf (AskFrame r s ls) out (reply, one, is) = (reply, one, inl is)
+reply_may_follow shelf (HelloFrame v w) out none = none
+reply_may_follow shelf (ShardFrame n ls) out none = none
+reply_may_follow shelf (AnswerFrame a) out none = none
+reply_may_follow shelf (FaultFrame r s c) out none = none
+
+-- ---- what may be written is lawful
+
+fault_is_lawful : (r s c : ℕ) (ls : List ℕ) → IsAsk r s ls → 1 ≤ c → c ≤ 3 → IsLawful (FaultFrame r s c)
+fault_is_lawful r s c ls ask from to = record { round = ask.round; shard = omega (arith, ask.shard); code_from_one = from; code_to_three = to }
+
+reply_is_lawful : (kept : Option (List Link)) (r s : ℕ) (ls : List ℕ) (v : FrameValue) → IfSome kept (λ links. length links ≤ MAX_SHARD_LINKS) → IsAsk r s ls
+    → MayReply kept r s ls v → IsLawful v
+reply_is_lawful None r s ls v short ask (inl is) = subst IsLawful (sym is) (fault_is_lawful r s 2 ls ask (omega arith) (omega arith))
+reply_is_lawful None r s ls v short ask (inr is) = absurd is
+reply_is_lawful (Some links) r s ls (AnswerFrame a) short ask (inl is) =
+    light_answer_is_lawful links ls a short ask.labels is.ends (omega (arith, ask.round, is.round_is)) (omega (arith, ask.shard, is.shard_is)) is.light
+reply_is_lawful (Some links) r s ls (HelloFrame v w) short ask (inl is) = subst IsLawful (sym is.0) (fault_is_lawful r s 3 ls ask (omega arith) (omega arith))
+reply_is_lawful (Some links) r s ls (ShardFrame n ms) short ask (inl is) = subst IsLawful (sym is.0) (fault_is_lawful r s 3 ls ask (omega arith) (omega arith))
+reply_is_lawful (Some links) r s ls (AskFrame q t ms) short ask (inl is) = subst IsLawful (sym is.0) (fault_is_lawful r s 3 ls ask (omega arith) (omega arith))
+reply_is_lawful (Some links) r s ls (FaultFrame q t c) short ask (inl is) = subst IsLawful (sym is.0) (fault_is_lawful r s 3 ls ask (omega arith) (omega arith))
+reply_is_lawful (Some links) r s ls v short ask (inr is) = subst IsLawful (sym is) (fault_is_lawful r s 1 ls ask (omega arith) (omega arith))
+
+follow_is_lawful : (shelf : Shelf) (v : FrameValue) (now : List FrameValue) → AreShort shelf → IsLawful v → MayFollow shelf v now → AreLawful now
+follow_is_lawful shelf (AskFrame r s ls) now short lawful (reply, one, may) = subst AreLawful (sym one) (reply_is_lawful (shelf s) r s ls reply (short s) lawful may, tt)
+follow_is_lawful shelf (HelloFrame v w) now short lawful none = subst AreLawful (sym none) tt
+follow_is_lawful shelf (ShardFrame n ls) now short lawful none = subst AreLawful (sym none) tt
+follow_is_lawful shelf (AnswerFrame a) now short lawful none = subst AreLawful (sym none) tt
+follow_is_lawful shelf (FaultFrame r s c) now short lawful none = subst AreLawful (sym none) tt
+
+-- a lawful shard is no longer than a shard may be
+pub short_with : (shelf : Shelf) (v : FrameValue) → AreShort shelf → IsLawful v → AreShort (shelf_with shelf v)
+short_with shelf (ShardFrame n ls) short lawful s = elim (eqb_tells s n) [
+  | inl (test, same) ↦ subst (λ b. IfSome (if b then Some ls else shelf s) (λ links. length links ≤ MAX_SHARD_LINKS)) (sym test) lawful.count
+  | inr (test, other) ↦ subst (λ b. IfSome (if b then Some ls else shelf s) (λ links. length links ≤ MAX_SHARD_LINKS)) (sym test) (short s)
+]
+short_with shelf (AskFrame r t ls) short lawful s = short s
+short_with shelf (HelloFrame v w) short lawful s = short s
+short_with shelf (AnswerFrame a) short lawful s = short s
+short_with shelf (FaultFrame r t c) short lawful s = short s
+
+replies_lawful : (shelf : Shelf) (fs out : List FrameValue) → AreShort shelf → AreLawful fs → AreReplies shelf fs out → AreLawful out
+replies_lawful shelf [] out short lawful are = subst AreLawful (sym are) tt
+replies_lawful shelf (v ∷ fs) out short lawful are =
+    let (now, later, split, heard, rest) = are in
+    subst AreLawful (sym split) (lawful-append now later (follow_is_lawful shelf v now short lawful.0 heard)
+    (replies_lawful (shelf_with shelf v) fs later (short_with shelf v short lawful.0) lawful.1 rest))
+
+-- what a session may write is a hello and lawful frames
+pub served_lawful : (worker : ℕ) (stream out : List ℕ) (serves : Serves worker stream out) → AreLawful serves.replies
+served_lawful worker stream out serves = replies_lawful empty_shelf serves.frames serves.replies (λ s. tt) serves.heard.lawful serves.answered

@@ -1,0 +1,5 @@
+use Rattle.worker_engine.proofs.Replying.{served_lawful}
+use Rattle.worker_engine.proofs.laws.replies_are_lawful.Goals as goal
+
+pub returns : goal.returns
+returns c = λ worker stream out serves. (serves.replies, served_lawful worker stream out serves, serves.written)

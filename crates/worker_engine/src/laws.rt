@@ -1,0 +1,12 @@
+//! What the definitions themselves promise, each as the contract of a function that does nothing.
+ghost use Rattle.worker_engine.specs.Laws.{PrefixHasPrefixReplies, RepliesAreLawful};
+
+/// What a session may write for a stream begins with what it may write for any prefix of the stream.
+pub fn prefix_has_prefix_replies()
+    ensures { PrefixHasPrefixReplies }
+{}
+
+/// What a session may write is its hello and the texts of lawful frames.
+pub fn replies_are_lawful()
+    ensures { RepliesAreLawful }
+{}
