@@ -1,0 +1,238 @@
+-- What was said and heard so far, ask by ask, and what a faithful line answers.
+use Rattle.std.proofs.Common.{◌≡◌, ◌≢◌, ℕ, ◌+◌, ◌<◌, List, [], ◌∷◌, ◌++◌, length, drop, Some, refl, sym, ap, subst, ◌∙◌, append_assoc, append-nil, ⊎_elim, inl, inr, arith, eq-eqb, ne_eqb}
+use Rattle.std.specs.Prelude.{Option, None, Bool, true, false, ◌||◌, ◌==◌, if◌then◌else◌, map}
+use Rattle.std.proofs.lemmas.Bool.{cases_eq}
+use Rattle.std.proofs.lemmas.List.{map-append, length-append, length-map}
+use Rattle.byte_streams.proofs.Streaming.{appends-told}
+use Rattle.limits.specs.declared.TheConstants.{MAX_WORKERS}
+use Rattle.link_key.specs.declared.links.Link.{Link}
+use Rattle.link_key.specs.Link.{EndsUpTo}
+use Rattle.link_key.specs.Cut.{links_at}
+use Rattle.frames.specs.AnswerValue.{AnswerValue}
+use Rattle.frames.specs.FrameValue.{FrameValue, HelloFrame, ShardFrame, AskFrame, AnswerFrame, FaultFrame}
+use Rattle.frames.specs.FrameText.{text_of}
+use Rattle.frames.specs.Lawful.{IsLawful, IsShard, IsAsk, IsAnswer}
+use Rattle.frames.specs.FrameStream.{texts_of, AreLawful, AreFramesOf}
+use Rattle.worker_engine.specs.Serving.{Shelf, empty_shelf, shelf_after, MayReply, AreReplies, Serves, asks_in}
+use Rattle.frames.proofs.FrameStreams.{texts-append, lawful-append, lawful_back, prefix_of_frames, only_frames_of_texts}
+use Rattle.worker_engine.proofs.Replying.{asks-append, shelf_after-append, last_reply, served_lawful}
+use Rattle.ports.specs.declared.fault.PortFault.{PortFault}
+use Rattle.ports.specs.declared.fault.PortFault.TheVariants.{Down, Garbled, WrongHello, Gave, Memory, Closed}
+use Rattle.ports.specs.ShardBits.{has_shard}
+use Rattle.ports.specs.Lines.{LineState, ServesSoFar, Went}
+use Rattle.ports.specs.Causes.{IsNoReply, Came, Cause, IsBlameless}
+use Rattle.ports.specs.Ports.{IsHonestAnswer}
+use Rattle.ports.specs.Talking.{Talk, hello_once, shard_once, frames_put, AskBrought, Asked, frames_got, HasGiven, IsInStep}
+use Rattle.ports.proofs.Refused.{bad_never}
+
+-- ---- what one ask puts
+
+asks_shard : (sent : Bool) (shard : ℕ) (links : List Link) → asks_in (shard_once sent shard links) ≡ 0
+asks_shard true shard links = refl
+asks_shard false shard links = refl
+
+asks_put : (sent : Bool) (shard : ℕ) (links : List Link) (round : ℕ) (labels : List ℕ) → asks_in (shard_once sent shard links ++ AskFrame round shard labels ∷ []) ≡ 1
+asks_put true shard links round labels = refl
+asks_put false shard links round labels = refl
+
+shard_lawful : (sent : Bool) (shard : ℕ) (links : List Link) → IsShard shard links → AreLawful (shard_once sent shard links)
+shard_lawful true shard links is = tt
+shard_lawful false shard links is = (is, tt)
+
+pub put_lawful : (round shard : ℕ) (labels : List ℕ) (talk : Talk) → IsShard shard (links_at talk.cut shard) → IsAsk round shard labels → AreLawful (frames_put talk round shard labels)
+put_lawful round shard labels talk is ask =
+    lawful-append (shard_once (has_shard talk.sent shard) shard (links_at talk.cut shard)) (AskFrame round shard labels ∷ []) (shard_lawful (has_shard talk.sent shard) shard (links_at talk.cut shard) is) (ask, tt)
+
+shelf_there : (sent : Bool) (shelf : Shelf) (shard : ℕ) (links : List Link) → shelf shard ≡ (if sent then Some links else None)
+    → shelf_after shelf (shard_once sent shard links) shard ≡ Some links
+shelf_there true shelf shard links kept = kept
+shelf_there false shelf shard links kept = rw (eq-eqb shard shard refl) refl
+
+shelf_elsewhere : (sent : Bool) (shelf : Shelf) (shard s : ℕ) (links : List Link) → s ≢ shard → shelf_after shelf (shard_once sent shard links) s ≡ shelf s
+shelf_elsewhere true shelf shard s links apart = refl
+shelf_elsewhere false shelf shard s links apart = rw (ne_eqb s shard apart) refl
+
+-- an ask changes no shelf
+shelf_put : (sent : Bool) (shelf : Shelf) (shard s : ℕ) (links : List Link) (round : ℕ) (labels : List ℕ)
+    → shelf_after shelf (shard_once sent shard links ++ AskFrame round shard labels ∷ []) s ≡ shelf_after shelf (shard_once sent shard links) s
+shelf_put true shelf shard s links round labels = refl
+shelf_put false shelf shard s links round labels = refl
+
+-- ---- what was got
+
+some_same : {X : Type 0} (x y : X) (o : Option X) → o ≡ Some x → o ≡ Some y → x ≡ y
+some_same x y o first second = cc
+
+-- behind what was got before, the hello comes before any other bytes
+got_more : (greeted : Bool) (worker : ℕ) (answers : List AnswerValue) (bytes : List ℕ) → (greeted ≡ false → answers ≡ [])
+    → texts_of (frames_got greeted worker answers) ++ (hello_once greeted worker ++ bytes) ≡ texts_of (HelloFrame 1 worker ∷ map AnswerFrame answers) ++ bytes
+got_more true worker answers bytes silent = refl
+got_more false worker answers bytes silent =
+    ap (λ (t : List ℕ). t ++ bytes) (sym (append-nil (text_of (HelloFrame 1 worker))))
+    ∙ ap (λ (as' : List AnswerValue). texts_of (HelloFrame 1 worker ∷ map AnswerFrame as') ++ bytes) (sym (silent refl))
+
+answers_more : (answers : List AnswerValue) (a : AnswerValue) → map AnswerFrame (answers ++ a ∷ []) ≡ map AnswerFrame answers ++ AnswerFrame a ∷ []
+answers_more answers a = map-append AnswerFrame answers (a ∷ [])
+
+got_answer : (worker : ℕ) (answers : List AnswerValue) (a : AnswerValue)
+    → texts_of (HelloFrame 1 worker ∷ map AnswerFrame answers) ++ text_of (AnswerFrame a) ≡ texts_of (frames_got true worker (answers ++ a ∷ []))
+got_answer worker answers a =
+    ap (λ (t : List ℕ). texts_of (HelloFrame 1 worker ∷ map AnswerFrame answers) ++ t) (sym (append-nil (text_of (AnswerFrame a))))
+    ∙ sym (texts-append (HelloFrame 1 worker ∷ map AnswerFrame answers) (AnswerFrame a ∷ []))
+    ∙ ap (λ (fs : List FrameValue). texts_of (HelloFrame 1 worker ∷ fs)) (sym (answers_more answers a))
+
+-- ---- an ask that was answered
+
+module _ (round shard : ℕ) (labels : List ℕ) (a : AnswerValue) (before after : Talk) (asked : Asked round shard labels a before after) where
+  -- the answer is added at the end of those given
+  pub gave_more : (answers : List AnswerValue) → HasGiven before answers → HasGiven after (answers ++ a ∷ [])
+  gave_more answers given =
+      let got : after.line.got ≡ Some (texts_of (frames_got true before.worker (answers ++ a ∷ []))) =
+      appends-told before.line.got after.line.got _ _ given.got (asked.brought.got refl)
+      ∙ ap (λ t. Some t) (got_more before.greeted before.worker answers (text_of (AnswerFrame a)) given.silent ∙ got_answer before.worker answers a) in
+      record {
+        got = got ∙ ap (λ w. Some (texts_of (frames_got true w (answers ++ a ∷ [])))) (sym asked.worker) ∙ ap (λ g. Some (texts_of (frames_got g after.worker (answers ++ a ∷ [])))) (sym asked.greeted);
+        lawful = subst AreLawful (sym (answers_more answers a)) (lawful-append (map AnswerFrame answers) (AnswerFrame a ∷ []) given.lawful (asked.lawful, tt));
+        silent = λ e. cc;
+      }
+
+  module _ (in_cut : shard < length before.cut) (is : IsShard shard (links_at before.cut shard)) (ask : IsAsk round shard labels) where
+    module _ (said : List FrameValue) (answers : List AnswerValue) (step : IsInStep before said answers) where
+      shelves_step : (s : ℕ) → s < length before.cut
+          → shelf_after empty_shelf (said ++ frames_put before round shard labels) s ≡ (if has_shard after.sent s then Some (links_at before.cut s) else None)
+      shelves_step s within =
+          let shelf : Shelf = shelf_after empty_shelf said in
+          let links : List Link = links_at before.cut shard in
+          let sent : Bool = has_shard before.sent shard in
+          let whole : shelf_after empty_shelf (said ++ frames_put before round shard labels) s ≡ shelf_after shelf (shard_once sent shard links) s =
+          ap (λ (f : Shelf). f s) (shelf_after-append empty_shelf said (frames_put before round shard labels)) ∙ shelf_put sent shelf shard s links round labels in
+          ⊎_elim
+          (λ (e : s ≡ shard).
+          let now : has_shard after.sent s ≡ true = asked.sent s ∙ ap (λ b. b || has_shard before.sent s) (eq-eqb s shard e) in
+          let there : shelf_after shelf (shard_once sent shard links) s ≡ Some links =
+          ap (shelf_after shelf (shard_once sent shard links)) e ∙ shelf_there sent shelf shard links (step.shelves shard in_cut) in
+          whole ∙ there ∙ ap (λ (k : ℕ). Some (links_at before.cut k)) (sym e) ∙ ap (λ b. if b then Some (links_at before.cut s) else None) (sym now))
+          (λ (apart : s ≢ shard).
+          let now : has_shard after.sent s ≡ has_shard before.sent s = asked.sent s ∙ ap (λ b. b || has_shard before.sent s) (ne_eqb s shard apart) in
+          whole ∙ shelf_elsewhere sent shelf shard s links apart ∙ step.shelves s within ∙ ap (λ b. if b then Some (links_at before.cut s) else None) (sym now))
+          (cases_eq s shard)
+
+      pub step_more : IsInStep after (said ++ frames_put before round shard labels) (answers ++ a ∷ [])
+      step_more =
+          let more : List FrameValue = frames_put before round shard labels in
+          record {
+            calm = omega (arith, asked.brought.failures, step.calm);
+            sent = appends-told before.line.sent after.line.sent (texts_of said) (texts_of more) step.sent (asked.brought.sent refl) ∙ ap (λ t. Some t) (sym (texts-append said more));
+            lawful = lawful-append said more step.lawful (put_lawful round shard labels before is ask);
+            asked = omega (arith, asks-append said more, asks_put (has_shard before.sent shard) shard (links_at before.cut shard) round labels, step.asked, length-append answers (a ∷ []));
+            gave = gave_more answers step.gave;
+            shelves = subst (λ (k : List (List Link)). (s : ℕ) → s < length k → shelf_after empty_shelf (said ++ more) s ≡ (if has_shard after.sent s then Some (links_at k s) else None)) (sym asked.cut) shelves_step;
+          }
+
+-- ---- what a faithful line answers
+
+module _ (round shard : ℕ) (labels : List ℕ) (before after : Talk) (said : List FrameValue) (answers : List AnswerValue) (step : IsInStep before said answers) (below : before.worker < MAX_WORKERS)
+    (faithful : ServesSoFar before.worker after.line) where
+  version : IsLawful (HelloFrame 1 before.worker)
+  version = record { version = refl; worker = below }
+
+  -- what came behind the hello and the answers before begins the texts of the replies that are left
+  record Left (bytes : List ℕ) : Type 0 where
+    pub left : List FrameValue
+    pub rest : List ℕ
+    pub texts : bytes ++ rest ≡ texts_of left
+    pub lawful : AreLawful left
+    pub replies : AreReplies empty_shelf (said ++ frames_put before round shard labels) (map AnswerFrame answers ++ left)
+
+  left_of : (bytes : List ℕ) → AreLawful (frames_put before round shard labels) → AskBrought round shard labels bytes before after → Left bytes
+  left_of bytes lawful brought =
+      let more : List FrameValue = frames_put before round shard labels in
+      let (sent, got, rest, sent_is, got_is, serves) = faithful (omega (arith, brought.failures, step.calm)) in
+      let lawful_replies : AreLawful serves.replies = served_lawful before.worker sent (got ++ rest) serves in
+      let hello : List FrameValue = HelloFrame 1 before.worker ∷ map AnswerFrame answers in
+      let sent_texts : sent ≡ texts_of (said ++ more) = some_same _ _ after.line.sent sent_is (appends-told before.line.sent after.line.sent (texts_of said) (texts_of more) step.sent (brought.sent refl)) ∙ sym (texts-append said more) in
+      let frames : serves.frames ≡ said ++ more =
+      only_frames_of_texts (said ++ more) serves.frames (lawful-append said more step.lawful lawful) (subst (λ (t : List ℕ). AreFramesOf t serves.frames) sent_texts serves.heard) in
+      let got_texts : got ≡ texts_of hello ++ bytes = some_same _ _ after.line.got got_is (appends-told before.line.got after.line.got _ _ step.gave.got (brought.got refl)) ∙ got_more before.greeted before.worker answers bytes step.gave.silent in
+      let whole : texts_of hello ++ (bytes ++ rest) ≡ texts_of (HelloFrame 1 before.worker ∷ serves.replies) =
+      sym (append_assoc (texts_of hello) bytes rest) ∙ ap (λ (t : List ℕ). t ++ rest) (sym got_texts) ∙ serves.written in
+      let (left, is, texts) = prefix_of_frames hello (HelloFrame 1 before.worker ∷ serves.replies) (bytes ++ rest) (version, step.gave.lawful) (version, lawful_replies) whole in
+      let replies : serves.replies ≡ map AnswerFrame answers ++ left = ap (drop 1) is in
+      record {
+        left = left;
+        rest = rest;
+        texts = texts;
+        lawful = lawful_back (map AnswerFrame answers) left (subst AreLawful replies lawful_replies);
+        replies = subst (λ (fs : List FrameValue). AreReplies empty_shelf fs (map AnswerFrame answers ++ left)) frames (subst (AreReplies empty_shelf serves.frames) replies serves.answered);
+      }
+
+  -- what came first begins with the hello
+  first_of : (bytes : List ℕ) → before.greeted ≡ false → Came bytes before.line after.line
+      → (rest : List ℕ) × (replies : List FrameValue) × (bytes ++ rest ≡ texts_of (HelloFrame 1 before.worker ∷ replies)) × AreLawful replies
+  first_of bytes quiet came =
+      let (sent, got, rest, sent_is, got_is, serves) = faithful (omega (arith, came.failures, step.calm)) in
+      let none : before.line.got ≡ Some [] = step.gave.got ∙ ap (λ b. Some (texts_of (frames_got b before.worker answers))) quiet in
+      let got_bytes : got ≡ bytes = some_same _ _ after.line.got got_is (appends-told before.line.got after.line.got [] bytes none (came.got refl)) in
+      (rest, serves.replies, ap (λ (t : List ℕ). t ++ rest) (sym got_bytes) ∙ serves.written, served_lawful before.worker sent (got ++ rest) serves)
+
+  module _ (in_cut : shard < length before.cut) (is : IsShard shard (links_at before.cut shard)) (ask : IsAsk round shard labels) where
+    -- a frame that came in place of a reply is the worker's reply to this ask
+    reply_of : (v : FrameValue) → IsLawful v → AskBrought round shard labels (text_of v) before after → MayReply (Some (links_at before.cut shard)) round shard labels v
+    reply_of v lawful brought =
+        let links : List Link = links_at before.cut shard in
+        let first : List FrameValue = shard_once (has_shard before.sent shard) shard links in
+        let left = left_of (text_of v) (put_lawful round shard labels before is ask) brought in
+        let (later, one, texts) = prefix_of_frames (v ∷ []) left.left left.rest (lawful, tt) left.lawful (ap (λ (t : List ℕ). t ++ left.rest) (append-nil (text_of v)) ∙ left.texts) in
+        let are : AreReplies empty_shelf ((said ++ first) ++ AskFrame round shard labels ∷ []) (map AnswerFrame answers ++ v ∷ later) =
+        subst (λ (fs : List FrameValue). AreReplies empty_shelf fs (map AnswerFrame answers ++ v ∷ later)) (sym (append_assoc said first (AskFrame round shard labels ∷ [])))
+        (subst (λ (rs : List FrameValue). AreReplies empty_shelf (said ++ frames_put before round shard labels) (map AnswerFrame answers ++ rs)) one left.replies) in
+        let count : length (map AnswerFrame answers) ≡ asks_in (said ++ first) = omega (arith, length-map answers AnswerFrame, step.asked, asks-append said first, asks_shard (has_shard before.sent shard) shard links) in
+        let shelf : shelf_after empty_shelf (said ++ first) shard ≡ Some links =
+        ap (λ (f : Shelf). f shard) (shelf_after-append empty_shelf said first) ∙ shelf_there (has_shard before.sent shard) (shelf_after empty_shelf said) shard links (step.shelves shard in_cut) in
+        subst (λ (o : Option (List Link)). MayReply o round shard labels v) shelf (last_reply empty_shelf (said ++ first) round shard labels (map AnswerFrame answers) v later are count)
+
+    pub honest_answer : (a : AnswerValue) → Asked round shard labels a before after → IsHonestAnswer before.cut round shard labels a
+    honest_answer a asked = elim (reply_of (AnswerFrame a) asked.lawful asked.brought) [
+      | inl reply ↦ record { round_is = reply.round_is; shard_is = reply.shard_is; light = reply.light }
+      | inr want ↦ cc
+    ]
+
+    -- what may be replied to an ask of a shard that is kept is an answer or a fault
+    no_reply : (v : FrameValue) → IsNoReply v → MayReply (Some (links_at before.cut shard)) round shard labels v → ⊥
+    no_reply (HelloFrame v w) none reply = elim reply [ inl is ↦ cc | inr want ↦ cc ]
+    no_reply (ShardFrame n ls) none reply = elim reply [ inl is ↦ cc | inr want ↦ cc ]
+    no_reply (AskFrame r s ls) none reply = elim reply [ inl is ↦ cc | inr want ↦ cc ]
+    no_reply (AnswerFrame a) none reply = none
+    no_reply (FaultFrame r s c) none reply = none
+
+    code_of : (r s r' s' c c' : ℕ) → FaultFrame r s c ≡ FaultFrame r' s' c' → c ≡ c'
+    code_of r s r' s' c c' same = cc
+
+    -- a fault is nobody's blame
+    pub blameless : (fault : PortFault) → EndsUpTo (length labels) (links_at before.cut shard) → Cause fault round shard labels before after → IsBlameless fault
+    blameless Down ends cause = tt
+    blameless Memory ends cause = tt
+    blameless Closed ends cause = tt
+    blameless Garbled ends cause = elim cause [
+      | inl first ↦
+          let (bytes, bad, came) = first.1 in
+          let (rest, replies, same, lawful) = first_of bytes first.0 came in
+          bad_never bytes rest (HelloFrame 1 before.worker ∷ replies) bad (version, lawful) same
+      | inr later ↦ elim (later.1) [
+        | inl bad ↦
+            let left = left_of later.0 (put_lawful round shard labels before is ask) later.2 in
+            bad_never later.0 left.rest left.left bad left.lawful left.texts
+        | inr other ↦
+            no_reply other.0 other.2 (reply_of other.0 other.1 (subst (λ (t : List ℕ). AskBrought round shard labels t before after) other.3 later.2))
+      ]
+    ]
+    blameless WrongHello ends cause =
+        let (v, lawful, other, came) = cause.1 in
+        let (rest, replies, same, all_lawful) = first_of (text_of v) cause.0 came in
+        let (hs, one, texts) = prefix_of_frames (v ∷ []) (HelloFrame 1 before.worker ∷ replies) rest (lawful, tt) (version, all_lawful) (ap (λ (t : List ℕ). t ++ rest) (append-nil (text_of v)) ∙ same) in
+        other cc
+    blameless (Gave code) ends cause =
+        elim (reply_of (FaultFrame cause.0 cause.1 code) cause.2 cause.3) [
+          | inl reply ↦ absurd (reply.1 ends)
+          | inr want ↦ code_of cause.0 cause.1 round shard code 1 want
+        ]

@@ -1,0 +1,58 @@
+-- What is left of the bytes that came to a session.
+use Rattle.std.proofs.Common.{◌≡◌, ℕ, ◌+◌, ◌≤◌, List, [], ◌++◌, length, take, drop, append-nil, refl, sym, ap, subst, ◌∙◌, append_assoc, arith}
+use Rattle.std.proofs.lemmas.List.{drop-append-le, take-append-le, length-append}
+use Rattle.std.proofs.Math.Seq.{take-add}
+use Rattle.ports.specs.EngineLines.{EngineLineState, IsEngineLine, Grew}
+use Rattle.std.specs.Prelude.{Bool, true, false, Result, Ok, Err, IfOk, OnOk}
+use Rattle.frames.specs.FrameValue.{FrameValue, HelloFrame}
+use Rattle.frames.specs.FrameText.{text_of}
+use Rattle.worker_engine.specs.Serving.{Kept, Shelf, empty_shelf, shelf_of}
+use Rattle.worker_engine.proofs.Sessions.{session_starts}
+use Rattle.frames.specs.Refusals.{StreamRefused}
+use Rattle.frames.specs.declared.fault.FrameFault.{FrameFault}
+use Rattle.frames.specs.FrameStream.{BeginsNone, IsTelling}
+use Rattle.frames.proofs.FrameStreams.{refused_begins_none, none_begins_none}
+use Rattle.ports.specs.Causes.{IsBad, IsGarble}
+use Rattle.ports.proofs.Refused.{bad_begins_none, bad_more}
+
+pub refused_left : {E : Type 0} (result : Result Bool E) (fault : FrameFault) (bytes left : List ℕ) → bytes ≡ left → (IsTelling fault → StreamRefused fault bytes) → OnOk result (IsTelling fault)
+    → OnOk result (BeginsNone left)
+refused_left (Ok over) fault bytes left same refused tells = subst BeginsNone same (refused_begins_none fault bytes tells (refused tells))
+refused_left (Err e) fault bytes left same refused tells = tt
+
+pub bad_left : {E : Type 0} (result : Result Bool E) (fault : FrameFault) (bytes left : List ℕ) → bytes ≡ left → (IsTelling fault → StreamRefused fault bytes) → OnOk result (IsTelling fault) → IfOk result (λ over. over ≡ true → IsGarble fault)
+    → IfOk result (λ over. over ≡ true → IsBad left)
+bad_left (Ok over) fault bytes left same refused tells garble = λ is. subst IsBad same (fault, garble is, refused tells)
+bad_left (Err e) fault bytes left same refused tells garble = tt
+
+-- more bytes behind bad ones
+pub still_bad : (heard : ℕ) (input more whole : List ℕ) → heard ≤ length input → whole ≡ input ++ more → IsBad (drop heard input) → IsBad (drop heard whole)
+still_bad heard input more whole within is bad =
+    subst IsBad (sym (ap (drop heard) is ∙ drop-append-le heard input more within)) (bad_more (drop heard input) more bad)
+
+pub still_none : (heard : ℕ) (input more whole : List ℕ) → heard ≤ length input → whole ≡ input ++ more → IsBad (drop heard input) → BeginsNone (drop heard whole)
+still_none heard input more whole within is bad = bad_begins_none (drop heard whole) (still_bad heard input more whole within is bad)
+
+pub grew_none : (old : List ℕ) → Grew old old
+grew_none old = ([], sym (append-nil old))
+
+pub grew_by : (old new more : List ℕ) → new ≡ old ++ more → Grew old new
+grew_by old new more is = (more, is)
+
+pub grew_then : (a b c : List ℕ) → Grew a b → Grew b c → Grew a c
+grew_then a b c first second = (first.0 ++ second.0, second.1 ∙ ap (λ (t : List ℕ). t ++ second.0) first.1 ∙ append_assoc a first.0 second.0)
+
+pub grew_longer : (a b : List ℕ) (n : ℕ) → Grew a b → n ≤ length a → n ≤ length b
+grew_longer a b n grew within = omega (arith, ap length grew.1, length-append a grew.0)
+
+-- what was taken stays the same
+pub taken_stays : (taken : ℕ) (a b : List ℕ) → taken ≤ length a → Grew a b → take taken b ≡ take taken a
+taken_stays taken a b within grew = ap (take taken) grew.1 ∙ take-append-le taken a grew.0 within
+
+-- an engine that keeps nothing, before a byte came
+pub engine_line_starts : (worker : ℕ) (s : EngineLineState) → s.kept ≡ [] → s.input ≡ [] → s.written ≡ text_of (HelloFrame 1 worker) → s.heard ≡ 0 → s.over ≡ false → IsEngineLine worker s
+engine_line_starts worker s kept none hello heard over = record {
+  session = λ calm. rw (kept, none, hello, heard) (session_starts worker);
+  all = λ calm. rw (none, heard) none_begins_none;
+  over_is = λ calm is. cc;
+}

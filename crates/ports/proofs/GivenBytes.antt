@@ -1,0 +1,16 @@
+-- Bytes in memory that are given piece by piece.
+use Rattle.std.proofs.Common.{◌≡◌, ◌≢◌, ℕ, ◌+◌, ◌==◌, List, ◌++◌, length, take, drop, min, refl, sym, ap, ◌∙◌, ne_eqb}
+use Rattle.std.proofs.lemmas.List.{drop-drop}
+use Rattle.std.proofs.Math.Seq.{take-add}
+use Rattle.ports.specs.Testing.{ScriptLineState, after_get}
+
+-- the bytes given so far, and those that were given now
+pub given_more : (given count : ℕ) (bytes into : List ℕ) → take count into ≡ take count (drop given bytes) → take (given + count) bytes ≡ take given bytes ++ take count into
+given_more given count bytes into same = take-add given count bytes ∙ ap (λ (t : List ℕ). take given bytes ++ t) (sym same)
+
+-- a script between two gets
+abbrev pub script_at : List ℕ → ℕ → ℕ → ScriptLineState
+script_at bytes given ends = record { given = take given bytes; left = drop given bytes; ends = ends }
+
+pub script_played : (bytes : List ℕ) (given ends count : ℕ) → count ≢ 0 → script_at bytes (given + count) ends ≡ after_get (script_at bytes given ends) count
+script_played bytes given ends count some = rw (ne_eqb count 0 some, take-add given count bytes, drop-drop count given bytes) refl

@@ -1,0 +1,10 @@
+pub mod GivenBytes
+pub mod PortCalls
+pub mod Bits
+pub mod Going
+pub mod LineReads
+pub mod Refused
+pub mod Asking
+pub mod OneAsk
+pub mod Wiring
+pub mod EngineLines

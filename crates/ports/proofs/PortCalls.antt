@@ -1,0 +1,26 @@
+-- Calls of a port, one after the other.
+use Rattle.std.proofs.Common.{◌≡◌, ℕ, ◌+◌, ◌∙◌, refl, true, false, arith}
+use Rattle.std.specs.Prelude.{Bool}
+use Rattle.ports.specs.Ports.{PortState, PortWent}
+
+-- no call at all
+pub port_went_nowhere : (port : PortState) → PortWent 0 0 0 port port
+port_went_nowhere port = record { cut = refl; asks = omega arith; failures = omega arith; wants = omega arith; opened = λ is. (is, refl, refl); closed = λ is. (is, refl) }
+
+-- calls, and then more calls
+pub port_went_then : (asked failed wanted asked' failed' wanted' : ℕ) (a b c : PortState)
+    → PortWent asked failed wanted a b → PortWent asked' failed' wanted' b c → PortWent (asked + asked') (failed + failed') (wanted + wanted') a c
+port_went_then asked failed wanted asked' failed' wanted' a b c first second = record {
+  cut = second.cut ∙ first.cut;
+  asks = omega (arith, first.asks, second.asks);
+  failures = omega (arith, first.failures, second.failures);
+  wants = omega (arith, first.wants, second.wants);
+  opened = λ is.
+      let (now, no_failure, no_want) = second.opened is in
+      let (at_first, no_failure', no_want') = first.opened now in
+      (at_first, omega (arith, no_failure, no_failure'), omega (arith, no_want, no_want'));
+  closed = λ is.
+      let (now, none) = first.closed is in
+      let (still, none') = second.closed now in
+      (still, omega (arith, none, none'));
+}

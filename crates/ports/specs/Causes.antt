@@ -1,0 +1,104 @@
+-- Why a wire gives no answer.
+use Rattle.std.specs.Prelude.{◌≡◌, ◌≢◌, ℕ, ◌+◌, ◌⊎◌, ⊤, Bool, true, false, List, [], ◌++◌}
+use Rattle.frames.specs.FrameValue.{FrameValue, HelloFrame, ShardFrame, AskFrame, AnswerFrame, FaultFrame}
+use Rattle.frames.specs.FrameText.{text_of}
+use Rattle.frames.specs.Lawful.{IsLawful}
+use Rattle.frames.specs.Refusals.{StreamRefused}
+use Rattle.frames.specs.ReadFault.{failures_of, ends_of}
+use Rattle.frames.specs.declared.fault.FrameFault.{FrameFault}
+use Rattle.frames.specs.declared.fault.FrameFault.TheVariants.{BadKind, BadLength, BadField, BadVersion, Ended, Torn, Device}
+use Rattle.frames.specs.declared.fault.FrameFault.TheVariants.{Memory as NoMemory}
+use Rattle.ports.specs.declared.fault.PortFault.{PortFault}
+use Rattle.ports.specs.declared.fault.PortFault.TheVariants.{Down, Garbled, WrongHello, Gave, Memory, Closed}
+use Rattle.ports.specs.Lines.{LineState, Went}
+use Rattle.ports.specs.Talking.{Talk, AskBrought}
+
+-- a fault that tells of bytes which no lawful frame begins with
+abbrev pub IsGarble : FrameFault → Type 0
+IsGarble BadKind = ⊤
+IsGarble BadLength = ⊤
+IsGarble BadField = ⊤
+IsGarble BadVersion = ⊤
+IsGarble _ = ⊥
+
+-- a whole head or a whole body that no lawful frame has
+abbrev pub IsBad : List ℕ → Type 0
+IsBad bytes = (fault : FrameFault) × IsGarble fault × StreamRefused fault bytes
+
+-- neither an answer nor a fault
+abbrev pub IsNoReply : FrameValue → Type 0
+IsNoReply (AnswerFrame answer) = ⊥
+IsNoReply (FaultFrame round shard code) = ⊥
+IsNoReply v = ⊤
+
+-- bytes in place of a reply: bad ones, or a lawful frame that is none
+abbrev pub IsGarbled : List ℕ → Type 0
+IsGarbled bytes = IsBad bytes ⊎ ((v : FrameValue) × IsLawful v × IsNoReply v × (bytes ≡ text_of v))
+
+-- the line failed once more, or found the end once more
+abbrev pub WentDown : LineState → LineState → Type 0
+WentDown before after = (after.failures ≡ before.failures + 1) ⊎ (after.ends ≡ before.ends + 1)
+
+-- these bytes came and nothing was sent
+abbrev pub Came : List ℕ → LineState → LineState → Type 0
+Came bytes before after = Went 0 0 [] bytes before after
+
+-- ---- by the step of the ask
+
+-- why no hello of the worker came
+abbrev pub GreetingFault : PortFault → ℕ → LineState → LineState → Type 0
+GreetingFault Down worker before after = WentDown before after
+GreetingFault Garbled worker before after = (bytes : List ℕ) × IsBad bytes × Came bytes before after
+GreetingFault WrongHello worker before after = (v : FrameValue) × IsLawful v × (v ≢ HelloFrame 1 worker) × Came (text_of v) before after
+GreetingFault Memory worker before after = ⊤
+GreetingFault _ worker before after = ⊥
+
+-- why a frame wasn't sent
+abbrev pub SendingFault : PortFault → LineState → LineState → Type 0
+SendingFault Down before after = WentDown before after
+SendingFault Memory before after = ⊤
+SendingFault _ before after = ⊥
+
+-- why no answer came to what was sent
+abbrev pub AnswerFault : PortFault → LineState → LineState → Type 0
+AnswerFault Down before after = WentDown before after
+AnswerFault Garbled before after = (bytes : List ℕ) × IsGarbled bytes × Came bytes before after
+AnswerFault (Gave code) before after = (round shard : ℕ) × IsLawful (FaultFrame round shard code) × Came (text_of (FaultFrame round shard code)) before after
+AnswerFault Memory before after = ⊤
+AnswerFault _ before after = ⊥
+
+-- ---- of the whole ask
+
+-- before the hello, the first bytes are at fault
+abbrev pub IsNoHello : PortFault → Talk → Talk → Type 0
+IsNoHello fault before after = (before.greeted ≡ false) × GreetingFault fault before.worker before.line after.line
+
+-- why an ask that was open got no answer: by the bytes that came in it, and by what the line counted
+abbrev pub Cause : PortFault → ℕ → ℕ → List ℕ → Talk → Talk → Type 0
+Cause Down round shard labels before after = WentDown before.line after.line
+Cause Garbled round shard labels before after =
+    IsNoHello Garbled before after ⊎ ((bytes : List ℕ) × IsGarbled bytes × AskBrought round shard labels bytes before after)
+Cause WrongHello round shard labels before after = IsNoHello WrongHello before after
+Cause (Gave code) round shard labels before after =
+    (r s : ℕ) × IsLawful (FaultFrame r s code) × AskBrought round shard labels (text_of (FaultFrame r s code)) before after
+Cause Memory round shard labels before after = ⊤
+Cause Closed round shard labels before after = ⊥
+
+-- a fault that a wire over a faithful line may answer
+abbrev pub IsBlameless : PortFault → Type 0
+IsBlameless Garbled = ⊥
+IsBlameless WrongHello = ⊥
+IsBlameless (Gave code) = code ≡ 1
+IsBlameless _ = ⊤
+
+-- what a wire answers where no frame could be read
+abbrev pub port_fault : FrameFault → PortFault
+port_fault Ended = Down
+port_fault Torn = Down
+port_fault Device = Down
+port_fault NoMemory = Memory
+port_fault _ = Garbled
+
+-- no frame could be read: some bytes came, which are refused for this fault
+abbrev pub ReadBroke : FrameFault → LineState → LineState → Type 0
+ReadBroke fault before after = (bytes : List ℕ) × StreamRefused fault bytes × Went (failures_of fault) (ends_of fault) [] bytes before after

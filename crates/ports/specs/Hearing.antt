@@ -1,0 +1,18 @@
+-- A line as a source of bytes.
+use Rattle.std.specs.Prelude.{◌≡◌, ℕ, ◌≤◌, List, [], Option, Some, None}
+use Rattle.std.specs.Io.KnownBytes.{Appends}
+use Rattle.byte_streams.specs.Streams.{SourceState}
+use Rattle.ports.specs.Lines.{LineState}
+
+-- a source that gives what is got from the line; what will come isn't known
+abbrev pub source_of : LineState → SourceState
+source_of line = record { left = None; given = line.got; failures = Some line.failures; ends = Some line.ends }
+
+-- a fact that gets keep true: where no call failed since the count of failures was this one, these bytes were sent and no more; or that the line is faithful for a worker
+pub data HeardFact : Type 0 where
+  WasSent : (failures : ℕ) (bytes : Option (List ℕ)) → HeardFact
+  ServesFor : (worker : ℕ) → HeardFact
+
+abbrev pub Lasts : LineState → (ℕ → Type 0) → HeardFact → Type 0
+Lasts line faithful (WasSent failures bytes) = (failures ≤ line.failures) × (line.failures ≡ failures → Appends bytes line.sent [])
+Lasts line faithful (ServesFor worker) = faithful worker

@@ -1,0 +1,10 @@
+pub mod Lines
+pub mod Testing
+pub mod Ports
+pub mod ShardBits
+pub mod Hearing
+pub mod Talking
+pub mod Causes
+pub mod EngineLines
+pub mod LineLaws
+pub mod Wires

@@ -1,0 +1,45 @@
+-- What a line tells of itself, what a call does to it, and what a faithful line gives.
+use Rattle.std.specs.Prelude.{◌≡◌, ℕ, ◌+◌, ◌-◌, ◌<◌, ◌≤◌, ◌^◌, List, [], ◌++◌, take, Option, Some, Result, Ok, Err}
+use Rattle.std.specs.Io.KnownBytes.{Appends}
+use Rattle.worker_engine.specs.Serving.{Serves}
+use Rattle.ports.specs.declared.fault.LineFault.{LineFault}
+
+-- what a line tells: the bytes that were sent and those that were got, each where it is known, how many calls failed, and how many gets found the end
+pub record LineState : Type 0 where
+  pub sent : Option (List ℕ)
+  pub got : Option (List ℕ)
+  pub failures : ℕ
+  pub ends : ℕ
+
+-- both counts have room for one more
+pub record HasRoom (line : LineState) : Type 0 where
+  pub failures : line.failures < 2 ^ 64 - 1
+  pub ends : line.ends < 2 ^ 64 - 1
+
+-- nothing was sent or got, and the line never failed
+pub record IsFresh (line : LineState) : Type 0 where
+  pub sent : line.sent ≡ Some []
+  pub got : line.got ≡ Some []
+  pub failures : line.failures ≡ 0
+
+-- from `before` to `after` these bytes were sent and those got; so many calls failed, and so many found the end. Where one failed nothing is said of the bytes
+pub record Went (failed ended : ℕ) (said came : List ℕ) (before after : LineState) : Type 0 where
+  pub sent : failed ≡ 0 → Appends before.sent after.sent said
+  pub got : failed ≡ 0 → Appends before.got after.got came
+  pub failures : after.failures ≡ before.failures + failed
+  pub ends : after.ends ≡ before.ends + ended
+
+-- one put: it sent all its bytes, or failed
+abbrev pub PutWent : {T : Type 0} → Result T LineFault → List ℕ → LineState → LineState → Type 0
+PutWent (Ok passed) bytes before after = Went 0 0 bytes [] before after
+PutWent (Err fault) bytes before after = Went 1 0 [] [] before after
+
+-- one get: it got some bytes, or found the end, or failed
+abbrev pub GetWent : Result ℕ LineFault → List ℕ → LineState → LineState → Type 0
+GetWent (Ok n) into before after = (0 < n → Went 0 0 [] (take n into) before after) × (n ≡ 0 → Went 0 1 [] [] before after)
+GetWent (Err fault) into before after = Went 1 0 [] [] before after
+
+-- until the first failure the line tells its bytes, and what was got begins what the worker's session may write for what was sent
+abbrev pub ServesSoFar : ℕ → LineState → Type 0
+ServesSoFar worker line =
+    line.failures ≡ 0 → (sent got rest : List ℕ) × (line.sent ≡ Some sent) × (line.got ≡ Some got) × Serves worker sent (got ++ rest)

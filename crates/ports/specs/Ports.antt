@@ -1,0 +1,48 @@
+-- What a port tells of itself, and what asks do to it.
+use Rattle.std.specs.Prelude.{◌≡◌, ℕ, ◌+◌, Bool, true, false, List, Result, Ok, Err}
+use Rattle.link_key.specs.declared.links.Link.{Link}
+use Rattle.link_key.specs.Cut.{links_at}
+use Rattle.frames.specs.AnswerValue.{AnswerValue}
+use Rattle.round_theory.specs.Offers.{AreLightOffers}
+use Rattle.ports.specs.declared.fault.PortFault.{PortFault}
+use Rattle.ports.specs.declared.fault.PortFault.TheVariants.{Memory, Closed}
+
+-- what a port tells: its cut, whether it is open, how often it was asked while it was, and how many of these asks failed, and found no memory
+pub record PortState : Type 0 where
+  pub cut : List (List Link)
+  pub is_open : Bool
+  pub asks : ℕ
+  pub failures : ℕ
+  pub wants : ℕ
+
+-- from `before` to `after` the port was asked so often, and so many asks failed, or found no memory: any of these closes it, and once closed it is asked no more
+pub record PortWent (asked failed wanted : ℕ) (before after : PortState) : Type 0 where
+  pub cut : after.cut ≡ before.cut
+  pub asks : after.asks ≡ before.asks + asked
+  pub failures : after.failures ≡ before.failures + failed
+  pub wants : after.wants ≡ before.wants + wanted
+  pub opened : after.is_open ≡ true → (before.is_open ≡ true) × (failed ≡ 0) × (wanted ≡ 0)
+  pub closed : before.is_open ≡ false → (after.is_open ≡ false) × (asked ≡ 0)
+
+-- one ask: it is answered, or it closes the port; a port that was closed only says so
+abbrev pub AskWent : {T : Type 0} → Result T PortFault → PortState → PortState → Type 0
+AskWent (Ok answer) before after = (after.is_open ≡ true) × PortWent 1 0 0 before after
+AskWent (Err Closed) before after = (before.is_open ≡ false) × PortWent 0 0 0 before after
+AskWent (Err Memory) before after = (before.is_open ≡ true) × (after.is_open ≡ false) × PortWent 1 0 1 before after
+AskWent (Err fault) before after = (before.is_open ≡ true) × (after.is_open ≡ false) × PortWent 1 1 0 before after
+
+-- by how much a fault makes the two counts rise
+abbrev pub failure_of : PortFault → ℕ
+failure_of Memory = 0
+failure_of Closed = 0
+failure_of _ = 1
+
+abbrev pub want_of : PortFault → ℕ
+want_of Memory = 1
+want_of _ = 0
+
+-- an honest answer to an ask: it names the round and the shard, with the light offers of that shard of the cut under the labels
+pub record IsHonestAnswer (cut : List (List Link)) (round shard : ℕ) (labels : List ℕ) (answer : AnswerValue) : Type 0 where
+  pub round_is : answer.round ≡ round
+  pub shard_is : answer.shard ≡ shard
+  pub light : AreLightOffers (links_at cut shard) labels answer.offers

@@ -1,0 +1,78 @@
+-- A talk with a worker over a line: what an ask says, and what was said and heard so far.
+use Rattle.std.specs.Prelude.{◌≡◌, ℕ, ◌+◌, ◌<◌, Bool, true, false, ◌||◌, ◌==◌, if◌then◌else◌, List, [], ◌∷◌, ◌++◌, length, map, Some, None}
+use Rattle.link_key.specs.declared.links.Link.{Link}
+use Rattle.link_key.specs.Cut.{links_at}
+use Rattle.frames.specs.AnswerValue.{AnswerValue}
+use Rattle.frames.specs.FrameValue.{FrameValue, HelloFrame, ShardFrame, AskFrame, AnswerFrame}
+use Rattle.frames.specs.FrameText.{text_of}
+use Rattle.frames.specs.Lawful.{IsAnswer}
+use Rattle.frames.specs.FrameStream.{texts_of, AreLawful}
+use Rattle.worker_engine.specs.Serving.{empty_shelf, shelf_after, asks_in}
+use Rattle.ports.specs.ShardBits.{has_shard}
+use Rattle.ports.specs.Lines.{LineState, Went}
+
+-- a talk: the line, the cut whose shards are asked, the number of the worker, whether its hello came, and the shards that were sent
+pub record TalkState (L : Type 0) : Type 0 where
+  pub line : L
+  pub cut : List (List Link)
+  pub worker : ℕ
+  pub greeted : Bool
+  pub sent : List ℕ
+
+-- a talk, with what its line tells in place of the line
+abbrev pub Talk : Type 0
+Talk = TalkState LineState
+
+abbrev pub told : {L : Type 0} → (L → LineState) → TalkState L → Talk
+told state talk = record { line = state talk.line; cut = talk.cut; worker = talk.worker; greeted = talk.greeted; sent = talk.sent }
+
+-- ---- one ask
+
+-- the hello, unless it came before
+abbrev pub hello_once : Bool → ℕ → List ℕ
+hello_once true worker = []
+hello_once false worker = text_of (HelloFrame 1 worker)
+
+-- the shard's frame, unless it was sent before
+abbrev pub shard_once : Bool → ℕ → List Link → List FrameValue
+shard_once true shard links = []
+shard_once false shard links = ShardFrame shard links ∷ []
+
+-- the frames that an ask puts
+abbrev pub frames_put : Talk → ℕ → ℕ → List ℕ → List FrameValue
+frames_put talk round shard labels = shard_once (has_shard talk.sent shard) shard (links_at talk.cut shard) ++ AskFrame round shard labels ∷ []
+
+-- in one ask its frames were put, and behind a first hello these bytes came
+abbrev pub AskBrought : ℕ → ℕ → List ℕ → List ℕ → Talk → Talk → Type 0
+AskBrought round shard labels bytes before after = Went 0 0 (texts_of (frames_put before round shard labels)) (hello_once before.greeted before.worker ++ bytes) before.line after.line
+
+-- an ask that was answered: the hello came by now, the shard was sent by now, and the rest of the talk stands
+pub record Asked (round shard : ℕ) (labels : List ℕ) (answer : AnswerValue) (before after : Talk) : Type 0 where
+  pub brought : AskBrought round shard labels (text_of (AnswerFrame answer)) before after
+  pub lawful : IsAnswer answer
+  pub sent : (s : ℕ) → has_shard after.sent s ≡ (s == shard || has_shard before.sent s)
+  pub greeted : after.greeted ≡ true
+  pub cut : after.cut ≡ before.cut
+  pub worker : after.worker ≡ before.worker
+
+-- ---- the whole talk
+
+-- the hello and the answers, where the hello came
+abbrev pub frames_got : Bool → ℕ → List AnswerValue → List FrameValue
+frames_got true worker answers = HelloFrame 1 worker ∷ map AnswerFrame answers
+frames_got false worker answers = []
+
+-- the line got the hello and just these answers, in their order
+pub record HasGiven (talk : Talk) (answers : List AnswerValue) : Type 0 where
+  pub got : talk.line.got ≡ Some (texts_of (frames_got talk.greeted talk.worker answers))
+  pub lawful : AreLawful (map AnswerFrame answers)
+  pub silent : talk.greeted ≡ false → answers ≡ []
+
+-- nothing failed; just these frames were sent, with one ask for each answer and each shard of the set once; and the hello and just these answers were got
+pub record IsInStep (talk : Talk) (said : List FrameValue) (answers : List AnswerValue) : Type 0 where
+  pub calm : talk.line.failures ≡ 0
+  pub sent : talk.line.sent ≡ Some (texts_of said)
+  pub lawful : AreLawful said
+  pub asked : asks_in said ≡ length answers
+  pub gave : HasGiven talk answers
+  pub shelves : (s : ℕ) → s < length talk.cut → shelf_after empty_shelf said s ≡ (if has_shard talk.sent s then Some (links_at talk.cut s) else None)

@@ -1,0 +1,134 @@
+//! A line to an engine in memory.
+ghost use Rattle.std.specs.Prelude.{◌≡◌, ℕ, ◌+◌, ◌-◌, ◌<◌, ◌≤◌, ◌++◌, min, length, Ok, IfOk, IsErr};
+ghost use Rattle.std.specs.Io.{ReadsAtMost};
+ghost use Rattle.ports.specs.Lines.{HasRoom, IsFresh, PutWent, GetWent};
+ghost use Rattle.ports.specs.EngineLines.{line_of, IsEngineLine};
+ghost use Rattle.ports.specs.LineLaws.{engine_serves};
+
+use crate::fault::LineFault;
+use crate::line::Line;
+use crate::memory::give;
+use crate::session::Session;
+use frames::{Frame, encode};
+use limits::MAX_WORKERS;
+use std::alloc::{AllocError, Allocator};
+use std::marker::Model;
+use worker_engine::Engine;
+
+/// An engine behind a line in memory. The bytes to get are those that the worker's session writes for the
+/// bytes put so far, its hello first; it is faithful for that worker.
+///
+/// It keeps all bytes that were put and all that were written. Once the session would have ended whatever
+/// came next, later puts write nothing more. Where it finds no memory for its bytes or for a shard, that
+/// call and each later one fail; an ask that finds none is answered by the fault for it, as in a session.
+#[derive(Drop)]
+pub struct EngineLine<A: Allocator> {
+    session: Session<A>,
+    taken: usize,
+    over: bool,
+    failures: u64,
+    ends: u64,
+}
+
+impl<A: Allocator> Model for EngineLine<A> {
+    ghost use Rattle.std.specs.Prelude.{◌≤◌, vec_len};
+    ghost use Rattle.ports.specs.EngineLines.{EngineLineState};
+
+    ghost Value = { EngineLineState };
+
+    ghost view = { λ s. record {
+      kept = s.session.engine;
+      input = s.session.input.items;
+      heard = s.session.heard;
+      written = s.session.out.items;
+      taken = s.taken;
+      over = s.over;
+      failures = s.failures;
+      ends = s.ends;
+    } };
+
+    ghost invariant = { λ s. s.taken ≤ vec_len s.session.out };
+}
+
+impl<A: Allocator + Copy> EngineLine<A> {
+    /// A line to an engine that keeps nothing yet, which answers as the worker of this number.
+    pub fn new(alloc: A, worker: u32) -> Result<Self, AllocError>
+        requires { worker < MAX_WORKERS }
+        ensures faithful { IfOk result (IsEngineLine worker) }
+        ensures fresh { IfOk result (λ s. IsFresh (line_of s)) }
+        ensures no_end { IfOk result (λ s. s.ends ≡ 0) }
+    {
+        let out = encode(alloc, &Frame::<A>::Hello { version: 1, worker })?;
+        Ok(EngineLine {
+            session: Session {
+                alloc,
+                engine: Engine::new(alloc),
+                input: Vec::new(alloc),
+                heard: 0,
+                out,
+            },
+            taken: 0,
+            over: false,
+            failures: 0,
+            ends: 0,
+        })
+    }
+}
+
+impl<A: Allocator + Copy> Line for EngineLine<A> {
+    ghost state = { λ s. line_of s };
+
+    ghost faithful = { λ s worker. IsEngineLine worker s };
+
+    fn put(&mut self, bytes: &[u8]) -> Result<(), LineFault>
+        requires { HasRoom (line_of self.old) }
+        ensures went { PutWent result bytes.now (line_of self.old) (line_of self.new) }
+        ensures faithful { (worker : ℕ) → IsEngineLine worker self.old → IsEngineLine worker self.new }
+
+        // It fails for good.
+        ensures failed { 0 < self.old.failures → IsErr result }
+    {
+        if self.failures > 0 {
+            self.failures += 1;
+            return Err(LineFault::Failed);
+        }
+        match self.session.take_in(bytes, self.over) {
+            Ok(over) => {
+                self.over = over;
+                Ok(())
+            }
+            Err(_) => {
+                self.failures += 1;
+                Err(LineFault::Failed)
+            }
+        }
+    }
+
+    fn get(&mut self, into: &mut [u8]) -> Result<usize, LineFault>
+        requires can { HasRoom (line_of self.old) }
+        requires room { 0 < length into.old }
+        ensures bound { ReadsAtMost result into.new }
+        ensures went { GetWent result into.new (line_of self.old) (line_of self.new) }
+        ensures faithful { (worker : ℕ) → IsEngineLine worker self.old → IsEngineLine worker self.new }
+
+        // As many of the bytes that were written as are left and fit, until the first failure.
+        ensures answer { self.old.failures ≡ 0
+            → result ≡ Ok (min (length into.old) (length self.old.written - self.old.taken)) }
+        ensures written { self.new.written ≡ self.old.written }
+        ensures failed { 0 < self.old.failures → IsErr result }
+    {
+        if self.failures > 0 {
+            self.failures += 1;
+            return Err(LineFault::Failed);
+        }
+        let n = give(self.session.out.as_slice(), self.taken, into);
+        if n == 0 {
+            self.ends += 1;
+            return Ok(0);
+        }
+        self.taken += n;
+        Ok(n)
+    }
+
+    ghost serves = { λ s worker is. engine_serves worker s is };
+}

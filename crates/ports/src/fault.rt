@@ -1,0 +1,46 @@
+//! Why a line or a port failed.
+ghost use Rattle.std.specs.Prelude.{◌≡◌};
+ghost use Rattle.ports.specs.declared.fault.PortFault.TheVariants.{Memory};
+
+use std::alloc::AllocError;
+use thiserror::Error;
+
+/// Why a call of a line gave nothing.
+#[derive(Clone, Copy, Debug, PartialEq, Eq, Error)]
+pub enum LineFault {
+    /// The device failed in this very call.
+    #[error("line failed")]
+    Failed,
+}
+
+/// Why a port gave no answer. Each of them closes the port.
+#[derive(Clone, Copy, Debug, PartialEq, Eq, Error)]
+pub enum PortFault {
+    /// In this ask the line failed, or ended, before a frame or inside one.
+    #[error("line is down")]
+    Down,
+    /// In this ask bytes came that begin no frame, or a frame that is neither an answer nor a fault.
+    #[error("line is garbled")]
+    Garbled,
+    /// The first frame that came isn't the hello of the worker.
+    #[error("hello of another worker")]
+    WrongHello,
+    /// The worker answered by a fault of this code: 1 for want of memory, 2 for a shard that it doesn't
+    /// hold, 3 for a link whose end is past the labels.
+    #[error("worker gave code {0}")]
+    Gave(u8),
+    /// An allocation was refused on this side of the line.
+    #[error("no memory")]
+    Memory,
+    /// The port was closed before the call: nothing was sent.
+    #[error("port is closed")]
+    Closed,
+}
+
+impl From<AllocError> for PortFault {
+    ghost from_gives = { λ _ e. e ≡ Memory };
+
+    fn from(_e: AllocError) -> PortFault {
+        PortFault::Memory
+    }
+}

@@ -1,0 +1,57 @@
+//! Lines to workers, and ports over them: where bytes become answers.
+//!
+//! What is promised here:
+//!
+//! - A [`Wire`] over a fresh line that is faithful for its worker is an honest port: each answer names the
+//!   round and the shard that were asked, with the light offers of that shard under the labels that were
+//!   asked. Such a wire never answers `Garbled` or `WrongHello`, and of the worker's faults only want of
+//!   memory.
+//! - Over any line each fault has its cause in the bytes that came in that ask, or in what the line
+//!   counted, and closes the wire for good.
+//! - An open wire over a line that was fresh sent asks, and before its first ask each shard that they
+//!   name; it got the worker's hello and one answer for each ask, and nothing else.
+//!
+//! ```text
+//!     Port::ask, shut, is_open, asks        what rounds ask
+//!              |
+//!            Wire                           is it open? counts
+//!            Talk::ask                      one ask: hello, shard, ask, answer
+//!            steps                          greet, send_shard, send_ask, hear_answer
+//!              |                 \
+//!         Line::put           Heard, a source that owns the line: frames are read of it
+//!              |                 /
+//!            Line
+//!      EngineLine    FusedLine(line)    ScriptLine
+//! ```
+//!
+//! [`EngineLine`] is an engine behind a line in memory, and faithful; [`FusedLine`] stops at a chosen call or
+//! byte, and is faithful where the line behind it is; [`ScriptLine`] plays stored bytes, and promises nothing
+//! of faith. They are public and stand here because the tests of each crate above need such lines.
+//!
+//! Where to start a change: `line` and `specs/Lines` for what a line tells; `port` and `specs/Ports` for what
+//! a port does; `steps` and `specs/Causes` for a new fault or step; `specs/Talking` for what a wire said and
+//! heard; `session` for the engine in memory. `proofs/Asking` has the one proof of weight: what a faithful
+//! line answers to an ask.
+#![tactic(auto)]
+
+mod engine_line;
+mod fault;
+mod fused;
+mod heard;
+mod line;
+mod memory;
+mod port;
+mod script;
+mod session;
+mod shard_set;
+mod steps;
+mod talk;
+mod wire;
+
+pub use engine_line::EngineLine;
+pub use fault::{LineFault, PortFault};
+pub use fused::{Fuse, FusedLine};
+pub use line::Line;
+pub use port::Port;
+pub use script::ScriptLine;
+pub use wire::Wire;

@@ -1,0 +1,73 @@
+//! Whom a shard is asked of.
+ghost use Rattle.std.specs.Prelude.{◌≡◌, ◌+◌, ◌-◌, ◌<◌, ◌≤◌, ◌^◌, List, [], ◌∷◌, ◌++◌, length, false, IfOk};
+ghost use Rattle.link_key.specs.Link.{EndsUpTo};
+ghost use Rattle.link_key.specs.Cut.{links_at};
+ghost use Rattle.frames.specs.AnswerValue.{AnswerValue};
+ghost use Rattle.ports.specs.Ports.{PortState, PortWent, AskWent, IsHonestAnswer};
+
+use crate::fault::PortFault;
+use frames::Answer;
+use link_key::Labels;
+use std::alloc::Allocator;
+
+/// Whom a shard of one cut is asked of: for each component under some labels, its lightest link of the
+/// shard that leaves the component.
+///
+/// A port is open at first, and closed for good by its first fault, or when it is shut. It counts the asks
+/// that it got while it was open, those of them that failed, and those that found no memory.
+///
+/// It is honest where each answer that it gives names the round and the shard that were asked, with the
+/// light offers of that shard under the labels that were asked. Where it tells the answers that it gave
+/// while it was open, they are a list, and each answer comes last.
+pub trait Port<A: Allocator> {
+    // What the port tells.
+    ghost state: { Self → PortState };
+
+    // Each answer that it gives is an honest one.
+    ghost honest: { Self → Type 0 };
+
+    // These are the answers that it gave, in their order, where it tells them.
+    ghost gave: { Self → List AnswerValue → Type 0 };
+
+    // While it is open, nothing went out or came in but its asks and their answers, where it tells that.
+    ghost sound: { Self → Type 0 };
+
+    /// Asks for the offers of a shard in a round under the labels of all vertices. It may wait for the
+    /// answer.
+    ///
+    /// Each fault closes the port. A closed port answers `Closed` and sends nothing.
+    fn ask(&mut self, round: u32, shard: u32, labels: &Labels<A>) -> Result<Answer<A>, PortFault>
+        requires round { 1 ≤ round }
+        requires shard { shard < length (state self.old).cut }
+        requires ends { EndsUpTo (length labels.now) (links_at (state self.old).cut shard) }
+        requires room { (state self.old).asks < 2 ^ 64 - 1 }
+
+        ensures went { AskWent result (state self.old) (state self.new) }
+        ensures honest_answer { IfOk result
+            (λ a. honest self.old → IsHonestAnswer (state self.old).cut round shard labels.now a) }
+
+        // The answer comes behind those that were given before; a closed port gives none.
+        ensures gave { IfOk result
+            (λ a. (before : List AnswerValue) → gave self.old before → gave self.new (before ++ a ∷ [])) }
+        ensures silent { (state self.old).is_open ≡ false
+            → (answers : List AnswerValue) → gave self.old answers → gave self.new answers }
+
+        ensures honest { honest self.old → honest self.new }
+        ensures sound { sound self.old → sound self.new };
+
+    /// Closes it for good. It waits for nothing, and takes no memory.
+    fn shut(&mut self)
+        ensures shut { (state self.new).is_open ≡ false }
+        ensures went { PortWent 0 0 0 (state self.old) (state self.new) }
+        ensures gave { (answers : List AnswerValue) → gave self.old answers → gave self.new answers }
+        ensures honest { honest self.old → honest self.new }
+        ensures sound { sound self.old → sound self.new };
+
+    /// Whether it is open.
+    fn is_open(&self) -> bool
+        ensures { result ≡ (state self.now).is_open };
+
+    /// How often it was asked while it was open.
+    fn asks(&self) -> u64
+        ensures { result ≡ (state self.now).asks };
+}

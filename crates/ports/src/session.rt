@@ -1,0 +1,149 @@
+//! A worker's session in memory.
+ghost use Rattle.std.specs.Prelude.{◌≡◌, ℕ, ◌+◌, ◌≤◌, ◌++◌, true, List, length, drop, IfOk, IfErr, OnOk, OnErr, vec_len};
+ghost use Rattle.frames.specs.FrameValue.{value_of};
+ghost use Rattle.frames.specs.FrameText.{text_of};
+ghost use Rattle.frames.specs.Lawful.{IsLawful};
+ghost use Rattle.frames.specs.FrameStream.{texts_of, AreLawful, BeginsNone, IsTelling};
+ghost use Rattle.frames.specs.Refusals.{StreamRefused};
+ghost use Rattle.worker_engine.specs.Serving.{shelf_of, shelf_with, MayFollow, replies_in};
+ghost use Rattle.worker_engine.specs.Session.{InSession};
+ghost use Rattle.ports.specs.Causes.{IsBad, IsGarble};
+ghost use Rattle.ports.specs.EngineLines.{Grew};
+
+use frames::{Frame, FrameFault, encode, read_frame};
+use std::alloc::{AllocError, Allocator};
+use worker_engine::{Engine, NO_MEMORY};
+
+// A session: the bytes that came, how many of them were heard, and what was written.
+#[derive(Drop)]
+pub struct Session<A: Allocator> {
+    pub alloc: A,
+    pub engine: Engine<A>,
+    pub input: Vec<u8, A>,
+    pub heard: usize,
+    pub out: Vec<u8, A>,
+    ghost heard_within: { heard ≤ vec_len input },
+}
+
+impl<A: Allocator + Copy> Session<A> {
+    // More bytes come. Once the session is over nothing more is heard.
+    pub fn take_in(&mut self, bytes: &[u8], over: bool) -> Result<bool, AllocError>
+        ensures input { OnOk result (self.new.input.items ≡ self.old.input.items ++ bytes.now) }
+        ensures grew { Grew self.old.out.items self.new.out.items }
+        ensures session { OnOk result ((worker : ℕ)
+            → InSession worker (shelf_of self.old.engine) self.old.input.items self.old.out.items self.old.heard
+            → InSession worker (shelf_of self.new.engine) self.new.input.items self.new.out.items self.new.heard) }
+        ensures all { OnOk result ((over ≡ true → IsBad (drop self.old.heard self.old.input.items))
+            → BeginsNone (drop self.new.heard self.new.input.items)) }
+        ensures over { IfOk result (λ over_now. (over ≡ true → IsBad (drop self.old.heard self.old.input.items))
+            → over_now ≡ true → IsBad (drop self.new.heard self.new.input.items)) }
+    {
+        self.input.extend_from_slice(bytes)?;
+        if over {
+            return Ok(true);
+        }
+        self.hear_all()
+    }
+
+    // Hears all frames that came, and tells whether what is left is refused whatever follows it.
+    fn hear_all(&mut self) -> Result<bool, AllocError>
+        ensures input { self.new.input.items ≡ self.old.input.items }
+        ensures grew { Grew self.old.out.items self.new.out.items }
+        ensures session { OnOk result ((worker : ℕ)
+            → InSession worker (shelf_of self.old.engine) self.old.input.items self.old.out.items self.old.heard
+            → InSession worker (shelf_of self.new.engine) self.new.input.items self.new.out.items self.new.heard) }
+        ensures all { OnOk result (BeginsNone (drop self.new.heard self.new.input.items)) }
+        ensures over { IfOk result (λ over. over ≡ true → IsBad (drop self.new.heard self.new.input.items)) }
+    {
+        loop {
+            match first_frame(self.alloc, &self.input[self.heard..]) {
+                Ok((frame, count)) => {
+                    let reply = reply_to(&mut self.engine, frame)?;
+                    write_reply(self.alloc, &mut self.out, reply)?;
+                    self.heard += count;
+                }
+                Err(fault) => return is_over(fault),
+            }
+        }
+    }
+}
+
+// The frame that begins these bytes, and how many bytes its text has.
+fn first_frame<A: Allocator + Copy>(alloc: A, bytes: &[u8]) -> Result<(Frame<A>, usize), FrameFault>
+    ensures lawful { IfOk result (λ p. IsLawful (value_of p.0)) }
+    ensures count { IfOk result (λ p. p.1 ≡ length (text_of (value_of p.0))) }
+    ensures text { IfOk result
+        (λ p. (left : List ℕ) × (bytes.now ≡ text_of (value_of p.0) ++ left)) }
+    ensures refused { IfErr result (λ fault. IsTelling fault → StreamRefused fault bytes.now) }
+{
+    let mut rest = bytes;
+    match read_frame(alloc, &mut rest) {
+        Ok(frame) => Ok((frame, bytes.len() - rest.len())),
+        Err(fault) => Err(fault),
+    }
+}
+
+// The engine's reply to a frame; to an ask for which it finds no memory, the fault that says so.
+fn reply_to<A: Allocator + Copy>(
+    engine: &mut Engine<A>,
+    frame: Frame<A>,
+) -> Result<Option<Frame<A>>, AllocError>
+    requires { IsLawful (value_of frame) }
+    ensures shelf { OnOk result
+        (shelf_of engine.new ≡ shelf_with (shelf_of engine.old) (value_of frame)) }
+    ensures reply { IfOk result
+        (λ reply. MayFollow (shelf_of engine.old) (value_of frame) (replies_in reply)) }
+    ensures lawful { IfOk result (λ reply. AreLawful (replies_in reply)) }
+{
+    match frame {
+        Frame::Ask {
+            round,
+            shard,
+            labels,
+        } => match engine.hear(Frame::Ask {
+            round,
+            shard,
+            labels,
+        }) {
+            Ok(reply) => Ok(reply),
+            Err(_) => Ok(Some(Frame::Fault {
+                round,
+                shard,
+                code: NO_MEMORY,
+            })),
+        },
+        other => engine.hear(other),
+    }
+}
+
+// The text of a reply, if there is one, behind what was written before.
+fn write_reply<A: Allocator + Copy>(
+    alloc: A,
+    out: &mut Vec<u8, A>,
+    reply: Option<Frame<A>>,
+) -> Result<(), AllocError>
+    requires { AreLawful (replies_in reply) }
+    ensures wrote { OnOk result (out.new.items ≡ out.old.items ++ texts_of (replies_in reply)) }
+    ensures grew { Grew out.old.items out.new.items }
+{
+    match reply {
+        None => Ok(()),
+        Some(frame) => {
+            let text = encode(alloc, &frame)?;
+            out.extend_from_slice(text.as_slice())?;
+            Ok(())
+        }
+    }
+}
+
+// Whether bytes that are refused for this fault stay refused, whatever follows them.
+fn is_over(fault: FrameFault) -> Result<bool, AllocError>
+    ensures tells { OnOk result (IsTelling fault) }
+    ensures over { IfOk result (λ over. over ≡ true → IsGarble fault) }
+{
+    match fault {
+        FrameFault::Memory | FrameFault::Device => Err(AllocError),
+        FrameFault::Ended | FrameFault::Torn => Ok(false),
+        _ => Ok(true),
+    }
+}

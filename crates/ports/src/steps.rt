@@ -1,0 +1,174 @@
+//! The steps of an ask over a line: hear the hello, send the shard, send the ask, hear the answer.
+ghost use Rattle.std.specs.Prelude.{◌≡◌, ℕ, ◌<◌, ◌≤◌, ◌==◌, ◌||◌, Bool, [], length, IfOk, OnOk, IfErr};
+ghost use Rattle.frames.specs.FrameValue.{AskFrame, AnswerFrame, value_of};
+ghost use Rattle.frames.specs.FrameText.{text_of};
+ghost use Rattle.frames.specs.Lawful.{IsAnswer, IsLawful};
+ghost use Rattle.frames.specs.FrameStream.{texts_of};
+ghost use Rattle.ports.specs.ShardBits.{has_shard};
+ghost use Rattle.ports.specs.Lines.{HasRoom, Went};
+ghost use Rattle.ports.specs.Causes.{Came, GreetingFault, SendingFault, AnswerFault, ReadBroke, port_fault};
+ghost use Rattle.ports.specs.Talking.{hello_once, shard_once};
+
+use crate::fault::PortFault;
+use crate::heard::Heard;
+use crate::line::Line;
+use crate::shard_set::ShardSet;
+use frames::{Answer, Frame, FrameFault, encode_ask, encode_shard, read_frame};
+use limits::{MAX_SHARD_LINKS, MAX_SHARDS};
+use link_key::{Labels, Shard};
+use std::alloc::Allocator;
+
+// Hears the hello of the worker, unless it came before.
+pub fn greet<L: Line, A: Allocator + Copy>(
+    alloc: A,
+    heard: &mut Heard<L>,
+    greeted: bool,
+    worker: u32,
+) -> Result<(), PortFault>
+    requires { HasRoom (L.state heard.old.line) }
+    ensures went { OnOk result
+        (Came (hello_once greeted worker) (L.state heard.old.line) (L.state heard.new.line)) }
+    ensures fault { IfErr result (λ e. (greeted ≡ Bool.false)
+        × GreetingFault e worker (L.state heard.old.line) (L.state heard.new.line)) }
+    ensures faithful { (w : ℕ) → L.faithful heard.old.line w → L.faithful heard.new.line w }
+{
+    if greeted {
+        return Ok(());
+    }
+    match hear(alloc, heard) {
+        Ok(
+            Frame::Hello {
+                version: _,
+                worker: number,
+            },
+        ) => {
+            if number == worker {
+                Ok(())
+            } else {
+                Err(PortFault::WrongHello)
+            }
+        }
+        Ok(_) => Err(PortFault::WrongHello),
+        Err(fault) => Err(fault_of(fault)),
+    }
+}
+
+// Sends the shard, unless it was sent before.
+pub fn send_shard<L: Line, A: Allocator + Copy>(
+    alloc: A,
+    heard: &mut Heard<L>,
+    sent: &mut ShardSet,
+    part: &Shard,
+) -> Result<(), PortFault>
+    requires can { HasRoom (L.state heard.old.line) }
+    requires number { part.now.number < MAX_SHARDS }
+    requires count { length part.now.links.now ≤ MAX_SHARD_LINKS }
+    ensures went { OnOk result (Went 0 0
+        (texts_of (shard_once (has_shard sent.old.bits part.now.number) part.now.number part.now.links.now)) []
+        (L.state heard.old.line) (L.state heard.new.line)) }
+    ensures sent { OnOk result ((s : ℕ)
+        → has_shard sent.new.bits s ≡ (s == part.now.number || has_shard sent.old.bits s)) }
+    ensures fault { IfErr result
+        (λ e. SendingFault e (L.state heard.old.line) (L.state heard.new.line)) }
+    ensures faithful { (w : ℕ) → L.faithful heard.old.line w → L.faithful heard.new.line w }
+{
+    if sent.has(part.number) {
+        return Ok(());
+    }
+    let text = encode_shard(alloc, part)?;
+    send(heard, text.as_slice())?;
+    sent.insert(part.number);
+    Ok(())
+}
+
+// Sends the ask.
+pub fn send_ask<L: Line, A: Allocator + Copy>(
+    alloc: A,
+    heard: &mut Heard<L>,
+    round: u32,
+    shard: u32,
+    labels: &Labels<A>,
+) -> Result<(), PortFault>
+    requires can { HasRoom (L.state heard.old.line) }
+    requires shard { shard < MAX_SHARDS }
+    ensures went { OnOk result (Went 0 0 (text_of (AskFrame round shard labels.now)) []
+        (L.state heard.old.line) (L.state heard.new.line)) }
+    ensures fault { IfErr result
+        (λ e. SendingFault e (L.state heard.old.line) (L.state heard.new.line)) }
+    ensures faithful { (w : ℕ) → L.faithful heard.old.line w → L.faithful heard.new.line w }
+{
+    let text = encode_ask(alloc, round, shard, labels)?;
+    send(heard, text.as_slice())
+}
+
+// Hears the answer, whatever it says.
+pub fn hear_answer<L: Line, A: Allocator + Copy>(
+    alloc: A,
+    heard: &mut Heard<L>,
+) -> Result<Answer<A>, PortFault>
+    requires { HasRoom (L.state heard.old.line) }
+    ensures went { IfOk result (λ a.
+        Came (text_of (AnswerFrame a)) (L.state heard.old.line) (L.state heard.new.line)) }
+    ensures lawful { IfOk result (λ a. IsAnswer a) }
+    ensures fault { IfErr result
+        (λ e. AnswerFault e (L.state heard.old.line) (L.state heard.new.line)) }
+    ensures faithful { (w : ℕ) → L.faithful heard.old.line w → L.faithful heard.new.line w }
+{
+    match hear(alloc, heard) {
+        Ok(Frame::Answer(answer)) => Ok(answer),
+        Ok(
+            Frame::Fault {
+                round: _,
+                shard: _,
+                code,
+            },
+        ) => Err(PortFault::Gave(code)),
+        Ok(_) => Err(PortFault::Garbled),
+        Err(fault) => Err(fault_of(fault)),
+    }
+}
+
+// Hears the next frame. The one place that looks at what reads of a line keep true.
+fn hear<L: Line, A: Allocator + Copy>(
+    alloc: A,
+    heard: &mut Heard<L>,
+) -> Result<Frame<A>, FrameFault>
+    requires { HasRoom (L.state heard.old.line) }
+    ensures went { IfOk result (λ f.
+        Came (text_of (value_of f)) (L.state heard.old.line) (L.state heard.new.line)) }
+    ensures lawful { IfOk result (λ f. IsLawful (value_of f)) }
+    ensures broke { IfErr result
+        (λ fault. ReadBroke fault (L.state heard.old.line) (L.state heard.new.line)) }
+    ensures faithful { (w : ℕ) → L.faithful heard.old.line w → L.faithful heard.new.line w }
+{
+    read_frame(alloc, heard)
+}
+
+// Sends a whole text by one put.
+fn send<L: Line>(heard: &mut Heard<L>, bytes: &[u8]) -> Result<(), PortFault>
+    requires { HasRoom (L.state heard.old.line) }
+    ensures went { OnOk result
+        (Went 0 0 bytes.now [] (L.state heard.old.line) (L.state heard.new.line)) }
+    ensures fault { IfErr result
+        (λ e. SendingFault e (L.state heard.old.line) (L.state heard.new.line)) }
+    ensures faithful { (w : ℕ) → L.faithful heard.old.line w → L.faithful heard.new.line w }
+{
+    match heard.line.put(bytes) {
+        Ok(()) => Ok(()),
+        Err(_) => Err(PortFault::Down),
+    }
+}
+
+// What a wire answers where no frame could be read.
+fn fault_of(fault: FrameFault) -> PortFault
+    ensures { result ≡ port_fault fault }
+{
+    match fault {
+        FrameFault::Ended | FrameFault::Torn | FrameFault::Device => PortFault::Down,
+        FrameFault::Memory => PortFault::Memory,
+        FrameFault::BadKind
+        | FrameFault::BadLength
+        | FrameFault::BadVersion
+        | FrameFault::BadField => PortFault::Garbled,
+    }
+}

@@ -1,0 +1,70 @@
+//! What was said with a worker so far, and one ask more.
+ghost use Rattle.std.specs.Prelude.{◌≡◌, ℕ, ◌<◌, length, IfOk, IfErr};
+ghost use Rattle.frames.specs.Lawful.{IsShard, IsAsk};
+ghost use Rattle.link_key.specs.Cut.{links_at};
+ghost use Rattle.ports.specs.Lines.{HasRoom};
+ghost use Rattle.ports.specs.Causes.{Cause};
+ghost use Rattle.ports.specs.Talking.{told, Asked};
+
+use crate::fault::PortFault;
+use crate::heard::Heard;
+use crate::line::Line;
+use crate::shard_set::ShardSet;
+use crate::steps::{greet, hear_answer, send_ask, send_shard};
+use frames::Answer;
+use link_key::{Cut, Labels};
+use std::alloc::Allocator;
+use std::marker::Model;
+
+/// A talk with a worker over a line that it owns: the cut whose shards are asked, whether the hello came,
+/// and which shards were sent, a bit each.
+#[derive(Drop)]
+pub struct Talk<'a, L, A: Allocator> {
+    pub alloc: A,
+    pub heard: Heard<L>,
+    pub cut: &'a Cut<'a, A>,
+    pub worker: u32,
+    pub greeted: bool,
+    pub sent: ShardSet,
+}
+
+impl<'a, L, A: Allocator> Model for Talk<'a, L, A> {
+    ghost use Rattle.ports.specs.Talking.{TalkState};
+
+    ghost Value = { TalkState L };
+
+    ghost view = { λ s. record { line = s.heard.line; cut = s.cut.now; worker = s.worker; greeted = s.greeted; sent = s.sent.bits } };
+}
+
+impl<'a, L: Line, A: Allocator + Copy> Talk<'a, L, A> {
+    // One ask, from the first hello on.
+    pub fn ask(
+        &mut self,
+        round: u32,
+        shard: u32,
+        labels: &Labels<A>,
+    ) -> Result<Answer<A>, PortFault>
+        requires can { HasRoom (L.state self.old.line) }
+        requires shard { shard < length self.old.cut }
+        ensures asked { IfOk result
+            (λ a. Asked round shard labels.now a (told L.state self.old) (told L.state self.new)) }
+        ensures cause { IfErr result
+            (λ e. Cause e round shard labels.now (told L.state self.old) (told L.state self.new)) }
+        ensures cut { self.new.cut ≡ self.old.cut }
+        ensures worker { self.new.worker ≡ self.old.worker }
+        ensures faithful { (w : ℕ) → L.faithful self.old.line w → L.faithful self.new.line w }
+
+        // What it sends is lawful.
+        ensures shard_lawful { IsShard shard (links_at self.old.cut shard) }
+        ensures ask_lawful { IsAsk round shard labels.now }
+    {
+        let _labels = labels.as_slice();
+        let _few = self.cut.len();
+        let part = self.cut.shard(shard);
+        greet(self.alloc, &mut self.heard, self.greeted, self.worker)?;
+        self.greeted = true;
+        send_shard(self.alloc, &mut self.heard, &mut self.sent, &part)?;
+        send_ask(self.alloc, &mut self.heard, round, shard, labels)?;
+        hear_answer(self.alloc, &mut self.heard)
+    }
+}

@@ -1,0 +1,190 @@
+//! A port over a line.
+ghost use Rattle.std.specs.Prelude.{◌≡◌, ℕ, ◌+◌, ◌-◌, ◌<◌, ◌≤◌, ◌^◌, true, false, List, [], ◌∷◌, ◌++◌, length, IfOk, IfErr};
+ghost use Rattle.link_key.specs.Link.{EndsUpTo};
+ghost use Rattle.link_key.specs.Cut.{links_at};
+ghost use Rattle.frames.specs.AnswerValue.{AnswerValue};
+ghost use Rattle.ports.specs.Lines.{HasRoom, IsFresh};
+ghost use Rattle.ports.specs.Ports.{PortWent, AskWent, IsHonestAnswer, failure_of, want_of};
+ghost use Rattle.ports.specs.Causes.{Cause, IsBlameless};
+ghost use Rattle.ports.specs.Talking.{told, HasGiven};
+ghost use Rattle.ports.specs.Wires.{port_of, IsNewWire, IsSound, IsHonest};
+
+use crate::fault::PortFault;
+use crate::heard::Heard;
+use crate::line::Line;
+use crate::port::Port;
+use crate::shard_set::ShardSet;
+use crate::talk::Talk;
+use frames::Answer;
+use limits::MAX_WORKERS;
+use link_key::{Cut, Labels};
+use std::alloc::Allocator;
+use std::marker::Model;
+
+/// A port that asks a worker over a line, which it owns.
+///
+/// At its first ask it hears the worker's hello. It sends a shard before its first ask, and never again; it
+/// sends each frame whole, by one `put`, and copies labels into the frame alone. Every fault closes it for
+/// good, want of memory too. It keeps 512 bytes for the shards that were sent, whatever the cut.
+#[derive(Drop)]
+pub struct Wire<'a, L: Line, A: Allocator> {
+    talk: Talk<'a, L, A>,
+    is_open: bool,
+    asks: u64,
+    failures: u64,
+    wants: u64,
+}
+
+impl<'a, L: Line, A: Allocator> Model for Wire<'a, L, A> {
+    ghost use Rattle.ports.specs.Wires.{WireState, IsWire};
+
+    ghost Value = { WireState L };
+
+    ghost view = { λ s. record { talk = s.talk; is_open = s.is_open; asks = s.asks; failures = s.failures; wants = s.wants } };
+
+    ghost invariant = { λ s. IsWire (L.state s.talk.line) s.talk.worker s.is_open s.asks s.failures s.wants };
+}
+
+impl<'a, L: Line, A: Allocator + Copy> Wire<'a, L, A> {
+    /// A wire over a line to the worker of this number, for the shards of a cut. It takes no memory, and
+    /// sends nothing yet.
+    pub fn new(alloc: A, line: L, cut: &'a Cut<'a, A>, worker: u32) -> Self
+        requires worker { worker < MAX_WORKERS }
+        requires room { HasRoom (L.state line) }
+        ensures new { IsNewWire line cut.now worker result }
+
+        // Over a fresh line it is sound, and over one that is faithful for the worker honest.
+        ensures sound { IsFresh (L.state line) → IsSound result.is_open (told L.state result.talk) }
+        ensures honest { IsFresh (L.state line) → L.faithful line worker
+            → IsHonest (L.faithful result.talk.line) result.is_open (told L.state result.talk) }
+    {
+        Wire {
+            talk: Talk {
+                alloc,
+                heard: Heard { line },
+                cut,
+                worker,
+                greeted: false,
+                sent: ShardSet::empty(),
+            },
+            is_open: true,
+            asks: 0,
+            failures: 0,
+            wants: 0,
+        }
+    }
+
+    /// The line, as the asks left it. It takes no memory.
+    pub fn into_line(self) -> L
+        ensures { result ≡ self.entry.talk.line }
+    {
+        let Wire { talk, .. } = self;
+        let Talk { heard, .. } = talk;
+        heard.line
+    }
+}
+
+impl<'a, L: Line, A: Allocator + Copy> Port<A> for Wire<'a, L, A> {
+    ghost state = { λ w. port_of w };
+
+    ghost honest = { λ w. IsHonest (L.faithful w.talk.line) w.is_open (told L.state w.talk) };
+
+    ghost gave = { λ w. HasGiven (told L.state w.talk) };
+
+    ghost sound = { λ w. IsSound w.is_open (told L.state w.talk) };
+
+    fn ask(&mut self, round: u32, shard: u32, labels: &Labels<A>) -> Result<Answer<A>, PortFault>
+        requires round { 1 ≤ round }
+        requires shard { shard < length self.old.talk.cut }
+        requires ends { EndsUpTo (length labels.now) (links_at self.old.talk.cut shard) }
+        requires room { self.old.asks < 2 ^ 64 - 1 }
+
+        ensures went { AskWent result (port_of self.old) (port_of self.new) }
+        ensures honest_answer { IfOk result
+            (λ a. IsHonest (L.faithful self.old.talk.line) self.old.is_open (told L.state self.old.talk)
+            → IsHonestAnswer self.old.talk.cut round shard labels.now a) }
+        ensures gave { IfOk result (λ a. (before : List AnswerValue)
+            → HasGiven (told L.state self.old.talk) before
+            → HasGiven (told L.state self.new.talk) (before ++ a ∷ [])) }
+        ensures silent { self.old.is_open ≡ false → (answers : List AnswerValue)
+            → HasGiven (told L.state self.old.talk) answers → HasGiven (told L.state self.new.talk) answers }
+        ensures honest { IsHonest (L.faithful self.old.talk.line) self.old.is_open (told L.state self.old.talk)
+            → IsHonest (L.faithful self.new.talk.line) self.new.is_open (told L.state self.new.talk) }
+        ensures sound { IsSound self.old.is_open (told L.state self.old.talk)
+            → IsSound self.new.is_open (told L.state self.new.talk) }
+
+        // Why there is no answer: by the bytes that came in the ask, and by what the line counted.
+        ensures cause { IfErr result (λ e. self.old.is_open ≡ true
+            → Cause e round shard labels.now (told L.state self.old.talk) (told L.state self.new.talk)) }
+
+        // A closed wire does nothing.
+        ensures closed { self.old.is_open ≡ false → self.new ≡ self.old }
+
+        // Over a faithful line: never garbled, no wrong hello, and no fault of the worker but want of memory.
+        ensures blameless { IfErr result (λ e.
+            IsHonest (L.faithful self.old.talk.line) self.old.is_open (told L.state self.old.talk)
+            → IsBlameless e) }
+    {
+        if !self.is_open {
+            return Err(PortFault::Closed);
+        }
+        self.asks += 1;
+        match self.talk.ask(round, shard, labels) {
+            Ok(answer) => Ok(answer),
+            Err(fault) => {
+                self.is_open = false;
+                self.failures += failure_of(fault);
+                self.wants += want_of(fault);
+                Err(fault)
+            }
+        }
+    }
+
+    fn shut(&mut self)
+        ensures shut { self.new.is_open ≡ false }
+        ensures went { PortWent 0 0 0 (port_of self.old) (port_of self.new) }
+        ensures gave { (answers : List AnswerValue)
+            → HasGiven (told L.state self.old.talk) answers → HasGiven (told L.state self.new.talk) answers }
+        ensures honest { IsHonest (L.faithful self.old.talk.line) self.old.is_open (told L.state self.old.talk)
+            → IsHonest (L.faithful self.new.talk.line) self.new.is_open (told L.state self.new.talk) }
+        ensures sound { IsSound self.old.is_open (told L.state self.old.talk)
+            → IsSound self.new.is_open (told L.state self.new.talk) }
+
+        // Nothing else changes: the line is as it was.
+        ensures talk { self.new.talk ≡ self.old.talk }
+    {
+        self.is_open = false;
+    }
+
+    fn is_open(&self) -> bool
+        ensures { result ≡ self.now.is_open }
+    {
+        self.is_open
+    }
+
+    fn asks(&self) -> u64
+        ensures { result ≡ self.now.asks }
+    {
+        self.asks
+    }
+}
+
+// By how much the count of failures rises.
+fn failure_of(fault: PortFault) -> u64
+    ensures { result ≡ failure_of fault }
+{
+    match fault {
+        PortFault::Memory | PortFault::Closed => 0,
+        PortFault::Down | PortFault::Garbled | PortFault::WrongHello | PortFault::Gave(_) => 1,
+    }
+}
+
+// By how much the count of want of memory rises.
+fn want_of(fault: PortFault) -> u64
+    ensures { result ≡ want_of fault }
+{
+    match fault {
+        PortFault::Memory => 1,
+        _ => 0,
+    }
+}
