@@ -5,10 +5,10 @@ ghost use Rattle.std.specs.IoError.{error_kind};
 ghost use Rattle.clap.specs.Values.{kind_of};
 ghost use Rattle.boruvka.specs.Status.{streams, sink_alone, WritesForest, WritesPart, IsSilent, IsMistake, EndsWith};
 
+use crate::arguments::options;
 use crate::chosen::{Options, OptionsFault};
+use crate::messages::{tell, tell_line, tell_unopened};
 use crate::statuses::{DEVICE, NO_MEMORY, USAGE, status_of};
-use crate::told::{tell, tell_line, tell_unopened};
-use crate::words::options;
 use byte_streams::{Sink, Source, Untold, put};
 use plain_run::{RunFault, run_plain};
 use std::alloc::{Alloc, Global};
