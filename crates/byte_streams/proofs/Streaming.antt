@@ -1,15 +1,105 @@
--- Bytes over two calls. For whole pieces std has `Consumes-trans`, `Consumes-nil`, `Appends-trans`,
--- `Appends-nil`, `Appends-kept`, `Consumes-kept` and `Keeps-trans` (`Rattle.std.proofs.KnownBytes`).
-use Rattle.std.proofs.Common.{◌≡◌, ℕ, ◌+◌, ◌-◌, ◌<◌, ◌≤◌, List, [], ◌++◌, length, take, drop, Some, None, refl, sym, ap, subst, ◌∙◌, arith, append-nil, length-append, length-take-le, le_refl, take_all}
+-- What two calls on a stream do together, and what a call does to a stream that tells.
+use Rattle.std.proofs.Common.{◌≡◌, ℕ, ◌+◌, ◌-◌, ◌<◌, ◌≤◌, List, [], ◌++◌, length, take, drop, Some, None, IfSome, refl, sym, ap, subst, ◌∙◌, arith, append-nil, append_assoc, length-append, length-take-le, le_refl, take_all, suc, zero}
 use Rattle.std.proofs.Math.Seq.{take-add, take-append-add}
-use Rattle.std.proofs.lemmas.List.{take-append-le, take_rest}
-use Rattle.std.specs.Prelude.{Option, IfSome}
+use Rattle.std.proofs.lemmas.List.{nil_from_length, take-append-le, take_rest}
+use Rattle.std.specs.Prelude.{Option}
 use Rattle.std.specs.Io.KnownBytes.{Appends, Consumes, IsAtEnd, Keeps}
-use Rattle.std.proofs.KnownBytes.{Appends-kept, Appends-nil, Appends-trans, Consumes-trans, Consumes-whole}
-use Rattle.byte_streams.specs.Sink.{WentOut}
+use Rattle.std.proofs.KnownBytes.{Appends-nil, Appends-trans, Consumes-nil, Consumes-trans, Consumes-whole}
+use Rattle.byte_streams.specs.Streams.{RisesBy, SourceState, tells_left, Gave, HadNoFailure, SinkState, tells_held, Took, WentOut, HadNoSetback}
 use borrow.Rule.Slice.PartMut.{put_mid, post_of}
 
--- ---- reads
+-- ---- counts
+
+-- no call at all
+pub rises-none : (a : Option ℕ) → RisesBy 0 a a
+rises-none None = tt
+rises-none (Some n) = omega arith
+
+-- one call after another
+pub rises-then : (m n : ℕ) (a b c : Option ℕ) → RisesBy m a b → RisesBy n b c → RisesBy (m + n) a c
+rises-then m n None b c first second = tt
+rises-then m n (Some x) None c first second = absurd first
+rises-then m n (Some x) (Some y) None first second = absurd second
+rises-then m n (Some x) (Some y) (Some z) first second = omega arith
+
+-- a told count that is the same before and after didn't rise
+pub rises-same : (m n : ℕ) (a b : Option ℕ) → a ≡ Some n → b ≡ Some n → RisesBy m a b → m ≡ 0
+rises-same m n None b before after rose = cc
+rises-same m n (Some x) None before after rose = absurd rose
+rises-same m n (Some x) (Some y) before after rose =
+    let from : x ≡ n = cc in
+    let to : y ≡ n = cc in
+    omega arith
+
+-- a told count is still told
+pub rises-told : (m n : ℕ) (a b : Option ℕ) → a ≡ Some n → RisesBy m a b → b ≡ Some (n + m)
+rises-told m n None b told rose = cc
+rises-told m n (Some x) None told rose = absurd rose
+rises-told m n (Some x) (Some y) told rose = let same : x ≡ n = cc in ap (λ k. Some k) (rose ∙ ap (λ k. k + m) same)
+
+-- ---- sources
+
+-- bytes that came from a source that tells were its first
+pub consumes-told : (a b : Option (List ℕ)) (xs bs : List ℕ) → a ≡ Some xs → Consumes a b bs → (ys : List ℕ) × (b ≡ Some ys) × (xs ≡ bs ++ ys)
+consumes-told None b xs bs told came = cc
+consumes-told (Some zs) None xs bs told came = absurd came
+consumes-told (Some zs) (Some ys) xs bs told came = let same : zs ≡ xs = cc in (ys, refl, sym same ∙ came)
+
+-- nothing was called
+pub gave_nothing : (s : SourceState) → Gave 0 0 [] s s
+gave_nothing s = record {
+  left = Consumes-nil s.left;
+  given = λ _. Appends-nil s.given;
+  failures = rises-none s.failures;
+  ends = rises-none s.ends;
+  at_end = λ ended. absurd (omega arith);
+}
+
+-- two calls, of which the first or the second found the end of what was left
+ends_together : (e f : ℕ) (a b : Option (List ℕ)) (xs ys : List ℕ) → Consumes a b xs → (0 < e → IfSome a (λ all. all ≡ xs)) → (0 < f → IfSome b (λ all. all ≡ ys))
+    → (c : Option (List ℕ)) → Consumes b c ys → 0 < e + f → IfSome a (λ all. all ≡ xs ++ ys)
+ends_together e f None b xs ys came first second c more ended = tt
+ends_together e f (Some all) None xs ys came first second c more ended = absurd came
+ends_together e f (Some all) (Some rest) xs ys came first second None more ended = absurd more
+ends_together zero f (Some all) (Some rest) xs ys came first second (Some left) more ended =
+    came ∙ ap (λ l. xs ++ l) (second (omega arith))
+ends_together (suc e) f (Some all) (Some rest) xs ys came first second (Some left) more ended =
+    let over : length rest ≡ 0 = omega (arith, ap length came, ap length (first (omega arith)), length-append xs rest) in
+    let none : length ys ≡ 0 = omega (arith, ap length more, length-append ys left) in
+    first (omega arith) ∙ sym (append-nil xs) ∙ ap (λ l. xs ++ l) (sym (nil_from_length ys none))
+
+-- one call after another
+pub gave_then : (m e n f : ℕ) (xs ys : List ℕ) (s t u : SourceState) → Gave m e xs s t → Gave n f ys t u → Gave (m + n) (e + f) (xs ++ ys) s u
+gave_then m e n f xs ys s t u first second = record {
+  left = Consumes-trans s.left t.left u.left xs ys first.left second.left;
+  given = λ none. Appends-trans s.given t.given u.given xs ys (first.given (omega arith)) (second.given (omega arith));
+  failures = rises-then m n s.failures t.failures u.failures first.failures second.failures;
+  ends = rises-then e f s.ends t.ends u.ends first.ends second.ends;
+  at_end = ends_together e f s.left t.left xs ys first.left first.at_end second.at_end u.left second.left;
+}
+
+-- a call that gave some bytes, and then any call
+pub gave_more : (m e : ℕ) (xs ys : List ℕ) (s t u : SourceState) → Gave 0 0 xs s t → Gave m e ys t u → Gave m e (xs ++ ys) s u
+gave_more m e xs ys s t u first second =
+    let failed : 0 + m ≡ m = omega arith in
+    let ended : 0 + e ≡ e = omega arith in
+    subst (λ k. Gave k e (xs ++ ys) s u) failed (subst (λ k. Gave (0 + m) k (xs ++ ys) s u) ended (gave_then 0 0 m e xs ys s t u first second))
+
+-- the bytes of a source that tells were its first
+pub gave_told : (m e : ℕ) (xs bs : List ℕ) (s t : SourceState) → s.left ≡ Some xs → Gave m e bs s t → (ys : List ℕ) × (t.left ≡ Some ys) × (xs ≡ bs ++ ys)
+gave_told m e xs bs s t told gave = consumes-told s.left t.left xs bs told gave.left
+
+-- and at its end all that it had
+pub gave_to_end : (m e : ℕ) (xs bs : List ℕ) (s t : SourceState) → s.left ≡ Some xs → 0 < e → Gave m e bs s t → xs ≡ bs
+gave_to_end m e xs bs s t told ended gave = subst (λ left. IfSome left (λ all. all ≡ bs)) told (gave.at_end ended)
+
+-- a source that tells its failures and had none
+pub gave_unfailing : (m e : ℕ) (bs : List ℕ) (s t : SourceState) → HadNoFailure s t → Gave m e bs s t → m ≡ 0
+gave_unfailing m e bs s t (n, before, after) gave = rises-same m n s.failures t.failures before after gave.failures
+
+-- what std says of a source that tells its bytes to come: some came
+pub gave_some : (bs : List ℕ) (a b : Option (List ℕ)) → Consumes a b bs → Gave 0 0 bs (tells_left a) (tells_left b)
+gave_some bs a b came = record { left = came; given = λ _. tt; failures = tt; ends = tt; at_end = λ ended. absurd (omega arith) }
 
 -- what a read of `buf[at..]` gave stands behind the first `at` bytes of the buffer
 take-put_mid_more : (at k n : ℕ) (buf part : List ℕ) → at ≤ length buf → n ≤ length part
@@ -20,83 +110,96 @@ take-put_mid_more at k n buf part within fits =
     ∙ ap (λ rest. take at buf ++ rest) (take-append-le n part (post_of at k buf) fits)
 
 -- the first `at` bytes of the buffer came, and then the n that a read of `buf[at..]` gave
-pub consumes-into_rest : (a b c : Option (List ℕ)) (at k n : ℕ) (buf part : List ℕ) → at ≤ length buf → n ≤ length part
-    → Consumes a b (take at buf) → Consumes b c (take n part) → Consumes a c (take (at + n) (put_mid at k buf part))
-consumes-into_rest a b c at k n buf part within fits first second =
-    subst (Consumes a c) (sym (take-put_mid_more at k n buf part within fits)) (Consumes-trans a b c _ _ first second)
+pub gave_into_rest : (m e : ℕ) (s t u : SourceState) (at k n : ℕ) (buf part : List ℕ) → at ≤ length buf → n ≤ length part
+    → Gave 0 0 (take at buf) s t → Gave m e (take n part) t u → Gave m e (take (at + n) (put_mid at k buf part)) s u
+gave_into_rest m e s t u at k n buf part within fits first second =
+    subst (λ bs. Gave m e bs s u) (sym (take-put_mid_more at k n buf part within fits)) (gave_more m e (take at buf) (take n part) s t u first second)
 
--- bytes that came from a source that tells were its first
-pub consumes-told : (a b : Option (List ℕ)) (xs bs : List ℕ) → a ≡ Some xs → Consumes a b bs → (ys : List ℕ) × (b ≡ Some ys) × (xs ≡ bs ++ ys)
-consumes-told None b xs bs told came = cc
-consumes-told (Some zs) None xs bs told came = absurd came
-consumes-told (Some zs) (Some ys) xs bs told came = let same : zs ≡ xs = cc in (ys, refl, sym same ∙ came)
+-- ---- sinks
 
--- bytes that came, and then a read that gave none
-pub consumes-then_none : (a b c : Option (List ℕ)) (n : ℕ) (bs buf : List ℕ) → n ≡ 0 → Consumes a b bs → Consumes b c (take n buf) → Consumes a c bs
-consumes-then_none a b c n bs buf none came last =
-    let nothing : Consumes b c [] = subst (λ m. Consumes b c (take m buf)) none last in
-    subst (Consumes a c) (append-nil bs) (Consumes-trans a b c bs [] came nothing)
+-- nothing was called
+pub took_nothing : (s : SinkState) → Took 0 [] s s
+took_nothing s = record { held = Appends-nil s.held; setbacks = rises-none s.setbacks }
 
--- bytes that came until the end are all that there were
-pub consumes-whole : (a b : Option (List ℕ)) (bs : List ℕ) → Consumes a b bs → IsAtEnd b → IfSome a (λ xs. xs ≡ bs)
-consumes-whole a b bs came end = Consumes-whole a b bs (λ xs. xs ≡ bs) came end refl
+-- one call after another
+pub took_then : (m n : ℕ) (xs ys : List ℕ) (s t u : SinkState) → Took m xs s t → Took n ys t u → Took (m + n) (xs ++ ys) s u
+took_then m n xs ys s t u first second = record {
+  held = Appends-trans s.held t.held u.held xs ys first.held second.held;
+  setbacks = rises-then m n s.setbacks t.setbacks u.setbacks first.setbacks second.setbacks;
+}
 
--- reads until one that gave none, by what that one ensures
-pub consumes-then_end : (a b c : Option (List ℕ)) (n : ℕ) (bs buf : List ℕ) → n ≡ 0 → 0 < length buf → Consumes a b bs
-    → Consumes b c (take n buf) × (n ≡ 0 → 0 < length buf → IsAtEnd c) → IfSome a (λ xs. xs ≡ bs)
-consumes-then_end a b c n bs buf none room came last =
-    consumes-whole a c bs (consumes-then_none a b c n bs buf none came last.0) (last.1 none room)
+-- a call that took some bytes, and then any call
+pub took_more : (m : ℕ) (xs ys : List ℕ) (s t u : SinkState) → Took 0 xs s t → Took m ys t u → Took m (xs ++ ys) s u
+took_more m xs ys s t u first second =
+    let hindered : 0 + m ≡ m = omega arith in
+    subst (λ k. Took k (xs ++ ys) s u) hindered (took_then 0 m xs ys s t u first second)
 
--- bytes that came until the end from a source that tells are all that it had
-pub consumes-to_end : (a b : Option (List ℕ)) (xs bs : List ℕ) → a ≡ Some xs → Consumes a b bs → IsAtEnd b → xs ≡ bs
-consumes-to_end a b xs bs told came end =
-    let (ys, left, split) = consumes-told a b xs bs told came in
-    let none : ys ≡ [] = subst IsAtEnd left end in
-    split ∙ ap (λ l. bs ++ l) none ∙ append-nil bs
+-- a call that took no byte, after one that took some
+pub took_no_more : (m : ℕ) (xs : List ℕ) (s t u : SinkState) → Took 0 xs s t → Took m [] t u → Took m xs s u
+took_no_more m xs s t u first second = subst (λ bs. Took m bs s u) (append-nil xs) (took_more m xs [] s t u first second)
 
--- ---- writes
-
--- the first `at` bytes of the field went out, and then n of those that a write of `field[at..]` was given
-pub appends-from_rest : (a b c : Option (List ℕ)) (at n : ℕ) (field : List ℕ) → Appends a b (take at field)
-    → Appends b c (take n (take (length field - at) (drop at field))) → Appends a c (take (at + n) field)
-appends-from_rest a b c at n field first second =
-    let next : Appends b c (take n (drop at field)) = rw take_rest at second in
-    subst (Appends a c) (sym (take-add at n field)) (Appends-trans a b c _ _ first next)
-
--- a sink that tells holds what went out behind what it had
+-- a sink that tells holds what it took behind what it had
 pub appends-told : (a b : Option (List ℕ)) (xs bs : List ℕ) → a ≡ Some xs → Appends a b bs → b ≡ Some (xs ++ bs)
 appends-told None b xs bs told out = cc
 appends-told (Some zs) None xs bs told out = absurd out
 appends-told (Some zs) (Some ys) xs bs told out = let same : zs ≡ xs = cc in ap (λ l. Some l) (out ∙ ap (λ l. l ++ bs) same)
 
--- nothing went out
-pub went_out-none : (a : Option (List ℕ)) (before : ℕ) (field : List ℕ) → WentOut a a before before field
-went_out-none a before field = (0, omega arith, omega arith, Appends-nil a)
+pub took_told : (m : ℕ) (xs bs : List ℕ) (s t : SinkState) → s.held ≡ Some xs → Took m bs s t → t.held ≡ Some (xs ++ bs)
+took_told m xs bs s t told took = appends-told s.held t.held xs bs told took.held
 
--- all of the field went out
-pub went_out-all : (a b : Option (List ℕ)) (before : ℕ) (field : List ℕ) → Appends a b field → WentOut a b before (before + length field) field
-went_out-all a b before field out = (length field, le_refl _, refl, subst (Appends a b) (sym (take_all (length field) field (le_refl _))) out)
+-- a sink that tells its setbacks and had none
+pub took_unhindered : (m : ℕ) (bs : List ℕ) (s t : SinkState) → HadNoSetback s t → Took m bs s t → m ≡ 0
+took_unhindered m bs s t (n, before, after) took = rises-same m n s.setbacks t.setbacks before after took.setbacks
+
+-- what std says of a sink that tells its bytes: it took some, or kept what it had
+pub took_some : (bs : List ℕ) (a b : Option (List ℕ)) → Appends a b bs → Took 0 bs (tells_held a) (tells_held b)
+took_some bs a b out = record { held = out; setbacks = tt }
+
+pub appends-kept : (a b : Option (List ℕ)) → Keeps a b → Appends a b []
+appends-kept None b kept = tt
+appends-kept (Some xs) None kept = absurd kept
+appends-kept (Some xs) (Some ys) kept = kept ∙ sym (append-nil xs)
+
+-- the first `at` bytes of the field went out, and then n of those that a write of `field[at..]` was given
+pub took_from_rest : (m n at : ℕ) (field : List ℕ) (s t u : SinkState) → Took 0 (take at field) s t
+    → Took m (take n (take (length field - at) (drop at field))) t u → Took m (take (at + n) field) s u
+took_from_rest m n at field s t u first second =
+    let next : Took m (take n (drop at field)) t u = rw take_rest at second in
+    subst (λ bs. Took m bs s u) (sym (take-add at n field)) (took_more m (take at field) (take n (drop at field)) s t u first next)
+
+-- ---- parts of a text that went out
 
 -- a field behind the text that went out before it
-pub appends-then-went_out : (a b c : Option (List ℕ)) (before middle after : ℕ) (front field : List ℕ) → Appends a b front
-    → middle ≡ before + length front → WentOut b c middle after field → WentOut a c before after (front ++ field)
-appends-then-went_out a b c before middle after front field first count (n, within, total, second) =
-    (length front + n, omega (arith, length-append front field), omega arith, subst (Appends a c) (sym (take-append-add front field n)) (Appends-trans a b c _ _ first second))
+pub took_then_went_out : (before middle after : ℕ) (text field : List ℕ) (s t u : SinkState) → Took 0 text s t
+    → middle ≡ before + length text → WentOut middle after field t u → WentOut before after (text ++ field) s u
+took_then_went_out before middle after text field s t u first count part = record {
+  count = length text + part.count;
+  within = omega (arith, length-append text field, part.within);
+  counted = omega (arith, part.counted);
+  took = subst (λ bs. Took 1 bs s u) (sym (take-append-add text field part.count)) (took_more 1 text (take part.count field) s t u first part.took);
+}
+
+-- all of the field went out, and then came a setback that took no byte
+pub went_out_all : (before : ℕ) (field : List ℕ) (s t u : SinkState) → Took 0 field s t → Took 1 [] t u → WentOut before (before + length field) field s u
+went_out_all before field s t u first second = record {
+  count = length field;
+  within = le_refl _;
+  counted = refl;
+  took = subst (λ bs. Took 1 bs s u) (sym (take_all (length field) field (le_refl _))) (took_no_more 1 field s t u first second);
+}
 
 -- a part of a text, with what follows it and didn't go out
-pub went_out-followed : (a b : Option (List ℕ)) (before after : ℕ) (text rest : List ℕ) → WentOut a b before after text
-    → WentOut a b before after (text ++ rest)
-went_out-followed a b before after text rest (n, within, total, out) =
-    (n, omega (arith, length-append text rest), total, subst (Appends a b) (sym (take-append-le n text rest within)) out)
-
--- a flush after it, which changes nothing that the sink took
-pub went_out-kept : (a b c : Option (List ℕ)) (before after : ℕ) (text : List ℕ) → WentOut a b before after text → Keeps b c
-    → WentOut a c before after text
-went_out-kept a b c before after text (n, within, total, out) kept = (n, within, total, Appends-kept a b c _ out kept)
+pub went_out_followed : (before after : ℕ) (text rest : List ℕ) (s t : SinkState) → WentOut before after text s t → WentOut before after (text ++ rest) s t
+went_out_followed before after text rest s t part = record {
+  count = part.count;
+  within = omega (arith, length-append text rest, part.within);
+  counted = part.counted;
+  took = subst (λ bs. Took 1 bs s t) (sym (take-append-le part.count text rest part.within)) part.took;
+}
 
 -- a sink that tells holds as many bytes of the text as the count says
-pub went_out-told : (a b : Option (List ℕ)) (before after : ℕ) (xs text : List ℕ) → a ≡ Some xs → WentOut a b before after text
-    → b ≡ Some (xs ++ take (after - before) text)
-went_out-told a b before after xs text told (n, within, total, out) =
-    let count : n ≡ after - before = omega arith in
-    appends-told a b xs _ told out ∙ ap (λ m. Some (xs ++ take m text)) count
+pub went_out_told : (before after : ℕ) (xs text : List ℕ) (s t : SinkState) → s.held ≡ Some xs → WentOut before after text s t
+    → t.held ≡ Some (xs ++ take (after - before) text)
+went_out_told before after xs text s t told part =
+    let count : part.count ≡ after - before = omega (arith, part.counted) in
+    took_told 1 xs (take part.count text) s t told part.took ∙ ap (λ m. Some (xs ++ take m text)) count

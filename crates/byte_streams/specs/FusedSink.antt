@@ -1,5 +1,6 @@
 -- A sink over memory that fails, or takes nothing, once it has so many bytes.
-use Rattle.std.specs.Prelude.{ℕ, ◌+◌, ◌-◌, min, Bool, ◌&&◌, List, [], ◌++◌, length, take, Result, Ok, Err, ◌==◌, nat_lt, if◌then◌else◌}
+use Rattle.std.specs.Prelude.{ℕ, ◌+◌, ◌-◌, min, Bool, ◌&&◌, List, [], ◌++◌, length, take, Some, Result, Ok, Err, ◌==◌, nat_lt, if◌then◌else◌}
+use Rattle.byte_streams.specs.Streams.{SinkState}
 use Rattle.byte_streams.specs.declared.traits.Failed.{Failed}
 
 -- the bytes taken, how many it takes in all, the most that a write takes, whether it fails once it is full, and the count
@@ -13,6 +14,10 @@ pub record FusedSinkState : Type 0 where
 -- a sink that took nothing yet
 abbrev pub fresh_sink : ℕ → ℕ → Bool → FusedSinkState
 fresh_sink passes piece fails = record { held = []; passes = passes; piece = piece; fails_when_full = fails; setbacks = 0 }
+
+-- what it tells of itself: everything
+abbrev pub told_sink : FusedSinkState → SinkState
+told_sink s = record { held = Some s.held; setbacks = Some s.setbacks }
 
 -- it is full, and one that fails then
 abbrev pub is_blown : FusedSinkState → Bool

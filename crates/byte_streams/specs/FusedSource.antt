@@ -1,9 +1,11 @@
 -- A source over memory that fails once it has given so many bytes.
-use Rattle.std.specs.Prelude.{ℕ, ◌+◌, ◌-◌, min, List, length, drop, Result, Ok, Err, ◌==◌, if◌then◌else◌}
+use Rattle.std.specs.Prelude.{ℕ, ◌+◌, ◌-◌, min, List, [], ◌++◌, length, take, drop, Some, Result, Ok, Err, ◌==◌, if◌then◌else◌}
+use Rattle.byte_streams.specs.Streams.{SourceState}
 use Rattle.byte_streams.specs.declared.traits.Failed.{Failed}
 
--- what is left of the bytes, how many of them may still pass, the most that a read gives, and the counts
+-- the bytes that it gave and those that are left, how many of them may still pass, the most that a read gives, and the counts
 pub record FusedSourceState : Type 0 where
+  pub given : List ℕ
   pub rest : List ℕ
   pub budget : ℕ
   pub piece : ℕ
@@ -12,7 +14,11 @@ pub record FusedSourceState : Type 0 where
 
 -- a source that gave nothing yet
 abbrev pub fresh_source : List ℕ → ℕ → ℕ → FusedSourceState
-fresh_source bytes passes piece = record { rest = bytes; budget = passes; piece = piece; failures = 0; ends = 0 }
+fresh_source bytes passes piece = record { given = []; rest = bytes; budget = passes; piece = piece; failures = 0; ends = 0 }
+
+-- what it tells of itself: everything
+abbrev pub told_source : FusedSourceState → SourceState
+told_source s = record { left = Some s.rest; given = Some s.given; failures = Some s.failures; ends = Some s.ends }
 
 -- how many bytes a read into `room` bytes gives
 abbrev pub given_to : FusedSourceState → ℕ → ℕ
@@ -26,4 +32,4 @@ read_answer s room = if s.budget == 0 then Err (record {}) else Ok (given_to s r
 abbrev pub after_read : FusedSourceState → ℕ → FusedSourceState
 after_read s room = if s.budget == 0 then record s { failures = s.failures + 1 }
     else if given_to s room == 0 then record s { ends = s.ends + 1 }
-    else record s { rest = drop (given_to s room) s.rest; budget = s.budget - given_to s room }
+    else record s { given = s.given ++ take (given_to s room) s.rest; rest = drop (given_to s room) s.rest; budget = s.budget - given_to s room }

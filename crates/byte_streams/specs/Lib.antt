@@ -1,5 +1,3 @@
-pub mod Counts
-pub mod Sink
-pub mod FillFault
+pub mod Streams
 pub mod FusedSource
 pub mod FusedSink

@@ -1,11 +1,12 @@
 //! Files, standard streams and sockets, and a wrapper for any other reader or writer of std. Nobody
 //! counts the failures of a device, so these tell none; nor does std tell a device's bytes.
+ghost use Rattle.std.specs.Prelude.{◌<◌, length, None};
 ghost use Rattle.std.specs.Io.{ReadsAtMost, WritesAtMost};
-ghost use Rattle.std.specs.Io.KnownBytes.{Keeps, ReadConsumes, WriteAppends};
+ghost use Rattle.byte_streams.specs.Streams.{tells_left, tells_held, ReadGave, WriteTook, FlushTook};
 
 use crate::{Failed, Sink, Source};
 use std::fs::File;
-use std::io::{Read, Stderr, Stdin, StdinLock, Stdout, Write};
+use std::io::{Read, Stderr, Stdin, Stdout, Write};
 use std::net::TcpStream;
 
 /// Any other reader or writer of std. It tells the bytes that std tells of it, and no failures.
@@ -14,27 +15,33 @@ pub struct Untold<T>(pub T);
 
 // One call of std's, with no second try: an interrupted one has failed too.
 fn read_from<R: Read>(reader: &mut R, buf: &mut [u8]) -> Result<usize, Failed>
+    requires { 0 < length buf.old }
     ensures bound { ReadsAtMost result buf.new }
-    ensures bytes { ReadConsumes (R.remaining reader.old) (R.remaining reader.new) result buf.new }
+    ensures gave { ReadGave result buf.new (tells_left (R.remaining reader.old))
+        (tells_left (R.remaining reader.new)) }
 {
     reader.read(buf).map_err(|_| Failed)
 }
 
 fn write_to<W: Write>(writer: &mut W, buf: &[u8]) -> Result<usize, Failed>
     ensures bound { WritesAtMost result buf.now }
-    ensures bytes { WriteAppends (W.contents writer.old) (W.contents writer.new) result buf.now }
+    ensures took { WriteTook result buf.now (tells_held (W.contents writer.old))
+        (tells_held (W.contents writer.new)) }
 {
     writer.write(buf).map_err(|_| Failed)
 }
 
 fn flush_of<W: Write>(writer: &mut W) -> Result<(), Failed>
-    ensures { Keeps (W.contents writer.old) (W.contents writer.new) }
+    ensures { FlushTook result (tells_held (W.contents writer.old))
+        (tells_held (W.contents writer.new)) }
 {
     writer.flush().map_err(|_| Failed)
 }
 
 impl<R: Read> Source for Untold<R> {
-    ghost remaining = { λ u. R.remaining u.0 };
+    ghost state = { λ u. tells_left (R.remaining u.0) };
+
+    ghost lasts = { λ _ _. Unit {0} };
 
     fn read(&mut self, buf: &mut [u8]) -> Result<usize, Failed> {
         read_from(&mut self.0, buf)
@@ -42,7 +49,7 @@ impl<R: Read> Source for Untold<R> {
 }
 
 impl<W: Write> Sink for Untold<W> {
-    ghost contents = { λ u. W.contents u.0 };
+    ghost state = { λ u. tells_held (W.contents u.0) };
 
     fn write(&mut self, buf: &[u8]) -> Result<usize, Failed> {
         write_to(&mut self.0, buf)
@@ -54,6 +61,8 @@ impl<W: Write> Sink for Untold<W> {
 }
 
 impl Source for File {
+    ghost lasts = { λ _ _. Unit {0} };
+
     fn read(&mut self, buf: &mut [u8]) -> Result<usize, Failed> {
         read_from(self, buf)
     }
@@ -70,12 +79,8 @@ impl Sink for File {
 }
 
 impl Source for Stdin {
-    fn read(&mut self, buf: &mut [u8]) -> Result<usize, Failed> {
-        read_from(self, buf)
-    }
-}
+    ghost lasts = { λ _ _. Unit {0} };
 
-impl Source for StdinLock<'static> {
     fn read(&mut self, buf: &mut [u8]) -> Result<usize, Failed> {
         read_from(self, buf)
     }
@@ -102,6 +107,8 @@ impl Sink for Stderr {
 }
 
 impl Source for TcpStream {
+    ghost lasts = { λ _ _. Unit {0} };
+
     fn read(&mut self, buf: &mut [u8]) -> Result<usize, Failed> {
         read_from(self, buf)
     }

@@ -1,12 +1,10 @@
 //! Sources and sinks over memory that fail at a chosen byte, for the tests of the crates above. Their
 //! counts are fields, so they tell everything that a stream can tell.
-ghost use Rattle.std.specs.Prelude.{◌≡◌, ◌≢◌, ◌+◌, ◌-◌, ◌^◌, ◌<◌, ◌≤◌, true, false, drop, length, Some, None, IfOk, OnOk, OnErr, IsErr, IsTrue, ◌↔◌, vec_len, vec_capacity, if◌then◌else◌};
+ghost use Rattle.std.specs.Prelude.{◌≡◌, ◌-◌, ◌^◌, ◌<◌, ◌≤◌, true, false, take, drop, length, IfOk, OnOk, IsErr, IsTrue, ◌↔◌, vec_len, vec_capacity, if◌then◌else◌};
 ghost use Rattle.std.specs.Io.{ReadsAtMost, WritesAtMost};
-ghost use Rattle.std.specs.Io.KnownBytes.{Keeps, ReadConsumes, WriteAppends};
-ghost use Rattle.byte_streams.specs.Counts.{Rises, Stands};
-ghost use Rattle.byte_streams.specs.Sink.{IsRefusal};
-ghost use Rattle.byte_streams.specs.FusedSource.{FusedSourceState, fresh_source, read_answer, after_read};
-ghost use Rattle.byte_streams.specs.FusedSink.{FusedSinkState, fresh_sink, is_blown, set_back, write_answer, after_write};
+ghost use Rattle.byte_streams.specs.Streams.{ReadGave, WriteTook, FlushTook, IsRefusal};
+ghost use Rattle.byte_streams.specs.FusedSource.{FusedSourceState, fresh_source, told_source, read_answer, after_read};
+ghost use Rattle.byte_streams.specs.FusedSink.{FusedSinkState, fresh_sink, told_sink, is_blown, set_back, write_answer, after_write};
 
 use crate::{Failed, Sink, Source};
 use std::alloc::{AllocError, Allocator, Global};
@@ -27,6 +25,7 @@ impl<A: Allocator> Model for FusedSource<A> {
     ghost Value = { FusedSourceState };
 
     ghost view = { λ s. record {
+      given = take s.given s.bytes.items;
       rest = drop s.given s.bytes.items;
       budget = s.budget;
       piece = s.piece;
@@ -56,11 +55,9 @@ impl<A: Allocator> FusedSource<A> {
 }
 
 impl<A: Allocator> Source for FusedSource<A> {
-    ghost remaining = { λ s. Some s.rest };
+    ghost state = { told_source };
 
-    ghost failures = { λ s. Some s.failures };
-
-    ghost ends = { λ s. Some s.ends };
+    ghost lasts = { λ _ _. Unit {0} };
 
     ghost can_read = { λ s. (s.failures < 2 ^ 64 - 1) × (s.ends < 2 ^ 64 - 1) };
 
@@ -69,14 +66,7 @@ impl<A: Allocator> Source for FusedSource<A> {
         requires room { 0 < length buf.old }
 
         ensures bound { ReadsAtMost result buf.new }
-        ensures bytes { ReadConsumes (Some self.old.rest) (Some self.new.rest) result buf.new }
-        ensures failed { OnErr result (Rises (Some self.old.failures) (Some self.new.failures)) }
-        ensures passed { OnOk result (Stands (Some self.old.failures) (Some self.new.failures)) }
-        ensures ended { IfOk result
-            (λ n. n ≡ 0 → Rises (Some self.old.ends) (Some self.new.ends)) }
-        ensures went_on { IfOk result
-            (λ n. 0 < n → Stands (Some self.old.ends) (Some self.new.ends)) }
-        ensures broke_off { OnErr result (Stands (Some self.old.ends) (Some self.new.ends)) }
+        ensures gave { ReadGave result buf.new (told_source self.old) (told_source self.new) }
         ensures again { IfOk result
             (λ n. 0 < n → (self.new.failures < 2 ^ 64 - 1) × (self.new.ends < 2 ^ 64 - 1)) }
 
@@ -168,9 +158,7 @@ impl<A: Allocator> FusedSink<A> {
 }
 
 impl<A: Allocator> Sink for FusedSink<A> {
-    ghost contents = { λ s. Some s.held };
-
-    ghost setbacks = { λ s. Some s.setbacks };
+    ghost state = { told_sink };
 
     ghost can_write = { λ s. s.setbacks < 2 ^ 64 - 1 };
 
@@ -178,12 +166,7 @@ impl<A: Allocator> Sink for FusedSink<A> {
         requires { self.old.setbacks < 2 ^ 64 - 1 }
 
         ensures bound { WritesAtMost result buf.now }
-        ensures bytes { WriteAppends (Some self.old.held) (Some self.new.held) result buf.now }
-        ensures failed { OnErr result (Rises (Some self.old.setbacks) (Some self.new.setbacks)) }
-        ensures refused { IfOk result
-            (λ n. IsRefusal n buf.now → Rises (Some self.old.setbacks) (Some self.new.setbacks)) }
-        ensures passed { IfOk result
-            (λ n. ¬ IsRefusal n buf.now → Stands (Some self.old.setbacks) (Some self.new.setbacks)) }
+        ensures took { WriteTook result buf.now (told_sink self.old) (told_sink self.new) }
         ensures again { IfOk result
             (λ n. ¬ IsRefusal n buf.now → self.new.setbacks < 2 ^ 64 - 1) }
 
@@ -209,9 +192,7 @@ impl<A: Allocator> Sink for FusedSink<A> {
     fn flush(&mut self) -> Result<(), Failed>
         requires { self.old.setbacks < 2 ^ 64 - 1 }
 
-        ensures bytes { Keeps (Some self.old.held) (Some self.new.held) }
-        ensures failed { OnErr result (Rises (Some self.old.setbacks) (Some self.new.setbacks)) }
-        ensures passed { OnOk result (Stands (Some self.old.setbacks) (Some self.new.setbacks)) }
+        ensures took { FlushTook result (told_sink self.old) (told_sink self.new) }
         ensures again { OnOk result (self.new.setbacks < 2 ^ 64 - 1) }
 
         ensures answer { IsErr result ↔ IsTrue (is_blown self.old) }

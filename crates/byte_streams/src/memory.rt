@@ -1,17 +1,17 @@
 //! Bytes in memory. A slice never fails. A vector fails only where its growth is refused, and keeps
 //! no count of that.
-ghost use Rattle.std.specs.Prelude.{◌≡◌, ◌+◌, ◌<◌, length, Some, IsOk, IfOk, OnErr, vec_len, vec_capacity};
+ghost use Rattle.std.specs.Prelude.{◌≡◌, ◌+◌, ◌<◌, length, Some, None, IsOk, IfOk, OnErr, vec_len, vec_capacity};
 ghost use Rattle.std.specs.Io.{WritesAtMost};
-ghost use Rattle.std.specs.Io.KnownBytes.{WriteAppends};
+ghost use Rattle.byte_streams.specs.Streams.{tells_held, WriteTook, FlushTook};
 
 use crate::{Failed, Sink, Source};
 use std::alloc::Allocator;
 use std::io::Read;
 
 impl Source for &[u8] {
-    ghost remaining = { λ s. Some s.now };
+    ghost state = { λ s. record { left = Some s.now; given = None; failures = Some 0; ends = None } };
 
-    ghost failures = { λ _. Some 0 };
+    ghost lasts = { λ _ _. Unit {0} };
 
     fn read(&mut self, buf: &mut [u8]) -> Result<usize, Failed> {
         Read::read(self, buf).map_err(|_| Failed)
@@ -19,11 +19,12 @@ impl Source for &[u8] {
 }
 
 impl<A: Allocator> Sink for Vec<u8, A> {
-    ghost contents = { λ v. Some v.items };
+    ghost state = { λ v. tells_held (Some v.items) };
 
     fn write(&mut self, buf: &[u8]) -> Result<usize, Failed>
         ensures bound { WritesAtMost result buf.now }
-        ensures bytes { WriteAppends (Some self.old.items) (Some self.new.items) result buf.now }
+        ensures took { WriteTook result buf.now (tells_held (Some self.old.items))
+            (tells_held (Some self.new.items)) }
 
         // It takes the whole buffer, and fails only where it has no room for it.
         ensures whole { IfOk result (λ n. n ≡ length buf.now) }
@@ -35,6 +36,8 @@ impl<A: Allocator> Sink for Vec<u8, A> {
     }
 
     fn flush(&mut self) -> Result<(), Failed>
+        ensures took { FlushTook result (tells_held (Some self.old.items))
+            (tells_held (Some self.new.items)) }
         ensures unchanged { self.new ≡ self.old }
         ensures passes { IsOk result }
     {

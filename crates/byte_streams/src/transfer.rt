@@ -1,9 +1,6 @@
 //! Whole buffers, in and out: loops over `read` and `write` that stop at the first setback.
-ghost use Rattle.std.specs.Prelude.{◌≡◌, ℕ, ◌+◌, ◌^◌, ◌<◌, ◌≤◌, List, length, take, Some, IsOk, IfOk, IfErr, OnOk, OnErr};
-ghost use Rattle.std.specs.Io.KnownBytes.{Appends, Consumes, IsAtEnd};
-ghost use Rattle.byte_streams.specs.Counts.{Rises, Stands};
-ghost use Rattle.byte_streams.specs.FillFault.{MatchFill, OnEnded, filled_before};
-ghost use Rattle.byte_streams.specs.Sink.{WentOut};
+ghost use Rattle.std.specs.Prelude.{◌≡◌, ℕ, ◌+◌, ◌^◌, ◌<◌, ◌≤◌, List, length, Some, IsOk, IfOk, IfErr, OnOk};
+ghost use Rattle.byte_streams.specs.Streams.{FillGave, HadNoFailure, Took, WentOut, HadNoSetback};
 
 use crate::{Failed, Sink, Source};
 use thiserror::Error;
@@ -31,31 +28,20 @@ pub struct PutFault {
 /// Fills the whole of `buf` with the next bytes of the source.
 ///
 /// An empty `buf` is full: nothing is read then. After a fault the bytes that came stand at the
-/// front of `buf`, and what is behind them may have changed. At most one read for each byte, and no
+/// beginning of `buf`, and what is behind them may have changed. At most one read for each byte, and no
 /// second try after a failed one; takes no memory.
 pub fn fill<S: Source>(source: &mut S, buf: &mut [u8]) -> Result<(), FillFault>
     requires { S.can_read source.old }
 
-    ensures whole { OnOk result
-        (Consumes (S.remaining source.old) (S.remaining source.new) buf.new) }
-    ensures part { IfErr result (λ fault. Consumes (S.remaining source.old)
-        (S.remaining source.new) (take (filled_before fault) buf.new)) }
-    ensures short { IfErr result (λ fault. filled_before fault < length buf.new) }
-    ensures end { IfErr result (λ fault. OnEnded fault (IsAtEnd (S.remaining source.new))) }
-
-    // A failure and an end are told apart, and each is counted once.
-    ensures failures { MatchFill result (Stands (S.failures source.old) (S.failures source.new))
-        (Rises (S.failures source.old) (S.failures source.new))
-        (Stands (S.failures source.old) (S.failures source.new)) }
-    ensures ends { MatchFill result (Stands (S.ends source.old) (S.ends source.new))
-        (Stands (S.ends source.old) (S.ends source.new))
-        (Rises (S.ends source.old) (S.ends source.new)) }
+    // What came; a failure and an end are told apart, and each is counted once.
+    ensures gave { FillGave result buf.new (S.state source.old) (S.state source.new) }
 
     // A source that has the bytes and doesn't fail fills the buffer.
-    ensures ends_ok { (n : ℕ) (bytes : List ℕ)
-        → S.failures source.old ≡ Some n → S.failures source.new ≡ Some n
-        → S.remaining source.old ≡ Some bytes → length buf.new ≤ length bytes → IsOk result }
+    ensures ends_ok { (bytes : List ℕ) → (S.state source.old).left ≡ Some bytes
+        → length buf.new ≤ length bytes
+        → HadNoFailure (S.state source.old) (S.state source.new) → IsOk result }
 
+    ensures lasts { (fact : S.Fact) → S.lasts source.old fact → S.lasts source.new fact }
     ensures again { OnOk result (S.can_read source.new) }
 {
     let mut filled = 0;
@@ -78,19 +64,15 @@ pub fn put<W: Sink>(sink: &mut W, written: u64, field: &[u8]) -> Result<u64, Put
     requires can { W.can_write sink.old }
     requires fits { written + length field.now < 2 ^ 64 }
 
-    ensures whole { OnOk result
-        (Appends (W.contents sink.old) (W.contents sink.new) field.now) }
+    ensures whole { OnOk result (Took 0 field.now (W.state sink.old) (W.state sink.new)) }
     ensures count { IfOk result (λ total. total ≡ written + length field.now) }
-    ensures part { IfErr result (λ fault. WentOut (W.contents sink.old) (W.contents sink.new)
-        written fault.written field.now) }
+
+    ensures part { IfErr result (λ fault. WentOut written fault.written field.now
+        (W.state sink.old) (W.state sink.new)) }
     ensures short { IfErr result (λ fault. fault.written < written + length field.now) }
 
-    ensures failed { OnErr result (Rises (W.setbacks sink.old) (W.setbacks sink.new)) }
-    ensures passed { OnOk result (Stands (W.setbacks sink.old) (W.setbacks sink.new)) }
-
     // A sink that has no setback takes the field.
-    ensures ends_ok { (n : ℕ) → W.setbacks sink.old ≡ Some n → W.setbacks sink.new ≡ Some n
-        → IsOk result }
+    ensures ends_ok { HadNoSetback (W.state sink.old) (W.state sink.new) → IsOk result }
 
     ensures again { OnOk result (W.can_write sink.new) }
 {

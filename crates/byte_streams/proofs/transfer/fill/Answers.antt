@@ -1,6 +1,5 @@
 use Rattle.std.proofs.Common.{rules}
-use Rattle.byte_streams.proofs.Counting.{stands-then-stands}
-use Rattle.byte_streams.proofs.Streaming.{consumes-into_rest}
+use Rattle.byte_streams.proofs.Streaming.{gave_into_rest}
 use Rattle.byte_streams.proofs.transfer.fill.Goals as goal
 
 pub loop-filled-preserved : goal.loop-filled-preserved
@@ -8,8 +7,7 @@ loop-filled-preserved g c =
     let so_far = c.loop-filled.invariant in
     record {
       within = search rules;
-      bytes = consumes-into_rest _ _ _ _ _ _ _ _ so_far.within c.in-Ok.ensures.bound.0 so_far.bytes c.in-Ok.ensures.bytes.0;
-      failures = stands-then-stands _ _ _ so_far.failures c.in-Ok.ensures.passed;
-      ends = stands-then-stands _ _ _ so_far.ends (c.in-Ok.ensures.went_on (search rules));
+      gave = gave_into_rest 0 0 _ _ _ _ _ _ _ _ so_far.within c.in-Ok.ensures.bound.0 so_far.gave (c.in-Ok.ensures.gave.0 (search rules));
+      lasts = λ fact held. c.in-Ok.ensures.lasts fact (so_far.lasts fact held);
       can = c.in-Ok.ensures.again (search rules);
     }

@@ -1,15 +1,13 @@
--- What the source gave stands at the front of the buffer, and neither count moved.
+-- What the source gave stands at the beginning of the buffer, and it had no failure and found no end.
 use Rattle.std.proofs.Common.{length, ◌-◌, ◌≤◌, take}
-use Rattle.std.specs.Io.KnownBytes.{Consumes}
-use Rattle.byte_streams.specs.Counts.{Stands}
+use Rattle.byte_streams.specs.Streams.{Gave}
 use Rattle.byte_streams.proofs.transfer.fill.Given as goal
 
 abbrev pub invariant-loop-filled : goal.invariant-loop-filled
 invariant-loop-filled g l = record {
   within : l.filled ≤ length l.buf;
-  bytes : Consumes (g.S.Source.remaining l.initial.source) (g.S.Source.remaining l.source) (take l.filled l.buf);
-  failures : Stands (g.S.Source.failures l.initial.source) (g.S.Source.failures l.source);
-  ends : Stands (g.S.Source.ends l.initial.source) (g.S.Source.ends l.source);
+  gave : Gave 0 0 (take l.filled l.buf) (g.S.Source.state l.initial.source) (g.S.Source.state l.source);
+  lasts : (fact : g.S.Source.Fact) → g.S.Source.lasts l.initial.source fact → g.S.Source.lasts l.source fact;
   can : g.S.Source.can_read l.source;
 }
 

@@ -1,14 +1,12 @@
--- The sink took the front of the field, and its count of setbacks stood.
+-- The sink took a prefix of the field, and had no setback.
 use Rattle.std.proofs.Common.{length, ◌-◌, ◌≤◌, take}
-use Rattle.std.specs.Io.KnownBytes.{Appends}
-use Rattle.byte_streams.specs.Counts.{Stands}
+use Rattle.byte_streams.specs.Streams.{Took}
 use Rattle.byte_streams.proofs.transfer.put.Given as goal
 
 abbrev pub invariant-loop-taken : goal.invariant-loop-taken
 invariant-loop-taken g l = record {
   within : l.taken ≤ length l.field;
-  bytes : Appends (g.W.Sink.contents l.initial.sink) (g.W.Sink.contents l.sink) (take l.taken l.field);
-  setbacks : Stands (g.W.Sink.setbacks l.initial.sink) (g.W.Sink.setbacks l.sink);
+  took : Took 0 (take l.taken l.field) (g.W.Sink.state l.initial.sink) (g.W.Sink.state l.sink);
   can : g.W.Sink.can_write l.sink;
 }
 

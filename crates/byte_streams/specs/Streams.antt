@@ -1,0 +1,89 @@
+-- What streams tell of themselves, and what a call does to it.
+use Rattle.std.specs.Prelude.{◌≡◌, ◌≢◌, ℕ, ◌+◌, ◌<◌, ◌≤◌, ⊤, List, [], length, take, Option, Some, None, IfSome, Result, Ok, Err}
+use Rattle.std.specs.Io.KnownBytes.{Appends, Consumes}
+use Rattle.byte_streams.specs.declared.traits.Failed.{Failed}
+use Rattle.byte_streams.specs.declared.transfer.FillFault.{FillFault}
+use Rattle.byte_streams.specs.declared.transfer.FillFault.TheVariants.{Failed as ReadFailed, Ended}
+
+-- a told count grew by n, and is still told
+abbrev pub RisesBy : ℕ → Option ℕ → Option ℕ → Type 0
+RisesBy n None new = ⊤
+RisesBy n (Some count) None = ⊥
+RisesBy n (Some count) (Some new) = new ≡ count + n
+
+-- ---- sources
+
+-- what a source tells, each where it is known: the bytes that it has left, those that it gave, how many reads failed, and how many found the end
+pub record SourceState : Type 0 where
+  pub left : Option (List ℕ)
+  pub given : Option (List ℕ)
+  pub failures : Option ℕ
+  pub ends : Option ℕ
+
+-- a source that tells at most its bytes to come
+abbrev pub tells_left : Option (List ℕ) → SourceState
+tells_left left = record { left = left; given = None; failures = None; ends = None }
+
+-- from `before` to `after` a source gave these bytes; so many reads failed, and so many found the end
+pub record Gave (failed ended : ℕ) (bytes : List ℕ) (before after : SourceState) : Type 0 where
+  pub left : Consumes before.left after.left bytes
+  pub given : failed ≡ 0 → Appends before.given after.given bytes
+  pub failures : RisesBy failed before.failures after.failures
+  pub ends : RisesBy ended before.ends after.ends
+  pub at_end : 0 < ended → IfSome before.left (λ all. all ≡ bytes)
+
+-- one read: it gave some bytes, or found the end, or failed and gave none
+abbrev pub ReadGave : Result ℕ Failed → List ℕ → SourceState → SourceState → Type 0
+ReadGave (Ok n) buf before after = (0 < n → Gave 0 0 (take n buf) before after) × (n ≡ 0 → Gave 0 1 [] before after)
+ReadGave (Err fault) buf before after = Gave 1 0 [] before after
+
+-- reads into a buffer: they filled it, or gave less and then one failed or found the end
+abbrev pub FillGave : {T : Type 0} → Result T FillFault → List ℕ → SourceState → SourceState → Type 0
+FillGave (Ok filled) buf before after = Gave 0 0 buf before after
+FillGave (Err (ReadFailed n)) buf before after = (n < length buf) × Gave 1 0 (take n buf) before after
+FillGave (Err (Ended n)) buf before after = (n < length buf) × Gave 0 1 (take n buf) before after
+
+-- the source tells its failures, and had none
+abbrev pub HadNoFailure : SourceState → SourceState → Type 0
+HadNoFailure before after = (n : ℕ) × (before.failures ≡ Some n) × (after.failures ≡ Some n)
+
+-- ---- sinks
+
+-- what a sink tells, each where it is known: the bytes that it took, and how many writes and flushes failed or took nothing
+pub record SinkState : Type 0 where
+  pub held : Option (List ℕ)
+  pub setbacks : Option ℕ
+
+-- a sink that tells at most its bytes
+abbrev pub tells_held : Option (List ℕ) → SinkState
+tells_held held = record { held = held; setbacks = None }
+
+-- from `before` to `after` a sink took these bytes, and was hindered so many times
+pub record Took (hindered : ℕ) (bytes : List ℕ) (before after : SinkState) : Type 0 where
+  pub held : Appends before.held after.held bytes
+  pub setbacks : RisesBy hindered before.setbacks after.setbacks
+
+-- no byte was taken of a buffer that isn't empty
+abbrev pub IsRefusal : ℕ → List ℕ → Type 0
+IsRefusal taken buf = (taken ≡ 0) × (0 < length buf)
+
+-- one write: it took some bytes, or all of none, or had a setback and took none
+abbrev pub WriteTook : Result ℕ Failed → List ℕ → SinkState → SinkState → Type 0
+WriteTook (Ok n) buf before after = (¬ IsRefusal n buf → Took 0 (take n buf) before after) × (IsRefusal n buf → Took 1 [] before after)
+WriteTook (Err fault) buf before after = Took 1 [] before after
+
+-- one flush, which takes no byte
+abbrev pub FlushTook : {T : Type 0} → Result T Failed → SinkState → SinkState → Type 0
+FlushTook (Ok passed) before after = Took 0 [] before after
+FlushTook (Err fault) before after = Took 1 [] before after
+
+-- a first part of the text went out, and then came a setback; `written` bytes had gone out before it, and `total` have with it
+pub record WentOut (written total : ℕ) (text : List ℕ) (before after : SinkState) : Type 0 where
+  pub count : ℕ
+  pub within : count ≤ length text
+  pub counted : total ≡ written + count
+  pub took : Took 1 (take count text) before after
+
+-- the sink tells its setbacks, and had none
+abbrev pub HadNoSetback : SinkState → SinkState → Type 0
+HadNoSetback before after = (n : ℕ) × (before.setbacks ≡ Some n) × (after.setbacks ≡ Some n)
