@@ -1,49 +1,46 @@
--- A file that means nothing is refused by its first fault.
-use Rattle.std.proofs.Common.{◌≡◌, ℕ, ◌≤◌, ◌^◌, List, ◌++◌, length, take, inl, inr, Option, Some, Ok, Err, suc, ap, sym, subst, arith, length-append, take_all}
-use Rattle.std.specs.Io.KnownBytes.{Consumes}
-use Rattle.byte_streams.specs.Counts.{Rises, Stands}
-use Rattle.byte_streams.proofs.Counting.{same-never-rises}
-use Rattle.byte_streams.proofs.Streaming.{consumes-told, consumes-to_end}
-use Rattle.gr_text.specs.Graph.{GraphValue, IsGraphOf}
-use Rattle.gr_text.specs.Fault.{IsFirstFault, IsEndedFault}
-use Rattle.gr_text.specs.Sourced.{IsReadOf, OnSource}
+-- What is read of a source that tells its bytes and no failure.
+use Rattle.std.proofs.Common.{◌≡◌, ◌≤◌, ◌<◌, ℕ, List, ◌++◌, length, inl, inr, Some, Ok, Err, refl, sym, subst, arith}
+use Rattle.std.specs.Prelude.{Result}
+use Rattle.limits.specs.declared.TheConstants.{MAX_BYTES}
+use Rattle.byte_streams.specs.Streams.{SourceState, HadNoFailure}
+use Rattle.byte_streams.proofs.Streaming.{gave_told, gave_to_end, gave_unfailing}
+use Rattle.gr_text.specs.Graph.{GraphValue}
+use Rattle.gr_text.specs.Reader.{IsRead, FailsBy}
+use Rattle.gr_text.specs.Sourced.{IsReadOf}
 use Rattle.gr_text.specs.declared.faults.ReadFault.{ReadFault}
 use Rattle.gr_text.specs.declared.faults.ReadFault.TheVariants as read
-use Rattle.gr_text.specs.declared.faults.GrKind.{GrKind}
-use Rattle.gr_text.proofs.Feeding.{IsEndedFault-more}
-use Rattle.gr_text.proofs.Ending.{first_of_ended}
-use Rattle.plain_run.specs.Plain.{IsRefusedBy, IsFirstFaultOf}
-use Rattle.plain_run.specs.declared.outcome.Report.{Report}
-use Rattle.plain_run.specs.declared.outcome.RunFault.TheVariants as fault
+use Rattle.gr_text.proofs.Feeding.{StopsBy-more}
+use Rattle.gr_text.proofs.Ending.{fails_of_stops}
+use Rattle.gr_text.proofs.OneFault.{never_both}
+use Rattle.plain_run.specs.Plain.{IsFileOf, IsFirstOf}
 
--- what was read to the end of a source that tells is all that it had
-pub graph_of_all : (before after : Option (List ℕ)) (bytes : List ℕ) (graph : GraphValue) → IsReadOf (2 ^ 40) before after (Ok graph)
-    → before ≡ Some bytes → IsGraphOf bytes graph
-graph_of_all before after bytes graph (got, came, (end, short, means)) told =
-    subst (λ (xs : List ℕ). IsGraphOf xs graph) (sym (consumes-to_end before after bytes got told came end)) means
+-- what is read of a source that tells its bytes and no failure is what is read of the bytes
+pub reads_the_file : (bytes : List ℕ) (s t : SourceState) (outcome : Result GraphValue ReadFault) → s.left ≡ Some bytes → HadNoFailure s t
+    → IsReadOf MAX_BYTES outcome s t → IsRead MAX_BYTES bytes outcome
+reads_the_file bytes s t outcome told no_failure (inl whole) =
+    subst (λ (xs : List ℕ). IsRead MAX_BYTES xs outcome) (sym (gave_to_end 0 1 bytes whole.bytes s t told (omega arith) whole.gave)) whole.read
+reads_the_file bytes s t (Ok graph) told no_failure (inr (inl stopped)) = absurd stopped
+reads_the_file bytes s t (Err why) told no_failure (inr (inl stopped)) =
+    let (rest, left, split) = gave_told 0 0 bytes stopped.bytes s t told stopped.gave in
+    subst (FailsBy why MAX_BYTES) (sym split) (fails_of_stops why MAX_BYTES (stopped.bytes ++ rest) (StopsBy-more why MAX_BYTES stopped.bytes rest stopped.stops))
+reads_the_file bytes s t outcome told no_failure (inr (inr (line, is, broke))) =
+    let none = gave_unfailing 1 0 broke.bytes s t no_failure broke.gave in
+    absurd (omega (arith, none))
 
--- a fault of the lines that came is the first of all that the source had
-first_of_came : (before after : Option (List ℕ)) (bytes got : List ℕ) (number : ℕ) (kind : GrKind) → Consumes before after got
-    → before ≡ Some bytes → length bytes ≤ 2 ^ 40 → IsEndedFault (take (2 ^ 40) got) number kind → IsFirstFault bytes number kind
-first_of_came before after bytes got number kind came told within ended =
-    let (rest, left, split) = consumes-told before after bytes got told came in
-    let short : length got ≤ 2 ^ 40 = omega (arith, ap length split, length-append got rest) in
-    let whole = subst (λ (xs : List ℕ). IsEndedFault xs number kind) (take_all (2 ^ 40) got short) ended in
-    subst (λ (xs : List ℕ). IsFirstFault xs number kind) (sym split) (first_of_ended (got ++ rest) number kind (IsEndedFault-more got rest number kind whole))
+-- a fault within the limit is the first of the file, or want of memory
+pub first_of_failed : (why : ReadFault) (bytes : List ℕ) → length bytes ≤ MAX_BYTES → FailsBy why MAX_BYTES bytes → IsFirstOf bytes why
+first_of_failed (read.Gr f) bytes within (inl (short, first)) = first
+first_of_failed (read.Gr f) bytes within (inr (long, ended)) = absurd (omega (arith, within, long))
+first_of_failed (read.Source line) bytes within fails = fails
+first_of_failed read.TooLong bytes within (long, lawful) = absurd (omega (arith, within, long))
+first_of_failed read.Memory bytes within fails = tt
 
--- where no read failed and the limit wasn't passed, a file that isn't read has this first fault
-pub first_of_refused : (why : ReadFault) (before after : Option (List ℕ)) (failed fails : Option ℕ) (bytes : List ℕ) (k : ℕ)
-    → IsRefusedBy why before after → OnSource {X = GraphValue} (Err why) (Rises failed fails) (Stands failed fails)
-    → before ≡ Some bytes → failed ≡ Some k → fails ≡ Some k → length bytes ≤ 2 ^ 40
-    → IsFirstFaultOf {X = Report} bytes (Err (fault.Read why))
-first_of_refused (read.Gr f) before after failed fails bytes k (got, came, (inl (end, short, first))) counted told was is within =
-    subst (λ (xs : List ℕ). IsFirstFault xs f.line f.kind) (sym (consumes-to_end before after bytes got told came end)) first
-first_of_refused (read.Gr f) before after failed fails bytes k (got, came, (inr ended)) counted told was is within =
-    first_of_came before after bytes got f.line f.kind came told within ended
-first_of_refused (read.Source number) before after failed fails bytes k refused rose told was is within =
-    absurd (same-never-rises failed fails k was is rose)
-first_of_refused read.TooLong before after failed fails bytes k (got, came, (long, lawful)) counted told was is within =
-    let (rest, left, split) = consumes-told before after bytes got told came in
-    let long' : suc (2 ^ 40) ≤ length got = long in
-    absurd (omega (arith, ap length split, length-append got rest))
-first_of_refused read.Memory before after failed fails bytes k refused counted told was is within = tt
+-- bytes that mean a graph have no fault
+pub no_fault_of_lawful : (why : ReadFault) (bytes : List ℕ) (graph : GraphValue) → IsFileOf bytes graph → FailsBy why MAX_BYTES bytes → why ≡ read.Memory
+no_fault_of_lawful (read.Gr f) bytes graph file (inl (short, first)) =
+    let (arcs, means, links) = file.means in
+    absurd (never_both bytes graph.vertices arcs f.line f.kind means first)
+no_fault_of_lawful (read.Gr f) bytes graph file (inr (long, ended)) = absurd (omega (arith, file.within, long))
+no_fault_of_lawful (read.Source line) bytes graph file fails = absurd fails
+no_fault_of_lawful read.TooLong bytes graph file (long, lawful) = absurd (omega (arith, file.within, long))
+no_fault_of_lawful read.Memory bytes graph file fails = refl
