@@ -1,57 +1,71 @@
--- What a run did that ended with a status.
-use Rattle.std.proofs.Common.{◌≡◌, ℕ, List, Bool, true, false, ◌⊎◌, inl, inr, Option, Some, None, IsSome, IsNone, refl, arith}
-use Rattle.std.specs.Io.KnownBytes.{Keeps}
+-- What the program does, by what its words ask for.
+use Rattle.std.specs.Prelude.{Result}
+use Rattle.std.proofs.Common.{◌≡◌, ℕ, List, [], inl, inr, Ok, Err, refl, arith}
+use Rattle.limits.specs.declared.TheConstants.{MAX_BYTES}
+use Rattle.byte_streams.specs.Streams.{SourceState, SinkState, Gave}
+use Rattle.byte_streams.proofs.Streaming.{gave_nothing, took_nothing}
+use Rattle.gr_text.specs.Sourced.{IsReadOf}
 use Rattle.gr_text.specs.declared.faults.ReadFault.{ReadFault}
 use Rattle.gr_text.specs.declared.faults.ReadFault.TheVariants as read
-use Rattle.plain_run.specs.Plain.{IsRefusedBy}
+use Rattle.plain_run.specs.Plain.{streams, RanPlain}
+use Rattle.plain_run.specs.declared.outcome.Report.{Report}
 use Rattle.plain_run.specs.declared.outcome.RunFault.{RunFault}
 use Rattle.plain_run.specs.declared.outcome.RunFault.TheVariants as fault
-use Rattle.boruvka.specs.Status.{Streams, sink_alone, WritesPart, FailsWith, EndsWith}
+use Rattle.boruvka.specs.Status.{EndsWith, EndsOnFile, IsSilent, IsUntouched, status_of_run, untold}
 
--- at status 3 nothing was written, or the front of the forest's text
-pub part_of_failed : (status : ℕ) (before after : Streams) → EndsWith status before after → status ≡ 3
-    → Keeps before.held after.held ⊎ WritesPart before.left after.left before.held after.held
-part_of_failed status before after (inl (is, done)) three = absurd (omega arith)
-part_of_failed status before after (inr (fault.Read why, is, fails)) three = inl fails.nothing
-part_of_failed status before after (inr (fault.Memory, is, fails)) three = inl fails.nothing
-part_of_failed status before after (inr (fault.Write written, is, fails)) three = inr (written, fails.part)
+-- memory was wanting before anything was read or written
+pub wants_memory : (s : SourceState) (a : SinkState) → EndsWith 4 (streams s a) (streams s a)
+wants_memory s a = (
+  Err (fault.Read read.Memory),
+  refl,
+  record { refused = inr (inl (record { bytes = []; gave = gave_nothing s; stops = tt })); nothing = took_nothing a },
+)
 
--- what refuses the bytes of a source refuses some bytes
-refused_untold : (why : ReadFault) (before after : Option (List ℕ)) → IsRefusedBy why before after → IsRefusedBy why None None
-refused_untold (read.Gr f) before after (got, came, (inl (end, short, first))) = (got, tt, inl (tt, short, first))
-refused_untold (read.Gr f) before after (got, came, (inr ended)) = (got, tt, inr ended)
-refused_untold (read.Source number) before after (got, came, tells) = (got, tt, tells)
-refused_untold read.TooLong before after (got, came, tells) = (got, tt, tells)
-refused_untold read.Memory before after (got, came, tells) = (got, tt, tells)
+pub wants_memory_on_file : (a : SinkState) → EndsOnFile 4 a a
+wants_memory_on_file a = inr (wants_memory untold a)
 
-fails_untold : (why : RunFault) (before after : Streams) → FailsWith why before after
-    → FailsWith why (sink_alone before.held before.setbacks) (sink_alone after.held after.setbacks)
-fails_untold (fault.Read (read.Gr f)) before after fails =
-    record { refused = refused_untold (read.Gr f) _ _ fails.refused; failure = tt; nothing = fails.nothing; no_setback = fails.no_setback }
-fails_untold (fault.Read (read.Source number)) before after fails =
-    record { refused = refused_untold (read.Source number) _ _ fails.refused; failure = tt; nothing = fails.nothing; no_setback = fails.no_setback }
-fails_untold (fault.Read read.TooLong) before after fails =
-    record { refused = refused_untold read.TooLong _ _ fails.refused; failure = tt; nothing = fails.nothing; no_setback = fails.no_setback }
-fails_untold (fault.Read read.Memory) before after fails =
-    record { refused = refused_untold read.Memory _ _ fails.refused; failure = tt; nothing = fails.nothing; no_setback = fails.no_setback }
-fails_untold fault.Memory before after fails =
-    let (graph, (got, came, (end, short, means))) = fails.graph in
-    record { graph = (graph, (got, tt, (tt, short, means))); no_failure = tt; nothing = fails.nothing; no_setback = fails.no_setback }
-fails_untold (fault.Write written) before after fails =
-    let (bytes, graph, forest, came, end, gives, out) = fails.part in
-    record { part = (bytes, graph, forest, tt, tt, gives, out); no_failure = tt; setback = fails.setback }
+-- at a status of those nothing was written
+pub silent_run : (result : Result Report RunFault) (status : ℕ) (s t : SourceState) (a b : SinkState) → status ≡ status_of_run result
+    → RanPlain result (streams s a) (streams t b) → IsSilent status → IsUntouched a b
+silent_run (Ok report) status s t a b is ran silent = absurd (elim silent [ inl one ↦ omega arith | inr (inl two) ↦ omega arith | inr (inr four) ↦ omega arith ])
+silent_run (Err (fault.Read why)) status s t a b is ran silent = ran.nothing
+silent_run (Err fault.Memory) status s t a b is ran silent = ran.nothing
+silent_run (Err (fault.Write written)) status s t a b is ran silent = absurd (elim silent [ inl one ↦ omega arith | inr (inl two) ↦ omega arith | inr (inr four) ↦ omega arith ])
 
--- what a run did, where nothing is told of the source
-pub untold : (status : ℕ) (before after : Streams) → EndsWith status before after
-    → EndsWith status (sink_alone before.held before.setbacks) (sink_alone after.held after.setbacks)
-untold status before after (inl (is, done)) =
-    let (bytes, graph, forest, came, end, gives, out) = done.whole in
-    inl (is, record { whole = (bytes, graph, forest, tt, tt, gives, out); no_failure = tt; no_setback = done.no_setback })
-untold status before after (inr (why, is, fails)) = inr (why, is, fails_untold why before after fails)
+-- ---- the same, where nothing is told of the source
 
--- words that are lawful lack `--plain`, or have it without FILE or with one
-pub whichever : {F : Type 0} (plain : Bool) (file : Option F) (A : Type 0) → (plain ≡ false → A) → (plain ≡ true → IsNone file → A)
-    → (plain ≡ true → IsSome file → A) → A
-whichever false file A needed on_input on_file = needed refl
-whichever true None A needed on_input on_file = on_input refl refl
-whichever true (Some name) A needed on_input on_file = on_file refl refl
+gave_untold : (failed ended : ℕ) (bytes : List ℕ) → Gave failed ended bytes untold untold
+gave_untold failed ended bytes = record { left = tt; given = λ _. tt; failures = tt; ends = tt; at_end = λ _. tt }
+
+read_untold : (why : ReadFault) (s t : SourceState) → IsReadOf MAX_BYTES (Err why) s t → IsReadOf MAX_BYTES (Err why) untold untold
+read_untold why s t (inl whole) = inl (record { bytes = whole.bytes; gave = gave_untold 0 1 whole.bytes; within = whole.within; read = whole.read })
+read_untold why s t (inr (inl stopped)) = inr (inl (record { bytes = stopped.bytes; gave = gave_untold 0 0 stopped.bytes; stops = stopped.stops }))
+read_untold why s t (inr (inr (line, is, broke))) =
+    inr (inr (line, is, record { bytes = broke.bytes; gave = gave_untold 1 0 broke.bytes; within = broke.within; lawful = broke.lawful; next = broke.next }))
+
+ran_untold : (result : Result Report RunFault) (s t : SourceState) (a b : SinkState) → RanPlain result (streams s a) (streams t b)
+    → RanPlain result (streams untold a) (streams untold b)
+ran_untold (Ok report) s t a b ran = record {
+  bytes = ran.bytes;
+  graph = ran.graph;
+  forest = ran.forest;
+  read = gave_untold 0 1 ran.bytes;
+  gives = ran.gives;
+  written = ran.written;
+  reported = ran.reported;
+}
+ran_untold (Err (fault.Read why)) s t a b ran = record { refused = read_untold why s t ran.refused; nothing = ran.nothing }
+ran_untold (Err fault.Memory) s t a b ran =
+    record { bytes = ran.bytes; graph = ran.graph; read = gave_untold 0 1 ran.bytes; means = ran.means; nothing = ran.nothing }
+ran_untold (Err (fault.Write written)) s t a b ran = record {
+  bytes = ran.bytes;
+  graph = ran.graph;
+  forest = ran.forest;
+  read = gave_untold 0 1 ran.bytes;
+  gives = ran.gives;
+  part = ran.part;
+}
+
+pub ends_untold : (status : ℕ) (s t : SourceState) (a b : SinkState) → EndsWith status (streams s a) (streams t b)
+    → EndsWith status (streams untold a) (streams untold b)
+ends_untold status s t a b (result, is, ran) = (result, is, ran_untold result s t a b ran)

@@ -1,2 +1,2 @@
 pub mod Status
-pub mod Numbers
+pub mod Arguments

@@ -1,4 +1,6 @@
 //! What the words of the command line ask for.
+ghost use Rattle.boruvka.specs.Arguments.{IsCauseOf};
+
 use clap::error::ErrorKind;
 use std::alloc::AllocError;
 
@@ -22,12 +24,16 @@ pub struct Options {
 pub enum OptionsFault {
     /// They are none that the program takes, or they ask for the help; it has the text to print.
     Usage(clap::Error),
-    /// A growth was refused.
+    /// Memory was refused, in judging the words or in keeping what they say.
     Memory,
 }
 
 impl From<clap::Error> for OptionsFault {
-    fn from(error: clap::Error) -> Self {
+    ghost from_gives = { IsCauseOf };
+
+    fn from(error: clap::Error) -> Self
+        ensures { IsCauseOf error result }
+    {
         if error.kind() == ErrorKind::OutOfMemory {
             return OptionsFault::Memory;
         }
@@ -36,6 +42,11 @@ impl From<clap::Error> for OptionsFault {
 }
 
 impl From<AllocError> for OptionsFault {
+    ghost use Rattle.std.specs.Prelude.{◌≡◌};
+    ghost use Rattle.boruvka.specs.declared.chosen.OptionsFault.TheVariants.{Memory};
+
+    ghost from_gives = { λ _ fault. fault ≡ Memory };
+
     fn from(_error: AllocError) -> Self {
         OptionsFault::Memory
     }

@@ -1,14 +1,16 @@
 //! What the program does.
-ghost use Rattle.std.specs.Prelude.{◌≡◌, ◌≢◌, ◌≤◌, ◌⊎◌, true, false, IsNone, IsSome};
-ghost use Rattle.std.specs.Io.KnownBytes.{Keeps};
+ghost use Rattle.std.specs.Prelude.{◌≡◌, ◌≢◌, ◌≤◌, true, false, map, IsNone, IsSome};
 ghost use Rattle.std.specs.IoError.{error_kind};
-ghost use Rattle.clap.specs.Values.{kind_of};
-ghost use Rattle.boruvka.specs.Status.{streams, sink_alone, WritesForest, WritesPart, IsSilent, IsMistake, EndsWith};
+ghost use Rattle.clap.specs.Words.{kind_of};
+ghost use Rattle.plain_run.specs.Plain.{streams};
+ghost use Rattle.boruvka.specs.Arguments.{IsMistake};
+ghost use Rattle.boruvka.specs.Status.{EndsWith, EndsOnFile, HelpEnds, IsRefusal, IsSilent, IsUntouched};
+ghost use Rattle.boruvka.specs.Status.{LackPlain, AskOnInput, AskOnFile, AskForHelp, AreWrong};
 
+use crate::arguments::options;
 use crate::chosen::{Options, OptionsFault};
+use crate::messages::{tell, tell_line, tell_unopened};
 use crate::statuses::{DEVICE, NO_MEMORY, USAGE, status_of};
-use crate::told::{tell, tell_line, tell_unopened};
-use crate::words::options;
 use byte_streams::{Sink, Source, Untold, put};
 use plain_run::{RunFault, run_plain};
 use std::alloc::{Alloc, Global};
@@ -28,12 +30,11 @@ fn run_and_tell<I: Source, O: Sink, E: Sink>(
     requires output { O.can_write output.old }
     requires errors { E.can_write errors.old }
 
-    // The run was done at status 0, and at any other it has a fault of that status.
-    ensures ends { EndsWith result
-        (streams (I.remaining input.old) (I.failures input.old)
-        (O.contents output.old) (O.setbacks output.old))
-        (streams (I.remaining input.new) (I.failures input.new)
-        (O.contents output.new) (O.setbacks output.new)) }
+    // The status is that of the run.
+    ensures ends { EndsWith result (streams (I.state input.old) (O.state output.old))
+        (streams (I.state input.new) (O.state output.new)) }
+    ensures status { result ≤ 4 }
+    ensures silent { IsSilent result → IsUntouched (O.state output.old) (O.state output.new) }
 {
     match run_plain(alloc, input, output) {
         Ok(report) => {
@@ -69,23 +70,23 @@ where
     requires output { O.can_write output.old }
     requires errors { E.can_write errors.old }
 
+    // A refused file, wrong words and want of memory write nothing to the output.
+    ensures status { result ≤ 4 }
+    ensures silent { IsSilent result → IsUntouched (O.state output.old) (O.state output.new) }
+
     // Without `--plain` nothing is read or written.
     ensures needed { chosen.now.plain ≡ false
         → (result ≡ 2) × (input.new ≡ input.old) × (output.new ≡ output.old) }
 
     // With it and no FILE, the input is what is run on.
-    ensures reads_input { chosen.now.plain ≡ true → IsNone chosen.now.file → EndsWith result
-        (streams (I.remaining input.old) (I.failures input.old)
-        (O.contents output.old) (O.setbacks output.old))
-        (streams (I.remaining input.new) (I.failures input.new)
-        (O.contents output.new) (O.setbacks output.new)) }
+    ensures reads_input { chosen.now.plain ≡ true → IsNone chosen.now.file
+        → EndsWith result (streams (I.state input.old) (O.state output.old))
+        (streams (I.state input.new) (O.state output.new)) }
 
     // With a FILE the input isn't read: FILE can't be opened, or is run on.
     ensures leaves_input { IsSome chosen.now.file → input.new ≡ input.old }
     ensures reads_file { chosen.now.plain ≡ true → IsSome chosen.now.file
-        → ((result ≡ 3) × (output.new ≡ output.old)) ⊎ EndsWith result
-        (sink_alone (O.contents output.old) (O.setbacks output.old))
-        (sink_alone (O.contents output.new) (O.setbacks output.new)) }
+        → EndsOnFile result (O.state output.old) (O.state output.new) }
 {
     if !chosen.plain {
         tell(errors, &"--plain is needed");
@@ -114,12 +115,13 @@ fn print_usage<O: Sink, E: Sink>(
     requires output { O.can_write output.old }
     requires errors { E.can_write errors.old }
     ensures status { result ≤ 4 }
-    ensures no_file { result ≢ 1 }
-    ensures silent { IsSilent result → Keeps (O.contents output.old) (O.contents output.new) }
+    ensures silent { IsSilent result → IsUntouched (O.state output.old) (O.state output.new) }
 
-    // Wrong words write nothing to the output, and only what is none of them does.
-    ensures mistake { IsMistake (kind_of error.now) → (result ≡ 2) ⊎ (result ≡ 4) }
-    ensures wrong { result ≡ 2 → IsMistake (kind_of error.now) × (output.new ≡ output.old) }
+    // Wrong words write nothing to the output, and only the help does.
+    ensures wrong { IsMistake (kind_of error.now)
+        → IsRefusal result × (output.new ≡ output.old) }
+    ensures help { ¬ IsMistake (kind_of error.now)
+        → HelpEnds result (O.state output.old) (O.state output.new) }
 {
     let Ok(text) = format!(in alloc; "{error}") else {
         tell(errors, &"no memory");
@@ -168,36 +170,26 @@ where
     requires output { O.can_write output.old }
     requires errors { E.can_write errors.old }
 
-    ensures status { result ≤ 4 }
-
     // A refused file, wrong words and want of memory write nothing to the output.
-    ensures silent { IsSilent result → Keeps (O.contents output.old) (O.contents output.new) }
+    ensures status { result ≤ 4 }
+    ensures silent { IsSilent result → IsUntouched (O.state output.old) (O.state output.new) }
 
-    // At status 0 an input that was read gave a graph, and the output got exactly its forest text.
-    ensures whole { result ≡ 0 → (input.new ≡ input.old)
-        ⊎ WritesForest (I.remaining input.old) (I.remaining input.new)
-        (O.contents output.old) (O.contents output.new) }
+    // Lawful words without `--plain` touch nothing.
+    ensures needed { LackPlain (map S.text words.now)
+        → IsRefusal result × (input.new ≡ input.old) × (output.new ≡ output.old) }
 
-    // At status 3 of an input that was read, the output got nothing or the front of that text.
-    ensures part { result ≡ 3 → (input.new ≡ input.old)
-        ⊎ (Keeps (O.contents output.old) (O.contents output.new)
-        ⊎ WritesPart (I.remaining input.old) (I.remaining input.new)
-        (O.contents output.old) (O.contents output.new)) }
+    // With it the input is what is run on, or FILE, and then the input isn't touched.
+    ensures reads_input { AskOnInput (map S.text words.now)
+        → EndsWith result (streams (I.state input.old) (O.state output.old))
+        (streams (I.state input.new) (O.state output.new)) }
+    ensures reads_file { AskOnFile (map S.text words.now)
+        → (input.new ≡ input.old) × EndsOnFile result (O.state output.old) (O.state output.new) }
 
-    // Each status comes without a look at the input, from the words or from FILE, or from a run on it.
-    ensures ends { (input.new ≡ input.old) ⊎ EndsWith result
-        (streams (I.remaining input.old) (I.failures input.old)
-        (O.contents output.old) (O.setbacks output.old))
-        (streams (I.remaining input.new) (I.failures input.new)
-        (O.contents output.new) (O.setbacks output.new)) }
-
-    // Wrong words read and write nothing.
-    ensures wrong { result ≡ 2 → (input.new ≡ input.old) × (output.new ≡ output.old) }
-
-    // At status 1 a file was run on and refused, the input or FILE.
-    ensures refused { result ≡ 1 → EndsWith result
-        (sink_alone (O.contents output.old) (O.setbacks output.old))
-        (sink_alone (O.contents output.new) (O.setbacks output.new)) }
+    // The help goes to the output, and wrong words touch nothing.
+    ensures help { AskForHelp (map S.text words.now)
+        → (input.new ≡ input.old) × HelpEnds result (O.state output.old) (O.state output.new) }
+    ensures wrong { AreWrong (map S.text words.now)
+        → IsRefusal result × (input.new ≡ input.old) × (output.new ≡ output.old) }
 {
     match options(rt.alloc(), words) {
         Ok(chosen) => obey(rt, &chosen, input, output, errors),

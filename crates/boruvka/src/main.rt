@@ -9,28 +9,28 @@
 //! **How it is built.**
 //!
 //! ```text
-//! words --words::options--> Options --command::obey--> run_plain over FILE or standard input --> status
-//!                                         \--told--> standard error
+//! words --arguments::options--> Options --command::obey--> run_plain over FILE or standard input --> status
+//!                                         \--messages--> standard error
 //! ```
 //!
-//! **Where to start a change.** A new option: `words` and `chosen`. A new fault: `statuses`, with the
+//! **Where to start a change.** A new option: `arguments` and `chosen`, with the table in `specs/Arguments.antt`. A new fault: `statuses`, with the
 //! table in `specs/`. What the program does, in order: `command`. What each status says of a run:
 //! `specs/Status.antt`.
 #![tactic(auto)]
 
+mod arguments;
 mod chosen;
 mod command;
+mod messages;
 mod statuses;
 #[cfg(test)]
 mod tests;
-mod told;
-mod words;
 
 use std::process::ExitCode;
 
 fn main(rt: HostRuntime) -> ExitCode {
     let mut errors = rt.stderr();
-    let status = match words::all_words(&rt) {
+    let status = match arguments::all_words(&rt) {
         Ok(words) => command::command(
             &rt,
             words.as_slice(),

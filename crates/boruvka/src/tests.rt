@@ -1,7 +1,7 @@
+use crate::arguments::{all_words, options};
 use crate::chosen::OptionsFault;
 use crate::command::{command, without_words};
 use crate::statuses::status_of;
-use crate::words::{all_words, options};
 use byte_streams::{FusedSink, FusedSource};
 use plain_run::RunFault;
 use std::alloc::{Alloc, Global};
@@ -23,11 +23,21 @@ Arguments:
   [FILE]  The graph; without it, standard input
 
 Options:
-      --workers <N>  How many workers scan the shards [default: 2]
-      --shards <S>   How many shards the links are cut into [default: 64]
-      --plain        Solve in one thread, without workers
+      --workers <N>  How many workers scan the shards: 0 to 64 [default: 2]
+      --shards <S>   How many shards the links are cut into: 1 to 4096 [default: 64]
+      --plain        Solve in one thread, without workers; needed for now
       --report       Print what the run did to standard error
   -h, --help         Print help
+
+Exit status:
+  0  Done
+  1  The file is refused, and its first fault is told
+  2  Wrong arguments
+  3  FILE can't be opened, or a read or a write failed
+  4  No memory
+
+Example:
+  boruvka --plain net.gr > forest.gr
 ";
 
 // The program answers this status for these words and this input, and writes just these texts.

@@ -1,16 +1,15 @@
 -- The text of a forest as it is written, line by line.
 use Rattle.std.proofs.Common.{◌≡◌, ℕ, ◌+◌, ◌≤◌, ◌<◌, List, [], ◌∷◌, ◌++◌, length, take, drop, get_or, sym, ap, subst, ◌∙◌, append_assoc, take_all, le_refl}
-use Rattle.std.specs.Prelude.{Option}
 use Rattle.std.specs.List.{flat_map}
-use Rattle.std.specs.Io.KnownBytes.{Appends, Keeps}
-use Rattle.std.proofs.KnownBytes.{Appends-kept}
 use Rattle.std.proofs.lemmas.Grind.{flat_map-append}
 use Rattle.std.proofs.lemmas.List.{take-append-drop, flat_map_more, take_more}
 use Rattle.link_key.specs.declared.links.Link.{Link}
 use Rattle.gr_text.specs.ForestText.{header_of, line_of, forest_text}
-use Rattle.gr_text.specs.Handing.{HandsOn, HandsPart}
-use Rattle.gr_text.specs.Written.{told_count, FrontWentOut}
-use Rattle.gr_text.proofs.Handing.{handed_all, hands_behind, hands_then_hands, hands_then_part}
+use Rattle.byte_streams.specs.Streams.{SinkState, Took}
+use Rattle.byte_streams.proofs.Streaming.{took_no_more}
+use Rattle.gr_text.specs.Handing.{HandsOn, HandsPrefix}
+use Rattle.gr_text.specs.Written.{told_count, PrefixWentOut}
+use Rattle.gr_text.proofs.Handing.{handed_all, hands_behind, hands_then_hands, hands_then_prefix}
 
 -- the first line, and the lines of the first i links
 abbrev pub lines_before : ℕ → List Link → ℕ → List ℕ
@@ -26,33 +25,37 @@ text_split n links i =
 pub text_whole : (n : ℕ) (links : List Link) (i : ℕ) → length links ≤ i → lines_before n links i ≡ forest_text n links
 text_whole n links i all = ap (λ part. header_of n (length links) ++ flat_map line_of part) (take_all i links all)
 
--- a part of the lines so far went out before a setback
-pub text_part : (a b c : Option (List ℕ)) (middle after n : ℕ) (links forest : List Link) (i : ℕ) (piece : List ℕ) → links ≡ forest
-    → HandsOn a b 0 middle (lines_before n links i) piece → HandsPart b c middle after piece → FrontWentOut a c after (forest_text n forest)
-text_part a b c middle after n links forest i piece same hands part =
-    subst (FrontWentOut a c after) (text_split n links i ∙ ap (forest_text n) same)
-    (hands_then_part a b c middle after (lines_before n links i) piece (flat_map line_of (drop i links)) hands part)
+-- a prefix of the lines so far went out before a setback
+pub text_prefix : (middle after n : ℕ) (links forest : List Link) (i : ℕ) (piece : List ℕ) (s t u : SinkState) → links ≡ forest
+    → HandsOn 0 middle (lines_before n links i) piece s t → HandsPrefix middle after piece t u → PrefixWentOut after (forest_text n forest) s u
+text_prefix middle after n links forest i piece s t u same hands part =
+    subst (λ text. PrefixWentOut after text s u) (text_split n links i ∙ ap (forest_text n) same)
+    (hands_then_prefix middle after (lines_before n links i) piece (flat_map line_of (drop i links)) s t u hands part)
 
 -- all lines went out
-pub text_all : (a b c : Option (List ℕ)) (middle total n : ℕ) (links forest : List Link) (i : ℕ) (piece rest : List ℕ) → links ≡ forest → length links ≤ i
-    → HandsOn a b 0 middle (lines_before n links i) piece → HandsOn b c middle total piece rest → rest ≡ []
-    → Appends a c (forest_text n forest) × (total ≡ told_count (length (forest_text n forest)))
-text_all a b c middle total n links forest i piece rest same all first second none =
-    subst (λ text. Appends a c text × (total ≡ told_count (length text))) (text_whole n links i all ∙ ap (forest_text n) same)
-    (handed_all a c total (lines_before n links i) rest (hands_then_hands a b c 0 middle total (lines_before n links i) piece rest first second) none)
+pub text_all : (middle total n : ℕ) (links forest : List Link) (i : ℕ) (piece rest : List ℕ) (s t u : SinkState) → links ≡ forest → length links ≤ i
+    → HandsOn 0 middle (lines_before n links i) piece s t → HandsOn middle total piece rest t u → rest ≡ []
+    → Took 0 (forest_text n forest) s u × (total ≡ told_count (length (forest_text n forest)))
+text_all middle total n links forest i piece rest s t u same all first second none =
+    subst (λ text. Took 0 text s u × (total ≡ told_count (length text))) (text_whole n links i all ∙ ap (forest_text n) same)
+    (handed_all total (lines_before n links i) rest s u (hands_then_hands 0 middle total (lines_before n links i) piece rest s t u first second) none)
 
 -- one more line waits
-pub text_more : (a b c : Option (List ℕ)) (middle total n : ℕ) (links : List Link) (i : ℕ) (piece rest : List ℕ) (link : Link) → i < length links
-    → link ≡ get_or links i link → HandsOn a b 0 middle (lines_before n links i) piece → HandsOn b c middle total piece rest
-    → HandsOn a c 0 total (lines_before n links (i + 1)) (rest ++ line_of link)
-text_more a b c middle total n links i piece rest link within is first second =
-    subst (λ text. HandsOn a c 0 total text (rest ++ line_of link))
+pub text_more : (middle total n : ℕ) (links : List Link) (i : ℕ) (piece rest : List ℕ) (link : Link) (s t u : SinkState) → i < length links
+    → link ≡ get_or links i link → HandsOn 0 middle (lines_before n links i) piece s t → HandsOn middle total piece rest t u
+    → HandsOn 0 total (lines_before n links (i + 1)) (rest ++ line_of link) s u
+text_more middle total n links i piece rest link s t u within is first second =
+    subst (λ text. HandsOn 0 total text (rest ++ line_of link) s u)
     (flat_map_more line_of (header_of n (length links)) (take i links) link
     ∙ ap (λ part. header_of n (length links) ++ flat_map line_of part) (ap (λ l. take i links ++ l ∷ []) is ∙ sym (take_more links i link within)))
-    (hands_behind a c 0 total (lines_before n links i) rest (line_of link) (hands_then_hands a b c 0 middle total (lines_before n links i) piece rest first second))
+    (hands_behind 0 total (lines_before n links i) rest (line_of link) s u (hands_then_hands 0 middle total (lines_before n links i) piece rest s t u first second))
 
 -- a flush that failed behind all lines
-pub text_unflushed : (a b c : Option (List ℕ)) (total : ℕ) (text : List ℕ) → Appends a b text × (total ≡ told_count (length text)) → Keeps b c
-    → FrontWentOut a c total text
-text_unflushed a b c total text (out, counted) kept =
-    (length text, le_refl _, counted, subst (Appends a c) (sym (take_all (length text) text (le_refl _))) (Appends-kept a b c text out kept))
+pub text_unflushed : (total : ℕ) (text : List ℕ) (s t u : SinkState) → Took 0 text s t × (total ≡ told_count (length text)) → Took 1 [] t u
+    → PrefixWentOut total text s u
+text_unflushed total text s t u (took, counted) failed = record {
+  count = length text;
+  within = le_refl _;
+  counted = counted;
+  took = subst (λ bytes. Took 1 bytes s u) (sym (take_all (length text) text (le_refl _))) (took_no_more 1 text s t u took failed);
+}

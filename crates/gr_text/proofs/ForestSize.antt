@@ -1,16 +1,16 @@
 -- How long the text of a forest is at the most. std writes a number in at most 64 digits, whichever it is, so a line
 -- has at most 256 bytes, and what is told of the text of 2^55 links is still the number itself.
 use Rattle.std.proofs.Common.{ℕ, zero, suc, ◌+◌, ◌*◌, ◌/◌, ◌%◌, ◌^◌, ◌≤◌, Bool, true, false, cond, List, [], ◌∷◌, length, decimal, get_or, arith, length-append}
-use Rattle.std.specs.Prelude.{ℤ, pos, negsuc, ◌==◌, Option}
+use Rattle.std.specs.Prelude.{ℤ, pos, negsuc, ◌==◌}
 use Rattle.std.specs.Fmt.{digits_onto, digits, digit_glyph, signed_decimal}
 use Rattle.std.specs.List.{flat_map}
 use Rattle.std.proofs.lemmas.List.Concat.{length-flat_map}
 use Rattle.std.proofs.lemmas.List.Sums.{sum_by-le}
 use Rattle.link_key.specs.declared.links.Link.{Link}
-use Rattle.byte_streams.specs.Sink.{WentOut}
+use Rattle.byte_streams.specs.Streams.{SinkState, WentOut}
 use Rattle.gr_text.specs.ForestText.{header_of, line_of, forest_text}
-use Rattle.gr_text.specs.Written.{FrontWentOut}
-use Rattle.gr_text.proofs.Handing.{front_is_exact}
+use Rattle.gr_text.specs.Written.{PrefixWentOut}
+use Rattle.gr_text.proofs.Handing.{prefix_is_exact}
 
 -- each turn of the spelling puts one digit in front
 digits_fit : (k base : ℕ) (upper : Bool) (n : ℕ) (behind : List ℕ) → length (digits_onto k base upper n behind) ≤ k + length behind
@@ -46,6 +46,6 @@ text_fits n links = omega (
 )
 
 -- what is told of the text of a forest that isn't huge is the number itself
-pub few_are_told : (a b : Option (List ℕ)) (written n : ℕ) (forest : List Link) → length forest ≤ 2 ^ 55
-    → FrontWentOut a b written (forest_text n forest) → WentOut a b 0 written (forest_text n forest)
-few_are_told a b written n forest few front = front_is_exact a b written (forest_text n forest) (omega (arith, text_fits n forest)) front
+pub few_are_told : (written n : ℕ) (forest : List Link) (s t : SinkState) → length forest ≤ 2 ^ 55
+    → PrefixWentOut written (forest_text n forest) s t → WentOut 0 written (forest_text n forest) s t
+few_are_told written n forest s t few part = prefix_is_exact written (forest_text n forest) s t (omega (arith, text_fits n forest)) part

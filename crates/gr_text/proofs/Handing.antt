@@ -1,23 +1,22 @@
 -- Bytes handed to a sink in several calls.
-use Rattle.std.proofs.Common.{◌≡◌, ℕ, ◌+◌, ◌^◌, ◌<◌, List, [], ◌++◌, length, refl, sym, ap, subst, ◌∙◌, arith, append-nil, append_assoc, length-append}
-use Rattle.std.specs.Prelude.{Option}
-use Rattle.std.specs.Io.KnownBytes.{Appends}
-use Rattle.std.proofs.KnownBytes.{Appends-nil, Appends-trans}
-use Rattle.byte_streams.specs.Sink.{WentOut}
-use Rattle.byte_streams.proofs.Streaming.{appends-then-went_out, went_out-followed}
-use Rattle.gr_text.specs.Handing.{HandsOn, HandsPart}
-use Rattle.gr_text.specs.Written.{told_count, FrontWentOut}
+use Rattle.std.proofs.Common.{◌≡◌, ℕ, ◌+◌, ◌^◌, ◌<◌, List, [], ◌++◌, length, take, refl, sym, ap, subst, ◌∙◌, arith, append-nil, append_assoc, length-append}
+use Rattle.std.proofs.Math.Seq.{take-append-add}
+use Rattle.std.proofs.lemmas.List.{take-append-le}
+use Rattle.byte_streams.specs.Streams.{SinkState, Took, WentOut}
+use Rattle.byte_streams.proofs.Streaming.{took_nothing, took_then, took_more}
+use Rattle.gr_text.specs.Handing.{HandsOn, HandsPrefix}
+use Rattle.gr_text.specs.Written.{told_count, PrefixWentOut}
 
 -- no call at all
-pub hands_nothing : (a : Option (List ℕ)) (count : ℕ) (waited : List ℕ) → count < 2 ^ 64 → HandsOn a a count count waited waited
-hands_nothing a count waited fits = record { out = []; appended = Appends-nil a; counted = omega arith; split = refl }
+pub hands_nothing : (s : SinkState) (count : ℕ) (waited : List ℕ) → count < 2 ^ 64 → HandsOn count count waited waited s s
+hands_nothing s count waited fits = record { out = []; took = took_nothing s; counted = omega arith; split = refl }
 
 -- all that waited
-pub hands_all : (a b : Option (List ℕ)) (count total : ℕ) (waited waiting : List ℕ) → Appends a b waited
-    → total ≡ told_count (count + length waited) → waiting ≡ [] → HandsOn a b count total waited waiting
-hands_all a b count total waited waiting out counted none = record {
+pub hands_all : (count total : ℕ) (waited waiting : List ℕ) (s t : SinkState) → Took 0 waited s t
+    → total ≡ told_count (count + length waited) → waiting ≡ [] → HandsOn count total waited waiting s t
+hands_all count total waited waiting s t took counted none = record {
   out = waited;
-  appended = out;
+  took = took;
   counted = counted;
   split = sym (ap (λ rest. waited ++ rest) none ∙ append-nil waited);
 }
@@ -27,11 +26,11 @@ told_again : (x y z : ℕ) → told_count (told_count (x + y) + z) ≡ told_coun
 told_again x y z = omega arith
 
 -- one call after another
-pub hands_then_hands : (a b c : Option (List ℕ)) (count middle total : ℕ) (xs ys zs : List ℕ) → HandsOn a b count middle xs ys
-    → HandsOn b c middle total ys zs → HandsOn a c count total xs zs
-hands_then_hands a b c count middle total xs ys zs first second = record {
+pub hands_then_hands : (count middle total : ℕ) (xs ys zs : List ℕ) (s t u : SinkState) → HandsOn count middle xs ys s t
+    → HandsOn middle total ys zs t u → HandsOn count total xs zs s u
+hands_then_hands count middle total xs ys zs s t u first second = record {
   out = first.out ++ second.out;
-  appended = Appends-trans a b c _ _ first.appended second.appended;
+  took = took_more 0 first.out second.out s t u first.took second.took;
   counted = second.counted ∙ ap (λ m. told_count (m + length second.out)) first.counted
       ∙ told_again count (length first.out) (length second.out)
       ∙ ap told_count {x = count + length first.out + length second.out} {y = count + length (first.out ++ second.out)} (omega (arith, length-append first.out second.out));
@@ -39,35 +38,40 @@ hands_then_hands a b c count middle total xs ys zs first second = record {
 }
 
 -- more bytes wait behind
-pub hands_behind : (a b : Option (List ℕ)) (count total : ℕ) (xs ys more : List ℕ) → HandsOn a b count total xs ys
-    → HandsOn a b count total (xs ++ more) (ys ++ more)
-hands_behind a b count total xs ys more hands = record {
+pub hands_behind : (count total : ℕ) (xs ys more : List ℕ) (s t : SinkState) → HandsOn count total xs ys s t
+    → HandsOn count total (xs ++ more) (ys ++ more) s t
+hands_behind count total xs ys more s t hands = record {
   out = hands.out;
-  appended = hands.appended;
+  took = hands.took;
   counted = hands.counted;
-  split = ap (λ front. front ++ more) hands.split ∙ append_assoc hands.out ys more;
+  split = ap (λ prefix. prefix ++ more) hands.split ∙ append_assoc hands.out ys more;
 }
 
 -- nothing waits any more, so all went out
-pub handed_all : (a b : Option (List ℕ)) (total : ℕ) (xs ys : List ℕ) → HandsOn a b 0 total xs ys → ys ≡ []
-    → Appends a b xs × (total ≡ told_count (length xs))
-handed_all a b total xs ys hands none =
+pub handed_all : (total : ℕ) (xs ys : List ℕ) (s t : SinkState) → HandsOn 0 total xs ys s t → ys ≡ []
+    → Took 0 xs s t × (total ≡ told_count (length xs))
+handed_all total xs ys s t hands none =
     let same : xs ≡ hands.out = hands.split ∙ ap (λ rest. hands.out ++ rest) none ∙ append-nil hands.out in (
-      subst (Appends a b) (sym same) hands.appended,
+      subst (λ bytes. Took 0 bytes s t) (sym same) hands.took,
       omega (arith, hands.counted, ap length same),
     )
 
--- a part of what waited went out before a setback
-pub hands_then_part : (a b c : Option (List ℕ)) (middle after : ℕ) (xs ys more : List ℕ) → HandsOn a b 0 middle xs ys
-    → HandsPart b c middle after ys → FrontWentOut a c after (xs ++ more)
-hands_then_part a b c middle after xs ys more hands (n, within, total, out) =
-    let before = length hands.out in
-    let last : WentOut b c before (before + n) ys = (n, within, refl, out) in
-    let whole : WentOut a c 0 (before + n) (hands.out ++ ys) = appends-then-went_out a b c 0 before (before + n) hands.out ys hands.appended (omega arith) last in
-    let (k, fits, count, went) = went_out-followed a c 0 (before + n) xs more (subst (WentOut a c 0 (before + n)) (sym hands.split) whole) in
-    (k, fits, omega (arith, hands.counted, total, count), went)
+-- a prefix of what waited went out before a setback
+pub hands_then_prefix : (middle after : ℕ) (xs ys more : List ℕ) (s t u : SinkState) → HandsOn 0 middle xs ys s t
+    → HandsPrefix middle after ys t u → PrefixWentOut after (xs ++ more) s u
+hands_then_prefix middle after xs ys more s t u hands part =
+    let sent = length hands.out + part.sent in
+    let all : xs ++ more ≡ hands.out ++ (ys ++ more) = ap (λ l. l ++ more) hands.split ∙ append_assoc hands.out ys more in
+    let out : take sent (xs ++ more) ≡ hands.out ++ take part.sent ys =
+    ap (take sent) all ∙ take-append-add hands.out (ys ++ more) part.sent ∙ ap (λ l. hands.out ++ l) (take-append-le part.sent ys more part.within) in
+    record {
+      count = sent;
+      within = omega (arith, ap length all, length-append hands.out (ys ++ more), length-append ys more, part.within);
+      counted = omega (arith, hands.counted, part.counted);
+      took = subst (λ bytes. Took 1 bytes s u) (sym out) (took_more 1 hands.out (take part.sent ys) s t u hands.took part.took);
+    }
 
 -- what is told of a text of fewer than 2^64 bytes is the number itself
-pub front_is_exact : (a b : Option (List ℕ)) (written : ℕ) (text : List ℕ) → length text < 2 ^ 64 → FrontWentOut a b written text
-    → WentOut a b 0 written text
-front_is_exact a b written text short (n, within, told, out) = (n, within, omega arith, out)
+pub prefix_is_exact : (written : ℕ) (text : List ℕ) (s t : SinkState) → length text < 2 ^ 64 → PrefixWentOut written text s t
+    → WentOut 0 written text s t
+prefix_is_exact written text s t short part = record { count = part.count; within = part.within; counted = omega (arith, part.within, part.counted); took = part.took }

@@ -1,32 +1,38 @@
 -- What is read of a source.
-use Rattle.std.specs.Prelude.{◌≡◌, ℕ, ◌+◌, ◌<◌, ◌≤◌, ◌⊎◌, ◌==◌, List, length, take, count_by, Option, Result, Ok, Err}
-use Rattle.std.specs.Io.KnownBytes.{Consumes, IsAtEnd}
+use Rattle.std.specs.Prelude.{◌≡◌, ℕ, ◌+◌, ◌≤◌, ◌⊎◌, ◌==◌, List, length, count_by, Result, Err, IsErrAnd}
+use Rattle.byte_streams.specs.Streams.{SourceState, Gave}
 use Rattle.gr_text.specs.Lines.{line_feed}
-use Rattle.gr_text.specs.Graph.{GraphValue, IsGraphOf}
-use Rattle.gr_text.specs.Fault.{IsFirstFault, IsEndedFault, HasLawfulLines}
+use Rattle.gr_text.specs.Graph.{GraphValue}
+use Rattle.gr_text.specs.Fault.{HasLawfulLines}
+use Rattle.gr_text.specs.Reader.{IsRead, StopsBy}
 use Rattle.gr_text.specs.declared.faults.ReadFault.{ReadFault}
 use Rattle.gr_text.specs.declared.faults.ReadFault.TheVariants as fault
 
--- What the bytes got of a source give, at most `limit` of them: `left` is what the source has left then.
--- The graph, and a lack at the end, only where the source has ended; a fault of an ended line at once. Where the
--- source failed, its line is that of the next byte; where it went past the limit, nothing was wrong up to there.
-abbrev pub Tells : ℕ → List ℕ → Option (List ℕ) → Result GraphValue ReadFault → Type 0
-Tells limit got left (Ok graph) = IsAtEnd left × (length got ≤ limit) × IsGraphOf got graph
-Tells limit got left (Err (fault.Gr f)) =
-    (IsAtEnd left × (length got ≤ limit) × IsFirstFault got f.line f.kind) ⊎ IsEndedFault (take limit got) f.line f.kind
-Tells limit got left (Err (fault.Source number)) =
-    (length got ≤ limit) × HasLawfulLines got × (number ≡ 1 + count_by (λ b. b == line_feed) got)
-Tells limit got left (Err fault.TooLong) = (limit < length got) × HasLawfulLines (take limit got)
-Tells limit got left (Err fault.Memory) = Unit {0}
+-- the source gave these bytes, no more than the limit, and ended: a whole text, which is read so
+pub record IsReadToEnd (limit : ℕ) (outcome : Result GraphValue ReadFault) (before after : SourceState) : Type 0 where
+  pub bytes : List ℕ
+  pub gave : Gave 0 1 bytes before after
+  pub within : length bytes ≤ limit
+  pub read : IsRead limit bytes outcome
 
--- some bytes were got of the source, and this is what they give
-abbrev pub IsReadOf : ℕ → Option (List ℕ) → Option (List ℕ) → Result GraphValue ReadFault → Type 0
-IsReadOf limit before after outcome = (got : List ℕ) × Consumes before after got × Tells limit got after outcome
+-- the source gave these bytes, which are not read on for this reason
+pub record IsReadUpTo (limit : ℕ) (why : ReadFault) (before after : SourceState) : Type 0 where
+  pub bytes : List ℕ
+  pub gave : Gave 0 0 bytes before after
+  pub stops : StopsBy why limit bytes
 
--- P where the source failed, and else Q
-abbrev pub OnSource : {X : Type 0} → Result X ReadFault → Type 0 → Type 0 → Type 0
-OnSource (Ok x) P Q = Q
-OnSource (Err (fault.Gr f)) P Q = Q
-OnSource (Err (fault.Source number)) P Q = P
-OnSource (Err fault.TooLong) P Q = Q
-OnSource (Err fault.Memory) P Q = Q
+-- the source gave these bytes, and then a read failed: nothing was wrong with the lines that had ended, and the next byte
+-- was in this line
+pub record BreaksOff (limit line : ℕ) (before after : SourceState) : Type 0 where
+  pub bytes : List ℕ
+  pub gave : Gave 1 0 bytes before after
+  pub within : length bytes ≤ limit
+  pub lawful : HasLawfulLines bytes
+  pub next : line ≡ 1 + count_by (λ b. b == line_feed) bytes
+
+-- what a source gave, at most `limit` bytes of which are taken, and what is answered: it was read to its end, or up to a
+-- fault, or until a read failed
+abbrev pub IsReadOf : ℕ → Result GraphValue ReadFault → SourceState → SourceState → Type 0
+IsReadOf limit outcome before after = IsReadToEnd limit outcome before after
+    ⊎ IsErrAnd outcome (λ why. IsReadUpTo limit why before after)
+    ⊎ ((line : ℕ) × (outcome ≡ Err (fault.Source line)) × BreaksOff limit line before after)

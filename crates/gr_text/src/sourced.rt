@@ -1,25 +1,22 @@
-ghost use Rattle.std.specs.Prelude.{◌≤◌, ◌^◌};
-ghost use Rattle.byte_streams.specs.Counts.{Rises, Stands};
-ghost use Rattle.gr_text.specs.Sourced.{IsReadOf, OnSource};
+ghost use Rattle.std.specs.Prelude.{◌≤◌};
+ghost use Rattle.gr_text.specs.Sourced.{IsReadOf};
 
 use crate::faults::ReadFault;
 use crate::graphs::Graph;
-use crate::parsing::MAX_BYTES;
 use crate::reader::GrReader;
 use byte_streams::{Failed, Source};
+use limits::MAX_BYTES;
 use std::alloc::Allocator;
 
 // The number of bytes that are read at once.
-const PIECE: usize = 65_536;
+const READ_ROOM: usize = 65_536;
 
 /// The graph of a source of at most 2^40 bytes.
 ///
 /// As [`read_graph_upto`] with the limit [`MAX_BYTES`].
 pub fn read_graph<S: Source, A: Allocator>(alloc: A, source: &mut S) -> Result<Graph<A>, ReadFault>
     requires { S.can_read source.old }
-    ensures outcome { IsReadOf (2 ^ 40) (S.remaining source.old) (S.remaining source.new) result }
-    ensures failures { OnSource result (Rises (S.failures source.old) (S.failures source.new))
-        (Stands (S.failures source.old) (S.failures source.new)) }
+    ensures outcome { IsReadOf MAX_BYTES result (S.state source.old) (S.state source.new) }
 {
     read_graph_upto(alloc, source, MAX_BYTES)
 }
@@ -35,13 +32,11 @@ pub fn read_graph_upto<S: Source, A: Allocator>(
     limit: u64,
 ) -> Result<Graph<A>, ReadFault>
     requires can { S.can_read source.old }
-    requires limit { limit ≤ 2 ^ 40 }
-    ensures outcome { IsReadOf limit (S.remaining source.old) (S.remaining source.new) result }
-    ensures failures { OnSource result (Rises (S.failures source.old) (S.failures source.new))
-        (Stands (S.failures source.old) (S.failures source.new)) }
+    requires limit { limit ≤ MAX_BYTES }
+    ensures outcome { IsReadOf limit result (S.state source.old) (S.state source.new) }
 {
     let mut reader = GrReader::new(alloc, limit);
-    let mut buffer = [0; PIECE];
+    let mut buffer = [0; READ_ROOM];
     for _turn in 0..limit + 1 {
         match source.read(&mut buffer) {
             Err(Failed) => {

@@ -1,10 +1,9 @@
 //! The writer of a forest's text.
-ghost use Rattle.std.specs.Prelude.{◌≡◌, ℕ, ◌+◌, ◌≤◌, [], length, Some, IsOk, IfOk, IfErr, OnOk, OnErr};
-ghost use Rattle.std.specs.Io.KnownBytes.{Appends};
-ghost use Rattle.byte_streams.specs.Counts.{Rises, Stands};
+ghost use Rattle.std.specs.Prelude.{◌≡◌, ◌+◌, ◌≤◌, [], length, IsOk, IfOk, IfErr, OnOk};
+ghost use Rattle.byte_streams.specs.Streams.{Took, HadNoSetback};
 ghost use Rattle.gr_text.specs.ForestText.{forest_text};
-ghost use Rattle.gr_text.specs.Handing.{HandsOn, HandsPart};
-ghost use Rattle.gr_text.specs.Written.{told_count, FrontWentOut};
+ghost use Rattle.gr_text.specs.Handing.{HandsOn, HandsPrefix};
+ghost use Rattle.gr_text.specs.Written.{told_count, PrefixWentOut};
 
 use crate::piece::Piece;
 use crate::spelled::Spelled;
@@ -26,13 +25,11 @@ pub struct WriteFault {
 fn hand_on<W: Sink>(sink: &mut W, written: u64, piece: &mut Piece) -> Result<u64, WriteFault>
     requires { W.can_write sink.old }
 
-    ensures whole { IfOk result (λ total. HandsOn (W.contents sink.old) (W.contents sink.new)
-        written total piece.old piece.new) }
+    ensures whole { IfOk result (λ total. HandsOn written total piece.old piece.new
+        (W.state sink.old) (W.state sink.new)) }
     ensures emptied { OnOk result (piece.new ≡ []) }
-    ensures part { IfErr result (λ fault. HandsPart (W.contents sink.old) (W.contents sink.new)
-        written fault.written piece.old) }
-    ensures failed { OnErr result (Rises (W.setbacks sink.old) (W.setbacks sink.new)) }
-    ensures passed { OnOk result (Stands (W.setbacks sink.old) (W.setbacks sink.new)) }
+    ensures part { IfErr result (λ fault. HandsPrefix written fault.written piece.old
+        (W.state sink.old) (W.state sink.new)) }
     ensures again { OnOk result (W.can_write sink.new) }
 {
     match put(sink, 0, piece.as_slice()) {
@@ -50,13 +47,11 @@ fn hand_on<W: Sink>(sink: &mut W, written: u64, piece: &mut Piece) -> Result<u64
 fn make_room<W: Sink>(sink: &mut W, written: u64, piece: &mut Piece) -> Result<u64, WriteFault>
     requires { W.can_write sink.old }
 
-    ensures moved { IfOk result (λ total. HandsOn (W.contents sink.old) (W.contents sink.new)
-        written total piece.old piece.new) }
+    ensures moved { IfOk result (λ total. HandsOn written total piece.old piece.new
+        (W.state sink.old) (W.state sink.new)) }
     ensures room { OnOk result (length piece.new + 64 ≤ 8192) }
-    ensures part { IfErr result (λ fault. HandsPart (W.contents sink.old) (W.contents sink.new)
-        written fault.written piece.old) }
-    ensures failed { OnErr result (Rises (W.setbacks sink.old) (W.setbacks sink.new)) }
-    ensures passed { OnOk result (Stands (W.setbacks sink.old) (W.setbacks sink.new)) }
+    ensures part { IfErr result (λ fault. HandsPrefix written fault.written piece.old
+        (W.state sink.old) (W.state sink.new)) }
     ensures again { OnOk result (W.can_write sink.new) }
 {
     if piece.has_room() {
@@ -82,19 +77,15 @@ pub fn write_forest<W: Sink, A: Allocator>(
 
     // At the end the sink has taken exactly the whole text.
     ensures whole { OnOk result
-        (Appends (W.contents sink.old) (W.contents sink.new) (forest_text n forest.now)) }
+        (Took 0 (forest_text n forest.now) (W.state sink.old) (W.state sink.new)) }
     ensures count { IfOk result (λ written. written ≡ told_count (length (forest_text n forest.now))) }
 
-    // At a fault it has taken the front of the text, of as many bytes as the fault tells.
-    ensures part { IfErr result (λ fault. FrontWentOut (W.contents sink.old) (W.contents sink.new)
-        fault.written (forest_text n forest.now)) }
-
-    ensures failed { OnErr result (Rises (W.setbacks sink.old) (W.setbacks sink.new)) }
-    ensures passed { OnOk result (Stands (W.setbacks sink.old) (W.setbacks sink.new)) }
+    // At a fault it has taken a prefix of the text, of as many bytes as the fault tells, and had a setback.
+    ensures part { IfErr result (λ fault. PrefixWentOut fault.written (forest_text n forest.now)
+        (W.state sink.old) (W.state sink.new)) }
 
     // A sink that has no setback takes the text.
-    ensures ends_ok { (k : ℕ) → W.setbacks sink.old ≡ Some k → W.setbacks sink.new ≡ Some k
-        → IsOk result }
+    ensures ends_ok { HadNoSetback (W.state sink.old) (W.state sink.new) → IsOk result }
 
     ensures again { OnOk result (W.can_write sink.new) }
 {

@@ -1,2 +1,2 @@
-mod Malformed
-mod InMemory
+mod Telling
+mod Running

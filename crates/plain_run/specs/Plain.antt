@@ -1,6 +1,7 @@
--- What a plain run gives: the forest of the graph that a file means.
-use Rattle.std.specs.Prelude.{◌≡◌, ℕ, ◌≤◌, ◌^◌, ⊤, List, length, Option, Result, Ok, Err}
-use Rattle.std.specs.Io.KnownBytes.{Consumes, IsAtEnd}
+-- What a run gives: the forest of the graph that a file means.
+use Rattle.std.specs.Prelude.{◌≡◌, ℕ, ◌≤◌, ⊤, List, [], length, Option, Some, Result, Ok, Err}
+use Rattle.limits.specs.declared.TheConstants.{MAX_BYTES}
+use Rattle.byte_streams.specs.Streams.{SourceState, SinkState, Gave, Took, WentOut, HadNoFailure}
 use Rattle.link_key.specs.Forest.{IsForestOf}
 use Rattle.link_key.specs.declared.links.Link.{Link}
 use Rattle.gr_text.specs.Graph.{GraphValue, IsGraphOf}
@@ -13,89 +14,126 @@ use Rattle.plain_run.specs.declared.outcome.Report.{Report}
 use Rattle.plain_run.specs.declared.outcome.RunFault.{RunFault}
 use Rattle.plain_run.specs.declared.outcome.RunFault.TheVariants as fault
 
--- the bytes are a file within the limit that means this graph, and this is the graph's forest
-pub record Gives (bytes : List ℕ) (graph : GraphValue) (forest : List Link) : Type 0 where
-  pub within : length bytes ≤ 2 ^ 40
+-- ---- files
+
+-- the bytes are a file within the limit that means this graph
+pub record IsFileOf (bytes : List ℕ) (graph : GraphValue) : Type 0 where
+  pub within : length bytes ≤ MAX_BYTES
   pub means : IsGraphOf bytes graph
+
+-- and this is the graph's forest
+pub record HasForest (bytes : List ℕ) (graph : GraphValue) (forest : List Link) : Type 0 where
+  pub file : IsFileOf bytes graph
   pub least : IsForestOf graph.links forest
-
--- the source was read to its end, and its bytes give a graph and a forest of which P holds
-abbrev pub ReadsAll : Option (List ℕ) → Option (List ℕ) → (GraphValue → List Link → Type 0) → Type 0
-ReadsAll before after P = (bytes : List ℕ) × (graph : GraphValue) × (forest : List Link)
-    × Consumes before after bytes × IsAtEnd after × Gives bytes graph forest × P graph forest
-
--- the source was read to its end, and its bytes are a file within the limit that means a graph
-abbrev pub ReadsGraph : Option (List ℕ) → Option (List ℕ) → Type 0
-ReadsGraph before after = (graph : GraphValue) × IsReadOf (2 ^ 40) before after (Ok graph)
-
--- this is the text of the forest that the bytes give
-abbrev pub IsForestTextOf : List ℕ → List ℕ → Type 0
-IsForestTextOf bytes text = (graph : GraphValue) × (forest : List Link) × Gives bytes graph forest × (text ≡ forest_text graph.vertices forest)
 
 -- the bytes are a file within the limit, and mean a graph
 abbrev pub MeansGraph : List ℕ → Type 0
-MeansGraph bytes = (length bytes ≤ 2 ^ 40) × ((graph : GraphValue) × IsGraphOf bytes graph)
-
--- so many bytes are no more than the text of the forest that the bytes give has
-abbrev pub IsPartOfText : List ℕ → ℕ → Type 0
-IsPartOfText bytes written = (text : List ℕ) × IsForestTextOf bytes text × (written ≤ length text)
-
--- the report: how many vertices and links, and no rounds, shards, asks or workers
-abbrev pub plain_report : GraphValue → Report
-plain_report graph = record { vertices = graph.vertices; links = length graph.links; rounds = 0; shards = 0; asked = 0; answered = 0; alone = 0; closed = 0 }
-
--- what the source gave is refused by this fault
-abbrev pub IsRefusedBy : ReadFault → Option (List ℕ) → Option (List ℕ) → Type 0
-IsRefusedBy why before after = IsReadOf (2 ^ 40) before after (Err why)
-
--- P of the fault where the file wasn't read
-abbrev pub OnRead : {X : Type 0} → Result X RunFault → (ReadFault → Type 0) → Type 0
-OnRead (Ok x) P = ⊤
-OnRead (Err (fault.Read why)) P = P why
-OnRead (Err fault.Memory) P = ⊤
-OnRead (Err (fault.Write written)) P = ⊤
-
--- P of the number of bytes that went out, where a write failed
-abbrev pub OnWrite : {X : Type 0} → Result X RunFault → (ℕ → Type 0) → Type 0
-OnWrite (Ok x) P = ⊤
-OnWrite (Err (fault.Read why)) P = ⊤
-OnWrite (Err fault.Memory) P = ⊤
-OnWrite (Err (fault.Write written)) P = P written
-
--- P where memory was refused once the file was read
-abbrev pub OnNoMemory : {X : Type 0} → Result X RunFault → Type 0 → Type 0
-OnNoMemory (Ok x) P = ⊤
-OnNoMemory (Err (fault.Read why)) P = ⊤
-OnNoMemory (Err fault.Memory) P = P
-OnNoMemory (Err (fault.Write written)) P = ⊤
-
--- P where the source's failure is told, and else Q
-abbrev pub AtSource : {X : Type 0} → Result X RunFault → Type 0 → Type 0 → Type 0
-AtSource (Ok x) P Q = Q
-AtSource (Err (fault.Read (read.Gr f))) P Q = Q
-AtSource (Err (fault.Read (read.Source number))) P Q = P
-AtSource (Err (fault.Read read.TooLong)) P Q = Q
-AtSource (Err (fault.Read read.Memory)) P Q = Q
-AtSource (Err fault.Memory) P Q = Q
-AtSource (Err (fault.Write written)) P Q = Q
-
--- P where a failed write is told, and else Q
-abbrev pub AtWrite : {X : Type 0} → Result X RunFault → Type 0 → Type 0 → Type 0
-AtWrite (Ok x) P Q = Q
-AtWrite (Err (fault.Read why)) P Q = Q
-AtWrite (Err fault.Memory) P Q = Q
-AtWrite (Err (fault.Write written)) P Q = P
+MeansGraph bytes = (graph : GraphValue) × IsFileOf bytes graph
 
 -- the bytes mean no graph
 abbrev pub MeansNothing : List ℕ → Type 0
 MeansNothing bytes = (graph : GraphValue) → ¬ (IsGraphOf bytes graph)
 
+-- this is the text of the forest that the bytes give
+abbrev pub IsForestTextOf : List ℕ → List ℕ → Type 0
+IsForestTextOf bytes text = (graph : GraphValue) × (forest : List Link) × HasForest bytes graph forest × (text ≡ forest_text graph.vertices forest)
+
+-- so many bytes are no more than the text of the forest that the bytes give has
+abbrev pub IsPartOfText : List ℕ → ℕ → Type 0
+IsPartOfText bytes written = (text : List ℕ) × IsForestTextOf bytes text × (written ≤ length text)
+
+-- ---- what a run does to its source and its sink
+
+-- a run's two streams, as each tells itself
+pub record Streams : Type 0 where
+  pub source : SourceState
+  pub sink : SinkState
+
+abbrev pub streams : SourceState → SinkState → Streams
+streams source sink = record { source = source; sink = sink }
+
+-- the source was read to its end, exactly the text of its forest went out, and the report says so of the graph
+pub record IsDone (says : GraphValue → Type 0) (before after : Streams) : Type 0 where
+  pub bytes : List ℕ
+  pub graph : GraphValue
+  pub forest : List Link
+  pub read : Gave 0 1 bytes before.source after.source
+  pub gives : HasForest bytes graph forest
+  pub written : Took 0 (forest_text graph.vertices forest) before.sink after.sink
+  pub reported : says graph
+
+-- what the source gave is refused by this fault, and nothing was written
+pub record IsUnread (why : ReadFault) (before after : Streams) : Type 0 where
+  pub refused : IsReadOf MAX_BYTES (Err why) before.source after.source
+  pub nothing : Took 0 [] before.sink after.sink
+
+-- the source was read to its end and means a graph, and nothing was written
+pub record IsUnsolved (before after : Streams) : Type 0 where
+  pub bytes : List ℕ
+  pub graph : GraphValue
+  pub read : Gave 0 1 bytes before.source after.source
+  pub means : IsFileOf bytes graph
+  pub nothing : Took 0 [] before.sink after.sink
+
+-- the source was read to its end, and so many bytes of the text of its forest went out before a setback
+pub record IsBrokenOff (written : ℕ) (before after : Streams) : Type 0 where
+  pub bytes : List ℕ
+  pub graph : GraphValue
+  pub forest : List Link
+  pub read : Gave 0 1 bytes before.source after.source
+  pub gives : HasForest bytes graph forest
+  pub part : WentOut 0 written (forest_text graph.vertices forest) before.sink after.sink
+
+-- what a run did that answered this, where a report says so of a graph
+abbrev pub Ran : (GraphValue → Report → Type 0) → Result Report RunFault → Streams → Streams → Type 0
+Ran says (Ok report) = IsDone (λ graph. says graph report)
+Ran says (Err (fault.Read why)) = IsUnread why
+Ran says (Err fault.Memory) = IsUnsolved
+Ran says (Err (fault.Write written)) = IsBrokenOff written
+
+-- the report of a plain run: how many vertices and links, and no rounds, shards, asks or workers
+abbrev pub IsPlainReport : GraphValue → Report → Type 0
+IsPlainReport graph report =
+    report ≡ record { vertices = graph.vertices; links = length graph.links; rounds = 0; shards = 0; asked = 0; answered = 0; alone = 0; closed = 0 }
+
+-- what a plain run did that answered this
+abbrev pub RanPlain : Result Report RunFault → Streams → Streams → Type 0
+RanPlain = Ran IsPlainReport
+
+-- ---- what follows for a source that tells
+
+-- the source tells that it has this file, within the limit, and that no read failed
+pub record HasFile (bytes : List ℕ) (before after : SourceState) : Type 0 where
+  pub told : before.left ≡ Some bytes
+  pub no_failure : HadNoFailure before after
+  pub within : length bytes ≤ MAX_BYTES
+
+-- P of the fault where the file wasn't read
+abbrev pub OnRead : {X : Type 0} → Result X RunFault → (ReadFault → Type 0) → Type 0
+OnRead (Err (fault.Read why)) P = P why
+OnRead other P = ⊤
+
+-- P of the number of bytes that went out, where a write failed
+abbrev pub OnWrite : {X : Type 0} → Result X RunFault → (ℕ → Type 0) → Type 0
+OnWrite (Err (fault.Write written)) P = P written
+OnWrite other P = ⊤
+
+-- P where memory was refused once the file was read
+abbrev pub OnNoMemory : {X : Type 0} → Result X RunFault → Type 0 → Type 0
+OnNoMemory (Err fault.Memory) P = P
+OnNoMemory other P = ⊤
+
+-- a fault of reading is this file's first, or want of memory
+abbrev pub IsFirstOf : List ℕ → ReadFault → Type 0
+IsFirstOf bytes (read.Gr f) = IsFirstFault bytes f.line f.kind
+IsFirstOf bytes read.Memory = ⊤
+IsFirstOf bytes other = ⊥
+
 -- the answer is the first fault of the bytes, or that memory was refused in reading
 abbrev pub IsFirstFaultOf : {X : Type 0} → List ℕ → Result X RunFault → Type 0
-IsFirstFaultOf bytes (Ok x) = ⊥
-IsFirstFaultOf bytes (Err (fault.Read (read.Gr f))) = IsFirstFault bytes f.line f.kind
-IsFirstFaultOf bytes (Err (fault.Read (read.Source number))) = ⊥
-IsFirstFaultOf bytes (Err (fault.Read read.TooLong)) = ⊥
-IsFirstFaultOf bytes (Err (fault.Read read.Memory)) = ⊤
-IsFirstFaultOf bytes (Err fault.Memory) = ⊥
-IsFirstFaultOf bytes (Err (fault.Write written)) = ⊥
+IsFirstFaultOf bytes (Err (fault.Read why)) = IsFirstOf bytes why
+IsFirstFaultOf bytes other = ⊥
+
+-- the answer isn't a fault of the file or of its source: where it was not read, memory was refused
+abbrev pub IsNoRefusal : {X : Type 0} → Result X RunFault → Type 0
+IsNoRefusal result = OnRead result (λ why. why ≡ read.Memory)

@@ -1,15 +1,15 @@
-use Rattle.std.proofs.Common.{inl, inr, arith}
-use Rattle.boruvka.proofs.Endings.{part_of_failed, untold, whichever}
+use Rattle.std.proofs.Common.{refl}
+use Rattle.clap.specs.Words.{kind_of}
+use Rattle.boruvka.proofs.Endings.{wants_memory, wants_memory_on_file}
 use Rattle.boruvka.proofs.command.command.Goals as goal
 
-pub returns-in-Ok-clause-part : goal.returns-in-Ok-clause-part
-returns-in-Ok-clause-part g c = λ three.
-    whichever c.in-Ok.chosen.plain c.in-Ok.chosen.file _ (λ lacks. inl (c.obey.ensures.needed lacks).1)
-    (λ plain none. inr (part_of_failed _ _ _ (c.obey.ensures.reads_input plain none) three))
-    (λ plain some. inl (c.obey.ensures.leaves_input some))
+pub returns-in-Err-Usage-clause-wrong : goal.returns-in-Err-Usage-clause-wrong
+returns-in-Err-Usage-clause-wrong g c = λ wrong.
+    let (status, same) = c.print_usage.ensures.wrong (wrong.1 (kind_of c.in-Err-Usage.error) (rw c.in-Err-Usage.field-0-is at c.in-Err-Usage.ensures.refused)) in
+    (status, refl, same)
 
-pub returns-in-Ok-clause-refused : goal.returns-in-Ok-clause-refused
-returns-in-Ok-clause-refused g c = λ one.
-    whichever c.in-Ok.chosen.plain c.in-Ok.chosen.file _ (λ lacks. let two = (c.obey.ensures.needed lacks).0 in absurd (omega arith))
-    (λ plain none. untold _ _ _ (c.obey.ensures.reads_input plain none))
-    (λ plain some. elim (c.obey.ensures.reads_file plain some) [ inl (three, same) ↦ absurd (omega arith) | inr ends ↦ ends ])
+pub returns-in-Err-Memory-clause-reads_input : goal.returns-in-Err-Memory-clause-reads_input
+returns-in-Err-Memory-clause-reads_input g c = λ ask. wants_memory _ _
+
+pub returns-in-Err-Memory-clause-reads_file : goal.returns-in-Err-Memory-clause-reads_file
+returns-in-Err-Memory-clause-reads_file g c = λ ask. (refl, wants_memory_on_file _)

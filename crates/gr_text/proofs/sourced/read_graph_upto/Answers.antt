@@ -1,18 +1,27 @@
-use Rattle.std.proofs.Common.{ℕ, ◌++◌, take, subst, ◌∙◌}
-use Rattle.std.proofs.KnownBytes.{Consumes-trans}
-use Rattle.gr_text.specs.Reader.{StopsBy}
-use Rattle.gr_text.proofs.Feeding.{stopped_by}
-use Rattle.gr_text.proofs.Sourcing.{tells_of_stops}
+use Rattle.std.proofs.Common.{rules, ◌∙◌}
+use Rattle.gr_text.proofs.Sourcing.{read_to_end, breaks_off, read_up_to}
 use Rattle.gr_text.proofs.sourced.read_graph_upto.Goals as goal
 
-pub returns-in-Err-feed-clause-outcome : goal.returns-in-Err-feed-clause-outcome
-returns-in-Err-feed-clause-outcome g c =
-    let (text, read, consumed) = c.loop-turn.invariant.got in
-    let got = text ++ take c.in-Ok.n c.read.new.buf in
-    let limit_is = c.in-Err-feed.ensures.limit ∙ c.loop-turn.invariant.limit in (
-      got,
-      Consumes-trans _ _ _ text (take c.in-Ok.n c.read.new.buf) consumed c.in-Ok.ensures.bytes.0,
-      tells_of_stops c.in-Err-feed.fault c.args.limit got _
-          (subst (λ (k : ℕ). StopsBy c.in-Err-feed.fault k got) limit_is
-          (stopped_by c.feed.new.self c.in-Err-feed.fault got c.in-Err-feed.ensures.told (c.in-Err-feed.ensures.fed text read))),
-    )
+pub returns-in-Err : goal.returns-in-Err
+returns-in-Err g c =
+    let so_far = c.loop-turn.invariant in
+    let (text, read, got) = so_far.got in
+    record { outcome = breaks_off _ _ _ text _ _ _ read so_far.clean so_far.limit (c.line.ensures text read so_far.clean) got c.in-Err.ensures.gave }
+
+pub returns-in-Ok-eq0 : goal.returns-in-Ok-eq0
+returns-in-Ok-eq0 g c =
+    let so_far = c.loop-turn.invariant in
+    let (text, read, got) = so_far.got in
+    record {
+      outcome = read_to_end _ _ _ text _ _ _ read so_far.clean so_far.limit (c.finish.ensures.outcome text read) got
+          (c.in-Ok-eq0.ensures.gave.1 (search rules));
+    }
+
+pub returns-in-Err-feed : goal.returns-in-Err-feed
+returns-in-Err-feed g c =
+    let so_far = c.loop-turn.invariant in
+    let (text, read, got) = so_far.got in
+    record {
+      outcome = read_up_to _ _ _ text _ _ _ _ (c.in-Err-feed.ensures.fed text read) c.in-Err-feed.ensures.told
+          (c.in-Err-feed.ensures.limit ∙ so_far.limit) got (c.in-Ok.ensures.gave.0 (search rules));
+    }

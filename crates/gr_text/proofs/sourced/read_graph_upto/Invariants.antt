@@ -1,6 +1,5 @@
 use Rattle.std.proofs.Common.{◌≡◌, ◌≤◌, ℕ, List, None}
-use Rattle.std.specs.Io.KnownBytes.{Consumes}
-use Rattle.byte_streams.specs.Counts.{Stands}
+use Rattle.byte_streams.specs.Streams.{Gave}
 use Rattle.gr_text.specs.Reader.{HasRead}
 use Rattle.gr_text.proofs.sourced.read_graph_upto.Given as goal
 
@@ -14,6 +13,5 @@ invariant-loop-turn g l =
       within : l.reader.fed ≤ l.reader.limit;
       turns : l._turn ≤ l.reader.fed;
       clean : l.reader.fault ≡ None;
-      failures : Stands (source.failures l.fn.source) (source.failures l.source);
-      got : (text : List ℕ) × HasRead l.reader text × Consumes (source.remaining l.fn.source) (source.remaining l.source) text;
+      got : (text : List ℕ) × HasRead l.reader text × Gave 0 0 text (source.state l.fn.source) (source.state l.source);
     }

@@ -1,26 +1,40 @@
-use Rattle.std.proofs.Common.{Some, refl}
+use Rattle.std.proofs.Common.{rules, ap, ℕ, List, Some, refl}
+use Rattle.byte_streams.specs.Streams.{tells_held}
+use Rattle.plain_run.specs.Plain.{IsPlainReport}
 use Rattle.std.proofs.lemmas.Result.{err_from_is_err_and}
-use Rattle.plain_run.proofs.InMemory.{refused_in_memory, part_in_memory}
+use Rattle.plain_run.proofs.Running.{refused_in_memory, graph_in_memory, part_in_memory, text_in_memory}
 use Rattle.plain_run.proofs.in_memory.plain_text.Goals as goal
 
 pub returns-in_err-run_plain-clause-refused : goal.returns-in_err-run_plain-clause-refused
 returns-in_err-run_plain-clause-refused g c =
     let p = err_from_is_err_and c.from_residual.result c.from_residual.ensures.1 in
-    rw (p.1, p.2)
-    (refused_in_memory c.in_err-run_plain.field-0.0 (Some c.args.bytes.now) (Some c.run_plain.new.source.now) (Some 0) (Some 0) c.args.bytes.now 0
-    c.in_err-run_plain.ensures.refused c.in_err-run_plain.ensures.failures refl refl refl)
+    rw (p.1, p.2) (refused_in_memory IsPlainReport c.in_err-run_plain.field-0.0 c.args.bytes.now _ _ _ _ refl (0, refl, refl) c.in_err-run_plain.ensures.ran)
+
+pub returns-in_err-run_plain-clause-memory : goal.returns-in_err-run_plain-clause-memory
+returns-in_err-run_plain-clause-memory g c =
+    let p = err_from_is_err_and c.from_residual.result c.from_residual.ensures.1 in
+    rw (p.1, p.2) (graph_in_memory IsPlainReport c.in_err-run_plain.field-0.0 c.args.bytes.now _ _ _ _ refl c.in_err-run_plain.ensures.ran)
 
 pub returns-in_err-run_plain-clause-write : goal.returns-in_err-run_plain-clause-write
 returns-in_err-run_plain-clause-write g c =
     let p = err_from_is_err_and c.from_residual.result c.from_residual.ensures.1 in
-    rw (p.1, p.2)
-    (part_in_memory c.in_err-run_plain.field-0.0 (Some c.args.bytes.now) (Some c.run_plain.new.source.now) (Some c.new-text.result.items) (Some c.run_plain.new.sink.items)
-    c.args.bytes.now c.in_err-run_plain.ensures.part refl)
+    rw (p.1, p.2) (part_in_memory IsPlainReport c.in_err-run_plain.field-0.0 c.args.bytes.now _ _ _ _ refl c.in_err-run_plain.ensures.ran)
 
 pub returns-in_err-run_plain-clause-malformed : goal.returns-in_err-run_plain-clause-malformed
 returns-in_err-run_plain-clause-malformed g c =
     let p = err_from_is_err_and c.from_residual.result c.from_residual.ensures.1 in
-    rw (p.1, p.2) (c.in_err-run_plain.ensures.malformed c.args.bytes.now 0 refl refl refl)
+    λ within. rw (p.1, p.2) (c.in_err-run_plain.ensures.malformed c.args.bytes.now (record { told = refl; no_failure = (0, refl, refl); within = within }))
+
+pub returns-in_err-run_plain-clause-lawful : goal.returns-in_err-run_plain-clause-lawful
+returns-in_err-run_plain-clause-lawful g c =
+    let p = err_from_is_err_and c.from_residual.result c.from_residual.ensures.1 in
+    λ means. rw (p.1, p.2) (c.in_err-run_plain.ensures.lawful c.args.bytes.now (record { told = refl; no_failure = (0, refl, refl); within = means.1.within }) means)
+
+pub returns-clause-text : goal.returns-clause-text
+returns-clause-text g c =
+    text_in_memory (λ graph. IsPlainReport graph c.in_ok-run_plain.field-0) c.args.bytes.now _ _ _ (tells_held (Some c.new-text.result.items))
+    (tells_held (Some c.run_plain.new.sink.items)) refl (ap (λ (l : List ℕ). Some l) (search rules)) refl c.in_ok-run_plain.ensures.ran
 
 pub returns-clause-malformed : goal.returns-clause-malformed
-returns-clause-malformed g c = c.in_ok-run_plain.ensures.malformed c.args.bytes.now 0 refl refl refl
+returns-clause-malformed g c =
+    λ within. c.in_ok-run_plain.ensures.malformed c.args.bytes.now (record { told = refl; no_failure = (0, refl, refl); within = within })

@@ -23,10 +23,21 @@ pub fn tell<S: Sink, T: Display>(sink: &mut S, fault: &T)
     }
 }
 
-/// Writes that a file can't be opened, whatever the length of its name.
+// The room for a line with a name: a file's name has fewer than 4,096 bytes.
+const NAMED_LINE_ROOM: usize = 4200;
+
+/// Writes that a file can't be opened, in one write.
+///
+/// The name stands there byte for byte, control bytes and line feeds too. A name that is longer than any
+/// file's is written in a write of its own.
 pub fn tell_unopened<S: Sink>(sink: &mut S, name: &str)
     requires { S.can_write sink.old }
 {
+    let mut line = ArrayString::<NAMED_LINE_ROOM>::new();
+    if write!(&mut line, "boruvka: cannot open {name}\n").is_ok() {
+        let _ = put(sink, 0, line.as_str().as_bytes());
+        return;
+    }
     if put(sink, 0, b"boruvka: cannot open ").is_ok() && put(sink, 0, name.as_bytes()).is_ok() {
         let _ = put(sink, 0, b"\n");
     }

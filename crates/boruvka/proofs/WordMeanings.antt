@@ -1,5 +1,5 @@
--- A number that is found passed the range of its argument.
-use Rattle.std.proofs.Common.{◌≡◌, ◌⊎◌, ◌∙◌, ◌<◌, ℕ, true, false, List, [], ◌∷◌, length, Option, Some, None, refl, sym, ap, subst, inl, inr, arith, codes, slice_index, ◌||◌}
+-- What a parse of the program's words gives: what each word sets, and numbers that passed the ranges of their arguments.
+use Rattle.std.proofs.Common.{◌≡◌, ◌≢◌, ◌⊎◌, ◌∙◌, ◌<◌, ℕ, true, false, List, [], ◌∷◌, length, Option, Some, None, Result, Ok, Err, refl, sym, ap, subst, inl, inr, arith, codes, slice_index, ◌||◌}
 use Rattle.std.specs.Prelude.{pos}
 use Rattle.std.specs.List.{All, slice_index_or}
 use Rattle.std.specs.Str.{bytes_eq}
@@ -19,7 +19,15 @@ use Rattle.clap.specs.declared.builder.value_parser.ValueParser.TheVariants as v
 use Rattle.clap.specs.declared.parser.matches.ArgMatches.{ArgMatches}
 use Rattle.clap.specs.declared.parser.matches.Found.{Found}
 use Rattle.clap.specs.declared.parser.matches.MatchedArg.{MatchedArg}
-use Rattle.boruvka.specs.Numbers.{TakesFrom, IsOwn, IsOwnArg, HoldsFrom}
+use Rattle.clap.specs.Words.{App, FailsBy, HasKind, HasMatchesOf, IsAmong, Kinds, fault_of, first_of, first_value, is_simple, is_simple_and_free, kind_of, matches_of, one_of, rows_of}
+use Rattle.clap.proofs.OnLiterals.{clap_on_literals}
+use Rattle.clap.proofs.WalkLemmas.{first_value-rows, one_text-rows}
+use Rattle.clap.specs.declared.error.Error.{Error}
+use Rattle.clap.specs.declared.error.kind.ErrorKind.TheVariants.{OutOfMemory}
+use Rattle.limits.specs.declared.TheConstants.{MAX_SHARDS, MAX_WORKERS}
+use Rattle.boruvka.specs.Arguments.{TakesFrom, IsOwn, IsOwnArg, HoldsFrom, program, refusals, given, file_named, IsCauseOf, OnUsage}
+use Rattle.boruvka.specs.declared.chosen.OptionsFault.{OptionsFault}
+use Rattle.boruvka.specs.declared.chosen.OptionsFault.TheVariants.{Usage, Memory}
 
 -- an argument takes what the caller's does
 takes_same : (name : List ℕ) (low high : ℕ) (a b : Arg) → SameRules a b → TakesFrom name low high a → TakesFrom name low high b
@@ -30,8 +38,8 @@ pub own_more : (old new : Command) (a : Arg) → AddsArg old a new → IsOwn old
 own_more old new a added own arg = record {
   plain = added_plain old new a added own.plain arg.plain;
   local = added.globals ∙ (ap (λ b. b || a.global) own.local ∙ ap (λ b. false || b) arg.local);
-  workers = rw added.args (All-push (TakesFrom (codes "workers") 0 64) (args_of old) added.arg own.workers (takes_same (codes "workers") 0 64 a added.arg added.rules arg.workers));
-  shards = rw added.args (All-push (TakesFrom (codes "shards") 1 4096) (args_of old) added.arg own.shards (takes_same (codes "shards") 1 4096 a added.arg added.rules arg.shards));
+  workers = rw added.args (All-push (TakesFrom (codes "workers") 0 MAX_WORKERS) (args_of old) added.arg own.workers (takes_same (codes "workers") 0 MAX_WORKERS a added.arg added.rules arg.workers));
+  shards = rw added.args (All-push (TakesFrom (codes "shards") 1 MAX_SHARDS) (args_of old) added.arg own.shards (takes_same (codes "shards") 1 MAX_SHARDS a added.arg added.rules arg.shards));
 }
 
 -- an argument of the built command with this name is the caller's, and takes such numbers
@@ -108,16 +116,56 @@ parsed_holds c m name low high own p takes named no_help no_version =
 apart : (a b : List ℕ) → ¬ (slice_index a 0 ≡ slice_index b 0) → ¬ (a ≡ b)
 apart a b differ same = differ (ap (λ (t : List ℕ). slice_index t 0) same)
 
-pub workers_hold : (c : Command) (m : ArgMatches) → IsOwn c → IsParsedFrom c m → HoldsFrom m (codes "workers") 0 64
+pub workers_hold : (c : Command) (m : ArgMatches) → IsOwn c → IsParsedFrom c m → HoldsFrom m (codes "workers") 0 MAX_WORKERS
 workers_hold c m own p =
-    parsed_holds c m (codes "workers") 0 64 own p own.workers
+    parsed_holds c m (codes "workers") 0 MAX_WORKERS own p own.workers
     (λ e. let bad : 119 ≡ slice_index [] 0 = ap (λ (t : List ℕ). slice_index t 0) e in absurd (omega arith))
     (apart (codes "workers") (codes "help") (λ (e : 119 ≡ 104). absurd (omega arith)))
     (apart (codes "workers") (codes "version") (λ (e : 119 ≡ 118). absurd (omega arith)))
 
-pub shards_hold : (c : Command) (m : ArgMatches) → IsOwn c → IsParsedFrom c m → HoldsFrom m (codes "shards") 1 4096
+pub shards_hold : (c : Command) (m : ArgMatches) → IsOwn c → IsParsedFrom c m → HoldsFrom m (codes "shards") 1 MAX_SHARDS
 shards_hold c m own p =
-    parsed_holds c m (codes "shards") 1 4096 own p own.shards
+    parsed_holds c m (codes "shards") 1 MAX_SHARDS own p own.shards
     (λ e. let bad : 115 ≡ slice_index [] 0 = ap (λ (t : List ℕ). slice_index t 0) e in absurd (omega arith))
     (apart (codes "shards") (codes "help") (λ (e : 115 ≡ 104). absurd (omega arith)))
     (apart (codes "shards") (codes "version") (λ (e : 115 ≡ 118). absurd (omega arith)))
+
+-- ---- what the words say
+
+program_simple : is_simple program ≡ true
+unfolding clap_on_literals
+program_simple = refl
+
+program_free : is_simple_and_free program ≡ true
+unfolding clap_on_literals
+program_free = refl
+
+-- the matches of a command that is the program are those of the program
+rows_are : (app : App) (words : List (List ℕ)) (m : ArgMatches) → app ≡ program → HasMatchesOf app words m
+    → rows_of (found_of m) ≡ matches_of program words
+rows_are app words m is has = (has (ap is_simple is ∙ program_simple)).0 ∙ ap (λ (a : App). matches_of a words) is
+
+-- what a getter reads under a name is what the words give there
+pub given_is : (app : App) (words : List (List ℕ)) (m : ArgMatches) (name : List ℕ) → app ≡ program → HasMatchesOf app words m
+    → one_text (found_of m) name ≡ given words name
+given_is app words m name is has = one_text-rows (found_of m) name ∙ ap (one_of name) (rows_are app words m is has)
+
+pub file_is : (app : App) (words : List (List ℕ)) (m : ArgMatches) → app ≡ program → HasMatchesOf app words m
+    → first_value (found_of m) (codes "file") ≡ file_named words
+file_is app words m is has = first_value-rows (found_of m) (codes "file") ∙ ap (first_of (codes "file")) (rows_are app words m is has)
+
+-- a parse fails as the words say
+pub fails_by_words : {T : Type 0} (app : App) (words : List (List ℕ)) (r : Result T Error) → app ≡ program
+    → (is_simple_and_free app ≡ true → FailsBy (fault_of app words) r) → FailsBy (refusals words) r
+fails_by_words {T} app words r is fails = subst (λ (a : App). FailsBy (fault_of a words) r) is (fails (ap is_simple_and_free is ∙ program_free))
+
+-- an error that isn't want of memory is one of those that the words have
+pub usage_is_among : (T : Type 0) (error : Error) (why : OptionsFault) (kinds : Kinds) → IsCauseOf error why → HasKind kinds error
+    → OnUsage {T = T} (Err why) (λ e. IsAmong (kind_of e) kinds)
+usage_is_among T error (Usage same) kinds (other, is) (inl memory) = absurd (other memory)
+usage_is_among T error (Usage same) kinds (other, is) (inr among) = subst (λ (e : Error). IsAmong (kind_of e) kinds) (sym is) among
+usage_is_among T error Memory kinds cause has = tt
+
+pub usage_is_no_memory : (T : Type 0) (error : Error) (why : OptionsFault) → IsCauseOf error why → OnUsage {T = T} (Err why) (λ e. kind_of e ≢ OutOfMemory)
+usage_is_no_memory T error (Usage same) (other, is) = subst (λ (e : Error). kind_of e ≢ OutOfMemory) (sym is) other
+usage_is_no_memory T error Memory cause = tt

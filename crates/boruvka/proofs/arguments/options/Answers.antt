@@ -1,0 +1,56 @@
+use Rattle.std.specs.String.{string_bytes}
+use Rattle.std.proofs.Common.{rules, ap, option_map, Some, arith, subst, sym, ◌∙◌, ℕ, List, Option, Ok}
+use Rattle.boruvka.specs.Arguments.{IsNumberOf}
+use Rattle.boruvka.proofs.WordMeanings.{workers_hold, shards_hold, given_is, file_is, fails_by_words}
+use Rattle.boruvka.proofs.arguments.options.Goals as goal
+use Rattle.boruvka.proofs.arguments.options.Goals.{in-Some+in_ok-from_str-in-Some, in-None}
+
+pub returns-clause-lawful : goal.returns-clause-lawful
+returns-clause-lawful g c = fails_by_words _ _ (Ok c.in_ok-matches.matches) c.in_ok-command.ensures.app c.in_ok-matches.ensures.kinds
+
+pub returns-clause-workers : goal.returns-clause-workers
+returns-clause-workers g c =
+    let held = workers_hold _ _ c.in_ok-command.ensures.own c.in_ok-matches.ensures.parsed in
+    subst (λ (t : Option (List ℕ)). IsNumberOf t 2 c.number-workers.result) (given_is _ _ _ _ c.in_ok-command.ensures.app c.in_ok-matches.ensures.matches)
+    (c.number-workers.ensures.value 0 64 (search rules) (omega arith))
+
+pub returns-clause-shards : goal.returns-clause-shards
+returns-clause-shards g c =
+    let held = shards_hold _ _ c.in_ok-command.ensures.own c.in_ok-matches.ensures.parsed in
+    subst (λ (t : Option (List ℕ)). IsNumberOf t 64 c.number-shards.result) (given_is _ _ _ _ c.in_ok-command.ensures.app c.in_ok-matches.ensures.matches)
+    (c.number-shards.ensures.value 1 4096 (search rules) (omega arith))
+
+pub returns-clause-plain : goal.returns-clause-plain
+returns-clause-plain g c =
+    let is = given_is _ _ _ _ c.in_ok-command.ensures.app c.in_ok-matches.ensures.matches in
+    record { set = λ yes. c.get_flag.ensures.value (is ∙ yes); unset = λ no. c.get_flag.ensures.other (is ∙ no) }
+
+pub returns-clause-report : goal.returns-clause-report
+returns-clause-report g c =
+    let is = given_is _ _ _ _ c.in_ok-command.ensures.app c.in_ok-matches.ensures.matches in
+    record { set = λ yes. c.get_flag-2.ensures.value (is ∙ yes); unset = λ no. c.get_flag-2.ensures.other (is ∙ no) }
+
+pub returns-clause-file : goal.returns-clause-file
+returns-clause-file g c =
+    let read = c.get_str.ensures ∙ file_is _ _ _ c.in_ok-command.ensures.app c.in_ok-matches.ensures.matches in
+    elim c.match-get_str.branch [
+      | in-Some+in_ok-from_str-in-Some w ↦
+          ap (option_map string_bytes) w.file-is
+          ∙ (ap (λ t. Some t) w.in_ok-from_str-in-Some.ensures.ok ∙ (sym (ap (option_map (λ s. s.now)) w.in-Some.is) ∙ read))
+      | in-None w ↦ ap (option_map string_bytes) w.file-is ∙ (sym (ap (option_map (λ s. s.now)) w.in-None.is) ∙ read)
+    ]
+
+pub returns-clause-few_workers : goal.returns-clause-few_workers
+returns-clause-few_workers g c =
+    let held = workers_hold _ _ c.in_ok-command.ensures.own c.in_ok-matches.ensures.parsed in
+    (c.number-workers.ensures.range 0 64 (search rules) (omega arith) (omega arith) (omega arith)).1
+
+pub returns-clause-some_shards : goal.returns-clause-some_shards
+returns-clause-some_shards g c =
+    let held = shards_hold _ _ c.in_ok-command.ensures.own c.in_ok-matches.ensures.parsed in
+    (c.number-shards.ensures.range 1 4096 (search rules) (omega arith) (omega arith) (omega arith)).0
+
+pub returns-clause-few_shards : goal.returns-clause-few_shards
+returns-clause-few_shards g c =
+    let held = shards_hold _ _ c.in_ok-command.ensures.own c.in_ok-matches.ensures.parsed in
+    (c.number-shards.ensures.range 1 4096 (search rules) (omega arith) (omega arith) (omega arith)).1

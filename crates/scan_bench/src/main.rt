@@ -1,0 +1,106 @@
+//! Measures a worker's scan of a million links under the labels of a run's first round, and under those of a quarter
+//! of a million components that lie scattered over the vertices.
+//!
+//! The links and the labels are drawn by a fixed rule, which `benches/scan.cpp` follows too, so both programs print the
+//! same lines to standard output: how many offers there are, and the sum of their places. The times, the least of
+//! several runs in microseconds, go to standard error.
+#![tactic(auto)]
+
+use link_key::{Labels, Link};
+use std::alloc::{AllocError, Global};
+use std::time::{Duration, Instant};
+use worker_engine::scan;
+
+// How many vertices and links there are, and how often each scan is run.
+const SIZE: u32 = 1 << 20;
+
+const RUNS: usize = 9;
+
+fn main(rt: HostRuntime) -> anyhow::Result<()> {
+    let links = drawn_links(rt.alloc())?;
+    let apart = Labels::apart(rt.alloc(), SIZE)?;
+    measure(&rt, "each vertex by itself", links.as_slice(), &apart)?;
+    if let Some(scattered) = Labels::of_list(scattered_labels(rt.alloc())?) {
+        measure(
+            &rt,
+            "a quarter of a million components, scattered",
+            links.as_slice(),
+            &scattered,
+        )?;
+    }
+    Ok(())
+}
+
+// Prints what a scan offers, and the least time of several.
+fn measure(rt: &HostRuntime, name: &str, links: &[Link], labels: &Labels) -> anyhow::Result<()> {
+    let mut least = Duration::MAX;
+    let mut told = (0, 0);
+    for _ in 0..RUNS {
+        let (took, offered) = time_scan(rt, links, labels)?;
+        least = least.min(took);
+        told = offered;
+    }
+    println!(rt; "{name}: {} offers, places {}", told.0, told.1)?;
+    eprintln!(rt; "{name}: scan {} us", least.as_micros())?;
+    Ok(())
+}
+
+// The time of one scan, how many offers it gives, and the sum of their places.
+fn time_scan(
+    rt: &HostRuntime,
+    links: &[Link],
+    labels: &Labels,
+) -> anyhow::Result<(Duration, (usize, u64))> {
+    if !fits(links, labels.n()) {
+        return Ok((Duration::MAX, (0, 0)));
+    }
+    let start = Instant::now(rt)?;
+    let offers = scan(rt.alloc(), links, labels)?;
+    let took = start.elapsed(rt)?;
+    let mut places = 0u64;
+    for (_component, place) in offers.pairs() {
+        places = places.wrapping_add(*place as u64);
+    }
+    Ok((took, (offers.pairs().len(), places)))
+}
+
+// The next number of a fixed sequence.
+fn next(state: u64) -> u64 {
+    state
+        .wrapping_mul(6_364_136_223_846_793_005)
+        .wrapping_add(1_442_695_040_888_963_407)
+}
+
+// Links between vertices drawn at random, with weights from 0 to 65,535; a draw of a loop gives none.
+fn drawn_links(alloc: Global) -> Result<Vec<Link>, AllocError> {
+    let mut links = Vec::with_capacity(alloc, SIZE as usize)?;
+    let mut state: u64 = 1926;
+    for _ in 0..SIZE {
+        state = next(state);
+        let tail = (state >> 33) as u32 % SIZE + 1;
+        state = next(state);
+        let head = (state >> 33) as u32 % SIZE + 1;
+        state = next(state);
+        let weight = (state >> 48) as u16;
+        if let Some(link) = Link::of_arc(tail, head, weight as i32) {
+            links.push(link)?;
+        }
+    }
+    Ok(links)
+}
+
+// Every fourth vertex or so keeps its own label, and the others get that of any vertex before them.
+fn scattered_labels(alloc: Global) -> Result<Vec<u32>, AllocError> {
+    let mut labels = Vec::with_capacity(alloc, SIZE as usize)?;
+    let mut state: u64 = 1926;
+    for vertex in 1..SIZE + 1 {
+        state = next(state);
+        let drawn = (state >> 33) as usize;
+        let label = match labels.get(drawn % vertex as usize) {
+            Some(label) if state >> 62 != 0 => *label,
+            _ => vertex,
+        };
+        labels.push(label)?;
+    }
+    Ok(labels)
+}
