@@ -30,6 +30,8 @@ mod cuts;
 #[cfg(test)]
 mod drawn_lists;
 #[cfg(test)]
+mod engine;
+#[cfg(test)]
 mod failing_devices;
 #[cfg(test)]
 mod fault_texts;

@@ -54,7 +54,14 @@ impl<A: Allocator + Copy> Engine<A> {
         }
     }
 
-    /// Hears one frame, and gives the reply to it, if it has one.
+    /// Hears one frame, and gives the reply to it: one to an ask, none to any other frame.
+    ///
+    /// A shard is kept under its number, in place of an earlier one; its list is kept as it is, without a copy. An
+    /// ask is answered by the light offers of its shard, or by a fault: [`NOT_HELD`] where no such shard is kept,
+    /// else [`NO_LABEL`] where an end of a link is greater than the number of labels.
+    ///
+    /// An ask costs a scan, and memory for the offers; the table of the scan is used again. The only error is want
+    /// of memory, for a shard or for an ask of a shard that is kept; the engine is unchanged then.
     pub fn hear(&mut self, frame: Frame<A>) -> Result<Option<Frame<A>>, AllocError>
         requires lawful { IsLawful (value_of frame) }
         ensures shelf { OnOk result (shelf_of self.new ≡ shelf_with (shelf_of self.old) (value_of frame)) }

@@ -1,8 +1,26 @@
-//! The worker's engine: the light offers of a shard.
+//! A worker's engine: what it answers of the shards that it keeps, and a session over a stream of frames.
 //!
-//! - [`scan`] gives exactly the light offers of a shard's links under the labels.
+//! What is promised here:
 //!
-//! Where to start a change: `scanning` has the pass over the links, `specs/Scanning` what its table keeps.
+//! - [`scan`] gives exactly the light offers of a shard's links under the labels: for each label that a link
+//!   leaves, the first place of the least such link;
+//! - [`Engine::hear`] keeps a shard in place of an earlier one of its number, replies to an ask by what it keeps,
+//!   and changes nothing at any other frame, nor where it finds no memory;
+//! - [`serve`] writes what a session owes for the frames of a stream, or, where it ends early, what it owes for
+//!   those that it heard or a prefix of that;
+//! - what a session owes for a stream begins with what it owes for any prefix of the stream (`laws`).
+//!
+//! ```text
+//!   Source --read_frame--> Frame --Engine::hear--> reply --encode, fault_bytes, put--> Sink
+//!                                      |
+//!                           links, Labels --scan--> Offers
+//! ```
+//!
+//! Where to start a change: what may be written for a stream stands in `specs/Serving`, over whole streams, and how
+//! a session ends in `specs/Served`. `scanning` has the pass over the links, with its table in `specs/Scanning`;
+//! `engine` keeps and replies, `session` reads and writes. `proofs/Scans` follows the pass, `proofs/Offering` shows
+//! that light offers make a lawful answer, `proofs/Replying` and `proofs/Sessions` take streams apart, and
+//! `proofs/Steps` follows a session frame by frame.
 #![tactic(auto)]
 
 mod engine;

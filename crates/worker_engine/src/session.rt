@@ -58,7 +58,15 @@ pub(crate) enum Written {
     AFault,
 }
 
-/// A worker's session with a limit.
+/// A worker's session that hears at most `frames` frames.
+///
+/// It writes the hello of `worker`, and then hears frame after frame and writes one reply to each ask, until the
+/// source ends before a frame. An ask that finds no memory for its answer is replied to by a fault with the code
+/// [`NO_MEMORY`](crate::NO_MEMORY), which takes none, and the session goes on.
+///
+/// `Read` where no whole lawful frame could be read, `Write` at the first write that fails or takes nothing,
+/// `Memory` where the hello couldn't be made or a shard not be kept, `TooMany` once `frames` frames were heard,
+/// without a further read. Nothing is flushed. It holds one frame and one reply at a time beside the shards.
 pub fn serve_upto<A: Allocator + Copy, S: Source, W: Sink>(
     alloc: A,
     worker: u32,
@@ -93,7 +101,7 @@ pub fn serve_upto<A: Allocator + Copy, S: Source, W: Sink>(
     Err(ServeFault::TooMany)
 }
 
-/// A worker's session.
+/// A worker's session: [`serve_upto`] with at most 2^32 frames.
 pub fn serve<A: Allocator + Copy, S: Source, W: Sink>(
     alloc: A,
     worker: u32,
