@@ -161,14 +161,13 @@ pub even_step : (len count i : ℕ) → 0 < count → (i * len / count ≤ (i + 
     × (len ≤ MAX_SHARD_LINKS * count → (i + 1) * len / count ≤ i * len / count + MAX_SHARD_LINKS)
 even_step len count i some =
     let next : (i + 1) * len ≡ i * len + len = add-mul i 1 len ∙ ap (λ t. i * len + t) (one-mul len) in
-    let low : i * len / count * count ≤ i * len = div-mul-le_self (i * len) count in
-    (
+    let low : i * len / count * count ≤ i * len = div-mul-le_self (i * len) count in (
       le-div (i * len / count) ((i + 1) * len) count some (omega (arith, next, low)),
       λ fits.
-        let more : i * len + count * MAX_SHARD_LINKS ≡ i * len + MAX_SHARD_LINKS * count = ap (λ t. i * len + t) (mul_comm count MAX_SHARD_LINKS) in
-        let sum : (i * len + count * MAX_SHARD_LINKS) / count ≡ i * len / count + MAX_SHARD_LINKS = add-mul-div_left (i * len) MAX_SHARD_LINKS some in
-        let up : (i + 1) * len / count ≤ (i * len + count * MAX_SHARD_LINKS) / count = div-mono ((i + 1) * len) (i * len + count * MAX_SHARD_LINKS) count some (omega (arith, next, more, fits)) in
-        omega (arith, sum, up),
+          let more : i * len + count * MAX_SHARD_LINKS ≡ i * len + MAX_SHARD_LINKS * count = ap (λ t. i * len + t) (mul_comm count MAX_SHARD_LINKS) in
+          let sum : (i * len + count * MAX_SHARD_LINKS) / count ≡ i * len / count + MAX_SHARD_LINKS = add-mul-div_left (i * len) MAX_SHARD_LINKS some in
+          let up : (i + 1) * len / count ≤ (i * len + count * MAX_SHARD_LINKS) / count = div-mono ((i + 1) * len) (i * len + count * MAX_SHARD_LINKS) count some (omega (arith, next, more, fits)) in
+          omega (arith, sum, up),
     )
   where
     div-mono : (a b c : ℕ) → 0 < c → a ≤ b → a / c ≤ b / c

@@ -5,7 +5,7 @@ ghost use Rattle.link_key.specs.Cut.{joined, links_at, spans_from, shards_at, Is
 
 use crate::links::Link;
 use crate::shards::Shard;
-use limits::{MAX_ARCS, MAX_SHARDS, MAX_SHARD_LINKS};
+use limits::{MAX_ARCS, MAX_SHARD_LINKS, MAX_SHARDS};
 use std::alloc::{AllocError, Allocator, Global};
 use std::marker::Model;
 

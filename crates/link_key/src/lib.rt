@@ -33,7 +33,7 @@ pub mod offered;
 pub mod plain;
 pub mod shards;
 
-pub use cuts::{check_even, check_places, Cut, CutFault};
+pub use cuts::{Cut, CutFault, check_even, check_places};
 pub use forests::Forest;
 pub use labellings::Labels;
 pub use links::Link;

@@ -135,7 +135,7 @@ named_by h l = (to, back)
         let some : slice_get h.shard names.place ≡ Some l = slice_get_read h.shard (length h.shard) names.place l refl names.within (sym names.here) in
         (flat_map_contains (λ (x : Offer). option_to_list (slice_get h.shard x.1)) h.offers l).1
         (any_from (λ (x : Offer). Contains (option_to_list (slice_get h.shard x.1)) l) h.offers (names.label, names.place) names.offered
-          (subst (λ (x : Option Link). Contains (option_to_list x) l) (sym some) (contains_head l [])))
+        (subst (λ (x : Option Link). Contains (option_to_list x) l) (sym some) (contains_head l [])))
 
 -- what stands in a list that is made element by element
 map_contains : {X Y : Type 0} (f : X → Y) (xs : List X) (x : X) → Contains xs x → Contains (map f xs) (f x)
@@ -161,7 +161,7 @@ same_named cut answers l = (to, back)
         let (a, a_in, is) = map_from (hearing_of cut) answers k h lt at in
         (flat_map_contains (λ (x : AnswerValue). named_links (links_at cut x.shard) x.offers) answers l).1
         (any_from (λ (x : AnswerValue). Contains (named_links (links_at cut x.shard) x.offers) l) answers a a_in
-          ((named_by (hearing_of cut a) l).1 (subst (λ (h : Hearing). Names h l) (sym is) names)))
+        ((named_by (hearing_of cut a) l).1 (subst (λ (h : Hearing). Names h l) (sym is) names)))
 
 -- what the offers of an answer name are links that leave a component
 pub offer_at : (links : List Link) (labels : List ℕ) (offers : List Offer) (i : ℕ) → i < length offers → list_all (is_offer links labels) offers ≡ true → IsOffered links labels (get_or offers i (0, 0)).1

@@ -70,11 +70,11 @@ counted labels seen l best best' end apart how are = record {
   least = λ c vertex. elim (cases_eq c (label_of labels l.low)) [
     | inl is ↦ subst (λ (d : ℕ). IsPickOf labels (Contains (seen ++ l ∷ [])) d (pick_of best' d)) (sym is)
         (pick_left labels seen (label_of labels l.low) l (pick_of best (label_of labels l.low)) (pick_of best' (label_of labels l.low)) (leaves_low labels l apart)
-          (are.least (label_of labels l.low) (subst (IsVertex (length labels)) is vertex)) how.low)
+        (are.least (label_of labels l.low) (subst (IsVertex (length labels)) is vertex)) how.low)
     | inr not_low ↦ elim (cases_eq c (label_of labels l.high)) [
       | inl is ↦ subst (λ (d : ℕ). IsPickOf labels (Contains (seen ++ l ∷ [])) d (pick_of best' d)) (sym is)
           (pick_left labels seen (label_of labels l.high) l (pick_of best (label_of labels l.high)) (pick_of best' (label_of labels l.high)) (leaves_high labels l apart)
-            (are.least (label_of labels l.high) (subst (IsVertex (length labels)) is vertex)) how.high)
+          (are.least (label_of labels l.high) (subst (IsVertex (length labels)) is vertex)) how.high)
       | inr not_high ↦ subst (IsPickOf labels (Contains (seen ++ l ∷ [])) c) (sym (how.others c vertex.0 not_low not_high))
           (pick_kept labels seen c l (pick_of best c) (λ leaves. elim (leaves_end labels l c leaves) [ inl is ↦ not_low is | inr is ↦ not_high is ]) (are.least c vertex))
     ]
@@ -142,16 +142,16 @@ set_counted labels l best x y x' y' are end len apart x_is x_lesser y_is y_lesse
     record {
       len = length-set best1 (b - 1) y' ∙ len1;
       low =
-        let new : get_or (set best1 (b - 1) y') (a - 1) None ≡ x' = get_or-set_other best1 (b - 1) (a - 1) y' None (λ same. differ (sym same)) ∙ get_or-set_same best (a - 1) x' None a_lt in
-        let old : get_or best (a - 1) None ≡ x = get_or_default best (a - 1) None x a_lt ∙ sym x_is in
-        rw (new, old) x_lesser;
+          let new : get_or (set best1 (b - 1) y') (a - 1) None ≡ x' = get_or-set_other best1 (b - 1) (a - 1) y' None (λ same. differ (sym same)) ∙ get_or-set_same best (a - 1) x' None a_lt in
+          let old : get_or best (a - 1) None ≡ x = get_or_default best (a - 1) None x a_lt ∙ sym x_is in
+          rw (new, old) x_lesser;
       high =
-        let new : get_or (set best1 (b - 1) y') (b - 1) None ≡ y' = get_or-set_same best1 (b - 1) y' None (omega (arith, b_lt, len1)) in
-        let old : get_or best (b - 1) None ≡ y = get_or_default best (b - 1) None y b_lt ∙ sym y_old in
-        rw (new, old) y_lesser;
+          let new : get_or (set best1 (b - 1) y') (b - 1) None ≡ y' = get_or-set_same best1 (b - 1) y' None (omega (arith, b_lt, len1)) in
+          let old : get_or best (b - 1) None ≡ y = get_or_default best (b - 1) None y b_lt ∙ sym y_old in
+          rw (new, old) y_lesser;
       others = λ c c_one not_low not_high.
-        get_or-set_other best1 (b - 1) (c - 1) y' None (λ same. not_high (omega (arith, same, c_one, b_one)))
-        ∙ get_or-set_other best (a - 1) (c - 1) x' None (λ same. not_low (omega (arith, same, c_one, a_one)));
+          get_or-set_other best1 (b - 1) (c - 1) y' None (λ same. not_high (omega (arith, same, c_one, b_one)))
+          ∙ get_or-set_other best (a - 1) (c - 1) x' None (λ same. not_low (omega (arith, same, c_one, a_one)));
       from = λ m picked. elim (picked_set best1 (b - 1) y' m picked) [
         | inl before ↦ elim (picked_set best (a - 1) x' m before) [
           | inl earlier ↦ inl earlier

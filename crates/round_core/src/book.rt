@@ -7,7 +7,7 @@ ghost use Rattle.round_theory.specs.Offers.{IsNamed};
 ghost use Rattle.round_core.specs.Page.{Page, opened, is_taken, missing, is_leaving, is_offer, refusal, heard, hearings, named_links};
 ghost use Rattle.round_core.specs.Picks.{ArePicks, AreNoPicks};
 
-use crate::picks::{count, Picks};
+use crate::picks::{Picks, count};
 use crate::refusals::Refusal;
 use frames::Answer;
 use limits::MAX_SHARDS;

@@ -1,7 +1,7 @@
 //! Lists of links cut into shards.
 ghost use Rattle.std.specs.Prelude.{◌≤◌, ◌^◌, length, IfOk};
 
-use link_key::{check_even, check_places, Cut, CutFault, Link};
+use link_key::{Cut, CutFault, Link, check_even, check_places};
 use std::alloc::{AllocError, Global};
 use std::process::Abort;
 use std::test::Fail;
@@ -19,7 +19,12 @@ fn path(rt: &impl Abort, alloc: Global, links: u32) -> Result<Vec<Link>, AllocEr
 }
 
 // The sizes of a cut's shards; each shard has its number, and joined together they are the links.
-fn sizes(rt: &impl Abort, alloc: Global, cut: &Cut, links: &[Link]) -> Result<Vec<usize>, AllocError> {
+fn sizes(
+    rt: &impl Abort,
+    alloc: Global,
+    cut: &Cut,
+    links: &[Link],
+) -> Result<Vec<usize>, AllocError> {
     let mut sizes = Vec::new(alloc);
     let mut joined = Vec::new(alloc);
     for number in 0..cut.len() {
@@ -63,9 +68,15 @@ fn refused_cuts(rt: HostRuntime) -> Result<(), Fail> {
     let links = path(&rt, alloc, 8)?;
     assert!(rt; links.len() <= 1 << 30);
     let links = links.as_slice();
-    assert_eq!(rt; Cut::at(alloc, links, &[3, 2]).err(), Some(CutFault::BadPlaces));
+    assert_eq!(rt;
+        Cut::at(alloc, links, &[3, 2]).err(),
+        Some(CutFault::BadPlaces)
+    );
     assert_eq!(rt; Cut::even(alloc, links, 0).err(), Some(CutFault::NoShards));
-    assert_eq!(rt; Cut::even(alloc, links, 4097).err(), Some(CutFault::TooManyShards));
+    assert_eq!(rt;
+        Cut::even(alloc, links, 4097).err(),
+        Some(CutFault::TooManyShards)
+    );
     assert_eq!(rt; check_even(16777217, 1), Err(CutFault::ShardTooLarge));
     assert_eq!(rt; check_even(16777217, 2), Ok(()));
     assert_eq!(rt; check_places(8, &[9]), Err(CutFault::BadPlaces));

@@ -28,7 +28,13 @@ const TRIANGLE: [Link; 3] = [
     },
 ];
 
-fn answer(rt: &impl Abort, alloc: Global, round: u32, shard: u32, pairs: &[(u32, u32)]) -> Result<Answer, Fail> {
+fn answer(
+    rt: &impl Abort,
+    alloc: Global,
+    round: u32,
+    shard: u32,
+    pairs: &[(u32, u32)],
+) -> Result<Answer, Fail> {
     let offers = Offers::of_pairs(pairs.to_vec(alloc)?).expect(rt, "ascending");
     Ok(Answer {
         round,
@@ -57,15 +63,36 @@ fn answers_judged(rt: HostRuntime) -> Result<(), Fail> {
     assert!(rt; has_ends_up_to(labels.n(), &cut));
     let mut book = RoundBook::open(alloc, 1, &cut, &labels)?;
     assert!(rt; book.len() == 1);
-    assert_eq!(rt; book.judge(0, &answer(&rt, alloc, 2, 7, &[(1, 9)])?), Err(Refusal::Stale));
-    assert_eq!(rt; book.judge(0, &answer(&rt, alloc, 1, 7, &[(1, 9)])?), Err(Refusal::Stranger));
-    assert_eq!(rt; book.judge(0, &answer(&rt, alloc, 1, 0, &[(1, 3)])?), Err(Refusal::NotALink));
-    assert_eq!(rt; book.judge(0, &answer(&rt, alloc, 1, 0, &[(1, 1)])?), Err(Refusal::NotALink));
+    assert_eq!(rt;
+        book.judge(0, &answer(&rt, alloc, 2, 7, &[(1, 9)])?),
+        Err(Refusal::Stale)
+    );
+    assert_eq!(rt;
+        book.judge(0, &answer(&rt, alloc, 1, 7, &[(1, 9)])?),
+        Err(Refusal::Stranger)
+    );
+    assert_eq!(rt;
+        book.judge(0, &answer(&rt, alloc, 1, 0, &[(1, 3)])?),
+        Err(Refusal::NotALink)
+    );
+    assert_eq!(rt;
+        book.judge(0, &answer(&rt, alloc, 1, 0, &[(1, 1)])?),
+        Err(Refusal::NotALink)
+    );
     assert_eq!(rt; book.judge(0, &answer(&rt, alloc, 1, 0, &[])?), Ok(()));
-    assert_eq!(rt; book.judge(0, &answer(&rt, alloc, 1, 0, &[(1, 0), (2, 0), (3, 1)])?), Ok(()));
+    assert_eq!(rt;
+        book.judge(0, &answer(&rt, alloc, 1, 0, &[(1, 0), (2, 0), (3, 1)])?),
+        Ok(())
+    );
     assert_eq!(rt; book.missing(), 1);
-    assert_eq!(rt; book.take(0, answer(&rt, alloc, 1, 0, &[(1, 0), (2, 0), (3, 2)])?), Ok(()));
+    assert_eq!(rt;
+        book.take(0, answer(&rt, alloc, 1, 0, &[(1, 0), (2, 0), (3, 2)])?),
+        Ok(())
+    );
     assert_eq!(rt; book.missing(), 0);
-    assert_eq!(rt; book.take(0, answer(&rt, alloc, 1, 0, &[(1, 0)])?), Err(Refusal::Double));
+    assert_eq!(rt;
+        book.take(0, answer(&rt, alloc, 1, 0, &[(1, 0)])?),
+        Err(Refusal::Double)
+    );
     Ok(())
 }

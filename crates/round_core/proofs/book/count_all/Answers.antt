@@ -33,9 +33,9 @@ loop-place-preserved c =
     record {
       each_vertex = c.count.auto.best ∙ c.loop-place.invariant.each_vertex;
       picks = λ seen are.
-        let next = append_assoc seen (named_links links (take i c.args.pairs.now)) (c.index-links-place.result ∷ []) ∙ ap (λ xs. seen ++ xs) (sym more) in
-        subst (λ (xs : List Link). ArePicks c.args.labels.now (Contains xs) c.count.new.best) next
-        (c.count.ensures (seen ++ named_links links (take i c.args.pairs.now)) (c.loop-place.invariant.picks seen are));
+          let next = append_assoc seen (named_links links (take i c.args.pairs.now)) (c.index-links-place.result ∷ []) ∙ ap (λ xs. seen ++ xs) (sym more) in
+          subst (λ (xs : List Link). ArePicks c.args.labels.now (Contains xs) c.count.new.best) next
+          (c.count.ensures (seen ++ named_links links (take i c.args.pairs.now)) (c.loop-place.invariant.picks seen are));
     }
 
 pub returns : goal.returns

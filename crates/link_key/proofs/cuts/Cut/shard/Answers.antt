@@ -15,7 +15,7 @@ returns-clause-links g c =
     let n = shards_length c.self.inside.links.now c.self.inside.places.items in
     let within : c.args.number < length (shards_at c.self.inside.links.now c.self.inside.places.items) = rw c.self.view_is c.requires in
     let is : links_at (shards_at c.self.inside.links.now c.self.inside.places.items) c.args.number ≡ slice_range c.self.inside.links.now c.span-from.result.0 c.span-from.result.1 =
-      rw (c.span-from.ensures.begins, c.span-from.ensures.ends, c.deref.ensures.value) (shard_from c.self.inside.links.now 0 c.self.inside.places.items c.args.number (omega (arith, n, within))) in
+    rw (c.span-from.ensures.begins, c.span-from.ensures.ends, c.deref.ensures.value) (shard_from c.self.inside.links.now 0 c.self.inside.places.items c.args.number (omega (arith, n, within))) in
     rw (← c.self.view_is) (sym is)
 
 pub returns-clause-small : goal.returns-clause-small
@@ -23,6 +23,6 @@ returns-clause-small g c =
     let n = shards_length c.self.inside.links.now c.self.inside.places.items in
     let within : c.args.number < length (shards_at c.self.inside.links.now c.self.inside.places.items) = rw c.self.view_is c.requires in
     let is : links_at (shards_at c.self.inside.links.now c.self.inside.places.items) c.args.number ≡ slice_range c.self.inside.links.now c.span-from.result.0 c.span-from.result.1 =
-      rw (c.span-from.ensures.begins, c.span-from.ensures.ends, c.deref.ensures.value) (shard_from c.self.inside.links.now 0 c.self.inside.places.items c.args.number (omega (arith, n, within))) in
+    rw (c.span-from.ensures.begins, c.span-from.ensures.ends, c.deref.ensures.value) (shard_from c.self.inside.links.now 0 c.self.inside.places.items c.args.number (omega (arith, n, within))) in
     let few : length (slice_range c.self.inside.links.now c.span-from.result.0 c.span-from.result.1) ≤ c.span-from.result.1 - c.span-from.result.0 = part_few c.self.inside.links.now c.span-from.result.0 c.span-from.result.1 in
     rw (← c.self.view_is, is) (omega (arith, few, c.span-from.ensures.small))

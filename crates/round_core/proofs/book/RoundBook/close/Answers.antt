@@ -52,10 +52,10 @@ loop-answer-preserved g c =
     let before : ArePicks c.as_slice.result.now (Contains seen) c.deref_mut.result.now = rw (c.as_slice.ensures.labels, c.deref_mut.ensures.value) c.loop-answer.invariant.picks in
     let counted : ArePicks c.as_slice.result.now (Contains (seen ++ named_links c.shard.result.links.now c.pairs.result.now)) c.count_all.new.best = c.count_all.ensures seen before in
     let here : ArePicks c.self.inside.labels.now (Contains (seen ++ named_links (links_at c.self.inside.cut.now c.answer.inside.shard) c.answer.inside.offers)) c.count_all.new.best =
-      rw (← c.as_slice.ensures.labels, ← c.shard.ensures.links, ← c.pairs.ensures.pairs) counted in
+    rw (← c.as_slice.ensures.labels, ← c.shard.ensures.links, ← c.pairs.ensures.pairs) counted in
     let a : AnswerValue = record { round = c.answer.inside.round; shard = c.answer.inside.shard; offers = c.answer.inside.offers } in
     let is : a ≡ get_or c.deref-answer-items.result.now c.loop-answer.answer-index a =
-      subst (λ (x : AnswerValue). x ≡ get_or c.deref-answer-items.result.now c.loop-answer.answer-index x) (sym c.answer.view_is) c.answer-item.is in
+    subst (λ (x : AnswerValue). x ≡ get_or c.deref-answer-items.result.now c.loop-answer.answer-index x) (sym c.answer.view_is) c.answer-item.is in
     let next = one_more_answer c.self.inside.cut.now c.deref-answer-items.result.now c.loop-answer.answer-index a c.loop-answer-test.true is in
     rw items (record {
       each_vertex = c.count_all.auto.best ∙ ap length c.deref_mut.ensures.value ∙ c.loop-answer.invariant.each_vertex;
@@ -67,6 +67,6 @@ returns g c =
     let items = c.self.inside.answers.items in
     let all : take c.loop-answer.answer-index c.deref-answer-items.result.now ≡ items = take_all c.loop-answer.answer-index c.deref-answer-items.result.now (omega (arith, c.loop-answer-test.false)) ∙ c.deref-answer-items.ensures.value in
     let seen : ArePicks c.self.inside.labels.now (Contains (all_named c.self.inside.cut.now items)) c.loop-answer.best.items =
-      subst (λ (xs : List AnswerValue). ArePicks c.self.inside.labels.now (Contains (all_named c.self.inside.cut.now xs)) c.loop-answer.best.items) all c.loop-answer.invariant.picks in
+    subst (λ (xs : List AnswerValue). ArePicks c.self.inside.labels.now (Contains (all_named c.self.inside.cut.now xs)) c.loop-answer.best.items) all c.loop-answer.invariant.picks in
     let named = picks_alike c.self.inside.labels.now (Contains (all_named c.self.inside.cut.now items)) (IsNamed (map (hearing_of c.self.inside.cut.now) items)) c.loop-answer.best.items (same_named c.self.inside.cut.now items) seen in
     record { picks = subst (λ (p : Page). ArePicks p.labels (IsNamed (hearings p)) c.loop-answer.best.items) c.self.view_is named }
