@@ -6,6 +6,10 @@
 //! several runs in microseconds, go to standard error.
 #![tactic(auto)]
 
+ghost use Rattle.std.specs.Prelude.{◌≤◌, ◌↔◌, length, IsTrue};
+ghost use Rattle.link_key.specs.Link.{EndsUpTo};
+
+use limits::MAX_SHARD_LINKS;
 use link_key::{Labels, Link};
 use std::alloc::{AllocError, Global};
 use std::time::{Duration, Instant};
@@ -51,7 +55,7 @@ fn time_scan(
     links: &[Link],
     labels: &Labels,
 ) -> anyhow::Result<(Duration, (usize, u64))> {
-    if !fits(links, labels.n()) {
+    if links.len() > MAX_SHARD_LINKS || !have_labels(links, labels.n()) {
         return Ok((Duration::MAX, (0, 0)));
     }
     let start = Instant::now(rt)?;
@@ -62,6 +66,13 @@ fn time_scan(
         places = places.wrapping_add(*place as u64);
     }
     Ok((took, (offers.pairs().len(), places)))
+}
+
+// Whether each end is one of so many vertices.
+fn have_labels(links: &[Link], n: u32) -> bool
+    ensures { IsTrue result ↔ EndsUpTo n links.now }
+{
+    links.iter().all(|link| link.high <= n)
 }
 
 // The next number of a fixed sequence.
