@@ -1,26 +1,29 @@
-// Links of an undirected graph, the order of their keys, and the minimum spanning forest; labels, offers and shards.
-//
-// What it promises:
-// - `Link::of_arc` forgets an arc's direction, and gives no link for a loop;
-// - links compare by their keys, so distinct links are never equal and a list has one forest;
-// - a `Forest` is an ascending list of links, each once;
-// - `plain_forest` gives exactly the forest: the links whose ends aren't joined by smaller ones;
-// - `Labels` of at most 2^26 vertices are from 1 to their vertices, and a label's label is itself; `Labels::apart`
-//   labels each vertex by itself;
-// - `Offers` are pairs of a component and a place, in strictly ascending order of the components;
-// - `Forest::of_list`, `Labels::of_list` and `Offers::of_pairs` give none exactly where a list isn't such a one;
-// - a `Shard` is links under a number, of which nothing is promised.
-//
-//     arc (u, v, w)  --Link::of_arc-->  Link  --sort-->  ascending  --take where labels differ-->  Forest
-//     labels of the vertices 1 to n  --Labels::of_list, or Labels::apart-->  Labels
-//     pairs (component, place)  --Offers::of_pairs-->  Offers
-//     number, links  --Shard { .. }-->  Shard
-//
-// Where to start a change: what is meant stands in `specs/` (`Link`, `Walk`, `Forest`, `Labels`, `Offers`), and the laws
-// that show it to be right in `laws`. `labellings` and `offered` say which lists are labels and offers. `plain` is the
-// solver, which keeps labels in `components`, seen as the list of the labels. Its proof follows `proofs/Growing`, which
-// knows nothing of tables, and `proofs/Tables`, which knows that list alone: another way to merge components needs only
-// another `proofs/Rings`.
+//! Links of an undirected graph, the order of their keys, and the minimum spanning forest; labels, offers, shards and
+//! cuts.
+//!
+//! What is promised:
+//!
+//! - `Link::of_arc` forgets an arc's direction, and gives no link for a loop;
+//! - links compare by their keys, so distinct links are never equal and a list has one forest;
+//! - a `Forest` is an ascending list of links, each once;
+//! - [`plain_forest`] gives exactly the forest: the links whose ends aren't joined by smaller ones;
+//! - `Labels` are from 1 to their vertices, and a label's label is itself; `Labels::apart` labels each vertex by itself;
+//! - `Offers` are pairs of a component and a place, in strictly ascending order of the components;
+//! - `Forest::of_list`, `Labels::of_list` and `Offers::of_pairs` give none exactly where a list isn't such a one;
+//! - the shards of a [`Cut`], one behind the other, are the list that was cut; a cut that isn't allowed has its cause.
+//!
+//! ```text
+//!   arc (u, v, w)  --Link::of_arc-->  Link  --sort-->  ascending  --take where labels differ-->  Forest
+//!   labels of the vertices 1 to n  --Labels::of_list, or Labels::apart-->  Labels
+//!   pairs (component, place)  --Offers::of_pairs-->  Offers
+//!   list of links  --Cut::even, Cut::at-->  Cut  --shard(number)-->  Shard
+//! ```
+//!
+//! Where to start a change: what is meant stands in `specs/` (`Link`, `Walk`, `Forest`, `Labels`, `Offers`, `Cut`), and
+//! the laws that show it to be right in `laws`. `labellings` and `offered` say which lists are labels and offers, `cuts`
+//! where a list is cut. `plain` is the solver, which keeps labels in `components`, seen as the list of the labels. Its
+//! proof follows `proofs/Growing`, which knows nothing of tables, and `proofs/Tables`, which knows that list alone:
+//! another way to merge components needs only another `proofs/Rings`.
 #![tactic(auto)]
 
 mod components;
