@@ -1,6 +1,7 @@
 -- Components of a graph, each a ring of its members.
 use Rattle.std.specs.Prelude.{◌≡◌, ◌≢◌, ℕ, zero, suc, ◌+◌, ◌<◌, ◌≤◌, ◌⊎◌, ◌^◌, ◌==◌, if◌then◌else◌, List, length, slice_index, EachIndex}
 use Rattle.std.specs.List.{sum}
+use Rattle.limits.specs.declared.TheConstants.{MAX_VERTICES}
 use Rattle.link_key.specs.declared.links.Link.{Link}
 
 -- the labels once what had the label `from` was given the label `to`
@@ -31,7 +32,7 @@ pub record IsRing (labels next : List ℕ) (c size : ℕ) : Type 0 where
 
 -- each vertex is in the ring of its label
 pub record AreRings (labels next sizes : List ℕ) : Type 0 where
-  pub few : length labels ≤ 2 ^ 26 + 1
+  pub few : length labels ≤ MAX_VERTICES + 1
   pub next_len : length next ≡ length labels
   pub sizes_len : length sizes ≡ length labels
   pub total : sum sizes ≤ length labels

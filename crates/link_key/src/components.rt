@@ -1,8 +1,9 @@
-ghost use Rattle.std.specs.Prelude.{◌≡◌, ◌≢◌, ℕ, ◌+◌, ◌<◌, ◌≤◌, ◌⊎◌, ◌^◌, ◌==◌, if◌then◌else◌, length, slice_index, EachIndex, IfOk, IsTrue};
+ghost use Rattle.std.specs.Prelude.{◌≡◌, ◌≢◌, ℕ, ◌+◌, ◌<◌, ◌≤◌, ◌⊎◌, ◌==◌, if◌then◌else◌, length, slice_index, EachIndex, IfOk, IsTrue};
 ghost use Rattle.std.specs.List.{All};
 ghost use Rattle.link_key.specs.Components.{IsRelabelled, nth_after, IsLabelledAlong, HasOneLabel};
 
 use crate::links::Link;
+use limits::MAX_VERTICES;
 use std::alloc::{AllocError, Allocator};
 use std::marker::Model;
 
@@ -32,7 +33,7 @@ impl<A: Allocator> Model for Components<A> {
 impl<A: Allocator + Copy> Components<A> {
     // Each of the numbers 0 to n by itself.
     pub(crate) fn apart(alloc: A, n: u32) -> Result<Self, AllocError>
-        requires { n ≤ 2 ^ 26 }
+        requires { n ≤ MAX_VERTICES }
         ensures len { IfOk result (λ labels. length labels ≡ n + 1) }
         ensures own { IfOk result (λ labels. EachIndex labels (λ v. slice_index labels v ≡ v)) }
     {
@@ -110,7 +111,7 @@ impl<A: Allocator> Components<A> {
 
 // The numbers 0 to n.
 fn own_numbers<A: Allocator + Copy>(alloc: A, n: u32) -> Result<Vec<u32, A>, AllocError>
-    requires { n ≤ 2 ^ 26 }
+    requires { n ≤ MAX_VERTICES }
     ensures len { IfOk result (λ numbers. length numbers.items ≡ n + 1) }
     ensures own { IfOk result (λ numbers. EachIndex numbers.items (λ v. slice_index numbers.items v ≡ v)) }
 {

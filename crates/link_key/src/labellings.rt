@@ -1,13 +1,14 @@
 ghost use Rattle.std.specs.Prelude.{◌≡◌, ℕ, ◌+◌, ◌<◌, ◌≤◌, ◌^◌, ◌↔◌, length, slice_index, IsSome, IfSome, IfOk, IsTrue};
 ghost use Rattle.link_key.specs.Labels.{label_of, IsLabelled, AreLabels, AreApart};
 
+use limits::MAX_VERTICES;
 use std::alloc::{AllocError, Allocator, Global};
 use std::marker::Model;
 
 /// Labels of the vertices 1 to n of a graph: vertices with one label are one component.
 ///
 /// A label is from 1 to its vertex, and a label's label is itself, so each component is named by one of its
-/// vertices. At most 2^26 vertices, 4 bytes each.
+/// vertices. At most `MAX_VERTICES` vertices, 4 bytes each.
 #[derive(Drop)]
 pub struct Labels<A: Allocator = Global> {
     labels: Vec<u32, A>,
@@ -27,7 +28,7 @@ impl<A: Allocator> Model for Labels<A> {
 impl<A: Allocator + Copy> Labels<A> {
     /// Each of the vertices 1 to `n` labelled by itself. The only error is want of memory.
     pub fn apart(alloc: A, n: u32) -> Result<Self, AllocError>
-        requires { n ≤ 2 ^ 26 }
+        requires { n ≤ MAX_VERTICES }
         ensures apart { IfOk result (AreApart n) }
     {
         let mut labels = Vec::with_capacity(alloc, n as usize)?;
@@ -40,7 +41,7 @@ impl<A: Allocator + Copy> Labels<A> {
 
 impl<A: Allocator> Labels<A> {
     /// The labels of a list, in the order of the vertices; none, and the list is dropped, where they are no such
-    /// labels or more than 2^26. It looks at each label once and where that points, takes no memory and keeps the
+    /// labels or more than `MAX_VERTICES`. It looks at each label once and where that points, takes no memory and keeps the
     /// list's.
     pub fn of_list(labels: Vec<u32, A>) -> Option<Self>
         ensures exactly_labels { IsSome result ↔ AreLabels labels.items }
@@ -89,7 +90,7 @@ const PIECE: usize = 256;
 fn are_labels(labels: &[u32]) -> bool
     ensures { IsTrue result ↔ AreLabels labels.now }
 {
-    if labels.len() > 1 << 26 {
+    if labels.len() > MAX_VERTICES as usize {
         return false;
     }
     let fours = labels.len() / 4;
@@ -108,7 +109,7 @@ fn are_labels(labels: &[u32]) -> bool
 
 // How many labels at the front are their vertices' own, by whole pieces.
 fn own_front(labels: &[u32]) -> usize
-    requires { length labels.now ≤ 2 ^ 26 }
+    requires { length labels.now ≤ MAX_VERTICES }
     ensures front { result ≤ length labels.now }
     ensures own { (v : ℕ) → 1 ≤ v → v ≤ result → label_of labels.now v ≡ v }
 {
@@ -142,7 +143,7 @@ fn are_own(piece: &[u32], before: u32) -> bool
 fn are_four_labelled(labels: &[u32], v: usize) -> bool
     requires from_one { 1 ≤ v }
     requires to_n { v + 3 ≤ length labels.now }
-    requires few_vertices { length labels.now ≤ 2 ^ 26 }
+    requires few_vertices { length labels.now ≤ MAX_VERTICES }
     ensures { IsTrue result ↔ (IsLabelled labels.now v × IsLabelled labels.now (v + 1)
         × IsLabelled labels.now (v + 2) × IsLabelled labels.now (v + 3)) }
 {
@@ -158,7 +159,7 @@ fn are_four_labelled(labels: &[u32], v: usize) -> bool
 fn is_labelled(labels: &[u32], v: usize) -> bool
     requires from_one { 1 ≤ v }
     requires to_n { v ≤ length labels.now }
-    requires few_vertices { v ≤ 2 ^ 26 }
+    requires few_vertices { v ≤ MAX_VERTICES }
     ensures { IsTrue result ↔ IsLabelled labels.now v }
 {
     let label = labels[v - 1];

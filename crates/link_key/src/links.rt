@@ -1,11 +1,14 @@
-ghost use Rattle.std.specs.Prelude.{◌≡◌, ℕ, ◌<◌, ◌≤◌, ◌^◌, ◌↔◌, IsNone, IfSome, min, max, FitsSigned};
+ghost use Rattle.std.specs.Prelude.{◌≡◌, ℕ, ◌<◌, ◌≤◌, ◌↔◌, IsNone, IfSome, min, max, FitsSigned};
 ghost use Rattle.std.specs.Int.{w32};
+ghost use Rattle.limits.specs.declared.TheConstants.{MAX_VERTICES};
+
+use limits::MAX_VERTICES;
 
 /// A link of an undirected graph: two different vertices, the lower one first, and a weight.
 ///
 /// Links compare by their keys: the weight, then the lower end, then the higher end. So links that are equal are
 /// one link, and two links between the same vertices differ in their weights. The vertices are numbered from 1 to
-/// at most 2^26.
+/// at most `MAX_VERTICES`.
 #[derive(Clone, Copy, Debug, PartialEq, Eq, PartialOrd, Ord, Hash)]
 pub struct Link {
     pub weight: i32,
@@ -13,7 +16,7 @@ pub struct Link {
     pub high: u32,
     ghost from_one: { 1 ≤ low },
     ghost ascending: { low < high },
-    ghost in_limit: { high ≤ 2 ^ 26 },
+    ghost in_limit: { high ≤ MAX_VERTICES },
     ghost weight_fits: { FitsSigned w32 weight },
 }
 
@@ -24,9 +27,9 @@ impl Link {
     /// a vertex to itself. It takes no memory.
     pub fn of_arc(u: u32, v: u32, w: i32) -> Option<Link>
         requires tail_from_one { 1 ≤ u }
-        requires tail_in_limit { u ≤ 2 ^ 26 }
+        requires tail_in_limit { u ≤ MAX_VERTICES }
         requires head_from_one { 1 ≤ v }
-        requires head_in_limit { v ≤ 2 ^ 26 }
+        requires head_in_limit { v ≤ MAX_VERTICES }
         ensures none_for_a_loop { IsNone result ↔ (u ≡ v) }
         ensures key { IfSome result (λ l. key_of l ≡ arc_key (record { tail = u; head = v; weight = w })) }
     {

@@ -43,6 +43,7 @@ pub record SoFar (worker : ℕ) (shelf : Shelf) (served : Served) (source source
 abbrev heard_of : (worker : ℕ) (frames replies : List FrameValue) → AreLawful frames → AreReplies empty_shelf frames replies → Heard worker
 heard_of worker frames replies lawful answered = record {
   frames = frames;
+  lawful = lawful;
   out = text_of (HelloFrame 1 worker) ++ texts_of replies;
   serves = record { frames = frames; replies = replies; heard = frames_of_texts frames lawful; answered = answered; written = refl };
 }

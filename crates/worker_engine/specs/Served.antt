@@ -4,7 +4,7 @@ use Rattle.byte_streams.specs.Streams.{SourceState, Gave, SinkState, Took}
 use Rattle.link_key.specs.declared.links.Link.{Link}
 use Rattle.frames.specs.FrameValue.{FrameValue, ShardFrame, AskFrame, AnswerFrame, FaultFrame}
 use Rattle.frames.specs.FrameText.{text_of}
-use Rattle.frames.specs.FrameStream.{texts_of}
+use Rattle.frames.specs.FrameStream.{texts_of, AreLawful}
 use Rattle.frames.specs.Refusals.{StreamRefused}
 use Rattle.frames.specs.ReadFault.{failures_of, ends_of}
 use Rattle.frames.specs.declared.fault.FrameFault.{FrameFault}
@@ -36,6 +36,7 @@ faults_in (v ∷ frames) = fault_bit v + faults_in frames
 -- the whole lawful frames that a session heard, and what it owes for them
 pub record Heard (worker : ℕ) : Type 0 where
   pub frames : List FrameValue
+  pub lawful : AreLawful frames
   pub out : List ℕ
   pub serves : Serves worker (texts_of frames) out
 
