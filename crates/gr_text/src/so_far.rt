@@ -36,7 +36,7 @@ impl<A: Allocator> SoFar<A> {
     }
 
     /// Takes one more line, of this number. It fails with the fault of the line, or with `Memory` where its
-    /// link finds none; then nothing is taken of it.
+    /// link finds none; nothing is read behind it.
     pub fn take_line(&mut self, number: u64, line: Line) -> Result<(), ReadFault>
         requires { IsSound self.old.size self.old.count self.old.links.items }
         ensures sound { IsSound self.new.size self.new.count self.new.links.items }

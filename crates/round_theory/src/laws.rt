@@ -36,8 +36,8 @@ pub fn rounds_end_with_forest()
     ensures forest { ForestFromThenOn }
 {}
 
-/// At most the logarithm of n rounds merge anything: a component that a link still leaves after i rounds has at least
-/// 2^i vertices, since each round joins every component that a link leaves to another one.
+/// At most the logarithm of n rounds merge anything: each round joins every component that a link leaves to
+/// another one, so the number of such components halves at least.
 pub fn rounds_double_components()
     ensures at_most { RoundsAtMostLogarithm }
     ensures in_time { MergingRoundIsInTime }
