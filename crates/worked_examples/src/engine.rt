@@ -1,10 +1,12 @@
 // A worker's engine over a triangle of equal weights: its scan, what it hears, and whole sessions.
-use byte_streams::FusedSource;
-use frames::FrameFault;
+use crate::graphs::links_of;
+use byte_streams::{FusedSink, FusedSource};
+use frames::{Answer, Frame, FrameFault, encode, encode_ask, encode_shard, read_frame};
+use link_key::{Labels, Link, Offers, Shard};
 use std::alloc::{AllocError, Global};
 use std::process::Abort;
 use std::test::Fail;
-use worker_engine::{ServeFault, Served, serve, serve_upto};
+use worker_engine::{Engine, ServeFault, Served, scan, serve, serve_upto};
 
 const HELLO: [u8; 11] = [1, 0, 0, 0, 6, 0, 1, 0, 0, 0, 0];
 
@@ -122,4 +124,232 @@ fn a_torn_ask(rt: HostRuntime) -> Result<(), Fail> {
 fn a_hello_is_heard_and_not_replied_to(rt: HostRuntime) -> Result<(), Fail> {
     let heard: [&[u8]; 3] = [&HELLO, &SHARD, &ASK];
     expect_session(&rt, rt.alloc(), &heard, served(3, 1, 0), &[&HELLO, &ANSWER])
+}
+
+// Another list of links for shard 0: vertices 1 and 2, linked by the weight 7.
+const ANOTHER_SHARD: [u8; 25] = [
+    2, 0, 0, 0, 20, 0, 0, 0, 0, 0, 0, 0, 1, 0, 0, 0, 1, 0, 0, 0, 2, 0, 0, 0, 7,
+];
+
+const ANOTHER_ANSWER: [u8; 33] = [
+    4, 0, 0, 0, 28, 0, 0, 0, 1, 0, 0, 0, 0, 0, 0, 0, 2, 0, 0, 0, 1, 0, 0, 0, 0, 0, 0, 0, 2, 0, 0,
+    0, 0,
+];
+
+#[test]
+fn a_scan_of_the_triangle(rt: HostRuntime) -> Result<(), Fail> {
+    let arcs = [(1, 2, 5), (2, 3, 5), (1, 3, 5)];
+    let links = links_of(&rt, rt.alloc(), 3, &arcs)?;
+    let labels = Labels::apart(rt.alloc(), 3)?;
+    assert!(rt; links.len() <= 1 << 24);
+    let offers = scan(rt.alloc(), links.as_slice(), &labels)?;
+    assert_eq!(rt; offers.pairs(), [(1, 0), (2, 0), (3, 2)].as_slice());
+    Ok(())
+}
+
+// The engine hears the frame with these bytes, and replies so, if it replies.
+fn expect_reply(
+    rt: &impl Abort,
+    alloc: Global,
+    engine: &mut Engine,
+    heard: &[u8],
+    reply: Option<&[u8]>,
+) -> Result<(), Fail> {
+    let mut source = heard;
+    let frame = read_frame(alloc, &mut source)?;
+    match (engine.hear(frame)?, reply) {
+        (Some(told), Some(bytes)) => {
+            assert!(rt; told.is_lawful());
+            assert_eq!(rt; encode(alloc, &told)?.as_slice(), bytes);
+        }
+        (told, expected) => assert!(rt; told.is_none() && expected.is_none()),
+    }
+    Ok(())
+}
+
+#[test]
+fn an_engine_hears_each_kind_of_frame(rt: HostRuntime) -> Result<(), Fail> {
+    let alloc = rt.alloc();
+    let mut engine = Engine::new(alloc);
+    expect_reply(&rt, alloc, &mut engine, &ASK, Some(&NOT_HELD))?;
+    expect_reply(&rt, alloc, &mut engine, &SHARD, None)?;
+    expect_reply(&rt, alloc, &mut engine, &ASK, Some(&ANSWER))?;
+    expect_reply(&rt, alloc, &mut engine, &SHORT_ASK, Some(&NO_LABEL))?;
+    expect_reply(&rt, alloc, &mut engine, &HELLO, None)?;
+    expect_reply(&rt, alloc, &mut engine, &ANSWER, None)?;
+    expect_reply(&rt, alloc, &mut engine, &NOT_HELD, None)?;
+    expect_reply(&rt, alloc, &mut engine, &ASK, Some(&ANSWER))
+}
+
+#[test]
+fn a_shard_that_is_sent_again_stands_in_place_of_the_first(rt: HostRuntime) -> Result<(), Fail> {
+    let heard: [&[u8]; 4] = [&SHARD, &ASK, &ANOTHER_SHARD, &ASK];
+    let written: [&[u8]; 3] = [&HELLO, &ANSWER, &ANOTHER_ANSWER];
+    expect_session(&rt, rt.alloc(), &heard, served(4, 2, 0), &written)
+}
+
+#[test]
+fn an_ask_torn_at_each_byte(rt: HostRuntime) -> Result<(), Fail> {
+    let torn = Err(ServeFault::Read(FrameFault::Torn));
+    for count in 1..29 {
+        let heard: [&[u8]; 3] = [&SHARD, &ASK, &ASK[..count]];
+        expect_session(&rt, rt.alloc(), &heard, torn, &[&HELLO, &ANSWER])?;
+    }
+    Ok(())
+}
+
+// The source gives the shard and the ask and so many bytes of the next ask, and then fails.
+#[test]
+fn reads_that_fail_in_mid_session(rt: HostRuntime) -> Result<(), Fail> {
+    for count in 0..29 {
+        let bytes = joined(rt.alloc(), &[&SHARD, &ASK, &ASK])?;
+        let mut source = FusedSource::new(bytes, 78 + count, 5);
+        let mut sink = Vec::new(rt.alloc());
+        let end = serve(rt.alloc(), 0, &mut source, &mut sink);
+        assert_eq!(rt; end, Err(ServeFault::Read(FrameFault::Device)));
+        assert_eq!(rt;
+            sink.as_slice(),
+            joined(rt.alloc(), &[&HELLO, &ANSWER])?.as_slice()
+        );
+    }
+    Ok(())
+}
+
+// A session ends at a write, and the sink has taken this.
+fn expect_cut(
+    rt: &impl Abort,
+    alloc: Global,
+    mut sink: FusedSink,
+    taken: &[u8],
+) -> Result<(), Fail> {
+    let bytes = joined(alloc, &[&SHARD, &ASK])?;
+    let mut source = bytes.as_slice();
+    let end = serve(alloc, 0, &mut source, &mut sink);
+    assert_eq!(rt; end, Err(ServeFault::Write));
+    assert_eq!(rt; sink.held(), taken);
+    Ok(())
+}
+
+// The hello and the answer are 52 bytes, of which the sink takes these many.
+#[test]
+fn writes_that_fail_in_mid_session(rt: HostRuntime) -> Result<(), Fail> {
+    let owed = joined(rt.alloc(), &[&HELLO, &ANSWER])?;
+    for count in [0, 1, 7, 10, 11, 12, 24, 51] {
+        assert!(rt; count < owed.len());
+        let taken = &owed[..count];
+        let failing = FusedSink::new(rt.alloc(), count, 7)?;
+        expect_cut(&rt, rt.alloc(), failing, taken)?;
+        let stopping = FusedSink::stopped(rt.alloc(), count, 7)?;
+        expect_cut(&rt, rt.alloc(), stopping, taken)?;
+    }
+    Ok(())
+}
+
+const MANY: u32 = 10_000;
+
+// Links between 10,000 vertices. The last 3,000 are repeats of the first, and each weight is that of hundreds.
+fn many_links(rt: &impl Abort, alloc: Global) -> Result<Vec<Link>, AllocError> {
+    let mut arcs = Vec::new(alloc);
+    for i in 0..MANY {
+        let j = i % 7000;
+        let tail = j.wrapping_mul(7919) % MANY + 1;
+        let head = j.wrapping_mul(j) % 9973 + 1;
+        let weight = j.wrapping_mul(31) % 17;
+        arcs.push((tail, head, weight.cast_signed().wrapping_sub(8)))?;
+    }
+    links_of(rt, alloc, MANY, arcs.as_slice())
+}
+
+// The vertices up to 5,000 make components of fifty, and each greater one is a component by itself.
+fn many_labels(rt: &impl Abort, alloc: Global) -> Result<Labels, Fail> {
+    let mut list = Vec::new(alloc);
+    for i in 0..MANY {
+        let first = if i < 5000 { i.wrapping_sub(i % 50) } else { i };
+        list.push(first.wrapping_add(1))?;
+    }
+    Ok(Labels::of_list(list).expect(rt, "labels"))
+}
+
+// The offers by a plain program: the links in ascending order, those that are equal by their places, of which the
+// first that leaves a component is offered for it.
+fn plain_offers(
+    rt: &impl Abort,
+    alloc: Global,
+    links: &[Link],
+    labels: &Labels,
+) -> Result<Vec<(u32, u32)>, Fail> {
+    let mut sorted = Vec::new(alloc);
+    for (place, link) in links.iter().enumerate() {
+        sorted.push((*link, place as u32))?;
+    }
+    sorted.as_mut_slice().sort_unstable();
+    let labels = labels.as_slice();
+    let mut firsts = Vec::from_elem(alloc, None, labels.len())?;
+    for (link, place) in &sorted {
+        assert!(rt; (link.low as usize) <= labels.len() && (link.high as usize) <= labels.len());
+        let low = labels[link.low as usize - 1] as usize;
+        let high = labels[link.high as usize - 1] as usize;
+        assert!(rt; 1 <= low && low <= firsts.len() && 1 <= high && high <= firsts.len());
+        if low != high {
+            firsts[low - 1] = firsts[low - 1].or(Some(*place));
+            firsts[high - 1] = firsts[high - 1].or(Some(*place));
+        }
+    }
+    let mut pairs = Vec::new(alloc);
+    for (before, first) in firsts.iter().enumerate() {
+        if let Some(place) = *first {
+            pairs.push(((before as u32).wrapping_add(1), place))?;
+        }
+    }
+    Ok(pairs)
+}
+
+// Another program counted the offers, and told these of them.
+fn expect_known(rt: &impl Abort, pairs: &[(u32, u32)]) {
+    assert_eq!(rt; pairs.len(), 4358);
+    assert_eq!(rt;
+        &pairs[..3],
+        [(1, 5184), (51, 6986), (101, 2549)].as_slice()
+    );
+    assert_eq!(rt; pairs[2179], (7418, 5142));
+    let last = [(9998, 6962), (9999, 4641), (10_000, 2320)];
+    assert_eq!(rt; &pairs[4355..], last.as_slice());
+}
+
+#[test]
+fn a_scan_of_ten_thousand_links(rt: HostRuntime) -> Result<(), Fail> {
+    let links = many_links(&rt, rt.alloc())?;
+    let labels = many_labels(&rt, rt.alloc())?;
+    let expected = plain_offers(&rt, rt.alloc(), links.as_slice(), &labels)?;
+    expect_known(&rt, expected.as_slice());
+    assert!(rt; links.len() == 9998 && labels.n() == MANY);
+    let offers = scan(rt.alloc(), links.as_slice(), &labels)?;
+    assert_eq!(rt; offers.pairs(), expected.as_slice());
+    Ok(())
+}
+
+#[test]
+fn a_session_over_ten_thousand_links(rt: HostRuntime) -> Result<(), Fail> {
+    let alloc = rt.alloc();
+    let links = many_links(&rt, alloc)?;
+    let labels = many_labels(&rt, alloc)?;
+    let expected = plain_offers(&rt, alloc, links.as_slice(), &labels)?;
+    expect_known(&rt, expected.as_slice());
+    let shard = Shard {
+        number: 3,
+        links: links.as_slice(),
+    };
+    assert!(rt; shard.links.len() == 9998);
+    let heard = encode_shard(alloc, &shard)?;
+    let ask = encode_ask(alloc, 1, 3, &labels)?;
+    let answer = Frame::Answer(Answer {
+        round: 1,
+        shard: 3,
+        offers: Offers::of_pairs(expected).expect(&rt, "ascending"),
+    });
+    assert!(rt; answer.is_lawful());
+    let text = encode(alloc, &answer)?;
+    let parts: [&[u8]; 3] = [heard.as_slice(), ask.as_slice(), ask.as_slice()];
+    let written: [&[u8]; 3] = [&HELLO, text.as_slice(), text.as_slice()];
+    expect_session(&rt, alloc, &parts, served(3, 2, 0), &written)
 }

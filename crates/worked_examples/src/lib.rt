@@ -13,6 +13,7 @@
 //!   writing         forest texts, and how much of one went out
 //!   plain_runs      a file to its forest text
 //!   frames_codec    frames and their bytes, and each refusal
+//!   engine          a worker's scan, what its engine hears, whole sessions
 //!   board           claims of shards, by one seat and by many
 //!   sizes           each call past the size of every inner piece
 //!   fault_texts     what each fault is told as

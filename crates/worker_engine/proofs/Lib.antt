@@ -3,3 +3,4 @@ pub mod Offering
 pub mod Replying
 pub mod Sessions
 pub mod Steps
+pub mod Worked

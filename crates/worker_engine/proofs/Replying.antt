@@ -1,18 +1,22 @@
 -- Replies to frames, one after the other.
 use Rattle.std.proofs.Common.{◌≡◌, ℕ, ◌+◌, ◌<◌, ◌≤◌, ◌^◌, Option, Some, None, List, [], ◌∷◌, ◌++◌, length, refl, sym, ap, subst, ◌∙◌, inl, inr, append_assoc, append-nil, arith}
-use Rattle.std.specs.Prelude.{IfSome, ◌==◌, if◌then◌else◌}
+use Rattle.std.specs.Prelude.{◌↔◌, ◌⊎◌, IfSome, IsSome, ◌==◌, if◌then◌else◌}
 use Rattle.std.proofs.lemmas.Bool.{eq-eqb, ne_eqb}
 use Rattle.std.proofs.lemmas.Bool.Decides.{eqb_tells}
 use Rattle.std.proofs.lemmas.List.{length-append}
 use Rattle.limits.specs.declared.TheConstants.{MAX_SHARD_LINKS}
 use Rattle.link_key.specs.declared.links.Link.{Link}
+use Rattle.link_key.specs.Link.{EndsUpTo}
+use Rattle.link_key.specs.Offers.{Offer}
+use Rattle.round_theory.proofs.LightOffers.{light_offers_unique}
+use Rattle.frames.specs.AnswerValue.{AnswerValue}
 use Rattle.frames.specs.FrameValue.{FrameValue, HelloFrame, ShardFrame, AskFrame, AnswerFrame, FaultFrame}
 use Rattle.frames.specs.FrameText.{text_of}
 use Rattle.frames.specs.Lawful.{IsLawful, IsAsk, IsFault}
 use Rattle.frames.specs.FrameStream.{texts_of, AreLawful, AreFramesOf}
 use Rattle.frames.proofs.Texts.{parts_same}
 use Rattle.frames.proofs.FrameStreams.{texts-append, lawful-append, lawful_prefix, prefix_has_prefix_frames}
-use Rattle.worker_engine.specs.Serving.{Shelf, empty_shelf, shelf_with, shelf_after, AreShort, IsReply, IsWantOfMemory, MayReply, AreReplyTo, MayFollow, AreReplies, Serves, ask_bit, asks_in}
+use Rattle.worker_engine.specs.Serving.{Shelf, empty_shelf, shelf_with, shelf_after, AreShort, IsAnswerTo, IsReply, IsWantOfMemory, MayReply, AreReplyTo, MayFollow, AreReplies, Serves, ask_bit, asks_in}
 use Rattle.worker_engine.proofs.Offering.{light_answer_is_lawful}
 
 -- what is written for frames that stand behind others comes behind what is written for those
@@ -144,3 +148,57 @@ replies_lawful shelf (v ∷ fs) out short lawful are =
 -- what a session may write is a hello and lawful frames
 pub served_lawful : (worker : ℕ) (stream out : List ℕ) (serves : Serves worker stream out) → AreLawful serves.replies
 served_lawful worker stream out serves = replies_lawful empty_shelf serves.frames serves.replies (λ s. tt) serves.heard.lawful serves.answered
+
+-- ---- there is one reply to an ask
+
+abbrev answer_of : ℕ → ℕ → List Offer → AnswerValue
+answer_of round shard offers = record { round = round; shard = shard; offers = offers }
+
+-- there is one answer
+pub one_answer : (links : List Link) (r s : ℕ) (ls : List ℕ) (a b : AnswerValue) → IsAnswerTo links r s ls a → IsAnswerTo links r s ls b → a ≡ b
+one_answer links r s ls a b is also =
+    ap (λ (n : ℕ). answer_of n a.shard a.offers) (is.round_is ∙ sym also.round_is)
+    ∙ ap (λ (n : ℕ). answer_of b.round n a.offers) (is.shard_is ∙ sym also.shard_is)
+    ∙ ap (answer_of b.round b.shard) (light_offers_unique links ls a.offers b.offers is.light also.light)
+
+-- the reply for a shard that is kept is an answer or code 3
+pub kept_reply : (links : List Link) (r s : ℕ) (ls : List ℕ) (v : FrameValue) → IsReply (Some links) r s ls v
+    → ((a : AnswerValue) × (v ≡ AnswerFrame a) × IsAnswerTo links r s ls a) ⊎ ((v ≡ FaultFrame r s 3) × ¬ EndsUpTo (length ls) links)
+kept_reply links r s ls (AnswerFrame a) is = inl (a, refl, is)
+kept_reply links r s ls (HelloFrame v w) is = inr is
+kept_reply links r s ls (ShardFrame n ms) is = inr is
+kept_reply links r s ls (AskFrame q t ms) is = inr is
+kept_reply links r s ls (FaultFrame q t c) is = inr is
+
+pub one_reply : (kept : Option (List Link)) (r s : ℕ) (ls : List ℕ) (v w : FrameValue) → IsReply kept r s ls v → IsReply kept r s ls w → v ≡ w
+one_reply None r s ls v w is also = is ∙ sym also
+one_reply (Some links) r s ls v w is also = elim (kept_reply links r s ls v is) [
+  | inl (a, v_is, one) ↦ elim (kept_reply links r s ls w also) [
+    | inl (b, w_is, two) ↦ v_is ∙ ap AnswerFrame (one_answer links r s ls a b one two) ∙ sym w_is
+    | inr (w_is, none) ↦ absurd (none one.ends)
+  ]
+  | inr (v_is, none) ↦ elim (kept_reply links r s ls w also) [
+    | inl (b, w_is, two) ↦ absurd (none two.ends)
+    | inr (w_is, unmet) ↦ v_is ∙ sym w_is
+  ]
+]
+
+-- code 1 stands for a shard that is kept, and for no other
+abbrev code_of : List FrameValue → ℕ
+code_of (FaultFrame r s c ∷ vs) = c
+code_of vs = 0
+
+code_one : (kept : Option (List Link)) (r s : ℕ) (ls : List ℕ)
+    → ((v : FrameValue) × (FaultFrame r s 1 ∷ [] ≡ v ∷ []) × MayReply kept r s ls v) ↔ IsSome kept
+code_one None r s ls = (there, back)
+  where
+    there : ((v : FrameValue) × (FaultFrame r s 1 ∷ [] ≡ v ∷ []) × MayReply None r s ls v) → IsSome {T = List Link} None
+    there (v, one, inl is) = let code : 1 ≡ 2 = ap code_of (one ∙ ap (λ (w : FrameValue). w ∷ []) is) in absurd (omega (arith, code))
+    there (v, one, inr is) = absurd is
+
+    back : IsSome {T = List Link} None → (v : FrameValue) × (FaultFrame r s 1 ∷ [] ≡ v ∷ []) × MayReply None r s ls v
+    back some = let never : ⊥ = cc in absurd never
+code_one (Some links) r s ls = (λ has. refl, λ is. (FaultFrame r s 1, refl, inr refl))
+
+pub code_one_where_kept : (shelf : Shelf) (r s : ℕ) (ls : List ℕ) → MayFollow shelf (AskFrame r s ls) (FaultFrame r s 1 ∷ []) ↔ IsSome (shelf s)
+code_one_where_kept shelf r s ls = code_one (shelf s) r s ls

@@ -3,3 +3,4 @@ pub mod Serving
 pub mod Session
 pub mod Laws
 pub mod Served
+pub mod Examples

@@ -1,5 +1,5 @@
 //! What the definitions themselves promise, each as the contract of a function that does nothing.
-ghost use Rattle.worker_engine.specs.Laws.{PrefixHasPrefixReplies, RepliesAreLawful};
+ghost use Rattle.worker_engine.specs.Laws.{CodeOneWhereKept, OneReply, PrefixHasPrefixReplies, RepliesAreLawful};
 
 /// What a session may write for a stream begins with what it may write for any prefix of the stream.
 pub fn prefix_has_prefix_replies()
@@ -9,4 +9,10 @@ pub fn prefix_has_prefix_replies()
 /// What a session may write is its hello and the texts of lawful frames.
 pub fn replies_are_lawful()
     ensures { RepliesAreLawful }
+{}
+
+/// There is one reply to an ask, and code 1 may stand in its place exactly where the shard is kept.
+pub fn replies_to_an_ask()
+    ensures one { OneReply }
+    ensures code_one { CodeOneWhereKept }
 {}

@@ -20,10 +20,11 @@
 //! a session ends in `specs/Served`. `scanning` has the pass over the links, with its table in `specs/Scanning`;
 //! `engine` keeps and replies, `session` reads and writes. `proofs/Scans` follows the pass, `proofs/Offering` shows
 //! that light offers make a lawful answer, `proofs/Replying` and `proofs/Sessions` take streams apart, and
-//! `proofs/Steps` follows a session frame by frame.
+//! `proofs/Steps` follows a session frame by frame. `examples` shows which replies an ask may have.
 #![tactic(auto)]
 
 mod engine;
+pub mod examples;
 pub mod laws;
 mod scanning;
 mod session;

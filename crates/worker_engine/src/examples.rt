@@ -1,0 +1,19 @@
+//! What may be written for an ask, shown for two links of a triangle: more than one reply exactly where code 1 may
+//! stand.
+ghost use Rattle.worker_engine.specs.Examples.{AnswerOrCodeOne, CodeThreeOrCodeOne, CodeTwoAlone, CodeTwoAtFirst};
+
+/// A shard that is kept may be answered, or told as code 1.
+pub fn kept_shard()
+    ensures { AnswerOrCodeOne }
+{}
+
+/// A shard that is kept, of which ends have no label, may be told as code 3, or as code 1.
+pub fn kept_shard_without_labels()
+    ensures { CodeThreeOrCodeOne }
+{}
+
+/// A shard that isn't kept is told as code 2.
+pub fn shard_not_kept()
+    ensures beside_another { CodeTwoAlone }
+    ensures at_first { CodeTwoAtFirst }
+{}
