@@ -2,7 +2,7 @@
 //!
 //! **What it promises.** The forest goes to the output only where the whole input was read and means a
 //! graph, and then exactly its text; whatever goes wrong has one of four statuses, which tells what failed,
-//! and puts no other byte on the output than the front of that text ([`command::obey`]). The help goes to
+//! and puts no other byte on the output than a prefix of that text ([`command::obey`]). The help goes to
 //! the output too, where the words ask for it ([`command::command`]). Standard error gets a line that says
 //! what went wrong, for wrong words the usage, which has several, and the report where it is asked for.
 //!
