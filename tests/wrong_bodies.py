@@ -342,6 +342,12 @@ def planted(crate, edits, texts):
 
 def try_crate(crate, lines, folders, tests_itself):
     """The numbers of edits that were refused, that survived and that couldn't be tried."""
+    # the crate's own check keeps its work in out/, and that of the crates below it, over which the copies are checked
+    how = {"stdin": subprocess.DEVNULL, "stdout": subprocess.PIPE, "stderr": subprocess.STDOUT, "errors": "replace"}
+    own = subprocess.run([*RT, "check"], cwd=f"{ROOT}/crates/{crate}", **how)
+    if own.returncode:
+        print(f"{crate}: the crate itself is not proved, so nothing was tried", flush=True)
+        return 0, 0, 1
     edits, unfit = [], 0
     with tempfile.TemporaryDirectory(prefix="wrong-bodies-") as folder:
         room = Room(crate, lines, folder)
@@ -359,12 +365,6 @@ def try_crate(crate, lines, folders, tests_itself):
                     unfit += 1
         if not edits:
             return 0, 0, unfit
-        # the crate's own check keeps its work in out/, over which the copies are checked
-        how = {"stdin": subprocess.DEVNULL, "stdout": subprocess.PIPE, "stderr": subprocess.STDOUT, "errors": "replace"}
-        own = subprocess.run([*RT, "check"], cwd=f"{ROOT}/crates/{crate}", **how)
-        if own.returncode:
-            print(f"{crate}: the crate itself is not proved, so nothing was tried", flush=True)
-            return 0, 0, unfit + len(edits)
         right = planted(crate, edits, room.texts) if tests_itself else None
         queue = packed([right] * bool(right) + edits, room.texts)
         refused, survived = 0, []

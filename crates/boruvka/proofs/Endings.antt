@@ -11,7 +11,7 @@ use Rattle.plain_run.specs.Plain.{streams, RanPlain}
 use Rattle.plain_run.specs.declared.outcome.Report.{Report}
 use Rattle.plain_run.specs.declared.outcome.RunFault.{RunFault}
 use Rattle.plain_run.specs.declared.outcome.RunFault.TheVariants as fault
-use Rattle.boruvka.specs.Status.{EndsWith, EndsOnFile, IsSilent, IsUntouched, status_of_run, untold}
+use Rattle.boruvka.specs.Status.{EndsWith, EndsOnFile, LeavesOutput, IsUntouched, status_of_run, untold}
 
 -- memory was wanting before anything was read or written
 pub wants_memory : (s : SourceState) (a : SinkState) → EndsWith 4 (streams s a) (streams s a)
@@ -26,7 +26,7 @@ wants_memory_on_file a = inr (wants_memory untold a)
 
 -- at a status of those nothing was written
 pub silent_run : (result : Result Report RunFault) (status : ℕ) (s t : SourceState) (a b : SinkState) → status ≡ status_of_run result
-    → RanPlain result (streams s a) (streams t b) → IsSilent status → IsUntouched a b
+    → RanPlain result (streams s a) (streams t b) → LeavesOutput status → IsUntouched a b
 silent_run (Ok report) status s t a b is ran silent = absurd (elim silent [ inl one ↦ omega arith | inr (inl two) ↦ omega arith | inr (inr four) ↦ omega arith ])
 silent_run (Err (fault.Read why)) status s t a b is ran silent = ran.nothing
 silent_run (Err fault.Memory) status s t a b is ran silent = ran.nothing

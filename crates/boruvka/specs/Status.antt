@@ -43,8 +43,8 @@ abbrev pub EndsOnFile : ℕ → SinkState → SinkState → Type 0
 EndsOnFile status before after = ((status ≡ 3) × IsUntouched before after) ⊎ EndsWith status (streams untold before) (streams untold after)
 
 -- a status at which nothing was written: the file was refused, the words were wrong, or memory was wanting
-abbrev pub IsSilent : ℕ → Type 0
-IsSilent status = (status ≡ 1) ⊎ (status ≡ 2) ⊎ (status ≡ 4)
+abbrev pub LeavesOutput : ℕ → Type 0
+LeavesOutput status = (status ≡ 1) ⊎ (status ≡ 2) ⊎ (status ≡ 4)
 
 -- ---- by what the words ask for, the program's name first
 
@@ -69,8 +69,8 @@ abbrev pub AreWrong : List (List ℕ) → Type 0
 AreWrong words = (refusals words ≢ []) × ((kind : ErrorKind) → IsAmong kind (refusals words) → IsMistake kind)
 
 -- the status of words that are refused: 2, or 4 where memory was wanting
-abbrev pub IsRefusal : ℕ → Type 0
-IsRefusal status = (status ≡ 2) ⊎ (status ≡ 4)
+abbrev pub RefusesWords : ℕ → Type 0
+RefusesWords status = (status ≡ 2) ⊎ (status ≡ 4)
 
 -- what the help does to the output: it took the text, or a part of it and then had a setback, or memory was wanting
 abbrev pub HelpEnds : ℕ → SinkState → SinkState → Type 0

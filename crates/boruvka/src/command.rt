@@ -4,7 +4,7 @@ ghost use Rattle.std.specs.IoError.{error_kind};
 ghost use Rattle.clap.specs.Words.{kind_of};
 ghost use Rattle.plain_run.specs.Plain.{streams};
 ghost use Rattle.boruvka.specs.Arguments.{IsMistake};
-ghost use Rattle.boruvka.specs.Status.{EndsWith, EndsOnFile, HelpEnds, IsRefusal, IsSilent, IsUntouched};
+ghost use Rattle.boruvka.specs.Status.{EndsWith, EndsOnFile, HelpEnds, RefusesWords, LeavesOutput, IsUntouched};
 ghost use Rattle.boruvka.specs.Status.{LackPlain, AskOnInput, AskOnFile, AskForHelp, AreWrong};
 
 use crate::arguments::options;
@@ -34,7 +34,7 @@ fn run_and_tell<I: Source, O: Sink, E: Sink>(
     ensures ends { EndsWith result (streams (I.state input.old) (O.state output.old))
         (streams (I.state input.new) (O.state output.new)) }
     ensures status { result ≤ 4 }
-    ensures silent { IsSilent result → IsUntouched (O.state output.old) (O.state output.new) }
+    ensures silent { LeavesOutput result → IsUntouched (O.state output.old) (O.state output.new) }
 {
     match run_plain(alloc, input, output) {
         Ok(report) => {
@@ -72,7 +72,7 @@ where
 
     // A refused file, wrong words and want of memory write nothing to the output.
     ensures status { result ≤ 4 }
-    ensures silent { IsSilent result → IsUntouched (O.state output.old) (O.state output.new) }
+    ensures silent { LeavesOutput result → IsUntouched (O.state output.old) (O.state output.new) }
 
     // Without `--plain` nothing is read or written.
     ensures needed { chosen.now.plain ≡ false
@@ -115,11 +115,11 @@ fn print_usage<O: Sink, E: Sink>(
     requires output { O.can_write output.old }
     requires errors { E.can_write errors.old }
     ensures status { result ≤ 4 }
-    ensures silent { IsSilent result → IsUntouched (O.state output.old) (O.state output.new) }
+    ensures silent { LeavesOutput result → IsUntouched (O.state output.old) (O.state output.new) }
 
     // Wrong words write nothing to the output, and only the help does.
     ensures wrong { IsMistake (kind_of error.now)
-        → IsRefusal result × (output.new ≡ output.old) }
+        → RefusesWords result × (output.new ≡ output.old) }
     ensures help { ¬ IsMistake (kind_of error.now)
         → HelpEnds result (O.state output.old) (O.state output.new) }
 {
@@ -172,11 +172,11 @@ where
 
     // A refused file, wrong words and want of memory write nothing to the output.
     ensures status { result ≤ 4 }
-    ensures silent { IsSilent result → IsUntouched (O.state output.old) (O.state output.new) }
+    ensures silent { LeavesOutput result → IsUntouched (O.state output.old) (O.state output.new) }
 
     // Lawful words without `--plain` touch nothing.
     ensures needed { LackPlain (map S.text words.now)
-        → IsRefusal result × (input.new ≡ input.old) × (output.new ≡ output.old) }
+        → RefusesWords result × (input.new ≡ input.old) × (output.new ≡ output.old) }
 
     // With it the input is what is run on, or FILE, and then the input isn't touched.
     ensures reads_input { AskOnInput (map S.text words.now)
@@ -189,7 +189,7 @@ where
     ensures help { AskForHelp (map S.text words.now)
         → (input.new ≡ input.old) × HelpEnds result (O.state output.old) (O.state output.new) }
     ensures wrong { AreWrong (map S.text words.now)
-        → IsRefusal result × (input.new ≡ input.old) × (output.new ≡ output.old) }
+        → RefusesWords result × (input.new ≡ input.old) × (output.new ≡ output.old) }
 {
     match options(rt.alloc(), words) {
         Ok(chosen) => obey(rt, &chosen, input, output, errors),

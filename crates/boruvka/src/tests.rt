@@ -2,7 +2,7 @@ use crate::arguments::{all_words, options};
 use crate::chosen::OptionsFault;
 use crate::command::{command, without_words};
 use crate::statuses::status_of;
-use byte_streams::{FusedSink, FusedSource};
+use byte_streams::{FusedSink, FusedSource, Untold};
 use plain_run::RunFault;
 use std::alloc::{Alloc, Global};
 use std::fs::{self, File, Files};
@@ -189,6 +189,25 @@ fn prints_the_help(rt: HostRuntime) -> Result<(), Fail> {
     Ok(())
 }
 
+#[test]
+fn names_each_option_in_the_help(rt: HostRuntime) -> Result<(), Fail> {
+    let Err(OptionsFault::Usage(help)) = options(rt.alloc(), &["boruvka", "-h"]) else {
+        panic!(rt; "the help was asked for");
+    };
+    let text = format!(in rt.alloc(); "{help}")?;
+    for option in [
+        "--workers",
+        "--shards",
+        "--plain",
+        "--report",
+        "--help",
+        "FILE",
+    ] {
+        assert!(rt; text.as_str().contains(option));
+    }
+    Ok(())
+}
+
 // A failed write to errors changes nothing else.
 #[test]
 fn ignores_errors_that_fail(rt: HostRuntime) -> Result<(), Fail> {
@@ -255,6 +274,62 @@ fn tells_the_line_of_a_failed_read(rt: HostRuntime) -> Result<(), Fail> {
     assert_eq!(rt;
         errors.as_slice(),
         b"boruvka: line 2: read failed\n".as_slice()
+    );
+    Ok(())
+}
+
+// A writer that counts how often it is written to.
+#[derive(Drop)]
+struct CountingWriter {
+    writes: usize,
+    taken: Vec<u8>,
+}
+
+impl Write for CountingWriter {
+    fn write(&mut self, buf: &[u8]) -> io::Result<usize> {
+        self.writes = self.writes.saturating_add(1);
+        Write::write(&mut self.taken, buf)
+    }
+
+    fn flush(&mut self) -> io::Result<()> {
+        Ok(())
+    }
+}
+
+// The line that tells that a file of this name can't be opened goes out in one write.
+fn expect_one_write(rt: &(impl Abort + Files + Alloc<A = Global>), name: &str, line: &str) {
+    let mut input = SMALL_NET.as_slice();
+    let mut output = Vec::new(rt.alloc());
+    let mut errors = Untold(CountingWriter {
+        writes: 0,
+        taken: Vec::new(rt.alloc()),
+    });
+    let words = ["boruvka", "--plain", name];
+    assert_eq!(rt;
+        command(rt, &words, &mut input, &mut output, &mut errors),
+        3
+    );
+    assert!(rt; output.is_empty());
+    assert_eq!(rt; errors.0.taken.as_slice(), line.as_bytes());
+    assert_eq!(rt; errors.0.writes, 1);
+}
+
+#[test]
+fn tells_a_long_name_in_one_write(rt: HostRuntime) -> Result<(), Fail> {
+    for length in [200, 300, 4095] {
+        let name = "n".repeat(rt.alloc(), length)?;
+        let line = format!(in rt.alloc(); "boruvka: cannot open {name}\n")?;
+        expect_one_write(&rt, name.as_str(), line.as_str());
+    }
+    Ok(())
+}
+
+#[test]
+fn tells_the_control_bytes_of_a_name_as_they_are(rt: HostRuntime) -> Result<(), Fail> {
+    expect_one_write(
+        &rt,
+        "no/such\n\tfile\u{1}\u{7f}",
+        "boruvka: cannot open no/such\n\tfile\u{1}\u{7f}\n",
     );
     Ok(())
 }

@@ -3,11 +3,12 @@ use Rattle.std.proofs.Common.{◌≡◌, ◌≢◌, ℕ, ℤ, pos, neg_ℤ, ◌+
 use Rattle.std.specs.List.{AllByRecursion}
 use Rattle.std.proofs.lemmas.Bool.Decides.{eqb_tells, leb_tells}
 use Rattle.std.proofs.lemmas.Int.{by_lt_z, ints}
+use Rattle.limits.specs.declared.TheConstants.{MAX_ARCS, MAX_VERTICES}
 use Rattle.link_key.specs.Arc.{Arc}
 use Rattle.gr_text.specs.Lines.{with_last, AreLines}
 use Rattle.gr_text.specs.Fields.{IsBlank, IsFieldByte, AreFields, IsDigit, number_of, Writes, WritesSigned}
 use Rattle.gr_text.specs.Statement.{Problem, ArcLine, AreSilent, FieldsSay, IsSilent, Says}
-use Rattle.gr_text.specs.Graph.{HasEnds, IsWeight, AreLawful, IsLawful}
+use Rattle.gr_text.specs.Graph.{HasEnds, IsWeight, AreLawful, AreLawfulSoFar}
 use Rattle.gr_text.specs.Fault.{BeginsWith, IsUnknown, IsFaultAfter, IsFirstFaulty}
 use Rattle.gr_text.specs.Partial.{with_field, AreParts}
 use Rattle.gr_text.specs.Laws.{MeansOrFails}
@@ -219,26 +220,26 @@ weight_or_not w = by_lt_z w (neg_ℤ (pos (2 ^ 31)))
 
 -- what a line is after lawful ones
 abbrev Goes : List (List ℕ) → List ℕ → Type 0
-Goes before line = IsLawful (before ++ line ∷ []) ⊎ ((kind : GrKind) × IsFaultAfter before line kind)
+Goes before line = AreLawfulSoFar (before ++ line ∷ []) ⊎ ((kind : GrKind) × IsFaultAfter before line kind)
 
-silent_goes : (before : List (List ℕ)) (line : List ℕ) → IsLawful before → IsSilent line → Goes before line
+silent_goes : (before : List (List ℕ)) (line : List ℕ) → AreLawfulSoFar before → IsSilent line → Goes before line
 silent_goes before line (inl none) silent = inl (inl (Say-silent before line [] none silent))
 silent_goes before line (inr (n, m, arcs, known)) silent = inl (inr (n, m, arcs, AreLawful-silent before line n m arcs known silent))
 
-problem_goes : (before : List (List ℕ)) (line : List ℕ) → IsLawful before → BeginsWith line (codes "p") → Goes before line
+problem_goes : (before : List (List ℕ)) (line : List ℕ) → AreLawfulSoFar before → BeginsWith line (codes "p") → Goes before line
 problem_goes before line (inr (n, m, arcs, known)) begins = inr (SecondProblem, (begins, (n, m, arcs, known, tt)))
 problem_goes before line (inl none) begins = elim (problem_line_or_not line) [
   | inr never ↦ inr (BadProblem, (begins, none, never))
-  | inl (n, m, says) ↦ elim (leb_tells n 67108864) [
+  | inl (n, m, says) ↦ elim (leb_tells n MAX_VERTICES) [
     | inr (test, over) ↦ inr (TooLarge, (none, (n, m, says, inl over)))
-    | inl (test, vertices) ↦ elim (leb_tells m 1073741824) [
+    | inl (test, vertices) ↦ elim (leb_tells m MAX_ARCS) [
       | inr (test', over) ↦ inr (TooLarge, (none, (n, m, says, inr over)))
       | inl (test', arcs) ↦ inl (inr (n, m, [], AreLawful-problem before line n m none says vertices arcs))
     ]
   ]
 ]
 
-arc_goes : (before : List (List ℕ)) (line : List ℕ) → IsLawful before → BeginsWith line (codes "a") → Goes before line
+arc_goes : (before : List (List ℕ)) (line : List ℕ) → AreLawfulSoFar before → BeginsWith line (codes "a") → Goes before line
 arc_goes before line (inl none) begins = inr (NoProblemYet, (begins, none))
 arc_goes before line (inr (n, m, arcs, known)) begins = elim (leb_tells m (length arcs)) [
   | inl (test, full) ↦ inr (TooManyArcs, (begins, (n, m, arcs, known, omega (arith, known.no_more))))
@@ -254,7 +255,7 @@ arc_goes before line (inr (n, m, arcs, known)) begins = elim (leb_tells m (lengt
   ]
 ]
 
-line_goes : (before : List (List ℕ)) (line : List ℕ) → IsLawful before → Goes before line
+line_goes : (before : List (List ℕ)) (line : List ℕ) → AreLawfulSoFar before → Goes before line
 line_goes before line lawful = elim (sort_of line) [
   | inl silent ↦ silent_goes before line lawful silent
   | inr (inl unknown) ↦ inr (UnknownLine, unknown)
@@ -263,11 +264,11 @@ line_goes before line lawful = elim (sort_of line) [
 ]
 
 -- Lines behind lawful ones are lawful, or have a first faulty one. By induction on them.
-lines_go : (lines before : List (List ℕ)) → IsLawful before → IsLawful (before ++ lines) ⊎ ((number : ℕ) × (kind : GrKind) × IsFirstFaulty (before ++ lines) number kind)
-lines_go [] before lawful = inl (subst IsLawful (sym (append-nil before)) lawful)
+lines_go : (lines before : List (List ℕ)) → AreLawfulSoFar before → AreLawfulSoFar (before ++ lines) ⊎ ((number : ℕ) × (kind : GrKind) × IsFirstFaulty (before ++ lines) number kind)
+lines_go [] before lawful = inl (subst AreLawfulSoFar (sym (append-nil before)) lawful)
 lines_go (line ∷ lines) before lawful = elim (line_goes before line lawful) [
   | inl on ↦ elim (lines_go lines (before ++ line ∷ []) on) [
-    | inl all ↦ inl (subst IsLawful (append_assoc before (line ∷ []) lines) all)
+    | inl all ↦ inl (subst AreLawfulSoFar (append_assoc before (line ∷ []) lines) all)
     | inr (number, kind, first) ↦ inr (number, kind, subst (λ (xs : List (List ℕ)). IsFirstFaulty xs number kind) (append_assoc before (line ∷ []) lines) first)
   ]
   | inr (kind, fits) ↦ inr (

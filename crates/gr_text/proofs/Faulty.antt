@@ -2,9 +2,10 @@
 use Rattle.std.proofs.Common.{◌≡◌, ◌≢◌, ℕ, ◌+◌, ◌<◌, ◌≤◌, ◌⊎◌, inl, inr, List, [], ◌∷◌, ◌++◌, refl, ap, sym, ◌∙◌, subst, arith, codes, map, length}
 use Rattle.std.specs.List.{AllByRecursion}
 use Rattle.std.proofs.lemmas.List.{map-append, length_push}
+use Rattle.limits.specs.declared.TheConstants.{MAX_ARCS, MAX_VERTICES}
 use Rattle.link_key.specs.Arc.{Arc}
 use Rattle.gr_text.specs.Statement.{Statement, Problem, ArcLine, AreSilent, IsSilent, Says, Say}
-use Rattle.gr_text.specs.Graph.{HasEnds, IsWeight, IsArcOf, AreLawful, IsLawful}
+use Rattle.gr_text.specs.Graph.{HasEnds, IsWeight, IsArcOf, AreLawful, AreLawfulSoFar}
 use Rattle.gr_text.specs.Fault.{BeginsWith, IsUnknown, IsFaultAfter}
 use Rattle.gr_text.specs.declared.faults.GrKind.{GrKind}
 use Rattle.gr_text.specs.declared.faults.GrKind.TheVariants.{UnknownLine, NoProblemYet, SecondProblem, BadProblem, TooLarge, BadArc, EndOutOfRange, WeightOutOfRange, TooManyArcs, MissingProblem, MissingArcs}
@@ -44,8 +45,8 @@ no_problem_among (a ∷ xs) [] n m e = cc
 no_problem_among (a ∷ xs) (b ∷ ys) n m e = let tails : map ArcLine xs ++ Problem n m ∷ [] ≡ map ArcLine ys = cc in no_problem_among xs ys n m tails
 
 -- a lawful line that says something, where nothing was said before: the problem
-lawful_first : (before : List (List ℕ)) (line : List ℕ) → Say before [] → ¬ (IsSilent line) → IsLawful (before ++ line ∷ [])
-    → (n m : ℕ) × Says line (Problem n m) × (n ≤ 67108864) × (m ≤ 1073741824)
+lawful_first : (before : List (List ℕ)) (line : List ℕ) → Say before [] → ¬ (IsSilent line) → AreLawfulSoFar (before ++ line ∷ [])
+    → (n m : ℕ) × Says line (Problem n m) × (n ≤ MAX_VERTICES) × (m ≤ MAX_ARCS)
 lawful_first before line none speaks (inl say) =
     let (told, says, last) = Say-split before line [] say in
     elim last [
@@ -63,7 +64,7 @@ lawful_first before line none speaks (inr (n, m, arcs, lawful)) =
     ]
 
 -- a lawful line that says something after the problem: an arc
-lawful_next : (before : List (List ℕ)) (line : List ℕ) (n m : ℕ) (arcs : List Arc) → AreLawful before n m arcs → ¬ (IsSilent line) → IsLawful (before ++ line ∷ [])
+lawful_next : (before : List (List ℕ)) (line : List ℕ) (n m : ℕ) (arcs : List Arc) → AreLawful before n m arcs → ¬ (IsSilent line) → AreLawfulSoFar (before ++ line ∷ [])
     → (arc : Arc) × Says line (ArcLine arc) × IsArcOf n arc × (length arcs < m)
 lawful_next before line n m arcs known speaks (inl say) =
     let (told, says, last) = Say-split before line [] say in
@@ -127,7 +128,7 @@ ends_prop_of : (line : List ℕ) (a b : Arc) (P : Arc → Type 0) → Says line 
 ends_prop_of line a b P says says' p = let same : a ≡ b = (let both : ArcLine a ≡ ArcLine b = Says-unique line (ArcLine a) (ArcLine b) says says' in cc) in subst P same p
 
 -- Each kind says something of the line that no lawful line after those is.
-pub fault_is_faulty : (before : List (List ℕ)) (line : List ℕ) (kind : GrKind) → IsLawful before → IsFaultAfter before line kind → ¬ (IsLawful (before ++ line ∷ []))
+pub fault_is_faulty : (before : List (List ℕ)) (line : List ℕ) (kind : GrKind) → AreLawfulSoFar before → IsFaultAfter before line kind → ¬ (AreLawfulSoFar (before ++ line ∷ []))
 fault_is_faulty before line UnknownLine (inl none) unknown lawful =
     let (n, m, says, small, few) = lawful_first before line none (unknown_not_silent line unknown) lawful in unknown_says_nothing line (Problem n m) unknown says
 fault_is_faulty before line UnknownLine (inr (n, m, arcs, known)) unknown lawful =

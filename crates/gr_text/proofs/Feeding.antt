@@ -44,7 +44,7 @@ take_all xs n long =
     ap (λ (k : ℕ). take k xs) whole ∙ ap (take (length xs + (n - length xs))) (sym (append-nil xs)) ∙ take-append-add xs [] (n - length xs)
     ∙ ap (λ (ys : List ℕ). xs ++ ys) (take-nil (n - length xs)) ∙ append-nil xs
 
--- a front of a longer text
+-- a prefix of a longer text
 pub take_of_more : (limit : ℕ) (text more : List ℕ) → take limit (text ++ more) ≡ take limit text ++ take (limit - length text) more
 take_of_more limit text more = elim (order_of limit (length text)) [
   | inl short ↦ (let none : limit - length text ≡ 0 = omega arith in

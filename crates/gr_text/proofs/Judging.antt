@@ -1,5 +1,6 @@
 -- From what a line says and the lines before it to its verdict.
 use Rattle.std.proofs.Common.{◌≡◌, ℕ, ℤ, ◌≤◌, List, [], ◌∷◌, subst, sym, arith, codes, ap, ◌∙◌, append-nil}
+use Rattle.limits.specs.declared.TheConstants.{MAX_VERTICES}
 use Rattle.link_key.specs.Arc.{Arc}
 use Rattle.gr_text.specs.Fields.{AreFields}
 use Rattle.gr_text.specs.Statement.{Statement, Problem, ArcLine, FieldsSay, Says}
@@ -15,10 +16,10 @@ pub begins_arc : (bytes : List ℕ) (arc : Arc) → Says bytes (ArcLine arc) →
 begins_arc bytes arc (fields, are, (f, g, h, is, wf, wg, wh)) = (f ∷ g ∷ h ∷ [], subst (AreFields bytes) is are)
 
 -- a kept number within a limit is the number itself
-pub kept_end : (kept k n : ℕ) → IsCapped kept k → kept ≤ n → n ≤ 67108864 → k ≡ kept
+pub kept_end : (kept k n : ℕ) → IsCapped kept k → kept ≤ n → n ≤ MAX_VERTICES → k ≡ kept
 kept_end kept k n is in_range small = omega arith
 
-pub ends_of : (n u v : ℕ) (arc : Arc) → n ≤ 67108864 → IsCapped u arc.tail → IsCapped v arc.head → 1 ≤ u → u ≤ n → 1 ≤ v → v ≤ n → HasEnds n arc
+pub ends_of : (n u v : ℕ) (arc : Arc) → n ≤ MAX_VERTICES → IsCapped u arc.tail → IsCapped v arc.head → 1 ≤ u → u ≤ n → 1 ≤ v → v ≤ n → HasEnds n arc
 ends_of n u v arc small tail head u1 un v1 vn =
     let e : arc.tail ≡ u = kept_end u arc.tail n tail un small in
     let f : arc.head ≡ v = kept_end v arc.head n head vn small in

@@ -4,7 +4,7 @@ use Rattle.std.specs.List.{AllByRecursion}
 use Rattle.std.proofs.lemmas.List.{length_push}
 use Rattle.link_key.specs.Arc.{Arc}
 use Rattle.gr_text.specs.Statement.{Statement, Problem, ArcLine, Says, Say}
-use Rattle.gr_text.specs.Graph.{HasEnds, IsArcOf, AreLawful, IsLawful}
+use Rattle.gr_text.specs.Graph.{HasEnds, IsArcOf, AreLawful, AreLawfulSoFar}
 use Rattle.gr_text.specs.Fault.{BeginsWith, IsUnknown, AfterProblem, IsFaultAfter, IsFirstFaulty, Lacks}
 use Rattle.gr_text.specs.Laws.{NeverBoth, HasOneFault}
 use Rattle.gr_text.specs.declared.faults.GrKind.{GrKind}
@@ -41,7 +41,7 @@ front_of P [] x all = tt
 front_of P (y ∷ xs) x all = (all.0, front_of P xs x all.1)
 
 lawful_told : (lines : List (List ℕ)) (whole : List (List ℕ)) (n m : ℕ) (arcs : List Arc) (told : List Statement) (s : Statement) → AreLawful whole n m arcs → Say lines told
-    → Problem n m ∷ map ArcLine arcs ≡ told ++ s ∷ [] → IsLawful lines
+    → Problem n m ∷ map ArcLine arcs ≡ told ++ s ∷ [] → AreLawfulSoFar lines
 lawful_told lines whole n m arcs [] s lawful says same = inl says
 lawful_told lines whole n m arcs (t ∷ told) s lawful says same =
     let heads : t ≡ Problem n m = cc in
@@ -61,7 +61,7 @@ lawful_told lines whole n m arcs (t ∷ told) s lawful says same =
     )
 
 -- what stands before a line of lawful lines is lawful
-lawful_before : (lines : List (List ℕ)) (line : List ℕ) → IsLawful (lines ++ line ∷ []) → IsLawful lines
+lawful_before : (lines : List (List ℕ)) (line : List ℕ) → AreLawfulSoFar (lines ++ line ∷ []) → AreLawfulSoFar lines
 lawful_before lines line (inl say) =
     let (told, says, last) = Say-split lines line [] say in
     elim last [
@@ -86,19 +86,19 @@ lawful_before lines line (inr (n, m, arcs, lawful)) =
       | inr (s, tells, same) ↦ lawful_told lines (lines ++ line ∷ []) n m arcs told s lawful says same
     ]
 
--- the front of lawful lines is lawful
-IsLawful-front : (lines more : List (List ℕ)) → IsLawful (lines ++ more) → IsLawful lines
-IsLawful-front lines [] lawful = subst IsLawful (append-nil lines) lawful
-IsLawful-front lines (line ∷ more) lawful =
-    lawful_before lines line (IsLawful-front (lines ++ line ∷ []) more (subst IsLawful (sym (append_assoc lines (line ∷ []) more)) lawful))
+-- a prefix of lawful lines is lawful
+AreLawfulSoFar-prefix : (lines more : List (List ℕ)) → AreLawfulSoFar (lines ++ more) → AreLawfulSoFar lines
+AreLawfulSoFar-prefix lines [] lawful = subst AreLawfulSoFar (append-nil lines) lawful
+AreLawfulSoFar-prefix lines (line ∷ more) lawful =
+    lawful_before lines line (AreLawfulSoFar-prefix (lines ++ line ∷ []) more (subst AreLawfulSoFar (sym (append_assoc lines (line ∷ []) more)) lawful))
 
-lawful_no_fault : (lines : List (List ℕ)) (number : ℕ) (kind : GrKind) → IsLawful lines → IsFirstFaulty lines number kind → ⊥
+lawful_no_fault : (lines : List (List ℕ)) (number : ℕ) (kind : GrKind) → AreLawfulSoFar lines → IsFirstFaulty lines number kind → ⊥
 lawful_no_fault lines number kind lawful first =
-    first.faulty (IsLawful-front (first.before ++ first.line ∷ []) first.after
-    (subst IsLawful (first.parted ∙ sym (append_assoc first.before (first.line ∷ []) first.after)) lawful))
+    first.faulty (AreLawfulSoFar-prefix (first.before ++ first.line ∷ []) first.after
+    (subst AreLawfulSoFar (first.parted ∙ sym (append_assoc first.before (first.line ∷ []) first.after)) lawful))
 
 -- where something lacks, the lines are lawful, and mean no graph
-lack_lawful : (lines : List (List ℕ)) (kind : GrKind) → Lacks lines kind → IsLawful lines
+lack_lawful : (lines : List (List ℕ)) (kind : GrKind) → Lacks lines kind → AreLawfulSoFar lines
 lack_lawful lines MissingProblem lacks = inl lacks
 lack_lawful lines MissingArcs (n, m, arcs, lawful, few) = inr (n, m, arcs, lawful)
 lack_lawful lines kind lacks = absurd lacks
@@ -268,8 +268,8 @@ places (b ∷ before) (o ∷ others) x y after more e =
     ]
 
 -- a faulty line isn't among lawful ones
-faulty_not_before : (before : List (List ℕ)) (line : List ℕ) (others : List (List ℕ)) → ¬ (IsLawful (before ++ line ∷ [])) → IsLawful others → Precedes before line others → ⊥
-faulty_not_before before line others faulty lawful (between, is) = faulty (IsLawful-front (before ++ line ∷ []) between (subst IsLawful is lawful))
+faulty_not_before : (before : List (List ℕ)) (line : List ℕ) (others : List (List ℕ)) → ¬ (AreLawfulSoFar (before ++ line ∷ [])) → AreLawfulSoFar others → Precedes before line others → ⊥
+faulty_not_before before line others faulty lawful (between, is) = faulty (AreLawfulSoFar-prefix (before ++ line ∷ []) between (subst AreLawfulSoFar is lawful))
 
 one_faulty_line : (lines : List (List ℕ)) (number other : ℕ) (kind another : GrKind) → IsFirstFaulty lines number kind → IsFirstFaulty lines other another
     → (number ≡ other) × (kind ≡ another)

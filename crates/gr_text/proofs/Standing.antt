@@ -3,7 +3,7 @@ use Rattle.std.proofs.Common.{◌≡◌, ◌≢◌, ℕ, ◌+◌, inl, inr, List
 use Rattle.std.proofs.lemmas.List.{length_push, take_more, take-append-drop}
 use Rattle.link_key.specs.declared.links.Link.{Link}
 use Rattle.gr_text.specs.Lines.{line_feed, EndsLines}
-use Rattle.gr_text.specs.Graph.{IsLawful}
+use Rattle.gr_text.specs.Graph.{AreLawfulSoFar}
 use Rattle.gr_text.specs.Reading.{Gives, IsLineFault}
 use Rattle.gr_text.specs.Partial.{IsKeptAs}
 use Rattle.gr_text.specs.Reader.{Stands, StopsAt}
@@ -14,11 +14,11 @@ use Rattle.gr_text.specs.declared.sizes.Size.{Size}
 use Rattle.gr_text.proofs.Cuts.{EndsLines-byte, EndsLines-feed, EndsLines-append, cut_of}
 use Rattle.gr_text.proofs.Faulty.{fault_is_faulty}
 
-pub lawful_of : (size : Option Size) (count : ℕ) (links : List Link) (lines : List (List ℕ)) → Gives size count links lines → IsLawful lines
+pub lawful_of : (size : Option Size) (count : ℕ) (links : List Link) (lines : List (List ℕ)) → Gives size count links lines → AreLawfulSoFar lines
 lawful_of None count links lines (say, zero_count, none) = inl say
 lawful_of (Some size) count links lines (arcs, lawful, counted, are) = inr (size.vertices, size.arcs, arcs, lawful)
 
-pub first_faulty : (lines : List (List ℕ)) (part : List ℕ) (more : List (List ℕ)) (f : ReadFault) (number : ℕ) → IsLawful lines → number ≡ length lines + 1 → IsLineFault f number lines part
+pub first_faulty : (lines : List (List ℕ)) (part : List ℕ) (more : List (List ℕ)) (f : ReadFault) (number : ℕ) → AreLawfulSoFar lines → number ≡ length lines + 1 → IsLineFault f number lines part
     → (text : List ℕ) (r : List ℕ) → EndsLines text (lines ++ part ∷ [] ++ more) r → StopsAt f text
 first_faulty lines part more (fault.Gr f) number lawful numbered (line_is, fits) text r cut = (
   lines ++ part ∷ [] ++ more,

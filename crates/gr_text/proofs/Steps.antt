@@ -4,6 +4,7 @@ use Rattle.std.specs.List.{AllByRecursion, filter}
 use Rattle.std.proofs.lemmas.List.{map-append, length_push}
 use Rattle.std.proofs.lemmas.List.Elements.{filter-append}
 use Rattle.std.proofs.lemmas.Bool.Decides.{nat_tests}
+use Rattle.limits.specs.declared.TheConstants.{MAX_ARCS, MAX_VERTICES}
 use Rattle.link_key.specs.Arc.{Arc}
 use Rattle.link_key.specs.Link.{Key, key_of, arc_key, is_no_loop, AreLinksOf}
 use Rattle.link_key.specs.declared.links.Link.{Link}
@@ -43,7 +44,7 @@ AreLawful-silent lines line n m arcs lawful silent = record {
 }
 
 -- the problem line
-pub AreLawful-problem : (lines : List (List ℕ)) (line : List ℕ) (n m : ℕ) → Say lines [] → Says line (Problem n m) → n ≤ 67108864 → m ≤ 1073741824 → AreLawful (lines ++ line ∷ []) n m []
+pub AreLawful-problem : (lines : List (List ℕ)) (line : List ℕ) (n m : ℕ) → Say lines [] → Says line (Problem n m) → n ≤ MAX_VERTICES → m ≤ MAX_ARCS → AreLawful (lines ++ line ∷ []) n m []
 AreLawful-problem lines line n m say says vertices arc_lines = record {
   say = Say-more lines line [] (Problem n m) say says;
   vertices = vertices;

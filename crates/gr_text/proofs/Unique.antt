@@ -12,17 +12,17 @@ abbrev pub Stops : (ℕ → Type 0) → List ℕ → Type 0
 Stops P [] = Unit {0}
 Stops P (b ∷ bytes) = ¬ (P b)
 
--- A front of bytes with P, and then one without: the front is one. By induction on both fronts; where one of them
+-- A prefix of bytes with P, and then one without: the prefix is one. By induction on both prefixes; where one of them
 -- is over, the other's next byte would have P and not have it.
-pub front_unique : (P : ℕ → Type 0) (xs ys r s : List ℕ) → AllByRecursion P xs → AllByRecursion P ys → Stops P r → Stops P s
+pub prefix_unique : (P : ℕ → Type 0) (xs ys r s : List ℕ) → AllByRecursion P xs → AllByRecursion P ys → Stops P r → Stops P s
     → xs ++ r ≡ ys ++ s → (xs ≡ ys) × (r ≡ s)
-front_unique P [] [] r s px py pr ps e = (refl, e)
-front_unique P [] (y ∷ ys) r s px py pr ps e = absurd (let none : Stops P (y ∷ (ys ++ s)) = subst (Stops P) e pr in none py.0)
-front_unique P (x ∷ xs) [] r s px py pr ps e = absurd (let none : Stops P (x ∷ (xs ++ r)) = subst (Stops P) (sym e) ps in none px.0)
-front_unique P (x ∷ xs) (y ∷ ys) r s px py pr ps e =
+prefix_unique P [] [] r s px py pr ps e = (refl, e)
+prefix_unique P [] (y ∷ ys) r s px py pr ps e = absurd (let none : Stops P (y ∷ (ys ++ s)) = subst (Stops P) e pr in none py.0)
+prefix_unique P (x ∷ xs) [] r s px py pr ps e = absurd (let none : Stops P (x ∷ (xs ++ r)) = subst (Stops P) (sym e) ps in none px.0)
+prefix_unique P (x ∷ xs) (y ∷ ys) r s px py pr ps e =
     let heads : x ≡ y = cc in
     let tails : xs ++ r ≡ ys ++ s = cc in
-    let both = front_unique P xs ys r s px.1 py.1 pr ps tails in
+    let both = prefix_unique P xs ys r s px.1 py.1 pr ps tails in
     (ap (λ (z : ℕ). z ∷ xs) heads ∙ ap (λ (zs : List ℕ). y ∷ zs) both.0, both.1)
 
 stops_at_field : (field after : List ℕ) → field ≢ [] → AllByRecursion IsFieldByte field → Stops IsBlank (field ++ after)
@@ -47,15 +47,15 @@ AreFields-unique line [] (g ∷ gs) a (blanks, after, all_blank, some, all_field
 AreFields-unique line (f ∷ fs) [] (blanks, after, all_blank, some, all_field, is, begins, others) b = absurd (blanks_hold_no_field line blanks f after b is some all_field)
 AreFields-unique line (f ∷ fs) (g ∷ gs) (b1, a1, bl1, s1, al1, is1, be1, o1) (b2, a2, bl2, s2, al2, is2, be2, o2) =
     let whole : b1 ++ (f ++ a1) ≡ b2 ++ (g ++ a2) = sym (append_assoc b1 f a1) ∙ sym is1 ∙ is2 ∙ append_assoc b2 g a2 in
-    let fronts = front_unique IsBlank b1 b2 (f ++ a1) (g ++ a2) bl1 bl2 (stops_at_field f a1 s1 al1) (stops_at_field g a2 s2 al2) whole in
-    let fields = front_unique IsFieldByte f g a1 a2 al1 al2 (stops_at_blank a1 be1) (stops_at_blank a2 be2) fronts.1 in
+    let fronts = prefix_unique IsBlank b1 b2 (f ++ a1) (g ++ a2) bl1 bl2 (stops_at_field f a1 s1 al1) (stops_at_field g a2 s2 al2) whole in
+    let fields = prefix_unique IsFieldByte f g a1 a2 al1 al2 (stops_at_blank a1 be1) (stops_at_blank a2 be2) fronts.1 in
     let rest : fs ≡ gs = AreFields-unique a1 fs gs o1 (subst (λ (x : List ℕ). AreFields x gs) (sym fields.1) o2) in
     ap (λ (x : List ℕ). x ∷ fs) fields.0 ∙ ap (λ (xs : List (List ℕ)). g ∷ xs) rest
 
 -- The lines of a text: a whole line is one that ends before the next line feed. By induction on both lists of lines.
 cut_first : (line other rest more : List ℕ) → IsLine line → IsLine other → line ++ line_feed ∷ rest ≡ other ++ line_feed ∷ more → (line ≡ other) × (rest ≡ more)
 cut_first line other rest more is_line is_other e =
-    let both = front_unique (λ b. b ≢ line_feed) line other (line_feed ∷ rest) (line_feed ∷ more) is_line is_other (λ differs. differs refl) (λ differs. differs refl) e in
+    let both = prefix_unique (λ b. b ≢ line_feed) line other (line_feed ∷ rest) (line_feed ∷ more) is_line is_other (λ differs. differs refl) (λ differs. differs refl) e in
     let tails : line_feed ∷ rest ≡ line_feed ∷ more = both.1 in
     (both.0, cc)
 

@@ -1,10 +1,11 @@
 -- The first fault of a text.
-use Rattle.std.specs.Prelude.{◌≡◌, ◌≢◌, ℕ, ◌+◌, ◌<◌, ◌^◌, ◌⊎◌, List, [], ◌∷◌, ◌++◌, length, codes}
+use Rattle.std.specs.Prelude.{◌≡◌, ◌≢◌, ℕ, ◌+◌, ◌<◌, ◌⊎◌, List, [], ◌∷◌, ◌++◌, length, codes}
+use Rattle.limits.specs.declared.TheConstants.{MAX_ARCS, MAX_VERTICES}
 use Rattle.link_key.specs.Arc.{Arc}
 use Rattle.gr_text.specs.Lines.{AreLines, EndsLines}
 use Rattle.gr_text.specs.Fields.{AreFields}
 use Rattle.gr_text.specs.Statement.{Problem, ArcLine, AreSilent, Says, Say}
-use Rattle.gr_text.specs.Graph.{HasEnds, IsWeight, AreLawful, IsLawful}
+use Rattle.gr_text.specs.Graph.{HasEnds, IsWeight, AreLawful, AreLawfulSoFar}
 use Rattle.gr_text.specs.declared.faults.GrKind.{GrKind}
 use Rattle.gr_text.specs.declared.faults.GrKind.TheVariants.{UnknownLine, NoProblemYet, SecondProblem, BadProblem, TooLarge, BadArc, EndOutOfRange, WeightOutOfRange, TooManyArcs, MissingProblem, MissingArcs}
 
@@ -27,7 +28,7 @@ IsFaultAfter before line UnknownLine = IsUnknown line
 IsFaultAfter before line NoProblemYet = BeginsWith line (codes "a") × Say before []
 IsFaultAfter before line SecondProblem = BeginsWith line (codes "p") × AfterProblem before (λ n m arcs. Unit {0})
 IsFaultAfter before line BadProblem = BeginsWith line (codes "p") × Say before [] × ((n m : ℕ) → ¬ (Says line (Problem n m)))
-IsFaultAfter before line TooLarge = Say before [] × ((n m : ℕ) × Says line (Problem n m) × ((2 ^ 26 < n) ⊎ (2 ^ 30 < m)))
+IsFaultAfter before line TooLarge = Say before [] × ((n m : ℕ) × Says line (Problem n m) × ((MAX_VERTICES < n) ⊎ (MAX_ARCS < m)))
 IsFaultAfter before line TooManyArcs = BeginsWith line (codes "a") × AfterProblem before (λ n m arcs. length arcs ≡ m)
 IsFaultAfter before line BadArc = BeginsWith line (codes "a")
     × AfterProblem before (λ n m arcs. (length arcs < m) × ((arc : Arc) → ¬ (Says line (ArcLine arc))))
@@ -45,8 +46,8 @@ pub record IsFirstFaulty (lines : List (List ℕ)) (number : ℕ) (kind : GrKind
   pub after : List (List ℕ)
   pub parted : lines ≡ before ++ line ∷ after
   pub counted : number ≡ length before + 1
-  pub lawful : IsLawful before
-  pub faulty : ¬ (IsLawful (before ++ line ∷ []))
+  pub lawful : AreLawfulSoFar before
+  pub faulty : ¬ (AreLawfulSoFar (before ++ line ∷ []))
   pub kind_fits : IsFaultAfter before line kind
 
 -- what lacks at the end of lawful lines
@@ -66,4 +67,4 @@ IsEndedFault text number kind = (lines : List (List ℕ)) × (rest : List ℕ) �
 
 -- the lines that a line feed ends are lawful
 abbrev pub HasLawfulLines : List ℕ → Type 0
-HasLawfulLines text = (lines : List (List ℕ)) × (rest : List ℕ) × EndsLines text lines rest × IsLawful lines
+HasLawfulLines text = (lines : List (List ℕ)) × (rest : List ℕ) × EndsLines text lines rest × AreLawfulSoFar lines

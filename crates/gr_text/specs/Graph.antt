@@ -1,6 +1,7 @@
 -- The graph that a text means.
 use Rattle.std.specs.Prelude.{ℕ, ℤ, pos, neg_ℤ, ◌≤ℤ◌, ◌<ℤ◌, ◌≤◌, ◌^◌, ◌⊎◌, List, [], ◌∷◌, map, length}
 use Rattle.std.specs.List.{AllByRecursion}
+use Rattle.limits.specs.declared.TheConstants.{MAX_ARCS, MAX_VERTICES}
 use Rattle.link_key.specs.Arc.{Arc}
 use Rattle.link_key.specs.Link.{AreLinksOf}
 use Rattle.link_key.specs.declared.links.Link.{Link}
@@ -24,14 +25,14 @@ IsArcOf n arc = HasEnds n arc × IsWeight arc.weight
 -- the lines are one problem line of n and m within the limits, and then these arc lines, no more than m
 pub record AreLawful (lines : List (List ℕ)) (n m : ℕ) (arcs : List Arc) : Type 0 where
   pub say : Say lines (Problem n m ∷ map ArcLine arcs)
-  pub vertices : n ≤ 2 ^ 26
-  pub arc_lines : m ≤ 2 ^ 30
+  pub vertices : n ≤ MAX_VERTICES
+  pub arc_lines : m ≤ MAX_ARCS
   pub no_more : length arcs ≤ m
   pub each : AllByRecursion (IsArcOf n) arcs
 
 -- nothing is wrong with the lines so far: they say nothing, or are as above
-abbrev pub IsLawful : List (List ℕ) → Type 0
-IsLawful lines = Say lines [] ⊎ ((n m : ℕ) × (arcs : List Arc) × AreLawful lines n m arcs)
+abbrev pub AreLawfulSoFar : List (List ℕ) → Type 0
+AreLawfulSoFar lines = Say lines [] ⊎ ((n m : ℕ) × (arcs : List Arc) × AreLawful lines n m arcs)
 
 -- the text means the graph of n vertices and these arcs: its lines are lawful, and there are as many arc lines as it states
 abbrev pub Means : List ℕ → ℕ → List Arc → Type 0

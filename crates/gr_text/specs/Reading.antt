@@ -1,5 +1,6 @@
 -- What the lines that were read say, and what a further line does.
-use Rattle.std.specs.Prelude.{◌≡◌, ◌≢◌, ℕ, ◌<◌, ◌≤◌, ◌^◌, ◌⊎◌, List, [], length, Option, Some, None, ◌++◌, ◌∷◌}
+use Rattle.std.specs.Prelude.{◌≡◌, ◌≢◌, ℕ, ◌<◌, ◌≤◌, ◌⊎◌, List, [], length, Option, Some, None, ◌++◌, ◌∷◌}
+use Rattle.limits.specs.declared.TheConstants.{MAX_ARCS, MAX_VERTICES}
 use Rattle.link_key.specs.Arc.{Arc}
 use Rattle.link_key.specs.Link.{key_of, arc_key, AreLinksOf, EndsUpTo}
 use Rattle.link_key.specs.declared.links.Link.{Link}
@@ -34,7 +35,7 @@ IsSound (Some size) count links = (count ≤ size.arcs) × EndsUpTo size.vertice
 abbrev pub Judges : Verdict → Option Size → ℕ → List (List ℕ) → List ℕ → Type 0
 Judges verdict.Silent size count lines line = IsSilent line
 Judges (verdict.Begins new) size count lines line = (size ≡ None) × Says line (Problem new.vertices new.arcs)
-    × (new.vertices ≤ 2 ^ 26) × (new.arcs ≤ 2 ^ 30)
+    × (new.vertices ≤ MAX_VERTICES) × (new.arcs ≤ MAX_ARCS)
 Judges (verdict.Adds u v w) None count lines line = ⊥
 Judges (verdict.Adds u v w) (Some size) count lines line =
     Says line (ArcLine (record { tail = u; head = v; weight = w }))

@@ -1,6 +1,7 @@
-ghost use Rattle.std.specs.Prelude.{◌≡◌, ◌≤◌, ◌^◌, length};
+ghost use Rattle.std.specs.Prelude.{◌≡◌, ◌≤◌, length};
 ghost use Rattle.link_key.specs.Link.{EndsUpTo};
 
+use limits::{MAX_ARCS, MAX_VERTICES};
 use link_key::Link;
 use std::alloc::{Allocator, Global};
 use std::marker::Model;
@@ -16,7 +17,8 @@ pub struct Graph<A: Allocator = Global> {
 }
 
 impl<A: Allocator> Model for Graph<A> {
-    ghost use Rattle.std.specs.Prelude.{◌≤◌, ◌^◌, length};
+    ghost use Rattle.std.specs.Prelude.{◌≤◌, length};
+    ghost use Rattle.limits.specs.declared.TheConstants.{MAX_ARCS, MAX_VERTICES};
     ghost use Rattle.link_key.specs.Link.{EndsUpTo};
     ghost use Rattle.gr_text.specs.Graph.{GraphValue};
 
@@ -24,14 +26,14 @@ impl<A: Allocator> Model for Graph<A> {
 
     ghost view = { λ g. record { vertices = g.vertices; links = g.links.items } };
 
-    ghost invariant = { λ g. (g.vertices ≤ 2 ^ 26) × EndsUpTo g.vertices g.links.items × (length g.links.items ≤ 2 ^ 30) };
+    ghost invariant = { λ g. (g.vertices ≤ MAX_VERTICES) × EndsUpTo g.vertices g.links.items × (length g.links.items ≤ MAX_ARCS) };
 }
 
 impl<A: Allocator> Graph<A> {
     pub(crate) fn of_parts(vertices: u32, links: Vec<Link, A>) -> Graph<A>
-        requires few_vertices { vertices ≤ 2 ^ 26 }
+        requires few_vertices { vertices ≤ MAX_VERTICES }
         requires ends { EndsUpTo vertices links.items }
-        requires few_links { length links.items ≤ 2 ^ 30 }
+        requires few_links { length links.items ≤ MAX_ARCS }
         ensures vertices { result.vertices ≡ vertices }
         ensures links { result.links ≡ links.items }
     {
@@ -41,7 +43,7 @@ impl<A: Allocator> Graph<A> {
     /// The number of vertices, whether a link has them or not. In constant time.
     pub fn n(&self) -> u32
         ensures vertices { result ≡ self.now.vertices }
-        ensures few { result ≤ 2 ^ 26 }
+        ensures few { result ≤ MAX_VERTICES }
     {
         self.vertices
     }
@@ -50,7 +52,7 @@ impl<A: Allocator> Graph<A> {
     pub fn links(&self) -> &[Link]
         ensures links { result.now ≡ self.now.links }
         ensures ends { EndsUpTo self.now.vertices self.now.links }
-        ensures few { length self.now.links ≤ 2 ^ 30 }
+        ensures few { length self.now.links ≤ MAX_ARCS }
     {
         self.links.as_slice()
     }

@@ -18,9 +18,8 @@
 //! (`specs/`); no layer keeps the text.
 //!
 //! **Where to start a change.** What a line may say: `specs/Statement.antt`, then [`words`]. What is wrong
-//! with a line, and which fault comes first: `specs/Fault.antt`, then [`verdicts`]. The limits of vertices
-//! and arc lines: [`sizes`], and `2 ^ 26` and `2 ^ 30` in `specs/` and [`graphs`]. The limit of bytes:
-//! [`MAX_BYTES`], and `2 ^ 40` in the contracts of [`parsing`], [`reader`] and [`sourced`]. That of weights:
+//! with a line, and which fault comes first: `specs/Fault.antt`, then [`verdicts`]. The limits of vertices,
+//! arc lines and bytes: the crate `limits`, whose names code, contracts and `specs/` cite. That of weights:
 //! `IsWeight` in `specs/Graph.antt`, then [`verdicts`].
 #![tactic(auto)]
 
@@ -42,7 +41,8 @@ pub mod writer;
 
 pub use faults::{GrFault, GrKind, ReadFault};
 pub use graphs::Graph;
-pub use parsing::{MAX_BYTES, parse};
+pub use limits::MAX_BYTES;
+pub use parsing::parse;
 pub use reader::GrReader;
 pub use sourced::{read_graph, read_graph_upto};
 pub use writer::{WriteFault, write_forest};

@@ -1,13 +1,10 @@
-ghost use Rattle.std.specs.Prelude.{◌^◌};
 ghost use Rattle.gr_text.specs.Reader.{IsRead};
 
 use crate::faults::ReadFault;
 use crate::graphs::Graph;
 use crate::reader::GrReader;
+use limits::MAX_BYTES;
 use std::alloc::Allocator;
-
-/// The largest number of bytes of a text: [`parse`] and `read_graph` take no longer one.
-pub const MAX_BYTES: u64 = 1 << 40;
 
 /// The graph that a text means.
 ///
@@ -15,7 +12,7 @@ pub const MAX_BYTES: u64 = 1 << 40;
 /// never `Source`. `TooLong` comes past [`MAX_BYTES`]. The time is linear in the bytes; the memory is that of
 /// the links, which are pushed one by one.
 pub fn parse<A: Allocator>(alloc: A, bytes: &[u8]) -> Result<Graph<A>, ReadFault>
-    ensures { IsRead (2 ^ 40) bytes.now result }
+    ensures { IsRead MAX_BYTES bytes.now result }
 {
     let mut reader = GrReader::new(alloc, MAX_BYTES);
     let _ = reader.feed(bytes);

@@ -1,10 +1,11 @@
-ghost use Rattle.std.specs.Prelude.{◌≡◌, ℕ, ◌+◌, ◌≤◌, ◌^◌, ◌==◌, List, [], ◌++◌, None, Some, IfErr, IfSome, OnOk, MatchResult, Err, count_by, length};
+ghost use Rattle.std.specs.Prelude.{◌≡◌, ℕ, ◌+◌, ◌≤◌, ◌==◌, List, [], ◌++◌, None, Some, IfErr, IfSome, OnOk, MatchResult, Err, count_by, length};
 ghost use Rattle.gr_text.specs.Lines.{line_feed};
 ghost use Rattle.gr_text.specs.Reader.{HasRead, IsRead};
 
 use crate::faults::ReadFault;
 use crate::graphs::Graph;
 use crate::reading::Reading;
+use limits::MAX_BYTES;
 use std::alloc::{Allocator, Global};
 use std::marker::Model;
 
@@ -22,7 +23,8 @@ pub struct GrReader<A: Allocator = Global> {
 }
 
 impl<A: Allocator> Model for GrReader<A> {
-    ghost use Rattle.std.specs.Prelude.{◌+◌, ◌≤◌, ◌^◌};
+    ghost use Rattle.std.specs.Prelude.{◌+◌, ◌≤◌};
+    ghost use Rattle.limits.specs.declared.TheConstants.{MAX_BYTES};
     ghost use Rattle.gr_text.specs.Reader.{ReaderValue};
     ghost use Rattle.gr_text.specs.Reading.{IsSound};
 
@@ -39,14 +41,14 @@ impl<A: Allocator> Model for GrReader<A> {
       fault = r.fault;
     } };
 
-    ghost invariant = { λ r. (r.limit ≤ 2 ^ 40) × (r.fed ≤ r.limit) × (r.reading.number ≤ r.fed + 1)
+    ghost invariant = { λ r. (r.limit ≤ MAX_BYTES) × (r.fed ≤ r.limit) × (r.reading.number ≤ r.fed + 1)
         × IsSound r.reading.so_far.size r.reading.so_far.count r.reading.so_far.links.items };
 }
 
 impl<A: Allocator> GrReader<A> {
     /// A reader that was fed nothing, and that takes at most `limit` bytes. It takes no memory yet.
     pub fn new(alloc: A, limit: u64) -> GrReader<A>
-        requires { limit ≤ 2 ^ 40 }
+        requires { limit ≤ MAX_BYTES }
         ensures limit { result.limit ≡ limit }
         ensures empty { result.fed ≡ 0 }
         ensures no_fault { result.fault ≡ None }

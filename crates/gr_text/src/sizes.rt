@@ -1,10 +1,5 @@
-ghost use Rattle.std.specs.Prelude.{◌≤◌, ◌^◌};
-
-/// The largest number of vertices that a text may state.
-pub const MAX_VERTICES: u32 = 1 << 26;
-
-/// The largest number of arc lines that a text may state.
-pub const MAX_ARCS: u32 = 1 << 30;
+ghost use Rattle.std.specs.Prelude.{◌≤◌};
+ghost use Rattle.limits.specs.declared.TheConstants.{MAX_ARCS, MAX_VERTICES};
 
 /// What a problem line states, within the limits.
 #[derive(Clone, Copy, PartialEq, Eq)]
@@ -13,6 +8,6 @@ pub struct Size {
     pub vertices: u32,
     /// The number of arc lines.
     pub arcs: u32,
-    ghost in_limit: { vertices ≤ 2 ^ 26 },
-    ghost few_arcs: { arcs ≤ 2 ^ 30 },
+    ghost in_limit: { vertices ≤ MAX_VERTICES },
+    ghost few_arcs: { arcs ≤ MAX_ARCS },
 }

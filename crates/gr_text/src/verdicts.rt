@@ -1,4 +1,4 @@
-ghost use Rattle.std.specs.Prelude.{◌≡◌, ◌≤◌, ◌^◌, ℕ, ℤ, List, codes, MatchOption};
+ghost use Rattle.std.specs.Prelude.{◌≡◌, ◌≤◌, ℕ, ℤ, List, codes, MatchOption};
 ghost use Rattle.gr_text.specs.Fields.{AreFields};
 ghost use Rattle.gr_text.specs.Statement.{Says, Problem, ArcLine};
 ghost use Rattle.gr_text.specs.Word.{IsCapped, IsCappedSigned, LineMeans};
@@ -8,8 +8,9 @@ ghost use Rattle.gr_text.specs.Graph.{IsWeight};
 ghost use Rattle.link_key.specs.Arc.{Arc};
 
 use crate::faults::GrKind;
-use crate::sizes::{MAX_ARCS, MAX_VERTICES, Size};
+use crate::sizes::Size;
 use crate::words::Line;
+use limits::{MAX_ARCS, MAX_VERTICES};
 
 /// What a line does after those before it.
 #[derive(Clone, Copy)]
