@@ -1,4 +1,7 @@
 // A worker's engine over a triangle of equal weights: its scan, what it hears, and whole sessions.
+ghost use Rattle.std.specs.Prelude.{◌-◌, ◌<◌, ◌^◌, ◌↔◌, IsTrue};
+ghost use Rattle.link_key.specs.Link.{EndsUpTo};
+
 use crate::graphs::links_of;
 use byte_streams::{FusedSink, FusedSource};
 use frames::{Answer, Frame, FrameFault, encode, encode_ask, encode_shard, read_frame};
@@ -216,12 +219,9 @@ fn reads_that_fail_in_mid_session(rt: HostRuntime) -> Result<(), Fail> {
 }
 
 // A session ends at a write, and the sink has taken this.
-fn expect_cut(
-    rt: &impl Abort,
-    alloc: Global,
-    mut sink: FusedSink,
-    taken: &[u8],
-) -> Result<(), Fail> {
+fn expect_cut(rt: &impl Abort, alloc: Global, mut sink: FusedSink, taken: &[u8]) -> Result<(), Fail>
+    requires { sink.setbacks < 2 ^ 64 - 1 }
+{
     let bytes = joined(alloc, &[&SHARD, &ASK])?;
     let mut source = bytes.as_slice();
     let end = serve(alloc, 0, &mut source, &mut sink);
@@ -279,8 +279,10 @@ fn plain_offers(
     labels: &Labels,
 ) -> Result<Vec<(u32, u32)>, Fail> {
     let mut sorted = Vec::new(alloc);
-    for (place, link) in links.iter().enumerate() {
-        sorted.push((*link, place as u32))?;
+    let mut place: u32 = 0;
+    for link in links {
+        sorted.push((*link, place))?;
+        place = place.wrapping_add(1);
     }
     sorted.as_mut_slice().sort_unstable();
     let labels = labels.as_slice();
@@ -316,6 +318,26 @@ fn expect_known(rt: &impl Abort, pairs: &[(u32, u32)]) {
     assert_eq!(rt; &pairs[4355..], last.as_slice());
 }
 
+// Whether each end is one of so many vertices.
+fn have_labels(links: &[Link], n: u32) -> bool
+    ensures { IsTrue result ↔ EndsUpTo n links.now }
+{
+    links.iter().all(|link| link.high <= n)
+}
+
+// The scan of links that are few enough and whose ends all have labels.
+fn scanned(
+    rt: &impl Abort,
+    alloc: Global,
+    links: &[Link],
+    labels: &Labels,
+) -> Result<Offers, Fail> {
+    assert!(rt; links.len() <= 1 << 24);
+    assert!(rt; have_labels(links, labels.n()));
+    let offers = scan(alloc, links, labels)?;
+    Ok(offers)
+}
+
 #[test]
 fn a_scan_of_ten_thousand_links(rt: HostRuntime) -> Result<(), Fail> {
     let links = many_links(&rt, rt.alloc())?;
@@ -323,7 +345,7 @@ fn a_scan_of_ten_thousand_links(rt: HostRuntime) -> Result<(), Fail> {
     let expected = plain_offers(&rt, rt.alloc(), links.as_slice(), &labels)?;
     expect_known(&rt, expected.as_slice());
     assert!(rt; links.len() == 9998 && labels.n() == MANY);
-    let offers = scan(rt.alloc(), links.as_slice(), &labels)?;
+    let offers = scanned(&rt, rt.alloc(), links.as_slice(), &labels)?;
     assert_eq!(rt; offers.pairs(), expected.as_slice());
     Ok(())
 }

@@ -57,8 +57,6 @@ mod reading;
 #[cfg(test)]
 mod refusals;
 #[cfg(test)]
-mod rounds;
-#[cfg(test)]
 mod shard_sets;
 #[cfg(test)]
 mod sizes;

@@ -68,8 +68,10 @@ fn a_file_that_is_not_read(rt: HostRuntime) -> Result<(), Fail> {
     }));
     let mut source = file.as_slice();
     assert_eq!(rt; run_plain(rt.alloc(), &mut source, &mut sink), Err(missing));
+    assert!(rt; sink.held().is_empty());
     let failed = RunFault::Read(ReadFault::Source { line: 2 });
     let mut source = FusedSource::new(Vec::from_slice(rt.alloc(), file)?, 12, 5);
+    let mut sink = FusedSink::new(rt.alloc(), 10, 3)?;
     assert_eq!(rt; run_plain(rt.alloc(), &mut source, &mut sink), Err(failed));
     assert!(rt; sink.held().is_empty());
     Ok(())
