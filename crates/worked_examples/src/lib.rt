@@ -8,15 +8,17 @@
 //!   graphs          the worked graphs, each once: a file, its arcs, the links and the text of its forest
 //!   lists           links of arcs, labels, offers, forests; the forests of the worked graphs
 //!   drawn_lists     the solver beside a plain program, over drawn lists
-//!   streams         sources and sinks, and those that fail at a byte
+//!   cuts            a list of links, cut into shards
+//!   streams, failing_devices, given_streams    sources and sinks: those that fail, and those that tell only what they gave
 //!   reading         `.gr` texts, their faults, pieces and limits
 //!   writing         forest texts, and how much of one went out
 //!   plain_runs      a file to its forest text
 //!   frames_codec    frames and their bytes, and each refusal
-//!   engine          a worker's scan, what its engine hears, whole sessions
-//!   board           claims of shards, by one seat and by many
+//!   engine          a worker's scan, what it hears, and whole sessions
+//!   board, shard_sets   claims of shards, by one seat and by many; sets of shards
 //!   sizes           each call past the size of every inner piece
 //!   fault_texts     what each fault is told as
+//!   refusals        work whose allocations are refused in turn
 //!   memory_counts, memory_of_lists, memory_of_frames      which blocks of memory live after a call
 //! ```
 //!
