@@ -6,10 +6,10 @@
 //!   round and the shard that were asked, with the light offers of that shard under the labels that were
 //!   asked. Such a wire never answers `Garbled` or `WrongHello`, and of the worker's faults only want of
 //!   memory.
-//! - Over any line each fault has its cause in the bytes that came in that ask, or in what the line
-//!   counted, and closes the wire for good.
-//! - An open wire over a line that was fresh sent asks, and before its first ask each shard that they
-//!   name; it got the worker's hello and one answer for each ask, and nothing else.
+//! - Over any line each fault closes the wire for good, and each but want of memory has its cause in the
+//!   bytes that came in that ask, or in what the line counted. Nothing limits where want of memory is told.
+//! - An open wire over a line that was fresh, and tells its bytes, sent one ask for each answer; it got the
+//!   worker's hello and these answers, and nothing else. That no shard goes out twice isn't promised.
 //!
 //! ```text
 //!     Port::ask, shut, is_open, asks        what rounds ask
