@@ -70,12 +70,7 @@ shard_unlinked BadField n c body rest links wide wide' first second begun none =
       none ls same,
 )
 shard_unlinked Memory n c body rest links wide wide' first second begun none = inl (refl, begun)
-shard_unlinked BadKind n c body rest links wide wide' first second begun none = absurd none
-shard_unlinked BadLength n c body rest links wide wide' first second begun none = absurd none
-shard_unlinked BadVersion n c body rest links wide wide' first second begun none = absurd none
-shard_unlinked Ended n c body rest links wide wide' first second begun none = absurd none
-shard_unlinked Torn n c body rest links wide wide' first second begun none = absurd none
-shard_unlinked Device n c body rest links wide wide' first second begun none = absurd none
+shard_unlinked _ n c body rest links wide wide' first second begun none = absurd none
 
 -- a shard's body of this length, with these fields before its links
 pub shard_begun : (n c : ℕ) (body rest links : List ℕ) → n < MAX_SHARDS → c ≡ length links / 12 → IsWithItems 8 12 MAX_SHARD_LINKS (length body)

@@ -57,12 +57,7 @@ pub head_refused : (fault : FrameFault) (bytes : List ℕ) (s t : SourceState) �
     → IsReadRefused fault s t
 head_refused BadKind bytes s t five gave refused = record { bytes = bytes; gave = gave; within = inl (omega arith); refused = (omega arith, refused) }
 head_refused BadLength bytes s t five gave refused = record { bytes = bytes; gave = gave; within = inl (omega arith); refused = (omega arith, refused) }
-head_refused BadField bytes s t five gave refused = absurd refused
-head_refused BadVersion bytes s t five gave refused = absurd refused
-head_refused Ended bytes s t five gave refused = absurd refused
-head_refused Torn bytes s t five gave refused = absurd refused
-head_refused Device bytes s t five gave refused = absurd refused
-head_refused Memory bytes s t five gave refused = absurd refused
+head_refused _ bytes s t five gave refused = absurd refused
 
 -- ---- a body that didn't come
 
@@ -119,11 +114,7 @@ body_fault : (fault : FrameFault) (all : List ℕ) → HasBody all → BodyRefus
 body_fault BadVersion all whole refused = ((whole, refused), refl, refl)
 body_fault BadField all whole refused = ((whole, refused), refl, refl)
 body_fault Memory all whole refused = (inr (whole, refused), refl, refl)
-body_fault BadKind all whole refused = absurd refused
-body_fault BadLength all whole refused = absurd refused
-body_fault Ended all whole refused = absurd refused
-body_fault Torn all whole refused = absurd refused
-body_fault Device all whole refused = absurd refused
+body_fault _ all whole refused = absurd refused
 
 -- a head and its body
 pub body_refused : (fault : FrameFault) (kind len : ℕ) (bytes body : List ℕ) (s t u : SourceState) → IsU32 len → IsPossible kind len → length body ≡ len

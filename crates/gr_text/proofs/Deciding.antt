@@ -8,7 +8,7 @@ use Rattle.link_key.specs.Arc.{Arc}
 use Rattle.gr_text.specs.Lines.{with_last, AreLines}
 use Rattle.gr_text.specs.Fields.{IsBlank, IsFieldByte, AreFields, IsDigit, number_of, Writes, WritesSigned}
 use Rattle.gr_text.specs.Statement.{Problem, ArcLine, AreSilent, FieldsSay, IsSilent, Says}
-use Rattle.gr_text.specs.Graph.{HasEnds, IsWeight, AreLawful, AreLawfulSoFar}
+use Rattle.gr_text.specs.Graph.{HasEnds, IsWeight, AreLawfulLines, AreLawfulSoFar}
 use Rattle.gr_text.specs.Fault.{BeginsWith, IsUnknown, IsFaultAfter, IsFirstFaulty}
 use Rattle.gr_text.specs.Partial.{with_field, AreParts}
 use Rattle.gr_text.specs.Laws.{MeansOrFails}
@@ -17,7 +17,7 @@ use Rattle.gr_text.specs.declared.faults.GrKind.TheVariants.{UnknownLine, NoProb
 use Rattle.gr_text.proofs.FieldBytes.{head_is}
 use Rattle.gr_text.proofs.Parts.{AreParts-none, AreParts-byte, AreParts-blank, AreParts-whole}
 use Rattle.gr_text.proofs.Unique.{AreFields-unique}
-use Rattle.gr_text.proofs.Steps.{Say-silent, AreLawful-silent, AreLawful-problem, AreLawful-arc}
+use Rattle.gr_text.proofs.Steps.{Say-silent, AreLawfulLines-silent, AreLawfulLines-problem, AreLawfulLines-arc}
 use Rattle.gr_text.proofs.Cuts.{cut_of}
 use Rattle.gr_text.proofs.Faulty.{fault_is_faulty}
 
@@ -224,7 +224,7 @@ Goes before line = AreLawfulSoFar (before ++ line ∷ []) ⊎ ((kind : GrKind) �
 
 silent_goes : (before : List (List ℕ)) (line : List ℕ) → AreLawfulSoFar before → IsSilent line → Goes before line
 silent_goes before line (inl none) silent = inl (inl (Say-silent before line [] none silent))
-silent_goes before line (inr (n, m, arcs, known)) silent = inl (inr (n, m, arcs, AreLawful-silent before line n m arcs known silent))
+silent_goes before line (inr (n, m, arcs, known)) silent = inl (inr (n, m, arcs, AreLawfulLines-silent before line n m arcs known silent))
 
 problem_goes : (before : List (List ℕ)) (line : List ℕ) → AreLawfulSoFar before → BeginsWith line (codes "p") → Goes before line
 problem_goes before line (inr (n, m, arcs, known)) begins = inr (SecondProblem, (begins, (n, m, arcs, known, tt)))
@@ -234,7 +234,7 @@ problem_goes before line (inl none) begins = elim (problem_line_or_not line) [
     | inr (test, over) ↦ inr (TooLarge, (none, (n, m, says, inl over)))
     | inl (test, vertices) ↦ elim (leb_tells m MAX_ARCS) [
       | inr (test', over) ↦ inr (TooLarge, (none, (n, m, says, inr over)))
-      | inl (test', arcs) ↦ inl (inr (n, m, [], AreLawful-problem before line n m none says vertices arcs))
+      | inl (test', arcs) ↦ inl (inr (n, m, [], AreLawfulLines-problem before line n m none says vertices arcs))
     ]
   ]
 ]
@@ -249,7 +249,7 @@ arc_goes before line (inr (n, m, arcs, known)) begins = elim (leb_tells m (lengt
       | inr out ↦ inr (EndOutOfRange, (n, m, arcs, known, (room, (arc, says, out))))
       | inl ends ↦ elim (weight_or_not arc.weight) [
         | inr out ↦ inr (WeightOutOfRange, (n, m, arcs, known, (room, (arc, says, ends, out))))
-        | inl weight ↦ inl (inr (n, m, arcs ++ arc ∷ [], AreLawful-arc before line n m arcs arc known says (ends, weight) room))
+        | inl weight ↦ inl (inr (n, m, arcs ++ arc ∷ [], AreLawfulLines-arc before line n m arcs arc known says (ends, weight) room))
       ]
     ]
   ]
@@ -303,7 +303,7 @@ means_or_fails text =
           (
             lines,
             are,
-            (let all : m ≡ length arcs = omega (arith, known.no_more) in subst (λ (k : ℕ). AreLawful lines n k arcs) all known),
+            (let all : m ≡ length arcs = omega (arith, known.no_more) in subst (λ (k : ℕ). AreLawfulLines lines n k arcs) all known),
           ),
         )
       ]

@@ -5,7 +5,7 @@ use Rattle.std.proofs.lemmas.List.{map-append, length_push}
 use Rattle.limits.specs.declared.TheConstants.{MAX_ARCS, MAX_VERTICES}
 use Rattle.link_key.specs.Arc.{Arc}
 use Rattle.gr_text.specs.Statement.{Statement, Problem, ArcLine, AreSilent, IsSilent, Says, Say}
-use Rattle.gr_text.specs.Graph.{HasEnds, IsWeight, IsArcOf, AreLawful, AreLawfulSoFar}
+use Rattle.gr_text.specs.Graph.{HasEnds, IsWeight, IsArcOf, AreLawfulLines, AreLawfulSoFar}
 use Rattle.gr_text.specs.Fault.{BeginsWith, IsUnknown, IsFaultAfter}
 use Rattle.gr_text.specs.declared.faults.GrKind.{GrKind}
 use Rattle.gr_text.specs.declared.faults.GrKind.TheVariants.{UnknownLine, NoProblemYet, SecondProblem, BadProblem, TooLarge, BadArc, EndOutOfRange, WeightOutOfRange, TooManyArcs, MissingProblem, MissingArcs}
@@ -64,7 +64,7 @@ lawful_first before line none speaks (inr (n, m, arcs, lawful)) =
     ]
 
 -- a lawful line that says something after the problem: an arc
-lawful_next : (before : List (List ℕ)) (line : List ℕ) (n m : ℕ) (arcs : List Arc) → AreLawful before n m arcs → ¬ (IsSilent line) → AreLawfulSoFar (before ++ line ∷ [])
+lawful_next : (before : List (List ℕ)) (line : List ℕ) (n m : ℕ) (arcs : List Arc) → AreLawfulLines before n m arcs → ¬ (IsSilent line) → AreLawfulSoFar (before ++ line ∷ [])
     → (arc : Arc) × Says line (ArcLine arc) × IsArcOf n arc × (length arcs < m)
 lawful_next before line n m arcs known speaks (inl say) =
     let (told, says, last) = Say-split before line [] say in

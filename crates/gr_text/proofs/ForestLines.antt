@@ -4,7 +4,7 @@ use Rattle.std.specs.List.{flat_map}
 use Rattle.std.proofs.lemmas.Grind.{flat_map-append}
 use Rattle.std.proofs.lemmas.List.{take-append-drop, flat_map_more, take_more}
 use Rattle.link_key.specs.declared.links.Link.{Link}
-use Rattle.gr_text.specs.ForestText.{header_of, line_of, forest_text}
+use Rattle.gr_text.specs.ForestText.{header_of, link_line, forest_text}
 use Rattle.byte_streams.specs.Streams.{SinkState, Took}
 use Rattle.byte_streams.proofs.Streaming.{took_no_more}
 use Rattle.gr_text.specs.Handing.{HandsOn, HandsPrefix}
@@ -13,24 +13,24 @@ use Rattle.gr_text.proofs.Handing.{handed_all, hands_behind, hands_then_hands, h
 
 -- the first line, and the lines of the first i links
 abbrev pub lines_before : ℕ → List Link → ℕ → List ℕ
-lines_before n links i = header_of n (length links) ++ flat_map line_of (take i links)
+lines_before n links i = header_of n (length links) ++ flat_map link_line (take i links)
 
 -- the lines of the other links follow
-pub text_split : (n : ℕ) (links : List Link) (i : ℕ) → lines_before n links i ++ flat_map line_of (drop i links) ≡ forest_text n links
+pub text_split : (n : ℕ) (links : List Link) (i : ℕ) → lines_before n links i ++ flat_map link_line (drop i links) ≡ forest_text n links
 text_split n links i =
-    append_assoc (header_of n (length links)) (flat_map line_of (take i links)) (flat_map line_of (drop i links))
-    ∙ ap (λ lines. header_of n (length links) ++ lines) (sym (flat_map-append line_of (take i links) (drop i links)) ∙ ap (flat_map line_of) (take-append-drop i links))
+    append_assoc (header_of n (length links)) (flat_map link_line (take i links)) (flat_map link_line (drop i links))
+    ∙ ap (λ lines. header_of n (length links) ++ lines) (sym (flat_map-append link_line (take i links) (drop i links)) ∙ ap (flat_map link_line) (take-append-drop i links))
 
 -- the lines of all links
 pub text_whole : (n : ℕ) (links : List Link) (i : ℕ) → length links ≤ i → lines_before n links i ≡ forest_text n links
-text_whole n links i all = ap (λ part. header_of n (length links) ++ flat_map line_of part) (take_all i links all)
+text_whole n links i all = ap (λ part. header_of n (length links) ++ flat_map link_line part) (take_all i links all)
 
 -- a prefix of the lines so far went out before a setback
 pub text_prefix : (middle after n : ℕ) (links forest : List Link) (i : ℕ) (piece : List ℕ) (s t u : SinkState) → links ≡ forest
     → HandsOn 0 middle (lines_before n links i) piece s t → HandsPrefix middle after piece t u → PrefixWentOut after (forest_text n forest) s u
 text_prefix middle after n links forest i piece s t u same hands part =
     subst (λ text. PrefixWentOut after text s u) (text_split n links i ∙ ap (forest_text n) same)
-    (hands_then_prefix middle after (lines_before n links i) piece (flat_map line_of (drop i links)) s t u hands part)
+    (hands_then_prefix middle after (lines_before n links i) piece (flat_map link_line (drop i links)) s t u hands part)
 
 -- all lines went out
 pub text_all : (middle total n : ℕ) (links forest : List Link) (i : ℕ) (piece rest : List ℕ) (s t u : SinkState) → links ≡ forest → length links ≤ i
@@ -43,12 +43,12 @@ text_all middle total n links forest i piece rest s t u same all first second no
 -- one more line waits
 pub text_more : (middle total n : ℕ) (links : List Link) (i : ℕ) (piece rest : List ℕ) (link : Link) (s t u : SinkState) → i < length links
     → link ≡ get_or links i link → HandsOn 0 middle (lines_before n links i) piece s t → HandsOn middle total piece rest t u
-    → HandsOn 0 total (lines_before n links (i + 1)) (rest ++ line_of link) s u
+    → HandsOn 0 total (lines_before n links (i + 1)) (rest ++ link_line link) s u
 text_more middle total n links i piece rest link s t u within is first second =
-    subst (λ text. HandsOn 0 total text (rest ++ line_of link) s u)
-    (flat_map_more line_of (header_of n (length links)) (take i links) link
-    ∙ ap (λ part. header_of n (length links) ++ flat_map line_of part) (ap (λ l. take i links ++ l ∷ []) is ∙ sym (take_more links i link within)))
-    (hands_behind 0 total (lines_before n links i) rest (line_of link) s u (hands_then_hands 0 middle total (lines_before n links i) piece rest s t u first second))
+    subst (λ text. HandsOn 0 total text (rest ++ link_line link) s u)
+    (flat_map_more link_line (header_of n (length links)) (take i links) link
+    ∙ ap (λ part. header_of n (length links) ++ flat_map link_line part) (ap (λ l. take i links ++ l ∷ []) is ∙ sym (take_more links i link within)))
+    (hands_behind 0 total (lines_before n links i) rest (link_line link) s u (hands_then_hands 0 middle total (lines_before n links i) piece rest s t u first second))
 
 -- a flush that failed behind all lines
 pub text_unflushed : (total : ℕ) (text : List ℕ) (s t u : SinkState) → Took 0 text s t × (total ≡ told_count (length text)) → Took 1 [] t u

@@ -8,7 +8,7 @@ use Rattle.std.proofs.lemmas.List.Concat.{length-flat_map}
 use Rattle.std.proofs.lemmas.List.Sums.{sum_by-le}
 use Rattle.link_key.specs.declared.links.Link.{Link}
 use Rattle.byte_streams.specs.Streams.{SinkState, WentOut}
-use Rattle.gr_text.specs.ForestText.{header_of, line_of, forest_text}
+use Rattle.gr_text.specs.ForestText.{header_of, link_line, forest_text}
 use Rattle.gr_text.specs.Written.{PrefixWentOut}
 use Rattle.gr_text.proofs.Handing.{prefix_is_exact}
 
@@ -33,16 +33,16 @@ signed_fits (negsuc n) = omega (arith, decimal_fits (suc n))
 header_fits : (n k : ℕ) → length (header_of n k) ≤ 256
 header_fits n k = simp length-append (omega (arith, decimal_fits n, decimal_fits k))
 
-line_fits : (l : Link) → length (line_of l) ≤ 256
+line_fits : (l : Link) → length (link_line l) ≤ 256
 line_fits l = simp length-append (omega (arith, decimal_fits l.low, decimal_fits l.high, signed_fits l.weight))
 
 text_fits : (n : ℕ) (links : List Link) → length (forest_text n links) ≤ 256 + length links * 256
 text_fits n links = omega (
   arith,
-  length-append (header_of n (length links)) (flat_map line_of links),
+  length-append (header_of n (length links)) (flat_map link_line links),
   header_fits n (length links),
-  length-flat_map line_of links,
-  sum_by-le (λ l. length (line_of l)) 256 links (λ k d within. line_fits (get_or links k d)),
+  length-flat_map link_line links,
+  sum_by-le (λ l. length (link_line l)) 256 links (λ k d within. line_fits (get_or links k d)),
 )
 
 -- what is told of the text of a forest that isn't huge is the number itself

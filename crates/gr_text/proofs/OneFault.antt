@@ -4,7 +4,7 @@ use Rattle.std.specs.List.{AllByRecursion}
 use Rattle.std.proofs.lemmas.List.{length_push}
 use Rattle.link_key.specs.Arc.{Arc}
 use Rattle.gr_text.specs.Statement.{Statement, Problem, ArcLine, Says, Say}
-use Rattle.gr_text.specs.Graph.{HasEnds, IsArcOf, AreLawful, AreLawfulSoFar}
+use Rattle.gr_text.specs.Graph.{HasEnds, IsArcOf, AreLawfulLines, AreLawfulSoFar}
 use Rattle.gr_text.specs.Fault.{BeginsWith, IsUnknown, AfterProblem, IsFaultAfter, IsFirstFaulty, Lacks}
 use Rattle.gr_text.specs.Laws.{NeverBoth, HasOneFault}
 use Rattle.gr_text.specs.declared.faults.GrKind.{GrKind}
@@ -13,7 +13,7 @@ use Rattle.gr_text.proofs.FieldBytes.{head_is}
 use Rattle.gr_text.proofs.Unique.{AreFields-unique, AreLines-unique, Says-unique, Say-unique}
 use Rattle.gr_text.proofs.Faulty.{Say-split}
 use Rattle.gr_text.proofs.Judging.{begins_problem, begins_arc}
-use Rattle.gr_text.proofs.Texts.{AreLawful-unique}
+use Rattle.gr_text.proofs.Texts.{AreLawfulLines-unique}
 
 -- the last of the statements of arc lines is one of them
 no_arcs : (arcs : List Arc) → map ArcLine arcs ≡ [] → arcs ≡ []
@@ -40,7 +40,7 @@ front_of : {X : Type 0} (P : X → Type 0) (xs : List X) (x : X) → AllByRecurs
 front_of P [] x all = tt
 front_of P (y ∷ xs) x all = (all.0, front_of P xs x all.1)
 
-lawful_told : (lines : List (List ℕ)) (whole : List (List ℕ)) (n m : ℕ) (arcs : List Arc) (told : List Statement) (s : Statement) → AreLawful whole n m arcs → Say lines told
+lawful_told : (lines : List (List ℕ)) (whole : List (List ℕ)) (n m : ℕ) (arcs : List Arc) (told : List Statement) (s : Statement) → AreLawfulLines whole n m arcs → Say lines told
     → Problem n m ∷ map ArcLine arcs ≡ told ++ s ∷ [] → AreLawfulSoFar lines
 lawful_told lines whole n m arcs [] s lawful says same = inl says
 lawful_told lines whole n m arcs (t ∷ told) s lawful says same =
@@ -103,18 +103,18 @@ lack_lawful lines MissingProblem lacks = inl lacks
 lack_lawful lines MissingArcs (n, m, arcs, lawful, few) = inr (n, m, arcs, lawful)
 lack_lawful lines kind lacks = absurd lacks
 
-lack_no_graph : (lines : List (List ℕ)) (kind : GrKind) (n : ℕ) (arcs : List Arc) → AreLawful lines n (length arcs) arcs → Lacks lines kind → ⊥
+lack_no_graph : (lines : List (List ℕ)) (kind : GrKind) (n : ℕ) (arcs : List Arc) → AreLawfulLines lines n (length arcs) arcs → Lacks lines kind → ⊥
 lack_no_graph lines MissingProblem n arcs lawful none =
     let same : Problem n (length arcs) ∷ map ArcLine arcs ≡ [] = Say-unique lines _ _ lawful.say none in cc
 lack_no_graph lines MissingArcs n arcs lawful (k, l, others, known, few) =
-    let (sn, sm, sa) = AreLawful-unique lines n (length arcs) k l arcs others lawful known in
+    let (sn, sm, sa) = AreLawfulLines-unique lines n (length arcs) k l arcs others lawful known in
     let counted : length arcs ≡ length others = ap length sa in omega arith
 lack_no_graph lines kind n arcs lawful lacks = lacks
 
 pub never_both : NeverBoth
 never_both text n arcs number kind (lines, are, lawful) (others, are', fault) =
     let same : lines ≡ others = AreLines-unique text lines others are are' in
-    let known : AreLawful others n (length arcs) arcs = subst (λ (x : List (List ℕ)). AreLawful x n (length arcs) arcs) same lawful in
+    let known : AreLawfulLines others n (length arcs) arcs = subst (λ (x : List (List ℕ)). AreLawfulLines x n (length arcs) arcs) same lawful in
     elim fault [
       | inl first ↦ lawful_no_fault others number kind (inr (n, length arcs, arcs, known)) first
       | inr (lacks, last) ↦ lack_no_graph others kind n arcs known lacks
@@ -178,12 +178,12 @@ unsaid_or_stated before (n, m, arcs, known, any) none =
 
 full_or_room : (before : List (List ℕ)) → IsFull before → HasRoom before → ⊥
 full_or_room before (n, m, arcs, known, full) (k, l, others, known', room) =
-    let (sn, sm, sa) = AreLawful-unique before n m k l arcs others known known' in
+    let (sn, sm, sa) = AreLawfulLines-unique before n m k l arcs others known known' in
     let counted : length arcs ≡ length others = ap length sa in omega arith
 
 out_or_in : (before : List (List ℕ)) (line : List ℕ) → EndsOut before line → EndsIn before line → ⊥
 out_or_in before line (n, m, arcs, known, (arc, says, out)) (k, l, others, known', (arc', says', ends)) =
-    let (sn, sm, sa) = AreLawful-unique before n m k l arcs others known known' in
+    let (sn, sm, sa) = AreLawfulLines-unique before n m k l arcs others known known' in
     let both : ArcLine arc' ≡ ArcLine arc = Says-unique line (ArcLine arc') (ArcLine arc) says' says in
     let same : arc' ≡ arc = cc in
     out (subst (λ (x : ℕ). HasEnds x arc) (sym sn) (subst (HasEnds k) same ends))

@@ -9,7 +9,7 @@ use Rattle.link_key.specs.Arc.{Arc}
 use Rattle.link_key.specs.Link.{Key, key_of, arc_key, is_no_loop, AreLinksOf}
 use Rattle.link_key.specs.declared.links.Link.{Link}
 use Rattle.gr_text.specs.Statement.{Statement, Problem, ArcLine, IsSilent, Says, Say}
-use Rattle.gr_text.specs.Graph.{IsArcOf, AreLawful}
+use Rattle.gr_text.specs.Graph.{IsArcOf, AreLawfulLines}
 use Rattle.gr_text.specs.Reading.{Counts, Gives, Judges, AddsLink, IsLineFault}
 use Rattle.gr_text.specs.declared.sizes.Size.{Size}
 use Rattle.gr_text.specs.declared.faults.ReadFault.{ReadFault}
@@ -34,8 +34,8 @@ AllByRecursion-push P [] x all p = (p, tt)
 AllByRecursion-push P (y ∷ xs) x all p = (all.0, AllByRecursion-push P xs x all.1 p)
 
 -- a silent line after lawful ones
-pub AreLawful-silent : (lines : List (List ℕ)) (line : List ℕ) (n m : ℕ) (arcs : List Arc) → AreLawful lines n m arcs → IsSilent line → AreLawful (lines ++ line ∷ []) n m arcs
-AreLawful-silent lines line n m arcs lawful silent = record {
+pub AreLawfulLines-silent : (lines : List (List ℕ)) (line : List ℕ) (n m : ℕ) (arcs : List Arc) → AreLawfulLines lines n m arcs → IsSilent line → AreLawfulLines (lines ++ line ∷ []) n m arcs
+AreLawfulLines-silent lines line n m arcs lawful silent = record {
   say = Say-silent lines line (Problem n m ∷ map ArcLine arcs) lawful.say silent;
   vertices = lawful.vertices;
   arc_lines = lawful.arc_lines;
@@ -44,8 +44,8 @@ AreLawful-silent lines line n m arcs lawful silent = record {
 }
 
 -- the problem line
-pub AreLawful-problem : (lines : List (List ℕ)) (line : List ℕ) (n m : ℕ) → Say lines [] → Says line (Problem n m) → n ≤ MAX_VERTICES → m ≤ MAX_ARCS → AreLawful (lines ++ line ∷ []) n m []
-AreLawful-problem lines line n m say says vertices arc_lines = record {
+pub AreLawfulLines-problem : (lines : List (List ℕ)) (line : List ℕ) (n m : ℕ) → Say lines [] → Says line (Problem n m) → n ≤ MAX_VERTICES → m ≤ MAX_ARCS → AreLawfulLines (lines ++ line ∷ []) n m []
+AreLawfulLines-problem lines line n m say says vertices arc_lines = record {
   say = Say-more lines line [] (Problem n m) say says;
   vertices = vertices;
   arc_lines = arc_lines;
@@ -54,8 +54,8 @@ AreLawful-problem lines line n m say says vertices arc_lines = record {
 }
 
 -- an arc line
-pub AreLawful-arc : (lines : List (List ℕ)) (line : List ℕ) (n m : ℕ) (arcs : List Arc) (arc : Arc) → AreLawful lines n m arcs → Says line (ArcLine arc) → IsArcOf n arc → length arcs < m → AreLawful (lines ++ line ∷ []) n m (arcs ++ arc ∷ [])
-AreLawful-arc lines line n m arcs arc lawful says is_arc room = record {
+pub AreLawfulLines-arc : (lines : List (List ℕ)) (line : List ℕ) (n m : ℕ) (arcs : List Arc) (arc : Arc) → AreLawfulLines lines n m arcs → Says line (ArcLine arc) → IsArcOf n arc → length arcs < m → AreLawfulLines (lines ++ line ∷ []) n m (arcs ++ arc ∷ [])
+AreLawfulLines-arc lines line n m arcs arc lawful says is_arc room = record {
   say = subst (λ (ss : List Statement). Say (lines ++ line ∷ []) (Problem n m ∷ ss)) (sym (map-append ArcLine arcs (arc ∷ [])))
       (Say-more lines line (Problem n m ∷ map ArcLine arcs) (ArcLine arc) lawful.say says);
   vertices = lawful.vertices;
@@ -85,12 +85,12 @@ counts_of (Some size) count links lines (arcs, lawful, counted, are) = (arcs, la
 pub Gives-silent : (size : Option Size) (count : ℕ) (links : List Link) (lines : List (List ℕ)) (line : List ℕ) → Gives size count links lines → IsSilent line → Gives size count links (lines ++ line ∷ [])
 Gives-silent None count links lines line (say, zero_count, none) silent = (Say-silent lines line [] say silent, zero_count, none)
 Gives-silent (Some size) count links lines line (arcs, lawful, counted, are) silent =
-    (arcs, AreLawful-silent lines line size.vertices size.arcs arcs lawful silent, counted, are)
+    (arcs, AreLawfulLines-silent lines line size.vertices size.arcs arcs lawful silent, counted, are)
 
 pub Gives-problem : (size : Option Size) (new : Size) (count : ℕ) (links : List Link) (lines : List (List ℕ)) (line : List ℕ) → Gives size count links lines → Judges (verdict.Begins new) size count lines line
     → Gives (Some new) count links (lines ++ line ∷ [])
 Gives-problem None new count links lines line (say, zero_count, none) (is, says, vertices, arcs) =
-    ([], AreLawful-problem lines line new.vertices new.arcs say says vertices arcs, sym zero_count, ap (map key_of) none)
+    ([], AreLawfulLines-problem lines line new.vertices new.arcs say says vertices arcs, sym zero_count, ap (map key_of) none)
 Gives-problem (Some size) new count links lines line gives (is, says, vertices, arcs) = absurd (cc)
 
 links_with : (arcs : List Arc) (old new : List Link) (arc : Arc) → AreLinksOf arcs old → AddsLink old new arc → AreLinksOf (arcs ++ arc ∷ []) new
@@ -107,7 +107,7 @@ Gives-arc (Some size) size' count count' old new lines line u v w (arcs, lawful,
     let arc : Arc = record { tail = u; head = v; weight = w } in
     subst (λ (s : Option Size). Gives s count' new (lines ++ line ∷ [])) (sym same) (
       arcs ++ arc ∷ [],
-      AreLawful-arc lines line size.vertices size.arcs arcs arc lawful says is_arc (omega arith),
+      AreLawfulLines-arc lines line size.vertices size.arcs arcs arc lawful says is_arc (omega arith),
       omega (arith, length_push arcs arc),
       links_with arcs old new arc are adds,
     )

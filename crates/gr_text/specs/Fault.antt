@@ -5,7 +5,7 @@ use Rattle.link_key.specs.Arc.{Arc}
 use Rattle.gr_text.specs.Lines.{AreLines, EndsLines}
 use Rattle.gr_text.specs.Fields.{AreFields}
 use Rattle.gr_text.specs.Statement.{Problem, ArcLine, AreSilent, Says, Say}
-use Rattle.gr_text.specs.Graph.{HasEnds, IsWeight, AreLawful, AreLawfulSoFar}
+use Rattle.gr_text.specs.Graph.{HasEnds, IsWeight, AreLawfulLines, AreLawfulSoFar}
 use Rattle.gr_text.specs.declared.faults.GrKind.{GrKind}
 use Rattle.gr_text.specs.declared.faults.GrKind.TheVariants.{UnknownLine, NoProblemYet, SecondProblem, BadProblem, TooLarge, BadArc, EndOutOfRange, WeightOutOfRange, TooManyArcs, MissingProblem, MissingArcs}
 
@@ -20,7 +20,7 @@ IsUnknown line = (first : List ℕ) × (others : List (List ℕ)) × AreFields l
 
 -- the lines so far have a problem line of n and m and these arcs
 abbrev pub AfterProblem : List (List ℕ) → (ℕ → ℕ → List Arc → Type 0) → Type 0
-AfterProblem before P = (n m : ℕ) × (arcs : List Arc) × AreLawful before n m arcs × P n m arcs
+AfterProblem before P = (n m : ℕ) × (arcs : List Arc) × AreLawfulLines before n m arcs × P n m arcs
 
 -- the kind of a line's fault, by what the lines before it say
 abbrev pub IsFaultAfter : List (List ℕ) → List ℕ → GrKind → Type 0

@@ -10,9 +10,9 @@ abbrev pub header_of : ℕ → ℕ → List ℕ
 header_of n k = ended (codes "p sp " ++ decimal n ++ codes " " ++ decimal k)
 
 -- the line of a link: its lower end, its higher end and its weight
-abbrev pub line_of : Link → List ℕ
-line_of l = ended (codes "a " ++ decimal l.low ++ codes " " ++ decimal l.high ++ codes " " ++ signed_decimal l.weight)
+abbrev pub link_line : Link → List ℕ
+link_line l = ended (codes "a " ++ decimal l.low ++ codes " " ++ decimal l.high ++ codes " " ++ signed_decimal l.weight)
 
 -- the text of a forest of n vertices: the first line, then a line for each link, in order
 abbrev pub forest_text : ℕ → List Link → List ℕ
-forest_text n forest = header_of n (length forest) ++ flat_map line_of forest
+forest_text n forest = header_of n (length forest) ++ flat_map link_line forest

@@ -23,7 +23,7 @@ abbrev pub IsArcOf : ℕ → Arc → Type 0
 IsArcOf n arc = HasEnds n arc × IsWeight arc.weight
 
 -- the lines are one problem line of n and m within the limits, and then these arc lines, no more than m
-pub record AreLawful (lines : List (List ℕ)) (n m : ℕ) (arcs : List Arc) : Type 0 where
+pub record AreLawfulLines (lines : List (List ℕ)) (n m : ℕ) (arcs : List Arc) : Type 0 where
   pub say : Say lines (Problem n m ∷ map ArcLine arcs)
   pub vertices : n ≤ MAX_VERTICES
   pub arc_lines : m ≤ MAX_ARCS
@@ -32,11 +32,11 @@ pub record AreLawful (lines : List (List ℕ)) (n m : ℕ) (arcs : List Arc) : T
 
 -- nothing is wrong with the lines so far: they say nothing, or are as above
 abbrev pub AreLawfulSoFar : List (List ℕ) → Type 0
-AreLawfulSoFar lines = Say lines [] ⊎ ((n m : ℕ) × (arcs : List Arc) × AreLawful lines n m arcs)
+AreLawfulSoFar lines = Say lines [] ⊎ ((n m : ℕ) × (arcs : List Arc) × AreLawfulLines lines n m arcs)
 
 -- the text means the graph of n vertices and these arcs: its lines are lawful, and there are as many arc lines as it states
 abbrev pub Means : List ℕ → ℕ → List Arc → Type 0
-Means text n arcs = (lines : List (List ℕ)) × AreLines text lines × AreLawful lines n (length arcs) arcs
+Means text n arcs = (lines : List (List ℕ)) × AreLines text lines × AreLawfulLines lines n (length arcs) arcs
 
 -- the graph of a text: its vertices, and the links of its arcs in the order of the file
 pub record GraphValue : Type 0 where

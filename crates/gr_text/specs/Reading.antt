@@ -5,7 +5,7 @@ use Rattle.link_key.specs.Arc.{Arc}
 use Rattle.link_key.specs.Link.{key_of, arc_key, AreLinksOf, EndsUpTo}
 use Rattle.link_key.specs.declared.links.Link.{Link}
 use Rattle.gr_text.specs.Statement.{Problem, ArcLine, IsSilent, Says, Say}
-use Rattle.gr_text.specs.Graph.{GraphValue, IsArcOf, AreLawful}
+use Rattle.gr_text.specs.Graph.{GraphValue, IsArcOf, AreLawfulLines}
 use Rattle.gr_text.specs.Fault.{IsFaultAfter, Lacks}
 use Rattle.gr_text.specs.declared.faults.ReadFault.{ReadFault}
 use Rattle.gr_text.specs.declared.faults.ReadFault.TheVariants as fault
@@ -16,7 +16,7 @@ use Rattle.gr_text.specs.declared.verdicts.Verdict.TheVariants as verdict
 -- the lines state this problem, if one, and as many arcs
 abbrev pub Counts : Option Size → ℕ → List (List ℕ) → Type 0
 Counts None count lines = Say lines [] × (count ≡ 0)
-Counts (Some size) count lines = (arcs : List Arc) × AreLawful lines size.vertices size.arcs arcs × (length arcs ≡ count)
+Counts (Some size) count lines = (arcs : List Arc) × AreLawfulLines lines size.vertices size.arcs arcs × (length arcs ≡ count)
 
 -- what a verdict promises of any lines: a problem comes first, and an arc has ends in range and finds room
 abbrev pub FitsAfter : Verdict → Option Size → ℕ → Type 0
@@ -27,9 +27,9 @@ FitsAfter (verdict.Adds u v w) size count =
 FitsAfter (verdict.Faulty kind) size count = Unit {0}
 
 -- what is kept of any lines: no more arcs than the problem states, and links of its vertices, no more than arcs
-abbrev pub IsSound : Option Size → ℕ → List Link → Type 0
-IsSound None count links = (count ≡ 0) × (links ≡ [])
-IsSound (Some size) count links = (count ≤ size.arcs) × EndsUpTo size.vertices links × (length links ≤ count)
+abbrev pub IsWithinSize : Option Size → ℕ → List Link → Type 0
+IsWithinSize None count links = (count ≡ 0) × (links ≡ [])
+IsWithinSize (Some size) count links = (count ≤ size.arcs) × EndsUpTo size.vertices links × (length links ≤ count)
 
 -- what a further line does after these
 abbrev pub Judges : Verdict → Option Size → ℕ → List (List ℕ) → List ℕ → Type 0
@@ -45,7 +45,7 @@ Judges (verdict.Faulty kind) size count lines line = IsFaultAfter lines line kin
 -- the lines state this problem, if one, and arcs that give these links
 abbrev pub Gives : Option Size → ℕ → List Link → List (List ℕ) → Type 0
 Gives None count links lines = Say lines [] × (count ≡ 0) × (links ≡ [])
-Gives (Some size) count links lines = (arcs : List Arc) × AreLawful lines size.vertices size.arcs arcs × (length arcs ≡ count) × AreLinksOf arcs links
+Gives (Some size) count links lines = (arcs : List Arc) × AreLawfulLines lines size.vertices size.arcs arcs × (length arcs ≡ count) × AreLinksOf arcs links
 
 -- why a line wasn't taken: its fault, or memory
 abbrev pub IsLineFault : ReadFault → ℕ → List (List ℕ) → List ℕ → Type 0
@@ -61,7 +61,7 @@ AddsLink old new arc = ((arc.tail ≡ arc.head) × (new ≡ old))
 
 -- the graph of whole lines
 abbrev pub IsGraphOfLines : List (List ℕ) → GraphValue → Type 0
-IsGraphOfLines lines graph = (arcs : List Arc) × AreLawful lines graph.vertices (length arcs) arcs × AreLinksOf arcs graph.links
+IsGraphOfLines lines graph = (arcs : List Arc) × AreLawfulLines lines graph.vertices (length arcs) arcs × AreLinksOf arcs graph.links
 
 -- why whole lines have no graph: what lacks behind them
 abbrev pub IsLack : ReadFault → ℕ → List (List ℕ) → Type 0

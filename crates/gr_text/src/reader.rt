@@ -26,7 +26,7 @@ impl<A: Allocator> Model for GrReader<A> {
     ghost use Rattle.std.specs.Prelude.{◌+◌, ◌≤◌};
     ghost use Rattle.limits.specs.declared.TheConstants.{MAX_BYTES};
     ghost use Rattle.gr_text.specs.Reader.{ReaderValue};
-    ghost use Rattle.gr_text.specs.Reading.{IsSound};
+    ghost use Rattle.gr_text.specs.Reading.{IsWithinSize};
 
     ghost Value = { ReaderValue };
 
@@ -42,7 +42,7 @@ impl<A: Allocator> Model for GrReader<A> {
     } };
 
     ghost invariant = { λ r. (r.limit ≤ MAX_BYTES) × (r.fed ≤ r.limit) × (r.reading.number ≤ r.fed + 1)
-        × IsSound r.reading.so_far.size r.reading.so_far.count r.reading.so_far.links.items };
+        × IsWithinSize r.reading.so_far.size r.reading.so_far.count r.reading.so_far.links.items };
 }
 
 impl<A: Allocator> GrReader<A> {

@@ -1,7 +1,7 @@
 ghost use Rattle.std.specs.Prelude.{◌≡◌, ℕ, ◌+◌, ◌<◌, ◌≤◌, ◌^◌, List, [], ◌∷◌, ◌++◌, length, MatchResult};
 ghost use Rattle.gr_text.specs.Lines.{line_feed};
 ghost use Rattle.gr_text.specs.Partial.{with_word};
-ghost use Rattle.gr_text.specs.Reading.{IsSound};
+ghost use Rattle.gr_text.specs.Reading.{IsWithinSize};
 ghost use Rattle.gr_text.specs.Reader.{Stands, StopsAt, IsReadWhole};
 
 use crate::faults::ReadFault;
@@ -26,7 +26,7 @@ impl<A: Allocator> Reading<A> {
     /// Nothing was read.
     pub fn new(alloc: A) -> Reading<A>
         ensures number { result.number ≡ 1 }
-        ensures sound { IsSound result.so_far.size result.so_far.count result.so_far.links.items }
+        ensures sound { IsWithinSize result.so_far.size result.so_far.count result.so_far.links.items }
         ensures nothing { Stands result.so_far.size result.so_far.count result.so_far.links.items result.partial result.number [] }
     {
         Reading {
@@ -40,9 +40,9 @@ impl<A: Allocator> Reading<A> {
     /// whose link finds no memory; then it isn't to be read on. Each byte takes constant time, and one that
     /// goes on with a number only a few instructions.
     pub fn read(&mut self, piece: &[u8]) -> Result<(), ReadFault>
-        requires sound { IsSound self.old.so_far.size self.old.so_far.count self.old.so_far.links.items }
+        requires sound { IsWithinSize self.old.so_far.size self.old.so_far.count self.old.so_far.links.items }
         requires few_lines { self.old.number + length piece.now < 2 ^ 64 }
-        ensures sound { IsSound self.new.so_far.size self.new.so_far.count self.new.so_far.links.items }
+        ensures sound { IsWithinSize self.new.so_far.size self.new.so_far.count self.new.so_far.links.items }
         ensures few_lines { self.new.number ≤ self.old.number + length piece.now }
         ensures told { (text : List ℕ)
             → Stands self.old.so_far.size self.old.so_far.count self.old.so_far.links.items self.old.partial self.old.number text
@@ -68,7 +68,7 @@ impl<A: Allocator> Reading<A> {
 
     /// The graph of the whole text, which ends here; a last line without its line feed is judged first.
     pub fn ended(mut self) -> Result<Graph<A>, ReadFault>
-        requires sound { IsSound self.so_far.size self.so_far.count self.so_far.links.items }
+        requires sound { IsWithinSize self.so_far.size self.so_far.count self.so_far.links.items }
         requires few_lines { self.number + 1 < 2 ^ 64 }
         ensures { (text : List ℕ)
             → Stands self.so_far.size self.so_far.count self.so_far.links.items self.partial self.number text
@@ -88,9 +88,9 @@ impl<A: Allocator> Reading<A> {
     // Takes a byte up to the space: what ends a field or the line, or a rare byte of the field. `word` is what
     // was kept of that field, in place of the word of `partial`; it answers what is kept then.
     fn take_low_byte(&mut self, word: Word, byte: u8) -> Result<Word, ReadFault>
-        requires sound { IsSound self.old.so_far.size self.old.so_far.count self.old.so_far.links.items }
+        requires sound { IsWithinSize self.old.so_far.size self.old.so_far.count self.old.so_far.links.items }
         requires few_lines { self.old.number + 1 < 2 ^ 64 }
-        ensures sound { IsSound self.new.so_far.size self.new.so_far.count self.new.so_far.links.items }
+        ensures sound { IsWithinSize self.new.so_far.size self.new.so_far.count self.new.so_far.links.items }
         ensures few_lines { self.new.number ≤ self.old.number + 1 }
         ensures told { (text rest : List ℕ)
             → Stands self.old.so_far.size self.old.so_far.count self.old.so_far.links.items (with_word self.old.partial word) self.old.number text
@@ -111,9 +111,9 @@ impl<A: Allocator> Reading<A> {
     // Takes a line feed, which ends the line. `word` and the answer are as at `take_low_byte`.
     #[inline]
     fn take_line_feed(&mut self, word: Word) -> Result<Word, ReadFault>
-        requires sound { IsSound self.old.so_far.size self.old.so_far.count self.old.so_far.links.items }
+        requires sound { IsWithinSize self.old.so_far.size self.old.so_far.count self.old.so_far.links.items }
         requires few_lines { self.old.number + 1 < 2 ^ 64 }
-        ensures sound { IsSound self.new.so_far.size self.new.so_far.count self.new.so_far.links.items }
+        ensures sound { IsWithinSize self.new.so_far.size self.new.so_far.count self.new.so_far.links.items }
         ensures few_lines { self.new.number ≤ self.old.number + 1 }
         ensures told { (text rest : List ℕ)
             → Stands self.old.so_far.size self.old.so_far.count self.old.so_far.links.items (with_word self.old.partial word) self.old.number text

@@ -1,7 +1,7 @@
 ghost use Rattle.std.specs.Prelude.{◌≡◌, ◌+◌, ℕ, List, [], ◌∷◌, ◌++◌, ◌<◌, ◌≤◌, ◌^◌, MatchResult};
 ghost use Rattle.gr_text.specs.Fields.{AreFields};
 ghost use Rattle.gr_text.specs.Word.{LineMeans};
-ghost use Rattle.gr_text.specs.Reading.{AddsLink, FitsAfter, Gives, IsGraphOfLines, IsLack, IsLineFault, IsSound};
+ghost use Rattle.gr_text.specs.Reading.{AddsLink, FitsAfter, Gives, IsGraphOfLines, IsLack, IsLineFault, IsWithinSize};
 
 use crate::faults::{GrFault, GrKind, ReadFault};
 use crate::graphs::Graph;
@@ -25,7 +25,7 @@ pub struct SoFar<A: Allocator> {
 impl<A: Allocator> SoFar<A> {
     /// What no lines say.
     pub fn new(alloc: A) -> SoFar<A>
-        ensures sound { IsSound result.size result.count result.links.items }
+        ensures sound { IsWithinSize result.size result.count result.links.items }
         ensures none { Gives result.size result.count result.links.items [] }
     {
         SoFar {
@@ -38,8 +38,8 @@ impl<A: Allocator> SoFar<A> {
     /// Takes one more line, of this number. It fails with the fault of the line, or with `Memory` where its
     /// link finds none; nothing is read behind it.
     pub fn take_line(&mut self, number: u64, line: Line) -> Result<(), ReadFault>
-        requires { IsSound self.old.size self.old.count self.old.links.items }
-        ensures sound { IsSound self.new.size self.new.count self.new.links.items }
+        requires { IsWithinSize self.old.size self.old.count self.old.links.items }
+        ensures sound { IsWithinSize self.new.size self.new.count self.new.links.items }
         ensures taken { (lines : List (List ℕ)) (bytes : List ℕ) (fields : List (List ℕ))
             → Gives self.old.size self.old.count self.old.links.items lines → AreFields bytes fields → LineMeans line fields
             → MatchResult result (λ _. Gives self.new.size self.new.count self.new.links.items (lines ++ bytes ∷ []))
@@ -58,7 +58,7 @@ impl<A: Allocator> SoFar<A> {
 
     /// The graph of the lines so far, where nothing lacks. `number` is that of the line after them.
     pub fn graph(self, number: u64) -> Result<Graph<A>, ReadFault>
-        requires { IsSound self.size self.count self.links.items }
+        requires { IsWithinSize self.size self.count self.links.items }
         ensures { (lines : List (List ℕ)) → Gives self.size self.count self.links.items lines
             → MatchResult result (λ graph. IsGraphOfLines lines graph) (λ e. IsLack e number lines) }
     {
@@ -82,9 +82,9 @@ impl<A: Allocator> SoFar<A> {
 
     // Adds an arc of the problem's vertices.
     fn add(&mut self, tail: u32, head: u32, weight: i32) -> Result<(), ReadFault>
-        requires sound { IsSound self.old.size self.old.count self.old.links.items }
+        requires sound { IsWithinSize self.old.size self.old.count self.old.links.items }
         requires room { FitsAfter (Verdict.Adds tail head weight) self.old.size self.old.count }
-        ensures sound { IsSound self.new.size self.new.count self.new.links.items }
+        ensures sound { IsWithinSize self.new.size self.new.count self.new.links.items }
         ensures added { MatchResult result
             (λ _. (self.new.size ≡ self.old.size) × (self.new.count ≡ self.old.count + 1)
             × AddsLink self.old.links.items self.new.links.items (record { tail = tail; head = head; weight = weight }))

@@ -2,7 +2,7 @@
 //! digits of a number are found, so that each digit is written once, in its place.
 ghost use Rattle.std.specs.Prelude.{◌≡◌, ℕ, ◌+◌, ◌≤◌, ◌<◌, List, [], ◌∷◌, ◌++◌, length, drop, decimal};
 ghost use Rattle.std.specs.Fmt.{signed_decimal};
-ghost use Rattle.gr_text.specs.ForestText.{header_of, line_of};
+ghost use Rattle.gr_text.specs.ForestText.{header_of, link_line};
 
 use itoa::write_digits;
 use link_key::Link;
@@ -82,7 +82,7 @@ impl Spelled {
 
     /// The line of a link.
     pub fn of_link(link: &Link) -> Self
-        ensures line { result ≡ line_of link.now }
+        ensures line { result ≡ link_line link.now }
         ensures short { length result ≤ 64 }
     {
         let mut line = Spelled::new();

@@ -10,3 +10,4 @@ pub mod Apart
 pub mod Rings
 pub mod WideKeys
 pub mod Spans
+pub mod EvenSizes

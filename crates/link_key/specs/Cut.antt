@@ -1,5 +1,5 @@
 -- Cuts of a list of links into shards.
-use Rattle.std.specs.Prelude.{◌≡◌, ℕ, ◌+◌, ◌-◌, ◌*◌, ◌/◌, ◌<◌, ◌==◌, nat_lt, nat_le, if◌then◌else◌, Bool, List, [], ◌∷◌, ◌++◌, length, map, zip, flat_map, slice_range, slice_index_or, Option, Some, None}
+use Rattle.std.specs.Prelude.{◌≡◌, ℕ, ◌+◌, ◌-◌, ◌*◌, ◌/◌, ◌<◌, ◌≤◌, ◌↔◌, ◌==◌, nat_lt, nat_le, if◌then◌else◌, Bool, List, [], ◌∷◌, ◌++◌, length, map, zip, flat_map, slice_range, slice_index_or, Option, Some, None}
 use Rattle.std.specs.List.{list_all}
 use Rattle.limits.specs.declared.TheConstants.{MAX_SHARDS, MAX_SHARD_LINKS}
 use Rattle.link_key.specs.declared.links.Link.{Link}
@@ -58,3 +58,16 @@ places_refusal len places =
 abbrev pub IsCutFault : Option CutFault → CutFault → Type 0
 IsCutFault None fault = fault ≡ Memory
 IsCutFault (Some refusal) fault = fault ≡ refusal
+
+-- how many links shard i of an even cut of so many links has
+abbrev pub even_size : ℕ → ℕ → ℕ → ℕ
+even_size len count i = (i + 1) * len / count - i * len / count
+
+-- some shard of an even cut has more links than a shard may have
+abbrev pub HasLargeShard : ℕ → ℕ → Type 0
+HasLargeShard len count = (i : ℕ) × (i < count) × (MAX_SHARD_LINKS < even_size len count i)
+
+-- an even cut into an allowed number of shards is refused exactly where one of its shards is too large
+abbrev pub RefusedForALargeShard : Type 0
+RefusedForALargeShard =
+    (len count : ℕ) → 1 ≤ count → count ≤ MAX_SHARDS → (even_refusal len count ≡ Some ShardTooLarge) ↔ HasLargeShard len count

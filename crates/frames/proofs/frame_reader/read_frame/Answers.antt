@@ -3,7 +3,7 @@ use Rattle.std.proofs.lemmas.Result.{IfOk-weaker, IfErr-weaker, err_from_is_err_
 use Rattle.frames.specs.FrameValue.{value_of}
 use Rattle.frames.specs.Refusals.{IsFrameOf, BodyRefused}
 use Rattle.frames.proofs.Streams.{frame_gave, head_refused, cut_refused, body_refused}
-use Rattle.frames.proofs.reading.read_frame.Goals as goal
+use Rattle.frames.proofs.frame_reader.read_frame.Goals as goal
 
 pub returns-in_err-head-clause-refused : goal.returns-in_err-head-clause-refused
 returns-in_err-head-clause-refused g c =

@@ -3,7 +3,7 @@ use Rattle.std.proofs.lemmas.List.{drop_all, length-drop}
 use borrow.Rule.Slice.PartMut.{post_of}
 use Rattle.frames.specs.declared.fault.FrameFault.TheVariants.{Torn, Device}
 use Rattle.frames.proofs.Streams.{piece_behind, resized_prefix, cut_within}
-use Rattle.frames.proofs.reading.read_more.Goals as goal
+use Rattle.frames.proofs.frame_reader.read_more.Goals as goal
 
 pub returns-in-Ok-clause-came : goal.returns-in-Ok-clause-came
 returns-in-Ok-clause-came g c =
