@@ -1,11 +1,11 @@
 // The solver beside a plain program, over drawn lists of arcs.
 ghost use Rattle.std.specs.Prelude.{◌≤◌, ◌<◌, ◌^◌};
 
-use crate::graphs::{Row, links_of};
 use link_key::{Link, plain_forest};
 use std::alloc::{AllocError, Global};
 use std::process::Abort;
 use std::test::Fail;
+use worked_graphs::{Row, links_of};
 
 // The links whose ends aren't joined by smaller ones, by the plain program: where two labels become one, each vertex
 // is looked at.
@@ -74,7 +74,7 @@ fn expect_one_forest(rt: &impl Abort, alloc: Global, weights: &[i32; 5]) -> Resu
     for seed in 0..300u32 {
         let n = seed % 39 + 2;
         let arcs = drawn_arcs(alloc, u64::from(seed), n, weights)?;
-        let links = links_of(rt, alloc, n, arcs.as_slice())?;
+        let links = links_of(alloc, n, arcs.as_slice())?.expect(rt, "arcs");
         let forest = plain_forest(alloc, n, links.as_slice())?;
         let slow = slow_forest(rt, alloc, n, links.as_slice())?;
         assert_eq!(rt; forest.links(), slow.as_slice());

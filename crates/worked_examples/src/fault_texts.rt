@@ -1,6 +1,4 @@
-// What each fault is told as.
-use claim_board::BoardFault;
-use frames::FrameFault;
+// What the faults of files and of a run are told as.
 use gr_text::{GrFault, GrKind, ReadFault, WriteFault};
 use plain_run::{Report, RunFault};
 use std::alloc::Global;
@@ -16,24 +14,6 @@ fn expect_text<T: Display>(
 ) -> Result<(), Fail> {
     let text = format!(in alloc; "{told}")?;
     assert_eq!(rt; text.as_str(), expected);
-    Ok(())
-}
-
-#[test]
-fn of_frames(rt: HostRuntime) -> Result<(), Fail> {
-    let texts = [
-        (FrameFault::BadKind, "frame of an unknown kind"),
-        (FrameFault::BadLength, "frame of an impossible length"),
-        (FrameFault::BadField, "frame with an unlawful field"),
-        (FrameFault::BadVersion, "hello of another version"),
-        (FrameFault::Ended, "stream ended before a frame"),
-        (FrameFault::Torn, "stream ended inside a frame"),
-        (FrameFault::Device, "read failed"),
-        (FrameFault::Memory, "no memory"),
-    ];
-    for (fault, text) in texts {
-        expect_text(&rt, rt.alloc(), &fault, text)?;
-    }
     Ok(())
 }
 
@@ -76,14 +56,6 @@ fn of_reading_writing_and_running(rt: HostRuntime) -> Result<(), Fail> {
     let write = "write failed after 10 bytes";
     expect_text(&rt, rt.alloc(), &RunFault::Write { written: 10 }, write)?;
     expect_text(&rt, rt.alloc(), &WriteFault { written: 10 }, write)
-}
-
-#[test]
-fn of_the_board(rt: HostRuntime) -> Result<(), Fail> {
-    let memory = "no memory for the board";
-    expect_text(&rt, rt.alloc(), &BoardFault::Memory, memory)?;
-    let table = "the board's table was refused";
-    expect_text(&rt, rt.alloc(), &BoardFault::NoTable, table)
 }
 
 // Each number of a report stands behind its own name.

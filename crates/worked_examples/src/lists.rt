@@ -1,10 +1,10 @@
 // Links of arcs, labels, offers and forests, and the forests of the worked graphs.
 use crate::drawn_lists::slow_forest;
-use crate::graphs::{Row, WORKED, links_of};
 use link_key::{Forest, Labels, Link, Offers, plain_forest};
 use std::alloc::Global;
 use std::process::Abort;
 use std::test::Fail;
+use worked_graphs::{Row, WORKED, links_of};
 
 // The forest of the arcs has just the links of the expected ones, in their order, and so has the slow one.
 fn expect_forest(
@@ -15,9 +15,9 @@ fn expect_forest(
     expected: &[Row],
 ) -> Result<(), Fail> {
     assert!(rt; n <= 1 << 26);
-    let links = links_of(rt, alloc, n, arcs)?;
+    let links = links_of(alloc, n, arcs)?.expect(rt, "arcs");
     let forest = plain_forest(alloc, n, links.as_slice())?;
-    let wanted = links_of(rt, alloc, n, expected)?;
+    let wanted = links_of(alloc, n, expected)?.expect(rt, "links");
     assert_eq!(rt; forest.links(), wanted.as_slice());
     let slow = slow_forest(rt, alloc, n, links.as_slice())?;
     assert_eq!(rt; slow.as_slice(), wanted.as_slice());
@@ -41,8 +41,8 @@ fn arcs_to_links(rt: HostRuntime) {
 
 #[test]
 fn ascending_lists(rt: HostRuntime) -> Result<(), Fail> {
-    let ascending = links_of(&rt, rt.alloc(), 3, &[(1, 2, 5), (1, 3, 5)])?;
-    let repeated = links_of(&rt, rt.alloc(), 3, &[(1, 2, 5), (1, 2, 5)])?;
+    let ascending = links_of(rt.alloc(), 3, &[(1, 2, 5), (1, 3, 5)])?.expect(&rt, "arcs");
+    let repeated = links_of(rt.alloc(), 3, &[(1, 2, 5), (1, 2, 5)])?.expect(&rt, "arcs");
     let wanted = ascending.clone()?;
     let forest = Forest::of_list(ascending).expect(&rt, "ascending");
     assert_eq!(rt; forest.links(), wanted.as_slice());

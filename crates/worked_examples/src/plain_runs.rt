@@ -1,11 +1,11 @@
 // Files to the texts of their forests.
-use crate::graphs::{SMALL_NET, WORKED, Worked};
 use byte_streams::{FusedSink, FusedSource};
 use gr_text::{GrFault, GrKind, ReadFault};
 use plain_run::{Report, RunFault, plain_text, run_plain};
 use std::alloc::Global;
 use std::process::Abort;
 use std::test::Fail;
+use worked_graphs::{SMALL_NET, WORKED, Worked};
 
 // The run ends well with the forest's text, and counts vertices and links and nothing else.
 fn expect_text(rt: &impl Abort, alloc: Global, graph: Worked, links: u64) {

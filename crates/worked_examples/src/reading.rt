@@ -1,5 +1,4 @@
 // Texts in the `.gr` format: what they mean, their faults, pieces and limits.
-use crate::graphs::{Row, SMALL_NET};
 use byte_streams::FusedSource;
 use gr_text::{
     GrFault, GrKind, GrReader, Graph, MAX_BYTES, ReadFault, parse, read_graph, read_graph_upto,
@@ -7,6 +6,7 @@ use gr_text::{
 use link_key::Link;
 use std::alloc::Allocator;
 use std::test::Fail;
+use worked_graphs::{Row, SMALL_NET};
 
 fn fault(line: u64, kind: GrKind) -> ReadFault {
     ReadFault::Gr(GrFault { line, kind })

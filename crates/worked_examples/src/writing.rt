@@ -1,10 +1,10 @@
 // The texts of forests, and how much of one went out.
-use crate::graphs::SMALL_NET;
 use byte_streams::{Failed, FusedSink, Sink};
 use gr_text::{WriteFault, write_forest};
 use link_key::{Forest, Link};
 use std::alloc::{AllocError, Allocator, Global};
 use std::test::Fail;
+use worked_graphs::SMALL_NET;
 
 // The forest of some links, which have to ascend.
 fn forest_of<A: Allocator + Copy>(

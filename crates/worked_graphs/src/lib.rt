@@ -1,17 +1,26 @@
-//! The worked graphs: each as a file, as arcs, and as the links and the text of its forest.
-ghost use Rattle.std.specs.Prelude.{IfOk};
-ghost use Rattle.link_key.specs.Link.{EndsUpTo};
+//! The worked graphs, each once: as a file, as arcs, and as the links and the text of its forest.
+//!
+//! The examples of several crates compare with them. What a forest is comes from outside: each was made by hand, and
+//! none by the program. [`links_of`] makes links of the rows in which graphs are written here.
+//!
+//! Where to start a change: a new worked graph gets a constant and a place in [`WORKED`], and each example that goes
+//! over all of them runs over it too.
+#![tactic(auto)]
 
+ghost use Rattle.std.specs.Prelude.{◌≡◌, ◌↔◌, ◌≤◌, All, map, IsTrue, IsSome, IsNone, IfOk, IfSome};
+ghost use Rattle.link_key.specs.Link.{key_of, arc_key, EndsUpTo, AreLinksOf};
+ghost use Rattle.worked_graphs.specs.Rows.{arc_of, AreEnds, IsArcUpTo};
+
+use limits::MAX_VERTICES;
 use link_key::Link;
-use std::alloc::{AllocError, Global};
-use std::process::Abort;
+use std::alloc::{AllocError, Allocator};
 
 /// An arc, or a link: two ends and a weight.
-pub(crate) type Row = (u32, u32, i32);
+pub type Row = (u32, u32, i32);
 
 /// A graph with its forest.
 #[derive(Clone, Copy)]
-pub(crate) struct Worked {
+pub struct Worked {
     /// The vertices are 1 to n.
     pub n: u32,
     /// The graph in the `.gr` format.
@@ -25,7 +34,7 @@ pub(crate) struct Worked {
 }
 
 /// Six vertices and eight arcs, with comments between them.
-pub(crate) const SMALL_NET: Worked = Worked {
+pub const SMALL_NET: Worked = Worked {
     n: 6,
     file: b"c a small net\np sp 6 8\na 1 2 17\nc the usual shape\na 1 3 10\na 2 4 2\na 3 5 0\na 4 3 0\na 4 6 3\na 5 2 0\na 5 6 20\n",
     arcs: &[
@@ -42,7 +51,7 @@ pub(crate) const SMALL_NET: Worked = Worked {
     text: b"p sp 6 5\na 2 5 0\na 3 4 0\na 3 5 0\na 4 6 3\na 1 3 10\n",
 };
 
-pub(crate) const NO_VERTICES: Worked = Worked {
+pub const NO_VERTICES: Worked = Worked {
     n: 0,
     file: b"p sp 0 0\n",
     arcs: &[],
@@ -50,7 +59,7 @@ pub(crate) const NO_VERTICES: Worked = Worked {
     text: b"p sp 0 0\n",
 };
 
-pub(crate) const A_LOOP_ALONE: Worked = Worked {
+pub const A_LOOP_ALONE: Worked = Worked {
     n: 1,
     file: b"p sp 1 1\na 1 1 5\n",
     arcs: &[(1, 1, 5)],
@@ -58,7 +67,7 @@ pub(crate) const A_LOOP_ALONE: Worked = Worked {
     text: b"p sp 1 0\n",
 };
 
-pub(crate) const PARALLEL_ARCS: Worked = Worked {
+pub const PARALLEL_ARCS: Worked = Worked {
     n: 2,
     file: b"p sp 2 3\na 1 2 7\na 2 1 7\na 1 2 4\n",
     arcs: &[(1, 2, 7), (2, 1, 7), (1, 2, 4)],
@@ -67,7 +76,7 @@ pub(crate) const PARALLEL_ARCS: Worked = Worked {
 };
 
 /// A triangle whose links differ in their ends alone.
-pub(crate) const EQUAL_WEIGHTS: Worked = Worked {
+pub const EQUAL_WEIGHTS: Worked = Worked {
     n: 3,
     file: b"p sp 3 3\na 1 2 5\na 2 3 5\na 1 3 5\n",
     arcs: &[(1, 2, 5), (2, 3, 5), (1, 3, 5)],
@@ -76,7 +85,7 @@ pub(crate) const EQUAL_WEIGHTS: Worked = Worked {
 };
 
 /// Its components are pairs after one round, fours after two, and one after three.
-pub(crate) const A_PATH_OF_EIGHT: Worked = Worked {
+pub const A_PATH_OF_EIGHT: Worked = Worked {
     n: 8,
     file: b"p sp 8 7\na 1 2 1\na 3 4 1\na 5 6 1\na 7 8 1\na 2 3 2\na 6 7 2\na 4 5 3\n",
     arcs: &[
@@ -101,7 +110,7 @@ pub(crate) const A_PATH_OF_EIGHT: Worked = Worked {
 };
 
 /// Two components.
-pub(crate) const A_NEGATIVE_WEIGHT: Worked = Worked {
+pub const A_NEGATIVE_WEIGHT: Worked = Worked {
     n: 4,
     file: b"p sp 4 2\na 1 2 -3\na 3 4 0\n",
     arcs: &[(1, 2, -3), (3, 4, 0)],
@@ -110,7 +119,7 @@ pub(crate) const A_NEGATIVE_WEIGHT: Worked = Worked {
 };
 
 /// All of them.
-pub(crate) const WORKED: [Worked; 7] = [
+pub const WORKED: [Worked; 7] = [
     SMALL_NET,
     NO_VERTICES,
     A_LOOP_ALONE,
@@ -120,23 +129,43 @@ pub(crate) const WORKED: [Worked; 7] = [
     A_NEGATIVE_WEIGHT,
 ];
 
-/// The links of the arcs, loops left out.
-pub(crate) fn links_of(
-    rt: &impl Abort,
-    alloc: Global,
+/// The links of the arcs, loops left out and repeats kept, in the arcs' order; none where an end of an arc is no
+/// vertex from 1 to n, or n is more than [`MAX_VERTICES`] and there is an arc.
+///
+/// The only error is want of memory. For m arcs O(m) time, and 12 bytes for each link.
+pub fn links_of<A: Allocator>(
+    alloc: A,
     n: u32,
     arcs: &[Row],
-) -> Result<Vec<Link>, AllocError>
-    ensures { IfOk result (λ links. EndsUpTo n links.items) }
+) -> Result<Option<Vec<Link, A>>, AllocError>
+    ensures lawful { IfOk result (λ found. IsSome found ↔ All (IsArcUpTo n) arcs.now) }
+    ensures links { IfOk result (λ found. IfSome found (λ links. AreLinksOf (map arc_of arcs.now) links.items)) }
+    ensures ends { IfOk result (λ found. IfSome found (λ links. EndsUpTo n links.items)) }
 {
-    assert!(rt; n <= 1 << 26);
     let mut links = Vec::new(alloc);
-    for &(u, v, w) in arcs {
-        assert!(rt; 1 <= u && u <= n && 1 <= v && v <= n);
-        if let Some(link) = Link::of_arc(u, v, w) {
-            assert!(rt; link.high <= n);
+    for row in arcs {
+        if !is_arc(n, row.0, row.1) {
+            return Ok(None);
+        }
+        if let Some(link) = link_of(n, *row) {
             links.push(link)?;
         }
     }
-    Ok(links)
+    Ok(Some(links))
+}
+
+// Whether both are vertices of a graph with the vertices 1 to n.
+fn is_arc(n: u32, u: u32, v: u32) -> bool
+    ensures { IsTrue result ↔ AreEnds n u v }
+{
+    n <= MAX_VERTICES && 1 <= u && u <= n && 1 <= v && v <= n
+}
+
+// The link of an arc; none for a loop.
+fn link_of(n: u32, row: Row) -> Option<Link>
+    requires { IsArcUpTo n row }
+    ensures none_for_a_loop { IsNone result ↔ (row.0 ≡ row.1) }
+    ensures key { IfSome result (λ l. key_of l ≡ arc_key (arc_of row)) }
+{
+    Link::of_arc(row.0, row.1, row.2)
 }

@@ -2,13 +2,13 @@
 ghost use Rattle.std.specs.Prelude.{◌-◌, ◌<◌, ◌^◌, ◌↔◌, IsTrue};
 ghost use Rattle.link_key.specs.Link.{EndsUpTo};
 
-use crate::graphs::links_of;
 use byte_streams::{FusedSink, FusedSource};
 use frames::{Answer, Frame, FrameFault, encode, encode_ask, encode_shard, read_frame};
 use link_key::{Labels, Link, Offers, Shard};
 use std::alloc::{AllocError, Global};
 use std::process::Abort;
 use std::test::Fail;
+use worked_graphs::links_of;
 use worker_engine::{Engine, ServeFault, Served, scan, serve, serve_upto};
 
 const HELLO: [u8; 11] = [1, 0, 0, 0, 6, 0, 1, 0, 0, 0, 0];
@@ -142,7 +142,7 @@ const ANOTHER_ANSWER: [u8; 33] = [
 #[test]
 fn a_scan_of_the_triangle(rt: HostRuntime) -> Result<(), Fail> {
     let arcs = [(1, 2, 5), (2, 3, 5), (1, 3, 5)];
-    let links = links_of(&rt, rt.alloc(), 3, &arcs)?;
+    let links = links_of(rt.alloc(), 3, &arcs)?.expect(&rt, "arcs");
     let labels = Labels::apart(rt.alloc(), 3)?;
     assert!(rt; links.len() <= 1 << 24);
     let offers = scan(rt.alloc(), links.as_slice(), &labels)?;
@@ -257,7 +257,7 @@ fn many_links(rt: &impl Abort, alloc: Global) -> Result<Vec<Link>, AllocError> {
         let weight = j.wrapping_mul(31) % 17;
         arcs.push((tail, head, weight.cast_signed().wrapping_sub(8)))?;
     }
-    links_of(rt, alloc, MANY, arcs.as_slice())
+    Ok(links_of(alloc, MANY, arcs.as_slice())?.expect(rt, "arcs"))
 }
 
 // The vertices up to 5,000 make components of fifty, and each greater one is a component by itself.

@@ -301,3 +301,22 @@ fn reads_that_fail(rt: HostRuntime) -> Result<(), Fail> {
     assert!(rt; read_frame(rt.alloc(), &mut source)?.is_lawful());
     Ok(())
 }
+
+#[test]
+fn what_faults_are_told_as(rt: HostRuntime) -> Result<(), Fail> {
+    let texts = [
+        (FrameFault::BadKind, "frame of an unknown kind"),
+        (FrameFault::BadLength, "frame of an impossible length"),
+        (FrameFault::BadField, "frame with an unlawful field"),
+        (FrameFault::BadVersion, "hello of another version"),
+        (FrameFault::Ended, "stream ended before a frame"),
+        (FrameFault::Torn, "stream ended inside a frame"),
+        (FrameFault::Device, "read failed"),
+        (FrameFault::Memory, "no memory"),
+    ];
+    for (fault, text) in texts {
+        let told = format!(in rt.alloc(); "{fault}")?;
+        assert_eq!(rt; told.as_str(), text);
+    }
+    Ok(())
+}

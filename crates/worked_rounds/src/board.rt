@@ -2,8 +2,9 @@
 ghost use Rattle.std.specs.Prelude.{◌≡◌, ◌<◌};
 ghost use Rattle.claim_board.specs.State.{AreSeats};
 
-use claim_board::{Board, Claim, MOST_SHARDS, Seat};
+use claim_board::{Board, BoardFault, Claim, MOST_SHARDS, Seat};
 use std::alloc::Global;
+use std::process::Abort;
 use std::sync::atomic::{AtomicU64, Ordering};
 use std::test::Fail;
 use std::thread;
@@ -138,6 +139,42 @@ fn two_threads_share_all_shards(rt: HostRuntime) -> Result<(), Fail> {
         let holder = holders.get(shard as usize).copied();
         assert_eq!(rt; Some(owners.of(shard)), holder);
         assert!(rt; owners.of(shard).is_some());
+    }
+    Ok(())
+}
+
+// A board of two shards with so many seats: they are numbered in order, and the board closes.
+fn expect_seats(rt: &impl Abort, alloc: Global, count: u32) -> Result<(), Fail> {
+    assert!(rt; 1 <= count && count <= 64);
+    let (board, seats) = Board::open(alloc, 2, count)?;
+    let all = seats.len();
+    let in_order = seats
+        .iter()
+        .enumerate()
+        .all(|(place, seat)| seat.number() as usize == place);
+    let owners = board.close(seats)?;
+    assert_eq!(rt; (all, in_order), (count as usize, true));
+    assert_eq!(rt; (owners.of(0), owners.of(1)), (None, None));
+    Ok(())
+}
+
+#[test]
+fn every_number_of_seats(rt: HostRuntime) -> Result<(), Fail> {
+    for count in 1..65 {
+        expect_seats(&rt, rt.alloc(), count)?;
+    }
+    Ok(())
+}
+
+#[test]
+fn what_its_faults_are_told_as(rt: HostRuntime) -> Result<(), Fail> {
+    let texts = [
+        (BoardFault::Memory, "no memory for the board"),
+        (BoardFault::NoTable, "the board's table was refused"),
+    ];
+    for (fault, text) in texts {
+        let told = format!(in rt.alloc(); "{fault}")?;
+        assert_eq!(rt; told.as_str(), text);
     }
     Ok(())
 }

@@ -1,0 +1,24 @@
+//! Worked examples of streams of bytes and of frames, each a test that needs public calls alone. What an example is
+//! for, and where a new one goes, stands at the head of `worked_examples`.
+//!
+//! ```text
+//!   streams, failing_devices     sources and sinks, and those that fail
+//!   given_streams                frames of a source that tells only what it gave
+//!   frames_codec                 frames and their bytes, each refusal, and what it is told as
+//!   memory_of_frames             which blocks of memory live after a frame is read
+//!   sizes                        frames past the size of every inner piece
+//! ```
+#![tactic(auto)]
+
+#[cfg(test)]
+mod failing_devices;
+#[cfg(test)]
+mod frames_codec;
+#[cfg(test)]
+mod given_streams;
+#[cfg(test)]
+mod memory_of_frames;
+#[cfg(test)]
+mod sizes;
+#[cfg(test)]
+mod streams;
