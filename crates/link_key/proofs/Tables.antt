@@ -53,7 +53,7 @@ seen_next : (sorted : List Link) (i : ℕ) (x : Link) → i < length sorted → 
 seen_next sorted i x in_range is = take_more sorted i x in_range ∙ ap (λ l. take i sorted ++ l ∷ []) (sym is)
 
 -- with one label in place of another
-abbrev renamed : ℕ → ℕ → ℕ → ℕ
+abbrev pub renamed : ℕ → ℕ → ℕ → ℕ
 renamed from to label = if label == from then to else label
 
 -- One label in place of another makes the two one: labels that differ become equal only where one of them is
@@ -91,13 +91,13 @@ renamed_alike from to x y = elim (cases_eq x from) [
     both_kept x_stays y_stays (inr (inl (_, is))) = absurd (y_stays (sym is))
     both_kept x_stays y_stays (inr (inr (is, _))) = absurd (x_stays is)
 
-merged_by_renaming : (n : ℕ) (label merged : ℕ → ℕ) (to from : ℕ) → ((u : ℕ) → u ≤ n → merged u ≡ renamed from to (label u)) → AreMerged n label merged to from
+pub merged_by_renaming : (n : ℕ) (label merged : ℕ → ℕ) (to from : ℕ) → ((u : ℕ) → u ≤ n → merged u ≡ renamed from to (label u)) → AreMerged n label merged to from
 merged_by_renaming n label merged to from by_renaming u v u_in v_in =
     let alike = renamed_alike from to (label u) (label v) in
     (λ same. alike.0 (sym (by_renaming u u_in) ∙ same ∙ by_renaming v v_in), λ either. by_renaming u u_in ∙ alike.1 either ∙ sym (by_renaming v v_in))
 
 -- it doesn't matter which of the two labels goes
-merged_other_way : (n : ℕ) (label merged : ℕ → ℕ) (a b : ℕ) → AreMerged n label merged a b → AreMerged n label merged b a
+pub merged_other_way : (n : ℕ) (label merged : ℕ → ℕ) (a b : ℕ) → AreMerged n label merged a b → AreMerged n label merged b a
 merged_other_way n label merged a b made u v u_in v_in = (λ same. other_way a b ((made u v u_in v_in).0 same), λ either. (made u v u_in v_in).1 (other_way b a either))
   where
     other_way : (a b : ℕ) → AreOneWith a b (label u) (label v) → AreOneWith b a (label u) (label v)

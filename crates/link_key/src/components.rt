@@ -4,16 +4,20 @@ ghost use Rattle.link_key.specs.Components.{IsRelabelled, nth_after, IsLabelledA
 
 use crate::links::Link;
 use limits::MAX_VERTICES;
-use std::alloc::{AllocError, Allocator};
+use std::alloc::{AllocError, Allocator, Global};
 use std::marker::Model;
 
-// The components of a graph with the vertices 1 to n, that are merged two at a time: seen as the list of the labels
-// of the numbers 0 to n.
-//
-// A component's label is one of its vertices. Its members form a ring by `next`: `sizes[label]` steps from the label
-// visit each of them once and lead back to it. `sizes` of what is no label isn't read. 12 bytes a vertex.
+/// Components of the numbers 0 to n, merged two at a time: contracts see the list of the numbers' labels.
+///
+/// Numbers with one label are one component, and a component's label is one of its members, not always the least. The
+/// numbers are vertices, or labels of vertices; of a graph, 0 stays by itself. 12 bytes a number.
+///
+/// Of two components that meet, the smaller one is relabelled, so a number gets another label at most log2 n times, and
+/// all merges together cost O(n log n) time.
 #[derive(Drop)]
-pub(crate) struct Components<A: Allocator> {
+pub struct Components<A: Allocator = Global> {
+    // The members of a component form a ring by `next`: `sizes[label]` steps from the label visit each of them once and
+    // lead back to it. `sizes` of what is no label isn't read.
     labels: Vec<u32, A>,
     next: Vec<u32, A>,
     sizes: Vec<u32, A>,
@@ -31,8 +35,8 @@ impl<A: Allocator> Model for Components<A> {
 }
 
 impl<A: Allocator + Copy> Components<A> {
-    // Each of the numbers 0 to n by itself.
-    pub(crate) fn apart(alloc: A, n: u32) -> Result<Self, AllocError>
+    /// Each of the numbers 0 to `n` by itself. The only error is want of memory. It costs O(n) time.
+    pub fn apart(alloc: A, n: u32) -> Result<Self, AllocError>
         requires { n ≤ MAX_VERTICES }
         ensures len { IfOk result (λ labels. length labels ≡ n + 1) }
         ensures own { IfOk result (λ labels. EachIndex labels (λ v. slice_index labels v ≡ v)) }
@@ -49,8 +53,8 @@ impl<A: Allocator + Copy> Components<A> {
 }
 
 impl<A: Allocator> Components<A> {
-    // The label of the component of `v`.
-    pub(crate) fn label(&self, v: u32) -> u32
+    /// The label of the component of `v`. It costs one look.
+    pub fn label(&self, v: u32) -> u32
         requires { v < length self.now }
         ensures label { result ≡ slice_index self.now v }
         ensures in_range { result < length self.now }
@@ -73,8 +77,9 @@ impl<A: Allocator> Components<A> {
         joined
     }
 
-    // Makes the components with the labels `a` and `b` one. It costs time for the members of the smaller one.
-    pub(crate) fn merge(&mut self, a: u32, b: u32)
+    /// Makes the components with the labels `a` and `b` one, under one of the two. It takes no memory, and costs time for
+    /// the members of the smaller one.
+    pub fn merge(&mut self, a: u32, b: u32)
         requires a_in_range { a < length self.old }
         requires b_in_range { b < length self.old }
         requires a_own { slice_index self.old a ≡ a }

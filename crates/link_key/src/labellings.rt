@@ -54,6 +54,15 @@ impl<A: Allocator> Labels<A> {
         }
     }
 
+    /// The labels of a list that is known to hold such labels, in the order of the vertices. It looks at none of them,
+    /// takes no memory and keeps the list's.
+    pub fn of_known(labels: Vec<u32, A>) -> Self
+        requires { AreLabels labels.items }
+        ensures { result ≡ labels.items }
+    {
+        Labels { labels }
+    }
+
     /// The label of vertex `v`.
     pub fn of(&self, v: u32) -> u32
         requires from_one { 1 ≤ v }

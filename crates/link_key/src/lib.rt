@@ -8,8 +8,10 @@
 //! - a `Forest` is an ascending list of links, each once;
 //! - [`plain_forest`] gives exactly the forest: the links whose ends aren't joined by smaller ones;
 //! - `Labels` are from 1 to their vertices, and a label's label is itself; `Labels::apart` labels each vertex by itself;
+//! - [`Components`] are merged two at a time, and two numbers have one label just where merges made them one component;
 //! - `Offers` are pairs of a component and a place, in strictly ascending order of the components;
 //! - `Forest::of_list`, `Labels::of_list` and `Offers::of_pairs` give none exactly where a list isn't such a one;
+//!   `Labels::of_known` takes a list of which it is known;
 //! - the shards of a [`Cut`], one behind the other, are the list that was cut; a cut that isn't allowed has its cause.
 //!
 //! ```text
@@ -21,12 +23,12 @@
 //!
 //! Where to start a change: what is meant stands in `specs/` (`Link`, `Walk`, `Forest`, `Labels`, `Offers`, `Cut`), and
 //! the laws that show it to be right in `laws`. `labellings` and `offered` say which lists are labels and offers, `cuts`
-//! where a list is cut. `plain` is the solver, which keeps labels in `components`, seen as the list of the labels. Its
+//! where a list is cut. `plain` is the solver, which keeps labels in [`Components`], seen as the list of the labels. Its
 //! proof follows `proofs/Growing`, which knows nothing of tables, and `proofs/Tables`, which knows that list alone:
 //! another way to merge components needs only another `proofs/Rings`.
 #![tactic(auto)]
 
-mod components;
+pub mod components;
 pub mod cuts;
 pub mod forests;
 pub mod labellings;
@@ -36,6 +38,7 @@ pub mod offered;
 pub mod plain;
 pub mod shards;
 
+pub use components::Components;
 pub use cuts::{Cut, CutFault, check_even, check_places};
 pub use forests::Forest;
 pub use labellings::Labels;
