@@ -319,7 +319,7 @@ fn expect_known(rt: &impl Abort, pairs: &[(u32, u32)]) {
 }
 
 // Whether each end is one of so many vertices.
-fn have_labels(links: &[Link], n: u32) -> bool
+pub(crate) fn have_labels(links: &[Link], n: u32) -> bool
     ensures { IsTrue result ↔ EndsUpTo n links.now }
 {
     links.iter().all(|link| link.high <= n)

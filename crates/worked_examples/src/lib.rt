@@ -15,6 +15,7 @@
 //!   plain_runs      a file to its forest text
 //!   frames_codec    frames and their bytes, and each refusal
 //!   engine          a worker's scan, what it hears, and whole sessions
+//!   wires           asks of a worker over a line that stops, or over stored bytes in place of a worker
 //!   board, shard_sets   claims of shards, by one seat and by many; sets of shards
 //!   sizes           each call past the size of every inner piece
 //!   fault_texts     what each fault is told as
@@ -64,5 +65,7 @@ mod shard_sets;
 mod sizes;
 #[cfg(test)]
 mod streams;
+#[cfg(test)]
+mod wires;
 #[cfg(test)]
 mod writing;
