@@ -18,7 +18,7 @@ use Rattle.frames.proofs.FrameStreams.{texts-append, lawful-append, lawful_back,
 use Rattle.worker_engine.proofs.Replying.{asks-append, shelf_after-append, last_reply, served_lawful}
 use Rattle.ports.specs.declared.fault.PortFault.{PortFault}
 use Rattle.ports.specs.declared.fault.PortFault.TheVariants.{Down, Garbled, WrongHello, Gave, Memory, Closed}
-use Rattle.ports.specs.ShardBits.{has_shard}
+use Rattle.shard_set.specs.Shards.{has_shard}
 use Rattle.ports.specs.Lines.{LineState, ServesSoFar, Went}
 use Rattle.ports.specs.Causes.{IsNoReply, Came, Cause, IsBlameless}
 use Rattle.ports.specs.Ports.{IsHonestAnswer}
@@ -59,9 +59,6 @@ shelf_put true shelf shard s links round labels = refl
 shelf_put false shelf shard s links round labels = refl
 
 -- ---- what was got
-
-some_same : {X : Type 0} (x y : X) (o : Option X) → o ≡ Some x → o ≡ Some y → x ≡ y
-some_same x y o first second = cc
 
 -- behind what was got before, the hello comes before any other bytes
 got_more : (greeted : Bool) (worker : ℕ) (answers : List AnswerValue) (bytes : List ℕ) → (greeted ≡ false → answers ≡ [])
@@ -147,15 +144,15 @@ module _ (round shard : ℕ) (labels : List ℕ) (before after : Talk) (said : L
   left_of : (bytes : List ℕ) → AreLawful (frames_put before round shard labels) → AskBrought round shard labels bytes before after → Left bytes
   left_of bytes lawful brought =
       let more : List FrameValue = frames_put before round shard labels in
-      let (sent, got, rest, sent_is, got_is, serves) = faithful (omega (arith, brought.failures, step.calm)) in
-      let lawful_replies : AreLawful serves.replies = served_lawful before.worker sent (got ++ rest) serves in
       let hello : List FrameValue = HelloFrame 1 before.worker ∷ map AnswerFrame answers in
-      let sent_texts : sent ≡ texts_of (said ++ more) = some_same _ _ after.line.sent sent_is (appends-told before.line.sent after.line.sent (texts_of said) (texts_of more) step.sent (brought.sent refl)) ∙ sym (texts-append said more) in
-      let frames : serves.frames ≡ said ++ more =
-      only_frames_of_texts (said ++ more) serves.frames (lawful-append said more step.lawful lawful) (subst (λ (t : List ℕ). AreFramesOf t serves.frames) sent_texts serves.heard) in
-      let got_texts : got ≡ texts_of hello ++ bytes = some_same _ _ after.line.got got_is (appends-told before.line.got after.line.got _ _ step.gave.got (brought.got refl)) ∙ got_more before.greeted before.worker answers bytes step.gave.silent in
-      let whole : texts_of hello ++ (bytes ++ rest) ≡ texts_of (HelloFrame 1 before.worker ∷ serves.replies) =
-      sym (append_assoc (texts_of hello) bytes rest) ∙ ap (λ (t : List ℕ). t ++ rest) (sym got_texts) ∙ serves.written in
+      let sent_is : after.line.sent ≡ Some (texts_of (said ++ more)) =
+      appends-told before.line.sent after.line.sent (texts_of said) (texts_of more) step.sent (brought.sent refl) ∙ ap (λ t. Some t) (sym (texts-append said more)) in
+      let got_is : after.line.got ≡ Some (texts_of hello ++ bytes) =
+      appends-told before.line.got after.line.got _ _ step.gave.got (brought.got refl) ∙ ap (λ t. Some t) (got_more before.greeted before.worker answers bytes step.gave.silent) in
+      let (rest, serves) = faithful (omega (arith, brought.failures, step.calm)) (texts_of (said ++ more)) (texts_of hello ++ bytes) sent_is got_is in
+      let lawful_replies : AreLawful serves.replies = served_lawful before.worker (texts_of (said ++ more)) ((texts_of hello ++ bytes) ++ rest) serves in
+      let frames : serves.frames ≡ said ++ more = only_frames_of_texts (said ++ more) serves.frames (lawful-append said more step.lawful lawful) serves.heard in
+      let whole : texts_of hello ++ (bytes ++ rest) ≡ texts_of (HelloFrame 1 before.worker ∷ serves.replies) = sym (append_assoc (texts_of hello) bytes rest) ∙ serves.written in
       let (left, is, texts) = prefix_of_frames hello (HelloFrame 1 before.worker ∷ serves.replies) (bytes ++ rest) (version, step.gave.lawful) (version, lawful_replies) whole in
       let replies : serves.replies ≡ map AnswerFrame answers ++ left = ap (drop 1) is in
       record {
@@ -170,10 +167,11 @@ module _ (round shard : ℕ) (labels : List ℕ) (before after : Talk) (said : L
   first_of : (bytes : List ℕ) → before.greeted ≡ false → Came bytes before.line after.line
       → (rest : List ℕ) × (replies : List FrameValue) × (bytes ++ rest ≡ texts_of (HelloFrame 1 before.worker ∷ replies)) × AreLawful replies
   first_of bytes quiet came =
-      let (sent, got, rest, sent_is, got_is, serves) = faithful (omega (arith, came.failures, step.calm)) in
       let none : before.line.got ≡ Some [] = step.gave.got ∙ ap (λ b. Some (texts_of (frames_got b before.worker answers))) quiet in
-      let got_bytes : got ≡ bytes = some_same _ _ after.line.got got_is (appends-told before.line.got after.line.got [] bytes none (came.got refl)) in
-      (rest, serves.replies, ap (λ (t : List ℕ). t ++ rest) (sym got_bytes) ∙ serves.written, served_lawful before.worker sent (got ++ rest) serves)
+      let sent_is : after.line.sent ≡ Some (texts_of said ++ []) = appends-told before.line.sent after.line.sent (texts_of said) [] step.sent (came.sent refl) in
+      let got_is : after.line.got ≡ Some bytes = appends-told before.line.got after.line.got [] bytes none (came.got refl) in
+      let (rest, serves) = faithful (omega (arith, came.failures, step.calm)) (texts_of said ++ []) bytes sent_is got_is in
+      (rest, serves.replies, serves.written, served_lawful before.worker (texts_of said ++ []) (bytes ++ rest) serves)
 
   module _ (in_cut : shard < length before.cut) (is : IsShard shard (links_at before.cut shard)) (ask : IsAsk round shard labels) where
     -- a frame that came in place of a reply is the worker's reply to this ask

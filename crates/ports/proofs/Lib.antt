@@ -1,6 +1,5 @@
 pub mod GivenBytes
 pub mod PortCalls
-pub mod Bits
 pub mod Going
 pub mod LineReads
 pub mod Refused

@@ -36,7 +36,7 @@ pub greeting_broke : (fault : FrameFault) (worker : ℕ) (a b : LineState) → R
 greeting_broke Ended worker a b broke = inr broke.2.ends
 greeting_broke Torn worker a b broke = inr broke.2.ends
 greeting_broke Device worker a b broke = inl broke.2.failures
-greeting_broke Memory worker a b broke = tt
+greeting_broke Memory worker a b broke = (broke.0, broke.1, broke.2)
 greeting_broke BadKind worker a b broke = (broke.0, (BadKind, tt, broke.1), broke.2)
 greeting_broke BadLength worker a b broke = (broke.0, (BadLength, tt, broke.1), broke.2)
 greeting_broke BadField worker a b broke = (broke.0, (BadField, tt, broke.1), broke.2)
@@ -46,7 +46,7 @@ pub answer_broke : (fault : FrameFault) (a b : LineState) → ReadBroke fault a 
 answer_broke Ended a b broke = inr broke.2.ends
 answer_broke Torn a b broke = inr broke.2.ends
 answer_broke Device a b broke = inl broke.2.failures
-answer_broke Memory a b broke = tt
+answer_broke Memory a b broke = (broke.0, broke.1, broke.2)
 answer_broke BadKind a b broke = (broke.0, inl (BadKind, tt, broke.1), broke.2)
 answer_broke BadLength a b broke = (broke.0, inl (BadLength, tt, broke.1), broke.2)
 answer_broke BadField a b broke = (broke.0, inl (BadField, tt, broke.1), broke.2)

@@ -11,10 +11,10 @@ use Rattle.frames.specs.FrameStream.{texts_of}
 use Rattle.frames.proofs.FrameStreams.{texts-append}
 use Rattle.ports.specs.declared.fault.PortFault.{PortFault}
 use Rattle.ports.specs.declared.fault.PortFault.TheVariants.{Down, Garbled, WrongHello, Gave, Memory, Closed}
-use Rattle.ports.specs.ShardBits.{has_shard}
+use Rattle.shard_set.specs.Shards.{has_shard}
 use Rattle.ports.specs.Lines.{LineState, Went}
 use Rattle.ports.specs.Talking.{Talk, hello_once, shard_once, frames_put, AskBrought, Asked}
-use Rattle.ports.specs.Causes.{Came, AnswerFault, Cause}
+use Rattle.ports.specs.Causes.{Came, AnswerFault, Cause, InReply}
 use Rattle.ports.proofs.Going.{went_then, then_came, went_then_down}
 
 module _ (round shard : ℕ) (labels : List ℕ) (before : Talk) where
@@ -53,6 +53,6 @@ module _ (round shard : ℕ) (labels : List ℕ) (before : Talk) where
     cause_of (Err Down) fault = went_then_down before.line r after.line _ _ so_far fault
     cause_of (Err Garbled) fault = inr (fault.0, fault.1, then_came before.line r after.line _ _ _ so_far fault.2)
     cause_of (Err (Gave code)) fault = (fault.0, fault.1, fault.2, then_came before.line r after.line _ _ _ so_far fault.3)
-    cause_of (Err Memory) fault = tt
+    cause_of (Err Memory) fault = InReply fault.0 fault.1 (then_came before.line r after.line _ _ _ so_far fault.2)
     cause_of (Err WrongHello) fault = absurd fault
     cause_of (Err Closed) fault = absurd fault

@@ -1,28 +1,32 @@
 -- A wire from call to call.
 use Rattle.std.proofs.Common.{◌≡◌, ℕ, ◌<◌, List, [], ◌∷◌, ◌++◌, length, Some, refl, sym, ap, subst}
-use Rattle.std.specs.Prelude.{Option, None, Bool, true, false, if◌then◌else◌}
+use Rattle.std.specs.Prelude.{Option, None, IsSome, IfSome, Bool, true, false, if◌then◌else◌}
 use Rattle.limits.specs.declared.TheConstants.{MAX_WORKERS}
 use Rattle.link_key.specs.Link.{EndsUpTo}
 use Rattle.link_key.specs.Cut.{links_at}
 use Rattle.frames.specs.AnswerValue.{AnswerValue}
 use Rattle.frames.specs.Lawful.{IsShard, IsAsk}
 use Rattle.ports.specs.declared.fault.PortFault.{PortFault}
-use Rattle.ports.specs.ShardBits.{has_shard}
-use Rattle.ports.specs.Lines.{LineState, IsFresh, ServesSoFar}
+use Rattle.shard_set.specs.Shards.{has_shard}
+use Rattle.ports.specs.Lines.{LineState, IsFresh, Tells, ServesSoFar}
 use Rattle.ports.specs.Ports.{IsHonestAnswer}
 use Rattle.ports.specs.Causes.{Cause, IsBlameless}
 use Rattle.ports.specs.Talking.{Talk, frames_put, Asked, IsInStep}
 use Rattle.ports.specs.Wires.{IsSound, IsHonest}
 use Rattle.ports.proofs.Asking.{step_more, honest_answer, blameless}
 
--- a talk that said nothing yet, over a fresh line
-pub fresh_step : (talk : Talk) → IsFresh talk.line → talk.greeted ≡ false → ((s : ℕ) → has_shard talk.sent s ≡ false) → IsInStep talk [] []
-fresh_step talk fresh quiet none = record {
+told_none : (told : Option (List ℕ)) → IsSome told → IfSome told (λ bytes. bytes ≡ []) → told ≡ Some []
+told_none None tells none = cc
+told_none (Some bytes) tells none = ap (λ t. Some t) none
+
+-- a talk that said nothing yet, over a fresh line that tells its bytes
+pub fresh_step : (talk : Talk) → IsFresh talk.line → Tells talk.line → talk.greeted ≡ false → ((s : ℕ) → has_shard talk.sent s ≡ false) → IsInStep talk [] []
+fresh_step talk fresh tells quiet none = record {
   calm = fresh.failures;
-  sent = fresh.sent;
+  sent = told_none talk.line.sent tells.sent fresh.sent;
   lawful = tt;
   asked = refl;
-  gave = record { got = rw quiet fresh.got; lawful = tt; silent = λ e. refl };
+  gave = record { got = rw quiet (told_none talk.line.got tells.got fresh.got); lawful = tt; silent = λ e. refl };
   shelves = λ s within. sym (ap (λ b. if b then Some (links_at talk.cut s) else None) (none s));
 }
 

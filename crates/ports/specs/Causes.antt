@@ -2,6 +2,9 @@
 use Rattle.std.specs.Prelude.{◌≡◌, ◌≢◌, ℕ, ◌+◌, ◌⊎◌, ⊤, Bool, true, false, List, [], ◌++◌}
 use Rattle.frames.specs.FrameValue.{FrameValue, HelloFrame, ShardFrame, AskFrame, AnswerFrame, FaultFrame}
 use Rattle.frames.specs.FrameText.{text_of}
+use Rattle.frames.specs.FrameStream.{texts_of}
+use Rattle.link_key.specs.Cut.{links_at}
+use Rattle.shard_set.specs.Shards.{has_shard}
 use Rattle.frames.specs.Lawful.{IsLawful}
 use Rattle.frames.specs.Refusals.{StreamRefused}
 use Rattle.frames.specs.ReadFault.{failures_of, ends_of}
@@ -11,7 +14,7 @@ use Rattle.frames.specs.declared.fault.FrameFault.TheVariants.{Memory as NoMemor
 use Rattle.ports.specs.declared.fault.PortFault.{PortFault}
 use Rattle.ports.specs.declared.fault.PortFault.TheVariants.{Down, Garbled, WrongHello, Gave, Memory, Closed}
 use Rattle.ports.specs.Lines.{LineState, Went}
-use Rattle.ports.specs.Talking.{Talk, AskBrought}
+use Rattle.ports.specs.Talking.{Talk, hello_once, shard_once, AskBrought}
 
 -- a fault that tells of bytes which no lawful frame begins with
 abbrev pub IsGarble : FrameFault → Type 0
@@ -43,6 +46,10 @@ WentDown before after = (after.failures ≡ before.failures + 1) ⊎ (after.ends
 abbrev pub Came : List ℕ → LineState → LineState → Type 0
 Came bytes before after = Went 0 0 [] bytes before after
 
+-- these bytes came and nothing was sent; of the frame that they begin the body, or its list, found no memory
+abbrev pub CameUnkept : LineState → LineState → Type 0
+CameUnkept before after = (bytes : List ℕ) × StreamRefused NoMemory bytes × Came bytes before after
+
 -- ---- by the step of the ask
 
 -- why no hello of the worker came
@@ -50,13 +57,13 @@ abbrev pub GreetingFault : PortFault → ℕ → LineState → LineState → Typ
 GreetingFault Down worker before after = WentDown before after
 GreetingFault Garbled worker before after = (bytes : List ℕ) × IsBad bytes × Came bytes before after
 GreetingFault WrongHello worker before after = (v : FrameValue) × IsLawful v × (v ≢ HelloFrame 1 worker) × Came (text_of v) before after
-GreetingFault Memory worker before after = ⊤
+GreetingFault Memory worker before after = CameUnkept before after
 GreetingFault _ worker before after = ⊥
 
--- why a frame wasn't sent
+-- why a frame wasn't sent: for want of memory it isn't made, and the line isn't called
 abbrev pub SendingFault : PortFault → LineState → LineState → Type 0
 SendingFault Down before after = WentDown before after
-SendingFault Memory before after = ⊤
+SendingFault Memory before after = after ≡ before
 SendingFault _ before after = ⊥
 
 -- why no answer came to what was sent
@@ -64,7 +71,7 @@ abbrev pub AnswerFault : PortFault → LineState → LineState → Type 0
 AnswerFault Down before after = WentDown before after
 AnswerFault Garbled before after = (bytes : List ℕ) × IsGarbled bytes × Came bytes before after
 AnswerFault (Gave code) before after = (round shard : ℕ) × IsLawful (FaultFrame round shard code) × Came (text_of (FaultFrame round shard code)) before after
-AnswerFault Memory before after = ⊤
+AnswerFault Memory before after = CameUnkept before after
 AnswerFault _ before after = ⊥
 
 -- ---- of the whole ask
@@ -72,6 +79,17 @@ AnswerFault _ before after = ⊥
 -- before the hello, the first bytes are at fault
 abbrev pub IsNoHello : PortFault → Talk → Talk → Type 0
 IsNoHello fault before after = (before.greeted ≡ false) × GreetingFault fault before.worker before.line after.line
+
+-- the hello came by now, these frames were put, and nothing else went out or came
+abbrev pub HasPut : List FrameValue → Talk → Talk → Type 0
+HasPut frames before after = Went 0 0 (texts_of frames) (hello_once before.greeted before.worker) before.line after.line
+
+-- where memory was wanting in an ask: for the hello that came, for the frame of a shard that wasn't sent before, for the frame of the ask, or for the reply that came. In each case nothing failed and no end was found
+pub data IsWanting (round shard : ℕ) (labels : List ℕ) (before after : Talk) : Type 0 where
+  InHello : IsNoHello Memory before after → IsWanting round shard labels before after
+  InShard : has_shard before.sent shard ≡ false → HasPut [] before after → IsWanting round shard labels before after
+  InAsk : HasPut (shard_once (has_shard before.sent shard) shard (links_at before.cut shard)) before after → IsWanting round shard labels before after
+  InReply : (bytes : List ℕ) → StreamRefused NoMemory bytes → AskBrought round shard labels bytes before after → IsWanting round shard labels before after
 
 -- why an ask that was open got no answer: by the bytes that came in it, and by what the line counted
 abbrev pub Cause : PortFault → ℕ → ℕ → List ℕ → Talk → Talk → Type 0
@@ -81,7 +99,7 @@ Cause Garbled round shard labels before after =
 Cause WrongHello round shard labels before after = IsNoHello WrongHello before after
 Cause (Gave code) round shard labels before after =
     (r s : ℕ) × IsLawful (FaultFrame r s code) × AskBrought round shard labels (text_of (FaultFrame r s code)) before after
-Cause Memory round shard labels before after = ⊤
+Cause Memory round shard labels before after = IsWanting round shard labels before after
 Cause Closed round shard labels before after = ⊥
 
 -- a fault that a wire over a faithful line may answer

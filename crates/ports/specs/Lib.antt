@@ -1,7 +1,6 @@
 pub mod Lines
 pub mod Testing
 pub mod Ports
-pub mod ShardBits
 pub mod Hearing
 pub mod Talking
 pub mod Causes

@@ -1,5 +1,5 @@
 -- The laws of lines: what each may say of its bytes.
-use Rattle.std.proofs.Common.{◌≡◌, ℕ, ◌+◌, ◌++◌, take, drop, refl, sym, subst, take-append-drop, arith}
+use Rattle.std.proofs.Common.{◌≡◌, ℕ, ◌+◌, List, ◌++◌, take, drop, sym, ap, subst, ◌∙◌, take-append-drop, arith}
 use Rattle.worker_engine.specs.Serving.{shelf_of, Serves}
 use Rattle.worker_engine.proofs.Sessions.{session_serves}
 use Rattle.ports.specs.Lines.{LineState, ServesSoFar}
@@ -12,11 +12,9 @@ fused_serves worker line stopped serves calm = serves (omega arith)
 
 -- what was got begins what the session wrote
 pub engine_serves : (worker : ℕ) (s : EngineLineState) → IsEngineLine worker s → ServesSoFar worker (line_of s)
-engine_serves worker s is calm = (
-  s.input,
-  take s.taken s.written,
-  drop s.taken s.written,
-  refl,
-  refl,
-  subst (Serves worker s.input) (sym (take-append-drop s.taken s.written)) (session_serves worker (shelf_of s.kept) s.input s.written s.heard (is.session calm) (is.all calm)),
-)
+engine_serves worker s is calm sent got sent_is got_is =
+    let all : Serves worker s.input s.written = session_serves worker (shelf_of s.kept) s.input s.written s.heard (is.session calm) (is.all calm) in
+    let same_sent : s.input ≡ sent = cc in
+    let same_got : take s.taken s.written ≡ got = cc in
+    let written : s.written ≡ got ++ drop s.taken s.written = sym (take-append-drop s.taken s.written) ∙ ap (λ (t : List ℕ). t ++ drop s.taken s.written) same_got in
+    (drop s.taken s.written, subst (λ (t : List ℕ). Serves worker t (got ++ drop s.taken s.written)) same_sent (subst (Serves worker s.input) written all))

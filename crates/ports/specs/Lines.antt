@@ -1,5 +1,5 @@
 -- What a line tells of itself, what a call does to it, and what a faithful line gives.
-use Rattle.std.specs.Prelude.{◌≡◌, ℕ, ◌+◌, ◌-◌, ◌<◌, ◌≤◌, ◌^◌, List, [], ◌++◌, take, Option, Some, Result, Ok, Err}
+use Rattle.std.specs.Prelude.{◌≡◌, ℕ, ◌+◌, ◌-◌, ◌<◌, ◌≤◌, ◌^◌, List, [], ◌++◌, take, Option, Some, IfSome, IsSome, Result, Ok, Err}
 use Rattle.std.specs.Io.KnownBytes.{Appends}
 use Rattle.worker_engine.specs.Serving.{Serves}
 use Rattle.ports.specs.declared.fault.LineFault.{LineFault}
@@ -16,10 +16,15 @@ pub record HasRoom (line : LineState) : Type 0 where
   pub failures : line.failures < 2 ^ 64 - 1
   pub ends : line.ends < 2 ^ 64 - 1
 
--- nothing was sent or got, and the line never failed
+-- the line tells what was sent and what was got
+pub record Tells (line : LineState) : Type 0 where
+  pub sent : IsSome line.sent
+  pub got : IsSome line.got
+
+-- a new line: it never failed, and nothing was sent or got, where it tells that
 pub record IsFresh (line : LineState) : Type 0 where
-  pub sent : line.sent ≡ Some []
-  pub got : line.got ≡ Some []
+  pub sent : IfSome line.sent (λ bytes. bytes ≡ [])
+  pub got : IfSome line.got (λ bytes. bytes ≡ [])
   pub failures : line.failures ≡ 0
 
 -- from `before` to `after` these bytes were sent and those got; so many calls failed, and so many found the end. Where one failed nothing is said of the bytes
@@ -39,7 +44,7 @@ abbrev pub GetWent : Result ℕ LineFault → List ℕ → LineState → LineSta
 GetWent (Ok n) into before after = (0 < n → Went 0 0 [] (take n into) before after) × (n ≡ 0 → Went 0 1 [] [] before after)
 GetWent (Err fault) into before after = Went 1 0 [] [] before after
 
--- until the first failure the line tells its bytes, and what was got begins what the worker's session may write for what was sent
+-- until the first failure, and where the line tells both, what was got begins what the worker's session may write for what was sent
 abbrev pub ServesSoFar : ℕ → LineState → Type 0
 ServesSoFar worker line =
-    line.failures ≡ 0 → (sent got rest : List ℕ) × (line.sent ≡ Some sent) × (line.got ≡ Some got) × Serves worker sent (got ++ rest)
+    line.failures ≡ 0 → (sent got : List ℕ) → line.sent ≡ Some sent → line.got ≡ Some got → (rest : List ℕ) × Serves worker sent (got ++ rest)

@@ -8,7 +8,7 @@ use Rattle.frames.specs.FrameText.{text_of}
 use Rattle.frames.specs.Lawful.{IsAnswer}
 use Rattle.frames.specs.FrameStream.{texts_of, AreLawful}
 use Rattle.worker_engine.specs.Serving.{empty_shelf, shelf_after, asks_in}
-use Rattle.ports.specs.ShardBits.{has_shard}
+use Rattle.shard_set.specs.Shards.{has_shard}
 use Rattle.ports.specs.Lines.{LineState, Went}
 
 -- a talk: the line, the cut whose shards are asked, the number of the worker, whether its hello came, and the shards that were sent
@@ -46,7 +46,7 @@ frames_put talk round shard labels = shard_once (has_shard talk.sent shard) shar
 abbrev pub AskBrought : ℕ → ℕ → List ℕ → List ℕ → Talk → Talk → Type 0
 AskBrought round shard labels bytes before after = Went 0 0 (texts_of (frames_put before round shard labels)) (hello_once before.greeted before.worker ++ bytes) before.line after.line
 
--- an ask that was answered: the hello came by now, the shard was sent by now, and the rest of the talk stands
+-- an ask that was answered: its frames went out and no others, the hello came by now, the shard was sent by now, and the rest of the talk stands
 pub record Asked (round shard : ℕ) (labels : List ℕ) (answer : AnswerValue) (before after : Talk) : Type 0 where
   pub brought : AskBrought round shard labels (text_of (AnswerFrame answer)) before after
   pub lawful : IsAnswer answer

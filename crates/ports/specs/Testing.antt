@@ -1,8 +1,10 @@
 -- Lines for tests: one that stops at a chosen call or byte, and one that plays stored bytes.
-use Rattle.std.specs.Prelude.{◌≡◌, ℕ, zero, suc, ◌+◌, ◌-◌, ◌==◌, min, Bool, true, false, List, [], ◌++◌, length, take, drop, Some, None, if◌then◌else◌}
+use Rattle.std.specs.Prelude.{◌≡◌, ℕ, zero, suc, ◌+◌, ◌-◌, ◌==◌, min, Bool, true, false, List, [], ◌++◌, length, take, drop, Some, None, Result, Ok, Err, if◌then◌else◌}
+use Rattle.std.specs.Io.{ReadsAtMost}
 use Rattle.ports.specs.declared.fused.Fuse.{Fuse}
 use Rattle.ports.specs.declared.fused.Fuse.TheVariants.{Calls, Bytes}
-use Rattle.ports.specs.Lines.{LineState}
+use Rattle.ports.specs.declared.fault.LineFault.{LineFault}
+use Rattle.ports.specs.Lines.{LineState, GetWent}
 
 -- ---- a line that stops
 
@@ -30,6 +32,17 @@ most_got (Bytes left) room = min room left
 abbrev pub after_call : Fuse → ℕ → Fuse
 after_call (Calls left) count = Calls (left - 1)
 after_call (Bytes left) count = Bytes (left - count)
+
+-- how many bytes a get gave
+abbrev pub given_by : Result ℕ LineFault → ℕ
+given_by (Ok n) = n
+given_by (Err fault) = 0
+
+-- a get of the line behind, into the first `room` bytes of a buffer: what it gives stands there, and the bytes behind them stay
+pub record GotInto (room : ℕ) (result : Result ℕ LineFault) (old new : List ℕ) (before after : LineState) : Type 0 where
+  pub bound : ReadsAtMost result (take room new)
+  pub went : GetWent result (take room new) before after
+  pub behind : drop room new ≡ drop room old
 
 -- the line behind it, and its own stops counted with that line's failures
 abbrev pub with_stops : LineState → ℕ → LineState

@@ -2,7 +2,7 @@
 ghost use Rattle.std.specs.Prelude.{◌≡◌, ℕ, ◌+◌, ◌<◌, ◌≤◌, true, false, length, IfOk, OnOk, IsErr};
 ghost use Rattle.std.specs.Io.{ReadsAtMost};
 ghost use Rattle.ports.specs.Lines.{HasRoom, PutWent, GetWent};
-ghost use Rattle.ports.specs.Testing.{stops_puts, stops_gets, most_got, after_call, with_stops};
+ghost use Rattle.ports.specs.Testing.{stops_puts, stops_gets, most_got, after_call, given_by, GotInto, with_stops};
 ghost use Rattle.ports.specs.LineLaws.{fused_serves};
 
 use crate::fault::LineFault;
@@ -104,8 +104,11 @@ impl<L: Line> Line for FusedLine<L> {
         ensures stopped { stops_gets self.old.fuse ≡ true
             → IsErr result × (self.new ≡ record self.old { stopped = self.old.stopped + 1 }) }
         ensures passed { stops_gets self.old.fuse ≡ false → self.new.stopped ≡ self.old.stopped }
-        ensures fuse { IfOk result (λ n. self.new.fuse ≡ after_call self.old.fuse n) }
-        ensures most { IfOk result (λ n. n ≤ most_got self.old.fuse (length into.old)) }
+        ensures fuse { stops_gets self.old.fuse ≡ false
+            → self.new.fuse ≡ after_call self.old.fuse (given_by result) }
+        ensures behind { stops_gets self.old.fuse ≡ false
+            → GotInto (most_got self.old.fuse (length into.old)) result into.old into.new
+            (L.state self.old.line) (L.state self.new.line) }
     {
         match self.fuse {
             Fuse::Calls(0) | Fuse::Bytes(0) => {
@@ -128,13 +131,13 @@ impl<L: Line> Line for FusedLine<L> {
     ghost serves = { λ s worker faithful. fused_serves worker (L.state s.line) s.stopped (L.serves s.line worker faithful) };
 }
 
-// Some bytes from the line, at most so many.
+// Some bytes from the line, into the first so many of the buffer.
 fn get_some<L: Line>(line: &mut L, into: &mut [u8], most: usize) -> Result<usize, LineFault>
     requires can { HasRoom (L.state line.old) }
     requires some { 0 < most }
     requires fits { most ≤ length into.old }
     ensures bound { ReadsAtMost result into.new }
-    ensures most { IfOk result (λ n. n ≤ most) }
+    ensures got { GotInto most result into.old into.new (L.state line.old) (L.state line.new) }
     ensures went { GetWent result into.new (L.state line.old) (L.state line.new) }
     ensures faithful { (worker : ℕ) → L.faithful line.old worker → L.faithful line.new worker }
 {

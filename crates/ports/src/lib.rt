@@ -43,7 +43,6 @@ mod memory;
 mod port;
 mod script;
 mod session;
-mod shard_set;
 mod steps;
 mod talk;
 mod wire;

@@ -10,9 +10,10 @@ use crate::fault::LineFault;
 /// It may tell, to contracts, the bytes that were sent and got, each a `None` where it doesn't know them.
 /// It always tells how many calls failed and how many gets found the end, as numbers of 64 bits.
 ///
-/// A line is faithful for a worker where, until its first failure, what was got begins what the worker's
-/// session may write for what was sent. What a socket gives is for its other end to say, so a line over a
-/// device is faithful by a premise alone; a line to an engine in memory is so by its contract.
+/// A line is faithful for a worker where, until its first failure and where it tells its bytes, what was
+/// got begins what the worker's session may write for what was sent. What a socket gives is for its other
+/// end to say, so a line over a device is faithful by a premise alone; a line to an engine in memory is so
+/// by its contract. From a line that doesn't tell its bytes nothing follows of what comes over it.
 pub trait Line {
     // What the line tells.
     ghost state: { Self → LineState };
@@ -41,6 +42,6 @@ pub trait Line {
         ensures went { GetWent result into.new (state self.old) (state self.new) }
         ensures faithful { (worker : ℕ) → faithful self.old worker → faithful self.new worker };
 
-    // What a faithful line got begins what the worker may write.
+    // What a faithful line got, as far as it tells it, begins what the worker may write.
     ghost serves: { (line : Self) (worker : ℕ) → faithful line worker → ServesSoFar worker (state line) };
 }

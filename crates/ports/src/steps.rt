@@ -4,7 +4,7 @@ ghost use Rattle.frames.specs.FrameValue.{AskFrame, AnswerFrame, value_of};
 ghost use Rattle.frames.specs.FrameText.{text_of};
 ghost use Rattle.frames.specs.Lawful.{IsAnswer, IsLawful};
 ghost use Rattle.frames.specs.FrameStream.{texts_of};
-ghost use Rattle.ports.specs.ShardBits.{has_shard};
+ghost use Rattle.shard_set.specs.Shards.{has_shard};
 ghost use Rattle.ports.specs.Lines.{HasRoom, Went};
 ghost use Rattle.ports.specs.Causes.{Came, GreetingFault, SendingFault, AnswerFault, ReadBroke, port_fault};
 ghost use Rattle.ports.specs.Talking.{hello_once, shard_once};
@@ -12,10 +12,10 @@ ghost use Rattle.ports.specs.Talking.{hello_once, shard_once};
 use crate::fault::PortFault;
 use crate::heard::Heard;
 use crate::line::Line;
-use crate::shard_set::ShardSet;
 use frames::{Answer, Frame, FrameFault, encode_ask, encode_shard, read_frame};
 use limits::{MAX_SHARD_LINKS, MAX_SHARDS};
 use link_key::{Labels, Shard};
+use shard_set::ShardSet;
 use std::alloc::Allocator;
 
 // Hears the hello of the worker, unless it came before.
@@ -64,10 +64,10 @@ pub fn send_shard<L: Line, A: Allocator + Copy>(
     requires number { part.now.number < MAX_SHARDS }
     requires count { length part.now.links.now ≤ MAX_SHARD_LINKS }
     ensures went { OnOk result (Went 0 0
-        (texts_of (shard_once (has_shard sent.old.bits part.now.number) part.now.number part.now.links.now)) []
+        (texts_of (shard_once (has_shard sent.old part.now.number) part.now.number part.now.links.now)) []
         (L.state heard.old.line) (L.state heard.new.line)) }
     ensures sent { OnOk result ((s : ℕ)
-        → has_shard sent.new.bits s ≡ (s == part.now.number || has_shard sent.old.bits s)) }
+        → has_shard sent.new s ≡ (s == part.now.number || has_shard sent.old s)) }
     ensures fault { IfErr result
         (λ e. SendingFault e (L.state heard.old.line) (L.state heard.new.line)) }
     ensures faithful { (w : ℕ) → L.faithful heard.old.line w → L.faithful heard.new.line w }

@@ -9,10 +9,10 @@ ghost use Rattle.ports.specs.Talking.{told, Asked};
 use crate::fault::PortFault;
 use crate::heard::Heard;
 use crate::line::Line;
-use crate::shard_set::ShardSet;
 use crate::steps::{greet, hear_answer, send_ask, send_shard};
 use frames::Answer;
 use link_key::{Cut, Labels};
+use shard_set::ShardSet;
 use std::alloc::Allocator;
 use std::marker::Model;
 
@@ -33,7 +33,7 @@ impl<'a, L, A: Allocator> Model for Talk<'a, L, A> {
 
     ghost Value = { TalkState L };
 
-    ghost view = { λ s. record { line = s.heard.line; cut = s.cut.now; worker = s.worker; greeted = s.greeted; sent = s.sent.bits } };
+    ghost view = { λ s. record { line = s.heard.line; cut = s.cut.now; worker = s.worker; greeted = s.greeted; sent = s.sent } };
 }
 
 impl<'a, L: Line, A: Allocator + Copy> Talk<'a, L, A> {

@@ -3,21 +3,21 @@ ghost use Rattle.std.specs.Prelude.{◌≡◌, ℕ, ◌+◌, ◌-◌, ◌<◌, �
 ghost use Rattle.link_key.specs.Link.{EndsUpTo};
 ghost use Rattle.link_key.specs.Cut.{links_at};
 ghost use Rattle.frames.specs.AnswerValue.{AnswerValue};
-ghost use Rattle.ports.specs.Lines.{HasRoom, IsFresh};
+ghost use Rattle.ports.specs.Lines.{HasRoom, IsFresh, Tells};
 ghost use Rattle.ports.specs.Ports.{PortWent, AskWent, IsHonestAnswer, failure_of, want_of};
 ghost use Rattle.ports.specs.Causes.{Cause, IsBlameless};
-ghost use Rattle.ports.specs.Talking.{told, HasGiven};
+ghost use Rattle.ports.specs.Talking.{told, Asked, HasGiven};
 ghost use Rattle.ports.specs.Wires.{port_of, IsNewWire, IsSound, IsHonest};
 
 use crate::fault::PortFault;
 use crate::heard::Heard;
 use crate::line::Line;
 use crate::port::Port;
-use crate::shard_set::ShardSet;
 use crate::talk::Talk;
 use frames::Answer;
 use limits::MAX_WORKERS;
 use link_key::{Cut, Labels};
+use shard_set::ShardSet;
 use std::alloc::Allocator;
 use std::marker::Model;
 
@@ -53,9 +53,10 @@ impl<'a, L: Line, A: Allocator + Copy> Wire<'a, L, A> {
         requires room { HasRoom (L.state line) }
         ensures new { IsNewWire line cut.now worker result }
 
-        // Over a fresh line it is sound, and over one that is faithful for the worker honest.
-        ensures sound { IsFresh (L.state line) → IsSound result.is_open (told L.state result.talk) }
-        ensures honest { IsFresh (L.state line) → L.faithful line worker
+        // Over a fresh line that tells its bytes it is sound, and over one that is faithful for the worker honest.
+        ensures sound { IsFresh (L.state line) → Tells (L.state line)
+            → IsSound result.is_open (told L.state result.talk) }
+        ensures honest { IsFresh (L.state line) → Tells (L.state line) → L.faithful line worker
             → IsHonest (L.faithful result.talk.line) result.is_open (told L.state result.talk) }
     {
         Wire {
@@ -112,6 +113,10 @@ impl<'a, L: Line, A: Allocator + Copy> Port<A> for Wire<'a, L, A> {
             → IsHonest (L.faithful self.new.talk.line) self.new.is_open (told L.state self.new.talk) }
         ensures sound { IsSound self.old.is_open (told L.state self.old.talk)
             → IsSound self.new.is_open (told L.state self.new.talk) }
+
+        // An answer: which frames were sent for it, which bytes came, and which shards are sent by now.
+        ensures asked { IfOk result (λ a. Asked round shard labels.now a
+            (told L.state self.old.talk) (told L.state self.new.talk)) }
 
         // Why there is no answer: by the bytes that came in the ask, and by what the line counted.
         ensures cause { IfErr result (λ e. self.old.is_open ≡ true

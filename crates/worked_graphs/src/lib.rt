@@ -12,7 +12,7 @@ ghost use Rattle.link_key.specs.Link.{key_of, arc_key, EndsUpTo, AreLinksOf};
 ghost use Rattle.worked_graphs.specs.Rows.{arc_of, AreEnds, IsArcUpTo};
 
 use limits::MAX_VERTICES;
-use link_key::Link;
+use link_key::{Cut, Link};
 use std::alloc::{AllocError, Allocator};
 
 /// An arc, or a link: two ends and a weight.
@@ -152,6 +152,25 @@ pub fn links_of<A: Allocator>(
         }
     }
     Ok(Some(links))
+}
+
+/// Whether each end of the links has one of n labels.
+pub fn have_labels(links: &[Link], n: u32) -> bool
+    ensures { IsTrue result ↔ EndsUpTo n links.now }
+{
+    links.iter().all(|link| link.high <= n)
+}
+
+/// Whether each end of each shard's links has one of n labels.
+pub fn all_have_labels<A: Allocator>(cut: &Cut<A>, n: u32) -> bool
+    ensures { IsTrue result → All (EndsUpTo n) cut.now }
+{
+    for number in 0..cut.len() {
+        if !have_labels(cut.shard(number).links, n) {
+            return false;
+        }
+    }
+    true
 }
 
 // Whether both are vertices of a graph with the vertices 1 to n.

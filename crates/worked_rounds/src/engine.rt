@@ -8,7 +8,7 @@ use link_key::{Labels, Link, Offers, Shard};
 use std::alloc::{AllocError, Global};
 use std::process::Abort;
 use std::test::Fail;
-use worked_graphs::links_of;
+use worked_graphs::{have_labels, links_of};
 use worker_engine::{Engine, ServeFault, Served, scan, serve, serve_upto};
 
 const HELLO: [u8; 11] = [1, 0, 0, 0, 6, 0, 1, 0, 0, 0, 0];
@@ -316,13 +316,6 @@ fn expect_known(rt: &impl Abort, pairs: &[(u32, u32)]) {
     assert_eq!(rt; pairs[2179], (7418, 5142));
     let last = [(9998, 6962), (9999, 4641), (10_000, 2320)];
     assert_eq!(rt; &pairs[4355..], last.as_slice());
-}
-
-// Whether each end is one of so many vertices.
-fn have_labels(links: &[Link], n: u32) -> bool
-    ensures { IsTrue result ↔ EndsUpTo n links.now }
-{
-    links.iter().all(|link| link.high <= n)
 }
 
 // The scan of links that are few enough and whose ends all have labels.
