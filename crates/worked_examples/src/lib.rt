@@ -15,6 +15,7 @@
 //!   plain_runs      a file to its forest text
 //!   frames_codec    frames and their bytes, and each refusal
 //!   engine          a worker's scan, what it hears, and whole sessions
+//!   relabelling     components made one by merges and by picks, and the labels that follow
 //!   board, shard_sets   claims of shards, by one seat and by many; sets of shards
 //!   sizes           each call past the size of every inner piece
 //!   fault_texts     what each fault is told as
@@ -58,6 +59,8 @@ mod plain_runs;
 mod reading;
 #[cfg(test)]
 mod refusals;
+#[cfg(test)]
+mod relabelling;
 #[cfg(test)]
 mod shard_sets;
 #[cfg(test)]
