@@ -43,11 +43,15 @@ module _ (round shard : ℕ) (labels : List ℕ) (before after : Talk) (in_cut :
     pub honest_more : (live' : Bool) (line line' : ℕ → Type 0) → ((w : ℕ) → line w → line' w) → IsHonest line live before → IsHonest line' live' after
     honest_more live' line line' kept honest = (subst line' (sym asked.worker) (kept before.worker honest.0), sound_more live' honest.1)
 
+    -- what the line told by the end of the ask is enough
+    pub served_answer : before.worker < MAX_WORKERS → IsSound live before → ServesSoFar before.worker after.line → IsHonestAnswer before.cut round shard labels a
+    served_answer below sound serves =
+        let (said, answers, step) = sound is_live in
+        honest_answer round shard labels before after said answers step below serves in_cut is ask a asked
+
     pub light_answer : (line line' : ℕ → Type 0) → ((w : ℕ) → line w → line' w) → before.worker < MAX_WORKERS → ((w : ℕ) → line' w → ServesSoFar w after.line) → IsHonest line live before
         → IsHonestAnswer before.cut round shard labels a
-    light_answer line line' kept below serves honest =
-        let (said, answers, step) = honest.1 is_live in
-        honest_answer round shard labels before after said answers step below (serves before.worker (kept before.worker honest.0)) in_cut is ask a asked
+    light_answer line line' kept below serves honest = served_answer below honest.1 (serves before.worker (kept before.worker honest.0))
 
   -- ---- an ask that wasn't
 

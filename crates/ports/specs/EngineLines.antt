@@ -6,6 +6,26 @@ use Rattle.worker_engine.specs.Session.{InSession}
 use Rattle.ports.specs.Causes.{IsBad}
 use Rattle.ports.specs.Lines.{LineState}
 
+-- a session in memory: the shards that its engine keeps, the bytes that came, how many of them were heard, and the bytes that it wrote
+pub record SessionState : Type 0 where
+  pub kept : Kept
+  pub input : List ℕ
+  pub heard : ℕ
+  pub written : List ℕ
+
+-- the bytes that came and weren't heard
+abbrev pub unheard : SessionState → List ℕ
+unheard s = drop s.heard s.input
+
+-- whichever worker's session it was, it still is
+abbrev pub GoesOn : SessionState → SessionState → Type 0
+GoesOn before after =
+    (worker : ℕ) → InSession worker (shelf_of before.kept) before.input before.written before.heard → InSession worker (shelf_of after.kept) after.input after.written after.heard
+
+-- a session that is over hears no more, whatever comes
+abbrev pub IsOver : Bool → SessionState → Type 0
+IsOver over s = over ≡ true → IsBad (unheard s)
+
 -- the shards that the engine keeps, the bytes that were put and how many of them were heard, the bytes that the session wrote and how many of them were got, whether the session is over, and the counts
 pub record EngineLineState : Type 0 where
   pub kept : Kept

@@ -7,7 +7,9 @@ use Rattle.frames.specs.AnswerValue.{AnswerValue}
 use Rattle.frames.specs.FrameValue.{FrameValue}
 use Rattle.ports.specs.Lines.{LineState, HasRoom}
 use Rattle.ports.specs.Ports.{PortState}
-use Rattle.ports.specs.Talking.{TalkState, Talk, IsInStep}
+use Rattle.ports.specs.Talking.{TalkState, Talk, told, HasGiven, IsInStep}
+use Rattle.ports.specs.declared.fault.PortFault.{PortFault}
+use Rattle.ports.specs.Causes.{Cause}
 
 -- a wire: its talk, whether it is open, and its counts
 pub record WireState (L : Type 0) : Type 0 where
@@ -46,3 +48,19 @@ IsSound is_open talk = is_open ≡ true → (said : List FrameValue) × (answers
 -- it is sound, and its line is faithful for its worker
 abbrev pub IsHonest : (ℕ → Type 0) → Bool → Talk → Type 0
 IsHonest faithful is_open talk = faithful talk.worker × IsSound is_open talk
+
+-- ---- the same of a wire, by what its line tells of itself
+
+abbrev pub IsSoundWire : {L : Type 0} → (L → LineState) → WireState L → Type 0
+IsSoundWire state wire = IsSound wire.is_open (told state wire.talk)
+
+abbrev pub IsHonestWire : {L : Type 0} → (L → LineState) → (L → ℕ → Type 0) → WireState L → Type 0
+IsHonestWire state faithful wire = IsHonest (faithful wire.talk.line) wire.is_open (told state wire.talk)
+
+-- it gave these answers
+abbrev pub WireGave : {L : Type 0} → (L → LineState) → WireState L → List AnswerValue → Type 0
+WireGave state wire answers = HasGiven (told state wire.talk) answers
+
+-- why one of its asks gave no answer
+abbrev pub WireCause : {L : Type 0} → (L → LineState) → PortFault → (round shard : ℕ) → List ℕ → WireState L → WireState L → Type 0
+WireCause state fault round shard labels before after = Cause fault round shard labels (told state before.talk) (told state after.talk)

@@ -31,23 +31,23 @@ pub struct EngineLine<A: Allocator> {
 }
 
 impl<A: Allocator> Model for EngineLine<A> {
-    ghost use Rattle.std.specs.Prelude.{◌≤◌, vec_len};
+    ghost use Rattle.std.specs.Prelude.{◌≤◌, length};
     ghost use Rattle.ports.specs.EngineLines.{EngineLineState};
 
     ghost Value = { EngineLineState };
 
     ghost view = { λ s. record {
-      kept = s.session.engine;
-      input = s.session.input.items;
+      kept = s.session.kept;
+      input = s.session.input;
       heard = s.session.heard;
-      written = s.session.out.items;
+      written = s.session.written;
       taken = s.taken;
       over = s.over;
       failures = s.failures;
       ends = s.ends;
     } };
 
-    ghost invariant = { λ s. s.taken ≤ vec_len s.session.out };
+    ghost invariant = { λ s. s.taken ≤ length s.session.written };
 }
 
 impl<A: Allocator + Copy> EngineLine<A> {

@@ -29,7 +29,7 @@ pub enum PortFault {
     /// hold, 3 for a link whose end is past the labels.
     #[error("worker gave code {0}")]
     Gave(u8),
-    /// An allocation was refused on this side of the line.
+    /// An allocation was refused on this side of the line, which neither failed nor ended in this ask.
     #[error("no memory")]
     Memory,
     /// The port was closed before the call: nothing was sent.

@@ -2,14 +2,16 @@
 //!
 //! What is promised here:
 //!
-//! - A [`Wire`] over a fresh line that is faithful for its worker is an honest port: each answer names the
-//!   round and the shard that were asked, with the light offers of that shard under the labels that were
-//!   asked. Such a wire never answers `Garbled` or `WrongHello`, and of the worker's faults only want of
-//!   memory.
-//! - Over any line each fault closes the wire for good, and each but want of memory has its cause in the
-//!   bytes that came in that ask, or in what the line counted. Nothing limits where want of memory is told.
+//! - A [`Wire`] over a fresh line that tells its bytes and is faithful for its worker is an honest port: each
+//!   answer names the round and the shard that were asked, with the light offers of that shard under the
+//!   labels that were asked. Such a wire never answers `Garbled` or `WrongHello`, and of the worker's faults
+//!   only want of memory.
+//! - Over any line each fault closes the wire for good, and has its cause in the bytes that went out and came
+//!   in that ask, or in what the line counted. In an ask that found no memory the line neither failed nor
+//!   ended, and the bytes are those up to the frame that memory was wanting for.
+//! - An ask that is answered sent the ask alone, and before it the shard where no ask sent it before.
 //! - An open wire over a line that was fresh, and tells its bytes, sent one ask for each answer; it got the
-//!   worker's hello and these answers, and nothing else. That no shard goes out twice isn't promised.
+//!   worker's hello and these answers, and nothing else.
 //!
 //! ```text
 //!     Port::ask, shut, is_open, asks        what rounds ask

@@ -1,17 +1,17 @@
 //! A worker's session in memory.
-ghost use Rattle.std.specs.Prelude.{◌≡◌, ℕ, ◌+◌, ◌≤◌, ◌++◌, true, List, length, drop, IfOk, IfErr, OnOk, OnErr, vec_len};
+ghost use Rattle.std.specs.Prelude.{◌≡◌, ℕ, ◌++◌, true, List, length, IfOk, IfErr, OnOk};
 ghost use Rattle.frames.specs.FrameValue.{value_of};
 ghost use Rattle.frames.specs.FrameText.{text_of};
 ghost use Rattle.frames.specs.Lawful.{IsLawful};
 ghost use Rattle.frames.specs.FrameStream.{texts_of, AreLawful, BeginsNone, IsTelling};
 ghost use Rattle.frames.specs.Refusals.{StreamRefused};
 ghost use Rattle.worker_engine.specs.Serving.{shelf_of, shelf_with, MayFollow, replies_in};
-ghost use Rattle.worker_engine.specs.Session.{InSession};
-ghost use Rattle.ports.specs.Causes.{IsBad, IsGarble};
-ghost use Rattle.ports.specs.EngineLines.{Grew};
+ghost use Rattle.ports.specs.Causes.{IsGarble};
+ghost use Rattle.ports.specs.EngineLines.{unheard, GoesOn, IsOver, Grew};
 
 use frames::{Frame, FrameFault, encode, read_frame};
 use std::alloc::{AllocError, Allocator};
+use std::marker::Model;
 use worker_engine::{Engine, NO_MEMORY};
 
 // A session: the bytes that came, how many of them were heard, and what was written.
@@ -22,21 +22,27 @@ pub struct Session<A: Allocator> {
     pub input: Vec<u8, A>,
     pub heard: usize,
     pub out: Vec<u8, A>,
-    ghost heard_within: { heard ≤ vec_len input },
+}
+
+impl<A: Allocator> Model for Session<A> {
+    ghost use Rattle.std.specs.Prelude.{◌≤◌, vec_len};
+    ghost use Rattle.ports.specs.EngineLines.{SessionState};
+
+    ghost Value = { SessionState };
+
+    ghost view = { λ s. record { kept = s.engine; input = s.input.items; heard = s.heard; written = s.out.items } };
+
+    ghost invariant = { λ s. s.heard ≤ vec_len s.input };
 }
 
 impl<A: Allocator + Copy> Session<A> {
     // More bytes come. Once the session is over nothing more is heard.
     pub fn take_in(&mut self, bytes: &[u8], over: bool) -> Result<bool, AllocError>
-        ensures input { OnOk result (self.new.input.items ≡ self.old.input.items ++ bytes.now) }
-        ensures grew { Grew self.old.out.items self.new.out.items }
-        ensures session { OnOk result ((worker : ℕ)
-            → InSession worker (shelf_of self.old.engine) self.old.input.items self.old.out.items self.old.heard
-            → InSession worker (shelf_of self.new.engine) self.new.input.items self.new.out.items self.new.heard) }
-        ensures all { OnOk result ((over ≡ true → IsBad (drop self.old.heard self.old.input.items))
-            → BeginsNone (drop self.new.heard self.new.input.items)) }
-        ensures over { IfOk result (λ over_now. (over ≡ true → IsBad (drop self.old.heard self.old.input.items))
-            → over_now ≡ true → IsBad (drop self.new.heard self.new.input.items)) }
+        ensures input { OnOk result (self.new.input ≡ self.old.input ++ bytes.now) }
+        ensures grew { Grew self.old.written self.new.written }
+        ensures session { OnOk result (GoesOn self.old self.new) }
+        ensures all { OnOk result (IsOver over self.old → BeginsNone (unheard self.new)) }
+        ensures over { IfOk result (λ over_now. IsOver over self.old → IsOver over_now self.new) }
     {
         self.input.extend_from_slice(bytes)?;
         if over {
@@ -47,13 +53,11 @@ impl<A: Allocator + Copy> Session<A> {
 
     // Hears all frames that came, and tells whether what is left is refused whatever follows it.
     fn hear_all(&mut self) -> Result<bool, AllocError>
-        ensures input { self.new.input.items ≡ self.old.input.items }
-        ensures grew { Grew self.old.out.items self.new.out.items }
-        ensures session { OnOk result ((worker : ℕ)
-            → InSession worker (shelf_of self.old.engine) self.old.input.items self.old.out.items self.old.heard
-            → InSession worker (shelf_of self.new.engine) self.new.input.items self.new.out.items self.new.heard) }
-        ensures all { OnOk result (BeginsNone (drop self.new.heard self.new.input.items)) }
-        ensures over { IfOk result (λ over. over ≡ true → IsBad (drop self.new.heard self.new.input.items)) }
+        ensures input { self.new.input ≡ self.old.input }
+        ensures grew { Grew self.old.written self.new.written }
+        ensures session { OnOk result (GoesOn self.old self.new) }
+        ensures all { OnOk result (BeginsNone (unheard self.new)) }
+        ensures over { IfOk result (λ over. IsOver over self.new) }
     {
         loop {
             match first_frame(self.alloc, &self.input[self.heard..]) {

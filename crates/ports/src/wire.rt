@@ -3,11 +3,11 @@ ghost use Rattle.std.specs.Prelude.{◌≡◌, ℕ, ◌+◌, ◌-◌, ◌<◌, �
 ghost use Rattle.link_key.specs.Link.{EndsUpTo};
 ghost use Rattle.link_key.specs.Cut.{links_at};
 ghost use Rattle.frames.specs.AnswerValue.{AnswerValue};
-ghost use Rattle.ports.specs.Lines.{HasRoom, IsFresh, Tells};
+ghost use Rattle.ports.specs.Lines.{HasRoom, IsFresh, Tells, ServesSoFar};
 ghost use Rattle.ports.specs.Ports.{PortWent, AskWent, IsHonestAnswer, failure_of, want_of};
-ghost use Rattle.ports.specs.Causes.{Cause, IsBlameless};
-ghost use Rattle.ports.specs.Talking.{told, Asked, HasGiven};
-ghost use Rattle.ports.specs.Wires.{port_of, IsNewWire, IsSound, IsHonest};
+ghost use Rattle.ports.specs.Causes.{IsBlameless};
+ghost use Rattle.ports.specs.Talking.{told, Asked};
+ghost use Rattle.ports.specs.Wires.{port_of, IsNewWire, IsSoundWire, IsHonestWire, WireGave, WireCause};
 
 use crate::fault::PortFault;
 use crate::heard::Heard;
@@ -55,9 +55,9 @@ impl<'a, L: Line, A: Allocator + Copy> Wire<'a, L, A> {
 
         // Over a fresh line that tells its bytes it is sound, and over one that is faithful for the worker honest.
         ensures sound { IsFresh (L.state line) → Tells (L.state line)
-            → IsSound result.is_open (told L.state result.talk) }
+            → IsSoundWire L.state result }
         ensures honest { IsFresh (L.state line) → Tells (L.state line) → L.faithful line worker
-            → IsHonest (L.faithful result.talk.line) result.is_open (told L.state result.talk) }
+            → IsHonestWire L.state L.faithful result }
     {
         Wire {
             talk: Talk {
@@ -88,11 +88,11 @@ impl<'a, L: Line, A: Allocator + Copy> Wire<'a, L, A> {
 impl<'a, L: Line, A: Allocator + Copy> Port<A> for Wire<'a, L, A> {
     ghost state = { λ w. port_of w };
 
-    ghost honest = { λ w. IsHonest (L.faithful w.talk.line) w.is_open (told L.state w.talk) };
+    ghost honest = { λ w. IsHonestWire L.state L.faithful w };
 
-    ghost gave = { λ w. HasGiven (told L.state w.talk) };
+    ghost gave = { λ w. WireGave L.state w };
 
-    ghost sound = { λ w. IsSound w.is_open (told L.state w.talk) };
+    ghost sound = { λ w. IsSoundWire L.state w };
 
     fn ask(&mut self, round: u32, shard: u32, labels: &Labels<A>) -> Result<Answer<A>, PortFault>
         requires round { 1 ≤ round }
@@ -101,34 +101,33 @@ impl<'a, L: Line, A: Allocator + Copy> Port<A> for Wire<'a, L, A> {
         requires room { self.old.asks < 2 ^ 64 - 1 }
 
         ensures went { AskWent result (port_of self.old) (port_of self.new) }
-        ensures honest_answer { IfOk result
-            (λ a. IsHonest (L.faithful self.old.talk.line) self.old.is_open (told L.state self.old.talk)
+        ensures honest_answer { IfOk result (λ a. IsHonestWire L.state L.faithful self.old
             → IsHonestAnswer self.old.talk.cut round shard labels.now a) }
         ensures gave { IfOk result (λ a. (before : List AnswerValue)
-            → HasGiven (told L.state self.old.talk) before
-            → HasGiven (told L.state self.new.talk) (before ++ a ∷ [])) }
+            → WireGave L.state self.old before → WireGave L.state self.new (before ++ a ∷ [])) }
         ensures silent { self.old.is_open ≡ false → (answers : List AnswerValue)
-            → HasGiven (told L.state self.old.talk) answers → HasGiven (told L.state self.new.talk) answers }
-        ensures honest { IsHonest (L.faithful self.old.talk.line) self.old.is_open (told L.state self.old.talk)
-            → IsHonest (L.faithful self.new.talk.line) self.new.is_open (told L.state self.new.talk) }
-        ensures sound { IsSound self.old.is_open (told L.state self.old.talk)
-            → IsSound self.new.is_open (told L.state self.new.talk) }
+            → WireGave L.state self.old answers → WireGave L.state self.new answers }
+        ensures honest { IsHonestWire L.state L.faithful self.old → IsHonestWire L.state L.faithful self.new }
+        ensures sound { IsSoundWire L.state self.old → IsSoundWire L.state self.new }
 
         // An answer: which frames were sent for it, which bytes came, and which shards are sent by now.
         ensures asked { IfOk result (λ a. Asked round shard labels.now a
             (told L.state self.old.talk) (told L.state self.new.talk)) }
 
+        // Whatever the line is: where what came by now begins what the worker may write, the answer is honest.
+        ensures served { IfOk result (λ a. IsSoundWire L.state self.old
+            → ServesSoFar self.old.talk.worker (L.state self.new.talk.line)
+            → IsHonestAnswer self.old.talk.cut round shard labels.now a) }
+
         // Why there is no answer: by the bytes that came in the ask, and by what the line counted.
         ensures cause { IfErr result (λ e. self.old.is_open ≡ true
-            → Cause e round shard labels.now (told L.state self.old.talk) (told L.state self.new.talk)) }
+            → WireCause L.state e round shard labels.now self.old self.new) }
 
         // A closed wire does nothing.
         ensures closed { self.old.is_open ≡ false → self.new ≡ self.old }
 
         // Over a faithful line: never garbled, no wrong hello, and no fault of the worker but want of memory.
-        ensures blameless { IfErr result (λ e.
-            IsHonest (L.faithful self.old.talk.line) self.old.is_open (told L.state self.old.talk)
-            → IsBlameless e) }
+        ensures blameless { IfErr result (λ e. IsHonestWire L.state L.faithful self.old → IsBlameless e) }
     {
         if !self.is_open {
             return Err(PortFault::Closed);
@@ -149,11 +148,9 @@ impl<'a, L: Line, A: Allocator + Copy> Port<A> for Wire<'a, L, A> {
         ensures shut { self.new.is_open ≡ false }
         ensures went { PortWent 0 0 0 (port_of self.old) (port_of self.new) }
         ensures gave { (answers : List AnswerValue)
-            → HasGiven (told L.state self.old.talk) answers → HasGiven (told L.state self.new.talk) answers }
-        ensures honest { IsHonest (L.faithful self.old.talk.line) self.old.is_open (told L.state self.old.talk)
-            → IsHonest (L.faithful self.new.talk.line) self.new.is_open (told L.state self.new.talk) }
-        ensures sound { IsSound self.old.is_open (told L.state self.old.talk)
-            → IsSound self.new.is_open (told L.state self.new.talk) }
+            → WireGave L.state self.old answers → WireGave L.state self.new answers }
+        ensures honest { IsHonestWire L.state L.faithful self.old → IsHonestWire L.state L.faithful self.new }
+        ensures sound { IsSoundWire L.state self.old → IsSoundWire L.state self.new }
 
         // Nothing else changes: the line is as it was.
         ensures talk { self.new.talk ≡ self.old.talk }

@@ -1,7 +1,7 @@
 use Rattle.std.proofs.Common.{◌≡◌, ◌<◌, sym, rules}
 use Rattle.std.specs.Prelude.{true, length}
 use Rattle.ports.proofs.Asking.{gave_more}
-use Rattle.ports.proofs.Wiring.{sound_more, honest_more, light_answer, blameless_fault}
+use Rattle.ports.proofs.Wiring.{sound_more, honest_more, served_answer, light_answer, blameless_fault}
 use Rattle.ports.proofs.wire.WirePort.ask.Goals as goal
 
 pub returns-in-Ok-clause-gave : goal.returns-in-Ok-clause-gave
@@ -20,6 +20,12 @@ returns-in-Ok-clause-honest g c =
     let in_cut : c.args.shard < length c.self.inside.talk.cut = rw (sym c.self.view_is) at c.requires.shard in
     rw (sym c.self.view_is) (honest_more c.args.round c.args.shard c.args.labels.now _ _ in_cut c.ask.ensures.shard_lawful c.ask.ensures.ask_lawful _ live c.in-Ok.answer c.in-Ok.ensures.asked c.self.inside.is_open
     (g.L.Line.faithful c.self.inside.talk.line) (g.L.Line.faithful c.ask.new.self.line) c.ask.ensures.faithful)
+
+pub returns-in-Ok-clause-served : goal.returns-in-Ok-clause-served
+returns-in-Ok-clause-served g c =
+    let live : c.self.inside.is_open ≡ true = search rules in
+    let in_cut : c.args.shard < length c.self.inside.talk.cut = rw (sym c.self.view_is) at c.requires.shard in
+    rw (sym c.self.view_is) (served_answer c.args.round c.args.shard c.args.labels.now _ _ in_cut c.ask.ensures.shard_lawful c.ask.ensures.ask_lawful _ live c.in-Ok.answer c.in-Ok.ensures.asked c.self.invariant.below)
 
 pub returns-in-Ok-clause-honest_answer : goal.returns-in-Ok-clause-honest_answer
 returns-in-Ok-clause-honest_answer g c =
