@@ -1,0 +1,70 @@
+-- Asks, and more asks after them.
+use Rattle.std.proofs.Common.{◌≡◌, ◌⊎◌, inl, inr, Bool, true, false, List, [], ◌∷◌, ◌++◌, refl, ap, sym, subst, ◌∙◌, arith, append_assoc, length-append, rules}
+use Rattle.std.proofs.lemmas.List.{append-nil}
+use Rattle.frames.specs.AnswerValue.{AnswerValue}
+use Rattle.ports.specs.Ports.{PortState}
+use Rattle.forest_run.specs.Asks.{AsksWent, FailedMore}
+
+pub either : (v : Bool) → (v ≡ true) ⊎ (v ≡ false)
+either true = inl refl
+either false = inr refl
+
+module _ {P : Type 0} (state : P → PortState) (honest sound : P → Type 0) (gave : P → List AnswerValue → Type 0) (refused : AnswerValue → Type 0) where
+  -- nothing was done
+  pub stayed : (a : P) → AsksWent state honest sound gave refused a a []
+  stayed a = record {
+    cut = refl;
+    asks = search (rules, arith);
+    failures = omega arith;
+    wants = omega arith;
+    opened = λ t. (t, refl, refl);
+    given = λ t before g. subst (gave a) (sym (append-nil before)) g;
+    still = λ f. (refl, λ answers g. g);
+    honest_is = λ x. x;
+    sound_is = λ x. x;
+    why = λ t f. absurd (cc);
+    why_honest = λ x t f. absurd (cc);
+  }
+
+  -- a closed port stays closed
+  closed_stays : (a b : P) (xs : List AnswerValue) → AsksWent state honest sound gave refused a b xs → (state a).is_open ≡ false → (state b).is_open ≡ false
+  closed_stays a b xs p f = elim (either (state b).is_open) [ inl e ↦ absurd (let r = (p.opened e).0 in cc) | inr e ↦ e ]
+
+  abbrev Cause : P → P → List AnswerValue → Type 0
+  Cause a b kept = FailedMore (state a) (state b) ⊎ ((t : AnswerValue) × refused t × ((before : List AnswerValue) → gave a before → gave b ((before ++ kept) ++ t ∷ [])))
+
+  -- it was closed in the second part
+  later : (a b c : P) (xs ys : List AnswerValue) → AsksWent state honest sound gave refused a b xs → AsksWent state honest sound gave refused b c ys → (state b).is_open ≡ true
+      → Cause b c ys → Cause a c (xs ++ ys)
+  later a b c xs ys p q e (inl r) = inl (omega (arith, r, p.failures, p.wants))
+  later a b c xs ys p q e (inr r) =
+      inr (r.0, r.1, λ before g. subst (λ zs. gave c (zs ++ r.0 ∷ [])) (append_assoc before xs ys) (r.2 (before ++ xs) (p.given e before g)))
+
+  -- it was closed in the first part
+  sooner : (a b c : P) (xs ys : List AnswerValue) → AsksWent state honest sound gave refused a b xs → AsksWent state honest sound gave refused b c ys → (state b).is_open ≡ false
+      → Cause a b xs → Cause a c (xs ++ ys)
+  sooner a b c xs ys p q e (inl r) = inl (omega (arith, r, q.failures, q.wants))
+  sooner a b c xs ys p q e (inr r) =
+      let s = q.still e in
+      inr (r.0, r.1, λ before g. subst (λ zs. gave c ((before ++ zs) ++ r.0 ∷ [])) (sym (append-nil xs) ∙ ap (λ zs. xs ++ zs) (sym s.0)) (s.1 _ (r.2 before g)))
+
+  pub asks_then : (a b c : P) (xs ys : List AnswerValue) → AsksWent state honest sound gave refused a b xs → AsksWent state honest sound gave refused b c ys → AsksWent state honest sound gave refused a c (xs ++ ys)
+  asks_then a b c xs ys p q = record {
+    cut = q.cut ∙ p.cut;
+    asks = omega (arith, length-append xs ys, p.asks, q.asks);
+    failures = omega (arith, p.failures, q.failures);
+    wants = omega (arith, p.wants, q.wants);
+    opened = λ t. (let r = q.opened t in let s = p.opened r.0 in (s.0, r.1 ∙ s.1, r.2 ∙ s.2));
+    given = λ t before g. (let r = q.opened t in subst (gave c) (append_assoc before xs ys) (q.given t (before ++ xs) (p.given r.0 before g)));
+    still = λ f. (let s = p.still f in let shut : (state b).is_open ≡ false = closed_stays a b xs p f in let r = q.still shut in (ap (λ zs. zs ++ ys) s.0 ∙ r.0, λ answers g. r.1 answers (s.1 answers g)));
+    honest_is = λ x. q.honest_is (p.honest_is x);
+    sound_is = λ x. q.sound_is (p.sound_is x);
+    why = λ t f. elim (either (state b).is_open) [
+      | inl e ↦ later a b c xs ys p q e (q.why e f)
+      | inr e ↦ sooner a b c xs ys p q e (p.why t e)
+    ];
+    why_honest = λ x t f. elim (either (state b).is_open) [
+      | inl e ↦ (let r = q.why_honest (p.honest_is x) e f in omega (arith, r, p.failures, p.wants))
+      | inr e ↦ (let r = p.why_honest x t e in omega (arith, r, q.failures, q.wants))
+    ];
+  }

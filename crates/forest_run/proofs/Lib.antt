@@ -1,0 +1,12 @@
+pub mod AsksThen
+pub mod OneAsk
+pub mod Eaches
+pub mod Dealing
+pub mod Takes
+pub mod Seated
+pub mod Passing
+pub mod Lasting
+pub mod Scanning
+pub mod Running
+pub mod Reporting
+pub mod Solving

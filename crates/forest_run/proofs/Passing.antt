@@ -1,0 +1,214 @@
+-- What passes did over all lanes.
+use Rattle.std.proofs.Common.{◌≡◌, ℕ, zero, suc, ◌<◌, ◌≤◌, Bool, true, false, List, [], ◌∷◌, ◌++◌, length, get_or, set, refl, ap, sym, subst, ◌∙◌, inl, inr, arith, length-append}
+use Rattle.std.specs.Prelude.{Contains, map, IsSome}
+use Rattle.std.proofs.lemmas.List.{get_or-map}
+use Rattle.std.proofs.lemmas.List.Sums.{sum_by-cons}
+use Rattle.std.proofs.lemmas.List.Elements.{All-append, Contains-append_left, Contains-append_right, Contains-append_cases}
+use Rattle.frames.specs.AnswerValue.{AnswerValue}
+use Rattle.link_key.specs.declared.links.Link.{Link}
+use Rattle.round_core.specs.Page.{Page, is_taken, heard, refusal}
+use Rattle.ports.specs.Ports.{PortState}
+use Rattle.forest_run.specs.Lanes.{LaneState, one_if, all_kept, asks_of, open_of}
+use Rattle.forest_run.specs.Asks.{AsksWent, IsRefused, IsLight}
+use Rattle.forest_run.specs.Ferries.{FerryWent}
+use Rattle.forest_run.specs.Seating.{Each, GaveSeat}
+use Rattle.forest_run.specs.Passes.{PassWent}
+use Rattle.forest_run.specs.Taking.{heard_all, AreTaken}
+use Rattle.forest_run.proofs.Takes.{taken_all, heard_append}
+use Rattle.forest_run.proofs.AsksThen.{stayed, asks_then}
+use Rattle.forest_run.proofs.Eaches.{each_at, each_length}
+use Rattle.forest_run.proofs.Seated.{light_all, counted}
+
+abbrev pub kept_at : {P : Type 0} → List (LaneState P) → ℕ → List AnswerValue
+kept_at lanes i = get_or (map (λ l. l.kept) lanes) i []
+
+pub kept_from : {P : Type 0} (lanes : List (LaneState P)) (t : AnswerValue) → Contains (all_kept lanes) t → (i : ℕ) × (i < length lanes) × Contains (get_or (map (λ l. l.kept) lanes) i []) t
+kept_from [] t h = absurd (omega arith)
+kept_from (l ∷ ls) t h = elim (Contains-append_cases l.kept (all_kept ls) t h) [
+  | inl a ↦ (0, omega arith, a)
+  | inr b ↦ (let r = kept_from ls t b in (suc r.0, omega arith, r.2))
+]
+
+pub kept_few : {P : Type 0} (lanes : List (LaneState P)) (i : ℕ) → length (get_or (map (λ l. l.kept) lanes) i []) ≤ length (all_kept lanes)
+kept_few [] i = omega arith
+kept_few (l ∷ ls) zero = omega (arith, length-append l.kept (all_kept ls))
+kept_few (l ∷ ls) (suc i) = omega (arith, kept_few ls i, length-append l.kept (all_kept ls))
+
+-- each port is as it was
+pub record SamePort {P : Type 0} (x y : LaneState P) : Type 0 where
+  pub port : y.port ≡ x.port
+
+pub same_asks : {P : Type 0} (state : P → PortState) (xs ys : List (LaneState P)) → Each SamePort xs ys → (asks_of state ys ≡ asks_of state xs) × (open_of state ys ≡ open_of state xs)
+same_asks state [] [] p = (refl, refl)
+same_asks state [] (y ∷ ys) p = absurd p
+same_asks state (x ∷ xs) [] p = absurd p
+same_asks {P} state (x ∷ xs) (y ∷ ys) p =
+    let r = same_asks state xs ys p.1 in
+    let e : y.port ≡ x.port = p.0.port in
+    let a : (state y.port).asks ≡ (state x.port).asks = ap (λ q. (state q).asks) e in
+    let b : one_if (state y.port).is_open ≡ one_if (state x.port).is_open = ap (λ q. one_if (state q).is_open) e in (
+      omega (arith, r.0, a, sum_by-cons (λ (l : LaneState P). (state l.port).asks) y ys, sum_by-cons (λ (l : LaneState P). (state l.port).asks) x xs),
+      omega (arith, r.1, b, sum_by-cons (λ (l : LaneState P). one_if (state l.port).is_open) y ys, sum_by-cons (λ (l : LaneState P). one_if (state l.port).is_open) x xs),
+    )
+
+pub same_kept : {P : Type 0} (xs ys : List (LaneState P)) → Each GaveSeat xs ys → all_kept ys ≡ all_kept xs
+same_kept [] [] p = refl
+same_kept [] (y ∷ ys) p = absurd p
+same_kept (x ∷ xs) [] p = absurd p
+same_kept (x ∷ xs) (y ∷ ys) p = ap (λ v. v ++ all_kept ys) p.0.kept ∙ ap (λ zs. x.kept ++ zs) (same_kept xs ys p.1)
+
+fewer : (a b : Bool) → (b ≡ true → a ≡ true) → one_if b ≤ one_if a
+fewer true true h = omega arith
+fewer true false h = omega arith
+fewer false true h = absurd (let e = h refl in cc)
+fewer false false h = omega arith
+
+module _ {P : Type 0} (state : P → PortState) (honest sound : P → Type 0) (gave : P → List AnswerValue → Type 0) where
+  -- no ferry opens a port
+  fewer_open : (page : Page) (xs ys : List (LaneState P)) → Each (FerryWent state honest sound gave page) xs ys → open_of state ys ≤ open_of state xs
+  fewer_open page [] [] p = omega arith
+  fewer_open page [] (y ∷ ys) p = absurd p
+  fewer_open page (x ∷ xs) [] p = absurd p
+  fewer_open page (x ∷ xs) (y ∷ ys) p =
+      omega (
+        arith,
+        fewer_open page xs ys p.1,
+        fewer (state x.port).is_open (state y.port).is_open (λ t. (p.0.asked.opened t).0),
+        sum_by-cons (λ (l : LaneState P). one_if (state l.port).is_open) y ys,
+        sum_by-cons (λ (l : LaneState P). one_if (state l.port).is_open) x xs,
+      )
+
+  -- ferries between steps that ask no port
+  pub passed_of : (old new : Page) (xs ys zs ws : List (LaneState P)) → Each SamePort xs ys → Each (FerryWent state honest sound gave old) ys zs → Each SamePort zs ws
+      → AreTaken old (all_kept zs) → new ≡ heard_all old (all_kept zs) → PassWent state honest sound gave old new xs ws
+  passed_of old new xs ys zs ws before f after fresh page =
+      let l1 = each_length SamePort xs ys before in
+      let l2 = each_length (FerryWent state honest sound gave old) ys zs f in
+      let l3 = each_length SamePort zs ws after in
+      record {
+        answers = all_kept zs;
+        answers_at = kept_at zs;
+        same_lanes = l3 ∙ (l2 ∙ l1);
+        each = λ i d b. (
+            let v = (each_at (FerryWent state honest sound gave old) ys zs f i d (omega arith)).asked in
+            let e = (each_at SamePort xs ys before i d b).port in
+            let g = (each_at SamePort zs ws after i d (omega arith)).port in
+            let m : kept_at zs i ≡ (get_or zs i d).kept = get_or-map (λ (l : LaneState P). l.kept) zs i d [] (omega arith) in
+            subst (λ n. AsksWent state honest sound gave (IsRefused old) (get_or xs i d).port (get_or ws i d).port n) (sym m)
+            (subst (λ p. AsksWent state honest sound gave (IsRefused old) p (get_or ws i d).port (get_or zs i d).kept) e
+            (subst (λ q. AsksWent state honest sound gave (IsRefused old) (get_or ys i d).port q (get_or zs i d).kept) (sym g) v)));
+        few = λ i. kept_few zs i;
+        given = λ t h. (let r = kept_from zs t h in (r.0, omega (arith, r.1), r.2));
+        asks = (
+            let a = same_asks state xs ys before in
+            let b = same_asks state zs ws after in
+            let c = counted state honest sound gave old ys zs f in
+            omega (arith, a.0, a.1, b.0, b.1, c));
+        never_opened = (
+            let a = same_asks state xs ys before in
+            let b = same_asks state zs ws after in
+            omega (arith, a.1, b.1, fewer_open old ys zs f));
+        page = page;
+        missed = rw page (taken_all old (all_kept zs) fresh);
+        light = λ h. light_all state honest sound gave old ys zs f (λ i d b. (
+            let e = (each_at SamePort xs ys before i d (omega arith)).port in
+            subst honest (sym e) (h i d (omega arith))));
+      }
+
+  -- nothing was asked
+  pub passed_none : (page : Page) (xs ys : List (LaneState P)) → Each SamePort xs ys → PassWent state honest sound gave page page xs ys
+  passed_none page xs ys same = record {
+    answers = [];
+    answers_at = λ i. [];
+    same_lanes = each_length SamePort xs ys same;
+    each = λ i d b. (let e = (each_at SamePort xs ys same i d b).port in subst (λ q. AsksWent state honest sound gave (IsRefused page) (get_or xs i d).port q []) (sym e) (stayed state honest sound gave (IsRefused page) (get_or xs i d).port));
+    few = λ i. omega arith;
+    given = λ t h. absurd (omega arith);
+    asks = (let a = same_asks state xs ys same in omega (arith, a.0, a.1));
+    never_opened = (let a = same_asks state xs ys same in omega (arith, a.1));
+    page = refl;
+    missed = omega arith;
+    light = λ h i d b. absurd (omega arith);
+  }
+
+-- what is free later on is free now
+set_before : (xs : List Bool) (i k : ℕ) → get_or (set xs i true) k true ≡ false → get_or xs k true ≡ false
+set_before [] i k e = e
+set_before (x ∷ xs) zero zero e = absurd (cc)
+set_before (x ∷ xs) zero (suc k) e = e
+set_before (x ∷ xs) (suc i) zero e = e
+set_before (x ∷ xs) (suc i) (suc k) e = set_before xs i k e
+
+pub taken_before : (p : Page) (ts : List AnswerValue) (s : ℕ) → is_taken (heard_all p ts) s ≡ false → is_taken p s ≡ false
+taken_before p [] s e = e
+taken_before p (t ∷ ts) s e = set_before p.taken t.shard s (taken_before (heard p t) ts s e)
+
+-- answers change nothing else of the book
+pub record SameRound (p q : Page) : Type 0 where
+  pub round : q.round ≡ p.round
+  pub cut : q.cut ≡ p.cut
+  pub labels : q.labels ≡ p.labels
+
+pub same_round : (p : Page) (ts : List AnswerValue) → SameRound p (heard_all p ts)
+same_round p [] = record { round = refl; cut = refl; labels = refl }
+same_round p (t ∷ ts) = (let r = same_round (heard p t) ts in record { round = r.round; cut = r.cut; labels = r.labels })
+
+refusal_of : (r r' : ℕ) (cut cut' : List (List Link)) (labels labels' : List ℕ) (taken taken' : List Bool) (answers answers' : List AnswerValue) (s : ℕ) (t : AnswerValue) → r' ≡ r → cut' ≡ cut → labels' ≡ labels → get_or taken s true ≡ false → get_or taken' s true ≡ false
+    → refusal (record { round = r'; cut = cut'; labels = labels'; taken = taken'; answers = answers' }) s t ≡ refusal (record { round = r; cut = cut; labels = labels; taken = taken; answers = answers }) s t
+refusal_of r r' cut cut' labels labels' taken taken' answers answers' s t a b c d e = rw (a, b, c, d, e) refl
+
+pub refused_before : (p : Page) (ts : List AnswerValue) (t : AnswerValue) → IsRefused (heard_all p ts) t → IsRefused p t
+refused_before p ts t r =
+    let q = heard_all p ts in
+    let s = same_round p ts in
+    let free = taken_before p ts r.shard r.missed in
+    record {
+      shard = r.shard;
+      within = rw s.cut at r.within;
+      missed = free;
+      refused = subst (λ o. IsSome o) (refusal_of p.round q.round p.cut q.cut p.labels q.labels p.taken q.taken p.answers q.answers r.shard t s.round s.cut s.labels free r.missed) r.refused;
+    }
+
+pub light_before : (p : Page) (ts : List AnswerValue) (t : AnswerValue) → IsLight (heard_all p ts) t → IsLight p t
+light_before p ts t r = (let s = same_round p ts in rw (s.cut, s.round, s.labels) at r)
+
+pub asks_more : {P : Type 0} (state : P → PortState) (honest sound : P → Type 0) (gave : P → List AnswerValue → Type 0) (R Q : AnswerValue → Type 0) → ((t : AnswerValue) → R t → Q t) → (a b : P) (kept : List AnswerValue) → AsksWent state honest sound gave R a b kept → AsksWent state honest sound gave Q a b kept
+asks_more state honest sound gave R Q h a b kept v = record {
+  cut = v.cut;
+  asks = v.asks;
+  failures = v.failures;
+  wants = v.wants;
+  opened = v.opened;
+  given = v.given;
+  still = v.still;
+  honest_is = v.honest_is;
+  sound_is = v.sound_is;
+  why = λ t f. elim (v.why t f) [ inl k ↦ inl k | inr k ↦ inr (k.0, h k.0 k.1, k.2) ];
+  why_honest = v.why_honest;
+}
+
+-- one pass after another
+module _ {P : Type 0} (state : P → PortState) (honest sound : P → Type 0) (gave : P → List AnswerValue → Type 0) where
+  pub passed_then : (p q r : Page) (xs ys zs : List (LaneState P)) → PassWent state honest sound gave p q xs ys → PassWent state honest sound gave q r ys zs → PassWent state honest sound gave p r xs zs
+  passed_then p q r xs ys zs u v = record {
+    answers = u.answers ++ v.answers;
+    answers_at = λ i. u.answers_at i ++ v.answers_at i;
+    same_lanes = v.same_lanes ∙ u.same_lanes;
+    each = λ i d b. (
+        let w = v.each i d (let e = u.same_lanes in omega arith) in
+        asks_then state honest sound gave (IsRefused p) _ _ _ (u.answers_at i) (v.answers_at i) (u.each i d b)
+        (asks_more state honest sound gave (IsRefused q) (IsRefused p) (λ t k. refused_before p u.answers t (subst (λ o. IsRefused o t) u.page k)) _ _ (v.answers_at i) w));
+    given = λ t h. elim (Contains-append_cases u.answers v.answers t h) [
+      | inl a ↦ (let k = u.given t a in (k.0, k.1, Contains-append_left (u.answers_at k.0) (v.answers_at k.0) t k.2))
+      | inr a ↦ (let k = v.given t a in (k.0, (let e = u.same_lanes in let l = k.1 in omega arith), Contains-append_right (u.answers_at k.0) (v.answers_at k.0) t k.2))
+    ];
+    few = λ i. (let a = u.few i in let b = v.few i in omega (arith, length-append u.answers v.answers, length-append (u.answers_at i) (v.answers_at i)));
+    asks = (let a = u.asks in let b = v.asks in omega (arith, length-append u.answers v.answers));
+    never_opened = omega (arith, u.never_opened, v.never_opened);
+    page = v.page ∙ (ap (λ o. heard_all o v.answers) u.page ∙ sym (heard_append p u.answers v.answers));
+    missed = (let a = u.missed in let b = v.missed in omega (arith, length-append u.answers v.answers));
+    light = λ h. All-append (IsLight p) u.answers v.answers (u.light h) (λ i d b.
+        light_before p u.answers (get_or v.answers i d) (subst (λ o. IsLight o (get_or v.answers i d)) u.page (v.light (λ k e below. (
+        let at = u.each k e (let s = u.same_lanes in omega arith) in
+        at.honest_is (h k e (let s = u.same_lanes in omega arith)))) i d b)));
+  }

@@ -1,0 +1,77 @@
+-- How answers are taken one after the other.
+use Rattle.std.proofs.Common.{◌≡◌, ℕ, zero, suc, ◌+◌, ◌<◌, Bool, true, false, cond, List, [], ◌∷◌, ◌++◌, length, get_or, sym, arith}
+use Rattle.std.specs.Prelude.{◌≢◌, All, AllPairs, Contains, reverse, not}
+use Rattle.std.proofs.lemmas.Grind.{common_steps}
+use Rattle.std.proofs.lemmas.List.{get_or-set_other}
+use Rattle.std.proofs.lemmas.List.Sums.{sum_by-set, fold-append}
+use Rattle.std.proofs.lemmas.List.Concat.{flat_map-cons}
+use Rattle.std.proofs.lemmas.List.Elements.{All-head, All-tail}
+use Rattle.frames.specs.AnswerValue.{AnswerValue}
+use Rattle.round_core.specs.Page.{Page, heard, missing, is_taken}
+use Rattle.forest_run.specs.Asks.{IsTaken, shards_of}
+use Rattle.forest_run.specs.Lanes.{LaneState, all_kept}
+use Rattle.forest_run.specs.Taking.{heard_all, AreTaken}
+
+-- taking the last of a list off takes the first of its reverse off
+pub popped : (xs ys : List AnswerValue) (t : AnswerValue) → ys ≡ xs ++ t ∷ [] → reverse ys ≡ t ∷ reverse xs
+popped xs ys t e = rw e (grind (arith, common_steps))
+
+-- a list that is taken is taken in two parts
+pub taken_append : (p : Page) (xs ys : List AnswerValue) → AreTaken p (xs ++ ys) → AreTaken p xs × AreTaken (heard_all p xs) ys
+taken_append p [] ys f = (tt, f)
+taken_append p (x ∷ xs) ys f = let r = taken_append (heard p x) xs ys f.1 in ((f.0, r.0), r.1)
+
+-- another shard is as it was
+kept_stays : (p : Page) (s t : AnswerValue) → (t.shard ≡ s.shard → ⊥) → IsTaken p t → IsTaken (heard p s) t
+kept_stays p s t other k = record { within = k.within; taken = rw (get_or-set_other p.taken s.shard t.shard true true other) k.taken }
+
+stay_all : (p : Page) (s : AnswerValue) (ts : List AnswerValue) → ¬ Contains (shards_of ts) s.shard → All (IsTaken p) ts → All (IsTaken (heard p s)) ts
+stay_all p s [] none k = λ i d below. absurd (omega arith)
+stay_all p s (t ∷ ts) none k =
+    let other : t.shard ≡ s.shard → ⊥ = λ e. none (0, omega arith, e) in
+    let rest = stay_all p s ts (λ h. none (suc h.0, omega arith, h.2)) (All-tail (IsTaken p) t ts k) in
+    cons (IsTaken (heard p s)) t ts (kept_stays p s t other (All-head (IsTaken p) t ts k)) rest
+  where
+    cons : (P : AnswerValue → Type 0) (t : AnswerValue) (ts : List AnswerValue) → P t → All P ts → All P (t ∷ ts)
+    cons P t ts p a zero d b = p
+    cons P t ts p a (suc i) d b = a i d (omega arith)
+
+-- no number stands twice
+abbrev pub Distinct : List ℕ → Type 0
+Distinct [] = Unit {0}
+Distinct (x ∷ xs) = (¬ Contains xs x) × Distinct xs
+
+pub distinct_of : (xs : List ℕ) → AllPairs (λ a b. a ≢ b) xs → Distinct xs
+distinct_of [] a = tt
+distinct_of (x ∷ xs) a = ((λ h. a 0 (suc h.0) x (omega arith) (omega arith) (sym h.2)), distinct_of xs (λ i j d l b. a (suc i) (suc j) d (omega arith) (omega arith)))
+
+-- answers of different shards, each of which the book takes, are taken one after the other
+pub taken_of : (p : Page) (ts : List AnswerValue) → Distinct (shards_of ts) → All (IsTaken p) ts → AreTaken p ts
+taken_of p [] d k = tt
+taken_of p (t ∷ ts) d k = (All-head (IsTaken p) t ts k, taken_of (heard p t) ts d.1 (stay_all p t ts d.0 (All-tail (IsTaken p) t ts k)))
+
+untaken : (p : Page) (t : AnswerValue) → IsTaken p t → is_taken p t.shard ≡ false
+untaken p t k = (let e = k.taken in grind (arith, common_steps))
+
+within : (xs : List Bool) (i : ℕ) → get_or xs i true ≡ false → i < length xs
+within [] i e = absurd (cc)
+within (x ∷ xs) zero e = omega arith
+within (x ∷ xs) (suc i) e = omega (arith, within xs i e)
+
+-- each answer taken is one shard fewer that is missing
+pub taken_one : (p : Page) (t : AnswerValue) → IsTaken p t → missing (heard p t) + 1 ≡ missing p
+taken_one p t k =
+    let free : is_taken p t.shard ≡ false = untaken p t k in
+    let inside : t.shard < length p.taken = within p.taken t.shard free in
+    let step = sum_by-set (λ x. cond (not x) 1 0) p.taken t.shard true true inside in
+    omega (arith, rw free at step)
+
+pub taken_all : (p : Page) (ts : List AnswerValue) → AreTaken p ts → missing (heard_all p ts) + length ts ≡ missing p
+taken_all p [] f = omega arith
+taken_all p (t ∷ ts) f = omega (arith, taken_all (heard p t) ts f.1, taken_one p t f.0)
+
+pub all_kept_cons : {P : Type 0} (zs : List (LaneState P)) (x : LaneState P) (xs : List (LaneState P)) → zs ≡ x ∷ xs → all_kept zs ≡ x.kept ++ all_kept xs
+all_kept_cons zs x xs e = rw e (flat_map-cons (λ l. l.kept) x xs)
+
+pub heard_append : (p : Page) (xs ys : List AnswerValue) → heard_all p (xs ++ ys) ≡ heard_all (heard_all p xs) ys
+heard_append p xs ys = fold-append heard p xs ys

@@ -1,0 +1,63 @@
+use Rattle.std.proofs.Common.{◌≡◌, ap, sym, ◌∙◌, ◌++◌, ◌∷◌, [], arith, rules, append-nil}
+use Rattle.std.proofs.lemmas.List.{map-append}
+use Rattle.std.proofs.lemmas.List.Elements.{All-append}
+use Rattle.std.proofs.lemmas.Grind.{common_steps}
+use Rattle.std.specs.Prelude.{All, vec_len, vec_capacity}
+use Rattle.frames.specs.AnswerValue.{AnswerValue}
+use Rattle.forest_run.specs.Asks.{IsTaken, IsLight, shards_of}
+use Rattle.forest_run.proofs.AsksThen.{asks_then}
+use Rattle.forest_run.proofs.ferry.go_round.Goals as goal
+use Rattle.forest_run.proofs.ferry.go_round.Goals.{in-Some, in-None+else-not-is_open}
+
+-- the one element of a list
+All-one : (P : AnswerValue → Type 0) (a : AnswerValue) → P a → All P (a ∷ [])
+All-one P a p = grind (arith, common_steps)
+
+pub returns-then-not-is_open : goal.returns-then-not-is_open
+returns-then-not-is_open g c =
+    let i = c.loop-step.invariant in
+    let v = c.in-None.ensures in
+    let both = asks_then _ _ _ _ _ _ _ _ _ _ i.asked v.asked in
+    record {
+      asked = rw append-nil at both;
+      seat = (v.seat.0 ∙ i.board, v.seat.1 ∙ i.number, v.held ∙ (append-nil _ ∙ i.held));
+      taken = i.taken;
+      light = i.light;
+    }
+
+pub loop-step-preserved : goal.loop-step-preserved
+loop-step-preserved g c = elim c.match-visit.branch [
+  | in-Some w ↦ (
+      let a = w.in-Some.answer in
+      let i = c.loop-step.invariant in
+      let v = w.in-Some.ensures in
+      let items : c.match-visit.kept.items ≡ c.loop-step.kept.items ++ a ∷ [] = ap (λ v. v.items) w.kept-is ∙ w.push_reserved.ensures.items in
+      let held : shards_of c.loop-step.kept.items ++ a.shard ∷ [] ≡ shards_of (c.loop-step.kept.items ++ a ∷ []) = sym (map-append (λ t. t.shard) c.loop-step.kept.items (a ∷ [])) in
+      rw items (record {
+        asked = asks_then _ _ _ _ _ _ _ _ _ _ i.asked v.asked;
+        opened = v.opened;
+        board = v.seat.0 ∙ i.board;
+        number = v.seat.1 ∙ i.number;
+        held = v.held ∙ (ap (λ xs. xs ++ a.shard ∷ []) i.held ∙ held);
+        taken = All-append (IsTaken c.args.book.now) _ _ i.taken (All-one (IsTaken c.args.book.now) a v.taken);
+        light = λ h. All-append (IsLight c.args.book.now) _ _ (i.light h) (All-one (IsLight c.args.book.now) a (v.light (i.asked.honest_is h)));
+        count = rw (ap vec_len w.kept-is, w.push_reserved.ensures.len) (omega arith);
+        capacity = ap vec_capacity w.kept-is ∙ (w.push_reserved.ensures.capacity ∙ i.capacity);
+      }))
+  | in-None+else-not-is_open w ↦ (
+      let i = c.loop-step.invariant in
+      let v = w.in-None.ensures in
+      let items : c.match-visit.kept.items ≡ c.loop-step.kept.items = ap (λ v. v.items) w.kept-is in
+      let both = asks_then _ _ _ _ _ _ _ _ _ _ i.asked v.asked in
+      rw items (record {
+        asked = rw append-nil at both;
+        opened = search rules;
+        board = v.seat.0 ∙ i.board;
+        number = v.seat.1 ∙ i.number;
+        held = v.held ∙ (append-nil _ ∙ i.held);
+        taken = i.taken;
+        light = i.light;
+        count = rw (ap vec_len w.kept-is) (omega arith);
+        capacity = ap vec_capacity w.kept-is ∙ i.capacity;
+      }))
+]

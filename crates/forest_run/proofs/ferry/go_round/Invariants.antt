@@ -1,0 +1,18 @@
+use Rattle.std.proofs.Common.{◌≡◌, ◌≤◌, true, vec_len}
+use Rattle.std.specs.Prelude.{All, vec_capacity}
+use Rattle.claim_board.specs.Machine.{held}
+use Rattle.forest_run.specs.Asks.{AsksWent, IsRefused, IsTaken, IsLight, shards_of}
+use Rattle.forest_run.proofs.ferry.go_round.Given as goal
+
+abbrev pub invariant-loop-step : goal.invariant-loop-step
+invariant-loop-step g l = record {
+  asked : AsksWent g.P.Port.state g.P.Port.honest g.P.Port.sound g.P.Port.gave (IsRefused l.book) l.fn.port l.port l.kept.items;
+  opened : (g.P.Port.state l.port).is_open ≡ true;
+  board : l.seat.board ≡ l.fn.seat.board;
+  number : l.seat.number ≡ l.fn.seat.number;
+  held : held l.seat.events ≡ shards_of l.kept.items;
+  taken : All (IsTaken l.book) l.kept.items;
+  light : g.P.Port.honest l.fn.port → All (IsLight l.book) l.kept.items;
+  count : vec_len l.kept ≤ l.step;
+  capacity : vec_capacity l.kept ≡ vec_capacity l.fn.kept;
+}

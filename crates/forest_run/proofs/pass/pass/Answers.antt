@@ -1,0 +1,37 @@
+use Rattle.std.proofs.Common.{arith}
+use Rattle.forest_run.proofs.Eaches.{each_length}
+use Rattle.forest_run.proofs.Passing.{SamePort, same_asks, passed_none, passed_then}
+use Rattle.forest_run.proofs.Lasting.{room_same, room_idle, same_bound}
+use Rattle.forest_run.proofs.pass.pass.Goals as goal
+
+pub returns-in_err-make_room-clause-went : goal.returns-in_err-make_room-clause-went
+returns-in_err-make_room-clause-went g c = passed_none g.P.Port.state g.P.Port.honest g.P.Port.sound g.P.Port.gave c.args.book.now _ _ (room_same _ _ c.make_room.ensures.lanes)
+
+pub returns-in_err-make_room-clause-idle : goal.returns-in_err-make_room-clause-idle
+returns-in_err-make_room-clause-idle g c = room_idle c.args.lanes.now c.make_room.new.lanes c.make_room.ensures.lanes c.requires.idle
+
+pub open-requires-clause-seats : goal.open-requires-clause-seats
+open-requires-clause-seats g c =
+    let s = same_asks g.P.Port.state c.args.lanes.now c.make_room.new.lanes (room_same _ _ c.make_room.ensures.lanes) in
+    let e = s.1 in
+    let n = c.count_open.ensures.count in
+    let l = each_length SamePort _ _ (room_same _ _ c.make_room.ensures.lanes) in
+    (omega arith, omega arith)
+
+pub returns-in_default-clause-went : goal.returns-in_default-clause-went
+returns-in_default-clause-went g c = passed_none g.P.Port.state g.P.Port.honest g.P.Port.sound g.P.Port.gave c.args.book.now _ _ (room_same _ _ c.make_room.ensures.lanes)
+
+pub returns-in_default-clause-idle : goal.returns-in_default-clause-idle
+returns-in_default-clause-idle g c = room_idle c.args.lanes.now c.make_room.new.lanes c.make_room.ensures.lanes c.requires.idle
+
+pub ride-requires-clause-bound : goal.ride-requires-clause-bound
+ride-requires-clause-bound g c κs within =
+    same_bound g.P.Port.state c.args.book.now c.args.lanes.now c.make_room.new.lanes (room_same _ _ c.make_room.ensures.lanes) c.requires.bound
+
+pub ride-requires-clause-idle : goal.ride-requires-clause-idle
+ride-requires-clause-idle g c κs within = room_idle c.args.lanes.now c.make_room.new.lanes c.make_room.ensures.lanes c.requires.idle
+
+pub returns-clause-went : goal.returns-clause-went
+returns-clause-went g c =
+    passed_then g.P.Port.state g.P.Port.honest g.P.Port.sound g.P.Port.gave c.args.book.now c.args.book.now c.ride.new.book c.args.lanes.now c.make_room.new.lanes c.ride.new.lanes
+    (passed_none g.P.Port.state g.P.Port.honest g.P.Port.sound g.P.Port.gave c.args.book.now _ _ (room_same _ _ c.make_room.ensures.lanes)) c.ride.ensures.went

@@ -1,0 +1,49 @@
+-- What some asks did to a port.
+use Rattle.std.specs.Prelude.{◌≡◌, ℕ, ◌+◌, ◌<◌, ◌≤◌, ◌⊎◌, true, false, List, [], ◌∷◌, ◌++◌, length, map, IsSome, None}
+use Rattle.frames.specs.AnswerValue.{AnswerValue}
+use Rattle.round_core.specs.Page.{Page, refusal, is_taken}
+use Rattle.ports.specs.Ports.{PortState, IsHonestAnswer}
+use Rattle.forest_run.specs.Lanes.{one_if}
+
+-- the book refuses the answer to an ask for a shard that it misses
+pub record IsRefused (page : Page) (answer : AnswerValue) : Type 0 where
+  pub shard : ℕ
+  pub within : shard < length page.cut
+  pub missed : is_taken page shard ≡ false
+  pub refused : IsSome (refusal page shard answer)
+
+-- the book takes the answer
+pub record IsTaken (page : Page) (answer : AnswerValue) : Type 0 where
+  pub within : answer.shard < length page.cut
+  pub taken : refusal page answer.shard answer ≡ None
+
+-- the answer has the light offers of its shard, told of the book's round
+abbrev pub IsLight : Page → AnswerValue → Type 0
+IsLight page answer = IsHonestAnswer page.cut page.round answer.shard page.labels answer
+
+-- the shards that the answers name
+abbrev pub shards_of : List AnswerValue → List ℕ
+shards_of answers = map (λ answer. answer.shard) answers
+
+-- one ask more failed, or found no memory
+abbrev pub FailedMore : PortState → PortState → Type 0
+FailedMore before after = before.failures + before.wants < after.failures + after.wants
+
+-- a port before and after some asks, of which these answers were kept; each answer that wasn't is one that a book refuses, which closed the port
+pub record AsksWent {P : Type 0} (state : P → PortState) (honest sound : P → Type 0) (gave : P → List AnswerValue → Type 0) (refused : AnswerValue → Type 0) (before after : P) (kept : List AnswerValue) : Type 0 where
+  pub cut : (state after).cut ≡ (state before).cut
+  -- each ask brought an answer that was kept, but the one that closed the port
+  pub asks : (state after).asks + one_if (state after).is_open ≡ (state before).asks + length kept + one_if (state before).is_open
+  pub failures : (state before).failures ≤ (state after).failures
+  pub wants : (state before).wants ≤ (state after).wants
+  -- while it is open both counts stand still, and it gave just the kept answers
+  pub opened : (state after).is_open ≡ true → ((state before).is_open ≡ true) × ((state after).failures ≡ (state before).failures) × ((state after).wants ≡ (state before).wants)
+  pub given : (state after).is_open ≡ true → (answers : List AnswerValue) → gave before answers → gave after (answers ++ kept)
+  -- once it is closed it gives nothing any more
+  pub still : (state before).is_open ≡ false → (kept ≡ []) × ((answers : List AnswerValue) → gave before answers → gave after answers)
+  pub honest_is : honest before → honest after
+  pub sound_is : sound before → sound after
+  -- why it was closed: by a fault, or by a refused answer, which no honest port gives
+  pub why : (state before).is_open ≡ true → (state after).is_open ≡ false
+      → FailedMore (state before) (state after) ⊎ ((answer : AnswerValue) × refused answer × ((answers : List AnswerValue) → gave before answers → gave after ((answers ++ kept) ++ answer ∷ [])))
+  pub why_honest : honest before → (state before).is_open ≡ true → (state after).is_open ≡ false → FailedMore (state before) (state after)

@@ -1,0 +1,46 @@
+-- What the rounds of a run do: to each lane, and to one book after another.
+use Rattle.std.specs.Prelude.{◌≡◌, ℕ, ◌+◌, ◌*◌, ◌<◌, ◌≤◌, List, length, slice_index_or, All, Contains}
+use Rattle.link_key.specs.declared.links.Link.{Link}
+use Rattle.frames.specs.AnswerValue.{AnswerValue}
+use Rattle.round_core.specs.Page.{Page, opened, missing}
+use Rattle.ports.specs.Ports.{PortState}
+use Rattle.forest_run.specs.Lanes.{LaneState, asks_of, open_of}
+use Rattle.forest_run.specs.Asks.{AsksWent, IsRefused, IsLight}
+
+-- the book, as it was opened
+abbrev pub unanswered : Page → Page
+unanswered book = opened book.round book.cut book.labels
+
+-- one of the books, as it was opened, refuses the answer
+abbrev pub IsRefusedIn : List Page → AnswerValue → Type 0
+IsRefusedIn books answer = (book : Page) × Contains books book × IsRefused (unanswered book) answer
+
+-- the ports of lanes before and after asks, of which these answers were kept at each lane's place
+pub record PortsWent {P : Type 0} (state : P → PortState) (honest sound : P → Type 0) (gave : P → List AnswerValue → Type 0) (refused : AnswerValue → Type 0) (before after : List (LaneState P)) (answers_at : ℕ → List AnswerValue) : Type 0 where
+  pub same_lanes : length after ≡ length before
+  pub each : (i : ℕ) (d : LaneState P) → i < length before → AsksWent state honest sound gave refused (slice_index_or before i d).port (slice_index_or after i d).port (answers_at i)
+
+-- a lane kept the answer
+abbrev pub IsGivenBy : ℕ → (ℕ → List AnswerValue) → AnswerValue → Type 0
+IsGivenBy lanes answers_at answer = (i : ℕ) × (i < lanes) × Contains (answers_at i) answer
+
+-- a whole book of the cut: each shard has its answer
+pub record IsWhole (cut : List (List Link)) (book : Page) : Type 0 where
+  pub cut_is : book.cut ≡ cut
+  pub all : missing book ≡ 0
+
+-- lanes before and after whole rounds over books of a cut: so many answers of the ports went into the books, and so many scans of the coordinator
+pub record RoundsWent {P : Type 0} (state : P → PortState) (honest sound : P → Type 0) (gave : P → List AnswerValue → Type 0) (cut : List (List Link)) (before after : List (LaneState P)) (books : List Page) (answered alone : ℕ) : Type 0 where
+  pub whole : All (IsWhole cut) books
+  pub answers_at : ℕ → List AnswerValue
+  pub ports : PortsWent state honest sound gave (IsRefusedIn books) before after answers_at
+  pub few : (i : ℕ) → length (answers_at i) ≤ answered
+  -- each shard of each round was answered or scanned
+  pub counted : answered + alone ≡ length books * length cut
+  -- each ask brought an answer, but for those that closed a port
+  pub asks : asks_of state after + open_of state after ≡ (asks_of state before + answered) + open_of state before
+  pub never_opened : open_of state after ≤ open_of state before
+  pub closed : 0 < alone → open_of state after ≡ 0
+  -- where the coordinator scanned nothing, each answer is one that a lane kept
+  pub given : alone ≡ 0 → All (λ book. All (IsGivenBy (length before) answers_at) book.answers) books
+  pub light : All (λ lane. honest lane.port) before → All (λ book. All (IsLight book) book.answers) books

@@ -1,0 +1,14 @@
+-- What the coordinator's own scans do to a book.
+use Rattle.std.specs.Prelude.{◌≡◌, ℕ, ◌+◌, List, length, All}
+use Rattle.frames.specs.AnswerValue.{AnswerValue}
+use Rattle.round_core.specs.Page.{Page, missing}
+use Rattle.forest_run.specs.Asks.{IsLight}
+use Rattle.forest_run.specs.Taking.{heard_all}
+
+-- so many shards were scanned, and their light offers went into the book
+pub record Scanned (old new : Page) (count : ℕ) : Type 0 where
+  pub answers : List AnswerValue
+  pub count_is : length answers ≡ count
+  pub page : new ≡ heard_all old answers
+  pub missed : missing new + count ≡ missing old
+  pub light : All (IsLight old) answers

@@ -1,0 +1,68 @@
+//! What a run tells of itself.
+ghost use Rattle.std.specs.Prelude.{◌≡◌, ◌+◌, ◌*◌, ◌≤◌, length, take};
+ghost use Rattle.limits.specs.declared.TheConstants.{MAX_WORKERS};
+ghost use Rattle.link_key.specs.Cut.{joined};
+ghost use Rattle.forest_run.specs.Reports.{IsReport};
+
+use link_key::Cut;
+use std::alloc::Allocator;
+
+/// What a run did, in counts.
+///
+/// Each ask brought an answer or closed a port: `asked` is `answered + closed`. Each shard of each round was answered or
+/// scanned alone: `answered + alone` is `(rounds + 1) * shards`.
+#[derive(Clone, Copy, Debug, PartialEq, Eq)]
+pub struct Report {
+    /// The vertices of the graph.
+    pub vertices: u32,
+    /// The links of the list, repeats counted.
+    pub links: u64,
+    /// The rounds that took links; one more came, which took none.
+    pub rounds: u32,
+    /// The shards of the cut.
+    pub shards: u32,
+    /// How often open ports were asked.
+    pub asked: u64,
+    /// The answers of ports that were taken.
+    pub answered: u64,
+    /// The shards that were scanned without a port.
+    pub alone: u64,
+    /// The ports that were closed in the run.
+    pub closed: u64,
+}
+
+/// The report of a run whose last round has this number, in which so many shards were scanned alone and so many ports
+/// closed. It looks at each shard once, and takes no memory.
+pub fn report_of<A: Allocator>(cut: &Cut<A>, n: u32, last: u32, alone: u64, closed: u32) -> Report
+    requires last { 1 ≤ last }
+    requires few { last ≤ 32 }
+    requires alone { alone ≤ last * length cut.now }
+    requires closed { closed ≤ MAX_WORKERS }
+    ensures { IsReport n cut.now last alone closed result }
+{
+    let shards = cut.len();
+    let answered = u64::from(last) * u64::from(shards) - alone;
+    let closed = u64::from(closed);
+    Report {
+        vertices: n,
+        links: count_links(cut),
+        rounds: last - 1,
+        shards,
+        asked: answered + closed,
+        answered,
+        alone,
+        closed,
+    }
+}
+
+// How many links the shards of a cut have together.
+#[tactic(auto, using(crate::proofs::Reporting::joined_more, crate::proofs::Reporting::joined_all))]
+fn count_links<A: Allocator>(cut: &Cut<A>) -> u64
+    ensures { result ≡ length (joined cut.now) }
+{
+    let mut links = 0;
+    for number in 0..cut.len() {
+        links += cut.shard(number).links.len() as u64;
+    }
+    links
+}

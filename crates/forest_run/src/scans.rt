@@ -1,0 +1,59 @@
+//! What the coordinator scans itself.
+ghost use Rattle.std.specs.Prelude.{◌≡◌, ◌+◌, ◌<◌, ◌≤◌, length, OnOk, IfOk, true, false};
+ghost use Rattle.round_core.specs.Page.{missing, is_taken};
+ghost use Rattle.forest_run.specs.Bounds.{IsRoundOf};
+ghost use Rattle.forest_run.specs.Scanned.{Scanned};
+
+use frames::Answer;
+use link_key::{Cut, Labels};
+use round_core::{RoundBook, laws};
+use std::alloc::{AllocError, Allocator};
+use worker_engine::scan;
+
+// Scans a shard that the book misses, and takes its light offers into the book.
+fn scan_one<A: Allocator + Copy>(
+    alloc: A,
+    cut: &Cut<A>,
+    labels: &Labels<A>,
+    book: &mut RoundBook<A>,
+    shard: u32,
+) -> Result<(), AllocError>
+    requires round { IsRoundOf book.old labels.now }
+    requires cut { book.old.cut ≡ cut.now }
+    requires shard { shard < length book.old.cut }
+    requires missed { is_taken book.old shard ≡ false }
+    ensures scanned { OnOk result (Scanned book.old book.new 1) }
+    ensures taken { OnOk result (is_taken book.new shard ≡ true) }
+{
+    laws::light_offers_are_taken();
+    let offers = scan(alloc, cut.shard(shard).links, labels)?;
+    let answer = Answer {
+        round: book.round(),
+        shard,
+        offers,
+    };
+    let _ = book.take(shard, answer);
+    Ok(())
+}
+
+// Scans each shard that the book misses, and says how many these were.
+pub(crate) fn scan_missing<A: Allocator + Copy>(
+    alloc: A,
+    cut: &Cut<A>,
+    labels: &Labels<A>,
+    book: &mut RoundBook<A>,
+) -> Result<u32, AllocError>
+    requires round { IsRoundOf book.old labels.now }
+    requires cut { book.old.cut ≡ cut.now }
+    ensures scanned { IfOk result (λ alone. Scanned book.old book.new alone) }
+    ensures all { OnOk result (missing book.new ≡ 0) }
+{
+    let mut alone = 0;
+    for shard in 0..book.len() {
+        if book.is_missing(shard) {
+            scan_one(alloc, cut, labels, book, shard)?;
+            alone += 1;
+        }
+    }
+    Ok(alone)
+}
