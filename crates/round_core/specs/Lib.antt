@@ -1,2 +1,3 @@
 pub mod Picks
 pub mod Page
+pub mod Solver
