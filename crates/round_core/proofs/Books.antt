@@ -45,6 +45,11 @@ book_opened round room cut labels taken answers best are ends few taken_is answe
       each_shard = length-replicate (length cut) false;
       counted = let n = all_missing (length cut) in omega (arith, n);
       right = λ i d lt. absurd (omega (arith, lt));
+      answered = λ s lt. (
+        λ is. let wrong : false ≡ true = sym (get_or-replicate (length cut) s false true lt) ∙ is in absurd (cc),
+        λ some. absurd (omega (arith, some.2)),
+      );
+      once = λ i j d lt within. absurd (omega (arith, within));
     }
 
 -- the ends of a shard's links are vertices
@@ -138,10 +143,10 @@ named_by h l = (to, back)
         (subst (λ (x : Option Link). Contains (option_to_list x) l) (sym some) (contains_head l [])))
 
 -- what stands in a list that is made element by element
-map_contains : {X Y : Type 0} (f : X → Y) (xs : List X) (x : X) → Contains xs x → Contains (map f xs) (f x)
+pub map_contains : {X Y : Type 0} (f : X → Y) (xs : List X) (x : X) → Contains xs x → Contains (map f xs) (f x)
 map_contains f xs x (k, lt, at) = (k, rw (length-map xs f) lt, get_or-map f xs k x (f x) lt ∙ ap f at)
 
-map_from : {X Y : Type 0} (f : X → Y) (xs : List X) (k : ℕ) (y : Y) → k < length (map f xs) → get_or (map f xs) k y ≡ y → (x : X) × Contains xs x × (f x ≡ y)
+pub map_from : {X Y : Type 0} (f : X → Y) (xs : List X) (k : ℕ) (y : Y) → k < length (map f xs) → get_or (map f xs) k y ≡ y → (x : X) × Contains xs x × (f x ≡ y)
 map_from f [] k y lt at = absurd (omega (arith, lt))
 map_from f (x ∷ xs) zero y lt at = (x, contains_head x xs, at)
 map_from f (x ∷ xs) (suc k) y lt at = let (z, z_in, is) = map_from f xs k y (omega (arith, lt)) at in (z, contains_tail x z xs z_in, is)

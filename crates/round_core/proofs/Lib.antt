@@ -4,3 +4,8 @@ pub mod Honest
 pub mod HookWalks
 pub mod Hooking
 pub mod HookMembers
+pub mod Full
+pub mod Picking
+pub mod Merging
+pub mod Missing
+pub mod Sorting

@@ -1,3 +1,4 @@
 pub mod Picks
 pub mod Page
 pub mod Hooks
+pub mod Solver

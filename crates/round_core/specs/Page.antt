@@ -1,5 +1,5 @@
 -- A round's book, as contracts see it.
-use Rattle.std.specs.Prelude.{◌≡◌, ℕ, ◌+◌, ◌<◌, ◌≤◌, ◌==◌, Bool, true, false, not, cond, List, [], ◌∷◌, ◌++◌, length, map, replicate, All, Option, Some, None, slice_get, slice_index_or, slice_set, count_by, flat_map, if◌then◌else◌}
+use Rattle.std.specs.Prelude.{◌≡◌, ◌≢◌, ℕ, ◌+◌, ◌<◌, ◌≤◌, ◌==◌, ◌↔◌, Bool, true, false, not, cond, List, [], ◌∷◌, ◌++◌, length, map, replicate, All, AllPairs, Any, Contains, Option, Some, None, slice_get, slice_index_or, slice_set, count_by, flat_map, if◌then◌else◌}
 use Rattle.std.specs.List.{list_all}
 use Rattle.std.specs.Option.{option_map_or, option_to_list}
 use Rattle.limits.specs.declared.TheConstants.{MAX_SHARDS}
@@ -7,10 +7,10 @@ use Rattle.link_key.specs.declared.links.Link.{Link}
 use Rattle.link_key.specs.Link.{EndsUpTo}
 use Rattle.link_key.specs.Labels.{label_of, AreLabels}
 use Rattle.link_key.specs.Offers.{Offer}
-use Rattle.link_key.specs.Cut.{links_at}
+use Rattle.link_key.specs.Cut.{joined, links_at}
 use Rattle.frames.specs.AnswerValue.{AnswerValue}
-use Rattle.round_theory.specs.Offers.{Hearing, AreLightOffers}
-use Rattle.round_core.specs.Picks.{AreNoPicks}
+use Rattle.round_theory.specs.Offers.{Hearing, AreLightOffers, IsNamed, HaveLinksOf, AreAllLight}
+use Rattle.round_core.specs.Picks.{ArePicks, AreNoPicks}
 use Rattle.round_core.specs.declared.refusals.Refusal.{Refusal}
 use Rattle.round_core.specs.declared.refusals.Refusal.TheVariants.{Stale, Stranger, Double, NotALink}
 
@@ -67,7 +67,11 @@ pub record IsRight (round : ℕ) (cut : List (List Link)) (labels : List ℕ) (a
   pub within : a.shard < length cut
   pub offers : list_all (is_offer (links_at cut a.shard) labels) a.offers ≡ true
 
--- what holds of each book
+-- one of the answers taken is for the shard
+abbrev pub IsAnswered : Page → ℕ → Type 0
+IsAnswered p s = Any (λ (a : AnswerValue). a.shard ≡ s) p.answers
+
+-- what holds of each book: the shards that were taken are those that have an answer, and each has one at most
 pub record IsPage (p : Page) : Type 0 where
   pub labels : AreLabels p.labels
   pub ends : All (EndsUpTo (length p.labels)) p.cut
@@ -75,6 +79,8 @@ pub record IsPage (p : Page) : Type 0 where
   pub each_shard : length p.taken ≡ length p.cut
   pub counted : missing p + length p.answers ≡ length p.cut
   pub right : All (IsRight p.round p.cut p.labels) p.answers
+  pub answered : (s : ℕ) → s < length p.cut → (is_taken p s ≡ true) ↔ IsAnswered p s
+  pub once : AllPairs (λ (a b : AnswerValue). a.shard ≢ b.shard) p.answers
 
 -- a book whose memory has room for an answer of each shard and a pick of each label
 pub record IsBook (p : Page) (room : ℕ) (best : List (Option Link)) : Type 0 where
@@ -92,3 +98,13 @@ abbrev pub LightOffersAreTaken : Type 0
 LightOffersAreTaken =
     (p : Page) (s : ℕ) (a : AnswerValue) → is_taken p s ≡ false → a.round ≡ p.round → a.shard ≡ s
     → AreLightOffers (links_at p.cut s) p.labels a.offers → refusal p s a ≡ None
+
+-- where no shard is missing, what was heard are shards with the links of the cut, and no others
+abbrev pub FullBookHasAllLinks : Type 0
+FullBookHasAllLinks = (p : Page) → IsPage p → missing p ≡ 0 → HaveLinksOf (hearings p) (joined p.cut)
+
+-- and where each answer has the light offers of its shard, the picks are those of all links of the cut
+abbrev pub FullBookIsLeast : Type 0
+FullBookIsLeast =
+    (p : Page) (picks : List (Option Link)) → IsPage p → missing p ≡ 0 → AreAllLight p.labels (hearings p)
+    → ArePicks p.labels (IsNamed (hearings p)) picks → ArePicks p.labels (Contains (joined p.cut)) picks

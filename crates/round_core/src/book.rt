@@ -4,7 +4,7 @@ ghost use Rattle.link_key.specs.declared.links.Link.{Link as TheLink};
 ghost use Rattle.link_key.specs.Link.{EndsUpTo};
 ghost use Rattle.link_key.specs.Labels.{AreLabels};
 ghost use Rattle.round_theory.specs.Offers.{IsNamed};
-ghost use Rattle.round_core.specs.Page.{Page, opened, is_taken, missing, is_leaving, is_offer, refusal, heard, hearings, named_links};
+ghost use Rattle.round_core.specs.Page.{Page, opened, is_taken, missing, is_leaving, is_offer, refusal, heard, hearings, named_links, IsPage};
 ghost use Rattle.round_core.specs.Picks.{ArePicks, AreNoPicks};
 
 use crate::picks::{Picks, count};
@@ -141,6 +141,7 @@ impl<'a, A: Allocator> RoundBook<'a, A> {
     pub fn close(self) -> Picks<A>
         requires { missing self ≡ 0 }
         ensures picks { ArePicks self.entry.labels (IsNamed (hearings self.entry)) result }
+        ensures page { IsPage self.entry }
     {
         let RoundBook {
             round: _,

@@ -25,8 +25,10 @@ pub mod hooks;
 pub mod laws;
 pub mod picks;
 pub mod refusals;
+pub mod solver;
 
 pub use book::RoundBook;
 pub use hooks::hook_relabel;
 pub use picks::Picks;
 pub use refusals::Refusal;
+pub use solver::{SolveFault, Solver, Turn};

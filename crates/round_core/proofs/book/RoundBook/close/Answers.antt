@@ -8,7 +8,7 @@ use Rattle.link_key.specs.Link.{EndsUpTo}
 use Rattle.link_key.specs.Cut.{links_at}
 use Rattle.frames.specs.AnswerValue.{AnswerValue}
 use Rattle.round_theory.specs.Offers.{IsNamed}
-use Rattle.round_core.specs.Page.{Page, is_offer, hearing_of, hearings, named_links, IsRight}
+use Rattle.round_core.specs.Page.{Page, is_offer, hearing_of, hearings, named_links, IsRight, IsPage}
 use Rattle.round_core.specs.Picks.{ArePicks}
 use Rattle.round_core.proofs.Counts.{no_picks, picks_alike}
 use Rattle.round_core.proofs.Books.{all_named, one_more_answer, same_named, shard_ends}
@@ -69,4 +69,7 @@ returns g c =
     let seen : ArePicks c.self.inside.labels.now (Contains (all_named c.self.inside.cut.now items)) c.loop-answer.best.items =
     subst (λ (xs : List AnswerValue). ArePicks c.self.inside.labels.now (Contains (all_named c.self.inside.cut.now xs)) c.loop-answer.best.items) all c.loop-answer.invariant.picks in
     let named = picks_alike c.self.inside.labels.now (Contains (all_named c.self.inside.cut.now items)) (IsNamed (map (hearing_of c.self.inside.cut.now) items)) c.loop-answer.best.items (same_named c.self.inside.cut.now items) seen in
-    record { picks = subst (λ (p : Page). ArePicks p.labels (IsNamed (hearings p)) c.loop-answer.best.items) c.self.view_is named }
+    record {
+      picks = subst (λ (p : Page). ArePicks p.labels (IsNamed (hearings p)) c.loop-answer.best.items) c.self.view_is named;
+      page = subst IsPage c.self.view_is c.self.invariant.page;
+    }

@@ -1,0 +1,125 @@
+-- A solver that takes the picks of a round.
+use Rattle.std.proofs.Common.{◌≡◌, ◌≢◌, ℕ, zero, suc, ◌+◌, ◌-◌, ◌<◌, ◌≤◌, ◌^◌, max, ◌↔◌, Bool, true, false, List, [], ◌∷◌, ◌++◌, length, get_or, Contains, Some, None, refl, sym, ap, ◌∙◌, subst, inl, inr, arith}
+use Rattle.std.specs.Prelude.{Option, All, AllPairs}
+use Rattle.std.specs.List.{AllByRecursion}
+use Rattle.std.proofs.lemmas.Bool.{cases_lt}
+use Rattle.std.proofs.lemmas.Nat.{pow_below}
+use Rattle.std.proofs.lemmas.List.Elements.{Contains-get_or, All-append, All-contains}
+use Rattle.link_key.specs.declared.links.Link.{Link}
+use Rattle.link_key.specs.Link.{EndsUpTo}
+use Rattle.link_key.specs.Labels.{label_of, AreApart}
+use Rattle.link_key.proofs.Members.{contains_none, contains_head}
+use Rattle.round_theory.specs.LinkSet.{LinkSet, IsPartOf, SameLinks}
+use Rattle.round_theory.specs.Labelling.{IsVertex, IsLabelling, IsWalkOver, JoinsOver, IsRelabelling}
+use Rattle.round_theory.specs.Offers.{IsPick, Hearing, IsNamed}
+use Rattle.round_theory.proofs.Relabelling.{apart_by_no_links}
+use Rattle.round_theory.proofs.RoundSteps.{all_pairs_append}
+use Rattle.round_theory.proofs.Steps.{relabelled_by_steps, added_close_no_cycle, pick_is_new}
+use Rattle.round_core.specs.Picks.{Picked, ArePicks, ArePicksOfHearings, AreNoPicks}
+use Rattle.round_core.specs.Solver.{Progress, vertices, IsProgress, IsPastBound, ArePickedOnce, IsMerged}
+use Rattle.round_core.proofs.Picking.{place_of, least_at, each_once}
+
+-- so few rounds that the next one's number fits, and its power of two
+pub rounds_few : (n r : ℕ) → n ≤ 2 ^ 26 → 2 ^ r ≤ max 1 n → r ≤ 26
+rounds_few n r few in_time = elim (cases_lt 26 r) [
+  | inl past ↦ let more = pow_below 26 r past in absurd (omega (arith, more, few, in_time))
+  | inr fits ↦ fits
+]
+
+pub at_start : (n : ℕ) (labels : List ℕ) (taken : List Link) → n ≤ 2 ^ 26 → AreApart n labels → taken ≡ [] → IsProgress (record { labels = labels; taken = taken; rounds = 0 })
+at_start n labels taken few apart is = rw is (record {
+  few_vertices = omega (arith, apart.vertices, few);
+  ends = λ i d lt. absurd (omega (arith, lt));
+  labelling = subst (λ m. IsLabelling m (Contains []) labels) (sym apart.vertices) ((apart_by_no_links n labels).0 apart);
+  each_once = λ i j d lt within. absurd (omega (arith, within));
+  no_cycle = λ l l_in. absurd (contains_none l l_in);
+  in_time = omega arith;
+})
+
+-- what components and links join, more links join too
+over_more : (labels : List ℕ) (S T : LinkSet) → IsPartOf S T → (u v : ℕ) → JoinsOver labels S u v → JoinsOver labels T u v
+over_more labels S T part u v (walk, all, leads) = (walk, more walk all, leads)
+  where
+    more : (walk : List Link) → AllByRecursion S walk → AllByRecursion T walk
+    more [] all = tt
+    more (l ∷ walk) (here, all) = (part l here, more walk all)
+
+relabelling_alike : (n : ℕ) (old new : List ℕ) (S T : LinkSet) → SameLinks S T → IsRelabelling n old S new → IsRelabelling n old T new
+relabelling_alike n old new S T same is = record {
+  each_vertex = is.each_vertex;
+  least = λ v vertex.
+      let at = is.least v vertex in
+      record {
+        vertex = at.vertex;
+        joined = over_more old S T (λ l. (same l).0) v (label_of new v) at.joined;
+        least = λ w w_vertex over. at.least w w_vertex (over_more old T S (λ l. (same l).1) v w over);
+      };
+}
+
+picked_is_pick : (labels : List ℕ) (heard : List Hearing) (picks : List (Option Link)) (l : Link) → ArePicks labels (IsNamed heard) picks → Picked picks l → IsPick labels (IsNamed heard) l
+picked_is_pick labels heard picks l are picked =
+    let (i, here) = place_of picks l picked in
+    (i + 1, (least_at labels heard picks i l are here).least)
+
+-- the picks join what they pick; they close no cycle and are new, whatever was heard
+pub merged : (p : Progress) (picks : List (Option Link)) (labels : List ℕ) (links : List Link) → IsProgress p → ArePicksOfHearings p.labels picks → ArePickedOnce picks links
+    → IsRelabelling (vertices p) p.labels (Picked picks) labels → 2 ^ (p.rounds + 1) ≤ max 1 (vertices p)
+    → IsLabelling (vertices p) (Contains (p.taken ++ links)) labels × IsProgress (record { labels = labels; taken = p.taken ++ links; rounds = p.rounds + 1 })
+merged p picks labels links is (heard, are) once joined in_time = (
+  labelling,
+  record {
+    few_vertices = omega (arith, long, is.few_vertices);
+    ends = subst (λ m. EndsUpTo m (p.taken ++ links)) (sym long) (All-append (λ (l : Link). l.high ≤ vertices p) p.taken links is.ends links_ends);
+    labelling = subst (λ m. IsLabelling m (Contains (p.taken ++ links)) labels) (sym long) labelling;
+    each_once = all_pairs_append (λ l m. l ≢ m) p.taken links is.each_once (each_once picks links once) (λ l m l_in m_in same.
+        (pick_is_new (IsNamed heard) (vertices p) p.taken p.labels is.ends is.labelling m (part m m_in)).1 (subst (Contains p.taken) same l_in));
+    no_cycle = added_close_no_cycle (IsNamed heard) (vertices p) p.taken links p.labels is.ends is.labelling is.no_cycle part;
+    in_time = subst (λ m. 2 ^ (p.rounds + 1) ≤ max 1 m) (sym long) in_time;
+  },
+)
+  where
+    long : length labels ≡ vertices p
+    long = joined.each_vertex
+
+    links_ends : EndsUpTo (vertices p) links
+    links_ends i d lt = are.ends (get_or links i d) ((once.exact (get_or links i d)).0 (Contains-get_or links i d lt))
+
+    part : IsPartOf (Contains links) (IsPick p.labels (IsNamed heard))
+    part l l_in = picked_is_pick p.labels heard picks l are ((once.exact l).0 l_in)
+
+    labelling : IsLabelling (vertices p) (Contains (p.taken ++ links)) labels
+    labelling = (relabelled_by_steps (vertices p) p.taken links p.labels is.ends links_ends is.labelling labels).1
+        (relabelling_alike (vertices p) p.labels labels (Picked picks) (Contains links) (λ l. ((once.exact l).1, (once.exact l).0)) joined)
+
+-- where there are picks, some link is taken
+pub some_taken : (picks : List (Option Link)) (links : List Link) → ¬ (AreNoPicks picks) → ArePickedOnce picks links → 0 < length links
+some_taken picks (l ∷ links) some once = omega arith
+some_taken picks [] some once = absurd (some none)
+  where
+    none : AreNoPicks picks
+    none i d lt = at (get_or picks i d) (Contains-get_or picks i d lt)
+      where
+        at : (x : Option Link) → Contains picks x → x ≡ None
+        at None x_in = refl
+        at (Some l) x_in = absurd (contains_none l ((once.exact l).1 x_in))
+
+-- a round that isn't past the bound
+pub in_bound : (n m round : ℕ) (r : Bool) → (r ≡ true) ↔ IsPastBound m round → r ≡ false → m ≡ n → 2 ^ round ≤ max 1 n
+in_bound n m round r decides fails same = elim (cases_lt (max 1 m) (2 ^ round)) [
+  | inl past ↦ let wrong : false ≡ true = sym fails ∙ decides.1 past in absurd (cc)
+  | inr fits ↦ subst (λ k. 2 ^ round ≤ max 1 k) same fits
+]
+
+pub is_merged : (p : Progress) (picks : List (Option Link)) (labels : List ℕ) (links taken : List Link) (count : ℕ) → IsProgress p → ArePicksOfHearings p.labels picks → ¬ (AreNoPicks picks)
+    → ArePickedOnce picks links → IsRelabelling (vertices p) p.labels (Picked picks) labels → 2 ^ (p.rounds + 1) ≤ max 1 (vertices p) → count ≡ length links → taken ≡ p.taken ++ links
+    → IsMerged picks count p (record { labels = labels; taken = taken; rounds = p.rounds + 1 })
+is_merged p picks labels links taken count is are some once joined in_time number taken_is = record {
+  some = let some_in = some_taken picks links some once in omega (arith, some_in, number);
+  added = links;
+  number = sym number;
+  picked = once;
+  taken = taken_is;
+  labelling = subst (λ xs. IsLabelling (vertices p) (Contains xs) labels) (sym taken_is) (merged p picks labels links is are once joined in_time).0;
+  rounds = refl;
+  in_time = in_time;
+}

@@ -1,0 +1,240 @@
+-- The links picked, each once: of two labels that pick a link the lesser one gives it.
+use Rattle.std.proofs.Common.{◌≡◌, ◌≢◌, ℕ, zero, suc, ◌+◌, ◌-◌, ◌<◌, ◌≤◌, ◌⊎◌, ◌↔◌, min, Bool, true, false, not, ◌&&◌, eqb, List, [], ◌∷◌, ◌++◌, length, get_or, Contains, Some, None, refl, sym, ap, ◌∙◌, subst, inl, inr, arith}
+use Rattle.std.specs.Prelude.{Option, AllPairs}
+use Rattle.std.specs.Ordering.{int_eq}
+use Rattle.std.proofs.lemmas.Bool.{cases_eq, eqb-true, eq-eqb}
+use Rattle.std.proofs.lemmas.Bool.Decides.{Decides-int_eq}
+use Rattle.std.proofs.lemmas.List.{get_or_default}
+use Rattle.std.proofs.lemmas.List.Elements.{Contains-append_left, Contains-push, Contains-push_cases, Contains-get_or}
+use Rattle.std.proofs.lemmas.List.Quantifiers.{all_pairs_push}
+use Rattle.link_key.specs.declared.links.Link.{Link}
+use Rattle.link_key.specs.Labels.{label_of, AreLabels}
+use Rattle.link_key.proofs.Keys.{link_dec, link_eq}
+use Rattle.link_key.proofs.Spans.{both_first, both_second}
+use Rattle.link_key.proofs.Members.{contains_none, contains_cases}
+use Rattle.round_theory.specs.Labelling.{IsVertex}
+use Rattle.round_theory.specs.Offers.{IsLeastLeaving, Hearing, IsNamed}
+use Rattle.round_theory.proofs.Leaving.{leaves_end, leaves_apart}
+use Rattle.round_core.specs.Picks.{pick_of, Picked, IsPickOf, ArePicks}
+use Rattle.round_core.specs.Solver.{IsFirstPickedAt, IsPickedBefore, ArePickedOnce}
+
+-- a place that has a pick is one of the list
+pub picked_within : (picks : List (Option Link)) (i : ℕ) (l : Link) → get_or picks i None ≡ Some l → i < length picks
+picked_within [] i l here = absurd (cc)
+picked_within (x ∷ picks) zero l here = omega arith
+picked_within (x ∷ picks) (suc i) l here = let within = picked_within picks i l here in omega (arith, within)
+
+pub picked_there : (picks : List (Option Link)) (i : ℕ) (l : Link) → get_or picks i None ≡ Some l → Picked picks l
+picked_there picks i l here =
+    let within = picked_within picks i l here in
+    (i, within, get_or_default picks i (Some l) None within ∙ here)
+
+pub place_of : (picks : List (Option Link)) (l : Link) → Picked picks l → (i : ℕ) × (get_or picks i None ≡ Some l)
+place_of picks l (i, within, here) = (i, get_or_default picks i None (Some l) within ∙ here)
+
+-- the pick at a place is the least link that leaves the label of that place
+pub record IsLeastAt (labels : List ℕ) (heard : List Hearing) (i : ℕ) (l : Link) : Type 0 where
+  pub vertex : IsVertex (length labels) (i + 1)
+  pub least : IsLeastLeaving labels (IsNamed heard) (i + 1) l
+
+pub least_at : (labels : List ℕ) (heard : List Hearing) (picks : List (Option Link)) (i : ℕ) (l : Link) → ArePicks labels (IsNamed heard) picks → get_or picks i None ≡ Some l → IsLeastAt labels heard i l
+least_at labels heard picks i l are here =
+    let within = picked_within picks i l here in
+    let vertex : IsVertex (length labels) (i + 1) = (omega arith, omega (arith, within, are.each_vertex)) in
+    let place : i + 1 - 1 ≡ i = omega arith in
+    let pick : pick_of picks (i + 1) ≡ Some l = ap (λ k. get_or picks k None) place ∙ here in
+    record { vertex = vertex; least = subst (IsPickOf labels (IsNamed heard) (i + 1)) pick (are.least (i + 1) vertex) }
+
+-- so the label of the place is that of one end, and the ends have different labels
+record EndsAt (labels : List ℕ) (i : ℕ) (l : Link) : Type 0 where
+  apart : label_of labels l.low ≢ label_of labels l.high
+  end : (i + 1 ≡ label_of labels l.low) ⊎ (i + 1 ≡ label_of labels l.high)
+
+ends_at : (labels : List ℕ) (heard : List Hearing) (picks : List (Option Link)) (i : ℕ) (l : Link) → ArePicks labels (IsNamed heard) picks → get_or picks i None ≡ Some l → EndsAt labels i l
+ends_at labels heard picks i l are here =
+    let at = least_at labels heard picks i l are here in
+    record { apart = leaves_apart labels l (i + 1) at.least.leaves; end = leaves_end labels l (i + 1) at.least.leaves }
+
+-- the lesser label of a link's ends, as a place
+abbrev pub least_end : List ℕ → Link → ℕ
+least_end labels l = min (label_of labels l.low) (label_of labels l.high) - 1
+
+-- where it is the place, or doesn't pick the link, the place is the first that does
+pub first_at : (labels : List ℕ) (heard : List Hearing) (picks : List (Option Link)) (i : ℕ) (l : Link) → ArePicks labels (IsNamed heard) picks → get_or picks i None ≡ Some l
+    → (least_end labels l ≡ i) ⊎ (get_or picks (least_end labels l) None ≢ Some l) → IsFirstPickedAt picks l i
+first_at labels heard picks i l are here test = record { here = here; first = first }
+  where
+    first : (k : ℕ) → k < i → get_or picks k None ≢ Some l
+    first k lt there = elim test [
+      | inl is ↦ absurd (before (label_of labels l.low) (label_of labels l.high) (ends_at labels heard picks k l are there).end is)
+      | inr other ↦ other (subst (λ j. get_or picks j None ≡ Some l) (lesser (label_of labels l.low) (label_of labels l.high) (ends_at labels heard picks k l are there).end (ends_at labels heard picks i l are here).end) there)
+    ]
+      where
+        before : (a b : ℕ) → (k + 1 ≡ a) ⊎ (k + 1 ≡ b) → min a b - 1 ≡ i → ⊥
+        before a b (inl at) is = omega (arith, lt, at, is)
+        before a b (inr at) is = omega (arith, lt, at, is)
+
+        lesser : (a b : ℕ) → (k + 1 ≡ a) ⊎ (k + 1 ≡ b) → (i + 1 ≡ a) ⊎ (i + 1 ≡ b) → k ≡ min a b - 1
+        lesser a b (inl at) (inl at') = omega (arith, lt, at, at')
+        lesser a b (inl at) (inr at') = omega (arith, lt, at, at')
+        lesser a b (inr at) (inl at') = omega (arith, lt, at, at')
+        lesser a b (inr at) (inr at') = omega (arith, lt, at, at')
+
+-- where another lesser label picks it, it isn't
+pub not_first_at : (labels : List ℕ) (heard : List Hearing) (picks : List (Option Link)) (i : ℕ) (l : Link) → ArePicks labels (IsNamed heard) picks → get_or picks i None ≡ Some l
+    → least_end labels l ≢ i → get_or picks (least_end labels l) None ≡ Some l → ¬ (IsFirstPickedAt picks l i)
+not_first_at labels heard picks i l are here other there first = first.first (least_end labels l) (before (label_of labels l.low) (label_of labels l.high) (ends_at labels heard picks i l are here).end other) there
+  where
+    before : (a b : ℕ) → (i + 1 ≡ a) ⊎ (i + 1 ≡ b) → min a b - 1 ≢ i → min a b - 1 < i
+    before a b (inl at) ne = omega (arith, at, ne)
+    before a b (inr at) ne = omega (arith, at, ne)
+
+-- so a look at that pick decides it
+pub look_decides : (labels : List ℕ) (heard : List Hearing) (picks : List (Option Link)) (i : ℕ) (l : Link) (x : Option Link) (r : Bool) → ArePicks labels (IsNamed heard) picks → get_or picks i None ≡ Some l
+    → least_end labels l ≢ i → least_end labels l < length picks → x ≡ get_or picks (least_end labels l) x → (r ≡ true) ↔ (x ≡ Some l) → (not r ≡ true) ↔ IsFirstPickedAt picks l i
+look_decides labels heard picks i l x r are here other within at look = by_look r refl
+  where
+    read : get_or picks (least_end labels l) None ≡ x
+    read = get_or_default picks (least_end labels l) None x within ∙ sym at
+
+    by_look : (b : Bool) → r ≡ b → (not r ≡ true) ↔ IsFirstPickedAt picks l i
+    by_look true is = (
+      λ tested. absurd (let wrong : false ≡ true = ap not (sym is) ∙ tested in cc),
+      λ first. absurd (not_first_at labels heard picks i l are here other (read ∙ look.0 is) first),
+    )
+    by_look false is = (
+      λ _. first_at labels heard picks i l are here (inr (λ there. let wrong : false ≡ true = sym is ∙ look.1 (sym read ∙ there) in absurd (cc))),
+      λ _. ap not is,
+    )
+
+-- links with one weight and the same ends are one
+pub same_link : (l m : Link) (r : Bool) → r ≡ (int_eq l.weight m.weight && (eqb l.low m.low && eqb l.high m.high)) → (r ≡ true) ↔ (l ≡ m)
+same_link l m r is = (
+  λ tested.
+      let all : (int_eq l.weight m.weight && (eqb l.low m.low && eqb l.high m.high)) ≡ true = sym is ∙ tested in
+      let ends : (eqb l.low m.low && eqb l.high m.high) ≡ true = both_second (int_eq l.weight m.weight) (eqb l.low m.low && eqb l.high m.high) all in
+      link_eq l m ((Decides-int_eq l.weight m.weight).0 (both_first (int_eq l.weight m.weight) (eqb l.low m.low && eqb l.high m.high) all))
+      (eqb-true l.low m.low (both_first (eqb l.low m.low) (eqb l.high m.high) ends)) (eqb-true l.high m.high (both_second (eqb l.low m.low) (eqb l.high m.high) ends)),
+  λ same.
+      is ∙ rw ((Decides-int_eq l.weight m.weight).1 (ap (λ (k : Link). k.weight) same), eq-eqb l.low m.low (ap (λ (k : Link). k.low) same), eq-eqb l.high m.high (ap (λ (k : Link). k.high) same)) refl,
+)
+
+pub same_pick : (pick : Option Link) (l m : Link) (r : Bool) → pick ≡ Some l → (r ≡ true) ↔ (l ≡ m) → (r ≡ true) ↔ (pick ≡ Some m)
+same_pick pick l m r is decides = (λ tested. is ∙ ap Some (decides.0 tested), λ picked. decides.1 (let both : Some l ≡ Some m = sym is ∙ picked in cc))
+
+-- a pick's ends are vertices, and their labels too
+pub pick_ends : (labels : List ℕ) (heard : List Hearing) (picks : List (Option Link)) (i : ℕ) (l : Link) → ArePicks labels (IsNamed heard) picks → get_or picks i None ≡ Some l → l.high ≤ length labels
+pick_ends labels heard picks i l are here = are.ends l (picked_there picks i l here)
+
+pub record HasLabels (labels : List ℕ) (l : Link) : Type 0 where
+  pub some : 1 ≤ min (label_of labels l.low) (label_of labels l.high)
+  pub within : least_end labels l < length labels
+
+pub has_labels : (labels : List ℕ) (l : Link) → AreLabels labels → l.high ≤ length labels → HasLabels labels l
+has_labels labels l are end =
+    let low = are.labelled l.low l.from_one (omega (arith, l.ascending, end)) in
+    let high = are.labelled l.high (omega (arith, l.from_one, l.ascending)) end in
+    let low_one : 1 ≤ label_of labels l.low = low.from_one in
+    let high_one : 1 ≤ label_of labels l.high = high.from_one in
+    let low_le : label_of labels l.low ≤ l.low = low.at_most_itself in
+    let asc : l.low < l.high = l.ascending in
+    record { some = omega (arith, low_one, high_one); within = omega (arith, low_one, high_one, low_le, asc, end) }
+
+-- the links that a place before the bound gives
+pub record ArePickedBelow (picks : List (Option Link)) (bound : ℕ) (links : List Link) : Type 0 where
+  pub exact : (l : Link) → Contains links l ↔ ((i : ℕ) × (i < bound) × IsFirstPickedAt picks l i)
+  pub in_order : AllPairs (IsPickedBefore picks) links
+
+pub none_below : (picks : List (Option Link)) → ArePickedBelow picks 0 []
+none_below picks = record {
+  exact = λ l. (λ l_in. absurd (contains_none l l_in), λ some. absurd (omega (arith, some.1)));
+  in_order = λ i j d lt within. absurd (omega (arith, within));
+}
+
+pub skip_place : (picks : List (Option Link)) (bound : ℕ) (links : List Link) → ((l : Link) → ¬ (IsFirstPickedAt picks l bound)) → ArePickedBelow picks bound links → ArePickedBelow picks (bound + 1) links
+skip_place picks bound links none are = record {
+  exact = λ l. (λ l_in. let (i, lt, first) = (are.exact l).0 l_in in (i, omega (arith, lt), first), back l);
+  in_order = are.in_order;
+}
+  where
+    back : (l : Link) → ((i : ℕ) × (i < bound + 1) × IsFirstPickedAt picks l i) → Contains links l
+    back l (i, lt, first) = elim (cases_eq i bound) [
+      | inl is ↦ absurd (none l (subst (IsFirstPickedAt picks l) is first))
+      | inr other ↦ (are.exact l).1 (i, omega (arith, lt, other), first)
+    ]
+
+pub give_place : (picks : List (Option Link)) (bound : ℕ) (links : List Link) (l : Link) → IsFirstPickedAt picks l bound → ArePickedBelow picks bound links → ArePickedBelow picks (bound + 1) (links ++ l ∷ [])
+give_place picks bound links l here are = record {
+  exact = λ m. (to m, back m);
+  in_order = all_pairs_push (IsPickedBefore picks) links l are.in_order (λ k d lt.
+      let (i, below, first) = (are.exact (get_or links k d)).0 (Contains-get_or links k d lt) in (i, bound, first, here, below));
+}
+  where
+    to : (m : Link) → Contains (links ++ l ∷ []) m → (i : ℕ) × (i < bound + 1) × IsFirstPickedAt picks m i
+    to m m_in = elim (Contains-push_cases links l m m_in) [
+      | inl before ↦ let (i, lt, first) = (are.exact m).0 before in (i, omega (arith, lt), first)
+      | inr is ↦ (bound, omega arith, subst (λ k. IsFirstPickedAt picks k bound) is here)
+    ]
+
+    back : (m : Link) → ((i : ℕ) × (i < bound + 1) × IsFirstPickedAt picks m i) → Contains (links ++ l ∷ []) m
+    back m (i, lt, first) = elim (cases_eq i bound) [
+      | inl is ↦
+          let there : get_or picks bound None ≡ Some m = subst (λ k. get_or picks k None ≡ Some m) is first.here in
+          let both : Some l ≡ Some m = sym here.here ∙ there in
+          let same : l ≡ m = cc in
+          subst (Contains (links ++ l ∷ [])) same (Contains-push links l)
+      | inr other ↦ Contains-append_left links (l ∷ []) m ((are.exact m).1 (i, omega (arith, lt, other), first))
+    ]
+
+-- a place whose pick was given before, or that has none, gives no link
+pub not_given : (picks : List (Option Link)) (i : ℕ) (l : Link) (x : Option Link) (r : Bool) → i < length picks → x ≡ get_or picks i x → x ≡ Some l → (r ≡ true) ↔ IsFirstPickedAt picks l i → r ≡ false
+    → (m : Link) → ¬ (IsFirstPickedAt picks m i)
+not_given picks i l x r within at is decides fails m first =
+    let both : Some l ≡ Some m = sym is ∙ at ∙ get_or_default picks i x None within ∙ first.here in
+    let same : l ≡ m = cc in
+    let wrong : false ≡ true = sym fails ∙ decides.1 (subst (λ k. IsFirstPickedAt picks k i) (sym same) first) in
+    absurd (cc)
+
+pub none_given : (picks : List (Option Link)) (i : ℕ) (x : Option Link) → i < length picks → x ≡ get_or picks i x → x ≡ None → (m : Link) → ¬ (IsFirstPickedAt picks m i)
+none_given picks i x within at is m first =
+    let wrong : None ≡ Some m = sym is ∙ at ∙ get_or_default picks i x None within ∙ first.here in
+    absurd (cc)
+
+pub pick_here : (picks : List (Option Link)) (i : ℕ) (l : Link) (x : Option Link) → i < length picks → x ≡ get_or picks i x → x ≡ Some l → get_or picks i None ≡ Some l
+pick_here picks i l x within at is = get_or_default picks i None x within ∙ sym at ∙ is
+
+-- a link that is picked is so somewhere first
+pick_dec : (x : Option Link) (l : Link) → (x ≡ Some l) ⊎ (x ≢ Some l)
+pick_dec None l = inr (λ is. absurd (cc))
+pick_dec (Some m) l = elim (link_dec m l) [ inl is ↦ inl (ap Some is) | inr other ↦ inr (λ is. let same : m ≡ l = cc in other same) ]
+
+first_place : (picks : List (Option Link)) (i : ℕ) (l : Link) → get_or picks i None ≡ Some l → (j : ℕ) × (j ≤ i) × IsFirstPickedAt picks l j
+first_place [] i l here = absurd (cc)
+first_place (x ∷ picks) zero l here = (0, omega arith, record { here = here; first = λ k lt. absurd (omega (arith, lt)) })
+first_place (x ∷ picks) (suc i) l here = elim (pick_dec x l) [
+  | inl is ↦ (0, omega arith, record { here = is; first = λ k lt. absurd (omega (arith, lt)) })
+  | inr other ↦ let (j, le, first) = first_place picks i l here in (suc j, omega (arith, le), record { here = first.here; first = later other j first })
+]
+  where
+    later : x ≢ Some l → (j : ℕ) → IsFirstPickedAt picks l j → (k : ℕ) → k < suc j → get_or (x ∷ picks) k None ≢ Some l
+    later other j first zero lt = other
+    later other j first (suc k) lt = first.first k (omega (arith, lt))
+
+-- past the last place they are all
+pub all_below : (picks : List (Option Link)) (bound : ℕ) (links : List Link) → length picks ≤ bound → ArePickedBelow picks bound links → ArePickedOnce picks links
+all_below picks bound links past are = record {
+  exact = λ l. (
+    λ l_in. let (i, lt, first) = (are.exact l).0 l_in in picked_there picks i l first.here,
+    λ picked.
+        let (i, here) = place_of picks l picked in
+        let (j, le, first) = first_place picks i l here in
+        (are.exact l).1 (j, let within = picked_within picks i l here in omega (arith, le, within, past), first),
+  );
+  in_order = are.in_order;
+}
+
+-- a link has one first place
+pub each_once : (picks : List (Option Link)) (links : List Link) → ArePickedOnce picks links → AllPairs (λ l m. l ≢ m) links
+each_once picks links are i j d lt within same =
+    let (a, b, first, second, before) = are.in_order i j d lt within in
+    second.first a before (first.here ∙ ap Some same)

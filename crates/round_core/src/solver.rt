@@ -1,0 +1,244 @@
+//! The solver of a coordinator: it takes the picks of round after round, and is finished where the links taken span.
+ghost use Rattle.std.specs.Prelude.{◌≡◌, ◌≢◌, ℕ, ◌+◌, ◌-◌, ◌<◌, ◌≤◌, ◌^◌, ◌↔◌, max, length, slice_index_or, All, AllPairs, Some, None, IsTrue, IfOk, IfErr, OnErr};
+ghost use Rattle.std.specs.List.Sorted.{IsPermutation};
+ghost use Rattle.link_key.specs.Link.{EndsUpTo, IsAscending};
+ghost use Rattle.link_key.specs.Labels.{AreLabels};
+ghost use Rattle.link_key.specs.Cut.{joined};
+ghost use Rattle.round_core.specs.Picks.{ArePicksOfHearings};
+ghost use Rattle.round_core.specs.Solver.{vertices, IsProgress, IsAtStart, IsPastBound, IsFirstPickedAt, ArePickedOnce, IsTurn, IsStepFault, missed, IsFinished, IsFinishFault};
+ghost use Rattle.round_core.specs.declared.solver.SolveFault.TheVariants.{Memory};
+
+use crate::hooks::hook_relabel;
+use crate::picks::Picks;
+use limits::MAX_VERTICES;
+use link_key::{Cut, Forest, Labels, Link};
+use std::alloc::{AllocError, Allocator, Global};
+use std::marker::Model;
+use thiserror::Error;
+
+/// What a step did.
+#[derive(Clone, Copy, Debug, PartialEq, Eq)]
+pub enum Turn {
+    /// It took so many links.
+    Merged(u32),
+    /// There were no picks, so nothing leaves a component any more.
+    Done,
+}
+
+/// Why a solver can't go on, or can't be finished.
+#[derive(Clone, Copy, Debug, PartialEq, Eq, Error)]
+pub enum SolveFault {
+    /// There are picks in a round that comes past the bound: `2^round` is more than the number of vertices, and than 1.
+    #[error("round {round} is past the bound")]
+    Rounds { round: u32 },
+    /// The links taken don't join the ends of a link.
+    #[error("link {} {} {} was missed", .link.low, .link.high, .link.weight)]
+    Missed { link: Link },
+    /// An allocation was refused.
+    #[error("no memory")]
+    Memory,
+}
+
+impl From<AllocError> for SolveFault {
+    ghost from_gives = { λ _ fault. fault ≡ Memory };
+
+    fn from(_refused: AllocError) -> SolveFault {
+        SolveFault::Memory
+    }
+}
+
+/// The links taken so far and the components that they make.
+///
+/// Whatever was offered, the links that it takes close no cycle, and it is finished only where they span the links of a
+/// cut; where each pick was the least link that leaves its component, they are then the forest. It believes no count of
+/// rounds: a round with picks that comes past the bound is refused.
+///
+/// 4 bytes a vertex, and 12 bytes for each link taken.
+#[derive(Drop)]
+pub struct Solver<A: Allocator = Global> {
+    labels: Labels<A>,
+    taken: Vec<Link, A>,
+    rounds: u32,
+}
+
+impl<A: Allocator> Model for Solver<A> {
+    ghost use Rattle.round_core.specs.Solver.{Progress, IsProgress};
+
+    ghost Value = { Progress };
+
+    ghost view = { λ s. record { labels = s.labels; taken = s.taken.items; rounds = s.rounds } };
+
+    ghost invariant = { λ s. IsProgress (record { labels = s.labels; taken = s.taken.items; rounds = s.rounds }) };
+}
+
+impl<A: Allocator + Copy> Solver<A> {
+    /// A solver for the vertices 1 to `n`, each of them apart. The only error is want of memory.
+    pub fn new(alloc: A, n: u32) -> Result<Self, AllocError>
+        requires { n ≤ MAX_VERTICES }
+        ensures { IfOk result (IsAtStart n) }
+    {
+        let labels = Labels::apart(alloc, n)?;
+        Ok(Solver {
+            labels,
+            taken: Vec::new(alloc),
+            rounds: 0,
+        })
+    }
+
+    /// Takes the picks of a round, each link once, and merges the components that they join. The picks are those of a
+    /// book with these labels, whatever was answered.
+    ///
+    /// Where there are none it does nothing. A round with picks that is past the bound is refused before memory is asked
+    /// for. After an error the solver is as it was. For n vertices it costs what [`hook_relabel`] does, and memory for
+    /// new labels and for the links taken.
+    pub fn step(&mut self, picks: &Picks<A>) -> Result<Turn, SolveFault>
+        requires picks { ArePicksOfHearings self.old.labels picks.now }
+        ensures turn { IfOk result (IsTurn picks.now self.old self.new) }
+        ensures fault { IfErr result (IsStepFault self.old picks.now) }
+        ensures same { OnErr result (self.new ≡ self.old) }
+    {
+        if picks.is_empty() {
+            return Ok(Turn::Done);
+        }
+        let round = self.rounds + 1;
+        if is_past_bound(round, self.labels.n()) {
+            return Err(SolveFault::Rounds { round });
+        }
+        let alloc = *self.taken.allocator();
+        let labels = hook_relabel(alloc, &self.labels, picks)?;
+        let mut links = picked_links(alloc, self.labels.as_slice(), picks.as_slice())?;
+        let count = links.len() as u32;
+        self.taken.append(&mut links)?;
+        self.labels = labels;
+        self.rounds = round;
+        Ok(Turn::Merged(count))
+    }
+
+    /// The links taken, as a forest, where they join the ends of each link of the cut. Else the first link of the cut,
+    /// in its order, whose ends they don't join; that is looked for before memory is asked for.
+    ///
+    /// It looks at each link of the cut once, and sorts the links taken: for m links of n vertices O(m + n log n) time,
+    /// and 12 bytes for each link taken.
+    pub fn finish(&self, cut: &Cut<A>) -> Result<Forest<A>, SolveFault>
+        requires ends { All (EndsUpTo (vertices self.now)) cut.now }
+        ensures forest { IfOk result (IsFinished self.now (joined cut.now)) }
+        ensures fault { IfErr result (IsFinishFault self.now (joined cut.now)) }
+    {
+        if let Some(link) = first_missed(self.labels.as_slice(), cut) {
+            return Err(SolveFault::Missed { link });
+        }
+        Ok(in_key_order(*self.taken.allocator(), self.taken.as_slice())?)
+    }
+}
+
+impl<A: Allocator> Solver<A> {
+    /// The number of the round that comes next: one more than those that took links.
+    pub fn round(&self) -> u32
+        ensures round { result ≡ self.now.rounds + 1 }
+        ensures progress { IsProgress self.now }
+    {
+        self.rounds + 1
+    }
+
+    /// The labels of the vertices: what the links taken join has one label, its least vertex.
+    pub fn labels(&self) -> &Labels<A>
+        ensures labels { result.now ≡ self.now.labels }
+        ensures progress { IsProgress self.now }
+    {
+        &self.labels
+    }
+}
+
+// Whether so many merging rounds are more than n vertices can have.
+fn is_past_bound(round: u32, n: u32) -> bool
+    requires { round < 32 }
+    ensures { IsTrue result ↔ IsPastBound n round }
+{
+    1 << round > n.max(1)
+}
+
+// The links picked, each once, in the order of the least labels that pick them.
+fn picked_links<A: Allocator + Copy>(
+    alloc: A,
+    labels: &[u32],
+    picks: &[Option<Link>],
+) -> Result<Vec<Link, A>, AllocError>
+    requires labels { AreLabels labels.now }
+    requires picks { ArePicksOfHearings labels.now picks.now }
+    ensures once { IfOk result (λ links. ArePickedOnce picks.now links.items) }
+    ensures few { IfOk result (λ links. length links.items ≤ length picks.now) }
+{
+    let mut links = Vec::new(alloc);
+    for (place, pick) in picks.iter().enumerate() {
+        if let Some(link) = *pick {
+            if is_first(labels, picks, place, link) {
+                links.push(link)?;
+            }
+        }
+    }
+    Ok(links)
+}
+
+// Whether no lesser label picks the link: only the labels of its two ends do.
+fn is_first(labels: &[u32], picks: &[Option<Link>], place: usize, link: Link) -> bool
+    requires labels { AreLabels labels.now }
+    requires picks { ArePicksOfHearings labels.now picks.now }
+    requires here { slice_index_or picks.now place None ≡ Some link }
+    ensures { IsTrue result ↔ IsFirstPickedAt picks.now link place }
+{
+    let low = labels[link.low as usize - 1];
+    let high = labels[link.high as usize - 1];
+    let lesser = low.min(high) as usize - 1;
+    lesser == place || !is_pick(picks[lesser], link)
+}
+
+// Whether the pick is the link.
+fn is_pick(pick: Option<Link>, link: Link) -> bool
+    ensures { IsTrue result ↔ (pick ≡ Some link) }
+{
+    match pick {
+        Some(other) => other == link,
+        None => false,
+    }
+}
+
+// The first link of the cut whose ends have different labels.
+fn first_missed<A: Allocator>(labels: &[u32], cut: &Cut<A>) -> Option<Link>
+    requires labels { AreLabels labels.now }
+    requires ends { All (EndsUpTo (length labels.now)) cut.now }
+    ensures { result ≡ missed labels.now (joined cut.now) }
+{
+    for number in 0..cut.len() {
+        if let Some(link) = first_apart(labels, cut.shard(number).links) {
+            return Some(link);
+        }
+    }
+    None
+}
+
+// The first of the links whose ends have different labels.
+fn first_apart(labels: &[u32], links: &[Link]) -> Option<Link>
+    requires ends { EndsUpTo (length labels.now) links.now }
+    ensures { result ≡ missed labels.now links.now }
+{
+    for link in links {
+        if labels[link.low as usize - 1] != labels[link.high as usize - 1] {
+            return Some(*link);
+        }
+    }
+    None
+}
+
+// The links in the order of their keys.
+fn in_key_order<A: Allocator + Copy>(alloc: A, links: &[Link]) -> Result<Forest<A>, AllocError>
+    requires each_once { AllPairs (λ l m. l ≢ m) links.now }
+    ensures same { IfOk result (λ forest. IsPermutation links.now forest) }
+    ensures ascending { IfOk result IsAscending }
+{
+    let mut sorted = Vec::from_slice(alloc, links)?;
+    sorted.sort_unstable();
+    match Forest::of_list(sorted) {
+        Some(forest) => Ok(forest),
+        None => unreachable!(),
+    }
+}
