@@ -15,6 +15,7 @@
 //! the links counted are those that the answers name.
 #![tactic(auto)]
 
+pub mod alone;
 pub mod book;
 pub mod hooks;
 pub mod laws;
@@ -22,6 +23,7 @@ pub mod picks;
 pub mod refusals;
 pub mod solver;
 
+pub use alone::solve_alone;
 pub use book::RoundBook;
 pub use hooks::hook_relabel;
 pub use picks::Picks;
