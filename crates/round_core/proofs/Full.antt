@@ -1,9 +1,10 @@
 -- A book's answers: each shard that was taken has one, so those of a book that misses no shard are of all its links.
-use Rattle.std.proofs.Common.{◌≡◌, ◌≢◌, ℕ, zero, suc, ◌+◌, ◌<◌, ◌≤◌, ◌⊎◌, ◌==◌, ◌↔◌, Bool, true, false, not, cond, List, [], ◌∷◌, ◌++◌, length, map, get_or, set, Contains, Some, None, refl, sym, ap, ◌∙◌, subst, inl, inr, arith, length-append}
-use Rattle.std.specs.Prelude.{Option, All, AllPairs, Any, count_by, flat_map}
+use Rattle.std.proofs.Common.{◌≡◌, ◌≢◌, ℕ, zero, suc, ◌+◌, ◌<◌, ◌≤◌, ◌⊎◌, ◌==◌, ◌↔◌, Bool, true, false, not, cond, List, [], ◌∷◌, ◌++◌, length, map, get_or, set, Contains, Some, None, Ok, Err, refl, sym, ap, ◌∙◌, subst, inl, inr, arith, length-append}
+use Rattle.std.specs.Prelude.{Option, Result, IfErr, OnOk, All, AllPairs, Any, count_by, flat_map}
 use Rattle.std.specs.List.{list_all}
+use Rattle.std.specs.Result.{is_err}
 use Rattle.std.proofs.lemmas.Bool.{cases_eq, eqb-true}
-use Rattle.std.proofs.lemmas.List.{length-set, get_or-set_same, get_or-set_other, get_or_default}
+use Rattle.std.proofs.lemmas.List.{length-set, get_or-set_same, get_or-set_other, get_or_default, map-append}
 use Rattle.std.proofs.lemmas.List.Elements.{Contains-get_or, Contains-push, Contains-push_cases, Contains-append_left, All-contains, All-push}
 use Rattle.std.proofs.lemmas.List.Quantifiers.{all_pairs_push}
 use Rattle.std.proofs.lemmas.List.Sums.{sum_by-cons, sum_by-set}
@@ -12,7 +13,7 @@ use Rattle.link_key.specs.Link.{EndsUpTo}
 use Rattle.link_key.specs.Cut.{joined, links_at}
 use Rattle.frames.specs.AnswerValue.{AnswerValue}
 use Rattle.round_theory.specs.Labelling.{IsVertex}
-use Rattle.round_theory.specs.Offers.{IsLeastLeaving, NoneLeaves, Hearing, IsNamed, HaveLinksOf}
+use Rattle.round_theory.specs.Offers.{IsLeastLeaving, NoneLeaves, Hearing, IsNamed, HaveLinksOf, AreLightOffers, AreAllLight}
 use Rattle.round_theory.proofs.Cutting.{any_from, flat_map_contains, light_offers_suffice}
 use Rattle.round_theory.proofs.Leaving.{least_leaving_exists}
 use Rattle.round_core.specs.Picks.{pick_of, IsPickOf, ArePicks, AreNoPicks}
@@ -39,6 +40,13 @@ accepted p s a none = by_tests (a.round == p.round) (a.shard == s) (is_taken p s
     by_tests true false d e in_round for_shard free fit is_none = absurd (cc)
     by_tests false c d e in_round for_shard free fit is_none = absurd (cc)
 
+-- which shards are taken once an answer is
+pub heard_here : (p : Page) (a : AnswerValue) (s t : ℕ) → s < length p.taken → a.shard ≡ s → t ≡ s → is_taken (heard p a) t ≡ true
+heard_here p a s t within for_s same = ap (λ k. get_or (set p.taken k true) t true) for_s ∙ ap (λ k. get_or (set p.taken s true) k true) same ∙ get_or-set_same p.taken s true true within
+
+pub heard_other : (p : Page) (a : AnswerValue) (s t : ℕ) → a.shard ≡ s → t ≢ s → is_taken (heard p a) t ≡ is_taken p t
+heard_other p a s t for_s other = ap (λ k. get_or (set p.taken k true) t true) for_s ∙ get_or-set_other p.taken s t true true other
+
 -- what an answer that is taken changes
 module _ (p : Page) (s : ℕ) (a : AnswerValue) (is : IsPage p) (lt : s < length p.cut) (fits : IsAccepted p s a) where
   in_taken : s < length p.taken
@@ -53,10 +61,10 @@ module _ (p : Page) (s : ℕ) (a : AnswerValue) (is : IsPage p) (lt : s < length
       omega (arith, set_one, was, at)
 
   new_taken : (t : ℕ) → t ≡ s → is_taken (heard p a) t ≡ true
-  new_taken t same = ap (λ k. get_or (set p.taken k true) t true) fits.shard ∙ ap (λ k. get_or (set p.taken s true) k true) same ∙ get_or-set_same p.taken s true true in_taken
+  new_taken t same = heard_here p a s t in_taken fits.shard same
 
   old_taken : (t : ℕ) → t ≢ s → is_taken (heard p a) t ≡ is_taken p t
-  old_taken t other = ap (λ k. get_or (set p.taken k true) t true) fits.shard ∙ get_or-set_other p.taken s t true true other
+  old_taken t other = heard_other p a s t fits.shard other
 
   answered : (t : ℕ) → t < length p.cut → (is_taken (heard p a) t ≡ true) ↔ IsAnswered (heard p a) t
   answered t within = elim (cases_eq t s) [
@@ -159,3 +167,18 @@ full_book_is_least p picks is full light are = record {
         let best = least_leaving_exists (joined p.cut) p.labels c m m_in leaves in
         let named = (light_offers_suffice (joined p.cut) p.labels (hearings p) (full_book_has_all_links p is full) light c best.0).1 best.1 in
         none best.0 named.member named.leaves
+
+-- of light answers
+pub heard_light : (labels : List ℕ) (p : Page) (a : AnswerValue) → AreAllLight labels (hearings p) → AreLightOffers (links_at p.cut a.shard) labels a.offers → AreAllLight labels (hearings (heard p a))
+heard_light labels p a all light =
+    subst (AreAllLight labels) (sym (map-append (hearing_of p.cut) p.answers (a ∷ [])))
+    (All-push (λ (h : Hearing). AreLightOffers h.shard labels h.offers) (hearings p) (hearing_of p.cut a) all light)
+
+-- an answer that isn't refused is taken
+pub never_refused : {T : Type 0} (r : Result T Refusal) (cause : Option Refusal) → IfErr r (λ c. cause ≡ Some c) → cause ≡ None → is_err r ≡ true → ⊥
+never_refused (Ok x) cause refused none failed = absurd (cc)
+never_refused (Err c) cause refused none failed = let wrong : Some c ≡ None = sym refused ∙ none in absurd (cc)
+
+pub was_taken : {T : Type 0} {P : Type 0} (r : Result T Refusal) → OnOk r P → is_err r ≡ false → P
+was_taken (Ok x) took passed = took
+was_taken (Err c) took passed = absurd (cc)

@@ -9,3 +9,4 @@ pub mod Picking
 pub mod Merging
 pub mod Missing
 pub mod Sorting
+pub mod WholeRounds

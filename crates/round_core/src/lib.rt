@@ -20,6 +20,7 @@
 //! by the walks of `proofs/HookWalks`, and `proofs/HookMembers` the pass that finds the least members.
 #![tactic(auto)]
 
+pub mod alone;
 pub mod book;
 pub mod hooks;
 pub mod laws;
@@ -27,6 +28,7 @@ pub mod picks;
 pub mod refusals;
 pub mod solver;
 
+pub use alone::solve_alone;
 pub use book::RoundBook;
 pub use hooks::hook_relabel;
 pub use picks::Picks;
