@@ -14,12 +14,8 @@ use Rattle.round_core.specs.Picks.{pick_of, Picked, IsPickOf, ArePicks}
 use Rattle.ports.specs.Ports.{PortState}
 use Rattle.forest_run.specs.Lanes.{LaneState}
 use Rattle.forest_run.specs.Bounds.{IsWide}
-use Rattle.forest_run.specs.Runs.{IsWhole, IsGivenBy, RoundsWent}
+use Rattle.forest_run.specs.Runs.{IsWhole, IsGivenBy, IsNamedIn, RoundsWent}
 use Rattle.forest_run.proofs.Lasting.{one_at_most}
-
--- an answer that a book took names the link
-abbrev pub IsNamedIn : List Page → Link → Type 0
-IsNamedIn books l = (book : Page) × Contains books book × IsNamed (hearings book) l
 
 -- ---- the links that are taken
 

@@ -2,7 +2,8 @@
 use Rattle.std.specs.Prelude.{◌≡◌, ℕ, ◌+◌, ◌*◌, ◌<◌, ◌≤◌, List, length, slice_index_or, All, Contains}
 use Rattle.link_key.specs.declared.links.Link.{Link}
 use Rattle.frames.specs.AnswerValue.{AnswerValue}
-use Rattle.round_core.specs.Page.{Page, opened, missing}
+use Rattle.round_theory.specs.Offers.{IsNamed}
+use Rattle.round_core.specs.Page.{Page, opened, missing, hearings}
 use Rattle.ports.specs.Ports.{PortState}
 use Rattle.forest_run.specs.Lanes.{LaneState, asks_of, open_of}
 use Rattle.forest_run.specs.Asks.{AsksWent, IsRefused, IsLight}
@@ -23,6 +24,10 @@ pub record PortsWent {P : Type 0} (state : P → PortState) (honest sound : P �
 -- a lane kept the answer
 abbrev pub IsGivenBy : ℕ → (ℕ → List AnswerValue) → AnswerValue → Type 0
 IsGivenBy lanes answers_at answer = (i : ℕ) × (i < lanes) × Contains (answers_at i) answer
+
+-- an answer that a book took names the link
+abbrev pub IsNamedIn : List Page → Link → Type 0
+IsNamedIn books l = (book : Page) × Contains books book × IsNamed (hearings book) l
 
 -- a whole book of the cut: each shard has its answer
 pub record IsWhole (cut : List (List Link)) (book : Page) : Type 0 where

@@ -2,7 +2,7 @@
 ghost use Rattle.std.specs.Prelude.{◌≡◌, ◌+◌, ◌*◌, ◌≤◌, length, take};
 ghost use Rattle.limits.specs.declared.TheConstants.{MAX_WORKERS};
 ghost use Rattle.link_key.specs.Cut.{joined};
-ghost use Rattle.forest_run.specs.Reports.{IsReport};
+ghost use Rattle.forest_run.specs.Reports.{IsReportOf};
 
 use link_key::Cut;
 use std::alloc::Allocator;
@@ -38,7 +38,10 @@ pub fn report_of<A: Allocator>(cut: &Cut<A>, n: u32, last: u32, alone: u64, clos
     requires few { last ≤ 32 }
     requires alone { alone ≤ last * length cut.now }
     requires closed { closed ≤ MAX_WORKERS }
-    ensures { IsReport n cut.now last alone closed result }
+    ensures report { IsReportOf n cut.now result }
+    ensures last { result.rounds + 1 ≡ last }
+    ensures alone { result.alone ≡ alone }
+    ensures closed { result.closed ≡ closed }
 {
     let shards = cut.len();
     let answered = u64::from(last) * u64::from(shards) - alone;
