@@ -1,5 +1,5 @@
-//! Worked examples of files and forests, each a test that needs public calls alone; `worked_streams` and
-//! `worked_rounds` have those of streams and frames, and of shards and their workers.
+//! Worked examples of files and forests, each a test that needs public calls alone; `worked_streams` has those of
+//! streams and frames, `worked_rounds` of shards and their workers, `worked_runs` of wires, rounds and solvers.
 //!
 //! What the contracts promise isn't tried again here. An example shows a call on its happy path with a value from
 //! outside, what no contract can see (that a call ends well with ample memory, whatever the size; printed texts; which
@@ -15,8 +15,8 @@
 //!   sizes           each call past the size of every inner piece
 //! ```
 //!
-//! Where to start a change: a new public call gets its example in the file of its subject, here or in the other two
-//! crates, and one in that crate's `sizes` if it may answer want of memory. The worked graphs stand in `worked_graphs`.
+//! Where to start a change: a new public call gets its example in the file of its subject, here or in the other
+//! three crates, and one in that crate's `sizes` if it may answer want of memory. The worked graphs stand in `worked_graphs`.
 #![tactic(auto)]
 
 #[cfg(test)]
