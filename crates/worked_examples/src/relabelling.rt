@@ -8,7 +8,7 @@ use crate::graphs::{Row, SMALL_NET, links_of};
 use frames::Answer;
 use link_key::{Components, Cut, Labels, Offers};
 use round_core::{Picks, RoundBook, hook_relabel};
-use std::alloc::{AllocError, Global};
+use std::alloc::Global;
 use std::process::Abort;
 use std::test::Fail;
 
