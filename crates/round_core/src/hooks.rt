@@ -1,4 +1,4 @@
-ghost use Rattle.std.specs.Prelude.{◌≡◌, ℕ, ◌+◌, ◌≤◌, length, slice_index, EachIndex, IfOk};
+ghost use Rattle.std.specs.Prelude.{◌≡◌, ◌+◌, ◌≤◌, length, slice_index, EachIndex, IfOk};
 ghost use Rattle.link_key.specs.declared.links.Link.{Link as TheLink};
 ghost use Rattle.link_key.specs.Labels.{AreLabels};
 ghost use Rattle.round_theory.specs.Labelling.{IsRelabelling};
@@ -9,15 +9,15 @@ use crate::picks::Picks;
 use link_key::{Components, Labels, Link};
 use std::alloc::{AllocError, Allocator};
 
-/// The labels once the picks join the components that the old labels tell: each vertex gets the least vertex that the
-/// old components and the picks join it to.
+/// The labels of the next round: each vertex gets the least vertex that the old components and the picks join it to.
 ///
-/// The old labels are merged along the picks, one pick after the other, and where two components meet, the smaller one
-/// is relabelled. It takes the picks as they are: a pick that two labels share, or whose ends are joined already, changes
-/// nothing, and none of them has to be a least link. The only error is want of memory.
+/// The picks are those of a book with these labels. The components that the old labels tell are made one along the
+/// picks, one pick after the other, and where two meet, the smaller one is relabelled. A pick whose ends are joined
+/// already, as one that two labels share is the second time, changes nothing; it doesn't matter whether picks are least.
+/// The only error is want of memory.
 ///
-/// For n vertices it costs O(n log n) time: an old label gets another component at most log2 n times. Memory: 16 bytes
-/// a vertex while it works, and 4 bytes a vertex for the new labels.
+/// For n vertices it costs O(n log n) time: an old label comes to another component at most log2 n times. Memory: 16
+/// bytes a vertex while it works, and 4 bytes a vertex for the new labels.
 pub fn hook_relabel<A: Allocator + Copy>(
     alloc: A,
     labels: &Labels<A>,

@@ -7,7 +7,7 @@ ghost use Rattle.round_core.specs.Picks.{Picked};
 use frames::Answer;
 use link_key::{Components, Cut, Labels, Offers};
 use round_core::{Picks, RoundBook, hook_relabel};
-use std::alloc::{AllocError, Global};
+use std::alloc::Global;
 use std::process::Abort;
 use std::test::Fail;
 use worked_graphs::{Row, SMALL_NET, all_have_labels, links_of};
