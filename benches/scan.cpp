@@ -21,20 +21,30 @@ static uint64_t next(uint64_t state) { return state * 6364136223846793005ULL + 1
 
 const uint32_t SIZE = 1u << 20, NONE = UINT32_MAX;
 
+// The weight of the least link so far, and its first place: the same table as that of `scan`.
+struct Best {
+    int32_t weight;
+    uint32_t place;
+};
+
+static bool stays(const std::vector<Link> &links, const Best &known, const Link &link) {
+    if (known.weight != link.weight) return known.weight < link.weight;
+    return known.place != NONE && at_most(links[known.place], link);
+}
+
 // For each label that a link leaves, the first place of the least such link.
 static std::vector<std::pair<uint32_t, uint32_t>> scan(const std::vector<Link> &links, const std::vector<uint32_t> &labels) {
-    std::vector<uint32_t> best(labels.size(), NONE);
+    std::vector<Best> best(labels.size(), Best{INT32_MAX, NONE});
     for (uint32_t place = 0; place < links.size(); place++) {
-        uint32_t low = labels[links[place].low - 1], high = labels[links[place].high - 1];
+        const Link &link = links[place];
+        uint32_t low = labels[link.low - 1], high = labels[link.high - 1];
         if (low == high) continue;
-        for (uint32_t label : {low, high}) {
-            uint32_t &known = best[label - 1];
-            if (known == NONE || !at_most(links[known], links[place])) known = place;
-        }
+        for (uint32_t label : {low, high})
+            if (!stays(links, best[label - 1], link)) best[label - 1] = {link.weight, place};
     }
     std::vector<std::pair<uint32_t, uint32_t>> offers;
     for (uint32_t at = 0; at < best.size(); at++)
-        if (best[at] != NONE) offers.push_back({at + 1, best[at]});
+        if (best[at].place != NONE) offers.push_back({at + 1, best[at].place});
     return offers;
 }
 

@@ -6,7 +6,7 @@ ghost use Rattle.frames.specs.Lawful.{IsLawful, IsShard, IsAsk};
 ghost use Rattle.frames.specs.FrameStream.{AreLawful};
 ghost use Rattle.worker_engine.specs.Serving.{shelf_of, shelf_with, IsReply, MayWantMemory, AreReplyTo, replies_in};
 
-use crate::scanning::scan_with;
+use crate::scanning::{Best, scan_with};
 use frames::{Answer, Frame, Links};
 use limits::MAX_SHARD_LINKS;
 use link_key::{Labels, Link};
@@ -29,7 +29,7 @@ pub const NO_LABEL: u8 = 3;
 pub struct Engine<A: Allocator = Global> {
     alloc: A,
     shards: BTreeMap<u32, Links<A>, A>,
-    table: Vec<Option<u32>, A>,
+    table: Vec<Best, A>,
 }
 
 impl<A: Allocator> Model for Engine<A> {
@@ -126,7 +126,7 @@ impl<A: Allocator + Copy> Engine<A> {
 // The reply to an ask of a shard that is kept.
 fn offer<A: Allocator + Copy>(
     alloc: A,
-    table: &mut Vec<Option<u32>, A>,
+    table: &mut Vec<Best, A>,
     links: &[Link],
     round: u32,
     shard: u32,

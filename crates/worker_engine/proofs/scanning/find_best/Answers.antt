@@ -1,12 +1,16 @@
-use Rattle.std.proofs.Common.{◌≡◌, ◌≢◌, ◌-◌, get_or, set, take, None, refl, sym, subst, arith}
+use Rattle.std.proofs.Common.{pos, ◌≡◌, ◌≢◌, ◌-◌, get_or, set, take, refl, sym, subst, arith}
 use Rattle.std.proofs.lemmas.List.{get_or-set_other}
 use Rattle.link_key.specs.Labels.{label_of}
 use Rattle.round_theory.proofs.Leaving.{leaves_low, leaves_high}
 use Rattle.round_theory.proofs.OfferSteps.{left_label_is_vertex}
-use Rattle.worker_engine.specs.Scanning.{IsBest, AreBest}
-use Rattle.worker_engine.proofs.Scans.{bests_stay, bests_change, end_at}
+use Rattle.worker_engine.specs.declared.scanning.Best.{Best}
+use Rattle.worker_engine.specs.Scanning.{Keeps, AreBest}
+use Rattle.worker_engine.proofs.Scans.{best_of_none, bests_stay, bests_change, kept_at, end_at}
 use Rattle.worker_engine.proofs.scanning.find_best.Goals as goal
 use Rattle.worker_engine.proofs.scanning.find_best.Goals.{then-low-high, else-low-high}
+
+pub loop-place-init : goal.loop-place-init
+loop-place-init c = rw c.requires.none_yet (best_of_none c.args.links.now c.args.labels.now)
 
 pub loop-place-preserved : goal.loop-place-preserved
 loop-place-preserved c =
@@ -18,6 +22,7 @@ loop-place-preserved c =
     let read = c.index-links-place.is in
     let within = c.loop-place-test.true in
     let are = c.loop-place.invariant in
+    let default : Best = record { weight = pos 0; place = 0 } in
     elim c.if-low-high.branch [
       | then-low-high w ↦
           let low = label_of labels l.low in
@@ -28,11 +33,11 @@ loop-place-preserved c =
           let leaves_at_high = leaves_high labels l apart in
           let low_vertex = left_label_is_vertex labels l low c.requires.labels ends leaves_at_low in
           let high_vertex = left_label_is_vertex labels l high c.requires.labels ends leaves_at_high in
-          let other = get_or-set_other table (low - 1) (high - 1) w.better.result None (λ same. apart (omega (arith, same, low_vertex, high_vertex))) in
-          subst (AreBest (take _ links) labels) (sym w.table-is)
+          let other = get_or-set_other table (low - 1) (high - 1) w.better.result default (λ same. apart (omega (arith, same, low_vertex, high_vertex))) in
+          subst (AreBest links (take _ links) labels) (sym w.table-is)
           (bests_change links labels place within table l low high w.better.result w.better-then-low-high.result read refl refl apart low_vertex high_vertex
-          (w.better.ensures.better labels low l read leaves_at_low (are.best low low_vertex))
-          (w.better-then-low-high.ensures.better labels high l read leaves_at_high (subst (IsBest (take place links) labels high) (sym other) (are.best high high_vertex)))
+          (w.better.ensures.better labels low l read leaves_at_low (kept_at links (take place links) labels table low (low - 1) default are low_vertex refl))
+          (w.better-then-low-high.ensures.better labels high l read leaves_at_high (subst (Keeps links (take place links) labels high) (sym other) (kept_at links (take place links) labels table high (high - 1) default are high_vertex refl)))
           are)
-      | else-low-high w ↦ subst (AreBest (take _ links) labels) (sym w.table-is) (bests_stay links labels place within table l read w.if-low-high.false are)
+      | else-low-high w ↦ subst (AreBest links (take _ links) labels) (sym w.table-is) (bests_stay links labels place within table l read w.if-low-high.false are)
     ]

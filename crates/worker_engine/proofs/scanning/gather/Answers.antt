@@ -1,9 +1,9 @@
-use Rattle.std.proofs.Common.{◌+◌, Some, None, subst, arith}
+use Rattle.std.proofs.Common.{◌+◌, pos, get_or, arith}
 use Rattle.round_theory.proofs.OfferSteps.{offers_all, offers_skip, offers_push}
-use Rattle.worker_engine.specs.Scanning.{IsBest}
-use Rattle.worker_engine.proofs.Scans.{next_best}
+use Rattle.worker_engine.specs.declared.scanning.Best.{Best}
+use Rattle.worker_engine.proofs.Scans.{kept_place, kept_none, kept_at}
 use Rattle.worker_engine.proofs.scanning.gather.Goals as goal
-use Rattle.worker_engine.proofs.scanning.gather.Goals.{in-Some+in_ok-push, in_default}
+use Rattle.worker_engine.proofs.scanning.gather.Goals.{then-best+in_ok-push, else-best}
 
 pub loop-best-preserved : goal.loop-best-preserved
 loop-best-preserved g c =
@@ -14,13 +14,15 @@ loop-best-preserved g c =
     let i = c.loop-best.best-index in
     let counts = c.loop-best.invariant.counts in
     let offers = c.loop-best.pairs.items in
-    let best = c.requires.best.best (label + 1) (omega arith, omega (arith, counts, c.loop-best-test.true, c.requires.best.each_vertex)) in
-    elim c.match-best.branch [
-      | in-Some+in_ok-push w ↦
-          let light = subst (IsBest links labels (label + 1)) (next_best table label i (Some w.in-Some.place) counts w.in-Some.is) best in
-          record { counts = omega (arith, counts); so_far = rw (w.pairs-is, w.in_ok-push.ensures.items) (offers_push links labels (label + 1) w.in-Some.place offers c.loop-best.invariant.so_far light) }
-      | in_default w ↦
-          let none = subst (IsBest links labels (label + 1)) (next_best table label i None counts w.in_default.is) best in
+    let default : Best = record { weight = pos 0; place = 0 } in
+    let kept = get_or table i default in
+    let keeps = kept_at links links labels table (label + 1) i default c.requires.best (omega arith, omega (arith, counts, c.loop-best-test.true, c.requires.best.each_vertex)) (omega (arith, counts)) in
+    elim c.if-best.branch [
+      | then-best+in_ok-push w ↦
+          let light = kept_place links links labels (label + 1) kept keeps w.if-best.true in
+          record { counts = omega (arith, counts); so_far = rw (w.pairs-is, w.in_ok-push.ensures.items) (offers_push links labels (label + 1) kept.place offers c.loop-best.invariant.so_far light) }
+      | else-best w ↦
+          let none = kept_none links links labels (label + 1) kept keeps c.requires.few_links w.if-best.false in
           record { counts = omega (arith, counts); so_far = rw w.pairs-is (offers_skip links labels (label + 1) offers c.loop-best.invariant.so_far none) }
     ]
 
