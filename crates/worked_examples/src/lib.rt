@@ -15,6 +15,7 @@
 //!   plain_runs      a file to its forest text
 //!   frames_codec    frames and their bytes, and each refusal
 //!   engine          a worker's scan, what it hears, and whole sessions
+//!   rounds, solving a round's book and its judge; a solver's steps, and the whole by one thread
 //!   board, shard_sets   claims of shards, by one seat and by many; sets of shards
 //!   sizes           each call past the size of every inner piece
 //!   fault_texts     what each fault is told as
@@ -59,9 +60,13 @@ mod reading;
 #[cfg(test)]
 mod refusals;
 #[cfg(test)]
+mod rounds;
+#[cfg(test)]
 mod shard_sets;
 #[cfg(test)]
 mod sizes;
+#[cfg(test)]
+mod solving;
 #[cfg(test)]
 mod streams;
 #[cfg(test)]
