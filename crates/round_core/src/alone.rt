@@ -23,9 +23,10 @@ use worker_engine::scan;
 /// These are Borůvka's rounds (1926): each component picks the least link that leaves it, and what the picks join is one
 /// component in the next round. The only error is want of memory.
 ///
-/// For m links in s shards a round costs O(m + s n) time, since each shard's scan has a table of the labels, and there
-/// are at most log2 n + 1 rounds, the last of which picks nothing. Memory: 36 bytes a vertex, 12 bytes for each link taken,
-/// and 8 bytes for each offer of a round.
+/// There are at most log2 n + 1 rounds, the last of which picks nothing. For m links in s shards a round costs O(m + s n)
+/// time, since each shard's scan has a table of the labels, and what [`hook_relabel`](crate::hook_relabel) does. Memory:
+/// 4 bytes a vertex for the labels, 16 for the picks, 8 for a scan's table and what `hook_relabel` takes, 12 bytes for
+/// each link taken, and 8 bytes for each offer of a round.
 pub fn solve_alone<A: Allocator + Copy>(
     alloc: A,
     n: u32,

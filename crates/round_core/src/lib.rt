@@ -1,4 +1,5 @@
-//! The coordinator's side of a round: the book that judges what workers answer, and the picks that it makes of it.
+//! The coordinator's side of a run: the book that judges what workers answer in a round, the picks that it makes of it,
+//! and the solver that merges components by them.
 //!
 //! What it promises:
 //! - [`RoundBook`] takes one answer for each shard of a cut, and refuses an answer of another round, for another shard,
@@ -6,18 +7,27 @@
 //! - [`RoundBook::judge`] says the same without taking the answer, and neither takes memory;
 //! - [`RoundBook::close`] gives [`Picks`]: for each label the least link that leaves it among all links offered, so that
 //!   the order of the answers changes nothing;
-//! - [`hook_relabel`] gives the labels of the next round: each vertex gets the least vertex that the old components and
-//!   the picks join it to;
-//! - [`laws::light_offers_are_taken`]: light offers for a missing shard are never refused.
+//! - [`laws::light_offers_are_taken`]: light offers for a missing shard are never refused;
+//! - [`laws::full_book_is_least`]: where all shards are answered by light offers, the picks are the least of the whole
+//!   list, however it is cut;
+//! - [`hook_relabel`] gives each vertex the least vertex that the old components and the picks join it to;
+//! - [`Solver::step`] takes each picked link once, and refuses a round with picks that comes past the bound; whatever was
+//!   offered, the links taken close no cycle, and the labels are the labelling by them;
+//! - [`Solver::finish`] gives the links taken where they span the links of a cut, and else the first link that they miss;
+//! - [`solve_alone`] scans the shards itself, and gives the minimum spanning forest and the number of merging rounds.
 //!
 //!     cut, labels  --open-->  RoundBook  --take, once a shard-->  RoundBook  --close-->  Picks
-//!     labels, picks  --hook_relabel-->  labels
+//!     Picks  --step-->  Solver, with new labels for the next book  --finish, where nothing was picked-->  Forest
 //!
-//! Where to start a change: `specs/Page` says what a book is and when it refuses, `specs/Picks` what picks are. `book`
-//! keeps the answers, and `picks` counts one link at a time; `proofs/Counts` follows that, and `proofs/Books` says that
-//! the links counted are those that the answers name. `hooks` makes the old labels' components one along the picks;
-//! `specs/Hooks` says when components are joined and what a least member is, `proofs/Hooking` follows one pick at a time
-//! by the walks of `proofs/HookWalks`, and `proofs/HookMembers` the pass that finds the least members.
+//! Where to start a change: `specs/Page` says what a book is and when it refuses, `specs/Picks` what picks are, and
+//! `specs/Solver` what a solver is, a round of it, and how it ends. `book` keeps the answers, and `picks` counts one link
+//! at a time; `proofs/Counts` follows that, `proofs/Books` says that the links counted are those that the answers name,
+//! and `proofs/Full` what a book without a missing shard has heard. `solver` takes the picks, and `alone` runs all of it:
+//! `proofs/Picking` says which label gives a link, `proofs/Merging` what a step keeps, `proofs/Missing` and
+//! `proofs/Sorting` what a finished forest is, and `proofs/WholeRounds` joins the rounds to the theory's. `hooks` makes
+//! the old labels' components one along the picks: `specs/Hooks` says when components are joined and what a least member
+//! is, `proofs/Hooking` follows one pick at a time by the walks of `proofs/HookWalks`, and `proofs/HookMembers` the pass
+//! that finds the least members.
 #![tactic(auto)]
 
 pub mod alone;

@@ -3,11 +3,17 @@
 //!
 //! ```text
 //!   relabelling     components made one by merges and by picks, and the labels that follow
+//!   rounds          the judge's answers, the order of answers, a book that several threads read
+//!   solving         a solver's steps, rounds past the bound, whole runs by one thread
 //!   wires           asks of a worker over a line that stops, or over stored bytes in place of a worker
 //! ```
 #![tactic(auto)]
 
 #[cfg(test)]
 mod relabelling;
+#[cfg(test)]
+mod rounds;
+#[cfg(test)]
+mod solving;
 #[cfg(test)]
 mod wires;

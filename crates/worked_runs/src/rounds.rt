@@ -1,0 +1,185 @@
+// A round's book by example: what the judge says of answers for a triangle of equal weights, that the order of answers
+// changes nothing, and a book that several threads read.
+ghost use Rattle.std.specs.Prelude.{◌≡◌, ◌≤◌, ◌<◌, ◌↔◌, ℕ, length, All, IsTrue, IfOk};
+ghost use Rattle.link_key.specs.Cut.{links_at};
+ghost use Rattle.link_key.specs.Link.{EndsUpTo};
+ghost use Rattle.round_core.specs.Picks.{ArePicksOfHearings};
+
+use frames::Answer;
+use link_key::{Cut, Labels, Link, Offers};
+use round_core::{Picks, Refusal, RoundBook};
+use std::alloc::{AllocError, Global};
+use std::process::Abort;
+use std::test::Fail;
+use worked_graphs::{A_PATH_OF_EIGHT, EQUAL_WEIGHTS, all_have_labels, have_labels, links_of};
+use worker_engine::scan;
+
+fn answer(
+    rt: &impl Abort,
+    alloc: Global,
+    round: u32,
+    shard: u32,
+    pairs: &[(u32, u32)],
+) -> Result<Answer, AllocError> {
+    let offers = Offers::of_pairs(Vec::from_slice(alloc, pairs)?).expect(rt, "offers");
+    Ok(Answer {
+        round,
+        shard,
+        offers,
+    })
+}
+
+// The picks of a round whose answers offer these, one list for each shard.
+pub(crate) fn picks_of_offers(
+    rt: &impl Abort,
+    alloc: Global,
+    cut: &Cut,
+    round: u32,
+    labels: &Labels,
+    offered: &[&[(u32, u32)]],
+) -> Result<Picks, AllocError>
+    ensures heard { IfOk result (ArePicksOfHearings labels.now) }
+    ensures each_vertex { IfOk result (λ picks. length picks ≡ length labels.now) }
+{
+    assert!(rt; all_have_labels(cut, labels.n()));
+    let mut book = RoundBook::open(alloc, round, cut, labels)?;
+    assert_eq!(rt; book.round(), round);
+    for shard in 0..cut.len() {
+        assert!(rt; shard < book.len() && (shard as usize) < offered.len());
+        let taken = answer(rt, alloc, round, shard, offered[shard as usize])?;
+        assert!(rt; book.take(shard, taken).is_ok());
+    }
+    assert!(rt; book.missing() == 0);
+    Ok(book.close())
+}
+
+// The picks of a round whose shards are scanned and answered in this order.
+pub(crate) fn picks_of_scans(
+    rt: &impl Abort,
+    alloc: Global,
+    cut: &Cut,
+    round: u32,
+    labels: &Labels,
+    order: &[u32],
+) -> Result<Picks, AllocError>
+    ensures heard { IfOk result (ArePicksOfHearings labels.now) }
+    ensures each_vertex { IfOk result (λ picks. length picks ≡ length labels.now) }
+{
+    assert!(rt; all_have_labels(cut, labels.n()));
+    let mut book = RoundBook::open(alloc, round, cut, labels)?;
+    for shard in order {
+        assert!(rt; *shard < cut.len() && *shard < book.len());
+        let links = cut.shard(*shard).links;
+        assert!(rt; have_labels(links, labels.n()));
+        let answer = Answer {
+            round,
+            shard: *shard,
+            offers: scan(alloc, links, labels)?,
+        };
+        assert!(rt; book.take(*shard, answer).is_ok());
+    }
+    assert!(rt; book.missing() == 0);
+    Ok(book.close())
+}
+
+// What the judge says of an answer for shard 0, of this round and shard and with these offers.
+fn judged(
+    rt: &impl Abort,
+    alloc: Global,
+    book: &RoundBook,
+    round: u32,
+    shard: u32,
+    pairs: &[(u32, u32)],
+) -> Result<Result<(), Refusal>, AllocError> {
+    assert!(rt; 0 < book.len());
+    let answer = answer(rt, alloc, round, shard, pairs)?;
+    Ok(book.judge(0, &answer))
+}
+
+#[test]
+fn judged_answers(rt: HostRuntime) -> Result<(), Fail> {
+    let alloc = rt.alloc();
+    let links = links_of(alloc, 3, EQUAL_WEIGHTS.arcs)?.expect(&rt, "arcs");
+    assert!(rt; links.len() <= 1 << 30);
+    let cut = Cut::even(alloc, links.as_slice(), 1).expect(&rt, "a cut");
+    let labels = Labels::apart(alloc, 3)?;
+    assert!(rt; all_have_labels(&cut, labels.n()));
+    let mut book = RoundBook::open(alloc, 1, &cut, &labels)?;
+    assert!(rt; 0 < book.len());
+    assert!(rt; book.is_missing(0));
+    let light = [(1, 0), (2, 0), (3, 2)];
+    assert_eq!(rt;
+        judged(&rt, alloc, &book, 2, 7, &[(1, 9)])?,
+        Err(Refusal::Stale)
+    );
+    assert_eq!(rt;
+        judged(&rt, alloc, &book, 1, 7, &[(1, 9)])?,
+        Err(Refusal::Stranger)
+    );
+    assert_eq!(rt;
+        judged(&rt, alloc, &book, 1, 0, &[(1, 3)])?,
+        Err(Refusal::NotALink)
+    );
+    assert_eq!(rt;
+        judged(&rt, alloc, &book, 1, 0, &[(1, 1)])?,
+        Err(Refusal::NotALink)
+    );
+    assert_eq!(rt; judged(&rt, alloc, &book, 1, 0, &[])?, Ok(()));
+    assert_eq!(rt; judged(&rt, alloc, &book, 1, 0, &light)?, Ok(()));
+    let heavier = [(1, 0), (2, 0), (3, 1)];
+    assert_eq!(rt; judged(&rt, alloc, &book, 1, 0, &heavier)?, Ok(()));
+    let first = answer(&rt, alloc, 1, 0, &light)?;
+    assert_eq!(rt; book.take(0, first), Ok(()));
+    assert!(rt; 0 < book.len());
+    assert!(rt; !book.is_missing(0));
+    assert_eq!(rt;
+        judged(&rt, alloc, &book, 1, 0, &light)?,
+        Err(Refusal::Double)
+    );
+    Ok(())
+}
+
+// In the path's first round each vertex picks the link to its neighbour, once its three shards have answered in this
+// order.
+fn expect_pairs(rt: &impl Abort, alloc: Global, order: [u32; 3]) -> Result<(), Fail> {
+    let links = links_of(alloc, 8, A_PATH_OF_EIGHT.arcs)?.expect(rt, "arcs");
+    assert!(rt; links.len() <= 1 << 30);
+    let cut = Cut::even(alloc, links.as_slice(), 3).expect(rt, "a cut");
+    let labels = Labels::apart(alloc, 8)?;
+    let picks = picks_of_scans(rt, alloc, &cut, 1, &labels, &order)?;
+    assert!(rt; labels.n() == 8);
+    for pair in 0..4 {
+        let link = Link::of_arc(2 * pair + 1, 2 * pair + 2, 1);
+        assert_eq!(rt; picks.of(2 * pair + 1), link);
+        assert_eq!(rt; picks.of(2 * pair + 2), link);
+    }
+    assert!(rt; !picks.is_empty());
+    Ok(())
+}
+
+#[test]
+fn answers_in_any_order(rt: HostRuntime) -> Result<(), Fail> {
+    let alloc = rt.alloc();
+    expect_pairs(&rt, alloc, [0, 1, 2])?;
+    expect_pairs(&rt, alloc, [0, 2, 1])?;
+    expect_pairs(&rt, alloc, [1, 0, 2])?;
+    expect_pairs(&rt, alloc, [1, 2, 0])?;
+    expect_pairs(&rt, alloc, [2, 0, 1])?;
+    expect_pairs(&rt, alloc, [2, 1, 0])?;
+    Ok(())
+}
+
+// What several threads may read at once.
+fn lent<B: Sync>(_book: &B) {}
+
+#[test]
+fn a_book_is_lent_to_threads(rt: HostRuntime) -> Result<(), Fail> {
+    let alloc = rt.alloc();
+    let cut = Cut::even(alloc, &[], 2).expect(&rt, "a cut");
+    let labels = Labels::apart(alloc, 1)?;
+    assert!(rt; all_have_labels(&cut, labels.n()));
+    let book = RoundBook::open(alloc, 1, &cut, &labels)?;
+    lent(&book);
+    assert_eq!(rt; book.missing(), 2);
+    Ok(())
+}
