@@ -1,6 +1,6 @@
 -- What was said and heard so far, ask by ask, and what a faithful line answers.
-use Rattle.std.proofs.Common.{◌≡◌, ◌≢◌, ℕ, ◌+◌, ◌<◌, List, [], ◌∷◌, ◌++◌, length, drop, Some, refl, sym, ap, subst, ◌∙◌, append_assoc, append-nil, ⊎_elim, inl, inr, arith, eq-eqb, ne_eqb}
-use Rattle.std.specs.Prelude.{Option, None, Bool, true, false, ◌||◌, ◌==◌, if◌then◌else◌, map}
+use Rattle.std.proofs.Common.{◌≡◌, ◌≢◌, ℕ, ◌<◌, List, [], ◌∷◌, ◌++◌, length, drop, Some, refl, sym, ap, subst, ◌∙◌, append_assoc, append-nil, ⊎_elim, inl, inr, arith, eq-eqb, ne_eqb}
+use Rattle.std.specs.Prelude.{Option, None, Bool, true, false, ◌||◌, if◌then◌else◌, map}
 use Rattle.std.proofs.lemmas.Bool.{cases_eq}
 use Rattle.std.proofs.lemmas.List.{map-append, length-append, length-map}
 use Rattle.byte_streams.proofs.Streaming.{appends-told}
@@ -11,15 +11,15 @@ use Rattle.link_key.specs.Cut.{links_at}
 use Rattle.frames.specs.AnswerValue.{AnswerValue}
 use Rattle.frames.specs.FrameValue.{FrameValue, HelloFrame, ShardFrame, AskFrame, AnswerFrame, FaultFrame}
 use Rattle.frames.specs.FrameText.{text_of}
-use Rattle.frames.specs.Lawful.{IsLawful, IsShard, IsAsk, IsAnswer}
-use Rattle.frames.specs.FrameStream.{texts_of, AreLawful, AreFramesOf}
-use Rattle.worker_engine.specs.Serving.{Shelf, empty_shelf, shelf_after, MayReply, AreReplies, Serves, asks_in}
+use Rattle.frames.specs.Lawful.{IsLawful, IsShard, IsAsk}
+use Rattle.frames.specs.FrameStream.{texts_of, AreLawful}
+use Rattle.worker_engine.specs.Serving.{Shelf, empty_shelf, shelf_after, MayReply, AreReplies, asks_in}
 use Rattle.frames.proofs.FrameStreams.{texts-append, lawful-append, lawful_back, prefix_of_frames, only_frames_of_texts}
 use Rattle.worker_engine.proofs.Replying.{asks-append, shelf_after-append, last_reply, served_lawful}
 use Rattle.ports.specs.declared.fault.PortFault.{PortFault}
 use Rattle.ports.specs.declared.fault.PortFault.TheVariants.{Down, Garbled, WrongHello, Gave, Memory, Closed}
 use Rattle.shard_set.specs.Shards.{has_shard}
-use Rattle.ports.specs.Lines.{LineState, ServesSoFar, Went}
+use Rattle.ports.specs.Lines.{ServesSoFar}
 use Rattle.ports.specs.Causes.{IsNoReply, Came, Cause, IsBlameless}
 use Rattle.ports.specs.Ports.{IsHonestAnswer}
 use Rattle.ports.specs.Talking.{Talk, hello_once, shard_once, frames_put, AskBrought, Asked, frames_got, HasGiven, IsInStep}

@@ -1,12 +1,10 @@
 -- What is left of the bytes that came to a session.
-use Rattle.std.proofs.Common.{◌≡◌, ℕ, ◌+◌, ◌≤◌, List, [], ◌++◌, length, take, drop, append-nil, refl, sym, ap, subst, ◌∙◌, append_assoc, arith}
+use Rattle.std.proofs.Common.{◌≡◌, ℕ, ◌≤◌, List, [], ◌++◌, length, take, drop, append-nil, sym, ap, subst, ◌∙◌, append_assoc, arith}
 use Rattle.std.proofs.lemmas.List.{drop-append-le, take-append-le, length-append}
-use Rattle.std.proofs.Math.Seq.{take-add}
 use Rattle.ports.specs.EngineLines.{EngineLineState, IsEngineLine, Grew}
 use Rattle.std.specs.Prelude.{Bool, true, false, Result, Ok, Err, IfOk, OnOk}
-use Rattle.frames.specs.FrameValue.{FrameValue, HelloFrame}
+use Rattle.frames.specs.FrameValue.{HelloFrame}
 use Rattle.frames.specs.FrameText.{text_of}
-use Rattle.worker_engine.specs.Serving.{Kept, Shelf, empty_shelf, shelf_of}
 use Rattle.worker_engine.proofs.Sessions.{session_starts}
 use Rattle.frames.specs.Refusals.{StreamRefused}
 use Rattle.frames.specs.declared.fault.FrameFault.{FrameFault}

@@ -1,5 +1,5 @@
 -- What was sent and got over several calls.
-use Rattle.std.proofs.Common.{◌≡◌, ℕ, ◌+◌, List, [], ◌++◌, refl, ap, ◌∙◌, append-nil, subst, inl, inr, arith}
+use Rattle.std.proofs.Common.{ℕ, ◌+◌, List, [], ◌++◌, append-nil, subst, inl, inr, arith}
 use Rattle.std.proofs.KnownBytes.{Appends-nil, Appends-trans}
 use Rattle.ports.specs.Lines.{LineState, HasRoom, Went}
 use Rattle.ports.specs.Causes.{WentDown, Came}

@@ -1,9 +1,9 @@
 -- What reads of a line say, as facts on the line.
-use Rattle.std.proofs.Common.{◌≡◌, ℕ, ◌+◌, ◌≤◌, List, [], refl, inl, inr, arith}
-use Rattle.std.specs.Prelude.{Option, Some, Result, Ok, Err, IfOk, IfErr}
+use Rattle.std.proofs.Common.{◌≡◌, ℕ, List, [], inl, inr, arith}
+use Rattle.std.specs.Prelude.{Result, Ok, Err, IfOk, IfErr}
 use Rattle.std.specs.Io.KnownBytes.{Appends}
 use Rattle.byte_streams.specs.Streams.{Gave}
-use Rattle.frames.specs.FrameValue.{FrameValue, value_of}
+use Rattle.frames.specs.FrameValue.{value_of}
 use Rattle.frames.specs.declared.frame.Frame.{Frame}
 use Rattle.frames.specs.FrameText.{text_of}
 use Rattle.frames.specs.ReadFault.{IsReadRefused, failures_of, ends_of}

@@ -1,6 +1,6 @@
 -- One ask, from its steps.
-use Rattle.std.proofs.Common.{◌≡◌, ℕ, List, [], ◌∷◌, ◌++◌, sym, ap, subst, ◌∙◌, append-nil, inl, inr}
-use Rattle.std.specs.Prelude.{Result, Ok, Err, IfOk, IfErr, Bool, true, ◌||◌, ◌==◌}
+use Rattle.std.proofs.Common.{◌≡◌, ℕ, List, [], ◌∷◌, ◌++◌, sym, ap, subst, ◌∙◌, append-nil, inr}
+use Rattle.std.specs.Prelude.{Result, Ok, Err, IfOk, IfErr, true, ◌||◌, ◌==◌}
 use Rattle.link_key.specs.declared.links.Link.{Link}
 use Rattle.link_key.specs.Cut.{links_at}
 use Rattle.frames.specs.AnswerValue.{AnswerValue}
@@ -13,7 +13,7 @@ use Rattle.ports.specs.declared.fault.PortFault.{PortFault}
 use Rattle.ports.specs.declared.fault.PortFault.TheVariants.{Down, Garbled, WrongHello, Gave, Memory, Closed}
 use Rattle.shard_set.specs.Shards.{has_shard}
 use Rattle.ports.specs.Lines.{LineState, Went}
-use Rattle.ports.specs.Talking.{Talk, hello_once, shard_once, frames_put, AskBrought, Asked}
+use Rattle.ports.specs.Talking.{Talk, hello_once, shard_once, frames_put, Asked}
 use Rattle.ports.specs.Causes.{Came, AnswerFault, Cause, InReply}
 use Rattle.ports.proofs.Going.{went_then, then_came, went_then_down}
 

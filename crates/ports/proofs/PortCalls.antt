@@ -1,6 +1,5 @@
 -- Calls of a port, one after the other.
-use Rattle.std.proofs.Common.{◌≡◌, ℕ, ◌+◌, ◌∙◌, refl, true, false, arith}
-use Rattle.std.specs.Prelude.{Bool}
+use Rattle.std.proofs.Common.{ℕ, ◌+◌, ◌∙◌, refl, arith}
 use Rattle.ports.specs.Ports.{PortState, PortWent}
 
 -- no call at all

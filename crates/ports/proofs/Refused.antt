@@ -1,11 +1,10 @@
 -- Bad bytes, whatever follows them.
-use Rattle.std.proofs.Common.{◌≡◌, ℕ, ◌≤◌, List, [], ◌∷◌, ◌++◌, length, refl, sym, ap, subst, arith}
+use Rattle.std.proofs.Common.{◌≡◌, ℕ, ◌≤◌, List, [], ◌∷◌, ◌++◌, length, refl, ap, arith}
 use Rattle.std.proofs.lemmas.List.{length-append}
 use Rattle.frames.specs.FrameValue.{FrameValue}
-use Rattle.frames.specs.FrameText.{text_of}
 use Rattle.frames.specs.Refusals.{StreamRefused}
 use Rattle.frames.specs.declared.fault.FrameFault.{FrameFault}
-use Rattle.frames.specs.declared.fault.FrameFault.TheVariants.{BadKind, BadLength, BadField, BadVersion, Ended, Torn, Device, Memory}
+use Rattle.frames.specs.declared.fault.FrameFault.TheVariants.{BadKind, BadLength, BadField, BadVersion}
 use Rattle.frames.specs.FrameStream.{texts_of, AreLawful, BeginsNone, IsTelling}
 use Rattle.frames.specs.ReadFault.{ends_of}
 use Rattle.frames.proofs.FrameStreams.{refused_begins_none}

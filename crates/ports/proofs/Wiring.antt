@@ -8,7 +8,7 @@ use Rattle.frames.specs.AnswerValue.{AnswerValue}
 use Rattle.frames.specs.Lawful.{IsShard, IsAsk}
 use Rattle.ports.specs.declared.fault.PortFault.{PortFault}
 use Rattle.shard_set.specs.Shards.{has_shard}
-use Rattle.ports.specs.Lines.{LineState, IsFresh, Tells, ServesSoFar}
+use Rattle.ports.specs.Lines.{IsFresh, Tells, ServesSoFar}
 use Rattle.ports.specs.Ports.{IsHonestAnswer}
 use Rattle.ports.specs.Causes.{Cause, IsBlameless}
 use Rattle.ports.specs.Talking.{Talk, frames_put, Asked, IsInStep}

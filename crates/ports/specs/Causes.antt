@@ -1,6 +1,6 @@
 -- Why a wire gives no answer.
-use Rattle.std.specs.Prelude.{◌≡◌, ◌≢◌, ℕ, ◌+◌, ◌⊎◌, ⊤, Bool, true, false, List, [], ◌++◌}
-use Rattle.frames.specs.FrameValue.{FrameValue, HelloFrame, ShardFrame, AskFrame, AnswerFrame, FaultFrame}
+use Rattle.std.specs.Prelude.{◌≡◌, ◌≢◌, ℕ, ◌+◌, ◌⊎◌, ⊤, false, List, []}
+use Rattle.frames.specs.FrameValue.{FrameValue, HelloFrame, AnswerFrame, FaultFrame}
 use Rattle.frames.specs.FrameText.{text_of}
 use Rattle.frames.specs.FrameStream.{texts_of}
 use Rattle.link_key.specs.Cut.{links_at}

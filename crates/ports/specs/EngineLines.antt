@@ -1,5 +1,5 @@
 -- A line to an engine in memory.
-use Rattle.std.specs.Prelude.{◌≡◌, ℕ, List, [], ◌++◌, take, drop, Bool, true, false, Some}
+use Rattle.std.specs.Prelude.{◌≡◌, ℕ, List, ◌++◌, take, drop, Bool, true, Some}
 use Rattle.frames.specs.FrameStream.{BeginsNone}
 use Rattle.worker_engine.specs.Serving.{Kept, shelf_of}
 use Rattle.worker_engine.specs.Session.{InSession}

@@ -1,5 +1,5 @@
 -- The laws of lines: what each may say of its bytes.
-use Rattle.std.proofs.Common.{◌≡◌, ℕ, ◌+◌, List, ◌++◌, take, drop, sym, ap, subst, ◌∙◌, take-append-drop, arith}
+use Rattle.std.proofs.Common.{◌≡◌, ℕ, List, ◌++◌, take, drop, sym, ap, subst, ◌∙◌, take-append-drop, arith}
 use Rattle.worker_engine.specs.Serving.{shelf_of, Serves}
 use Rattle.worker_engine.proofs.Sessions.{session_serves}
 use Rattle.ports.specs.Lines.{LineState, ServesSoFar}

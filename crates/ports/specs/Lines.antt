@@ -1,5 +1,5 @@
 -- What a line tells of itself, what a call does to it, and what a faithful line gives.
-use Rattle.std.specs.Prelude.{◌≡◌, ℕ, ◌+◌, ◌-◌, ◌<◌, ◌≤◌, ◌^◌, List, [], ◌++◌, take, Option, Some, IfSome, IsSome, Result, Ok, Err}
+use Rattle.std.specs.Prelude.{◌≡◌, ℕ, ◌+◌, ◌-◌, ◌<◌, ◌^◌, List, [], ◌++◌, take, Option, Some, IfSome, IsSome, Result, Ok, Err}
 use Rattle.std.specs.Io.KnownBytes.{Appends}
 use Rattle.worker_engine.specs.Serving.{Serves}
 use Rattle.ports.specs.declared.fault.LineFault.{LineFault}

@@ -1,5 +1,5 @@
 -- Lines for tests: one that stops at a chosen call or byte, and one that plays stored bytes.
-use Rattle.std.specs.Prelude.{◌≡◌, ℕ, zero, suc, ◌+◌, ◌-◌, ◌==◌, min, Bool, true, false, List, [], ◌++◌, length, take, drop, Some, None, Result, Ok, Err, if◌then◌else◌}
+use Rattle.std.specs.Prelude.{◌≡◌, ℕ, ◌+◌, ◌-◌, ◌==◌, min, Bool, false, List, [], ◌++◌, take, drop, Some, None, Result, Ok, Err, if◌then◌else◌}
 use Rattle.std.specs.Io.{ReadsAtMost}
 use Rattle.ports.specs.declared.fused.Fuse.{Fuse}
 use Rattle.ports.specs.declared.fused.Fuse.TheVariants.{Calls, Bytes}

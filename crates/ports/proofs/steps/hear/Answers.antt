@@ -1,5 +1,4 @@
-use Rattle.std.proofs.Common.{◌≡◌, ℕ, ◌≤◌, [], arith}
-use Rattle.std.specs.Io.KnownBytes.{Appends}
+use Rattle.std.proofs.Common.{arith}
 use Rattle.std.proofs.KnownBytes.{Appends-nil}
 use Rattle.ports.specs.Lines.{LineState}
 use Rattle.ports.specs.Hearing.{WasSent, ServesFor}

@@ -1,6 +1,6 @@
 -- The session goes on with what it heard so far, of the bytes that came before.
 use Rattle.std.proofs.Common.{◌≡◌, ◌-◌, ◌≤◌, length}
-use Rattle.ports.specs.EngineLines.{SessionState, GoesOn, Grew}
+use Rattle.ports.specs.EngineLines.{GoesOn, Grew}
 use Rattle.ports.proofs.session.Session.hear_all.Given as goal
 
 abbrev pub invariant-loop-frame : goal.invariant-loop-frame
