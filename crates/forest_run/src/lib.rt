@@ -4,8 +4,8 @@
 //!
 //! - A round ends with an answer for each shard in its book, or with want of memory. Each answer is one that a port
 //!   gave, or the coordinator's own scan; it scans itself only where no port is open.
-//! - A port is closed only where an ask of it failed or found no memory, or where the book refuses an answer of it. The
-//!   answer of an honest port is never refused.
+//! - An honest port is closed only where an ask of it failed or found no memory: no answer of it is refused. Of any port it
+//!   is told that one was closed for such a fault, or since an answer of it was refused; not yet for which shard.
 //! - The counts: the asks of all ports and the ports that are open add up, before and after, with the answers taken.
 //! - What the ports give decides which answers these are; no clause speaks of an order.
 //!
