@@ -73,6 +73,12 @@ apart_is labels l other = ap not (ne_eqb (label_of labels l.low) (label_of label
 pub not_apart_is : (labels : List ℕ) (l : Link) → label_of labels l.low ≡ label_of labels l.high → is_apart labels l ≡ false
 not_apart_is labels l same = ap not (eq-eqb (label_of labels l.low) (label_of labels l.high) same)
 
+-- so none leaves a label
+pub none_leave : (labels : List ℕ) (links : List Link) → missed labels links ≡ None → (l : Link) (c : ℕ) → Contains links l → ¬ (Leaves labels l c)
+none_leave labels links none l c l_in leaves =
+    let wrong : false ≡ true = sym (not_apart labels links l none l_in) ∙ apart_is labels l (leaves_apart labels l c leaves) in
+    absurd (cc)
+
 -- the ends of a cut's links are vertices, joined together too
 pub joined_ends : (n : ℕ) (cut : List (List Link)) → All (EndsUpTo n) cut → EndsUpTo n (joined cut)
 joined_ends n cut ends i d lt =
@@ -90,13 +96,8 @@ finished p cut forest is ends none moved up = record {
   same = same;
   no_cycle = no_cycle_part (Contains forest) (Contains p.taken) (λ l. (same l).0) is.no_cycle;
   spans = λ u v joins. joins_more (Contains p.taken) (Contains forest) (λ l. (same l).1) u v
-      ((spans_where_none_leaves (vertices p) (joined cut) (Contains p.taken) p.labels (joined_ends (vertices p) cut ends) is.labelling).1 stays u v joins);
+      ((spans_where_none_leaves (vertices p) (joined cut) (Contains p.taken) p.labels (joined_ends (vertices p) cut ends) is.labelling).1 (none_leave p.labels (joined cut) none) u v joins);
 }
   where
     same : SameLinks (Contains forest) (Contains p.taken)
     same l = (Contains-permutation forest p.taken l (IsPermutation-sym p.taken forest moved), Contains-permutation p.taken forest l moved)
-
-    stays : (l : Link) (c : ℕ) → Contains (joined cut) l → ¬ (Leaves p.labels l c)
-    stays l c l_in leaves =
-        let wrong : false ≡ true = sym (not_apart p.labels (joined cut) l none l_in) ∙ apart_is p.labels l (leaves_apart p.labels l c leaves) in
-        absurd (cc)

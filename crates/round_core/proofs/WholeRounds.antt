@@ -1,5 +1,5 @@
 -- Rounds by the least links of a whole list, until one picks nothing.
-use Rattle.std.proofs.Common.{◌≡◌, ◌≢◌, ℕ, zero, suc, ◌+◌, ◌-◌, ◌<◌, ◌≤◌, ◌^◌, ◌⊎◌, max, Bool, true, false, not, cond, List, [], ◌∷◌, ◌++◌, length, get_or, Contains, Some, None, refl, sym, ap, ◌∙◌, subst, inl, inr, arith, add-one, eq-eqb}
+use Rattle.std.proofs.Common.{◌≡◌, ◌≢◌, ℕ, zero, suc, ◌+◌, ◌-◌, ◌<◌, ◌≤◌, ◌^◌, ◌⊎◌, ◌↔◌, max, Bool, true, false, not, cond, List, [], ◌∷◌, ◌++◌, length, get_or, Contains, Some, None, refl, sym, ap, ◌∙◌, subst, inl, inr, arith, add-one, eq-eqb}
 use Rattle.std.specs.Prelude.{Option, All}
 use Rattle.std.proofs.lemmas.Bool.{cases_eq, cases_lt}
 use Rattle.std.proofs.lemmas.List.{get_or_default}
@@ -9,14 +9,15 @@ use Rattle.link_key.specs.Link.{EndsUpTo}
 use Rattle.link_key.specs.Labels.{label_of, AreLabels, AreApart}
 use Rattle.link_key.specs.Forest.{IsForestLink, IsForestOf}
 use Rattle.link_key.proofs.Members.{contains_none, contains_head, contains_tail}
-use Rattle.round_theory.specs.LinkSet.{LinkSet, SameLinks}
+use Rattle.round_theory.specs.LinkSet.{LinkSet, IsPartOf, SameLinks}
 use Rattle.round_theory.specs.Labelling.{IsVertex, IsLabelling}
 use Rattle.round_theory.specs.Offers.{Leaves, IsLeastLeaving, IsPick}
 use Rattle.round_theory.specs.Rounds.{AreRoundPicks, TakenAfter, IsMergingRounds}
+use Rattle.round_theory.proofs.Forests.{spanning_part_is_forest}
 use Rattle.round_theory.proofs.Labels.{labelling_alike, labelling_is_labels}
 use Rattle.round_theory.proofs.Leaving.{leaves_low, least_leaving_unique}
 use Rattle.round_theory.proofs.OfferSteps.{left_label_is_vertex}
-use Rattle.round_theory.proofs.Rounds.{round_by_round, adds_nothing, round_in_time, forest_from_then_on}
+use Rattle.round_theory.proofs.Rounds.{adds_nothing, rounds_in_forest, round_in_time}
 use Rattle.round_theory.proofs.RoundSteps.{AreRoundsSoFar, nothing_taken, round_adds, rounds_end, taken_more}
 use Rattle.round_core.specs.Picks.{pick_of, Picked, IsPickOf, ArePicks, AreNoPicks}
 use Rattle.round_core.specs.Solver.{Progress, vertices, IsProgress, IsAtStart, IsPastBound, IsMerged, IsTurn, IsStepFault, is_apart, missed, IsFinished, IsFinishFault, HasRoundsOf, IsOneRoundMore, IsRoundOf}
@@ -25,7 +26,7 @@ use Rattle.round_core.specs.declared.solver.Turn.TheVariants.{Merged, Done}
 use Rattle.round_core.specs.declared.solver.SolveFault.{SolveFault}
 use Rattle.round_core.specs.declared.solver.SolveFault.TheVariants.{Rounds, Missed, Memory}
 use Rattle.round_core.proofs.Picking.{picked_within, picked_there, place_of}
-use Rattle.round_core.proofs.Missing.{apart_is}
+use Rattle.round_core.proofs.Missing.{none_leave}
 
 -- what is picked of a list are its picks
 module _ (labels : List ℕ) (links : List Link) (picks : List (Option Link)) (are_labels : AreLabels labels) (ends : EndsUpTo (length labels) links) (are : ArePicks labels (Contains links) picks) where
@@ -128,8 +129,8 @@ module _ (links : List Link) (p : Progress) (picks : List (Option Link)) (is : I
           none_at i d lt = none (get_or picks i d) (i, lt, get_or_default picks i (get_or picks i d) d lt)
 
 -- before the first round
-pub at_first : (n : ℕ) (links : List Link) (p : Progress) → IsAtStart n p → HasRoundsOf links p
-at_first n links p start = record {
+pub at_first : (links : List Link) (n : ℕ) (p : Progress) → IsAtStart n p → HasRoundsOf links p
+at_first links n p start = record {
   same = rw (start.taken, start.rounds) (nothing_taken (vertices p) links);
   earlier = λ k lt. absurd (omega (arith, lt, start.rounds));
 }
@@ -150,27 +151,33 @@ missed_is labels (x ∷ links) l found = by_test (is_apart labels x) refl (misse
         )
     by_test false is rest = let (l_in, apart) = rest (ap (λ b. cond b (Some x) (missed labels links)) (sym is) ∙ found) in (contains_tail x l links l_in, apart)
 
--- once all rounds are done no link is missed, and the links taken are the forest
-module _ (links : List Link) (p : Progress) (is : IsProgress p) (ends : EndsUpTo (vertices p) links) (so_far : HasRoundsOf links p) (all : IsMergingRounds (vertices p) links p.rounds) where
-  pub none_missed : (fault : SolveFault) → IsFinishFault p links fault → fault ≡ Memory
-  none_missed Memory refused = refl
-  none_missed (Rounds round) refused = absurd refused
-  none_missed (Missed l) refused =
-      let (l_in, apart) = missed_is p.labels links l refused in
-      let stays = (adds_nothing (vertices p) links ends p.rounds p.labels (labelling_alike (vertices p) (Contains p.taken) (TakenAfter (vertices p) links p.rounds) p.labels so_far.same is.labelling)).0 all.still in
-      absurd (stays l (label_of p.labels l.low) l_in (leaves_low p.labels l apart))
+-- what is left after so many rounds
+module _ (links : List Link) (p : Progress) (is : IsProgress p) (ends : EndsUpTo (vertices p) links) (so_far : HasRoundsOf links p) where
+  still : SameLinks (TakenAfter (vertices p) links (suc p.rounds)) (TakenAfter (vertices p) links p.rounds) ↔ ((l : Link) (c : ℕ) → Contains links l → ¬ (Leaves p.labels l c))
+  still = adds_nothing (vertices p) links ends p.rounds p.labels (labelling_alike (vertices p) (Contains p.taken) (TakenAfter (vertices p) links p.rounds) p.labels so_far.same is.labelling)
 
-  pub is_forest : (forest : List Link) → IsFinished p links forest → IsForestOf links forest
-  is_forest forest finished = record { ascending = finished.ascending; exact = exact }
-    where
-      taken : SameLinks (TakenAfter (vertices p) links p.rounds) (IsForestLink links)
-      taken = forest_from_then_on (vertices p) links ends p.rounds all p.rounds (omega arith)
+  none_is : IsMergingRounds (vertices p) links p.rounds → (found : Option Link) → missed p.labels links ≡ found → missed p.labels links ≡ None
+  none_is all None is_none = is_none
+  none_is all (Some l) is_l = let (l_in, apart) = missed_is p.labels links l is_l in absurd (still.0 all.still l (label_of p.labels l.low) l_in (leaves_low p.labels l apart))
 
-      exact : SameLinks (Contains forest) (IsForestLink links)
-      exact l = (
-        λ l_in. (taken l).0 ((so_far.same l).0 ((finished.same l).0 l_in)),
-        λ in_forest. (finished.same l).1 ((so_far.same l).1 ((taken l).1 in_forest)),
-      )
+  -- no link is missed just where all rounds are done
+  pub none_missed : (missed p.labels links ≡ None) ↔ IsMergingRounds (vertices p) links p.rounds
+  none_missed = (
+    λ none. record { still = still.1 (none_leave p.labels links none); first = so_far.earlier },
+    λ all. none_is all (missed p.labels links) refl,
+  )
+
+  pub finish_only_memory : IsMergingRounds (vertices p) links p.rounds → (fault : SolveFault) → IsFinishFault p links fault → fault ≡ Memory
+  finish_only_memory all Memory refused = refl
+  finish_only_memory all (Rounds round) refused = absurd refused
+  finish_only_memory all (Missed l) refused = let none = none_missed.1 all in absurd (cc)
+
+-- rounds take links of the forest alone, so where they span they are the forest
+pub is_forest : (links : List Link) (p : Progress) → HasRoundsOf links p → (forest : List Link) → IsFinished p links forest → IsForestOf links forest
+is_forest links p so_far forest finished = record { ascending = finished.ascending; exact = spanning_part_is_forest links (Contains forest) part finished.spans }
+  where
+    part : IsPartOf (Contains forest) (IsForestLink links)
+    part l l_in = rounds_in_forest (vertices p) links p.rounds l ((so_far.same l).0 ((finished.same l).0 l_in))
 
 -- a round without picks leaves the solver as it was
 pub record IsEnded (n : ℕ) (links : List Link) (p : Progress) : Type 0 where

@@ -2,3 +2,4 @@ pub mod Picks
 pub mod Page
 pub mod Hooks
 pub mod Solver
+pub mod SolverLaws

@@ -5,7 +5,7 @@ use Rattle.link_key.specs.Cut.{joined}
 use Rattle.round_theory.specs.Rounds.{IsMergingRounds}
 use Rattle.round_core.specs.Solver.{Progress, vertices}
 use Rattle.round_core.proofs.Missing.{joined_ends}
-use Rattle.round_core.proofs.WholeRounds.{ended, none_missed, is_forest}
+use Rattle.round_core.proofs.WholeRounds.{ended, finish_only_memory, is_forest}
 use Rattle.round_core.proofs.alone.solve_alone.Goals as goal
 
 pub returns-in_err-forest-clause-fault : goal.returns-in_err-forest-clause-fault
@@ -15,15 +15,14 @@ returns-in_err-forest-clause-fault g c =
     let end = ended c.args.n links c.rounds.solver p c.in_ok-go_round.field-0 c.rounds.invariant.same_vertices c.rounds.invariant.so_far c.in_default.is c.in_ok-go_round.ensures.round in
     let ends : EndsUpTo (vertices p) links = subst (λ n. EndsUpTo n links) (sym end.same_vertices) (joined_ends c.args.n c.args.cut.now c.requires.ends) in
     let told = err_from_is_err_and c.from_residual-in_err-forest.result c.from_residual-in_err-forest.ensures.1 in
-    rw (told.1, told.2) (none_missed links p c.round-rounds.ensures.progress ends end.so_far end.all c.in_err-forest.field-0.0 c.in_err-forest.ensures.fault)
+    rw (told.1, told.2) (finish_only_memory links p c.round-rounds.ensures.progress ends end.so_far end.all c.in_err-forest.field-0.0 c.in_err-forest.ensures.fault)
 
 pub returns-clause-forest : goal.returns-clause-forest
 returns-clause-forest g c =
     let links = joined c.args.cut.now in
     let p : Progress = c.go_round.new.solver in
     let end = ended c.args.n links c.rounds.solver p c.in_ok-go_round.field-0 c.rounds.invariant.same_vertices c.rounds.invariant.so_far c.in_default.is c.in_ok-go_round.ensures.round in
-    let ends : EndsUpTo (vertices p) links = subst (λ n. EndsUpTo n links) (sym end.same_vertices) (joined_ends c.args.n c.args.cut.now c.requires.ends) in
-    is_forest links p c.round-rounds.ensures.progress ends end.so_far end.all c.in_ok-forest.forest c.in_ok-forest.ensures.forest
+    is_forest links p end.so_far c.in_ok-forest.forest c.in_ok-forest.ensures.forest
 
 pub returns-clause-rounds : goal.returns-clause-rounds
 returns-clause-rounds g c =
