@@ -28,15 +28,15 @@ mod encoding;
 mod fault;
 mod fields;
 mod frame;
+mod frame_reader;
 mod head;
 mod items;
 mod lawful;
 pub mod laws;
-mod frame_reader;
 
 pub use decoding::decode_body;
 pub use encoding::{encode, encode_ask, encode_shard, fault_bytes};
 pub use fault::FrameFault;
 pub use frame::{Answer, Frame, Links};
-pub use head::{Head, decode_head};
 pub use frame_reader::read_frame;
+pub use head::{Head, decode_head};
