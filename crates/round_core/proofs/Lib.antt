@@ -10,3 +10,4 @@ pub mod Merging
 pub mod Missing
 pub mod Sorting
 pub mod WholeRounds
+pub mod Worked

@@ -1,18 +1,18 @@
 -- Rounds by the least links of a whole list, until one picks nothing.
-use Rattle.std.proofs.Common.{◌≡◌, ◌≢◌, ℕ, zero, suc, ◌+◌, ◌-◌, ◌<◌, ◌≤◌, ◌^◌, ◌⊎◌, ◌↔◌, max, Bool, true, false, not, cond, List, [], ◌∷◌, ◌++◌, length, get_or, Contains, Some, None, refl, sym, ap, ◌∙◌, subst, inl, inr, arith, add-one, eq-eqb}
-use Rattle.std.specs.Prelude.{Option, All}
-use Rattle.std.proofs.lemmas.Bool.{cases_eq, cases_lt}
+use Rattle.std.proofs.Common.{◌≡◌, ◌≢◌, ℕ, suc, ◌+◌, ◌-◌, ◌<◌, ◌≤◌, ◌^◌, ◌↔◌, Bool, true, false, not, cond, List, [], ◌∷◌, ◌++◌, length, get_or, Contains, Some, None, refl, sym, ap, ◌∙◌, subst, inl, inr, arith, eq-eqb}
+use Rattle.std.specs.Prelude.{Option}
+use Rattle.std.proofs.lemmas.Bool.{cases_lt}
 use Rattle.std.proofs.lemmas.List.{get_or_default}
 use Rattle.std.proofs.lemmas.List.Elements.{All-contains}
 use Rattle.link_key.specs.declared.links.Link.{Link}
 use Rattle.link_key.specs.Link.{EndsUpTo}
-use Rattle.link_key.specs.Labels.{label_of, AreLabels, AreApart}
+use Rattle.link_key.specs.Labels.{label_of, AreLabels}
 use Rattle.link_key.specs.Forest.{IsForestLink, IsForestOf}
 use Rattle.link_key.proofs.Members.{contains_none, contains_head, contains_tail}
-use Rattle.round_theory.specs.LinkSet.{LinkSet, IsPartOf, SameLinks}
-use Rattle.round_theory.specs.Labelling.{IsVertex, IsLabelling}
-use Rattle.round_theory.specs.Offers.{Leaves, IsLeastLeaving, IsPick}
-use Rattle.round_theory.specs.Rounds.{AreRoundPicks, TakenAfter, IsMergingRounds}
+use Rattle.round_theory.specs.LinkSet.{IsPartOf, SameLinks}
+use Rattle.round_theory.specs.Labelling.{IsVertex}
+use Rattle.round_theory.specs.Offers.{Leaves, IsPick}
+use Rattle.round_theory.specs.Rounds.{TakenAfter, IsMergingRounds}
 use Rattle.round_theory.proofs.Forests.{spanning_part_is_forest}
 use Rattle.round_theory.proofs.Labels.{labelling_alike, labelling_is_labels}
 use Rattle.round_theory.proofs.Leaving.{leaves_low, least_leaving_unique}
@@ -20,7 +20,7 @@ use Rattle.round_theory.proofs.OfferSteps.{left_label_is_vertex}
 use Rattle.round_theory.proofs.Rounds.{adds_nothing, rounds_in_forest, round_in_time}
 use Rattle.round_theory.proofs.RoundSteps.{AreRoundsSoFar, nothing_taken, round_adds, rounds_end, taken_more}
 use Rattle.round_core.specs.Picks.{pick_of, Picked, IsPickOf, ArePicks, AreNoPicks}
-use Rattle.round_core.specs.Solver.{Progress, vertices, IsProgress, IsAtStart, IsPastBound, IsMerged, IsTurn, IsStepFault, is_apart, missed, IsFinished, IsFinishFault, HasRoundsOf, IsOneRoundMore, IsRoundOf}
+use Rattle.round_core.specs.Solver.{Progress, vertices, IsProgress, IsAtStart, IsMerged, IsTurn, IsStepFault, is_apart, missed, IsFinished, IsFinishFault, HasRoundsOf, IsOneRoundMore, IsRoundOf}
 use Rattle.round_core.specs.declared.solver.Turn.{Turn}
 use Rattle.round_core.specs.declared.solver.Turn.TheVariants.{Merged, Done}
 use Rattle.round_core.specs.declared.solver.SolveFault.{SolveFault}

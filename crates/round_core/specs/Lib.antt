@@ -3,3 +3,4 @@ pub mod Page
 pub mod Hooks
 pub mod Solver
 pub mod SolverLaws
+pub mod Examples

@@ -23,10 +23,11 @@ use worker_engine::scan;
 /// These are Borůvka's rounds (1926): each component picks the least link that leaves it, and what the picks join is one
 /// component in the next round. The only error is want of memory.
 ///
-/// There are at most log2 n + 1 rounds, the last of which picks nothing. For m links in s shards a round costs O(m + s n)
-/// time, since each shard's scan has a table of the labels, and what [`hook_relabel`](crate::hook_relabel) does. Memory:
-/// 4 bytes a vertex for the labels, 16 for the picks, 8 for a scan's table and what `hook_relabel` takes, 12 bytes for
-/// each link taken, and 8 bytes for each offer of a round.
+/// There are at most log2 n + 1 rounds, the last of which picks nothing. For m links in s shards a round costs
+/// O(m + s n + n log n) time: each shard's scan has a table of the labels, and [`hook_relabel`](crate::hook_relabel) makes
+/// the new ones. Memory: a vertex takes 4 bytes for its label, 16 for its pick, 8 in a scan's table and what
+/// `hook_relabel` needs; a round 33 bytes a shard for its [book](RoundBook), 8 an offer, and 12 for each link that it
+/// picks; and each link taken 12 bytes, and at the end 12 more in the forest.
 pub fn solve_alone<A: Allocator + Copy>(
     alloc: A,
     n: u32,

@@ -18,8 +18,9 @@ use std::marker::Model;
 /// The book of a round: what was asked, and the answers taken so far, one for each shard of the cut.
 ///
 /// It believes no answer: what isn't of this round, for a shard that is missing, or offers what is no outgoing link is
-/// refused. It keeps the answers that it takes. Its own memory is 17 bytes a shard or more and 16 bytes a vertex, all
-/// of it got when it is opened.
+/// refused. It keeps the answers that it takes, with their offers. Its own memory is 33 bytes a shard (an answer without
+/// its offers, and whether it came), where the allocator has no size of its own, and 16 bytes a vertex, all of it got
+/// when it is opened.
 #[derive(Drop)]
 pub struct RoundBook<'a, A: Allocator = Global> {
     round: u32,

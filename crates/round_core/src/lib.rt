@@ -14,6 +14,10 @@
 //! - [`Solver::step`] takes each picked link once, and refuses a round with picks that comes past the bound; whatever was
 //!   offered, the links taken close no cycle, and the labels are the labelling by them;
 //! - [`Solver::finish`] gives the links taken where they span the links of a cut, and else the first link that they miss;
+//! - [`laws::step_by_least_is_round`]: where the picks are the least links of a whole list that leave each component, a step
+//!   is one more round over the list, and never past the bound;
+//! - [`laws::rounds_end_with_forest`]: the links of such steps miss no link of the list just where all merging rounds are
+//!   made, and are then its forest;
 //! - [`solve_alone`] scans the shards itself, and gives the minimum spanning forest and the number of merging rounds.
 //!
 //!     cut, labels  --open-->  RoundBook  --take, once a shard-->  RoundBook  --close-->  Picks
@@ -32,6 +36,7 @@
 
 pub mod alone;
 pub mod book;
+pub mod examples;
 pub mod hooks;
 pub mod laws;
 pub mod picks;

@@ -50,8 +50,9 @@ impl From<AllocError> for SolveFault {
 /// The links taken so far and the components that they make.
 ///
 /// Whatever was offered, the links that it takes close no cycle, and it is finished only where they span the links of a
-/// cut; where each pick was the least link that leaves its component, they are then the forest. It believes no count of
-/// rounds: a round with picks that comes past the bound is refused.
+/// cut; where each pick was the least link that leaves its component, they are then the forest, as
+/// [`laws::rounds_end_with_forest`](crate::laws::rounds_end_with_forest) says. It believes no count of rounds: a round with
+/// picks that comes past the bound is refused.
 ///
 /// 4 bytes a vertex, and 12 bytes for each link taken.
 #[derive(Drop)]

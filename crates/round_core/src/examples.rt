@@ -1,0 +1,31 @@
+//! Each law of a solver applied to a triangle, whose three links weigh the same.
+
+ghost use Rattle.round_core.specs.Examples.{TriangleBeforeRounds, FirstStepIsRound, FirstStepIsInTime, SecondStepIsLast, TriangleMissesNone, TwoSidesAreItsForest};
+
+use crate::laws;
+
+/// A solver of three vertices that are apart stands before the first round.
+pub fn start_of_triangle()
+    ensures { TriangleBeforeRounds }
+{
+    laws::start_is_before_rounds();
+}
+
+/// Its first step takes two links, which is a round, and its second one finds none to take.
+pub fn rounds_of_triangle()
+    ensures first { FirstStepIsRound }
+    ensures in_time { FirstStepIsInTime }
+    ensures last { SecondStepIsLast }
+{
+    laws::start_is_before_rounds();
+    laws::step_by_least_is_round();
+}
+
+/// Then no link of the triangle is missed, and the two that were taken are its forest.
+pub fn end_of_triangle()
+    ensures none_missed { TriangleMissesNone }
+    ensures forest { TwoSidesAreItsForest }
+{
+    rounds_of_triangle();
+    laws::rounds_end_with_forest();
+}
