@@ -46,6 +46,10 @@ frames_put talk round shard labels = shard_once (has_shard talk.sent shard) shar
 abbrev pub AskBrought : ℕ → ℕ → List ℕ → List ℕ → Talk → Talk → Type 0
 AskBrought round shard labels bytes before after = Went 0 0 (texts_of (frames_put before round shard labels)) (hello_once before.greeted before.worker ++ bytes) before.line after.line
 
+-- the same, and then the line ended
+abbrev pub AskEnded : ℕ → ℕ → List ℕ → List ℕ → Talk → Talk → Type 0
+AskEnded round shard labels bytes before after = Went 0 1 (texts_of (frames_put before round shard labels)) (hello_once before.greeted before.worker ++ bytes) before.line after.line
+
 -- an ask that was answered: its frames went out and no others, the hello came by now, the shard was sent by now, and the rest of the talk stands
 pub record Asked (round shard : ℕ) (labels : List ℕ) (answer : AnswerValue) (before after : Talk) : Type 0 where
   pub brought : AskBrought round shard labels (text_of (AnswerFrame answer)) before after
