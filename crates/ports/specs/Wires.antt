@@ -43,7 +43,7 @@ pub record IsNewWire {L : Type 0} (line : L) (cut : List (List Link)) (worker : 
 abbrev pub port_of : {L : Type 0} → WireState L → PortState
 port_of wire = record { cut = wire.talk.cut; is_open = wire.is_open; asks = wire.asks; failures = wire.failures; wants = wire.wants; last = wire.last }
 
--- while it is open its line sent asks and the shards that they name, and got the hello and one answer for each ask, and nothing else
+-- while it is open its line sent asks for shards of its cut, and each shard of its set once, and got the hello and one answer for each ask, and nothing else
 abbrev pub IsSound : Bool → Talk → Type 0
 IsSound is_open talk = is_open ≡ true → (said : List FrameValue) × (answers : List AnswerValue) × IsInStep talk said answers
 
