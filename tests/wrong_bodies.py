@@ -197,16 +197,17 @@ def why_unfit(edit, texts):
             return f"there is no file {change.file} of code"
     if applied(edit, texts) is None:
         return "an old text doesn't stand once in its file"
+    # each change is looked for where it is made: in what the earlier ones left, where its old text stands once
+    made = dict(texts)
     for change in edit.changes:
-        at = texts[change.file].find(change.old)
-        if at < 0:
-            # it stands in what an earlier change of this edit made
-            continue
-        inside = [it for it in functions_of(change.file, texts[change.file]) if it.begin <= at < it.end]
+        text = made[change.file]
+        at = text.find(change.old)
+        inside = [it for it in functions_of(change.file, text) if it.begin <= at < it.end]
         if not inside:
             edit.touched = set()
             return None
         edit.touched.add(max(inside, key=lambda it: it.begin).key)
+        made[change.file] = text.replace(change.old, change.new)
     return None
 
 
