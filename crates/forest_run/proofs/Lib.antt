@@ -10,3 +10,4 @@ pub mod Scanning
 pub mod Running
 pub mod Reporting
 pub mod Solving
+pub mod Ending

@@ -9,3 +9,4 @@ pub mod Scanned
 pub mod Rounds
 pub mod Runs
 pub mod Reports
+pub mod Solved

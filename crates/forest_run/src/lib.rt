@@ -2,15 +2,20 @@
 //!
 //! What is promised here:
 //!
+//! - A run that ends well has a forest of the cut's links that closes no cycle and spans them, whatever was answered, and
+//!   a report whose counts are equations. Where the coordinator scanned nothing, an answer that a lane kept names each
+//!   link of the forest. No promise is made here yet of what honest ports give.
 //! - A round ends with an answer for each shard in its book, or with want of memory. Each answer is one that a port
 //!   gave, or the coordinator's own scan; it scans itself only where no port is open.
 //! - A port is closed only where an ask of it failed or found no memory, or where the book refuses an answer of it. The
 //!   answer of an honest port is never refused.
 //! - The counts: the asks of all ports and the ports that are open add up, before and after, with the answers taken.
-//! - What the ports give decides which answers these are; no clause speaks of an order.
+//! - No clause speaks of the order in which answers come.
 //!
 //! ```text
-//!     whole_round          passes, then scan_missing for what no port answered
+//!     solve                rounds until one has no picks, and the forest
+//!      round_picks         a book, a whole round, the picks
+//!       whole_round        passes, then scan_missing for what no port answered
 //!        pass              room for the answers, a board, one ferry a lane with an open port, the answers into the book
 //!          deal            the board's seats into the lanes
 //!          cross           the ferries, in threads
@@ -24,7 +29,8 @@
 //! and no shard is in the lists of two seats.
 //!
 //! Where to start a change: `specs/Asks` says what asks do to a port, `specs/Passes` what passes do to all lanes and to the
-//! book, `specs/Rounds` what a round does. `proofs/AsksThen` and `proofs/Passing` compose them.
+//! book, `specs/Rounds` and `specs/Solved` what a round and a run do.
+//! `proofs/AsksThen`, `proofs/Passing` and `proofs/Running` compose them.
 #![tactic(auto)]
 
 mod cross;
@@ -33,10 +39,12 @@ mod lane;
 mod pass;
 mod report;
 mod round;
+mod run;
 mod scans;
 mod seats;
 mod taking;
 
 pub use lane::Lane;
-pub use report::{Report, report_of};
+pub use report::Report;
 pub use round::{round_picks, whole_round};
+pub use run::solve;
