@@ -7,7 +7,7 @@ use Rattle.std.proofs.lemmas.List.Elements.{All-append, Contains-append_left, Co
 use Rattle.link_key.specs.declared.links.Link.{Link}
 use Rattle.link_key.specs.Link.{EndsUpTo}
 use Rattle.frames.specs.AnswerValue.{AnswerValue}
-use Rattle.round_core.specs.Page.{Page, opened, heard, missing}
+use Rattle.round_core.specs.Page.{Page, IsPage, opened, heard, missing}
 use Rattle.ports.specs.Ports.{PortState}
 use Rattle.forest_run.specs.Lanes.{LaneState}
 use Rattle.forest_run.specs.Asks.{IsRefused, IsLight}
@@ -69,11 +69,11 @@ refused_still : (p q : Page) → SameRound p q → (t : AnswerValue) → IsRefus
 refused_still p q s t r = rw (s.cut, s.round, s.labels) r
 
 module _ {P : Type 0} (state : P → PortState) (honest sound : P → Type 0) (gave : P → List AnswerValue → Type 0) where
-  -- a round leaves the book's labels
-  pub labels_still : (round : ℕ) (cut : List (List Link)) (labels : List ℕ) (new : Page) (xs ys : List (LaneState P)) (k : ℕ)
-      → RoundWent state honest sound gave (opened round cut labels) new xs ys k → new.labels ≡ labels
-  labels_still round cut labels new xs ys k r =
-      (same_then (opened round cut labels) r.middle new (heard_same _ _ r.passes.answers r.passes.page) (heard_same _ _ r.scans.answers r.scans.page)).labels
+  -- a round leaves the book's round, cut and labels
+  pub same_still : (round : ℕ) (cut : List (List Link)) (labels : List ℕ) (new : Page) (xs ys : List (LaneState P)) (k : ℕ)
+      → RoundWent state honest sound gave (opened round cut labels) new xs ys k → SameRound (opened round cut labels) new
+  same_still round cut labels new xs ys k r =
+      same_then (opened round cut labels) r.middle new (heard_same _ _ r.passes.answers r.passes.page) (heard_same _ _ r.scans.answers r.scans.page)
 
 module _ {P : Type 0} (state : P → PortState) (honest sound : P → Type 0) (gave : P → List AnswerValue → Type 0) where
   pub rounds_none : (cut : List (List Link)) (xs : List (LaneState P)) → RoundsWent state honest sound gave cut xs xs [] 0 0
@@ -92,9 +92,9 @@ module _ {P : Type 0} (state : P → PortState) (honest sound : P → Type 0) (g
 
   -- a round more, over a book that was opened for the cut
   pub rounds_then : (cut : List (List Link)) (round : ℕ) (labels : List ℕ) (new : Page) (xs ys zs : List (LaneState P)) (books : List Page) (answered alone k : ℕ)
-      → RoundsWent state honest sound gave cut xs ys books answered alone → (r : RoundWent state honest sound gave (opened round cut labels) new ys zs k)
+      → RoundsWent state honest sound gave cut xs ys books answered alone → (r : RoundWent state honest sound gave (opened round cut labels) new ys zs k) → IsPage new
       → RoundsWent state honest sound gave cut xs zs (books ++ new ∷ []) (answered + length r.passes.answers) (alone + k)
-  rounds_then cut round labels new xs ys zs books answered alone k u r =
+  rounds_then cut round labels new xs ys zs books answered alone k u r page =
       let old = opened round cut labels in
       let v = r.passes in
       let w = r.scans in
@@ -108,7 +108,7 @@ module _ {P : Type 0} (state : P → PortState) (honest sound : P → Type 0) (g
       let at : ℕ → List AnswerValue = λ i. u.answers_at i ++ v.answers_at i in
       let here : Contains (books ++ new ∷ []) new = Contains-append_right books (new ∷ []) new (0, omega arith, refl) in
       record {
-        whole = All-append (IsWhole cut) books (new ∷ []) u.whole (one (IsWhole cut) new (record { cut_is = same.cut; all = r.all }));
+        whole = All-append (IsWhole cut) books (new ∷ []) u.whole (one (IsWhole cut) new (record { cut_is = same.cut; page = page; all = r.all }));
         answers_at = λ i. u.answers_at i ++ v.answers_at i;
         ports = record {
           same_lanes = v.same_lanes ∙ u.ports.same_lanes;

@@ -3,7 +3,7 @@ use Rattle.std.specs.Prelude.{◌≡◌, ℕ, ◌+◌, ◌*◌, ◌<◌, ◌≤�
 use Rattle.link_key.specs.declared.links.Link.{Link}
 use Rattle.frames.specs.AnswerValue.{AnswerValue}
 use Rattle.round_theory.specs.Offers.{IsNamed}
-use Rattle.round_core.specs.Page.{Page, opened, missing, hearings}
+use Rattle.round_core.specs.Page.{Page, IsPage, opened, missing, hearings}
 use Rattle.ports.specs.Ports.{PortState}
 use Rattle.forest_run.specs.Lanes.{LaneState, asks_of, open_of}
 use Rattle.forest_run.specs.Asks.{AsksWent, IsRefused, IsLight}
@@ -29,9 +29,10 @@ IsGivenBy lanes answers_at answer = (i : ℕ) × (i < lanes) × Contains (answer
 abbrev pub IsNamedIn : List Page → Link → Type 0
 IsNamedIn books l = (book : Page) × Contains books book × IsNamed (hearings book) l
 
--- a whole book of the cut: each shard has its answer
+-- a whole book of the cut: each shard has one answer, and no other stands in it
 pub record IsWhole (cut : List (List Link)) (book : Page) : Type 0 where
   pub cut_is : book.cut ≡ cut
+  pub page : IsPage book
   pub all : missing book ≡ 0
 
 -- lanes before and after whole rounds over books of a cut: so many answers of the ports went into the books, and so many scans of the coordinator

@@ -2,9 +2,12 @@
 //!
 //! What is promised here:
 //!
-//! - A run that ends well has a forest of the cut's links that closes no cycle and spans them, whatever was answered, and
-//!   a report whose counts are equations. Where the coordinator scanned nothing, an answer that a lane kept names each
-//!   link of the forest. No promise is made here yet of what honest ports give.
+//! - Where all ports are honest, a run that ends well has the minimum spanning forest of the cut's links and the number of
+//!   merging rounds, and no run ends but so or with want of memory.
+//! - Whatever was answered, the forest closes no cycle and spans the links, and the report's counts are equations. Where
+//!   the coordinator scanned nothing, an answer that a lane kept names each link of the forest.
+//! - A run's books are tied to its solver: each but the last has the picks of one merging round, and the last has none, so
+//!   no round is reported that wasn't. A fault other than want of memory comes after such rounds, by the last one's picks.
 //! - A round ends with an answer for each shard in its book, or with want of memory. Each answer is one that a port
 //!   gave, or the coordinator's own scan; it scans itself only where no port is open.
 //! - A port is closed only where an ask of it failed or found no memory, or where the book refuses an answer of it. The
@@ -29,7 +32,8 @@
 //! and no shard is in the lists of two seats.
 //!
 //! Where to start a change: `specs/Asks` says what asks do to a port, `specs/Passes` what passes do to all lanes and to the
-//! book, `specs/Rounds` and `specs/Solved` what a round and a run do.
+//! book, `specs/Rounds` what a round does, `specs/Chains` how rounds
+//! follow one another, `specs/Solved` what a run does.
 //! `proofs/AsksThen`, `proofs/Passing` and `proofs/Running` compose them.
 #![tactic(auto)]
 
@@ -46,5 +50,4 @@ mod taking;
 
 pub use lane::Lane;
 pub use report::Report;
-pub use round::{round_picks, whole_round};
 pub use run::solve;

@@ -6,10 +6,11 @@ ghost use Rattle.link_key.specs.Link.{EndsUpTo};
 ghost use Rattle.frames.specs.AnswerValue.{AnswerValue};
 ghost use Rattle.round_core.specs.Page.{Page, opened};
 ghost use Rattle.round_core.specs.Solver.{vertices, IsAtStart};
+ghost use Rattle.round_core.specs.declared.solver.SolveFault.TheVariants.{Memory};
 ghost use Rattle.forest_run.specs.Lanes.{IsIdle};
 ghost use Rattle.forest_run.specs.Bounds.{IsWide};
 ghost use Rattle.forest_run.specs.Runs.{IsRefusedIn, PortsWent};
-ghost use Rattle.forest_run.specs.Solved.{TurnWent, RunWent, SolveWent, IsSolveFault};
+ghost use Rattle.forest_run.specs.Solved.{AreHonest, TurnWent, IsTurnFault, RunWent, SolveWent, IsSolveFault};
 
 use crate::lane::Lane;
 use crate::report::{Report, report_of};
@@ -38,7 +39,7 @@ fn turn<'a, A: Allocator + Copy + Send + Sync, P: Port<A> + Send + Drop, R: Thre
     ensures went { IfOk result (λ r. TurnWent P.state P.honest P.sound P.gave cut.now solver.old solver.new lanes.old lanes.new r.0 r.1) }
     ensures ports { (books : List Page) × (answers_at : ℕ → List AnswerValue)
         × PortsWent P.state P.honest P.sound P.gave (IsRefusedIn books) lanes.old lanes.new answers_at }
-    ensures fault { IfErr result (IsSolveFault (vertices solver.old) cut.now) }
+    ensures fault { IfErr result (IsTurnFault P.state P.honest P.sound P.gave cut.now solver.old lanes.old lanes.new) }
     ensures idle { All IsIdle lanes.new }
 {
     let (picks, alone) = round_picks(rt, alloc, solver.round(), cut, solver.labels(), lanes)?;
@@ -73,7 +74,8 @@ fn merge_all<
         × RunWent P.state P.honest P.sound P.gave n cut.now lanes.old lanes.new solver.new answered alone) }
     ensures ports { (books : List Page) × (answers_at : ℕ → List AnswerValue)
         × PortsWent P.state P.honest P.sound P.gave (IsRefusedIn books) lanes.old lanes.new answers_at }
-    ensures fault { IfErr result (IsSolveFault n cut.now) }
+    ensures fault { IfErr result (IsSolveFault P.state P.honest P.sound P.gave n cut.now lanes.old lanes.new) }
+    ensures honest_fault { IfErr result (λ fault. AreHonest P.honest lanes.old → fault ≡ Memory) }
     ensures idle { All IsIdle lanes.new }
 {
     let mut alone = 0;
@@ -90,15 +92,16 @@ fn merge_all<
 /// A spanning forest of the cut's links, by what the lanes' ports answer and, where none is open, by the coordinator's own
 /// scans; and what the run did.
 ///
-/// Whatever the answers are, the forest closes no cycle and spans the links. In each round each shard is asked of one
-/// port after another until one answers. It waits for the ports' answers. At the end, after a fault too, each lane holds
-/// its port as the asks left it, without a seat or kept answers.
+/// Where all ports are honest it is the minimum spanning forest, after as many rounds as merge components, and the only
+/// fault is want of memory. Whatever the answers are, the forest closes no cycle and spans the links. In each round each
+/// shard is asked of one port after another until one answers. It waits for the ports' answers. At the end, after a fault
+/// too, each lane holds its port as the asks left it, without a seat or kept answers.
 ///
 /// A run takes the solver's memory, that of one round at a time, and in each lane room for an answer of each shard. It
 /// has at most log2 n merging rounds, and one more.
 ///
-/// The faults: a round with picks past the bound; the first link of the cut whose ends the links taken don't join; want
-/// of memory.
+/// The faults: a round with picks past the bound; once a round has no picks, the first link of the cut whose ends the links
+/// taken don't join; want of memory.
 pub fn solve<
     'a,
     A: Allocator + Copy + Send + Sync,
@@ -120,7 +123,8 @@ pub fn solve<
     ensures went { IfOk result (λ r. SolveWent P.state P.honest P.sound P.gave n cut.now lanes.old lanes.new r.0 r.1) }
     ensures ports { (books : List Page) × (answers_at : ℕ → List AnswerValue)
         × PortsWent P.state P.honest P.sound P.gave (IsRefusedIn books) lanes.old lanes.new answers_at }
-    ensures fault { IfErr result (IsSolveFault n cut.now) }
+    ensures fault { IfErr result (IsSolveFault P.state P.honest P.sound P.gave n cut.now lanes.old lanes.new) }
+    ensures honest_fault { IfErr result (λ fault. AreHonest P.honest lanes.old → fault ≡ Memory) }
     ensures idle { All IsIdle lanes.new }
 {
     let shards = cut.len();
