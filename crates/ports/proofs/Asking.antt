@@ -1,8 +1,10 @@
 -- What was said and heard so far, ask by ask, and what a faithful line answers.
 use Rattle.std.proofs.Common.{◌≡◌, ◌≢◌, ℕ, ◌<◌, List, [], ◌∷◌, ◌++◌, length, drop, Some, refl, sym, ap, subst, ◌∙◌, append_assoc, append-nil, ⊎_elim, inl, inr, arith, eq-eqb, ne_eqb}
-use Rattle.std.specs.Prelude.{Option, None, Bool, true, false, ◌||◌, if◌then◌else◌, map}
+use Rattle.std.specs.Prelude.{◌+◌, Option, None, Bool, true, false, ◌||◌, if◌then◌else◌, map}
 use Rattle.std.proofs.lemmas.Bool.{cases_eq}
 use Rattle.std.proofs.lemmas.List.{map-append, length-append, length-map}
+use Rattle.std.proofs.lemmas.List.Elements.{All-nil, All-cons, All-append}
+use Rattle.std.specs.List.{All}
 use Rattle.byte_streams.proofs.Streaming.{appends-told}
 use Rattle.limits.specs.declared.TheConstants.{MAX_WORKERS}
 use Rattle.link_key.specs.declared.links.Link.{Link}
@@ -22,7 +24,7 @@ use Rattle.shard_set.specs.Shards.{has_shard}
 use Rattle.ports.specs.Lines.{ServesSoFar}
 use Rattle.ports.specs.Causes.{IsNoReply, Came, Cause, IsBlameless}
 use Rattle.ports.specs.Ports.{IsHonestAnswer}
-use Rattle.ports.specs.Talking.{Talk, hello_once, shard_once, frames_put, AskBrought, Asked, frames_got, HasGiven, IsInStep}
+use Rattle.ports.specs.Talking.{Talk, hello_once, shard_once, frames_put, AskBrought, Asked, frames_got, HasGiven, IsOfCut, times_sent, IsInStep}
 use Rattle.ports.proofs.Refused.{bad_never}
 
 -- ---- what one ask puts
@@ -30,6 +32,32 @@ use Rattle.ports.proofs.Refused.{bad_never}
 asks_shard : (sent : Bool) (shard : ℕ) (links : List Link) → asks_in (shard_once sent shard links) ≡ 0
 asks_shard true shard links = refl
 asks_shard false shard links = refl
+
+once_put : (sent : Bool) (shard : ℕ) (links : List Link) (round : ℕ) (labels : List ℕ) → (if sent then 1 else 0) + times_sent shard (shard_once sent shard links ++ AskFrame round shard labels ∷ []) ≡ 1
+once_put true shard links round labels = refl
+once_put false shard links round labels = rw (eq-eqb shard shard refl) refl
+
+-- no other shard than the one that is asked
+none_put : (sent : Bool) (shard s : ℕ) (links : List Link) (round : ℕ) (labels : List ℕ) → s ≢ shard → times_sent s (shard_once sent shard links ++ AskFrame round shard labels ∷ []) ≡ 0
+none_put true shard s links round labels apart = refl
+none_put false shard s links round labels apart = rw (ne_eqb s shard apart) refl
+
+times-append : (s : ℕ) (fs gs : List FrameValue) → times_sent s (fs ++ gs) ≡ times_sent s fs + times_sent s gs
+times-append s [] gs = omega arith
+times-append s (ShardFrame number links ∷ fs) gs = omega (arith, times-append s fs gs)
+times-append s (HelloFrame v w ∷ fs) gs = times-append s fs gs
+times-append s (AskFrame r k ls ∷ fs) gs = times-append s fs gs
+times-append s (AnswerFrame a ∷ fs) gs = times-append s fs gs
+times-append s (FaultFrame r k c ∷ fs) gs = times-append s fs gs
+
+of_cut_ask : (cut : List (List Link)) (round shard : ℕ) (labels : List ℕ) → shard < length cut → All (IsOfCut cut) (AskFrame round shard labels ∷ [])
+of_cut_ask cut round shard labels within = All-cons (IsOfCut cut) (AskFrame round shard labels) [] within (All-nil (IsOfCut cut))
+
+of_cut_put : (sent : Bool) (cut : List (List Link)) (round shard : ℕ) (labels : List ℕ) → shard < length cut
+    → All (IsOfCut cut) (shard_once sent shard (links_at cut shard) ++ AskFrame round shard labels ∷ [])
+of_cut_put true cut round shard labels within = of_cut_ask cut round shard labels within
+of_cut_put false cut round shard labels within =
+    All-cons (IsOfCut cut) (ShardFrame shard (links_at cut shard)) (AskFrame round shard labels ∷ []) (within, refl) (of_cut_ask cut round shard labels within)
 
 asks_put : (sent : Bool) (shard : ℕ) (links : List Link) (round : ℕ) (labels : List ℕ) → asks_in (shard_once sent shard links ++ AskFrame round shard labels ∷ []) ≡ 1
 asks_put true shard links round labels = refl
@@ -114,6 +142,24 @@ module _ (round shard : ℕ) (labels : List ℕ) (a : AnswerValue) (before after
           whole ∙ shelf_elsewhere sent shelf shard s links apart ∙ step.shelves s within ∙ ap (λ b. if b then Some (links_at before.cut s) else None) (sym now))
           (cases_eq s shard)
 
+      once_step : (s : ℕ) → times_sent s (said ++ frames_put before round shard labels) ≡ (if has_shard after.sent s then 1 else 0)
+      once_step s =
+          let links : List Link = links_at before.cut shard in
+          let sent : Bool = has_shard before.sent shard in
+          let whole = times-append s said (frames_put before round shard labels) in
+          ⊎_elim
+          (λ (e : s ≡ shard).
+          let now : has_shard after.sent s ≡ true = asked.sent s ∙ ap (λ b. b || has_shard before.sent s) (eq-eqb s shard e) in
+          let count : times_sent s said + times_sent s (frames_put before round shard labels) ≡ 1 =
+          subst (λ (k : ℕ). times_sent k said + times_sent k (frames_put before round shard labels) ≡ 1) (sym e)
+          (ap (λ (n : ℕ). n + times_sent shard (frames_put before round shard labels)) (step.once shard) ∙ once_put sent shard links round labels) in
+          whole ∙ count ∙ ap (λ b. if b then 1 else 0) (sym now))
+          (λ (apart : s ≢ shard).
+          let now : has_shard after.sent s ≡ has_shard before.sent s = asked.sent s ∙ ap (λ b. b || has_shard before.sent s) (ne_eqb s shard apart) in
+          let count : times_sent s said + times_sent s (frames_put before round shard labels) ≡ times_sent s said = omega (arith, none_put sent shard s links round labels apart) in
+          whole ∙ count ∙ step.once s ∙ ap (λ b. if b then 1 else 0) (sym now))
+          (cases_eq s shard)
+
       pub step_more : IsInStep after (said ++ frames_put before round shard labels) (answers ++ a ∷ [])
       step_more =
           let more : List FrameValue = frames_put before round shard labels in
@@ -121,6 +167,8 @@ module _ (round shard : ℕ) (labels : List ℕ) (a : AnswerValue) (before after
             calm = omega (arith, asked.brought.failures, step.calm);
             sent = appends-told before.line.sent after.line.sent (texts_of said) (texts_of more) step.sent (asked.brought.sent refl) ∙ ap (λ t. Some t) (sym (texts-append said more));
             lawful = lawful-append said more step.lawful (put_lawful round shard labels before is ask);
+            only = subst (λ (k : List (List Link)). All (IsOfCut k) (said ++ more)) (sym asked.cut) (All-append (IsOfCut before.cut) said more step.only (of_cut_put (has_shard before.sent shard) before.cut round shard labels in_cut));
+            once = once_step;
             asked = omega (arith, asks-append said more, asks_put (has_shard before.sent shard) shard (links_at before.cut shard) round labels, step.asked, length-append answers (a ∷ []));
             gave = gave_more answers step.gave;
             shelves = subst (λ (k : List (List Link)). (s : ℕ) → s < length k → shelf_after empty_shelf (said ++ more) s ≡ (if has_shard after.sent s then Some (links_at k s) else None)) (sym asked.cut) shelves_step;

@@ -1,8 +1,8 @@
 -- What was sent and got over several calls.
-use Rattle.std.proofs.Common.{ℕ, ◌+◌, List, [], ◌++◌, append-nil, subst, inl, inr, arith}
+use Rattle.std.proofs.Common.{ℕ, ◌+◌, List, [], ◌++◌, append-nil, subst, arith}
 use Rattle.std.proofs.KnownBytes.{Appends-nil, Appends-trans}
 use Rattle.ports.specs.Lines.{LineState, HasRoom, Went}
-use Rattle.ports.specs.Causes.{WentDown, Came}
+use Rattle.ports.specs.Causes.{LineFailed, Came}
 
 -- no call at all
 pub went_nowhere : (line : LineState) → Went 0 0 [] [] line line
@@ -27,9 +27,14 @@ then_came a b c said came bytes first second =
 pub room_kept : (a b : LineState) (said came : List ℕ) → HasRoom a → Went 0 0 said came a b → HasRoom b
 room_kept a b said came room went = record { failures = omega (arith, room.failures, went.failures); ends = omega (arith, room.ends, went.ends) }
 
--- calls that passed, and one that failed or found the end
-pub went_then_down : (a b c : LineState) (said came : List ℕ) → Went 0 0 said came a b → WentDown b c → WentDown a c
-went_then_down a b c said came went down = elim down [
-  | inl failed ↦ inl (omega (arith, failed, went.failures))
-  | inr ended ↦ inr (omega (arith, ended, went.ends))
-]
+-- the same, and then the end
+pub then_ended : (a b c : LineState) (said came bytes : List ℕ) → Went 0 0 said came a b → Went 0 1 [] bytes b c → Went 0 1 said (came ++ bytes) a c
+then_ended a b c said came bytes first second =
+    subst (λ (t : List ℕ). Went 0 1 t (came ++ bytes) a c) (append-nil said) (went_then 0 0 0 1 said came [] bytes a b c first second)
+
+-- one failed call, whatever came before it
+pub failed_of : (a b : LineState) (said came : List ℕ) → Went 1 0 said came a b → LineFailed a b
+failed_of a b said came went = record { sent = λ calm. cc; got = λ calm. cc; failures = went.failures; ends = went.ends }
+
+pub then_failed : (a b c : LineState) (said came : List ℕ) → Went 0 0 said came a b → LineFailed b c → LineFailed a c
+then_failed a b c said came first second = failed_of a c (said ++ []) (came ++ []) (went_then 0 0 1 0 said came [] [] a b c first second)

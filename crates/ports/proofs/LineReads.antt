@@ -12,6 +12,7 @@ use Rattle.frames.specs.declared.fault.FrameFault.TheVariants.{BadKind, BadLengt
 use Rattle.ports.specs.Lines.{LineState, Went}
 use Rattle.ports.specs.Hearing.{source_of}
 use Rattle.ports.specs.Causes.{ReadBroke, Came, GreetingFault, AnswerFault, port_fault}
+use Rattle.ports.proofs.Going.{failed_of}
 
 -- what was sent stands, and what the source gave was got
 pub went_of : (failed ended : ℕ) (bytes : List ℕ) (a b : LineState) → (b.failures ≡ a.failures → Appends a.sent b.sent []) → Gave failed ended bytes (source_of a) (source_of b) → Went failed ended [] bytes a b
@@ -33,9 +34,9 @@ broke_of (Ok f) a b sent refused = tt
 broke_of (Err fault) a b sent refused = (refused.bytes, refused.refused, went_of (failures_of fault) (ends_of fault) refused.bytes a b sent refused.gave)
 
 pub greeting_broke : (fault : FrameFault) (worker : ℕ) (a b : LineState) → ReadBroke fault a b → GreetingFault (port_fault fault) worker a b
-greeting_broke Ended worker a b broke = inr broke.2.ends
-greeting_broke Torn worker a b broke = inr broke.2.ends
-greeting_broke Device worker a b broke = inl broke.2.failures
+greeting_broke Ended worker a b broke = inr (broke.0, inl broke.1, broke.2)
+greeting_broke Torn worker a b broke = inr (broke.0, inr broke.1, broke.2)
+greeting_broke Device worker a b broke = inl (failed_of a b [] broke.0 broke.2)
 greeting_broke Memory worker a b broke = (broke.0, broke.1, broke.2)
 greeting_broke BadKind worker a b broke = (broke.0, (BadKind, tt, broke.1), broke.2)
 greeting_broke BadLength worker a b broke = (broke.0, (BadLength, tt, broke.1), broke.2)
@@ -43,9 +44,9 @@ greeting_broke BadField worker a b broke = (broke.0, (BadField, tt, broke.1), br
 greeting_broke BadVersion worker a b broke = (broke.0, (BadVersion, tt, broke.1), broke.2)
 
 pub answer_broke : (fault : FrameFault) (a b : LineState) → ReadBroke fault a b → AnswerFault (port_fault fault) a b
-answer_broke Ended a b broke = inr broke.2.ends
-answer_broke Torn a b broke = inr broke.2.ends
-answer_broke Device a b broke = inl broke.2.failures
+answer_broke Ended a b broke = inr (broke.0, inl broke.1, broke.2)
+answer_broke Torn a b broke = inr (broke.0, inr broke.1, broke.2)
+answer_broke Device a b broke = inl (failed_of a b [] broke.0 broke.2)
 answer_broke Memory a b broke = (broke.0, broke.1, broke.2)
 answer_broke BadKind a b broke = (broke.0, inl (BadKind, tt, broke.1), broke.2)
 answer_broke BadLength a b broke = (broke.0, inl (BadLength, tt, broke.1), broke.2)

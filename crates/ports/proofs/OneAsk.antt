@@ -1,5 +1,5 @@
 -- One ask, from its steps.
-use Rattle.std.proofs.Common.{◌≡◌, ℕ, List, [], ◌∷◌, ◌++◌, sym, ap, subst, ◌∙◌, append-nil, inr}
+use Rattle.std.proofs.Common.{◌≡◌, ℕ, List, [], ◌∷◌, ◌++◌, sym, ap, subst, ◌∙◌, append-nil, inl, inr}
 use Rattle.std.specs.Prelude.{Result, Ok, Err, IfOk, IfErr, true, ◌||◌, ◌==◌}
 use Rattle.link_key.specs.declared.links.Link.{Link}
 use Rattle.link_key.specs.Cut.{links_at}
@@ -15,7 +15,7 @@ use Rattle.shard_set.specs.Shards.{has_shard}
 use Rattle.ports.specs.Lines.{LineState, Went}
 use Rattle.ports.specs.Talking.{Talk, hello_once, shard_once, frames_put, Asked}
 use Rattle.ports.specs.Causes.{Came, AnswerFault, Cause, InReply}
-use Rattle.ports.proofs.Going.{went_then, then_came, went_then_down}
+use Rattle.ports.proofs.Going.{went_then, then_came, then_ended, then_failed}
 
 module _ (round shard : ℕ) (labels : List ℕ) (before : Talk) where
   -- the hello came, the shard and the ask were sent
@@ -50,7 +50,10 @@ module _ (round shard : ℕ) (labels : List ℕ) (before : Talk) where
 
     pub cause_of : (result : Result AnswerValue PortFault) → IfErr result (λ e. AnswerFault e r after.line) → IfErr result (λ e. Cause e round shard labels before after)
     cause_of (Ok a) fault = tt
-    cause_of (Err Down) fault = went_then_down before.line r after.line _ _ so_far fault
+    cause_of (Err Down) fault = elim fault [
+      | inl failed ↦ inl (then_failed before.line r after.line _ _ so_far failed)
+      | inr ended ↦ inr (inr (ended.0, ended.1, then_ended before.line r after.line _ _ _ so_far ended.2))
+    ]
     cause_of (Err Garbled) fault = inr (fault.0, fault.1, then_came before.line r after.line _ _ _ so_far fault.2)
     cause_of (Err (Gave code)) fault = (fault.0, fault.1, fault.2, then_came before.line r after.line _ _ _ so_far fault.3)
     cause_of (Err Memory) fault = InReply fault.0 fault.1 (then_came before.line r after.line _ _ _ so_far fault.2)

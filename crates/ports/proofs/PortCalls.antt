@@ -4,7 +4,7 @@ use Rattle.ports.specs.Ports.{PortState, PortWent}
 
 -- no call at all
 pub port_went_nowhere : (port : PortState) → PortWent 0 0 0 port port
-port_went_nowhere port = record { cut = refl; asks = omega arith; failures = omega arith; wants = omega arith; opened = λ is. (is, refl, refl); closed = λ is. (is, refl) }
+port_went_nowhere port = record { cut = refl; asks = omega arith; failures = omega arith; wants = omega arith; opened = λ is. (is, refl, refl); closed = λ is. (is, refl); last = λ none. refl }
 
 -- calls, and then more calls
 pub port_went_then : (asked failed wanted asked' failed' wanted' : ℕ) (a b c : PortState)
@@ -22,4 +22,5 @@ port_went_then asked failed wanted asked' failed' wanted' a b c first second = r
       let (now, none) = first.closed is in
       let (still, none') = second.closed now in
       (still, omega (arith, none, none'));
+  last = λ none. second.last (omega (arith, none)) ∙ first.last (omega (arith, none));
 }

@@ -1,6 +1,7 @@
 -- A wire from call to call.
 use Rattle.std.proofs.Common.{◌≡◌, ℕ, ◌<◌, List, [], ◌∷◌, ◌++◌, length, Some, refl, sym, ap, subst}
 use Rattle.std.specs.Prelude.{Option, None, IsSome, IfSome, Bool, true, false, if◌then◌else◌}
+use Rattle.std.proofs.lemmas.List.Elements.{All-nil}
 use Rattle.limits.specs.declared.TheConstants.{MAX_WORKERS}
 use Rattle.link_key.specs.Link.{EndsUpTo}
 use Rattle.link_key.specs.Cut.{links_at}
@@ -11,7 +12,7 @@ use Rattle.shard_set.specs.Shards.{has_shard}
 use Rattle.ports.specs.Lines.{IsFresh, Tells, ServesSoFar}
 use Rattle.ports.specs.Ports.{IsHonestAnswer}
 use Rattle.ports.specs.Causes.{Cause, IsBlameless}
-use Rattle.ports.specs.Talking.{Talk, frames_put, Asked, IsInStep}
+use Rattle.ports.specs.Talking.{Talk, frames_put, Asked, IsOfCut, IsInStep}
 use Rattle.ports.specs.Wires.{IsSound, IsHonest}
 use Rattle.ports.proofs.Asking.{step_more, honest_answer, blameless}
 
@@ -25,6 +26,8 @@ fresh_step talk fresh tells quiet none = record {
   calm = fresh.failures;
   sent = told_none talk.line.sent tells.sent fresh.sent;
   lawful = tt;
+  only = All-nil (IsOfCut talk.cut);
+  once = λ s. sym (ap (λ b. if b then 1 else 0) (none s));
   asked = refl;
   gave = record { got = rw quiet (told_none talk.line.got tells.got fresh.got); lawful = tt; silent = λ e. refl };
   shelves = λ s within. sym (ap (λ b. if b then Some (links_at talk.cut s) else None) (none s));

@@ -1,5 +1,5 @@
 -- Why a wire gives no answer.
-use Rattle.std.specs.Prelude.{◌≡◌, ◌≢◌, ℕ, ◌+◌, ◌⊎◌, ⊤, false, List, []}
+use Rattle.std.specs.Prelude.{◌≡◌, ◌≢◌, ℕ, ◌⊎◌, ⊤, false, List, []}
 use Rattle.frames.specs.FrameValue.{FrameValue, HelloFrame, AnswerFrame, FaultFrame}
 use Rattle.frames.specs.FrameText.{text_of}
 use Rattle.frames.specs.FrameStream.{texts_of}
@@ -14,7 +14,7 @@ use Rattle.frames.specs.declared.fault.FrameFault.TheVariants.{Memory as NoMemor
 use Rattle.ports.specs.declared.fault.PortFault.{PortFault}
 use Rattle.ports.specs.declared.fault.PortFault.TheVariants.{Down, Garbled, WrongHello, Gave, Memory, Closed}
 use Rattle.ports.specs.Lines.{LineState, Went}
-use Rattle.ports.specs.Talking.{Talk, hello_once, shard_once, AskBrought}
+use Rattle.ports.specs.Talking.{Talk, hello_once, shard_once, AskBrought, AskEnded}
 
 -- a fault that tells of bytes which no lawful frame begins with
 abbrev pub IsGarble : FrameFault → Type 0
@@ -38,9 +38,17 @@ IsNoReply v = ⊤
 abbrev pub IsGarbled : List ℕ → Type 0
 IsGarbled bytes = IsBad bytes ⊎ ((v : FrameValue) × IsLawful v × IsNoReply v × (bytes ≡ text_of v))
 
--- the line failed once more, or found the end once more
+-- bytes in place of a frame, where the line ends: none, or some of a frame's
+abbrev pub IsCutOff : List ℕ → Type 0
+IsCutOff bytes = StreamRefused Ended bytes ⊎ StreamRefused Torn bytes
+
+-- one call failed, and none found the end; nothing is said of the bytes
+abbrev pub LineFailed : LineState → LineState → Type 0
+LineFailed before after = Went 1 0 [] [] before after
+
+-- the line failed; or these bytes came, no whole frame, and then the end, and nothing was sent
 abbrev pub WentDown : LineState → LineState → Type 0
-WentDown before after = (after.failures ≡ before.failures + 1) ⊎ (after.ends ≡ before.ends + 1)
+WentDown before after = LineFailed before after ⊎ ((bytes : List ℕ) × IsCutOff bytes × Went 0 1 [] bytes before after)
 
 -- these bytes came and nothing was sent
 abbrev pub Came : List ℕ → LineState → LineState → Type 0
@@ -62,7 +70,7 @@ GreetingFault _ worker before after = ⊥
 
 -- why a frame wasn't sent: for want of memory it isn't made, and the line isn't called
 abbrev pub SendingFault : PortFault → LineState → LineState → Type 0
-SendingFault Down before after = WentDown before after
+SendingFault Down before after = LineFailed before after
 SendingFault Memory before after = after ≡ before
 SendingFault _ before after = ⊥
 
@@ -91,9 +99,10 @@ pub data IsWanting (round shard : ℕ) (labels : List ℕ) (before after : Talk)
   InAsk : HasPut (shard_once (has_shard before.sent shard) shard (links_at before.cut shard)) before after → IsWanting round shard labels before after
   InReply : (bytes : List ℕ) → StreamRefused NoMemory bytes → AskBrought round shard labels bytes before after → IsWanting round shard labels before after
 
--- why an ask that was open got no answer: by the bytes that came in it, and by what the line counted
+-- why an ask that was open got no answer: by the bytes that came in it, and by what the line counted. It is down where it failed, or ended in place of the hello or of the reply
 abbrev pub Cause : PortFault → ℕ → ℕ → List ℕ → Talk → Talk → Type 0
-Cause Down round shard labels before after = WentDown before.line after.line
+Cause Down round shard labels before after =
+    LineFailed before.line after.line ⊎ (IsNoHello Down before after ⊎ ((bytes : List ℕ) × IsCutOff bytes × AskEnded round shard labels bytes before after))
 Cause Garbled round shard labels before after =
     IsNoHello Garbled before after ⊎ ((bytes : List ℕ) × IsGarbled bytes × AskBrought round shard labels bytes before after)
 Cause WrongHello round shard labels before after = IsNoHello WrongHello before after

@@ -8,11 +8,12 @@ use Rattle.ports.specs.Lines.{LineState}
 abbrev pub source_of : LineState → SourceState
 source_of line = record { left = None; given = line.got; failures = Some line.failures; ends = Some line.ends }
 
--- a fact that gets keep true: where no call failed since the count of failures was this one, these bytes were sent and no more; or that the line is faithful for a worker
+-- what stays true of a line while frames are read of it: that just these bytes were sent, unless a call failed since the failures were counted to this number; that it is faithful for this worker
 pub data HeardFact : Type 0 where
   WasSent : (failures : ℕ) (bytes : Option (List ℕ)) → HeardFact
   ServesFor : (worker : ℕ) → HeardFact
 
+-- the fact holds of the line
 abbrev pub Lasts : LineState → (ℕ → Type 0) → HeardFact → Type 0
 Lasts line faithful (WasSent failures bytes) = (failures ≤ line.failures) × (line.failures ≡ failures → Appends bytes line.sent [])
 Lasts line faithful (ServesFor worker) = faithful worker

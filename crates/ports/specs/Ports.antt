@@ -7,15 +7,16 @@ use Rattle.round_theory.specs.Offers.{AreLightOffers}
 use Rattle.ports.specs.declared.fault.PortFault.{PortFault}
 use Rattle.ports.specs.declared.fault.PortFault.TheVariants.{Memory, Closed}
 
--- what a port tells: its cut, whether it is open, how often it was asked while it was, and how many of these asks failed, and found no memory
+-- what a port tells: its cut, whether it is open, how often it was asked while it was, how many of these asks failed, and found no memory, and the round and the shard of the last of these asks (0 and 0 before the first)
 pub record PortState : Type 0 where
   pub cut : List (List Link)
   pub is_open : Bool
   pub asks : ℕ
   pub failures : ℕ
   pub wants : ℕ
+  pub last : ℕ × ℕ
 
--- from `before` to `after` the port was asked so often, and so many asks failed, or found no memory: any of these closes it, and once closed it is asked no more
+-- from `before` to `after` the port was asked so often, and so many asks failed, or found no memory: any of these closes it, and once closed it is asked no more. Where it wasn't asked, its last ask is the same
 pub record PortWent (asked failed wanted : ℕ) (before after : PortState) : Type 0 where
   pub cut : after.cut ≡ before.cut
   pub asks : after.asks ≡ before.asks + asked
@@ -23,13 +24,14 @@ pub record PortWent (asked failed wanted : ℕ) (before after : PortState) : Typ
   pub wants : after.wants ≡ before.wants + wanted
   pub opened : after.is_open ≡ true → (before.is_open ≡ true) × (failed ≡ 0) × (wanted ≡ 0)
   pub closed : before.is_open ≡ false → (after.is_open ≡ false) × (asked ≡ 0)
+  pub last : asked ≡ 0 → after.last ≡ before.last
 
--- one ask: it is answered, or it closes the port; a port that was closed only says so
-abbrev pub AskWent : {T : Type 0} → Result T PortFault → PortState → PortState → Type 0
-AskWent (Ok answer) before after = (after.is_open ≡ true) × PortWent 1 0 0 before after
-AskWent (Err Closed) before after = (before.is_open ≡ false) × PortWent 0 0 0 before after
-AskWent (Err Memory) before after = (before.is_open ≡ true) × (after.is_open ≡ false) × PortWent 1 0 1 before after
-AskWent (Err fault) before after = (before.is_open ≡ true) × (after.is_open ≡ false) × PortWent 1 1 0 before after
+-- one ask of a round for a shard, now the last one: it is answered, or it closes the port; a port that was closed only says so
+abbrev pub AskWent : {T : Type 0} → Result T PortFault → (round shard : ℕ) → PortState → PortState → Type 0
+AskWent (Ok answer) round shard before after = (after.is_open ≡ true) × PortWent 1 0 0 before after × (after.last ≡ (round, shard))
+AskWent (Err Closed) round shard before after = (before.is_open ≡ false) × PortWent 0 0 0 before after
+AskWent (Err Memory) round shard before after = (before.is_open ≡ true) × (after.is_open ≡ false) × PortWent 1 0 1 before after × (after.last ≡ (round, shard))
+AskWent (Err fault) round shard before after = (before.is_open ≡ true) × (after.is_open ≡ false) × PortWent 1 1 0 before after × (after.last ≡ (round, shard))
 
 -- by how much a fault makes the two counts rise
 abbrev pub failure_of : PortFault → ℕ

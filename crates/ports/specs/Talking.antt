@@ -1,5 +1,6 @@
 -- A talk with a worker over a line: what an ask says, and what was said and heard so far.
-use Rattle.std.specs.Prelude.{◌≡◌, ℕ, ◌<◌, Bool, true, false, ◌||◌, ◌==◌, if◌then◌else◌, List, [], ◌∷◌, ◌++◌, length, map, Some, None}
+use Rattle.std.specs.Prelude.{◌≡◌, ℕ, ◌+◌, ◌<◌, Bool, true, false, ◌||◌, ◌==◌, if◌then◌else◌, List, [], ◌∷◌, ◌++◌, length, map, Some, None}
+use Rattle.std.specs.List.{All}
 use Rattle.link_key.specs.declared.links.Link.{Link}
 use Rattle.link_key.specs.Cut.{links_at}
 use Rattle.frames.specs.AnswerValue.{AnswerValue}
@@ -46,6 +47,10 @@ frames_put talk round shard labels = shard_once (has_shard talk.sent shard) shar
 abbrev pub AskBrought : ℕ → ℕ → List ℕ → List ℕ → Talk → Talk → Type 0
 AskBrought round shard labels bytes before after = Went 0 0 (texts_of (frames_put before round shard labels)) (hello_once before.greeted before.worker ++ bytes) before.line after.line
 
+-- the same, and then the line ended
+abbrev pub AskEnded : ℕ → ℕ → List ℕ → List ℕ → Talk → Talk → Type 0
+AskEnded round shard labels bytes before after = Went 0 1 (texts_of (frames_put before round shard labels)) (hello_once before.greeted before.worker ++ bytes) before.line after.line
+
 -- an ask that was answered: its frames went out and no others, the hello came by now, the shard was sent by now, and the rest of the talk stands
 pub record Asked (round shard : ℕ) (labels : List ℕ) (answer : AnswerValue) (before after : Talk) : Type 0 where
   pub brought : AskBrought round shard labels (text_of (AnswerFrame answer)) before after
@@ -68,11 +73,25 @@ pub record HasGiven (talk : Talk) (answers : List AnswerValue) : Type 0 where
   pub lawful : AreLawful (map AnswerFrame answers)
   pub silent : talk.greeted ≡ false → answers ≡ []
 
--- nothing failed; just these frames were sent, with one ask for each answer and each shard of the set once; and the hello and just these answers were got
+-- a shard of the cut, with its links there, or an ask for one
+abbrev pub IsOfCut : List (List Link) → FrameValue → Type 0
+IsOfCut cut (ShardFrame number links) = (number < length cut) × (links ≡ links_at cut number)
+IsOfCut cut (AskFrame round shard labels) = shard < length cut
+IsOfCut cut v = ⊥
+
+-- how often a shard was sent in these frames
+abbrev pub times_sent : ℕ → List FrameValue → ℕ
+times_sent s [] = 0
+times_sent s (ShardFrame number links ∷ frames) = (if s == number then 1 else 0) + times_sent s frames
+times_sent s (v ∷ frames) = times_sent s frames
+
+-- nothing failed; just these frames were sent: shards of the cut, those of the set once each and no others, and asks for such shards, one for each answer; and the hello and just these answers were got
 pub record IsInStep (talk : Talk) (said : List FrameValue) (answers : List AnswerValue) : Type 0 where
   pub calm : talk.line.failures ≡ 0
   pub sent : talk.line.sent ≡ Some (texts_of said)
   pub lawful : AreLawful said
+  pub only : All (IsOfCut talk.cut) said
+  pub once : (s : ℕ) → times_sent s said ≡ (if has_shard talk.sent s then 1 else 0)
   pub asked : asks_in said ≡ length answers
   pub gave : HasGiven talk answers
   pub shelves : (s : ℕ) → s < length talk.cut → shelf_after empty_shelf said s ≡ (if has_shard talk.sent s then Some (links_at talk.cut s) else None)

@@ -11,13 +11,14 @@ use Rattle.ports.specs.Talking.{TalkState, Talk, told, HasGiven, IsInStep}
 use Rattle.ports.specs.declared.fault.PortFault.{PortFault}
 use Rattle.ports.specs.Causes.{Cause}
 
--- a wire: its talk, whether it is open, and its counts
+-- a wire: its talk, whether it is open, its counts, and the round and the shard of its last ask
 pub record WireState (L : Type 0) : Type 0 where
   pub talk : TalkState L
   pub is_open : Bool
   pub asks : ℕ
   pub failures : ℕ
   pub wants : ℕ
+  pub last : ℕ × ℕ
 
 -- what every wire keeps: its worker is one of a run, its line has room to count while it is open, and each fault was an ask
 pub record IsWire (line : LineState) (worker : ℕ) (is_open : Bool) (asks failures wants : ℕ) : Type 0 where
@@ -36,12 +37,13 @@ pub record IsNewWire {L : Type 0} (line : L) (cut : List (List Link)) (worker : 
   pub asks : wire.asks ≡ 0
   pub failures : wire.failures ≡ 0
   pub wants : wire.wants ≡ 0
+  pub last : wire.last ≡ (0, 0)
 
 -- as a port
 abbrev pub port_of : {L : Type 0} → WireState L → PortState
-port_of wire = record { cut = wire.talk.cut; is_open = wire.is_open; asks = wire.asks; failures = wire.failures; wants = wire.wants }
+port_of wire = record { cut = wire.talk.cut; is_open = wire.is_open; asks = wire.asks; failures = wire.failures; wants = wire.wants; last = wire.last }
 
--- while it is open its line sent asks and the shards that they name, and got the hello and one answer for each ask, and nothing else
+-- while it is open its line sent asks for shards of its cut, and each shard of its set once, and got the hello and one answer for each ask, and nothing else
 abbrev pub IsSound : Bool → Talk → Type 0
 IsSound is_open talk = is_open ≡ true → (said : List FrameValue) × (answers : List AnswerValue) × IsInStep talk said answers
 

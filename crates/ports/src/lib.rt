@@ -7,11 +7,12 @@
 //!   labels that were asked. Such a wire never answers `Garbled` or `WrongHello`, and of the worker's faults
 //!   only want of memory.
 //! - Over any line each fault closes the wire for good, and has its cause in the bytes that went out and came
-//!   in that ask, or in what the line counted. In an ask that found no memory the line neither failed nor
-//!   ended, and the bytes are those up to the frame that memory was wanting for.
+//!   in that ask, or in what the line counted. A wire is down where its line failed, or ended before or inside
+//!   the frame that it waited for. In an ask that found no memory the line neither failed nor ended, and the
+//!   bytes are those up to the frame that memory was wanting for.
 //! - An ask that is answered sent the ask alone, and before it the shard where no ask sent it before.
-//! - An open wire over a line that was fresh, and tells its bytes, sent one ask for each answer; it got the
-//!   worker's hello and these answers, and nothing else.
+//! - An open wire over a line that was fresh, and tells its bytes, sent shards of its cut, none twice, and one
+//!   ask for each answer, and nothing else; it got the worker's hello and these answers, and nothing else.
 //!
 //! ```text
 //!     Port::ask, shut, is_open, asks        what rounds ask

@@ -14,7 +14,8 @@ use std::alloc::Allocator;
 /// shard that leaves the component.
 ///
 /// A port is open at first, and closed for good by its first fault, or when it is shut. It counts the asks
-/// that it got while it was open, those of them that failed, and those that found no memory.
+/// that it got while it was open, those of them that failed, and those that found no memory; it keeps the
+/// round and the shard of the last ask that it got while it was open.
 ///
 /// It is honest where each answer that it gives names the round and the shard that were asked, with the
 /// light offers of that shard under the labels that were asked. Where it tells the answers that it gave
@@ -42,7 +43,7 @@ pub trait Port<A: Allocator> {
         requires ends { EndsUpTo (length labels.now) (links_at (state self.old).cut shard) }
         requires room { (state self.old).asks < 2 ^ 64 - 1 }
 
-        ensures went { AskWent result (state self.old) (state self.new) }
+        ensures went { AskWent result round shard (state self.old) (state self.new) }
         ensures honest_answer { IfOk result
             (λ a. honest self.old → IsHonestAnswer (state self.old).cut round shard labels.now a) }
 

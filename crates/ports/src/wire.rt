@@ -33,6 +33,8 @@ pub struct Wire<'a, L: Line, A: Allocator> {
     asks: u64,
     failures: u64,
     wants: u64,
+    last_round: u32,
+    last_shard: u32,
 }
 
 impl<'a, L: Line, A: Allocator> Model for Wire<'a, L, A> {
@@ -40,7 +42,7 @@ impl<'a, L: Line, A: Allocator> Model for Wire<'a, L, A> {
 
     ghost Value = { WireState L };
 
-    ghost view = { λ s. record { talk = s.talk; is_open = s.is_open; asks = s.asks; failures = s.failures; wants = s.wants } };
+    ghost view = { λ s. record { talk = s.talk; is_open = s.is_open; asks = s.asks; failures = s.failures; wants = s.wants; last = (s.last_round, s.last_shard) } };
 
     ghost invariant = { λ s. IsWire (L.state s.talk.line) s.talk.worker s.is_open s.asks s.failures s.wants };
 }
@@ -72,6 +74,8 @@ impl<'a, L: Line, A: Allocator + Copy> Wire<'a, L, A> {
             asks: 0,
             failures: 0,
             wants: 0,
+            last_round: 0,
+            last_shard: 0,
         }
     }
 
@@ -100,7 +104,7 @@ impl<'a, L: Line, A: Allocator + Copy> Port<A> for Wire<'a, L, A> {
         requires ends { EndsUpTo (length labels.now) (links_at self.old.talk.cut shard) }
         requires room { self.old.asks < 2 ^ 64 - 1 }
 
-        ensures went { AskWent result (port_of self.old) (port_of self.new) }
+        ensures went { AskWent result round shard (port_of self.old) (port_of self.new) }
         ensures honest_answer { IfOk result (λ a. IsHonestWire L.state L.faithful self.old
             → IsHonestAnswer self.old.talk.cut round shard labels.now a) }
         ensures gave { IfOk result (λ a. (before : List AnswerValue)
@@ -114,7 +118,8 @@ impl<'a, L: Line, A: Allocator + Copy> Port<A> for Wire<'a, L, A> {
         ensures asked { IfOk result (λ a. Asked round shard labels.now a
             (told L.state self.old.talk) (told L.state self.new.talk)) }
 
-        // Whatever the line is: where what came by now begins what the worker may write, the answer is honest.
+        // Over a line that tells its bytes, known to be faithful or not: where what came by now begins what the
+        // worker may write, the answer is honest.
         ensures served { IfOk result (λ a. IsSoundWire L.state self.old
             → ServesSoFar self.old.talk.worker (L.state self.new.talk.line)
             → IsHonestAnswer self.old.talk.cut round shard labels.now a) }
@@ -133,6 +138,8 @@ impl<'a, L: Line, A: Allocator + Copy> Port<A> for Wire<'a, L, A> {
             return Err(PortFault::Closed);
         }
         self.asks += 1;
+        self.last_round = round;
+        self.last_shard = shard;
         match self.talk.ask(round, shard, labels) {
             Ok(answer) => Ok(answer),
             Err(fault) => {
