@@ -58,8 +58,8 @@ module _ {P : Type 0} (state : P → PortState) (honest sound : P → Type 0) (g
           each = λ i d b. (
               let within : i < length ys = (let e = u.2.same_lanes in omega arith) in
               asks_then state honest sound gave (IsRefusedIn books) _ _ _ (u.1 i) (v.1 i)
-              (asks_more state honest sound gave (IsRefusedIn u.0) (IsRefusedIn books) (λ t q. (q.0, Contains-append_left u.0 v.0 q.0 q.1, q.2)) _ _ (u.1 i) (u.2.each i d b))
-              (asks_more state honest sound gave (IsRefusedIn v.0) (IsRefusedIn books) (λ t q. (q.0, Contains-append_right u.0 v.0 q.0 q.1, q.2)) _ _ (v.1 i) (v.2.each i d within)));
+              (asks_more state honest sound gave (IsRefusedIn u.0) (IsRefusedIn books) (λ w t q. (q.0, Contains-append_left u.0 v.0 q.0 q.1, q.2)) _ _ (u.1 i) (u.2.each i d b))
+              (asks_more state honest sound gave (IsRefusedIn v.0) (IsRefusedIn books) (λ w t q. (q.0, Contains-append_right u.0 v.0 q.0 q.1, q.2)) _ _ (v.1 i) (v.2.each i d within)));
         },
       )
 
@@ -74,7 +74,7 @@ module _ {P : Type 0} (state : P → PortState) (honest sound : P → Type 0) (g
         u.answers_at,
         record {
           same_lanes = u.same_lanes;
-          each = λ i d b. asks_more state honest sound gave (IsRefused book) (IsRefusedIn (book ∷ [])) (λ t q. (book, (0, omega arith, refl), q)) _ _ (u.answers_at i) (u.each i d b);
+          each = λ i d b. asks_more state honest sound gave (IsRefused book) (IsRefusedIn (book ∷ [])) (λ w t q. (book, (0, omega arith, refl), q)) _ _ (u.answers_at i) (u.each i d b);
         },
       )
 
