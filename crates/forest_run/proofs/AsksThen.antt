@@ -1,5 +1,5 @@
 -- Asks, and more asks after them.
-use Rattle.std.proofs.Common.{◌≡◌, ◌⊎◌, inl, inr, Bool, true, false, List, [], ◌∷◌, ◌++◌, refl, ap, sym, subst, ◌∙◌, arith, append_assoc, length-append, rules}
+use Rattle.std.proofs.Common.{◌≡◌, ℕ, ◌⊎◌, inl, inr, Bool, true, false, List, [], ◌∷◌, ◌++◌, refl, ap, sym, subst, ◌∙◌, arith, append_assoc, length-append, rules}
 use Rattle.std.proofs.lemmas.List.{append-nil}
 use Rattle.frames.specs.AnswerValue.{AnswerValue}
 use Rattle.ports.specs.Ports.{PortState}
@@ -9,7 +9,7 @@ pub either : (v : Bool) → (v ≡ true) ⊎ (v ≡ false)
 either true = inl refl
 either false = inr refl
 
-module _ {P : Type 0} (state : P → PortState) (honest sound : P → Type 0) (gave : P → List AnswerValue → Type 0) (refused : AnswerValue → Type 0) where
+module _ {P : Type 0} (state : P → PortState) (honest sound : P → Type 0) (gave : P → List AnswerValue → Type 0) (refused : ℕ × ℕ → AnswerValue → Type 0) where
   -- nothing was done
   pub stayed : (a : P) → AsksWent state honest sound gave refused a a []
   stayed a = record {
@@ -19,7 +19,7 @@ module _ {P : Type 0} (state : P → PortState) (honest sound : P → Type 0) (g
     wants = omega arith;
     opened = λ t. (t, refl, refl);
     given = λ t before g. subst (gave a) (sym (append-nil before)) g;
-    still = λ f. (refl, λ answers g. g);
+    still = λ f. (refl, refl, λ answers g. g);
     honest_is = λ x. x;
     sound_is = λ x. x;
     why = λ t f. absurd (cc);
@@ -31,7 +31,7 @@ module _ {P : Type 0} (state : P → PortState) (honest sound : P → Type 0) (g
   closed_stays a b xs p f = elim (either (state b).is_open) [ inl e ↦ absurd (let r = (p.opened e).0 in cc) | inr e ↦ e ]
 
   abbrev Cause : P → P → List AnswerValue → Type 0
-  Cause a b kept = FailedMore (state a) (state b) ⊎ ((t : AnswerValue) × refused t × ((before : List AnswerValue) → gave a before → gave b ((before ++ kept) ++ t ∷ [])))
+  Cause a b kept = FailedMore (state a) (state b) ⊎ ((t : AnswerValue) × refused (state b).last t × ((before : List AnswerValue) → gave a before → gave b ((before ++ kept) ++ t ∷ [])))
 
   -- it was closed in the second part
   later : (a b c : P) (xs ys : List AnswerValue) → AsksWent state honest sound gave refused a b xs → AsksWent state honest sound gave refused b c ys → (state b).is_open ≡ true
@@ -46,7 +46,11 @@ module _ {P : Type 0} (state : P → PortState) (honest sound : P → Type 0) (g
   sooner a b c xs ys p q e (inl r) = inl (omega (arith, r, q.failures, q.wants))
   sooner a b c xs ys p q e (inr r) =
       let s = q.still e in
-      inr (r.0, r.1, λ before g. subst (λ zs. gave c ((before ++ zs) ++ r.0 ∷ [])) (sym (append-nil xs) ∙ ap (λ zs. xs ++ zs) (sym s.0)) (s.1 _ (r.2 before g)))
+      inr (
+        r.0,
+        subst (λ (w : ℕ × ℕ). refused w r.0) (sym s.1) r.1,
+        λ before g. subst (λ zs. gave c ((before ++ zs) ++ r.0 ∷ [])) (sym (append-nil xs) ∙ ap (λ zs. xs ++ zs) (sym s.0)) (s.2 _ (r.2 before g)),
+      )
 
   pub asks_then : (a b c : P) (xs ys : List AnswerValue) → AsksWent state honest sound gave refused a b xs → AsksWent state honest sound gave refused b c ys → AsksWent state honest sound gave refused a c (xs ++ ys)
   asks_then a b c xs ys p q = record {
@@ -56,7 +60,7 @@ module _ {P : Type 0} (state : P → PortState) (honest sound : P → Type 0) (g
     wants = omega (arith, p.wants, q.wants);
     opened = λ t. (let r = q.opened t in let s = p.opened r.0 in (s.0, r.1 ∙ s.1, r.2 ∙ s.2));
     given = λ t before g. (let r = q.opened t in subst (gave c) (append_assoc before xs ys) (q.given t (before ++ xs) (p.given r.0 before g)));
-    still = λ f. (let s = p.still f in let shut : (state b).is_open ≡ false = closed_stays a b xs p f in let r = q.still shut in (ap (λ zs. zs ++ ys) s.0 ∙ r.0, λ answers g. r.1 answers (s.1 answers g)));
+    still = λ f. (let s = p.still f in let shut : (state b).is_open ≡ false = closed_stays a b xs p f in let r = q.still shut in (ap (λ zs. zs ++ ys) s.0 ∙ r.0, r.1 ∙ s.1, λ answers g. r.2 answers (s.2 answers g)));
     honest_is = λ x. q.honest_is (p.honest_is x);
     sound_is = λ x. q.sound_is (p.sound_is x);
     why = λ t f. elim (either (state b).is_open) [

@@ -47,7 +47,6 @@ module _ {P : Type 0} (state : P → PortState) (honest sound : P → Type 0) (g
         ends = rw cut r.ends;
         labels_are = ap (λ o. o.labels) u.page ∙ (s.labels ∙ r.labels_are);
         round = rw (ap (λ o. o.round) u.page ∙ s.round) r.round;
-        missed = rw cut (let a = r.missed in omega arith);
       }
 
   -- the room that a round asks for at its start is left in each of its passes
@@ -60,7 +59,6 @@ module _ {P : Type 0} (state : P → PortState) (honest sound : P → Type 0) (g
       let cut : q.cut ≡ p.cut = cut_stays p q xs ys u in
       let few = u.few i in
       let m = u.missed in
-      let a = r.missed in
       let asks = v.asks in
       let most = one_at_most (state (get_or xs i d).port).is_open in
       let count = w.count in

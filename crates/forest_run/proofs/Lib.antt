@@ -10,3 +10,5 @@ pub mod Scanning
 pub mod Running
 pub mod Reporting
 pub mod Solving
+pub mod Chained
+pub mod Ending

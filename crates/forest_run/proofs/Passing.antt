@@ -29,6 +29,11 @@ kept_from (l ∷ ls) t h = elim (Contains-append_cases l.kept (all_kept ls) t h)
   | inr b ↦ (let r = kept_from ls t b in (suc r.0, omega arith, r.2))
 ]
 
+pub kept_to : {P : Type 0} (lanes : List (LaneState P)) (i : ℕ) (t : AnswerValue) → i < length lanes → Contains (get_or (map (λ l. l.kept) lanes) i []) t → Contains (all_kept lanes) t
+kept_to [] i t b h = absurd (omega arith)
+kept_to (l ∷ ls) zero t b h = Contains-append_left l.kept (all_kept ls) t h
+kept_to (l ∷ ls) (suc i) t b h = Contains-append_right l.kept (all_kept ls) t (kept_to ls i t (omega arith) h)
+
 pub kept_few : {P : Type 0} (lanes : List (LaneState P)) (i : ℕ) → length (get_or (map (λ l. l.kept) lanes) i []) ≤ length (all_kept lanes)
 kept_few [] i = omega arith
 kept_few (l ∷ ls) zero = omega (arith, length-append l.kept (all_kept ls))
@@ -98,6 +103,7 @@ module _ {P : Type 0} (state : P → PortState) (honest sound : P → Type 0) (g
             (subst (λ p. AsksWent state honest sound gave (IsRefused old) p (get_or ws i d).port (get_or zs i d).kept) e
             (subst (λ q. AsksWent state honest sound gave (IsRefused old) (get_or ys i d).port q (get_or zs i d).kept) (sym g) v)));
         few = λ i. kept_few zs i;
+        reached = λ i t b h. kept_to zs i t (omega arith) h;
         given = λ t h. (let r = kept_from zs t h in (r.0, omega (arith, r.1), r.2));
         asks = (
             let a = same_asks state xs ys before in
@@ -123,6 +129,7 @@ module _ {P : Type 0} (state : P → PortState) (honest sound : P → Type 0) (g
     same_lanes = each_length SamePort xs ys same;
     each = λ i d b. (let e = (each_at SamePort xs ys same i d b).port in subst (λ q. AsksWent state honest sound gave (IsRefused page) (get_or xs i d).port q []) (sym e) (stayed state honest sound gave (IsRefused page) (get_or xs i d).port));
     few = λ i. omega arith;
+    reached = λ i t b h. absurd (omega arith);
     given = λ t h. absurd (omega arith);
     asks = (let a = same_asks state xs ys same in omega (arith, a.0, a.1));
     never_opened = (let a = same_asks state xs ys same in omega (arith, a.1));
@@ -157,22 +164,22 @@ refusal_of : (r r' : ℕ) (cut cut' : List (List Link)) (labels labels' : List �
     → refusal (record { round = r'; cut = cut'; labels = labels'; taken = taken'; answers = answers' }) s t ≡ refusal (record { round = r; cut = cut; labels = labels; taken = taken; answers = answers }) s t
 refusal_of r r' cut cut' labels labels' taken taken' answers answers' s t a b c d e = rw (a, b, c, d, e) refl
 
-pub refused_before : (p : Page) (ts : List AnswerValue) (t : AnswerValue) → IsRefused (heard_all p ts) t → IsRefused p t
-refused_before p ts t r =
+pub refused_before : (p : Page) (ts : List AnswerValue) (w : ℕ × ℕ) (t : AnswerValue) → IsRefused (heard_all p ts) w t → IsRefused p w t
+refused_before p ts w t r =
     let q = heard_all p ts in
     let s = same_round p ts in
-    let free = taken_before p ts r.shard r.missed in
+    let free = taken_before p ts w.1 r.missed in
     record {
-      shard = r.shard;
+      round = r.round ∙ s.round;
       within = rw s.cut at r.within;
       missed = free;
-      refused = subst (λ o. IsSome o) (refusal_of p.round q.round p.cut q.cut p.labels q.labels p.taken q.taken p.answers q.answers r.shard t s.round s.cut s.labels free r.missed) r.refused;
+      refused = subst (λ o. IsSome o) (refusal_of p.round q.round p.cut q.cut p.labels q.labels p.taken q.taken p.answers q.answers w.1 t s.round s.cut s.labels free r.missed) r.refused;
     }
 
 pub light_before : (p : Page) (ts : List AnswerValue) (t : AnswerValue) → IsLight (heard_all p ts) t → IsLight p t
 light_before p ts t r = (let s = same_round p ts in rw (s.cut, s.round, s.labels) at r)
 
-pub asks_more : {P : Type 0} (state : P → PortState) (honest sound : P → Type 0) (gave : P → List AnswerValue → Type 0) (R Q : AnswerValue → Type 0) → ((t : AnswerValue) → R t → Q t) → (a b : P) (kept : List AnswerValue) → AsksWent state honest sound gave R a b kept → AsksWent state honest sound gave Q a b kept
+pub asks_more : {P : Type 0} (state : P → PortState) (honest sound : P → Type 0) (gave : P → List AnswerValue → Type 0) (R Q : ℕ × ℕ → AnswerValue → Type 0) → ((w : ℕ × ℕ) (t : AnswerValue) → R w t → Q w t) → (a b : P) (kept : List AnswerValue) → AsksWent state honest sound gave R a b kept → AsksWent state honest sound gave Q a b kept
 asks_more state honest sound gave R Q h a b kept v = record {
   cut = v.cut;
   asks = v.asks;
@@ -183,7 +190,7 @@ asks_more state honest sound gave R Q h a b kept v = record {
   still = v.still;
   honest_is = v.honest_is;
   sound_is = v.sound_is;
-  why = λ t f. elim (v.why t f) [ inl k ↦ inl k | inr k ↦ inr (k.0, h k.0 k.1, k.2) ];
+  why = λ t f. elim (v.why t f) [ inl k ↦ inl k | inr k ↦ inr (k.0, h (state b).last k.0 k.1, k.2) ];
   why_honest = v.why_honest;
 }
 
@@ -197,10 +204,14 @@ module _ {P : Type 0} (state : P → PortState) (honest sound : P → Type 0) (g
     each = λ i d b. (
         let w = v.each i d (let e = u.same_lanes in omega arith) in
         asks_then state honest sound gave (IsRefused p) _ _ _ (u.answers_at i) (v.answers_at i) (u.each i d b)
-        (asks_more state honest sound gave (IsRefused q) (IsRefused p) (λ t k. refused_before p u.answers t (subst (λ o. IsRefused o t) u.page k)) _ _ (v.answers_at i) w));
+        (asks_more state honest sound gave (IsRefused q) (IsRefused p) (λ w t k. refused_before p u.answers w t (subst (λ o. IsRefused o w t) u.page k)) _ _ (v.answers_at i) w));
     given = λ t h. elim (Contains-append_cases u.answers v.answers t h) [
       | inl a ↦ (let k = u.given t a in (k.0, k.1, Contains-append_left (u.answers_at k.0) (v.answers_at k.0) t k.2))
       | inr a ↦ (let k = v.given t a in (k.0, (let e = u.same_lanes in let l = k.1 in omega arith), Contains-append_right (u.answers_at k.0) (v.answers_at k.0) t k.2))
+    ];
+    reached = λ i t b h. elim (Contains-append_cases (u.answers_at i) (v.answers_at i) t h) [
+      | inl a ↦ Contains-append_left u.answers v.answers t (u.reached i t b a)
+      | inr a ↦ Contains-append_right u.answers v.answers t (v.reached i t (let e = u.same_lanes in omega arith) a)
     ];
     few = λ i. (let a = u.few i in let b = v.few i in omega (arith, length-append u.answers v.answers, length-append (u.answers_at i) (v.answers_at i)));
     asks = (let a = u.asks in let b = v.asks in omega (arith, length-append u.answers v.answers));

@@ -3,11 +3,11 @@ use Rattle.std.proofs.Common.{◌≡◌, ℕ, zero, suc, ◌+◌, ◌*◌, ◌<�
 use Rattle.std.specs.Prelude.{All, Contains}
 use Rattle.std.proofs.Math.Nat.{suc-mul}
 use Rattle.std.proofs.lemmas.List.Folds.{sum_by-replicate}
-use Rattle.std.proofs.lemmas.List.Elements.{All-append, Contains-append_left, Contains-append_right, All-contains_itself}
+use Rattle.std.proofs.lemmas.List.Elements.{All-append, Contains-append_left, Contains-append_right, Contains-append_cases, All-contains_itself}
 use Rattle.link_key.specs.declared.links.Link.{Link}
 use Rattle.link_key.specs.Link.{EndsUpTo}
 use Rattle.frames.specs.AnswerValue.{AnswerValue}
-use Rattle.round_core.specs.Page.{Page, opened, heard, missing}
+use Rattle.round_core.specs.Page.{Page, IsPage, opened, heard, missing}
 use Rattle.ports.specs.Ports.{PortState}
 use Rattle.forest_run.specs.Lanes.{LaneState}
 use Rattle.forest_run.specs.Asks.{IsRefused, IsLight}
@@ -38,7 +38,6 @@ opened_round round cut labels some ends first = record {
   labels_are = refl;
   ends = ends;
   round = first;
-  missed = (let e = opened_misses round cut labels in omega arith);
 }
 
 -- answers are added behind those that the book has
@@ -65,15 +64,15 @@ heard_same p q ts e =
 light_still : (p q : Page) → SameRound p q → (t : AnswerValue) → IsLight p t → IsLight q t
 light_still p q s t l = rw (s.cut, s.round, s.labels) l
 
-refused_still : (p q : Page) → SameRound p q → (t : AnswerValue) → IsRefused (unanswered p) t → IsRefused (unanswered q) t
-refused_still p q s t r = rw (s.cut, s.round, s.labels) r
+refused_still : (p q : Page) → SameRound p q → (w : ℕ × ℕ) (t : AnswerValue) → IsRefused (unanswered p) w t → IsRefused (unanswered q) w t
+refused_still p q s w t r = rw (s.cut, s.round, s.labels) r
 
 module _ {P : Type 0} (state : P → PortState) (honest sound : P → Type 0) (gave : P → List AnswerValue → Type 0) where
-  -- a round leaves the book's labels
-  pub labels_still : (round : ℕ) (cut : List (List Link)) (labels : List ℕ) (new : Page) (xs ys : List (LaneState P)) (k : ℕ)
-      → RoundWent state honest sound gave (opened round cut labels) new xs ys k → new.labels ≡ labels
-  labels_still round cut labels new xs ys k r =
-      (same_then (opened round cut labels) r.middle new (heard_same _ _ r.passes.answers r.passes.page) (heard_same _ _ r.scans.answers r.scans.page)).labels
+  -- a round leaves the book's round, cut and labels
+  pub same_still : (round : ℕ) (cut : List (List Link)) (labels : List ℕ) (new : Page) (xs ys : List (LaneState P)) (k : ℕ)
+      → RoundWent state honest sound gave (opened round cut labels) new xs ys k → SameRound (opened round cut labels) new
+  same_still round cut labels new xs ys k r =
+      same_then (opened round cut labels) r.middle new (heard_same _ _ r.passes.answers r.passes.page) (heard_same _ _ r.scans.answers r.scans.page)
 
 module _ {P : Type 0} (state : P → PortState) (honest sound : P → Type 0) (gave : P → List AnswerValue → Type 0) where
   pub rounds_none : (cut : List (List Link)) (xs : List (LaneState P)) → RoundsWent state honest sound gave cut xs xs [] 0 0
@@ -82,6 +81,7 @@ module _ {P : Type 0} (state : P → PortState) (honest sound : P → Type 0) (g
     answers_at = λ i. [];
     ports = record { same_lanes = refl; each = λ i d b. stayed state honest sound gave (IsRefusedIn []) (get_or xs i d).port };
     few = λ i. omega arith;
+    reached = λ i t b h. absurd (omega arith);
     counted = omega arith;
     asks = omega arith;
     never_opened = omega arith;
@@ -92,9 +92,9 @@ module _ {P : Type 0} (state : P → PortState) (honest sound : P → Type 0) (g
 
   -- a round more, over a book that was opened for the cut
   pub rounds_then : (cut : List (List Link)) (round : ℕ) (labels : List ℕ) (new : Page) (xs ys zs : List (LaneState P)) (books : List Page) (answered alone k : ℕ)
-      → RoundsWent state honest sound gave cut xs ys books answered alone → (r : RoundWent state honest sound gave (opened round cut labels) new ys zs k)
+      → RoundsWent state honest sound gave cut xs ys books answered alone → (r : RoundWent state honest sound gave (opened round cut labels) new ys zs k) → IsPage new
       → RoundsWent state honest sound gave cut xs zs (books ++ new ∷ []) (answered + length r.passes.answers) (alone + k)
-  rounds_then cut round labels new xs ys zs books answered alone k u r =
+  rounds_then cut round labels new xs ys zs books answered alone k u r page =
       let old = opened round cut labels in
       let v = r.passes in
       let w = r.scans in
@@ -108,16 +108,22 @@ module _ {P : Type 0} (state : P → PortState) (honest sound : P → Type 0) (g
       let at : ℕ → List AnswerValue = λ i. u.answers_at i ++ v.answers_at i in
       let here : Contains (books ++ new ∷ []) new = Contains-append_right books (new ∷ []) new (0, omega arith, refl) in
       record {
-        whole = All-append (IsWhole cut) books (new ∷ []) u.whole (one (IsWhole cut) new (record { cut_is = same.cut; all = r.all }));
+        whole = All-append (IsWhole cut) books (new ∷ []) u.whole (one (IsWhole cut) new (record { cut_is = same.cut; page = page; all = r.all }));
         answers_at = λ i. u.answers_at i ++ v.answers_at i;
         ports = record {
           same_lanes = v.same_lanes ∙ u.ports.same_lanes;
           each = λ i d b. (
               let within : i < length ys = (let e = u.ports.same_lanes in omega arith) in
               asks_then state honest sound gave (IsRefusedIn (books ++ new ∷ [])) _ _ _ (u.answers_at i) (v.answers_at i)
-              (asks_more state honest sound gave (IsRefusedIn books) (IsRefusedIn (books ++ new ∷ [])) (λ t q. (q.0, Contains-append_left books (new ∷ []) q.0 q.1, q.2)) _ _ (u.answers_at i) (u.ports.each i d b))
-              (asks_more state honest sound gave (IsRefused old) (IsRefusedIn (books ++ new ∷ [])) (λ t q. (new, here, refused_still old new same t q)) _ _ (v.answers_at i) (v.each i d within)));
+              (asks_more state honest sound gave (IsRefusedIn books) (IsRefusedIn (books ++ new ∷ [])) (λ w t q. (q.0, Contains-append_left books (new ∷ []) q.0 q.1, q.2)) _ _ (u.answers_at i) (u.ports.each i d b))
+              (asks_more state honest sound gave (IsRefused old) (IsRefusedIn (books ++ new ∷ [])) (λ w t q. (new, here, refused_still old new same w t q)) _ _ (v.answers_at i) (v.each i d within)));
         };
+        reached = λ i t b h. elim (Contains-append_cases (u.answers_at i) (v.answers_at i) t h) [
+          | inl a ↦ (let q = u.reached i t b a in (q.0, Contains-append_left books (new ∷ []) q.0 q.1, q.2))
+          | inr a ↦
+              let within : i < length ys = (let e = u.ports.same_lanes in omega arith) in
+              (new, here, subst (λ (ts : List AnswerValue). Contains ts t) (sym answers) (Contains-append_left v.answers w.answers t (v.reached i t within a)))
+        ];
         few = λ i. (let a = u.few i in let b = v.few i in omega (arith, length-append (u.answers_at i) (v.answers_at i)));
         counted = (
             let one_more : length (books ++ new ∷ []) ≡ suc (length books) = omega (arith, length-append books (new ∷ [])) in

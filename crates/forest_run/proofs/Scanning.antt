@@ -83,5 +83,4 @@ round_after p q labels n u r =
       ends = rw cut r.ends;
       labels_are = ap (λ o. o.labels) u.page ∙ (s.labels ∙ r.labels_are);
       round = rw (ap (λ o. o.round) u.page ∙ s.round) r.round;
-      missed = rw cut (let a = r.missed in omega arith);
     }

@@ -16,6 +16,7 @@ use Rattle.forest_run.specs.Lanes.{LaneState}
 use Rattle.forest_run.specs.Bounds.{IsWide}
 use Rattle.forest_run.specs.Runs.{IsWhole, IsGivenBy, IsNamedIn, RoundsWent}
 use Rattle.forest_run.proofs.Lasting.{one_at_most}
+use Rattle.forest_run.proofs.Running.{opened_misses}
 
 -- ---- the links that are taken
 
@@ -81,4 +82,5 @@ module _ {P : Type 0} (state : P → PortState) (honest sound : P → Type 0) (g
       let kept = u.few i in
       let all = u.counted in
       let product : length books * length cut ≤ 32 * length cut = mul-le-mul_right (length cut) few in
+      let misses = opened_misses round cut labels in
       record { cut = v.cut ∙ c; count = omega arith }

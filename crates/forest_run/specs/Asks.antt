@@ -5,12 +5,12 @@ use Rattle.round_core.specs.Page.{Page, refusal, is_taken}
 use Rattle.ports.specs.Ports.{PortState, IsHonestAnswer}
 use Rattle.forest_run.specs.Lanes.{one_if}
 
--- the book refuses the answer to an ask for a shard that it misses
-pub record IsRefused (page : Page) (answer : AnswerValue) : Type 0 where
-  pub shard : ℕ
-  pub within : shard < length page.cut
-  pub missed : is_taken page shard ≡ false
-  pub refused : IsSome (refusal page shard answer)
+-- asked last for this round and shard, which is one that the book misses, a port gave an answer that the book refuses
+pub record IsRefused (page : Page) (last : ℕ × ℕ) (answer : AnswerValue) : Type 0 where
+  pub round : last.0 ≡ page.round
+  pub within : last.1 < length page.cut
+  pub missed : is_taken page last.1 ≡ false
+  pub refused : IsSome (refusal page last.1 answer)
 
 -- the book takes the answer
 pub record IsTaken (page : Page) (answer : AnswerValue) : Type 0 where
@@ -30,7 +30,7 @@ abbrev pub FailedMore : PortState → PortState → Type 0
 FailedMore before after = before.failures + before.wants < after.failures + after.wants
 
 -- a port before and after some asks, of which these answers were kept; each answer that wasn't is one that a book refuses, which closed the port
-pub record AsksWent {P : Type 0} (state : P → PortState) (honest sound : P → Type 0) (gave : P → List AnswerValue → Type 0) (refused : AnswerValue → Type 0) (before after : P) (kept : List AnswerValue) : Type 0 where
+pub record AsksWent {P : Type 0} (state : P → PortState) (honest sound : P → Type 0) (gave : P → List AnswerValue → Type 0) (refused : ℕ × ℕ → AnswerValue → Type 0) (before after : P) (kept : List AnswerValue) : Type 0 where
   pub cut : (state after).cut ≡ (state before).cut
   -- each ask brought an answer that was kept, but the one that closed the port
   pub asks : (state after).asks + one_if (state after).is_open ≡ (state before).asks + length kept + one_if (state before).is_open
@@ -39,11 +39,11 @@ pub record AsksWent {P : Type 0} (state : P → PortState) (honest sound : P →
   -- while it is open both counts stand still, and it gave just the kept answers
   pub opened : (state after).is_open ≡ true → ((state before).is_open ≡ true) × ((state after).failures ≡ (state before).failures) × ((state after).wants ≡ (state before).wants)
   pub given : (state after).is_open ≡ true → (answers : List AnswerValue) → gave before answers → gave after (answers ++ kept)
-  -- once it is closed it gives nothing any more
-  pub still : (state before).is_open ≡ false → (kept ≡ []) × ((answers : List AnswerValue) → gave before answers → gave after answers)
+  -- once it is closed it is asked no more, and gives nothing
+  pub still : (state before).is_open ≡ false → (kept ≡ []) × ((state after).last ≡ (state before).last) × ((answers : List AnswerValue) → gave before answers → gave after answers)
   pub honest_is : honest before → honest after
   pub sound_is : sound before → sound after
-  -- why it was closed: by a fault, or by a refused answer, which no honest port gives
+  -- why it was closed: by a fault, or by a refused answer to its last ask, which no honest port gives
   pub why : (state before).is_open ≡ true → (state after).is_open ≡ false
-      → FailedMore (state before) (state after) ⊎ ((answer : AnswerValue) × refused answer × ((answers : List AnswerValue) → gave before answers → gave after ((answers ++ kept) ++ answer ∷ [])))
+      → FailedMore (state before) (state after) ⊎ ((answer : AnswerValue) × refused (state after).last answer × ((answers : List AnswerValue) → gave before answers → gave after ((answers ++ kept) ++ answer ∷ [])))
   pub why_honest : honest before → (state before).is_open ≡ true → (state after).is_open ≡ false → FailedMore (state before) (state after)

@@ -1,5 +1,5 @@
 -- What a round and its passes begin with.
-use Rattle.std.specs.Prelude.{◌≡◌, ℕ, ◌+◌, ◌-◌, ◌*◌, ◌<◌, ◌≤◌, ◌^◌, List, length, All}
+use Rattle.std.specs.Prelude.{◌≡◌, ℕ, ◌+◌, ◌-◌, ◌<◌, ◌≤◌, ◌^◌, List, length, All}
 use Rattle.claim_board.specs.State.{BoardState}
 use Rattle.claim_board.specs.declared.most.TheConstants.{MOST_SEATS}
 use Rattle.link_key.specs.Link.{EndsUpTo}
@@ -12,7 +12,6 @@ pub record IsRoundOf (page : Page) (labels : List ℕ) : Type 0 where
   pub labels_are : page.labels ≡ labels
   pub ends : All (EndsUpTo (length labels)) page.cut
   pub round : 1 ≤ page.round
-  pub missed : missing page ≤ length page.cut
 
 -- a board of the shards of the book
 pub record IsBoardOf (board : BoardState) (page : Page) : Type 0 where
@@ -24,7 +23,7 @@ pub record IsBound {P : Type 0} (state : P → PortState) (page : Page) (port : 
   pub cut : (state port).cut ≡ page.cut
   pub count : (state port).asks + length page.cut < 2 ^ 64 - 1
 
--- a port of the book's cut that may be asked in all passes of a round
+-- a port of the book's cut whose count has room for the asks of all passes of a round: one for each shard that is missing, and one that closes it
 pub record IsWide {P : Type 0} (state : P → PortState) (page : Page) (port : P) : Type 0 where
   pub cut : (state port).cut ≡ page.cut
-  pub count : (state port).asks + (2 * length page.cut + 1) < 2 ^ 64 - 1
+  pub count : (state port).asks + (missing page + length page.cut + 1) < 2 ^ 64 - 1

@@ -8,4 +8,6 @@ pub mod Passes
 pub mod Scanned
 pub mod Rounds
 pub mod Runs
+pub mod Chains
 pub mod Reports
+pub mod Solved

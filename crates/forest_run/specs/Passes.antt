@@ -15,6 +15,7 @@ pub record PassWent {P : Type 0} (state : P → PortState) (honest sound : P →
   pub same_lanes : length after ≡ length before
   pub each : (i : ℕ) (d : LaneState P) → i < length before → AsksWent state honest sound gave (IsRefused old) (slice_index_or before i d).port (slice_index_or after i d).port (answers_at i)
   pub given : (answer : AnswerValue) → Contains answers answer → (i : ℕ) × (i < length before) × Contains (answers_at i) answer
+  pub reached : (i : ℕ) (answer : AnswerValue) → i < length before → Contains (answers_at i) answer → Contains answers answer
   pub few : (i : ℕ) → length (answers_at i) ≤ length answers
   -- each ask brought an answer, but for those that closed a port
   pub asks : asks_of state after + open_of state after ≡ (asks_of state before + length answers) + open_of state before

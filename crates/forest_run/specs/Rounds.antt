@@ -3,7 +3,7 @@ use Rattle.std.specs.Prelude.{◌≡◌, ℕ, ◌<◌, List, Option}
 use Rattle.frames.specs.AnswerValue.{AnswerValue}
 use Rattle.link_key.specs.declared.links.Link.{Link}
 use Rattle.round_theory.specs.Offers.{IsNamed}
-use Rattle.round_core.specs.Page.{Page, opened, missing, hearings}
+use Rattle.round_core.specs.Page.{Page, IsPage, opened, missing, hearings}
 use Rattle.round_core.specs.Picks.{ArePicks}
 use Rattle.ports.specs.Ports.{PortState}
 use Rattle.forest_run.specs.Lanes.{LaneState, open_of}
@@ -22,4 +22,5 @@ pub record RoundWent {P : Type 0} (state : P → PortState) (honest sound : P �
 pub record RoundPicked {P : Type 0} (state : P → PortState) (honest sound : P → Type 0) (gave : P → List AnswerValue → Type 0) (round : ℕ) (cut : List (List Link)) (labels : List ℕ) (before after : List (LaneState P)) (picks : List (Option Link)) (alone : ℕ) : Type 0 where
   pub book : Page
   pub went : RoundWent state honest sound gave (opened round cut labels) book before after alone
+  pub page : IsPage book
   pub picked : ArePicks labels (IsNamed (hearings book)) picks

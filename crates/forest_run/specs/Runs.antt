@@ -3,7 +3,7 @@ use Rattle.std.specs.Prelude.{◌≡◌, ℕ, ◌+◌, ◌*◌, ◌<◌, ◌≤�
 use Rattle.link_key.specs.declared.links.Link.{Link}
 use Rattle.frames.specs.AnswerValue.{AnswerValue}
 use Rattle.round_theory.specs.Offers.{IsNamed}
-use Rattle.round_core.specs.Page.{Page, opened, missing, hearings}
+use Rattle.round_core.specs.Page.{Page, IsPage, opened, missing, hearings}
 use Rattle.ports.specs.Ports.{PortState}
 use Rattle.forest_run.specs.Lanes.{LaneState, asks_of, open_of}
 use Rattle.forest_run.specs.Asks.{AsksWent, IsRefused, IsLight}
@@ -12,12 +12,12 @@ use Rattle.forest_run.specs.Asks.{AsksWent, IsRefused, IsLight}
 abbrev pub unanswered : Page → Page
 unanswered book = opened book.round book.cut book.labels
 
--- one of the books, as it was opened, refuses the answer
-abbrev pub IsRefusedIn : List Page → AnswerValue → Type 0
-IsRefusedIn books answer = (book : Page) × Contains books book × IsRefused (unanswered book) answer
+-- one of the books, as it was opened, refuses the answer to the last ask
+abbrev pub IsRefusedIn : List Page → ℕ × ℕ → AnswerValue → Type 0
+IsRefusedIn books last answer = (book : Page) × Contains books book × IsRefused (unanswered book) last answer
 
 -- the ports of lanes before and after asks, of which these answers were kept at each lane's place
-pub record PortsWent {P : Type 0} (state : P → PortState) (honest sound : P → Type 0) (gave : P → List AnswerValue → Type 0) (refused : AnswerValue → Type 0) (before after : List (LaneState P)) (answers_at : ℕ → List AnswerValue) : Type 0 where
+pub record PortsWent {P : Type 0} (state : P → PortState) (honest sound : P → Type 0) (gave : P → List AnswerValue → Type 0) (refused : ℕ × ℕ → AnswerValue → Type 0) (before after : List (LaneState P)) (answers_at : ℕ → List AnswerValue) : Type 0 where
   pub same_lanes : length after ≡ length before
   pub each : (i : ℕ) (d : LaneState P) → i < length before → AsksWent state honest sound gave refused (slice_index_or before i d).port (slice_index_or after i d).port (answers_at i)
 
@@ -29,9 +29,10 @@ IsGivenBy lanes answers_at answer = (i : ℕ) × (i < lanes) × Contains (answer
 abbrev pub IsNamedIn : List Page → Link → Type 0
 IsNamedIn books l = (book : Page) × Contains books book × IsNamed (hearings book) l
 
--- a whole book of the cut: each shard has its answer
+-- a whole book of the cut: each shard has one answer, and no other stands in it
 pub record IsWhole (cut : List (List Link)) (book : Page) : Type 0 where
   pub cut_is : book.cut ≡ cut
+  pub page : IsPage book
   pub all : missing book ≡ 0
 
 -- lanes before and after whole rounds over books of a cut: so many answers of the ports went into the books, and so many scans of the coordinator
@@ -40,6 +41,8 @@ pub record RoundsWent {P : Type 0} (state : P → PortState) (honest sound : P �
   pub answers_at : ℕ → List AnswerValue
   pub ports : PortsWent state honest sound gave (IsRefusedIn books) before after answers_at
   pub few : (i : ℕ) → length (answers_at i) ≤ answered
+  -- each answer that a lane kept stands in a book
+  pub reached : (i : ℕ) (answer : AnswerValue) → i < length before → Contains (answers_at i) answer → (book : Page) × Contains books book × Contains book.answers answer
   -- each shard of each round was answered or scanned
   pub counted : answered + alone ≡ length books * length cut
   -- each ask brought an answer, but for those that closed a port

@@ -1,9 +1,8 @@
 //! A ferry: one thread that asks one lane's port for the shards that its seat wins.
-ghost use Rattle.std.specs.Prelude.{◌≡◌, ℕ, ◌+◌, ◌-◌, ◌*◌, ◌<◌, ◌≤◌, ◌^◌, [], ◌∷◌, ◌++◌, length, Some, None, IfSome, option_to_list, vec_capacity, true, false, All};
+ghost use Rattle.std.specs.Prelude.{◌≡◌, ◌-◌, ◌<◌, ◌≤◌, ◌^◌, ◌++◌, length, IfSome, option_to_list, true, false};
 ghost use Rattle.claim_board.specs.Machine.{held};
 ghost use Rattle.claim_board.specs.declared.most.TheConstants.{MOST_SEATS};
 ghost use Rattle.limits.specs.declared.TheConstants.{MAX_SHARDS};
-ghost use Rattle.link_key.specs.Link.{EndsUpTo};
 ghost use Rattle.round_core.specs.Page.{is_taken};
 ghost use Rattle.forest_run.specs.Asks.{AsksWent, IsRefused, IsTaken, IsLight, shards_of};
 ghost use Rattle.forest_run.specs.Bounds.{IsRoundOf};

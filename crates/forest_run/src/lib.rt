@@ -2,15 +2,23 @@
 //!
 //! What is promised here:
 //!
+//! - Where all ports are honest, a run that ends well has the minimum spanning forest of the cut's links and the number of
+//!   merging rounds, and no run ends but so or with want of memory.
+//! - Whatever was answered, the forest closes no cycle and spans the links, and the report's counts are equations. Where
+//!   the coordinator scanned nothing, an answer that a lane kept names each link of the forest.
+//! - A run's books are tied to its solver: each but the last has the picks of one merging round, and the last has none, so
+//!   no round is reported that wasn't. A fault other than want of memory comes after such rounds, by the last one's picks.
 //! - A round ends with an answer for each shard in its book, or with want of memory. Each answer is one that a port
 //!   gave, or the coordinator's own scan; it scans itself only where no port is open.
 //! - An honest port is closed only where an ask of it failed or found no memory: no answer of it is refused. Of any port it
 //!   is told that one was closed for such a fault, or since an answer of it was refused; not yet for which shard.
 //! - The counts: the asks of all ports and the ports that are open add up, before and after, with the answers taken.
-//! - What the ports give decides which answers these are; no clause speaks of an order.
+//! - No clause speaks of the order in which answers come.
 //!
 //! ```text
-//!     whole_round          passes, then scan_missing for what no port answered
+//!     solve                rounds until one has no picks, and the forest
+//!      round_picks         a book, a whole round, the picks
+//!       whole_round        passes, then scan_missing for what no port answered
 //!        pass              room for the answers, a board, one ferry a lane with an open port, the answers into the book
 //!          deal            the board's seats into the lanes
 //!          cross           the ferries, in threads
@@ -24,7 +32,9 @@
 //! and no shard is in the lists of two seats.
 //!
 //! Where to start a change: `specs/Asks` says what asks do to a port, `specs/Passes` what passes do to all lanes and to the
-//! book, `specs/Rounds` what a round does. `proofs/AsksThen` and `proofs/Passing` compose them.
+//! book, `specs/Rounds` what a round does, `specs/Chains` how rounds
+//! follow one another, `specs/Solved` what a run does.
+//! `proofs/AsksThen`, `proofs/Passing` and `proofs/Running` compose them.
 #![tactic(auto)]
 
 mod cross;
@@ -33,10 +43,11 @@ mod lane;
 mod pass;
 mod report;
 mod round;
+mod run;
 mod scans;
 mod seats;
 mod taking;
 
 pub use lane::Lane;
-pub use report::{Report, report_of};
-pub use round::{round_picks, whole_round};
+pub use report::Report;
+pub use run::solve;

@@ -1,5 +1,5 @@
 //! What a run tells of itself.
-ghost use Rattle.std.specs.Prelude.{◌≡◌, ◌+◌, ◌*◌, ◌≤◌, length, take};
+ghost use Rattle.std.specs.Prelude.{◌≡◌, ◌+◌, ◌*◌, ◌≤◌, length};
 ghost use Rattle.limits.specs.declared.TheConstants.{MAX_WORKERS};
 ghost use Rattle.link_key.specs.Cut.{joined};
 ghost use Rattle.forest_run.specs.Reports.{IsReportOf};
@@ -31,9 +31,17 @@ pub struct Report {
     pub closed: u64,
 }
 
-/// The report of a run whose last round has this number, in which so many shards were scanned alone and so many ports
-/// closed. It looks at each shard once, and takes no memory.
-pub fn report_of<A: Allocator>(cut: &Cut<A>, n: u32, last: u32, alone: u64, closed: u32) -> Report
+// The report of a run whose last round has this number, in which so many shards were scanned alone and so many ports
+// closed. It looks at each shard once, and takes no memory.
+pub(crate) fn report_of<A: Allocator>(
+    cut: &Cut<A>,
+    shards: u32,
+    n: u32,
+    last: u32,
+    alone: u64,
+    closed: u32,
+) -> Report
+    requires shards { shards ≡ length cut.now }
     requires last { 1 ≤ last }
     requires few { last ≤ 32 }
     requires alone { alone ≤ last * length cut.now }
@@ -43,7 +51,6 @@ pub fn report_of<A: Allocator>(cut: &Cut<A>, n: u32, last: u32, alone: u64, clos
     ensures alone { result.alone ≡ alone }
     ensures closed { result.closed ≡ closed }
 {
-    let shards = cut.len();
     let answered = u64::from(last) * u64::from(shards) - alone;
     let closed = u64::from(closed);
     Report {

@@ -45,17 +45,17 @@ fn ask_all<A: Allocator + Copy + Send + Sync, P: Port<A> + Send + Drop, R: Threa
 }
 
 #[tactic(auto, using(crate::proofs::Scanning::rounded))]
-/// A whole round over a book: passes over the lanes' ports, and what no port answered the coordinator scans itself. It
-/// answers how many shards these were; at the end the book misses none.
-///
-/// In a pass each lane with an open port has a thread that asks its port for one shard after another, beginning at a
-/// place of its own; no shard is asked of two ports at once, nor again once it is answered. Where no thread can be made
-/// they ask one after another. It waits for the ports' answers. The only error is want of memory; then what was answered
-/// so far may stand in the book, and each lane is as its asks left it.
-///
-/// For s shards and k lanes a pass takes 8 bytes a shard and some 500 a lane, and each lane keeps room for s answers of
-/// some 40 bytes from then on.
-pub fn whole_round<
+// A whole round over a book: passes over the lanes' ports, and what no port answered the coordinator scans itself. It
+// answers how many shards these were; at the end the book misses none.
+//
+// In a pass each lane with an open port has a thread that asks its port for one shard after another, beginning at a
+// place of its own; no shard is asked of two ports at once, nor again once it is answered. Where no thread can be made
+// they ask one after another. It waits for the ports' answers. The only error is want of memory; then what was answered
+// so far may stand in the book, and each lane is as its asks left it.
+//
+// For s shards and k lanes a pass takes 8 bytes a shard and some 500 a lane, and each lane keeps room for s answers of
+// some 40 bytes from then on.
+pub(crate) fn whole_round<
     A: Allocator + Copy + Send + Sync,
     P: Port<A> + Send + Drop,
     R: Threads + Wait + Sync,
@@ -80,11 +80,11 @@ pub fn whole_round<
     scan_missing(alloc, cut, labels, book)
 }
 
-/// A whole round of this number over a book of its own: the picks of the answers, and how many shards the coordinator
-/// scanned itself. The only error is want of memory; then each lane is as its asks left it.
-///
-/// It takes a book, which is freed with the round, and what [`whole_round`] takes.
-pub fn round_picks<
+// A whole round of this number over a book of its own: the picks of the answers, and how many shards the coordinator
+// scanned itself. The only error is want of memory; then each lane is as its asks left it.
+//
+// It takes a book, which is freed with the round, and what `whole_round` takes.
+pub(crate) fn round_picks<
     'a,
     A: Allocator + Copy + Send + Sync,
     P: Port<A> + Send + Drop,

@@ -1,5 +1,5 @@
 //! The seats of a board go into the lanes, and come back into the very row that the board gave.
-ghost use Rattle.std.specs.Prelude.{◌≡◌, ◌+◌, ◌<◌, ◌≤◌, ℕ, length, All, None, OnOk, is_some, option_to_list, vec_capacity, vec_len, ◌++◌, [], reverse};
+ghost use Rattle.std.specs.Prelude.{◌≡◌, ◌+◌, ◌≤◌, length, All, None, OnOk, option_to_list, vec_capacity, vec_len, ◌++◌, [], reverse};
 ghost use Rattle.claim_board.specs.declared.most.TheConstants.{MOST_SEATS};
 ghost use Rattle.forest_run.specs.Lanes.{one_if, seats_of, open_of};
 ghost use Rattle.forest_run.specs.Seating.{Each, GotRoom, GotSeat, GaveSeat};

@@ -5,7 +5,7 @@ use Rattle.round_core.specs.Picks.{ArePicks}
 use Rattle.forest_run.specs.Rounds.{RoundWent}
 use Rattle.forest_run.proofs.Eaches.{each_refl}
 use Rattle.forest_run.proofs.Passing.{SamePort, passed_none}
-use Rattle.forest_run.proofs.Running.{opened_round, labels_still}
+use Rattle.forest_run.proofs.Running.{opened_round, same_still}
 use Rattle.forest_run.proofs.round.round_picks.Goals as goal
 
 pub returns-in_err-book-clause-asked : goal.returns-in_err-book-clause-asked
@@ -28,6 +28,7 @@ returns-clause-picked g c =
     record {
       book = book;
       went = went;
+      page = c.close.ensures.page;
       picked = subst (λ (labels : List ℕ). ArePicks labels (IsNamed (hearings book)) c.close.result)
-          (labels_still g.P.Port.state g.P.Port.honest g.P.Port.sound g.P.Port.gave c.args.round c.args.cut.now c.args.labels.now book c.args.lanes.now c.whole_round.new.lanes c.in_ok-alone.alone went) c.close.ensures.picks;
+          (same_still g.P.Port.state g.P.Port.honest g.P.Port.sound g.P.Port.gave c.args.round c.args.cut.now c.args.labels.now book c.args.lanes.now c.whole_round.new.lanes c.in_ok-alone.alone went).labels c.close.ensures.picks;
     }

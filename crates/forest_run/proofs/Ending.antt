@@ -1,0 +1,273 @@
+-- A turn more, and the end of a run.
+use Rattle.std.proofs.Common.{◌≡◌, ℕ, ◌+◌, ◌*◌, ◌<◌, ◌≤◌, ◌^◌, inl, inr, List, [], ◌∷◌, ◌++◌, length, get_or, refl, ap, sym, subst, ◌∙◌, arith, length-append}
+use Rattle.std.specs.Prelude.{All, Contains, Option, max}
+use Rattle.std.proofs.Math.Nat.{mul-le-mul_right}
+use Rattle.std.proofs.lemmas.Bool.{cases_lt}
+use Rattle.std.proofs.lemmas.Nat.{pow_below}
+use Rattle.std.proofs.lemmas.List.Elements.{Contains-append_left, Contains-append_right, All-contains}
+use Rattle.link_key.specs.declared.links.Link.{Link}
+use Rattle.link_key.specs.Link.{EndsUpTo}
+use Rattle.link_key.specs.Cut.{joined}
+use Rattle.frames.specs.AnswerValue.{AnswerValue}
+use Rattle.round_theory.specs.Rounds.{IsMergingRounds}
+use Rattle.round_core.specs.Page.{Page, opened}
+use Rattle.round_core.specs.Picks.{ArePicks, AreNoPicks}
+use Rattle.round_core.specs.Solver.{Progress, IsProgress, vertices, IsAtStart, IsMerged, IsTurn, IsFinished, IsFinishFault, HasRoundsOf}
+use Rattle.round_core.specs.declared.solver.Turn.{Turn}
+use Rattle.round_core.specs.declared.solver.Turn.TheVariants.{Merged, Done}
+use Rattle.round_core.specs.declared.solver.SolveFault.{SolveFault}
+use Rattle.round_core.specs.declared.solver.SolveFault.TheVariants.{Memory}
+use Rattle.round_core.proofs.Missing.{joined_ends}
+use Rattle.round_core.proofs.WholeRounds.{at_first, one_round, no_round, only_memory, none_missed, is_forest}
+use Rattle.ports.specs.Ports.{PortState}
+use Rattle.forest_run.specs.declared.report.Report.{Report}
+use Rattle.forest_run.specs.Lanes.{LaneState, open_of}
+use Rattle.forest_run.specs.Asks.{IsRefused, IsLight}
+use Rattle.forest_run.specs.Bounds.{IsWide}
+use Rattle.forest_run.specs.Passes.{PassWent}
+use Rattle.forest_run.specs.Rounds.{RoundPicked}
+use Rattle.forest_run.specs.Runs.{IsRefusedIn, IsNamedIn, IsWhole, PortsWent, RoundsWent}
+use Rattle.forest_run.specs.Chains.{IsSolvedBy}
+use Rattle.forest_run.specs.Reports.{IsReportOf}
+use Rattle.forest_run.specs.Solved.{AreHonest, TurnWent, IsTurnFault, PickedAfter, RunWent, IsSolveFault, SolveWent}
+use Rattle.forest_run.proofs.AsksThen.{stayed, asks_then}
+use Rattle.forest_run.proofs.Passing.{asks_more}
+use Rattle.forest_run.proofs.Running.{same_still, rounds_none, rounds_then}
+use Rattle.forest_run.proofs.Chained.{merged_then, light_picks}
+use Rattle.forest_run.proofs.Solving.{named_more, named_given, wide_still}
+
+-- rounds that are no more than the vertices allow are few
+pub rounds_few : (n r : ℕ) → n ≤ 2 ^ 26 → 2 ^ r ≤ max 1 n → r ≤ 26
+rounds_few n r few in_time = elim (cases_lt 26 r) [
+  | inl past ↦ (let more = pow_below 26 r past in absurd (omega (arith, more, few, in_time)))
+  | inr fits ↦ fits
+]
+
+module _ {P : Type 0} (state : P → PortState) (honest sound : P → Type 0) (gave : P → List AnswerValue → Type 0) where
+  -- the lanes of a run, and one book after another
+  abbrev Ports : List (LaneState P) → List (LaneState P) → Type 0
+  Ports xs ys = (books : List Page) × (answers_at : ℕ → List AnswerValue) × PortsWent state honest sound gave (IsRefusedIn books) xs ys answers_at
+
+  pub ports_then : (xs ys zs : List (LaneState P)) → Ports xs ys → Ports ys zs → Ports xs zs
+  ports_then xs ys zs u v =
+      let books = u.0 ++ v.0 in (
+        books,
+        (λ i. u.1 i ++ v.1 i),
+        record {
+          same_lanes = v.2.same_lanes ∙ u.2.same_lanes;
+          each = λ i d b. (
+              let within : i < length ys = (let e = u.2.same_lanes in omega arith) in
+              asks_then state honest sound gave (IsRefusedIn books) _ _ _ (u.1 i) (v.1 i)
+              (asks_more state honest sound gave (IsRefusedIn u.0) (IsRefusedIn books) (λ w t q. (q.0, Contains-append_left u.0 v.0 q.0 q.1, q.2)) _ _ (u.1 i) (u.2.each i d b))
+              (asks_more state honest sound gave (IsRefusedIn v.0) (IsRefusedIn books) (λ w t q. (q.0, Contains-append_right u.0 v.0 q.0 q.1, q.2)) _ _ (v.1 i) (v.2.each i d within)));
+        },
+      )
+
+  pub ports_none : (xs : List (LaneState P)) → Ports xs xs
+  ports_none xs = ([], (λ i. []), record { same_lanes = refl; each = λ i d b. stayed state honest sound gave (IsRefusedIn []) (get_or xs i d).port })
+
+  -- passes over one book
+  pub ports_of : (round : ℕ) (cut : List (List Link)) (labels : List ℕ) (middle : Page) (xs ys : List (LaneState P)) → PassWent state honest sound gave (opened round cut labels) middle xs ys → Ports xs ys
+  ports_of round cut labels middle xs ys u =
+      let book = opened round cut labels in (
+        book ∷ [],
+        u.answers_at,
+        record {
+          same_lanes = u.same_lanes;
+          each = λ i d b. asks_more state honest sound gave (IsRefused book) (IsRefusedIn (book ∷ [])) (λ w t q. (book, (0, omega arith, refl), q)) _ _ (u.answers_at i) (u.each i d b);
+        },
+      )
+
+  -- what a run has done after its merging rounds
+  pub record SoFar (n : ℕ) (cut : List (List Link)) (xs ys : List (LaneState P)) (solver : Progress) (alone : ℕ) : Type 0 where
+    pub books : List Page
+    pub answered : ℕ
+    pub rounds : RoundsWent state honest sound gave cut xs ys books answered alone
+    pub solved : IsSolvedBy n books solver
+    pub number : length books ≡ solver.rounds
+    pub in_time : 2 ^ solver.rounds ≤ max 1 n
+    pub vertices_are : vertices solver ≡ n
+    pub named : All (IsNamedIn books) solver.taken
+    pub right : AreHonest honest xs → HasRoundsOf (joined cut) solver
+
+  pub ports_so_far : (n : ℕ) (cut : List (List Link)) (xs ys : List (LaneState P)) (solver : Progress) (alone : ℕ) → SoFar n cut xs ys solver alone → Ports xs ys
+  ports_so_far n cut xs ys solver alone u = (u.books, u.rounds.answers_at, u.rounds.ports)
+
+  pub so_far_none : (n : ℕ) (cut : List (List Link)) (xs : List (LaneState P)) (solver : Progress) → IsAtStart n solver → SoFar n cut xs xs solver 0
+  so_far_none n cut xs solver start = record {
+    books = [];
+    answered = 0;
+    rounds = rounds_none state honest sound gave cut xs;
+    solved = record { start = solver; at_start = start; merged = refl };
+    number = sym start.rounds;
+    in_time = rw start.rounds (omega arith);
+    vertices_are = start.labels.vertices;
+    named = rw start.taken (λ i d b. absurd (omega arith));
+    right = λ h. at_first n (joined cut) solver start;
+  }
+
+  -- a whole round more, and its picks
+  pub picked_after : (n : ℕ) (cut : List (List Link)) (xs ys zs : List (LaneState P)) (solver : Progress) (picks : List (Option Link)) (alone k : ℕ)
+      → (u : SoFar n cut xs ys solver alone) → (r : RoundPicked state honest sound gave (solver.rounds + 1) cut solver.labels ys zs picks k)
+      → PickedAfter state honest sound gave n cut xs zs solver picks (u.answered + length r.went.passes.answers) (alone + k)
+  picked_after n cut xs ys zs solver picks alone k u r =
+      let same = same_still state honest sound gave (solver.rounds + 1) cut solver.labels r.book ys zs k r.went in
+      record {
+        merging = u.books;
+        last = r.book;
+        rounds = rounds_then state honest sound gave cut (solver.rounds + 1) solver.labels r.book xs ys zs u.books u.answered alone k u.rounds r.went r.page;
+        solved = u.solved;
+        picked = record { round = same.round; labels = same.labels; picked = r.picked };
+      }
+
+  -- where all ports are honest these are the picks of the whole list
+  pub least_picks : (n : ℕ) (cut : List (List Link)) (xs ys : List (LaneState P)) (solver : Progress) (picks : List (Option Link)) (answered alone : ℕ)
+      → PickedAfter state honest sound gave n cut xs ys solver picks answered alone → AreHonest honest xs → ArePicks solver.labels (Contains (joined cut)) picks
+  least_picks n cut xs ys solver picks answered alone v h =
+      let books = v.merging ++ v.last ∷ [] in
+      let here : Contains books v.last = Contains-append_right v.merging (v.last ∷ []) v.last (0, omega arith, refl) in
+      light_picks cut solver.labels v.last picks (All-contains (IsWhole cut) books v.last v.rounds.whole here) v.picked.labels
+      (All-contains (λ (book : Page). All (IsLight book) book.answers) books v.last (v.rounds.light h) here) v.picked.picked
+
+  ends_of : (n : ℕ) (cut : List (List Link)) (solver : Progress) → vertices solver ≡ n → All (EndsUpTo n) cut → EndsUpTo (vertices solver) (joined cut)
+  ends_of n cut solver same ends = subst (λ (m : ℕ). EndsUpTo m (joined cut)) (sym same) (joined_ends n cut ends)
+
+  -- a merging round more
+  pub merged_more : (n : ℕ) (cut : List (List Link)) (xs ys zs : List (LaneState P)) (old new : Progress) (picks : List (Option Link)) (count alone k : ℕ) → All (EndsUpTo n) cut
+      → SoFar n cut xs ys old alone → IsProgress old → RoundPicked state honest sound gave (old.rounds + 1) cut old.labels ys zs picks k → IsMerged picks count old new → SoFar n cut xs zs new (alone + k)
+  unfolding picked_after
+  merged_more n cut xs ys zs old new picks count alone k ends u is r m =
+      let v = picked_after n cut xs ys zs old picks alone k u r in
+      record {
+        books = u.books ++ r.book ∷ [];
+        answered = u.answered + length r.went.passes.answers;
+        rounds = v.rounds;
+        solved = merged_then n u.books old r.book new u.solved (record { picks = picks; count = count; picked = v.picked; merged = m });
+        number = (let e = u.number in let f = m.rounds in omega (arith, length-append u.books (r.book ∷ [])));
+        in_time = subst (λ (v : ℕ). 2 ^ new.rounds ≤ max 1 v) u.vertices_are m.in_time;
+        vertices_are = m.labelling.each_vertex ∙ u.vertices_are;
+        named = rw m.taken (named_more u.books r.book old.labels picks old.taken m.added r.picked m.picked.exact u.named);
+        right = λ h. (one_round (joined cut) old picks is (ends_of n cut old u.vertices_are ends) (u.right h) (least_picks n cut xs zs old picks _ _ v h) new count m).right;
+      }
+
+  -- the last round, which had no picks
+  pub ended : (n : ℕ) (cut : List (List Link)) (xs ys zs : List (LaneState P)) (solver : Progress) (picks : List (Option Link)) (alone k : ℕ) → All (EndsUpTo n) cut
+      → SoFar n cut xs ys solver alone → IsProgress solver → RoundPicked state honest sound gave (solver.rounds + 1) cut solver.labels ys zs picks k → AreNoPicks picks
+      → (answered : ℕ) × RunWent state honest sound gave n cut xs zs solver answered (alone + k)
+  unfolding picked_after
+  ended n cut xs ys zs solver picks alone k ends u is r none =
+      let v = picked_after n cut xs ys zs solver picks alone k u r in (
+        u.answered + length r.went.passes.answers,
+        record {
+          picks = picks;
+          went = v;
+          none = none;
+          number = (let e = u.number in omega (arith, length-append u.books (r.book ∷ [])));
+          progress = is;
+          in_time = u.in_time;
+          vertices_are = u.vertices_are;
+          named = u.named;
+          right = λ h. record {
+            so_far = u.right h;
+            all = no_round (joined cut) solver picks is (ends_of n cut solver u.vertices_are ends) (u.right h) (least_picks n cut xs zs solver picks _ _ v h) none;
+          };
+        },
+      )
+
+  pub turned_more : (n : ℕ) (cut : List (List Link)) (xs ys zs : List (LaneState P)) (old new : Progress) (turn : Turn) (alone k : ℕ) → All (EndsUpTo n) cut
+      → SoFar n cut xs ys old alone → TurnWent state honest sound gave cut old new ys zs turn k → ¬ (turn ≡ Done) → SoFar n cut xs zs new (alone + k)
+  turned_more n cut xs ys zs old new (Merged count) alone k ends u t going = merged_more n cut xs ys zs old new t.picks count alone k ends u t.progress t.picked t.stepped
+  turned_more n cut xs ys zs old new Done alone k ends u t going = absurd (going refl)
+
+  pub turned_last : (n : ℕ) (cut : List (List Link)) (xs ys zs : List (LaneState P)) (old new : Progress) (turn : Turn) (alone k : ℕ) → All (EndsUpTo n) cut
+      → SoFar n cut xs ys old alone → TurnWent state honest sound gave cut old new ys zs turn k → turn ≡ Done → (answered : ℕ) × RunWent state honest sound gave n cut xs zs new answered (alone + k)
+  turned_last n cut xs ys zs old new turn alone k ends u t is =
+      let last : IsTurn t.picks old new Done = subst (IsTurn t.picks old new) is t.stepped in
+      subst (λ (s : Progress). (answered : ℕ) × RunWent state honest sound gave n cut xs zs s answered (alone + k)) (sym last.1) (ended n cut xs ys zs old t.picks alone k ends u t.progress t.picked last.0)
+
+  -- a turn that ended ill
+  pub turn_fault : (n : ℕ) (cut : List (List Link)) (xs ys zs : List (LaneState P)) (solver : Progress) (alone : ℕ) (fault : SolveFault)
+      → SoFar n cut xs ys solver alone → IsTurnFault state honest sound gave cut solver ys zs fault → IsSolveFault state honest sound gave n cut xs zs fault
+  turn_fault n cut xs ys zs solver alone fault u (inl none) = inl none
+  turn_fault n cut xs ys zs solver alone fault u (inr t) = inr (record {
+    solver = solver;
+    picks = t.picks;
+    answered = u.answered + length t.picked.went.passes.answers;
+    alone = alone + t.alone;
+    went = picked_after n cut xs ys zs solver t.picks alone t.alone u t.picked;
+    vertices_are = u.vertices_are;
+    why = inl t.refused;
+  })
+
+  pub turn_honest : (n : ℕ) (cut : List (List Link)) (xs ys zs : List (LaneState P)) (solver : Progress) (alone : ℕ) (fault : SolveFault) → All (EndsUpTo n) cut
+      → SoFar n cut xs ys solver alone → IsTurnFault state honest sound gave cut solver ys zs fault → AreHonest honest xs → fault ≡ Memory
+  turn_honest n cut xs ys zs solver alone fault ends u (inl none) h = none
+  turn_honest n cut xs ys zs solver alone fault ends u (inr t) h =
+      only_memory (joined cut) solver t.picks t.progress (ends_of n cut solver u.vertices_are ends) (u.right h)
+      (least_picks n cut xs zs solver t.picks _ _ (picked_after n cut xs ys zs solver t.picks alone t.alone u t.picked) h) fault t.refused
+
+  -- a solver that can't be finished
+  pub finish_fault : (n : ℕ) (cut : List (List Link)) (xs ys : List (LaneState P)) (solver : Progress) (answered alone : ℕ) (fault : SolveFault)
+      → RunWent state honest sound gave n cut xs ys solver answered alone → IsFinishFault solver (joined cut) fault → IsSolveFault state honest sound gave n cut xs ys fault
+  finish_fault n cut xs ys solver answered alone fault u f = inr (record {
+    solver = solver;
+    picks = u.picks;
+    answered = answered;
+    alone = alone;
+    went = u.went;
+    vertices_are = u.vertices_are;
+    why = inr (u.none, f);
+  })
+
+  pub finish_honest : (n : ℕ) (cut : List (List Link)) (xs ys : List (LaneState P)) (solver : Progress) (answered alone : ℕ) (fault : SolveFault) → All (EndsUpTo n) cut
+      → RunWent state honest sound gave n cut xs ys solver answered alone → IsFinishFault solver (joined cut) fault → AreHonest honest xs → fault ≡ Memory
+  finish_honest n cut xs ys solver answered alone fault ends u f h =
+      let all = u.right h in none_missed (joined cut) solver u.progress (ends_of n cut solver u.vertices_are ends) all.so_far all.all fault f
+
+  pub wide_more : (n : ℕ) (cut : List (List Link)) (xs ys : List (LaneState P)) (solver : Progress) (alone : ℕ) → SoFar n cut xs ys solver alone → n ≤ 2 ^ 26 → length cut ≤ 4096
+      → All (λ (lane : LaneState P). (state lane.port).cut ≡ cut) xs → All (λ (lane : LaneState P). (state lane.port).asks < 2 ^ 63) xs
+      → All (λ (lane : LaneState P). IsWide state (opened (solver.rounds + 1) cut solver.labels) lane.port) ys
+  wide_more n cut xs ys solver alone u few small cuts counts =
+      let rounds = rounds_few n solver.rounds few u.in_time in
+      wide_still state honest sound gave cut (solver.rounds + 1) solver.labels xs ys u.books u.answered alone u.rounds small (let e = u.number in omega arith) cuts counts
+
+  -- so few shards are scanned that their count never wraps
+  pub alone_few : (n : ℕ) (cut : List (List Link)) (xs ys : List (LaneState P)) (solver : Progress) (alone : ℕ) → SoFar n cut xs ys solver alone → n ≤ 2 ^ 26 → length cut ≤ 4096 → alone ≤ 2 ^ 20
+  alone_few n cut xs ys solver alone u few small =
+      let rounds = rounds_few n solver.rounds few u.in_time in
+      let number : length u.books ≤ 26 = (let e = u.number in omega arith) in
+      let all = u.rounds.counted in
+      let product : length u.books * length cut ≤ 26 * length cut = mul-le-mul_right (length cut) number in
+      omega arith
+
+  -- the forest and the report of a run
+  pub solved : (n : ℕ) (cut : List (List Link)) (xs ys : List (LaneState P)) (solver : Progress) (answered alone : ℕ) (forest : List Link) (report : Report) → All (EndsUpTo n) cut
+      → RunWent state honest sound gave n cut xs ys solver answered alone → IsFinished solver (joined cut) forest → IsReportOf n cut report
+      → report.rounds ≡ solver.rounds → report.alone ≡ alone → open_of state ys + report.closed ≡ open_of state xs → SolveWent state honest sound gave n cut xs ys forest report
+  solved n cut xs ys solver answered alone forest report ends u f counts rounds_are alone_is closed =
+      let books = u.went.merging ++ u.went.last ∷ [] in
+      let number : length books ≡ report.rounds + 1 = u.number ∙ ap (λ r. r + 1) (sym rounds_are) in
+      let all : report.answered + report.alone ≡ length books * length cut = counts.answered ∙ ap (λ b. b * length cut) (sym number) in
+      let same : answered ≡ report.answered = (let a = u.went.rounds.counted in omega arith) in
+      let run : RunWent state honest sound gave n cut xs ys solver report.answered report.alone =
+      subst (λ (k : ℕ). RunWent state honest sound gave n cut xs ys solver report.answered k) (sym alone_is)
+      (subst (λ (k : ℕ). RunWent state honest sound gave n cut xs ys solver k alone) same u) in
+      let merging : List Page = run.went.merging in
+      let last : List Page = run.went.last ∷ [] in
+      record {
+        solver = solver;
+        picks = run.picks;
+        went = run.went;
+        none = run.none;
+        rounds_are = rounds_are;
+        in_time = rw rounds_are run.in_time;
+        counts = counts;
+        asked = (let a = run.went.rounds.asks in let b = counts.asked in omega arith);
+        closed = closed;
+        finished = f;
+        named = λ none l l_in.
+            named_given state honest sound gave cut xs ys (merging ++ last) report.answered report.alone run.went.rounds none l
+            (let q = All-contains (IsNamedIn merging) solver.taken l run.named ((f.same l).0 l_in) in (q.0, Contains-append_left merging last q.0 q.1, q.2));
+        honest_forest = λ h. (let r = run.right h in is_forest (joined cut) solver run.progress (ends_of n cut solver run.vertices_are ends) r.so_far r.all forest f);
+        honest_rounds = λ h. rw rounds_are (subst (λ (m : ℕ). IsMergingRounds m (joined cut) solver.rounds) run.vertices_are (run.right h).all);
+      }

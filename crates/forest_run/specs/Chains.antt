@@ -1,0 +1,31 @@
+-- The books of a run, one after the other, and the solver that they lead to.
+use Rattle.std.specs.Prelude.{◌≡◌, ℕ, ◌+◌, List, [], ◌∷◌, Option}
+use Rattle.link_key.specs.declared.links.Link.{Link}
+use Rattle.round_theory.specs.Offers.{IsNamed}
+use Rattle.round_core.specs.Page.{Page, hearings}
+use Rattle.round_core.specs.Picks.{ArePicks}
+use Rattle.round_core.specs.Solver.{Progress, IsAtStart, IsMerged}
+
+-- the book is of the solver's next round, under its labels, and these are its picks
+pub record IsPickedBy (p : Progress) (book : Page) (picks : List (Option Link)) : Type 0 where
+  pub round : book.round ≡ p.rounds + 1
+  pub labels : book.labels ≡ p.labels
+  pub picked : ArePicks p.labels (IsNamed (hearings book)) picks
+
+-- the solver took the book's picks, and there were some
+pub record IsMergedBy (old : Progress) (book : Page) (new : Progress) : Type 0 where
+  pub picks : List (Option Link)
+  pub count : ℕ
+  pub picked : IsPickedBy old book picks
+  pub merged : IsMerged picks count old new
+
+-- the solver took the picks of each of the books, in their order
+abbrev pub AreMergedBy : Progress → List Page → Progress → Type 0
+AreMergedBy old [] new = new ≡ old
+AreMergedBy old (book ∷ books) new = (middle : Progress) × IsMergedBy old book middle × AreMergedBy middle books new
+
+-- a solver for the vertices 1 to n has come so far by a merging round with each of the books, and by no other
+pub record IsSolvedBy (n : ℕ) (books : List Page) (p : Progress) : Type 0 where
+  pub start : Progress
+  pub at_start : IsAtStart n start
+  pub merged : AreMergedBy start books p

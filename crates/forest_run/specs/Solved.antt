@@ -1,0 +1,108 @@
+-- What a whole run does.
+use Rattle.std.specs.Prelude.{◌≡◌, ℕ, ◌+◌, ◌≤◌, ◌⊎◌, ◌^◌, max, List, [], ◌∷◌, ◌++◌, length, All, Contains, Option}
+use Rattle.link_key.specs.declared.links.Link.{Link}
+use Rattle.link_key.specs.Cut.{joined}
+use Rattle.link_key.specs.Forest.{IsForestOf}
+use Rattle.frames.specs.AnswerValue.{AnswerValue}
+use Rattle.round_theory.specs.Offers.{Names}
+use Rattle.round_theory.specs.Rounds.{IsMergingRounds}
+use Rattle.round_core.specs.Page.{Page, hearing_of}
+use Rattle.round_core.specs.Picks.{AreNoPicks}
+use Rattle.round_core.specs.Solver.{Progress, IsProgress, vertices, IsTurn, IsStepFault, IsFinished, IsFinishFault, HasRoundsOf}
+use Rattle.round_core.specs.declared.solver.Turn.{Turn}
+use Rattle.round_core.specs.declared.solver.SolveFault.{SolveFault}
+use Rattle.round_core.specs.declared.solver.SolveFault.TheVariants.{Memory}
+use Rattle.ports.specs.Ports.{PortState}
+use Rattle.forest_run.specs.declared.report.Report.{Report}
+use Rattle.forest_run.specs.Lanes.{LaneState, asks_of, open_of}
+use Rattle.forest_run.specs.Rounds.{RoundPicked}
+use Rattle.forest_run.specs.Runs.{RoundsWent, IsGivenBy, IsNamedIn}
+use Rattle.forest_run.specs.Chains.{IsPickedBy, IsSolvedBy}
+use Rattle.forest_run.specs.Reports.{IsReportOf}
+
+-- each lane's port is honest
+abbrev pub AreHonest : {P : Type 0} → (P → Type 0) → List (LaneState P) → Type 0
+AreHonest honest lanes = All (λ lane. honest lane.port) lanes
+
+-- ---- one round
+
+-- a round under the solver's labels, and a step of the solver by its picks
+pub record TurnWent {P : Type 0} (state : P → PortState) (honest sound : P → Type 0) (gave : P → List AnswerValue → Type 0) (cut : List (List Link)) (old new : Progress) (before after : List (LaneState P)) (turn : Turn) (alone : ℕ) : Type 0 where
+  pub picks : List (Option Link)
+  pub progress : IsProgress old
+  pub picked : RoundPicked state honest sound gave (old.rounds + 1) cut old.labels before after picks alone
+  pub stepped : IsTurn picks old new turn
+
+-- a round under the solver's labels, whose picks the solver refuses
+pub record TurnRefused {P : Type 0} (state : P → PortState) (honest sound : P → Type 0) (gave : P → List AnswerValue → Type 0) (cut : List (List Link)) (old : Progress) (before after : List (LaneState P)) (fault : SolveFault) : Type 0 where
+  pub picks : List (Option Link)
+  pub alone : ℕ
+  pub progress : IsProgress old
+  pub picked : RoundPicked state honest sound gave (old.rounds + 1) cut old.labels before after picks alone
+  pub refused : IsStepFault old picks fault
+
+-- why a turn ends ill: want of memory, or the solver refuses the picks
+abbrev pub IsTurnFault : {P : Type 0} → (P → PortState) → (P → Type 0) → (P → Type 0) → (P → List AnswerValue → Type 0) → List (List Link) → Progress → List (LaneState P) → List (LaneState P) → SolveFault → Type 0
+IsTurnFault state honest sound gave cut old before after fault = (fault ≡ Memory) ⊎ TurnRefused state honest sound gave cut old before after fault
+
+-- ---- rounds from the start of a run
+
+-- merging rounds from a run's start, which led to this solver, and one whole round more, of which these are the picks
+pub record PickedAfter {P : Type 0} (state : P → PortState) (honest sound : P → Type 0) (gave : P → List AnswerValue → Type 0) (n : ℕ) (cut : List (List Link)) (before after : List (LaneState P)) (solver : Progress) (picks : List (Option Link)) (answered alone : ℕ) : Type 0 where
+  pub merging : List Page
+  pub last : Page
+  pub rounds : RoundsWent state honest sound gave cut before after (merging ++ last ∷ []) answered alone
+  pub solved : IsSolvedBy n merging solver
+  pub picked : IsPickedBy solver last picks
+
+-- the links taken are those of all merging rounds over the list
+pub record HasAllRoundsOf (links : List Link) (p : Progress) : Type 0 where
+  pub so_far : HasRoundsOf links p
+  pub all : IsMergingRounds (vertices p) links p.rounds
+
+-- rounds of a run until one had no picks: an answer of each link that the solver took stands in a book
+pub record RunWent {P : Type 0} (state : P → PortState) (honest sound : P → Type 0) (gave : P → List AnswerValue → Type 0) (n : ℕ) (cut : List (List Link)) (before after : List (LaneState P)) (solver : Progress) (answered alone : ℕ) : Type 0 where
+  pub picks : List (Option Link)
+  pub went : PickedAfter state honest sound gave n cut before after solver picks answered alone
+  pub none : AreNoPicks picks
+  pub number : length (went.merging ++ went.last ∷ []) ≡ solver.rounds + 1
+  pub progress : IsProgress solver
+  pub in_time : 2 ^ solver.rounds ≤ max 1 n
+  pub vertices_are : vertices solver ≡ n
+  pub named : All (IsNamedIn went.merging) solver.taken
+  pub right : AreHonest honest before → HasAllRoundsOf (joined cut) solver
+
+-- rounds of a run, after which the solver refuses the picks of the last one, or there were none and it can't be finished
+pub record RunRefused {P : Type 0} (state : P → PortState) (honest sound : P → Type 0) (gave : P → List AnswerValue → Type 0) (n : ℕ) (cut : List (List Link)) (before after : List (LaneState P)) (fault : SolveFault) : Type 0 where
+  pub solver : Progress
+  pub picks : List (Option Link)
+  pub answered : ℕ
+  pub alone : ℕ
+  pub went : PickedAfter state honest sound gave n cut before after solver picks answered alone
+  pub vertices_are : vertices solver ≡ n
+  pub why : IsStepFault solver picks fault ⊎ (AreNoPicks picks × IsFinishFault solver (joined cut) fault)
+
+-- why a run has no forest: want of memory, or what was answered in its rounds
+abbrev pub IsSolveFault : {P : Type 0} → (P → PortState) → (P → Type 0) → (P → Type 0) → (P → List AnswerValue → Type 0) → ℕ → List (List Link) → List (LaneState P) → List (LaneState P) → SolveFault → Type 0
+IsSolveFault state honest sound gave n cut before after fault = (fault ≡ Memory) ⊎ RunRefused state honest sound gave n cut before after fault
+
+-- a run that ended well over the lanes: its forest, and its report
+pub record SolveWent {P : Type 0} (state : P → PortState) (honest sound : P → Type 0) (gave : P → List AnswerValue → Type 0) (n : ℕ) (cut : List (List Link)) (before after : List (LaneState P)) (forest : List Link) (report : Report) : Type 0 where
+  pub solver : Progress
+  pub picks : List (Option Link)
+  -- a merging round for each that is reported, and the last one, which had no picks
+  pub went : PickedAfter state honest sound gave n cut before after solver picks report.answered report.alone
+  pub none : AreNoPicks picks
+  pub rounds_are : report.rounds ≡ solver.rounds
+  pub in_time : 2 ^ report.rounds ≤ max 1 n
+  pub counts : IsReportOf n cut report
+  -- the ports' counts of asks rose by `asked`, and so many ports were closed
+  pub asked : asks_of state after ≡ asks_of state before + report.asked
+  pub closed : open_of state after + report.closed ≡ open_of state before
+  -- the links that the solver took, which are a spanning forest, whatever was answered
+  pub finished : IsFinished solver (joined cut) forest
+  -- where the coordinator scanned nothing, an answer that a lane kept names each link
+  pub named : report.alone ≡ 0 → (l : Link) → Contains forest l → (answer : AnswerValue) × IsGivenBy (length before) went.rounds.answers_at answer × Names (hearing_of cut answer) l
+  -- where all ports are honest: the minimum spanning forest, and the number of merging rounds
+  pub honest_forest : AreHonest honest before → IsForestOf (joined cut) forest
+  pub honest_rounds : AreHonest honest before → IsMergingRounds n (joined cut) report.rounds

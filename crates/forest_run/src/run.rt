@@ -1,0 +1,140 @@
+//! The whole run over lanes: rounds, until one has no picks.
+ghost use Rattle.std.specs.Prelude.{◌≡◌, ℕ, ◌+◌, ◌<◌, ◌≤◌, ◌^◌, List, length, All, IfOk, IfErr};
+ghost use Rattle.claim_board.specs.declared.most.TheConstants.{MOST_SEATS};
+ghost use Rattle.limits.specs.declared.TheConstants.{MAX_SHARDS, MAX_VERTICES};
+ghost use Rattle.link_key.specs.Link.{EndsUpTo};
+ghost use Rattle.frames.specs.AnswerValue.{AnswerValue};
+ghost use Rattle.round_core.specs.Page.{Page, opened};
+ghost use Rattle.round_core.specs.Solver.{vertices, IsAtStart};
+ghost use Rattle.round_core.specs.declared.solver.SolveFault.TheVariants.{Memory};
+ghost use Rattle.forest_run.specs.Lanes.{IsIdle};
+ghost use Rattle.forest_run.specs.Bounds.{IsWide};
+ghost use Rattle.forest_run.specs.Runs.{IsRefusedIn, PortsWent};
+ghost use Rattle.forest_run.specs.Solved.{AreHonest, TurnWent, IsTurnFault, RunWent, SolveWent, IsSolveFault};
+
+use crate::lane::Lane;
+use crate::report::{Report, report_of};
+use crate::round::round_picks;
+use crate::seats::count_open;
+use link_key::{Cut, Forest};
+use ports::Port;
+use round_core::{SolveFault, Solver, Turn};
+use std::alloc::Allocator;
+use std::sync::Wait;
+use std::thread::Threads;
+
+// One round, and its picks into the solver; and how many shards were scanned alone.
+fn turn<'a, A: Allocator + Copy + Send + Sync, P: Port<A> + Send + Drop, R: Threads + Wait + Sync>(
+    rt: &R,
+    alloc: A,
+    solver: &mut Solver<A>,
+    cut: &'a Cut<'a, A>,
+    lanes: &mut [Lane<P, A>],
+) -> Result<(Turn, u32), SolveFault>
+    requires few { length lanes.old ≤ MOST_SEATS }
+    requires some_shard { 0 < length cut.now }
+    requires ends { All (EndsUpTo (vertices solver.old)) cut.now }
+    requires wide { All (λ lane. IsWide P.state (opened (solver.old.rounds + 1) cut.now solver.old.labels) lane.port) lanes.old }
+    requires idle { All IsIdle lanes.old }
+    ensures went { IfOk result (λ r. TurnWent P.state P.honest P.sound P.gave cut.now solver.old solver.new lanes.old lanes.new r.0 r.1) }
+    ensures ports { (books : List Page) × (answers_at : ℕ → List AnswerValue)
+        × PortsWent P.state P.honest P.sound P.gave (IsRefusedIn books) lanes.old lanes.new answers_at }
+    ensures fault { IfErr result (IsTurnFault P.state P.honest P.sound P.gave cut.now solver.old lanes.old lanes.new) }
+    ensures idle { All IsIdle lanes.new }
+{
+    let (picks, alone) = round_picks(rt, alloc, solver.round(), cut, solver.labels(), lanes)?;
+    let turn = solver.step(&picks)?;
+    Ok((turn, alone))
+}
+
+// Rounds until one has no picks. It answers how many shards were scanned alone.
+fn merge_all<
+    'a,
+    A: Allocator + Copy + Send + Sync,
+    P: Port<A> + Send + Drop,
+    R: Threads + Wait + Sync,
+>(
+    rt: &R,
+    alloc: A,
+    n: u32,
+    solver: &mut Solver<A>,
+    cut: &'a Cut<'a, A>,
+    lanes: &mut [Lane<P, A>],
+) -> Result<u64, SolveFault>
+    requires start { IsAtStart n solver.old }
+    requires few { length lanes.old ≤ MOST_SEATS }
+    requires vertices { n ≤ MAX_VERTICES }
+    requires some_shard { 0 < length cut.now }
+    requires few_shards { length cut.now ≤ MAX_SHARDS }
+    requires ends { All (EndsUpTo n) cut.now }
+    requires cut { All (λ lane. (P.state lane.port).cut ≡ cut.now) lanes.old }
+    requires counts { All (λ lane. (P.state lane.port).asks < 2 ^ 63) lanes.old }
+    requires idle { All IsIdle lanes.old }
+    ensures went { IfOk result (λ alone. (answered : ℕ)
+        × RunWent P.state P.honest P.sound P.gave n cut.now lanes.old lanes.new solver.new answered alone) }
+    ensures ports { (books : List Page) × (answers_at : ℕ → List AnswerValue)
+        × PortsWent P.state P.honest P.sound P.gave (IsRefusedIn books) lanes.old lanes.new answers_at }
+    ensures fault { IfErr result (IsSolveFault P.state P.honest P.sound P.gave n cut.now lanes.old lanes.new) }
+    ensures honest_fault { IfErr result (λ fault. AreHonest P.honest lanes.old → fault ≡ Memory) }
+    ensures idle { All IsIdle lanes.new }
+{
+    let mut alone = 0;
+    for _ in rt.forever() {
+        let (turn, scanned) = turn(rt, alloc, solver, cut, lanes)?;
+        alone += u64::from(scanned);
+        if let Turn::Done = turn {
+            break;
+        }
+    }
+    Ok(alone)
+}
+
+/// A spanning forest of the cut's links, by what the lanes' ports answer and, where none is open, by the coordinator's own
+/// scans; and what the run did.
+///
+/// Where all ports are honest it is the minimum spanning forest, after as many rounds as merge components, and the only
+/// fault is want of memory. Whatever the answers are, the forest closes no cycle and spans the links. In each round each
+/// shard is asked of one port after another until one answers. It waits for the ports' answers. At the end, after a fault
+/// too, each lane holds its port as the asks left it, without a seat or kept answers.
+///
+/// A run takes the solver's memory, that of one round at a time, and in each lane room for an answer of each shard. It
+/// has at most log2 n merging rounds, and one more.
+///
+/// The faults: a round with picks past the bound; once a round has no picks, the first link of the cut whose ends the links
+/// taken don't join; want of memory.
+pub fn solve<
+    'a,
+    A: Allocator + Copy + Send + Sync,
+    P: Port<A> + Send + Drop,
+    R: Threads + Wait + Sync,
+>(
+    rt: &R,
+    alloc: A,
+    n: u32,
+    cut: &'a Cut<'a, A>,
+    lanes: &mut [Lane<P, A>],
+) -> Result<(Forest<A>, Report), SolveFault>
+    requires few { length lanes.old ≤ MOST_SEATS }
+    requires vertices { n ≤ MAX_VERTICES }
+    requires ends { All (EndsUpTo n) cut.now }
+    requires cut { All (λ lane. (P.state lane.port).cut ≡ cut.now) lanes.old }
+    requires counts { All (λ lane. (P.state lane.port).asks < 2 ^ 63) lanes.old }
+    requires idle { All IsIdle lanes.old }
+    ensures went { IfOk result (λ r. SolveWent P.state P.honest P.sound P.gave n cut.now lanes.old lanes.new r.0 r.1) }
+    ensures ports { (books : List Page) × (answers_at : ℕ → List AnswerValue)
+        × PortsWent P.state P.honest P.sound P.gave (IsRefusedIn books) lanes.old lanes.new answers_at }
+    ensures fault { IfErr result (IsSolveFault P.state P.honest P.sound P.gave n cut.now lanes.old lanes.new) }
+    ensures honest_fault { IfErr result (λ fault. AreHonest P.honest lanes.old → fault ≡ Memory) }
+    ensures idle { All IsIdle lanes.new }
+{
+    let shards = cut.len();
+    let open = count_open(lanes);
+    let mut solver = Solver::new(alloc, n)?;
+    let alone = merge_all(rt, alloc, n, &mut solver, cut, lanes)?;
+    let forest = solver.finish(cut)?;
+    let closed = open - count_open(lanes);
+    Ok((
+        forest,
+        report_of(cut, shards, n, solver.round(), alone, closed),
+    ))
+}
