@@ -10,8 +10,8 @@
 //!   no round is reported that wasn't. A fault other than want of memory comes after such rounds, by the last one's picks.
 //! - A round ends with an answer for each shard in its book, or with want of memory. Each answer is one that a port
 //!   gave, or the coordinator's own scan; it scans itself only where no port is open.
-//! - An honest port is closed only where an ask of it failed or found no memory: no answer of it is refused. Of any port it
-//!   is told that one was closed for such a fault, or since an answer of it was refused; not yet for which shard.
+//! - A port is closed only where an ask of it failed or found no memory, or where the round's book refuses its answer to
+//!   the last ask. No answer of an honest port is refused.
 //! - The counts: the asks of all ports and the ports that are open add up, before and after, with the answers taken.
 //! - No clause speaks of the order in which answers come.
 //!
