@@ -18,7 +18,7 @@ use Rattle.round_core.specs.declared.solver.Turn.TheVariants.{Merged, Done}
 use Rattle.round_core.specs.declared.solver.SolveFault.{SolveFault}
 use Rattle.round_core.specs.declared.solver.SolveFault.TheVariants.{Memory}
 use Rattle.round_core.proofs.Missing.{joined_ends}
-use Rattle.round_core.proofs.WholeRounds.{at_first, one_round, no_round, only_memory, none_missed, is_forest}
+use Rattle.round_core.proofs.WholeRounds.{at_first, one_round, no_round, only_memory, finish_only_memory, is_forest}
 use Rattle.ports.specs.Ports.{PortState}
 use Rattle.forest_run.specs.declared.report.Report.{Report}
 use Rattle.forest_run.specs.Lanes.{LaneState, open_of}
@@ -103,7 +103,7 @@ module _ {P : Type 0} (state : P → PortState) (honest sound : P → Type 0) (g
     in_time = rw start.rounds (omega arith);
     vertices_are = start.labels.vertices;
     named = rw start.taken (λ i d b. absurd (omega arith));
-    right = λ h. at_first n (joined cut) solver start;
+    right = λ h. at_first (joined cut) n solver start;
   }
 
   -- a whole round more, and its picks
@@ -222,7 +222,7 @@ module _ {P : Type 0} (state : P → PortState) (honest sound : P → Type 0) (g
   pub finish_honest : (n : ℕ) (cut : List (List Link)) (xs ys : List (LaneState P)) (solver : Progress) (answered alone : ℕ) (fault : SolveFault) → All (EndsUpTo n) cut
       → RunWent state honest sound gave n cut xs ys solver answered alone → IsFinishFault solver (joined cut) fault → AreHonest honest xs → fault ≡ Memory
   finish_honest n cut xs ys solver answered alone fault ends u f h =
-      let all = u.right h in none_missed (joined cut) solver u.progress (ends_of n cut solver u.vertices_are ends) all.so_far all.all fault f
+      let all = u.right h in finish_only_memory (joined cut) solver u.progress (ends_of n cut solver u.vertices_are ends) all.so_far all.all fault f
 
   pub wide_more : (n : ℕ) (cut : List (List Link)) (xs ys : List (LaneState P)) (solver : Progress) (alone : ℕ) → SoFar n cut xs ys solver alone → n ≤ 2 ^ 26 → length cut ≤ 4096
       → All (λ (lane : LaneState P). (state lane.port).cut ≡ cut) xs → All (λ (lane : LaneState P). (state lane.port).asks < 2 ^ 63) xs
@@ -268,6 +268,6 @@ module _ {P : Type 0} (state : P → PortState) (honest sound : P → Type 0) (g
         named = λ none l l_in.
             named_given state honest sound gave cut xs ys (merging ++ last) report.answered report.alone run.went.rounds none l
             (let q = All-contains (IsNamedIn merging) solver.taken l run.named ((f.same l).0 l_in) in (q.0, Contains-append_left merging last q.0 q.1, q.2));
-        honest_forest = λ h. (let r = run.right h in is_forest (joined cut) solver run.progress (ends_of n cut solver run.vertices_are ends) r.so_far r.all forest f);
+        honest_forest = λ h. (let r = run.right h in is_forest (joined cut) solver r.so_far forest f);
         honest_rounds = λ h. rw rounds_are (subst (λ (m : ℕ). IsMergingRounds m (joined cut) solver.rounds) run.vertices_are (run.right h).all);
       }
