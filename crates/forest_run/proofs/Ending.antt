@@ -29,7 +29,7 @@ use Rattle.forest_run.specs.Rounds.{RoundPicked}
 use Rattle.forest_run.specs.Runs.{IsRefusedIn, IsNamedIn, IsWhole, PortsWent, RoundsWent}
 use Rattle.forest_run.specs.Chains.{IsSolvedBy}
 use Rattle.forest_run.specs.Reports.{IsReportOf}
-use Rattle.forest_run.specs.Solved.{AreHonest, TurnWent, IsTurnFault, PickedAfter, RunWent, IsSolveFault, SolveWent}
+use Rattle.forest_run.specs.Solved.{AreHonest, TurnWent, IsTurnFault, PickedAfter, RunWent, RunAsked, IsSolveFault, SolveWent}
 use Rattle.forest_run.proofs.AsksThen.{stayed, asks_then}
 use Rattle.forest_run.proofs.Passing.{asks_more}
 use Rattle.forest_run.proofs.Running.{same_still, rounds_none, rounds_then}
@@ -44,37 +44,25 @@ rounds_few n r few in_time = elim (cases_lt 26 r) [
 ]
 
 module _ {P : Type 0} (state : P → PortState) (honest sound : P → Type 0) (gave : P → List AnswerValue → Type 0) where
-  -- the lanes of a run, and one book after another
-  abbrev Ports : List (LaneState P) → List (LaneState P) → Type 0
-  Ports xs ys = (books : List Page) × (answers_at : ℕ → List AnswerValue) × PortsWent state honest sound gave (IsRefusedIn books) xs ys answers_at
-
-  pub ports_then : (xs ys zs : List (LaneState P)) → Ports xs ys → Ports ys zs → Ports xs zs
-  ports_then xs ys zs u v =
-      let books = u.0 ++ v.0 in (
-        books,
-        (λ i. u.1 i ++ v.1 i),
-        record {
-          same_lanes = v.2.same_lanes ∙ u.2.same_lanes;
-          each = λ i d b. (
-              let within : i < length ys = (let e = u.2.same_lanes in omega arith) in
-              asks_then state honest sound gave (IsRefusedIn books) _ _ _ (u.1 i) (v.1 i)
-              (asks_more state honest sound gave (IsRefusedIn u.0) (IsRefusedIn books) (λ w t q. (q.0, Contains-append_left u.0 v.0 q.0 q.1, q.2)) _ _ (u.1 i) (u.2.each i d b))
-              (asks_more state honest sound gave (IsRefusedIn v.0) (IsRefusedIn books) (λ w t q. (q.0, Contains-append_right u.0 v.0 q.0 q.1, q.2)) _ _ (v.1 i) (v.2.each i d within)));
-        },
-      )
-
-  pub ports_none : (xs : List (LaneState P)) → Ports xs xs
-  ports_none xs = ([], (λ i. []), record { same_lanes = refl; each = λ i d b. stayed state honest sound gave (IsRefusedIn []) (get_or xs i d).port })
+  pub asked_none : (n : ℕ) (cut : List (List Link)) (xs : List (LaneState P)) → RunAsked state honest sound gave n cut xs xs
+  asked_none n cut xs = record {
+    books = [];
+    are_books = inl refl;
+    answers_at = λ i. [];
+    ports = record { same_lanes = refl; each = λ i d b. stayed state honest sound gave (IsRefusedIn []) (get_or xs i d).port };
+  }
 
   -- passes over one book
-  pub ports_of : (round : ℕ) (cut : List (List Link)) (labels : List ℕ) (middle : Page) (xs ys : List (LaneState P)) → PassWent state honest sound gave (opened round cut labels) middle xs ys → Ports xs ys
-  ports_of round cut labels middle xs ys u =
-      let book = opened round cut labels in (
-        book ∷ [],
-        u.answers_at,
+  pub ports_of : (r round : ℕ) (cut : List (List Link)) (ls labels : List ℕ) (middle : Page) (xs ys : List (LaneState P)) → r ≡ round → ls ≡ labels → PassWent state honest sound gave (opened r cut ls) middle xs ys
+      → (answers_at : ℕ → List AnswerValue) × PortsWent state honest sound gave (IsRefusedIn (opened round cut labels ∷ [])) xs ys answers_at
+  ports_of r round cut ls labels middle xs ys same_round same_labels u =
+      let book = opened round cut labels in
+      let v : PassWent state honest sound gave book middle xs ys =
+      subst (λ (k : ℕ). PassWent state honest sound gave (opened k cut labels) middle xs ys) same_round (subst (λ (k : List ℕ). PassWent state honest sound gave (opened r cut k) middle xs ys) same_labels u) in (
+        v.answers_at,
         record {
-          same_lanes = u.same_lanes;
-          each = λ i d b. asks_more state honest sound gave (IsRefused book) (IsRefusedIn (book ∷ [])) (λ w t q. (book, (0, omega arith, refl), q)) _ _ (u.answers_at i) (u.each i d b);
+          same_lanes = v.same_lanes;
+          each = λ i d b. asks_more state honest sound gave (IsRefused book) (IsRefusedIn (book ∷ [])) (λ w t q. (book, (0, omega arith, refl), q)) _ _ (v.answers_at i) (v.each i d b);
         },
       )
 
@@ -90,8 +78,26 @@ module _ {P : Type 0} (state : P → PortState) (honest sound : P → Type 0) (g
     pub named : All (IsNamedIn books) solver.taken
     pub right : AreHonest honest xs → HasRoundsOf (joined cut) solver
 
-  pub ports_so_far : (n : ℕ) (cut : List (List Link)) (xs ys : List (LaneState P)) (solver : Progress) (alone : ℕ) → SoFar n cut xs ys solver alone → Ports xs ys
-  ports_so_far n cut xs ys solver alone u = (u.books, u.rounds.answers_at, u.rounds.ports)
+  -- a round more, whether it was ended or not
+  pub asked_then : (n : ℕ) (cut : List (List Link)) (xs ys zs : List (LaneState P)) (solver : Progress) (alone : ℕ) → SoFar n cut xs ys solver alone
+      → (answers_at : ℕ → List AnswerValue) × PortsWent state honest sound gave (IsRefusedIn (opened (solver.rounds + 1) cut solver.labels ∷ [])) ys zs answers_at → RunAsked state honest sound gave n cut xs zs
+  asked_then n cut xs ys zs solver alone u v =
+      let last = opened (solver.rounds + 1) cut solver.labels ∷ [] in
+      let books = u.books ++ last in
+      let p = u.rounds.ports in
+      record {
+        books = books;
+        are_books = inr (u.books, solver, refl, u.rounds.whole, u.solved);
+        answers_at = λ i. u.rounds.answers_at i ++ v.0 i;
+        ports = record {
+          same_lanes = v.1.same_lanes ∙ p.same_lanes;
+          each = λ i d b. (
+              let within : i < length ys = (let e = p.same_lanes in omega arith) in
+              asks_then state honest sound gave (IsRefusedIn books) _ _ _ (u.rounds.answers_at i) (v.0 i)
+              (asks_more state honest sound gave (IsRefusedIn u.books) (IsRefusedIn books) (λ w t q. (q.0, Contains-append_left u.books last q.0 q.1, q.2)) _ _ (u.rounds.answers_at i) (p.each i d b))
+              (asks_more state honest sound gave (IsRefusedIn last) (IsRefusedIn books) (λ w t q. (q.0, Contains-append_right u.books last q.0 q.1, q.2)) _ _ (v.0 i) (v.1.each i d within)));
+        };
+      }
 
   pub so_far_none : (n : ℕ) (cut : List (List Link)) (xs : List (LaneState P)) (solver : Progress) → IsAtStart n solver → SoFar n cut xs xs solver 0
   so_far_none n cut xs solver start = record {

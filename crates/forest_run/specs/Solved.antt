@@ -6,7 +6,7 @@ use Rattle.link_key.specs.Forest.{IsForestOf}
 use Rattle.frames.specs.AnswerValue.{AnswerValue}
 use Rattle.round_theory.specs.Offers.{Names}
 use Rattle.round_theory.specs.Rounds.{IsMergingRounds}
-use Rattle.round_core.specs.Page.{Page, hearing_of}
+use Rattle.round_core.specs.Page.{Page, opened, hearing_of}
 use Rattle.round_core.specs.Picks.{AreNoPicks}
 use Rattle.round_core.specs.Solver.{Progress, IsProgress, vertices, IsTurn, IsStepFault, IsFinished, IsFinishFault, HasRoundsOf}
 use Rattle.round_core.specs.declared.solver.Turn.{Turn}
@@ -16,7 +16,7 @@ use Rattle.ports.specs.Ports.{PortState}
 use Rattle.forest_run.specs.declared.report.Report.{Report}
 use Rattle.forest_run.specs.Lanes.{LaneState, asks_of, open_of}
 use Rattle.forest_run.specs.Rounds.{RoundPicked}
-use Rattle.forest_run.specs.Runs.{RoundsWent, IsGivenBy, IsNamedIn}
+use Rattle.forest_run.specs.Runs.{IsRefusedIn, IsWhole, PortsWent, RoundsWent, IsGivenBy, IsNamedIn}
 use Rattle.forest_run.specs.Chains.{IsPickedBy, IsSolvedBy}
 use Rattle.forest_run.specs.Reports.{IsReportOf}
 
@@ -54,6 +54,19 @@ pub record PickedAfter {P : Type 0} (state : P → PortState) (honest sound : P 
   pub rounds : RoundsWent state honest sound gave cut before after (merging ++ last ∷ []) answered alone
   pub solved : IsSolvedBy n merging solver
   pub picked : IsPickedBy solver last picks
+
+-- the books that a run asked for: none, or a whole one for each merging round, and one of the solver's next round
+abbrev pub AreRunBooks : ℕ → List (List Link) → List Page → Type 0
+AreRunBooks n cut books =
+    (books ≡ [])
+    ⊎ ((merging : List Page) × (solver : Progress) × (books ≡ merging ++ opened (solver.rounds + 1) cut solver.labels ∷ []) × All (IsWhole cut) merging × IsSolvedBy n merging solver)
+
+-- however a run ended: what it did to the lanes' ports
+pub record RunAsked {P : Type 0} (state : P → PortState) (honest sound : P → Type 0) (gave : P → List AnswerValue → Type 0) (n : ℕ) (cut : List (List Link)) (before after : List (LaneState P)) : Type 0 where
+  pub books : List Page
+  pub are_books : AreRunBooks n cut books
+  pub answers_at : ℕ → List AnswerValue
+  pub ports : PortsWent state honest sound gave (IsRefusedIn books) before after answers_at
 
 -- the links taken are those of all merging rounds over the list
 pub record HasAllRoundsOf (links : List Link) (p : Progress) : Type 0 where

@@ -2,8 +2,8 @@
 //!
 //! What is promised here:
 //!
-//! - Where all ports are honest, a run that ends well has the minimum spanning forest of the cut's links and the number of
-//!   merging rounds, and no run ends but so or with want of memory.
+//! - Where all ports are honest, want of memory is the only fault, and a run that ends well has the minimum spanning
+//!   forest of the cut's links and the number of merging rounds.
 //! - Whatever was answered, the forest closes no cycle and spans the links, and the report's counts are equations. Where
 //!   the coordinator scanned nothing, an answer that a lane kept names each link of the forest.
 //! - A run's books are tied to its solver: each but the last has the picks of one merging round, and the last has none, so

@@ -2,6 +2,7 @@
 //! a new one goes, stands at the head of `worked_examples`.
 //!
 //! ```text
+//!   passes          whole runs over lanes: two workers in memory, and none
 //!   relabelling     components made one by merges and by picks, and the labels that follow
 //!   rounds          the judge's answers, the order of answers, a book that several threads read
 //!   solving         a solver's steps, rounds past the bound, whole runs by one thread
@@ -9,6 +10,8 @@
 //! ```
 #![tactic(auto)]
 
+#[cfg(test)]
+mod passes;
 #[cfg(test)]
 mod relabelling;
 #[cfg(test)]

@@ -115,7 +115,7 @@ fn alone_on_a_path_of_eight(rt: HostRuntime) -> Result<(), Fail> {
 }
 
 // The path of so many arcs of one weight.
-fn path(alloc: Global, count: u32) -> Result<Vec<Row>, AllocError> {
+pub(crate) fn path(alloc: Global, count: u32) -> Result<Vec<Row>, AllocError> {
     let mut arcs = Vec::new(alloc);
     for v in 0..count {
         let first = v.wrapping_add(1);

@@ -1,6 +1,6 @@
 use Rattle.std.proofs.Common.{arith}
 use Rattle.std.proofs.lemmas.Result.{err_from_is_err_and}
-use Rattle.forest_run.proofs.Ending.{so_far_none, wide_more, alone_few, turned_more, turned_last, turn_fault, turn_honest, ports_then, ports_so_far}
+use Rattle.forest_run.proofs.Ending.{so_far_none, wide_more, alone_few, turned_more, turned_last, turn_fault, turn_honest, asked_then}
 use Rattle.forest_run.proofs.run.merge_all.Goals as goal
 use Rattle.forest_run.proofs.run.merge_all.Goals.{in-None, in-Some+in_ok-turn+in-Done}
 
@@ -13,8 +13,7 @@ turn-requires-clause-wide g c κs within =
 
 pub returns-in_err-turn-clause-ports : goal.returns-in_err-turn-clause-ports
 returns-in_err-turn-clause-ports g c =
-    ports_then g.P.Port.state g.P.Port.honest g.P.Port.sound g.P.Port.gave c.args.lanes.now c.loop.lanes c.turn.new.lanes
-    (ports_so_far g.P.Port.state g.P.Port.honest g.P.Port.sound g.P.Port.gave c.args.n c.args.cut.now c.args.lanes.now c.loop.lanes c.loop.solver c.loop.alone c.loop.invariant.so_far) c.turn.ensures.ports
+    asked_then g.P.Port.state g.P.Port.honest g.P.Port.sound g.P.Port.gave c.args.n c.args.cut.now c.args.lanes.now c.loop.lanes c.turn.new.lanes c.loop.solver c.loop.alone c.loop.invariant.so_far c.turn.ensures.ports
 
 pub returns-in_err-turn-clause-fault : goal.returns-in_err-turn-clause-fault
 returns-in_err-turn-clause-fault g c =
@@ -56,8 +55,7 @@ pub returns-clause-ports : goal.returns-clause-ports
 returns-clause-ports g c = elim c.match-next.branch [
   | in-None w ↦ absurd (let some = rw w.in-None.is at c.next.ensures.steps in cc)
   | in-Some+in_ok-turn+in-Done w ↦ rw w.lanes-is
-      (ports_then g.P.Port.state g.P.Port.honest g.P.Port.sound g.P.Port.gave c.args.lanes.now c.loop.lanes w.turn.new.lanes
-      (ports_so_far g.P.Port.state g.P.Port.honest g.P.Port.sound g.P.Port.gave c.args.n c.args.cut.now c.args.lanes.now c.loop.lanes c.loop.solver c.loop.alone c.loop.invariant.so_far) w.turn.ensures.ports)
+      (asked_then g.P.Port.state g.P.Port.honest g.P.Port.sound g.P.Port.gave c.args.n c.args.cut.now c.args.lanes.now c.loop.lanes w.turn.new.lanes c.loop.solver c.loop.alone c.loop.invariant.so_far w.turn.ensures.ports)
 ]
 
 pub returns-clause-idle : goal.returns-clause-idle

@@ -1,11 +1,11 @@
 use Rattle.std.proofs.Common.{◌≡◌, ◌+◌, arith}
 use Rattle.std.proofs.lemmas.Result.{err_from_is_err_and}
 use Rattle.forest_run.specs.Lanes.{open_of}
-use Rattle.forest_run.proofs.Ending.{rounds_few, ports_none, finish_fault, finish_honest, solved}
+use Rattle.forest_run.proofs.Ending.{rounds_few, asked_none, finish_fault, finish_honest, solved}
 use Rattle.forest_run.proofs.run.solve.Goals as goal
 
 pub returns-in_err-solver-clause-ports : goal.returns-in_err-solver-clause-ports
-returns-in_err-solver-clause-ports g c = ports_none g.P.Port.state g.P.Port.honest g.P.Port.sound g.P.Port.gave c.args.lanes.now
+returns-in_err-solver-clause-ports g c = asked_none g.P.Port.state g.P.Port.honest g.P.Port.sound g.P.Port.gave c.args.n c.args.cut.now c.args.lanes.now
 
 pub returns-in_err-forest-clause-fault : goal.returns-in_err-forest-clause-fault
 returns-in_err-forest-clause-fault g c =
