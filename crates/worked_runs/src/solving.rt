@@ -74,10 +74,15 @@ fn a_round_past_the_bound(rt: HostRuntime) -> Result<(), Fail> {
     assert_eq!(rt; solver.labels().as_slice(), [1, 1, 3].as_slice());
     assert_eq!(rt; solver.round(), 2);
 
-    assert!(rt; all_have_labels(&cut, solver.labels().n()));
-    let missed = solver.finish(&cut).err();
-    assert!(rt; is_missed(missed, Link::of_arc(2, 3, 5)));
+    expect_missed(&rt, &solver, &cut, Link::of_arc(2, 3, 5));
     Ok(())
+}
+
+// The links that the solver took miss this link of the cut.
+fn expect_missed(rt: &impl Abort, solver: &Solver, cut: &Cut, expected: Option<Link>) {
+    assert!(rt; all_have_labels(cut, solver.labels().n()));
+    let missed = solver.finish(cut).err();
+    assert!(rt; is_missed(missed, expected));
 }
 
 fn is_missed(fault: Option<SolveFault>, expected: Option<Link>) -> bool {
