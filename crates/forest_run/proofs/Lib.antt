@@ -14,3 +14,4 @@ pub mod Chained
 pub mod Ending
 mod Telling
 mod PlainRunning
+mod NewWires
