@@ -5,11 +5,13 @@ use Rattle.std.proofs.Math.Nat.{mul-le-mul_right}
 use Rattle.std.proofs.lemmas.List.{get_or_default}
 use Rattle.std.proofs.lemmas.List.Elements.{All-append, All-contains, All-contains_itself, Contains-append_left, Contains-append_right}
 use Rattle.link_key.specs.declared.links.Link.{Link}
+use Rattle.link_key.specs.Cut.{joined}
 use Rattle.frames.specs.AnswerValue.{AnswerValue}
 use Rattle.round_theory.specs.LinkSet.{SameLinks}
 use Rattle.round_theory.specs.Labelling.{IsVertex}
 use Rattle.round_theory.specs.Offers.{Hearing, Names, IsNamed}
 use Rattle.round_core.specs.Page.{Page, opened, hearing_of, hearings}
+use Rattle.round_core.proofs.Full.{full_book_has_all_links}
 use Rattle.round_core.specs.Picks.{pick_of, Picked, IsPickOf, ArePicks}
 use Rattle.ports.specs.Ports.{PortState}
 use Rattle.forest_run.specs.Lanes.{LaneState}
@@ -53,6 +55,18 @@ named_more books book labels picks taken added are same all =
     let l = get_or added i d in
     let c : Contains added l = All-contains_itself added i d b in
     (book, Contains-append_right books (book ∷ []) book (0, omega arith, refl), picked_named labels (hearings book) picks l are ((same l).0 c))))
+
+any_more : {X : Type 0} (P Q : X → Type 0) (xs : List X) → ((x : X) → P x → Q x) → Any P xs → Any Q xs
+any_more P Q xs h (k, y, lt, at, here) = (k, y, lt, at, h y here)
+
+-- a link that an answer of a whole book names is one of the cut
+pub from_cut : (cut : List (List Link)) (books : List Page) (l : Link) → All (IsWhole cut) books → IsNamedIn books l → Contains (joined cut) l
+from_cut cut books l whole named =
+    let book = named.0 in
+    let is : IsWhole cut book = All-contains (IsWhole cut) books book whole named.1 in
+    let there : Any (λ (h : Hearing). Contains h.shard l) (hearings book) =
+    any_more (λ h. Names h l) (λ h. Contains h.shard l) (hearings book) (λ h names. (names.place, names.within, names.here)) named.2 in
+    subst (λ (c : List (List Link)). Contains (joined c) l) is.cut_is ((full_book_has_all_links book is.page is.all l).1 there)
 
 module _ {P : Type 0} (state : P → PortState) (honest sound : P → Type 0) (gave : P → List AnswerValue → Type 0) where
   -- where the coordinator scanned nothing, a lane kept the answer that named it
