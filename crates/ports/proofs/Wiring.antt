@@ -1,6 +1,6 @@
 -- A wire from call to call.
 use Rattle.std.proofs.Common.{◌≡◌, ◌≢◌, ℕ, ◌<◌, List, [], ◌∷◌, ◌++◌, length, Some, refl, sym, ap, subst, ◌∙◌, append_assoc, inl, inr, arith}
-use Rattle.std.specs.Prelude.{◌+◌, Option, None, IsSome, IfSome, Bool, true, false, if◌then◌else◌}
+use Rattle.std.specs.Prelude.{◌+◌, Option, None, IsSome, IfSome, true, false, if◌then◌else◌}
 use Rattle.std.proofs.lemmas.List.{length-append}
 use Rattle.std.proofs.lemmas.List.Elements.{All-nil}
 use Rattle.limits.specs.declared.TheConstants.{MAX_WORKERS}
