@@ -3,6 +3,7 @@ use Rattle.std.proofs.Common.{◌≡◌, ℕ, ◌⊎◌, inl, inr, Bool, true, f
 use Rattle.std.proofs.lemmas.List.{append-nil}
 use Rattle.frames.specs.AnswerValue.{AnswerValue}
 use Rattle.ports.specs.Ports.{PortState}
+use Rattle.forest_run.specs.Lanes.{one_if}
 use Rattle.forest_run.specs.Asks.{AsksWent, FailedMore}
 
 pub either : (v : Bool) → (v ≡ true) ⊎ (v ≡ false)
@@ -17,6 +18,7 @@ module _ {P : Type 0} (state : P → PortState) (honest sound : P → Type 0) (g
     asks = search (rules, arith);
     failures = omega arith;
     wants = omega arith;
+    one_fault = omega arith;
     opened = λ t. (t, refl, refl);
     given = λ t before g. subst (gave a) (sym (append-nil before)) g;
     still = λ f. (refl, refl, λ answers g. g);
@@ -58,6 +60,10 @@ module _ {P : Type 0} (state : P → PortState) (honest sound : P → Type 0) (g
     asks = omega (arith, length-append xs ys, p.asks, q.asks);
     failures = omega (arith, p.failures, q.failures);
     wants = omega (arith, p.wants, q.wants);
+    one_fault = elim (either (state b).is_open) [
+      | inl e ↦ (let s = p.opened e in let t = q.one_fault in let u = ap one_if s.0 in let v = ap one_if e in omega (arith, t, u, v, s.1, s.2))
+      | inr e ↦ (let s = p.one_fault in let t = q.one_fault in let v = ap one_if e in omega (arith, s, t, v))
+    ];
     opened = λ t. (let r = q.opened t in let s = p.opened r.0 in (s.0, r.1 ∙ s.1, r.2 ∙ s.2));
     given = λ t before g. (let r = q.opened t in subst (gave c) (append_assoc before xs ys) (q.given t (before ++ xs) (p.given r.0 before g)));
     still = λ f. (let s = p.still f in let shut : (state b).is_open ≡ false = closed_stays a b xs p f in let r = q.still shut in (ap (λ zs. zs ++ ys) s.0 ∙ r.0, r.1 ∙ s.1, λ answers g. r.2 answers (s.2 answers g)));

@@ -4,13 +4,17 @@ use Rattle.std.specs.Prelude.{All, Contains, Option, max}
 use Rattle.std.proofs.Math.Nat.{mul-le-mul_right}
 use Rattle.std.proofs.lemmas.Bool.{cases_lt}
 use Rattle.std.proofs.lemmas.Nat.{pow_below}
-use Rattle.std.proofs.lemmas.List.Elements.{Contains-append_left, Contains-append_right, All-contains, All-contains_itself}
+use Rattle.std.proofs.lemmas.List.{get_or_append_left}
+use Rattle.std.proofs.lemmas.List.Elements.{All-append, Contains-append_left, Contains-append_right, All-contains, All-contains_itself}
+use Rattle.limits.specs.declared.TheConstants.{MAX_SHARDS}
 use Rattle.link_key.specs.declared.links.Link.{Link}
 use Rattle.link_key.specs.Link.{EndsUpTo}
 use Rattle.link_key.specs.Cut.{joined}
+use Rattle.link_key.specs.Labels.{AreLabels}
 use Rattle.frames.specs.AnswerValue.{AnswerValue}
 use Rattle.round_theory.specs.Rounds.{IsMergingRounds}
-use Rattle.round_core.specs.Page.{Page, opened}
+use Rattle.round_theory.proofs.Labels.{labelling_is_labels}
+use Rattle.round_core.specs.Page.{Page, IsPage, opened}
 use Rattle.round_core.specs.Picks.{ArePicks, AreNoPicks}
 use Rattle.round_core.specs.Solver.{Progress, IsProgress, vertices, IsAtStart, IsMerged, IsTurn, IsFinished, IsFinishFault, HasRoundsOf}
 use Rattle.round_core.specs.declared.solver.Turn.{Turn}
@@ -26,15 +30,17 @@ use Rattle.forest_run.specs.Asks.{IsRefused, IsLight}
 use Rattle.forest_run.specs.Bounds.{IsWide}
 use Rattle.forest_run.specs.Passes.{PassWent}
 use Rattle.forest_run.specs.Rounds.{RoundPicked}
-use Rattle.forest_run.specs.Runs.{IsRefusedIn, IsNamedIn, IsFullBook, PortsWent, RoundsWent}
+use Rattle.forest_run.specs.Runs.{IsRefusedIn, IsNamedIn, IsFullBook, AreLightBooks, RoundsWent}
 use Rattle.forest_run.specs.Chains.{IsSolvedBy}
 use Rattle.forest_run.specs.Reports.{IsReportOf}
-use Rattle.forest_run.specs.Solved.{AreHonest, TurnWent, IsTurnFault, PickedAfter, RunWent, RunAsked, IsSolveFault, SolveWent}
+use Rattle.forest_run.specs.Solved.{AreHonest, TurnWent, TurnAsked, IsTurnFault, PickedAfter, RunWent, RunAsked, IsSolveFault, SolveWent}
 use Rattle.forest_run.proofs.AsksThen.{stayed, asks_then}
-use Rattle.forest_run.proofs.Passing.{asks_more}
-use Rattle.forest_run.proofs.Running.{same_still, rounds_none, rounds_then}
+use Rattle.forest_run.proofs.Once.{page_of}
+use Rattle.forest_run.proofs.Passing.{SameRound, asks_more}
+use Rattle.forest_run.proofs.Scanning.{scanned_none}
+use Rattle.forest_run.proofs.Running.{one, heard_same, refused_still, same_still, whole_pages, kept_none, kept_in, kept_then, rounds_none, rounds_then}
 use Rattle.forest_run.proofs.Chained.{merged_then, light_picks}
-use Rattle.forest_run.proofs.Solving.{named_more, named_given, named_listed, all_front, wide_still}
+use Rattle.forest_run.proofs.Solving.{named_more, named_given, from_cut, wide_still}
 
 -- rounds that are no more than the vertices allow are few
 pub rounds_few : (n r : ℕ) → n ≤ 2 ^ 26 → 2 ^ r ≤ max 1 n → r ≤ 26
@@ -43,6 +49,11 @@ rounds_few n r few in_time = elim (cases_lt 26 r) [
   | inr fits ↦ fits
 ]
 
+-- books that are light with others are light
+light_first : (books more : List Page) → AreLightBooks (books ++ more) → AreLightBooks books
+light_first books more light i d b =
+    subst (λ (book : Page). All (IsLight book) book.answers) (get_or_append_left books more d i b) (light i d (omega (arith, b, length-append books more)))
+
 module _ {P : Type 0} (state : P → PortState) (honest sound : P → Type 0) (gave : P → List AnswerValue → Type 0) where
   pub asked_none : (n : ℕ) (cut : List (List Link)) (xs : List (LaneState P)) → RunAsked state honest sound gave n cut xs xs
   asked_none n cut xs = record {
@@ -50,21 +61,33 @@ module _ {P : Type 0} (state : P → PortState) (honest sound : P → Type 0) (g
     are_books = inl refl;
     answers_at = λ i. [];
     ports = record { same_lanes = refl; each = λ i d b. stayed state honest sound gave (IsRefusedIn []) (get_or xs i d).port };
+    kept = kept_none honest xs;
   }
 
-  -- passes over one book
-  pub ports_of : (r round : ℕ) (cut : List (List Link)) (ls labels : List ℕ) (middle : Page) (xs ys : List (LaneState P)) → r ≡ round → ls ≡ labels → PassWent state honest sound gave (opened r cut ls) middle xs ys
-      → (answers_at : ℕ → List AnswerValue) × PortsWent state honest sound gave (IsRefusedIn (opened round cut labels ∷ [])) xs ys answers_at
-  ports_of r round cut ls labels middle xs ys same_round same_labels u =
-      let book = opened round cut labels in
-      let v : PassWent state honest sound gave book middle xs ys =
-      subst (λ (k : ℕ). PassWent state honest sound gave (opened k cut labels) middle xs ys) same_round (subst (λ (k : List ℕ). PassWent state honest sound gave (opened r cut k) middle xs ys) same_labels u) in (
-        v.answers_at,
-        record {
+  -- passes over the book of the solver's next round
+  pub turn_asked : (r : ℕ) (cut : List (List Link)) (ls : List ℕ) (old : Progress) (middle : Page) (xs ys : List (LaneState P)) → r ≡ old.rounds + 1 → ls ≡ old.labels → IsProgress old → All (EndsUpTo (vertices old)) cut
+      → length cut ≤ MAX_SHARDS → PassWent state honest sound gave (opened r cut ls) middle xs ys → TurnAsked state honest sound gave cut old xs ys
+  turn_asked r cut ls old middle xs ys same_round same_labels is ends few u =
+      let first = opened (old.rounds + 1) cut old.labels in
+      let v : PassWent state honest sound gave first middle xs ys =
+      subst (λ (k : ℕ). PassWent state honest sound gave (opened k cut old.labels) middle xs ys) same_round (subst (λ (k : List ℕ). PassWent state honest sound gave (opened r cut k) middle xs ys) same_labels u) in
+      let labels : AreLabels old.labels = labelling_is_labels (vertices old) (Contains old.taken) old.labels is.few_vertices is.labelling in
+      let same : SameRound first middle = heard_same first middle v.answers v.page in
+      record {
+        book = middle;
+        next = record {
+          page = subst IsPage (sym v.page) (page_of (old.rounds + 1) cut old.labels v.answers labels ends few v.taken);
+          cut_is = same.cut;
+          round = same.round;
+          labels = same.labels;
+        };
+        answers_at = v.answers_at;
+        ports = record {
           same_lanes = v.same_lanes;
-          each = λ i d b. asks_more state honest sound gave (IsRefused book) (IsRefusedIn (book ∷ [])) (λ w t q. (book, (0, omega arith, refl), q)) _ _ (v.answers_at i) (v.each i d b);
-        },
-      )
+          each = λ i d b. asks_more state honest sound gave (IsRefused first) (IsRefusedIn (middle ∷ [])) (λ w t q. (middle, (0, omega arith, refl), refused_still first middle same w t q)) _ _ (v.answers_at i) (v.each i d b);
+        };
+        kept = kept_in state honest sound gave first middle middle xs ys 0 v (scanned_none middle) refl;
+      }
 
   -- what a run has done after its merging rounds
   pub record SoFar (n : ℕ) (cut : List (List Link)) (xs ys : List (LaneState P)) (solver : Progress) (alone : ℕ) : Type 0 where
@@ -76,27 +99,31 @@ module _ {P : Type 0} (state : P → PortState) (honest sound : P → Type 0) (g
     pub in_time : 2 ^ solver.rounds ≤ max 1 n
     pub vertices_are : vertices solver ≡ n
     pub named : All (IsNamedIn books) solver.taken
-    pub right : AreHonest honest xs → HasRoundsOf (joined cut) solver
+    pub earlier : All (λ (book : Page). book.round < solver.rounds + 1) books
+    pub right : AreLightBooks books → HasRoundsOf (joined cut) solver
 
   -- a round more, whether it was ended or not
   pub asked_then : (n : ℕ) (cut : List (List Link)) (xs ys zs : List (LaneState P)) (solver : Progress) (alone : ℕ) → SoFar n cut xs ys solver alone
-      → (answers_at : ℕ → List AnswerValue) × PortsWent state honest sound gave (IsRefusedIn (opened (solver.rounds + 1) cut solver.labels ∷ [])) ys zs answers_at → RunAsked state honest sound gave n cut xs zs
+      → TurnAsked state honest sound gave cut solver ys zs → RunAsked state honest sound gave n cut xs zs
   asked_then n cut xs ys zs solver alone u v =
-      let last = opened (solver.rounds + 1) cut solver.labels ∷ [] in
+      let last = v.book ∷ [] in
       let books = u.books ++ last in
       let p = u.rounds.ports in
       record {
         books = books;
-        are_books = inr (u.books, solver, refl, u.rounds.whole, u.solved);
-        answers_at = λ i. u.rounds.answers_at i ++ v.0 i;
+        are_books = inr (u.books, solver, v.book, refl, u.rounds.whole, u.solved, v.next);
+        answers_at = λ i. u.rounds.answers_at i ++ v.answers_at i;
         ports = record {
-          same_lanes = v.1.same_lanes ∙ p.same_lanes;
+          same_lanes = v.ports.same_lanes ∙ p.same_lanes;
           each = λ i d b. (
               let within : i < length ys = (let e = p.same_lanes in omega arith) in
-              asks_then state honest sound gave (IsRefusedIn books) _ _ _ (u.rounds.answers_at i) (v.0 i)
+              asks_then state honest sound gave (IsRefusedIn books) _ _ _ (u.rounds.answers_at i) (v.answers_at i)
               (asks_more state honest sound gave (IsRefusedIn u.books) (IsRefusedIn books) (λ w t q. (q.0, Contains-append_left u.books last q.0 q.1, q.2)) _ _ (u.rounds.answers_at i) (p.each i d b))
-              (asks_more state honest sound gave (IsRefusedIn last) (IsRefusedIn books) (λ w t q. (q.0, Contains-append_right u.books last q.0 q.1, q.2)) _ _ (v.0 i) (v.1.each i d within)));
+              (asks_more state honest sound gave (IsRefusedIn last) (IsRefusedIn books) (λ w t q. (q.0, Contains-append_right u.books last q.0 q.1, q.2)) _ _ (v.answers_at i) (v.ports.each i d within)));
         };
+        kept =
+            kept_then honest xs ys u.books v.book u.rounds.answers_at v.answers_at p.same_lanes (λ i d b. (p.each i d b).honest_is) (whole_pages cut u.books u.rounds.whole) v.next.page
+            (subst (λ (r : ℕ). All (λ (book : Page). book.round < r) u.books) (sym v.next.round) u.earlier) u.rounds.kept v.kept;
       }
 
   pub so_far_none : (n : ℕ) (cut : List (List Link)) (xs : List (LaneState P)) (solver : Progress) → IsAtStart n solver → SoFar n cut xs xs solver 0
@@ -109,7 +136,8 @@ module _ {P : Type 0} (state : P → PortState) (honest sound : P → Type 0) (g
     in_time = rw start.rounds (omega arith);
     vertices_are = start.labels.vertices;
     named = rw start.taken (λ i d b. absurd (omega arith));
-    right = λ h. at_first (joined cut) n solver start;
+    earlier = λ i d b. absurd (omega arith);
+    right = λ light. at_first (joined cut) n solver start;
   }
 
   -- a whole round more, and its picks
@@ -121,19 +149,19 @@ module _ {P : Type 0} (state : P → PortState) (honest sound : P → Type 0) (g
       record {
         merging = u.books;
         last = r.book;
-        rounds = rounds_then state honest sound gave cut (solver.rounds + 1) solver.labels r.book xs ys zs u.books u.answered alone k u.rounds r.went r.page;
+        rounds = rounds_then state honest sound gave cut (solver.rounds + 1) solver.labels r.book xs ys zs u.books u.answered alone k u.rounds u.earlier r.went r.page;
         solved = u.solved;
         picked = record { round = same.round; labels = same.labels; picked = r.picked };
       }
 
-  -- where all ports are honest these are the picks of the whole list
+  -- where each answer is light these are the picks of the whole list
   pub least_picks : (n : ℕ) (cut : List (List Link)) (xs ys : List (LaneState P)) (solver : Progress) (picks : List (Option Link)) (answered alone : ℕ)
-      → PickedAfter state honest sound gave n cut xs ys solver picks answered alone → AreHonest honest xs → ArePicks solver.labels (Contains (joined cut)) picks
-  least_picks n cut xs ys solver picks answered alone v h =
+      → (v : PickedAfter state honest sound gave n cut xs ys solver picks answered alone) → AreLightBooks (v.merging ++ v.last ∷ []) → ArePicks solver.labels (Contains (joined cut)) picks
+  least_picks n cut xs ys solver picks answered alone v light =
       let books = v.merging ++ v.last ∷ [] in
       let here : Contains books v.last = Contains-append_right v.merging (v.last ∷ []) v.last (0, omega arith, refl) in
       light_picks cut solver.labels v.last picks (All-contains (IsFullBook cut) books v.last v.rounds.whole here) v.picked.labels
-      (All-contains (λ (book : Page). All (IsLight book) book.answers) books v.last (v.rounds.light h) here) v.picked.picked
+      (All-contains (λ (book : Page). All (IsLight book) book.answers) books v.last light here) v.picked.picked
 
   ends_of : (n : ℕ) (cut : List (List Link)) (solver : Progress) → vertices solver ≡ n → All (EndsUpTo n) cut → EndsUpTo (vertices solver) (joined cut)
   ends_of n cut solver same ends = subst (λ (m : ℕ). EndsUpTo m (joined cut)) (sym same) (joined_ends n cut ends)
@@ -153,7 +181,13 @@ module _ {P : Type 0} (state : P → PortState) (honest sound : P → Type 0) (g
         in_time = subst (λ (v : ℕ). 2 ^ new.rounds ≤ max 1 v) u.vertices_are m.in_time;
         vertices_are = m.labelling.each_vertex ∙ u.vertices_are;
         named = rw m.taken (named_more u.books r.book old.labels picks old.taken m.added r.picked m.picked.exact u.named);
-        right = λ h. (one_round (joined cut) old picks is (ends_of n cut old u.vertices_are ends) (u.right h) (least_picks n cut xs zs old picks _ _ v h) new count m).right;
+        earlier = (
+            let same = same_still state honest sound gave (old.rounds + 1) cut old.labels r.book ys zs k r.went in
+            let e = m.rounds in
+            All-append (λ (book : Page). book.round < new.rounds + 1) u.books (r.book ∷ []) (λ i d b. (let f = u.earlier i d b in omega arith))
+            (one (λ (book : Page). book.round < new.rounds + 1) r.book (let f = same.round in omega arith)));
+        right = λ light.
+            (one_round (joined cut) old picks is (ends_of n cut old u.vertices_are ends) (u.right (light_first u.books (r.book ∷ []) light)) (least_picks n cut xs zs old picks _ _ v light) new count m).right;
       }
 
   -- the last round, which had no picks
@@ -173,9 +207,11 @@ module _ {P : Type 0} (state : P → PortState) (honest sound : P → Type 0) (g
           in_time = u.in_time;
           vertices_are = u.vertices_are;
           named = u.named;
-          right = λ h. record {
-            so_far = u.right h;
-            all = no_round (joined cut) solver picks is (ends_of n cut solver u.vertices_are ends) (u.right h) (least_picks n cut xs zs solver picks _ _ v h) none;
+          right = λ light. record {
+            so_far = u.right (light_first u.books (r.book ∷ []) light);
+            all =
+                no_round (joined cut) solver picks is (ends_of n cut solver u.vertices_are ends) (u.right (light_first u.books (r.book ∷ []) light)) (least_picks n cut xs zs solver picks _ _ v light)
+                none;
           };
         },
       )
@@ -192,10 +228,11 @@ module _ {P : Type 0} (state : P → PortState) (honest sound : P → Type 0) (g
       subst (λ (s : Progress). (answered : ℕ) × RunWent state honest sound gave n cut xs zs s answered (alone + k)) (sym last.1) (ended n cut xs ys zs old t.picks alone k ends u t.progress t.picked last.0)
 
   -- a turn that ended ill
-  pub turn_fault : (n : ℕ) (cut : List (List Link)) (xs ys zs : List (LaneState P)) (solver : Progress) (alone : ℕ) (fault : SolveFault)
+  pub turn_fault : (n : ℕ) (cut : List (List Link)) (xs ys zs : List (LaneState P)) (solver : Progress) (alone : ℕ) (fault : SolveFault) → All (EndsUpTo n) cut
       → SoFar n cut xs ys solver alone → IsTurnFault state honest sound gave cut solver ys zs fault → IsSolveFault state honest sound gave n cut xs zs fault
-  turn_fault n cut xs ys zs solver alone fault u (inl none) = inl none
-  turn_fault n cut xs ys zs solver alone fault u (inr t) = inr (record {
+  unfolding picked_after
+  turn_fault n cut xs ys zs solver alone fault ends u (inl none) = inl none
+  turn_fault n cut xs ys zs solver alone fault ends u (inr t) = inr (record {
     solver = solver;
     picks = t.picks;
     answered = u.answered + length t.picked.went.passes.answers;
@@ -203,19 +240,23 @@ module _ {P : Type 0} (state : P → PortState) (honest sound : P → Type 0) (g
     went = picked_after n cut xs ys zs solver t.picks alone t.alone u t.picked;
     vertices_are = u.vertices_are;
     why = inl t.refused;
+    to_blame = λ other light. other (
+        only_memory (joined cut) solver t.picks t.progress (ends_of n cut solver u.vertices_are ends) (u.right (light_first u.books (t.picked.book ∷ []) light))
+        (least_picks n cut xs zs solver t.picks _ _ (picked_after n cut xs ys zs solver t.picks alone t.alone u t.picked) light) fault t.refused);
   })
 
   pub turn_honest : (n : ℕ) (cut : List (List Link)) (xs ys zs : List (LaneState P)) (solver : Progress) (alone : ℕ) (fault : SolveFault) → All (EndsUpTo n) cut
       → SoFar n cut xs ys solver alone → IsTurnFault state honest sound gave cut solver ys zs fault → AreHonest honest xs → fault ≡ Memory
   turn_honest n cut xs ys zs solver alone fault ends u (inl none) h = none
   turn_honest n cut xs ys zs solver alone fault ends u (inr t) h =
-      only_memory (joined cut) solver t.picks t.progress (ends_of n cut solver u.vertices_are ends) (u.right h)
-      (least_picks n cut xs zs solver t.picks _ _ (picked_after n cut xs ys zs solver t.picks alone t.alone u t.picked) h) fault t.refused
+      let v = picked_after n cut xs ys zs solver t.picks alone t.alone u t.picked in
+      only_memory (joined cut) solver t.picks t.progress (ends_of n cut solver u.vertices_are ends) (u.right (u.rounds.light h)) (least_picks n cut xs zs solver t.picks _ _ v (v.rounds.light h))
+      fault t.refused
 
   -- a solver that can't be finished
-  pub finish_fault : (n : ℕ) (cut : List (List Link)) (xs ys : List (LaneState P)) (solver : Progress) (answered alone : ℕ) (fault : SolveFault)
+  pub finish_fault : (n : ℕ) (cut : List (List Link)) (xs ys : List (LaneState P)) (solver : Progress) (answered alone : ℕ) (fault : SolveFault) → All (EndsUpTo n) cut
       → RunWent state honest sound gave n cut xs ys solver answered alone → IsFinishFault solver (joined cut) fault → IsSolveFault state honest sound gave n cut xs ys fault
-  finish_fault n cut xs ys solver answered alone fault u f = inr (record {
+  finish_fault n cut xs ys solver answered alone fault ends u f = inr (record {
     solver = solver;
     picks = u.picks;
     answered = answered;
@@ -223,12 +264,14 @@ module _ {P : Type 0} (state : P → PortState) (honest sound : P → Type 0) (g
     went = u.went;
     vertices_are = u.vertices_are;
     why = inr (u.none, f);
+    to_blame = λ other light. other (
+        let all = u.right light in finish_only_memory (joined cut) solver u.progress (ends_of n cut solver u.vertices_are ends) all.so_far all.all fault f);
   })
 
   pub finish_honest : (n : ℕ) (cut : List (List Link)) (xs ys : List (LaneState P)) (solver : Progress) (answered alone : ℕ) (fault : SolveFault) → All (EndsUpTo n) cut
       → RunWent state honest sound gave n cut xs ys solver answered alone → IsFinishFault solver (joined cut) fault → AreHonest honest xs → fault ≡ Memory
   finish_honest n cut xs ys solver answered alone fault ends u f h =
-      let all = u.right h in finish_only_memory (joined cut) solver u.progress (ends_of n cut solver u.vertices_are ends) all.so_far all.all fault f
+      let all = u.right (u.went.rounds.light h) in finish_only_memory (joined cut) solver u.progress (ends_of n cut solver u.vertices_are ends) all.so_far all.all fault f
 
   pub wide_more : (n : ℕ) (cut : List (List Link)) (xs ys : List (LaneState P)) (solver : Progress) (alone : ℕ) → SoFar n cut xs ys solver alone → n ≤ 2 ^ 26 → length cut ≤ 4096
       → All (λ (lane : LaneState P). (state lane.port).cut ≡ cut) xs → All (λ (lane : LaneState P). (state lane.port).asks < 2 ^ 63) xs
@@ -271,12 +314,13 @@ module _ {P : Type 0} (state : P → PortState) (honest sound : P → Type 0) (g
         asked = (let a = run.went.rounds.asks in let b = counts.asked in omega arith);
         closed = closed;
         finished = f;
-        from_list = λ i d b.
-            named_listed cut merging (get_or forest i d) (all_front (IsFullBook cut) merging last run.went.rounds.whole)
-            (All-contains (IsNamedIn merging) solver.taken (get_or forest i d) run.named ((f.same (get_or forest i d)).0 (All-contains_itself forest i d b)));
+        from_list = λ i d b. (
+            let l = get_or forest i d in
+            let q = All-contains (IsNamedIn merging) solver.taken l run.named ((f.same l).0 (All-contains_itself forest i d b)) in
+            from_cut cut (merging ++ last) l run.went.rounds.whole (q.0, Contains-append_left merging last q.0 q.1, q.2));
         named = λ none l l_in.
             named_given state honest sound gave cut xs ys (merging ++ last) report.answered report.alone run.went.rounds none l
             (let q = All-contains (IsNamedIn merging) solver.taken l run.named ((f.same l).0 l_in) in (q.0, Contains-append_left merging last q.0 q.1, q.2));
-        honest_forest = λ h. (let r = run.right h in is_forest (joined cut) solver r.so_far forest f);
-        honest_rounds = λ h. rw rounds_are (subst (λ (m : ℕ). IsMergingRounds m (joined cut) solver.rounds) run.vertices_are (run.right h).all);
+        honest_forest = λ h. (let r = run.right (run.went.rounds.light h) in is_forest (joined cut) solver r.so_far forest f);
+        honest_rounds = λ h. rw rounds_are (subst (λ (m : ℕ). IsMergingRounds m (joined cut) solver.rounds) run.vertices_are (run.right (run.went.rounds.light h)).all);
       }

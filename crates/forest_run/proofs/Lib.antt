@@ -3,6 +3,7 @@ pub mod OneAsk
 pub mod Eaches
 pub mod Dealing
 pub mod Takes
+pub mod Once
 pub mod Seated
 pub mod Passing
 pub mod Lasting

@@ -1,6 +1,6 @@
 -- What passes did over all lanes.
 use Rattle.std.proofs.Common.{◌≡◌, ℕ, zero, suc, ◌<◌, ◌≤◌, Bool, true, false, List, [], ◌∷◌, ◌++◌, length, get_or, set, refl, ap, sym, subst, ◌∙◌, inl, inr, arith, length-append}
-use Rattle.std.specs.Prelude.{Contains, map, IsSome}
+use Rattle.std.specs.Prelude.{All, Contains, map, IsSome}
 use Rattle.std.proofs.lemmas.List.{get_or-map}
 use Rattle.std.proofs.lemmas.List.Sums.{sum_by-cons}
 use Rattle.std.proofs.lemmas.List.Elements.{All-append, Contains-append_left, Contains-append_right, Contains-append_cases}
@@ -9,18 +9,16 @@ use Rattle.link_key.specs.declared.links.Link.{Link}
 use Rattle.round_core.specs.Page.{Page, is_taken, heard, refusal}
 use Rattle.ports.specs.Ports.{PortState}
 use Rattle.forest_run.specs.Lanes.{LaneState, one_if, all_kept, asks_of, open_of}
-use Rattle.forest_run.specs.Asks.{AsksWent, IsRefused, IsLight}
+use Rattle.forest_run.specs.Asks.{AsksWent, IsRefused, IsLight, shards_of}
 use Rattle.forest_run.specs.Ferries.{FerryWent}
 use Rattle.forest_run.specs.Seating.{Each, GaveSeat}
-use Rattle.forest_run.specs.Passes.{PassWent}
+use Rattle.forest_run.specs.Passes.{AreOnce, PassWent}
 use Rattle.forest_run.specs.Taking.{heard_all, AreTaken}
-use Rattle.forest_run.proofs.Takes.{taken_all, heard_append}
+use Rattle.forest_run.proofs.Takes.{Distinct, taken_all, taken_both, taken_before, heard_append, kept_at, kept_to}
+use Rattle.forest_run.proofs.Once.{was_free, is_taken_now, once_of, once_then}
 use Rattle.forest_run.proofs.AsksThen.{stayed, asks_then}
 use Rattle.forest_run.proofs.Eaches.{each_at, each_length}
-use Rattle.forest_run.proofs.Seated.{light_all, counted}
-
-abbrev pub kept_at : {P : Type 0} → List (LaneState P) → ℕ → List AnswerValue
-kept_at lanes i = get_or (map (λ l. l.kept) lanes) i []
+use Rattle.forest_run.proofs.Seated.{counted}
 
 pub kept_from : {P : Type 0} (lanes : List (LaneState P)) (t : AnswerValue) → Contains (all_kept lanes) t → (i : ℕ) × (i < length lanes) × Contains (get_or (map (λ l. l.kept) lanes) i []) t
 kept_from [] t h = absurd (omega arith)
@@ -28,11 +26,6 @@ kept_from (l ∷ ls) t h = elim (Contains-append_cases l.kept (all_kept ls) t h)
   | inl a ↦ (0, omega arith, a)
   | inr b ↦ (let r = kept_from ls t b in (suc r.0, omega arith, r.2))
 ]
-
-pub kept_to : {P : Type 0} (lanes : List (LaneState P)) (i : ℕ) (t : AnswerValue) → i < length lanes → Contains (get_or (map (λ l. l.kept) lanes) i []) t → Contains (all_kept lanes) t
-kept_to [] i t b h = absurd (omega arith)
-kept_to (l ∷ ls) zero t b h = Contains-append_left l.kept (all_kept ls) t h
-kept_to (l ∷ ls) (suc i) t b h = Contains-append_right l.kept (all_kept ls) t (kept_to ls i t (omega arith) h)
 
 pub kept_few : {P : Type 0} (lanes : List (LaneState P)) (i : ℕ) → length (get_or (map (λ l. l.kept) lanes) i []) ≤ length (all_kept lanes)
 kept_few [] i = omega arith
@@ -85,8 +78,8 @@ module _ {P : Type 0} (state : P → PortState) (honest sound : P → Type 0) (g
 
   -- ferries between steps that ask no port
   pub passed_of : (old new : Page) (xs ys zs ws : List (LaneState P)) → Each SamePort xs ys → Each (FerryWent state honest sound gave old) ys zs → Each SamePort zs ws
-      → AreTaken old (all_kept zs) → new ≡ heard_all old (all_kept zs) → PassWent state honest sound gave old new xs ws
-  passed_of old new xs ys zs ws before f after fresh page =
+      → Distinct (shards_of (all_kept zs)) → AreTaken old (all_kept zs) → new ≡ heard_all old (all_kept zs) → PassWent state honest sound gave old new xs ws
+  passed_of old new xs ys zs ws before f after apart fresh page =
       let l1 = each_length SamePort xs ys before in
       let l2 = each_length (FerryWent state honest sound gave old) ys zs f in
       let l3 = each_length SamePort zs ws after in
@@ -102,6 +95,7 @@ module _ {P : Type 0} (state : P → PortState) (honest sound : P → Type 0) (g
             subst (λ n. AsksWent state honest sound gave (IsRefused old) (get_or xs i d).port (get_or ws i d).port n) (sym m)
             (subst (λ p. AsksWent state honest sound gave (IsRefused old) p (get_or ws i d).port (get_or zs i d).kept) e
             (subst (λ q. AsksWent state honest sound gave (IsRefused old) (get_or ys i d).port q (get_or zs i d).kept) (sym g) v)));
+        once = subst (λ n. AreOnce n (kept_at zs)) (l2 ∙ l1) (once_of zs apart);
         few = λ i. kept_few zs i;
         reached = λ i t b h. kept_to zs i t (omega arith) h;
         given = λ t h. (let r = kept_from zs t h in (r.0, omega (arith, r.1), r.2));
@@ -114,11 +108,14 @@ module _ {P : Type 0} (state : P → PortState) (honest sound : P → Type 0) (g
             let a = same_asks state xs ys before in
             let b = same_asks state zs ws after in
             omega (arith, a.1, b.1, fewer_open old ys zs f));
+        taken = fresh;
         page = page;
         missed = rw page (taken_all old (all_kept zs) fresh);
-        light = λ h. light_all state honest sound gave old ys zs f (λ i d b. (
-            let e = (each_at SamePort xs ys before i d (omega arith)).port in
-            subst honest (sym e) (h i d (omega arith))));
+        light_at = λ i d b h. (
+            let e = (each_at SamePort xs ys before i d b).port in
+            let v = (each_at (FerryWent state honest sound gave old) ys zs f i d (omega arith)).light (subst honest (sym e) h) in
+            let m : kept_at zs i ≡ (get_or zs i d).kept = get_or-map (λ (l : LaneState P). l.kept) zs i d [] (omega arith) in
+            subst (λ ts. All (IsLight old) ts) (sym m) v);
       }
 
   -- nothing was asked
@@ -133,22 +130,12 @@ module _ {P : Type 0} (state : P → PortState) (honest sound : P → Type 0) (g
     given = λ t h. absurd (omega arith);
     asks = (let a = same_asks state xs ys same in omega (arith, a.0, a.1));
     never_opened = (let a = same_asks state xs ys same in omega (arith, a.1));
+    once = λ i j k l d bi bj bk bl same. absurd (omega arith);
+    taken = tt;
     page = refl;
     missed = omega arith;
-    light = λ h i d b. absurd (omega arith);
+    light_at = λ i d b h k e below. absurd (omega arith);
   }
-
--- what is free later on is free now
-set_before : (xs : List Bool) (i k : ℕ) → get_or (set xs i true) k true ≡ false → get_or xs k true ≡ false
-set_before [] i k e = e
-set_before (x ∷ xs) zero zero e = absurd (cc)
-set_before (x ∷ xs) zero (suc k) e = e
-set_before (x ∷ xs) (suc i) zero e = e
-set_before (x ∷ xs) (suc i) (suc k) e = set_before xs i k e
-
-pub taken_before : (p : Page) (ts : List AnswerValue) (s : ℕ) → is_taken (heard_all p ts) s ≡ false → is_taken p s ≡ false
-taken_before p [] s e = e
-taken_before p (t ∷ ts) s e = set_before p.taken t.shard s (taken_before (heard p t) ts s e)
 
 -- answers change nothing else of the book
 pub record SameRound (p q : Page) : Type 0 where
@@ -185,6 +172,7 @@ asks_more state honest sound gave R Q h a b kept v = record {
   asks = v.asks;
   failures = v.failures;
   wants = v.wants;
+  one_fault = v.one_fault;
   opened = v.opened;
   given = v.given;
   still = v.still;
@@ -216,10 +204,15 @@ module _ {P : Type 0} (state : P → PortState) (honest sound : P → Type 0) (g
     few = λ i. (let a = u.few i in let b = v.few i in omega (arith, length-append u.answers v.answers, length-append (u.answers_at i) (v.answers_at i)));
     asks = (let a = u.asks in let b = v.asks in omega (arith, length-append u.answers v.answers));
     never_opened = omega (arith, u.never_opened, v.never_opened);
+    once = once_then (length xs) u.answers_at v.answers_at u.once (subst (λ n. AreOnce n v.answers_at) u.same_lanes v.once) (λ i j a b bi bj ha hb same. (
+        let taken : is_taken q a.shard ≡ true = subst (λ o. is_taken o a.shard ≡ true) (sym u.page) (is_taken_now p u.answers a (u.reached i a bi ha)) in
+        let free : is_taken q b.shard ≡ false = was_free q v.answers b v.taken (v.reached j b (let e = u.same_lanes in omega arith) hb) in
+        let also : is_taken q a.shard ≡ false = subst (λ (s : ℕ). is_taken q s ≡ false) (sym same.1) free in
+        absurd (cc)));
+    taken = taken_both p u.answers v.answers u.taken (subst (λ o. AreTaken o v.answers) u.page v.taken);
     page = v.page ∙ (ap (λ o. heard_all o v.answers) u.page ∙ sym (heard_append p u.answers v.answers));
     missed = (let a = u.missed in let b = v.missed in omega (arith, length-append u.answers v.answers));
-    light = λ h. All-append (IsLight p) u.answers v.answers (u.light h) (λ i d b.
-        light_before p u.answers (get_or v.answers i d) (subst (λ o. IsLight o (get_or v.answers i d)) u.page (v.light (λ k e below. (
-        let at = u.each k e (let s = u.same_lanes in omega arith) in
-        at.honest_is (h k e (let s = u.same_lanes in omega arith)))) i d b)));
+    light_at = λ i d b h. All-append (IsLight p) (u.answers_at i) (v.answers_at i) (u.light_at i d b h) (λ k e below.
+        light_before p u.answers (get_or (v.answers_at i) k e) (subst (λ o. IsLight o (get_or (v.answers_at i) k e)) u.page
+        (v.light_at i d (let s = u.same_lanes in omega arith) ((u.each i d b).honest_is h) k e below)));
   }

@@ -3,22 +3,25 @@ use Rattle.std.proofs.Common.{◌≡◌, ℕ, zero, suc, ◌+◌, ◌*◌, ◌<�
 use Rattle.std.specs.Prelude.{All, Contains}
 use Rattle.std.proofs.Math.Nat.{suc-mul}
 use Rattle.std.proofs.lemmas.List.Folds.{sum_by-replicate}
-use Rattle.std.proofs.lemmas.List.Elements.{All-append, Contains-append_left, Contains-append_right, Contains-append_cases, All-contains_itself}
+use Rattle.std.proofs.lemmas.List.Elements.{All-append, Contains-append_left, Contains-append_right, Contains-append_cases, All-contains, All-contains_itself}
 use Rattle.link_key.specs.declared.links.Link.{Link}
 use Rattle.link_key.specs.Link.{EndsUpTo}
 use Rattle.frames.specs.AnswerValue.{AnswerValue}
-use Rattle.round_core.specs.Page.{Page, IsPage, opened, heard, missing}
+use Rattle.round_core.specs.Page.{Page, IsRight, IsPage, opened, heard, missing}
 use Rattle.ports.specs.Ports.{PortState}
 use Rattle.forest_run.specs.Lanes.{LaneState}
-use Rattle.forest_run.specs.Asks.{IsRefused, IsLight}
+use Rattle.forest_run.specs.Asks.{IsRefused, IsLight, AreForOne}
 use Rattle.forest_run.specs.Bounds.{IsBookUnder}
 use Rattle.forest_run.specs.Taking.{heard_all}
+use Rattle.forest_run.specs.Passes.{AreOnce, PassWent}
+use Rattle.forest_run.specs.Scanned.{Scanned}
 use Rattle.forest_run.specs.Rounds.{RoundWent}
-use Rattle.forest_run.specs.Runs.{unanswered, IsRefusedIn, IsGivenBy, IsFullBook, RoundsWent}
+use Rattle.forest_run.specs.Runs.{unanswered, IsRefusedIn, IsGivenBy, IsLightIn, IsFullBook, AreKept, RoundsWent}
 use Rattle.forest_run.proofs.AsksThen.{stayed, asks_then}
+use Rattle.forest_run.proofs.Once.{once_then}
 use Rattle.forest_run.proofs.Passing.{SameRound, same_round, asks_more}
 
-one : {X : Type 0} (P : X → Type 0) (x : X) → P x → All P (x ∷ [])
+pub one : {X : Type 0} (P : X → Type 0) (x : X) → P x → All P (x ∷ [])
 one P x p zero d b = p
 one P x p (suc i) d b = absurd (omega arith)
 
@@ -56,7 +59,7 @@ none_or_some (suc k) = inr (omega arith)
 same_then : (p q r : Page) → SameRound p q → SameRound q r → SameRound p r
 same_then p q r s t = record { round = t.round ∙ s.round; cut = t.cut ∙ s.cut; labels = t.labels ∙ s.labels }
 
-heard_same : (p q : Page) (ts : List AnswerValue) → q ≡ heard_all p ts → SameRound p q
+pub heard_same : (p q : Page) (ts : List AnswerValue) → q ≡ heard_all p ts → SameRound p q
 heard_same p q ts e =
     let s = same_round p ts in
     record { round = ap (λ o. o.round) e ∙ s.round; cut = ap (λ o. o.cut) e ∙ s.cut; labels = ap (λ o. o.labels) e ∙ s.labels }
@@ -64,7 +67,7 @@ heard_same p q ts e =
 light_still : (p q : Page) → SameRound p q → (t : AnswerValue) → IsLight p t → IsLight q t
 light_still p q s t l = rw (s.cut, s.round, s.labels) l
 
-refused_still : (p q : Page) → SameRound p q → (w : ℕ × ℕ) (t : AnswerValue) → IsRefused (unanswered p) w t → IsRefused (unanswered q) w t
+pub refused_still : (p q : Page) → SameRound p q → (w : ℕ × ℕ) (t : AnswerValue) → IsRefused (unanswered p) w t → IsRefused (unanswered q) w t
 refused_still p q s w t r = rw (s.cut, s.round, s.labels) r
 
 module _ {P : Type 0} (state : P → PortState) (honest sound : P → Type 0) (gave : P → List AnswerValue → Type 0) where
@@ -74,14 +77,112 @@ module _ {P : Type 0} (state : P → PortState) (honest sound : P → Type 0) (g
   same_still round cut labels new xs ys k r =
       same_then (opened round cut labels) r.middle new (heard_same _ _ r.passes.answers r.passes.page) (heard_same _ _ r.scans.answers r.scans.page)
 
+lane_at : {X : Type 0} (xs : List X) (i : ℕ) → i < length xs → X
+lane_at [] i b = absurd (omega arith)
+lane_at (x ∷ xs) i b = x
+
+-- ---- kept answers beside the books
+
+-- the answers of a book that passes and scans filled
+filled : (old middle new : Page) (ts us : List AnswerValue) → middle ≡ heard_all old ts → new ≡ heard_all middle us → old.answers ≡ [] → new.answers ≡ ts ++ us
+filled old middle new ts us first second none =
+    ap (λ o. o.answers) second
+    ∙ (heard_answers middle us ∙ ap (λ zs. zs ++ us) (ap (λ o. o.answers) first ∙ (heard_answers old ts ∙ ap (λ zs. zs ++ ts) none)))
+
+just_new : (new book : Page) → Contains (new ∷ []) book → book ≡ new
+just_new new book (zero, b, e) = sym e
+just_new new book (suc k, b, e) = absurd (omega (arith, b))
+
+pub whole_pages : (cut : List (List Link)) (books : List Page) → All (IsFullBook cut) books → All IsPage books
+whole_pages cut books whole = each_more (IsFullBook cut) IsPage books (λ book w. w.page) whole
+
+-- nothing was kept
+pub kept_none : {P : Type 0} (honest : P → Type 0) (xs : List (LaneState P)) → AreKept honest xs [] (λ i. [])
+kept_none honest xs = record {
+  reached = λ i t b h. absurd (omega (arith, h.1));
+  each_is = λ i d b. absurd (omega arith);
+  light_at = λ i d b h k e below. absurd (omega arith);
+  once = λ i j k l d bi bj bk bl same. absurd (omega arith);
+}
+
+-- what passes kept stands in the book that they and scans filled
+pub kept_in : {P : Type 0} (state : P → PortState) (honest sound : P → Type 0) (gave : P → List AnswerValue → Type 0) (old middle new : Page) (xs ys : List (LaneState P)) (k : ℕ)
+    → (v : PassWent state honest sound gave old middle xs ys) → Scanned middle new k → old.answers ≡ [] → AreKept honest xs (new ∷ []) v.answers_at
+kept_in state honest sound gave old middle new xs ys k v w none =
+    let answers : new.answers ≡ v.answers ++ w.answers = filled old middle new v.answers w.answers v.page w.page none in
+    let second : SameRound middle new = heard_same middle new w.answers w.page in
+    let same : SameRound old new = same_then old middle new (heard_same old middle v.answers v.page) second in
+    let here : Contains (new ∷ []) new = (0, omega arith, refl) in
+    let Right : AnswerValue → Type 0 = λ t. IsLight new t ⊎ IsGivenBy (length xs) v.answers_at t in
+    let there : (i : ℕ) (t : AnswerValue) → i < length xs → Contains (v.answers_at i) t → Contains new.answers t =
+    λ i t b h. subst (λ (ts : List AnswerValue). Contains ts t) (sym answers) (Contains-append_left v.answers w.answers t (v.reached i t b h)) in
+    record {
+      reached = λ i t b h. (new, here, there i t b h);
+      each_is =
+          one (λ (book : Page). All (λ t. IsLight book t ⊎ IsGivenBy (length xs) v.answers_at t) book.answers) new
+          (subst (λ (ts : List AnswerValue). All Right ts) (sym answers)
+          (All-append Right v.answers w.answers (contains_all Right v.answers (λ t c. inr (v.given t c)))
+          (each_more (IsLight middle) Right w.answers (λ t l. inl (light_still middle new second t l)) w.light)));
+      light_at = λ i d b h. contains_all (IsLightIn (new ∷ [])) (v.answers_at i) (λ t c.
+          (new, here, there i t b c, light_still old new same t (All-contains (IsLight old) (v.answers_at i) t (v.light_at i d b h) c)));
+      once = v.once;
+    }
+
+-- an answer that was kept is of the round of a book
+pub kept_round : {P : Type 0} (honest : P → Type 0) (xs : List (LaneState P)) (books : List Page) (at : ℕ → List AnswerValue) (i : ℕ) (t : AnswerValue) → All IsPage books → AreKept honest xs books at
+    → i < length xs → Contains (at i) t → (book : Page) × Contains books book × (t.round ≡ book.round)
+kept_round honest xs books at i t pages u b h =
+    let r = u.reached i t b h in
+    let page : IsPage r.0 = All-contains IsPage books r.0 pages r.1 in
+    (r.0, r.1, (All-contains (IsRight r.0.round r.0.cut r.0.labels) r.0.answers t page.right r.2).round_is)
+
+-- kept answers beside books, and beside one book more of a later round
+pub kept_then : {P : Type 0} (honest : P → Type 0) (xs ys : List (LaneState P)) (books : List Page) (new : Page) (at bt : ℕ → List AnswerValue) → length ys ≡ length xs
+    → ((i : ℕ) (d : LaneState P) → i < length xs → honest (get_or xs i d).port → honest (get_or ys i d).port) → All IsPage books → IsPage new → All (λ (book : Page). book.round < new.round) books
+    → AreKept honest xs books at → AreKept honest ys (new ∷ []) bt → AreKept honest xs (books ++ new ∷ []) (λ i. at i ++ bt i)
+kept_then {P} honest xs ys books new at bt same stays pages page earlier u v =
+    let both : ℕ → List AnswerValue = λ i. at i ++ bt i in
+    let left : (book : Page) → Contains books book → Contains (books ++ new ∷ []) book = λ book c. Contains-append_left books (new ∷ []) book c in
+    let right : (book : Page) → Contains (new ∷ []) book → Contains (books ++ new ∷ []) book = λ book c. Contains-append_right books (new ∷ []) book c in
+    record {
+      reached = λ i t b h. elim (Contains-append_cases (at i) (bt i) t h) [
+        | inl a ↦ (let q = u.reached i t b a in (q.0, left q.0 q.1, q.2))
+        | inr a ↦ (let q = v.reached i t (omega arith) a in (q.0, right q.0 q.1, q.2))
+      ];
+      each_is =
+          All-append (λ (book : Page). All (λ t. IsLight book t ⊎ IsGivenBy (length xs) both t) book.answers) books (new ∷ [])
+          (each_more (λ (book : Page). All (λ t. IsLight book t ⊎ IsGivenBy (length xs) at t) book.answers) (λ (book : Page). All (λ t. IsLight book t ⊎ IsGivenBy (length xs) both t) book.answers) books
+          (λ book a. each_more (λ t. IsLight book t ⊎ IsGivenBy (length xs) at t) (λ t. IsLight book t ⊎ IsGivenBy (length xs) both t) book.answers
+          (λ t e. elim e [ inl l ↦ inl l | inr g ↦ inr (g.0, g.1, Contains-append_left (at g.0) (bt g.0) t g.2) ]) a)
+          u.each_is)
+          (each_more (λ (book : Page). All (λ t. IsLight book t ⊎ IsGivenBy (length ys) bt t) book.answers) (λ (book : Page). All (λ t. IsLight book t ⊎ IsGivenBy (length xs) both t) book.answers) (new ∷ [])
+          (λ book a. each_more (λ t. IsLight book t ⊎ IsGivenBy (length ys) bt t) (λ t. IsLight book t ⊎ IsGivenBy (length xs) both t) book.answers
+          (λ t e. elim e [ inl l ↦ inl l | inr g ↦ inr (g.0, (let l = g.1 in omega arith), Contains-append_right (at g.0) (bt g.0) t g.2) ]) a)
+          v.each_is);
+      light_at = λ i d b h.
+          All-append (IsLightIn (books ++ new ∷ [])) (at i) (bt i)
+          (each_more (IsLightIn books) (IsLightIn (books ++ new ∷ [])) (at i) (λ t q. (q.0, left q.0 q.1, q.2, q.3)) (u.light_at i d b h))
+          (each_more (IsLightIn (new ∷ [])) (IsLightIn (books ++ new ∷ [])) (bt i) (λ t q. (q.0, right q.0 q.1, q.2, q.3)) (v.light_at i d (omega arith) (stays i d b h)));
+      once = once_then (length xs) at bt u.once (subst (λ n. AreOnce n bt) same v.once) (λ i j a b bi bj ha hb for_one. (
+          let p = kept_round honest xs books at i a pages u bi ha in
+          let q = kept_round honest ys (new ∷ []) bt j b (one IsPage new page) v (omega arith) hb in
+          let before : p.0.round < new.round = All-contains (λ (book : Page). book.round < new.round) books p.0 earlier p.1 in
+          let is : q.0 ≡ new = just_new new q.0 q.1 in
+          let now : q.0.round ≡ new.round = ap (λ (o : Page). o.round) is in
+          let e : a.round ≡ p.0.round = p.2 in
+          let f : b.round ≡ q.0.round = q.2 in
+          let g : a.round ≡ b.round = for_one.0 in
+          absurd (omega arith)));
+    }
+
 module _ {P : Type 0} (state : P → PortState) (honest sound : P → Type 0) (gave : P → List AnswerValue → Type 0) where
   pub rounds_none : (cut : List (List Link)) (xs : List (LaneState P)) → RoundsWent state honest sound gave cut xs xs [] 0 0
   rounds_none cut xs = record {
     whole = λ i d b. absurd (omega arith);
     answers_at = λ i. [];
     ports = record { same_lanes = refl; each = λ i d b. stayed state honest sound gave (IsRefusedIn []) (get_or xs i d).port };
+    kept = kept_none honest xs;
     few = λ i. omega arith;
-    reached = λ i t b h. absurd (omega arith);
     counted = omega arith;
     asks = omega arith;
     never_opened = omega arith;
@@ -92,17 +193,16 @@ module _ {P : Type 0} (state : P → PortState) (honest sound : P → Type 0) (g
 
   -- a round more, over a book that was opened for the cut
   pub rounds_then : (cut : List (List Link)) (round : ℕ) (labels : List ℕ) (new : Page) (xs ys zs : List (LaneState P)) (books : List Page) (answered alone k : ℕ)
-      → RoundsWent state honest sound gave cut xs ys books answered alone → (r : RoundWent state honest sound gave (opened round cut labels) new ys zs k) → IsPage new
+      → RoundsWent state honest sound gave cut xs ys books answered alone → All (λ (book : Page). book.round < round) books → (r : RoundWent state honest sound gave (opened round cut labels) new ys zs k) → IsPage new
       → RoundsWent state honest sound gave cut xs zs (books ++ new ∷ []) (answered + length r.passes.answers) (alone + k)
-  rounds_then cut round labels new xs ys zs books answered alone k u r page =
+  rounds_then cut round labels new xs ys zs books answered alone k u earlier r page =
       let old = opened round cut labels in
       let v = r.passes in
       let w = r.scans in
       let first : SameRound old r.middle = heard_same old r.middle v.answers v.page in
       let second : SameRound r.middle new = heard_same r.middle new w.answers w.page in
       let same : SameRound old new = same_then old r.middle new first second in
-      let answers : new.answers ≡ v.answers ++ w.answers =
-      ap (λ o. o.answers) w.page ∙ (heard_answers r.middle w.answers ∙ ap (λ zs. zs ++ w.answers) (ap (λ o. o.answers) v.page ∙ heard_answers old v.answers)) in
+      let answers : new.answers ≡ v.answers ++ w.answers = filled old r.middle new v.answers w.answers v.page w.page refl in
       let shards : length v.answers + k ≡ length cut =
       (let a = v.missed in let b = w.missed in let c = r.all in let d = opened_misses round cut labels in omega arith) in
       let at : ℕ → List AnswerValue = λ i. u.answers_at i ++ v.answers_at i in
@@ -118,12 +218,10 @@ module _ {P : Type 0} (state : P → PortState) (honest sound : P → Type 0) (g
               (asks_more state honest sound gave (IsRefusedIn books) (IsRefusedIn (books ++ new ∷ [])) (λ w t q. (q.0, Contains-append_left books (new ∷ []) q.0 q.1, q.2)) _ _ (u.answers_at i) (u.ports.each i d b))
               (asks_more state honest sound gave (IsRefused old) (IsRefusedIn (books ++ new ∷ [])) (λ w t q. (new, here, refused_still old new same w t q)) _ _ (v.answers_at i) (v.each i d within)));
         };
-        reached = λ i t b h. elim (Contains-append_cases (u.answers_at i) (v.answers_at i) t h) [
-          | inl a ↦ (let q = u.reached i t b a in (q.0, Contains-append_left books (new ∷ []) q.0 q.1, q.2))
-          | inr a ↦
-              let within : i < length ys = (let e = u.ports.same_lanes in omega arith) in
-              (new, here, subst (λ (ts : List AnswerValue). Contains ts t) (sym answers) (Contains-append_left v.answers w.answers t (v.reached i t within a)))
-        ];
+        kept =
+            kept_then honest xs ys books new u.answers_at v.answers_at u.ports.same_lanes (λ i d b. (u.ports.each i d b).honest_is) (whole_pages cut books u.whole) page
+            (subst (λ (r : ℕ). All (λ (book : Page). book.round < r) books) (sym same.round) earlier) u.kept
+            (kept_in state honest sound gave old r.middle new ys zs k v w refl);
         few = λ i. (let a = u.few i in let b = v.few i in omega (arith, length-append (u.answers_at i) (v.answers_at i)));
         counted = (
             let one_more : length (books ++ new ∷ []) ≡ suc (length books) = omega (arith, length-append books (new ∷ [])) in
@@ -150,7 +248,12 @@ module _ {P : Type 0} (state : P → PortState) (honest sound : P → Type 0) (g
             All-append (λ (book : Page). All (IsLight book) book.answers) books (new ∷ []) (u.light h)
             (one (λ (book : Page). All (IsLight book) book.answers) new (subst (λ (ts : List AnswerValue). All (IsLight new) ts) (sym answers)
             (All-append (IsLight new) v.answers w.answers
-            (each_more (IsLight old) (IsLight new) v.answers (light_still old new same)
-            (v.light (λ i d b. (let within : i < length xs = (let e = u.ports.same_lanes in omega arith) in (u.ports.each i d within).honest_is (h i d within)))))
+            (contains_all (IsLight new) v.answers (λ t c. (
+            let g = v.given t c in
+            let within : g.0 < length ys = g.1 in
+            let before : g.0 < length xs = (let e = u.ports.same_lanes in omega arith) in
+            let d : LaneState P = lane_at ys g.0 within in
+            let l : All (IsLight old) (v.answers_at g.0) = v.light_at g.0 d within ((u.ports.each g.0 d before).honest_is (h g.0 d before)) in
+            light_still old new same t (All-contains (IsLight old) (v.answers_at g.0) t l g.2))))
             (each_more (IsLight r.middle) (IsLight new) w.answers (light_still r.middle new second) w.light))));
       }

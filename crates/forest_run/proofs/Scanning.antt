@@ -12,8 +12,8 @@ use Rattle.forest_run.specs.Rounds.{RoundWent}
 use Rattle.forest_run.specs.Passes.{PassWent}
 use Rattle.forest_run.specs.Lanes.{LaneState, open_of}
 use Rattle.ports.specs.Ports.{PortState}
-use Rattle.forest_run.proofs.Takes.{taken_one, heard_append}
-use Rattle.forest_run.proofs.Passing.{light_before, taken_before, same_round}
+use Rattle.forest_run.proofs.Takes.{taken_one, heard_append, taken_before, set_takes}
+use Rattle.forest_run.proofs.Passing.{light_before, same_round}
 use Rattle.forest_run.proofs.AsksThen.{either}
 
 pub took_of : {X E : Type 0} (Q : Type 0) (o : Option E) (r : Result X E) → IfErr r (λ e. o ≡ Some e) → OnOk r Q → o ≡ None → Q
@@ -26,6 +26,9 @@ one P t p (suc i) d b = absurd (omega arith)
 
 pub scanned_one : (p q : Page) (t : AnswerValue) → IsTaken p t → IsLight p t → q ≡ heard p t → Scanned p q 1
 scanned_one p q t k r e = record { answers = t ∷ []; count_is = refl; page = e; missed = rw e (taken_one p t k); light = one (IsLight p) t r }
+
+pub scanned_none : (p : Page) → Scanned p p 0
+scanned_none p = record { answers = []; count_is = refl; page = refl; missed = omega arith; light = λ i d b. absurd (omega arith) }
 
 pub scanned_then : (p q r : Page) (n m : ℕ) → Scanned p q n → Scanned q r m → Scanned p r (n + m)
 scanned_then p q r n m u v = record {
@@ -59,14 +62,8 @@ scanned_long p q n u = ap (λ o. length o.taken) u.page ∙ heard_long p u.answe
 pub scanned_cut : (p q : Page) (n : ℕ) → Scanned p q n → q.cut ≡ p.cut
 scanned_cut p q n u = ap (λ o. o.cut) u.page ∙ (same_round p u.answers).cut
 
--- a scan that took a missing shard took it
-pub got : (xs : List Bool) (i : ℕ) → get_or (set xs i true) i true ≡ true
-got [] i = refl
-got (x ∷ xs) zero = refl
-got (x ∷ xs) (suc i) = got xs i
-
 pub now_taken : (p q : Page) (t : AnswerValue) (s : ℕ) → t.shard ≡ s → q ≡ heard p t → is_taken q s ≡ true
-now_taken p q t s e f = ap (λ o. is_taken o s) f ∙ subst (λ (k : ℕ). get_or (set p.taken t.shard true) k true ≡ true) e (got p.taken t.shard)
+now_taken p q t s e f = ap (λ o. is_taken o s) f ∙ subst (λ (k : ℕ). get_or (set p.taken t.shard true) k true ≡ true) e (set_takes p.taken t.shard)
 
 pub rounded : {P : Type 0} (state : P → PortState) (honest sound : P → Type 0) (gave : P → List AnswerValue → Type 0) (p q r : Page) (xs ys : List (LaneState P)) (alone : ℕ)
     → PassWent state honest sound gave p q xs ys → (0 < missing q → open_of state ys ≡ 0) → Scanned q r alone → missing r ≡ 0 → RoundWent state honest sound gave p r xs ys alone

@@ -104,13 +104,6 @@ module _ {P : Type 0} (state : P → PortState) (honest sound : P → Type 0) (g
   kept_all (x ∷ xs) [] p = absurd p
   kept_all (x ∷ xs) (y ∷ ys) p = All-append (IsTaken page) y.kept (all_kept ys) p.0.taken (kept_all xs ys p.1)
 
-  pub light_all : (xs ys : List (LaneState P)) → Each (FerryWent state honest sound gave page) xs ys → All (λ (l : LaneState P). honest l.port) xs → All (IsLight page) (all_kept ys)
-  light_all [] [] p h = λ i d b. absurd (omega arith)
-  light_all [] (y ∷ ys) p h = absurd p
-  light_all (x ∷ xs) [] p h = absurd p
-  light_all (x ∷ xs) (y ∷ ys) p h =
-      All-append (IsLight page) y.kept (all_kept ys) (p.0.light (All-head (λ (l : LaneState P). honest l.port) x xs h)) (light_all xs ys p.1 (All-tail (λ (l : LaneState P). honest l.port) x xs h))
-
   -- the asks of all ports rose by the kept answers and by the ports that closed
   pub counted : (xs ys : List (LaneState P)) → Each (FerryWent state honest sound gave page) xs ys → asks_of state ys + open_of state ys ≡ (asks_of state xs + length (all_kept ys)) + open_of state xs
   counted [] [] p = refl

@@ -1,11 +1,11 @@
 -- How answers are taken one after the other.
-use Rattle.std.proofs.Common.{◌≡◌, ℕ, zero, suc, ◌+◌, ◌<◌, Bool, true, false, cond, List, [], ◌∷◌, ◌++◌, length, get_or, sym, arith}
+use Rattle.std.proofs.Common.{◌≡◌, ℕ, zero, suc, ◌+◌, ◌<◌, Bool, true, false, cond, List, [], ◌∷◌, ◌++◌, length, get_or, set, map, refl, sym, arith}
 use Rattle.std.specs.Prelude.{◌≢◌, All, AllPairs, Contains, reverse, not}
 use Rattle.std.proofs.lemmas.Grind.{common_steps}
 use Rattle.std.proofs.lemmas.List.{get_or-set_other}
 use Rattle.std.proofs.lemmas.List.Sums.{sum_by-set, fold-append}
 use Rattle.std.proofs.lemmas.List.Concat.{flat_map-cons}
-use Rattle.std.proofs.lemmas.List.Elements.{All-head, All-tail}
+use Rattle.std.proofs.lemmas.List.Elements.{All-head, All-tail, Contains-append_left, Contains-append_right}
 use Rattle.frames.specs.AnswerValue.{AnswerValue}
 use Rattle.round_core.specs.Page.{Page, heard, missing, is_taken}
 use Rattle.forest_run.specs.Asks.{IsTaken, shards_of}
@@ -50,7 +50,7 @@ pub taken_of : (p : Page) (ts : List AnswerValue) → Distinct (shards_of ts) �
 taken_of p [] d k = tt
 taken_of p (t ∷ ts) d k = (All-head (IsTaken p) t ts k, taken_of (heard p t) ts d.1 (stay_all p t ts d.0 (All-tail (IsTaken p) t ts k)))
 
-untaken : (p : Page) (t : AnswerValue) → IsTaken p t → is_taken p t.shard ≡ false
+pub untaken : (p : Page) (t : AnswerValue) → IsTaken p t → is_taken p t.shard ≡ false
 untaken p t k = (let e = k.taken in grind (arith, common_steps))
 
 within : (xs : List Bool) (i : ℕ) → get_or xs i true ≡ false → i < length xs
@@ -75,3 +75,36 @@ all_kept_cons zs x xs e = rw e (flat_map-cons (λ l. l.kept) x xs)
 
 pub heard_append : (p : Page) (xs ys : List AnswerValue) → heard_all p (xs ++ ys) ≡ heard_all (heard_all p xs) ys
 heard_append p xs ys = fold-append heard p xs ys
+
+-- and answers that are taken after others are taken with them
+pub taken_both : (p : Page) (xs ys : List AnswerValue) → AreTaken p xs → AreTaken (heard_all p xs) ys → AreTaken p (xs ++ ys)
+taken_both p [] ys f g = g
+taken_both p (x ∷ xs) ys f g = (f.0, taken_both (heard p x) xs ys f.1 g)
+
+-- what is free later on is free now
+set_before : (xs : List Bool) (i k : ℕ) → get_or (set xs i true) k true ≡ false → get_or xs k true ≡ false
+set_before [] i k e = e
+set_before (x ∷ xs) zero zero e = absurd (cc)
+set_before (x ∷ xs) zero (suc k) e = e
+set_before (x ∷ xs) (suc i) zero e = e
+set_before (x ∷ xs) (suc i) (suc k) e = set_before xs i k e
+
+pub taken_before : (p : Page) (ts : List AnswerValue) (s : ℕ) → is_taken (heard_all p ts) s ≡ false → is_taken p s ≡ false
+taken_before p [] s e = e
+taken_before p (t ∷ ts) s e = set_before p.taken t.shard s (taken_before (heard p t) ts s e)
+
+-- a shard that is taken is taken
+pub set_takes : (xs : List Bool) (i : ℕ) → get_or (set xs i true) i true ≡ true
+set_takes [] i = refl
+set_takes (x ∷ xs) zero = refl
+set_takes (x ∷ xs) (suc i) = set_takes xs i
+
+-- ---- the lists of all lanes
+
+abbrev pub kept_at : {P : Type 0} → List (LaneState P) → ℕ → List AnswerValue
+kept_at lanes i = get_or (map (λ l. l.kept) lanes) i []
+
+pub kept_to : {P : Type 0} (lanes : List (LaneState P)) (i : ℕ) (t : AnswerValue) → i < length lanes → Contains (get_or (map (λ l. l.kept) lanes) i []) t → Contains (all_kept lanes) t
+kept_to [] i t b h = absurd (omega arith)
+kept_to (l ∷ ls) zero t b h = Contains-append_left l.kept (all_kept ls) t h
+kept_to (l ∷ ls) (suc i) t b h = Contains-append_right l.kept (all_kept ls) t (kept_to ls i t (omega arith) h)

@@ -21,6 +21,10 @@ pub record IsTaken (page : Page) (answer : AnswerValue) : Type 0 where
 abbrev pub IsLight : Page → AnswerValue → Type 0
 IsLight page answer = IsHonestAnswer page.cut page.round answer.shard page.labels answer
 
+-- both answers are for one shard of one round
+abbrev pub AreForOne : AnswerValue → AnswerValue → Type 0
+AreForOne answer other = (answer.round ≡ other.round) × (answer.shard ≡ other.shard)
+
 -- the shards that the answers name
 abbrev pub shards_of : List AnswerValue → List ℕ
 shards_of answers = map (λ answer. answer.shard) answers
@@ -36,6 +40,8 @@ pub record AsksWent {P : Type 0} (state : P → PortState) (honest sound : P →
   pub asks : (state after).asks + one_if (state after).is_open ≡ (state before).asks + length kept + one_if (state before).is_open
   pub failures : (state before).failures ≤ (state after).failures
   pub wants : (state before).wants ≤ (state after).wants
+  -- at most one of the asks failed or found no memory, and none of a port that was closed
+  pub one_fault : (state after).failures + (state after).wants ≤ (state before).failures + (state before).wants + one_if (state before).is_open
   -- while it is open both counts stand still, and it gave just the kept answers
   pub opened : (state after).is_open ≡ true → ((state before).is_open ≡ true) × ((state after).failures ≡ (state before).failures) × ((state after).wants ≡ (state before).wants)
   pub given : (state after).is_open ≡ true → (answers : List AnswerValue) → gave before answers → gave after (answers ++ kept)

@@ -2,9 +2,16 @@
 use Rattle.std.specs.Prelude.{◌≡◌, ℕ, ◌+◌, List, [], ◌∷◌, Option}
 use Rattle.link_key.specs.declared.links.Link.{Link}
 use Rattle.round_theory.specs.Offers.{IsNamed}
-use Rattle.round_core.specs.Page.{Page, hearings}
+use Rattle.round_core.specs.Page.{Page, IsPage, hearings}
 use Rattle.round_core.specs.Picks.{ArePicks}
 use Rattle.round_core.specs.Solver.{Progress, IsAtStart, IsMerged}
+
+-- a book of the cut for the solver's next round, under its labels, as far as it is filled
+pub record IsNextOf (cut : List (List Link)) (p : Progress) (book : Page) : Type 0 where
+  pub page : IsPage book
+  pub cut_is : book.cut ≡ cut
+  pub round : book.round ≡ p.rounds + 1
+  pub labels : book.labels ≡ p.labels
 
 -- the book is of the solver's next round, under its labels, and these are its picks
 pub record IsPickedBy (p : Progress) (book : Page) (picks : List (Option Link)) : Type 0 where

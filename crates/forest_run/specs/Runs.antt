@@ -1,5 +1,5 @@
 -- What the rounds of a run do: to each lane, and to one book after another.
-use Rattle.std.specs.Prelude.{◌≡◌, ℕ, ◌+◌, ◌*◌, ◌<◌, ◌≤◌, List, length, slice_index_or, All, Contains}
+use Rattle.std.specs.Prelude.{◌≡◌, ℕ, ◌+◌, ◌*◌, ◌<◌, ◌≤◌, ◌⊎◌, List, length, slice_index_or, All, Contains}
 use Rattle.link_key.specs.declared.links.Link.{Link}
 use Rattle.frames.specs.AnswerValue.{AnswerValue}
 use Rattle.round_theory.specs.Offers.{IsNamed}
@@ -7,6 +7,7 @@ use Rattle.round_core.specs.Page.{Page, IsPage, opened, missing, hearings}
 use Rattle.ports.specs.Ports.{PortState}
 use Rattle.forest_run.specs.Lanes.{LaneState, asks_of, open_of}
 use Rattle.forest_run.specs.Asks.{AsksWent, IsRefused, IsLight}
+use Rattle.forest_run.specs.Passes.{AreOnce}
 
 -- the book, as it was opened
 abbrev pub unanswered : Page → Page
@@ -25,6 +26,23 @@ pub record PortsWent {P : Type 0} (state : P → PortState) (honest sound : P �
 abbrev pub IsGivenBy : ℕ → (ℕ → List AnswerValue) → AnswerValue → Type 0
 IsGivenBy lanes answers_at answer = (i : ℕ) × (i < lanes) × Contains (answers_at i) answer
 
+-- the answer is light in a book that has it
+abbrev pub IsLightIn : List Page → AnswerValue → Type 0
+IsLightIn books answer = (book : Page) × Contains books book × Contains book.answers answer × IsLight book answer
+
+-- each answer of the books is light
+abbrev pub AreLightBooks : List Page → Type 0
+AreLightBooks books = All (λ book. All (IsLight book) book.answers) books
+
+-- the answers that lanes kept, beside the books that they went into
+pub record AreKept {P : Type 0} (honest : P → Type 0) (before : List (LaneState P)) (books : List Page) (answers_at : ℕ → List AnswerValue) : Type 0 where
+  pub reached : (i : ℕ) (answer : AnswerValue) → i < length before → Contains (answers_at i) answer → (book : Page) × Contains books book × Contains book.answers answer
+  -- each answer in a book is light, or a lane kept it
+  pub each_is : All (λ book. All (λ answer. IsLight book answer ⊎ IsGivenBy (length before) answers_at answer) book.answers) books
+  -- what a lane with an honest port kept is light, whatever the other lanes are
+  pub light_at : (i : ℕ) (d : LaneState P) → i < length before → honest (slice_index_or before i d).port → All (IsLightIn books) (answers_at i)
+  pub once : AreOnce (length before) answers_at
+
 -- an answer that a book took names the link
 abbrev pub IsNamedIn : List Page → Link → Type 0
 IsNamedIn books l = (book : Page) × Contains books book × IsNamed (hearings book) l
@@ -35,15 +53,14 @@ pub record IsFullBook (cut : List (List Link)) (book : Page) : Type 0 where
   pub page : IsPage book
   pub all : missing book ≡ 0
 
--- lanes before and after whole rounds over books of a cut: so many answers of the ports went into the books, and so many scans of the coordinator
+-- lanes before and after whole rounds over books of a cut: the books have so many answers that lanes kept, and so many others, each of which is light: those the coordinator scanned itself
 pub record RoundsWent {P : Type 0} (state : P → PortState) (honest sound : P → Type 0) (gave : P → List AnswerValue → Type 0) (cut : List (List Link)) (before after : List (LaneState P)) (books : List Page) (answered alone : ℕ) : Type 0 where
   pub whole : All (IsFullBook cut) books
   pub answers_at : ℕ → List AnswerValue
   pub ports : PortsWent state honest sound gave (IsRefusedIn books) before after answers_at
+  pub kept : AreKept honest before books answers_at
   pub few : (i : ℕ) → length (answers_at i) ≤ answered
-  -- each answer that a lane kept stands in a book
-  pub reached : (i : ℕ) (answer : AnswerValue) → i < length before → Contains (answers_at i) answer → (book : Page) × Contains books book × Contains book.answers answer
-  -- each shard of each round was answered or scanned
+  -- each shard of each round has an answer that a lane kept, or another
   pub counted : answered + alone ≡ length books * length cut
   -- each ask brought an answer, but for those that closed a port
   pub asks : asks_of state after + open_of state after ≡ (asks_of state before + answered) + open_of state before
@@ -51,4 +68,4 @@ pub record RoundsWent {P : Type 0} (state : P → PortState) (honest sound : P �
   pub closed : 0 < alone → open_of state after ≡ 0
   -- where the coordinator scanned nothing, each answer is one that a lane kept
   pub given : alone ≡ 0 → All (λ book. All (IsGivenBy (length before) answers_at) book.answers) books
-  pub light : All (λ lane. honest lane.port) before → All (λ book. All (IsLight book) book.answers) books
+  pub light : All (λ lane. honest lane.port) before → AreLightBooks books

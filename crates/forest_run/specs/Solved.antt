@@ -1,12 +1,12 @@
 -- What a whole run does.
-use Rattle.std.specs.Prelude.{◌≡◌, ℕ, ◌+◌, ◌≤◌, ◌⊎◌, ◌^◌, max, List, [], ◌∷◌, ◌++◌, length, All, Contains, Option}
+use Rattle.std.specs.Prelude.{◌≡◌, ◌≢◌, ℕ, ◌+◌, ◌≤◌, ◌⊎◌, ◌^◌, max, List, [], ◌∷◌, ◌++◌, length, All, Contains, Option}
 use Rattle.link_key.specs.declared.links.Link.{Link}
 use Rattle.link_key.specs.Cut.{joined}
 use Rattle.link_key.specs.Forest.{IsForestOf}
 use Rattle.frames.specs.AnswerValue.{AnswerValue}
 use Rattle.round_theory.specs.Offers.{Names}
 use Rattle.round_theory.specs.Rounds.{IsMergingRounds}
-use Rattle.round_core.specs.Page.{Page, opened, hearing_of}
+use Rattle.round_core.specs.Page.{Page, hearing_of}
 use Rattle.round_core.specs.Picks.{AreNoPicks}
 use Rattle.round_core.specs.Solver.{Progress, IsProgress, vertices, IsTurn, IsStepFault, IsFinished, IsFinishFault, HasRoundsOf}
 use Rattle.round_core.specs.declared.solver.Turn.{Turn}
@@ -16,8 +16,8 @@ use Rattle.ports.specs.Ports.{PortState}
 use Rattle.forest_run.specs.declared.report.Report.{Report}
 use Rattle.forest_run.specs.Lanes.{LaneState, asks_of, open_of}
 use Rattle.forest_run.specs.Rounds.{RoundPicked}
-use Rattle.forest_run.specs.Runs.{IsRefusedIn, IsFullBook, PortsWent, RoundsWent, IsGivenBy, IsNamedIn}
-use Rattle.forest_run.specs.Chains.{IsPickedBy, IsSolvedBy}
+use Rattle.forest_run.specs.Runs.{IsRefusedIn, IsFullBook, AreKept, AreLightBooks, PortsWent, RoundsWent, IsGivenBy, IsNamedIn}
+use Rattle.forest_run.specs.Chains.{IsNextOf, IsPickedBy, IsSolvedBy}
 use Rattle.forest_run.specs.Reports.{IsReportOf}
 
 -- each lane's port is honest
@@ -32,6 +32,14 @@ pub record TurnWent {P : Type 0} (state : P → PortState) (honest sound : P →
   pub progress : IsProgress old
   pub picked : RoundPicked state honest sound gave (old.rounds + 1) cut old.labels before after picks alone
   pub stepped : IsTurn picks old new turn
+
+-- however a turn ended: what it did to the lanes' ports, and the book that it filled, as far as it came
+pub record TurnAsked {P : Type 0} (state : P → PortState) (honest sound : P → Type 0) (gave : P → List AnswerValue → Type 0) (cut : List (List Link)) (old : Progress) (before after : List (LaneState P)) : Type 0 where
+  pub book : Page
+  pub next : IsNextOf cut old book
+  pub answers_at : ℕ → List AnswerValue
+  pub ports : PortsWent state honest sound gave (IsRefusedIn (book ∷ [])) before after answers_at
+  pub kept : AreKept honest before (book ∷ []) answers_at
 
 -- a round under the solver's labels, whose picks the solver refuses
 pub record TurnRefused {P : Type 0} (state : P → PortState) (honest sound : P → Type 0) (gave : P → List AnswerValue → Type 0) (cut : List (List Link)) (old : Progress) (before after : List (LaneState P)) (fault : SolveFault) : Type 0 where
@@ -55,18 +63,19 @@ pub record PickedAfter {P : Type 0} (state : P → PortState) (honest sound : P 
   pub solved : IsSolvedBy n merging solver
   pub picked : IsPickedBy solver last picks
 
--- the books that a run asked for: none, or a whole one for each merging round, and one of the solver's next round
+-- the books that a run asked for: none, or a whole one for each merging round, and the one of the solver's next round, as far as it was filled
 abbrev pub AreRunBooks : ℕ → List (List Link) → List Page → Type 0
 AreRunBooks n cut books =
     (books ≡ [])
-    ⊎ ((merging : List Page) × (solver : Progress) × (books ≡ merging ++ opened (solver.rounds + 1) cut solver.labels ∷ []) × All (IsFullBook cut) merging × IsSolvedBy n merging solver)
+    ⊎ ((merging : List Page) × (solver : Progress) × (last : Page) × (books ≡ merging ++ last ∷ []) × All (IsFullBook cut) merging × IsSolvedBy n merging solver × IsNextOf cut solver last)
 
--- however a run ended: what it did to the lanes' ports
+-- however a run ended: what it did to the lanes' ports, and the books that it filled
 pub record RunAsked {P : Type 0} (state : P → PortState) (honest sound : P → Type 0) (gave : P → List AnswerValue → Type 0) (n : ℕ) (cut : List (List Link)) (before after : List (LaneState P)) : Type 0 where
   pub books : List Page
   pub are_books : AreRunBooks n cut books
   pub answers_at : ℕ → List AnswerValue
   pub ports : PortsWent state honest sound gave (IsRefusedIn books) before after answers_at
+  pub kept : AreKept honest before books answers_at
 
 -- the links taken are those of all merging rounds over the list
 pub record HasAllRoundsOf (links : List Link) (p : Progress) : Type 0 where
@@ -83,7 +92,8 @@ pub record RunWent {P : Type 0} (state : P → PortState) (honest sound : P → 
   pub in_time : 2 ^ solver.rounds ≤ max 1 n
   pub vertices_are : vertices solver ≡ n
   pub named : All (IsNamedIn went.merging) solver.taken
-  pub right : AreHonest honest before → HasAllRoundsOf (joined cut) solver
+  -- where each answer is light, whoever gave it
+  pub right : AreLightBooks (went.merging ++ went.last ∷ []) → HasAllRoundsOf (joined cut) solver
 
 -- rounds of a run, after which the solver refuses the picks of the last one, or there were none and it can't be finished
 pub record RunRefused {P : Type 0} (state : P → PortState) (honest sound : P → Type 0) (gave : P → List AnswerValue → Type 0) (n : ℕ) (cut : List (List Link)) (before after : List (LaneState P)) (fault : SolveFault) : Type 0 where
@@ -94,6 +104,8 @@ pub record RunRefused {P : Type 0} (state : P → PortState) (honest sound : P �
   pub went : PickedAfter state honest sound gave n cut before after solver picks answered alone
   pub vertices_are : vertices solver ≡ n
   pub why : IsStepFault solver picks fault ⊎ (AreNoPicks picks × IsFinishFault solver (joined cut) fault)
+  -- a fault other than want of memory comes of an answer that isn't light
+  pub to_blame : fault ≢ Memory → ¬ (AreLightBooks (went.merging ++ went.last ∷ []))
 
 -- why a run has no forest: want of memory, or what was answered in its rounds
 abbrev pub IsSolveFault : {P : Type 0} → (P → PortState) → (P → Type 0) → (P → Type 0) → (P → List AnswerValue → Type 0) → ℕ → List (List Link) → List (LaneState P) → List (LaneState P) → SolveFault → Type 0
@@ -114,6 +126,7 @@ pub record SolveWent {P : Type 0} (state : P → PortState) (honest sound : P �
   pub closed : open_of state after + report.closed ≡ open_of state before
   -- the links that the solver took, which are a spanning forest, whatever was answered
   pub finished : IsFinished solver (joined cut) forest
+  -- no link is invented
   pub from_list : All (Contains (joined cut)) forest
   -- where the coordinator scanned nothing, an answer that a lane kept names each link
   pub named : report.alone ≡ 0 → (l : Link) → Contains forest l → (answer : AnswerValue) × IsGivenBy (length before) went.rounds.answers_at answer × Names (hearing_of cut answer) l

@@ -1,16 +1,14 @@
 //! The whole run over lanes: rounds, until one has no picks.
-ghost use Rattle.std.specs.Prelude.{◌≡◌, ℕ, ◌+◌, ◌<◌, ◌≤◌, ◌^◌, List, [], ◌∷◌, length, All, IfOk, IfErr};
+ghost use Rattle.std.specs.Prelude.{◌≡◌, ℕ, ◌+◌, ◌<◌, ◌≤◌, ◌^◌, length, All, IfOk, IfErr};
 ghost use Rattle.claim_board.specs.declared.most.TheConstants.{MOST_SEATS};
 ghost use Rattle.limits.specs.declared.TheConstants.{MAX_SHARDS, MAX_VERTICES};
 ghost use Rattle.link_key.specs.Link.{EndsUpTo};
-ghost use Rattle.frames.specs.AnswerValue.{AnswerValue};
 ghost use Rattle.round_core.specs.Page.{opened};
 ghost use Rattle.round_core.specs.Solver.{vertices, IsAtStart};
 ghost use Rattle.round_core.specs.declared.solver.SolveFault.TheVariants.{Memory};
 ghost use Rattle.forest_run.specs.Lanes.{IsIdle};
 ghost use Rattle.forest_run.specs.Bounds.{IsWide};
-ghost use Rattle.forest_run.specs.Runs.{IsRefusedIn, PortsWent};
-ghost use Rattle.forest_run.specs.Solved.{AreHonest, TurnWent, IsTurnFault, RunWent, RunAsked, SolveWent, IsSolveFault};
+ghost use Rattle.forest_run.specs.Solved.{AreHonest, TurnWent, TurnAsked, IsTurnFault, RunWent, RunAsked, SolveWent, IsSolveFault};
 
 use crate::lane::Lane;
 use crate::report::{Report, report_of};
@@ -33,12 +31,12 @@ fn turn<'a, A: Allocator + Copy + Send + Sync, P: Port<A> + Send + Drop, R: Thre
 ) -> Result<(Turn, u32), SolveFault>
     requires few { length lanes.old ≤ MOST_SEATS }
     requires some_shard { 0 < length cut.now }
+    requires few_shards { length cut.now ≤ MAX_SHARDS }
     requires ends { All (EndsUpTo (vertices solver.old)) cut.now }
     requires wide { All (λ lane. IsWide P.state (opened (solver.old.rounds + 1) cut.now solver.old.labels) lane.port) lanes.old }
     requires idle { All IsIdle lanes.old }
     ensures went { IfOk result (λ r. TurnWent P.state P.honest P.sound P.gave cut.now solver.old solver.new lanes.old lanes.new r.0 r.1) }
-    ensures ports { (answers_at : ℕ → List AnswerValue)
-        × PortsWent P.state P.honest P.sound P.gave (IsRefusedIn (opened (solver.old.rounds + 1) cut.now solver.old.labels ∷ [])) lanes.old lanes.new answers_at }
+    ensures ports { TurnAsked P.state P.honest P.sound P.gave cut.now solver.old lanes.old lanes.new }
     ensures fault { IfErr result (IsTurnFault P.state P.honest P.sound P.gave cut.now solver.old lanes.old lanes.new) }
     ensures idle { All IsIdle lanes.new }
 {

@@ -4,13 +4,14 @@ use Rattle.ports.specs.Ports.{PortState, PortWent}
 
 -- no call at all
 pub port_went_nowhere : (port : PortState) → PortWent 0 0 0 port port
-port_went_nowhere port = record { cut = refl; asks = omega arith; failures = omega arith; wants = omega arith; opened = λ is. (is, refl, refl); closed = λ is. (is, refl); last = λ none. refl }
+port_went_nowhere port = record { cut = refl; worker = refl; asks = omega arith; failures = omega arith; wants = omega arith; opened = λ is. (is, refl, refl); closed = λ is. (is, refl); last = λ none. refl }
 
 -- calls, and then more calls
 pub port_went_then : (asked failed wanted asked' failed' wanted' : ℕ) (a b c : PortState)
     → PortWent asked failed wanted a b → PortWent asked' failed' wanted' b c → PortWent (asked + asked') (failed + failed') (wanted + wanted') a c
 port_went_then asked failed wanted asked' failed' wanted' a b c first second = record {
   cut = second.cut ∙ first.cut;
+  worker = second.worker ∙ first.worker;
   asks = omega (arith, first.asks, second.asks);
   failures = omega (arith, first.failures, second.failures);
   wants = omega (arith, first.wants, second.wants);

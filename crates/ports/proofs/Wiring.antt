@@ -1,19 +1,23 @@
 -- A wire from call to call.
-use Rattle.std.proofs.Common.{◌≡◌, ℕ, ◌<◌, List, [], ◌∷◌, ◌++◌, length, Some, refl, sym, ap, subst}
-use Rattle.std.specs.Prelude.{Option, None, IsSome, IfSome, Bool, true, false, if◌then◌else◌}
+use Rattle.std.proofs.Common.{◌≡◌, ◌≢◌, ℕ, ◌<◌, List, [], ◌∷◌, ◌++◌, length, Some, refl, sym, ap, subst, ◌∙◌, append_assoc, inl, inr, arith}
+use Rattle.std.specs.Prelude.{◌+◌, Option, None, IsSome, IfSome, true, false, if◌then◌else◌}
+use Rattle.std.proofs.lemmas.List.{length-append}
 use Rattle.std.proofs.lemmas.List.Elements.{All-nil}
 use Rattle.limits.specs.declared.TheConstants.{MAX_WORKERS}
+use Rattle.link_key.specs.declared.links.Link.{Link}
 use Rattle.link_key.specs.Link.{EndsUpTo}
 use Rattle.link_key.specs.Cut.{links_at}
 use Rattle.frames.specs.AnswerValue.{AnswerValue}
+use Rattle.frames.specs.FrameValue.{FrameValue, HelloFrame, ShardFrame, AskFrame, AnswerFrame, FaultFrame}
 use Rattle.frames.specs.Lawful.{IsShard, IsAsk}
 use Rattle.ports.specs.declared.fault.PortFault.{PortFault}
+use Rattle.ports.specs.declared.fault.PortFault.TheVariants.{Closed}
 use Rattle.shard_set.specs.Shards.{has_shard}
-use Rattle.ports.specs.Lines.{IsFresh, Tells, ServesSoFar}
-use Rattle.ports.specs.Ports.{IsHonestAnswer}
+use Rattle.ports.specs.Lines.{LineState, IsFresh, Tells, ServesSoFar}
+use Rattle.ports.specs.Ports.{IsHonestAnswer, failure_of, want_of}
 use Rattle.ports.specs.Causes.{Cause, IsBlameless}
-use Rattle.ports.specs.Talking.{Talk, frames_put, Asked, IsOfCut, IsInStep}
-use Rattle.ports.specs.Wires.{IsSound, IsHonest}
+use Rattle.ports.specs.Talking.{Talk, TalkState, told, shard_once, frames_put, Asked, IsOfCut, IsInStep}
+use Rattle.ports.specs.Wires.{WireState, last_ask, IsCalm, WentOn, WireCause}
 use Rattle.ports.proofs.Asking.{step_more, honest_answer, blameless}
 
 told_none : (told : Option (List ℕ)) → IsSome told → IfSome told (λ bytes. bytes ≡ []) → told ≡ Some []
@@ -33,33 +37,131 @@ fresh_step talk fresh tells quiet none = record {
   shelves = λ s within. sym (ap (λ b. if b then Some (links_at talk.cut s) else None) (none s));
 }
 
-module _ (round shard : ℕ) (labels : List ℕ) (before after : Talk) (in_cut : shard < length before.cut) (is : IsShard shard (links_at before.cut shard)) (ask : IsAsk round shard labels)
-    (live : Bool) (is_live : live ≡ true) where
-  -- ---- an ask that was answered
+-- the last ask of frames that end in one
+last_put : (last : ℕ × ℕ) (said : List FrameValue) (round shard : ℕ) (labels : List ℕ) → last_ask last (said ++ AskFrame round shard labels ∷ []) ≡ (round, shard)
+last_put last [] round shard labels = refl
+last_put last (AskFrame r s ls ∷ said) round shard labels = last_put (r, s) said round shard labels
+last_put last (HelloFrame v w ∷ said) round shard labels = last_put last said round shard labels
+last_put last (ShardFrame n ls ∷ said) round shard labels = last_put last said round shard labels
+last_put last (AnswerFrame a ∷ said) round shard labels = last_put last said round shard labels
+last_put last (FaultFrame r s c ∷ said) round shard labels = last_put last said round shard labels
 
-  module _ (a : AnswerValue) (asked : Asked round shard labels a before after) where
-    pub sound_more : (live' : Bool) → IsSound live before → IsSound live' after
-    sound_more live' sound now =
-        let (said, answers, step) = sound is_live in
-        (said ++ frames_put before round shard labels, answers ++ a ∷ [], step_more round shard labels a before after asked in_cut is ask said answers step)
+-- an ask that was open never ends with Closed
+pub not_closed : (round shard : ℕ) (labels : List ℕ) (before after : Talk) (fault : PortFault) → Cause fault round shard labels before after → fault ≢ Closed
+not_closed round shard labels before after fault cause same = subst (λ (f : PortFault). Cause f round shard labels before after) same cause
 
-    pub honest_more : (live' : Bool) (line line' : ℕ → Type 0) → ((w : ℕ) → line w → line' w) → IsHonest line live before → IsHonest line' live' after
-    honest_more live' line line' kept honest = (subst line' (sym asked.worker) (kept before.worker honest.0), sound_more live' honest.1)
+module _ {L : Type 0} (state : L → LineState) where
+  -- a wire that asked nothing yet, over a fresh line that tells its bytes
+  pub fresh_calm : (wire : WireState L) → IsFresh (state wire.talk.line) → Tells (state wire.talk.line) → wire.talk.greeted ≡ false → ((s : ℕ) → has_shard wire.talk.sent s ≡ false)
+      → wire.asks ≡ 0 → wire.failures ≡ 0 → wire.wants ≡ 0 → wire.last ≡ (0, 0) → IsCalm state wire [] []
+  fresh_calm wire fresh tells quiet none asks failures wants last = record {
+    in_step = fresh_step (told state wire.talk) fresh tells quiet none;
+    asks = asks;
+    failures = failures;
+    wants = wants;
+    last = last;
+  }
 
+  -- one that is open is calm
+  pub calm_open : (kind : PortFault → Type 0) (wire : WireState L) → wire.is_open ≡ true → WentOn state kind wire → (said : List FrameValue) × (answers : List AnswerValue) × IsCalm state wire said answers
+  calm_open kind wire live went = elim went [
+    | inl calm ↦ calm
+    | inr failed ↦ cc
+  ]
+
+  -- one that is shut stays what it was
+  pub went_shut : (kind : PortFault → Type 0) (wire : WireState L) → WentOn state kind wire → WentOn state kind (record wire { is_open = false })
+  went_shut kind wire went = elim went [
+    | inl on ↦ let calm = on.2 in
+        inl (on.0, on.1, record { in_step = calm.in_step; asks = calm.asks; failures = calm.failures; wants = calm.wants; last = calm.last })
+    | inr off ↦ let failed = off.1 in
+        inr (
+          refl,
+          record {
+            before = failed.before;
+            said = failed.said;
+            answers = failed.answers;
+            calm = failed.calm;
+            was_open = failed.was_open;
+            same_cut = failed.same_cut;
+            same_worker = failed.same_worker;
+            fault = failed.fault;
+            is_kind = failed.is_kind;
+            in_cut = failed.in_cut;
+            labels = failed.labels;
+            cause = failed.cause;
+            asks = failed.asks;
+            failures = failed.failures;
+            wants = failed.wants;
+          },
+        )
+  ]
+
+  -- ---- one ask of an open wire
+
+  module _ (round shard : ℕ) (labels : List ℕ) (old new : WireState L) (in_cut : shard < length old.talk.cut) (live : old.is_open ≡ true) (asks : new.asks ≡ old.asks + 1) (last : new.last ≡ (round, shard)) where
+    -- it was answered
+    module _ (is : IsShard shard (links_at old.talk.cut shard)) (ask : IsAsk round shard labels) (a : AnswerValue) (asked : Asked round shard labels a (told state old.talk) (told state new.talk)) where
+      pub answered : (kind kind' : PortFault → Type 0) → new.failures ≡ old.failures → new.wants ≡ old.wants → WentOn state kind old → WentOn state kind' new
+      answered kind kind' failures wants went =
+          let (said, answers, calm) = calm_open kind old live went in
+          let first : List FrameValue = shard_once (has_shard old.talk.sent shard) shard (links_at old.talk.cut shard) in
+          inl (
+            said ++ frames_put (told state old.talk) round shard labels,
+            answers ++ a ∷ [],
+            record {
+              in_step = step_more round shard labels a (told state old.talk) (told state new.talk) asked in_cut is ask said answers calm.in_step;
+              asks = omega (arith, asks, calm.asks, length-append answers (a ∷ []));
+              failures = failures ∙ calm.failures;
+              wants = wants ∙ calm.wants;
+              last = last ∙ sym (ap (last_ask (0, 0)) (sym (append_assoc said first (AskFrame round shard labels ∷ []))) ∙ last_put (0, 0) (said ++ first) round shard labels);
+            },
+          )
+
+    -- it wasn't
+    module _ (fault : PortFault) (cause : WireCause state fault round shard labels old new) where
+      pub failed : (kind kind' : PortFault → Type 0) → kind' fault → new.is_open ≡ false → new.talk.cut ≡ old.talk.cut → new.talk.worker ≡ old.talk.worker
+          → new.failures ≡ old.failures + failure_of fault → new.wants ≡ old.wants + want_of fault → WentOn state kind old → WentOn state kind' new
+      failed kind kind' is_kind closed cut worker failures wants went =
+          let (said, answers, calm) = calm_open kind old live went in
+          let round_is : round ≡ new.last.0 = ap (λ (p : ℕ × ℕ). p.0) (sym last) in
+          let shard_is : shard ≡ new.last.1 = ap (λ (p : ℕ × ℕ). p.1) (sym last) in
+          inr (
+            closed,
+            record {
+              before = old;
+              said = said;
+              answers = answers;
+              calm = calm;
+              was_open = live;
+              same_cut = cut;
+              same_worker = worker;
+              fault = fault;
+              is_kind = is_kind;
+              in_cut = subst (λ (s : ℕ). s < length new.talk.cut) shard_is (subst (λ (c : List (List Link)). shard < length c) (sym cut) in_cut);
+              labels = labels;
+              cause = subst (λ (r : ℕ). WireCause state fault r new.last.1 labels old new) round_is (subst (λ (s : ℕ). WireCause state fault round s labels old new) shard_is cause);
+              asks = asks;
+              failures = omega (arith, failures, calm.failures);
+              wants = omega (arith, wants, calm.wants);
+            },
+          )
+
+  -- ---- what a faithful line leads to, whatever the wire counts
+
+  module _ (round shard : ℕ) (labels : List ℕ) (old : WireState L) (new : TalkState L) (in_cut : shard < length old.talk.cut) (live : old.is_open ≡ true) (is : IsShard shard (links_at old.talk.cut shard)) (ask : IsAsk round shard labels)
+      (below : old.talk.worker < MAX_WORKERS) (kind : PortFault → Type 0) where
     -- what the line told by the end of the ask is enough
-    pub served_answer : before.worker < MAX_WORKERS → IsSound live before → ServesSoFar before.worker after.line → IsHonestAnswer before.cut round shard labels a
-    served_answer below sound serves =
-        let (said, answers, step) = sound is_live in
-        honest_answer round shard labels before after said answers step below serves in_cut is ask a asked
+    pub served_answer : (a : AnswerValue) → Asked round shard labels a (told state old.talk) (told state new) → WentOn state kind old → ServesSoFar old.talk.worker (state new.line) → IsHonestAnswer old.talk.cut round shard labels a
+    served_answer a asked went serves =
+        let (said, answers, calm) = calm_open kind old live went in
+        honest_answer round shard labels (told state old.talk) (told state new) said answers calm.in_step below serves in_cut is ask a asked
 
-    pub light_answer : (line line' : ℕ → Type 0) → ((w : ℕ) → line w → line' w) → before.worker < MAX_WORKERS → ((w : ℕ) → line' w → ServesSoFar w after.line) → IsHonest line live before
-        → IsHonestAnswer before.cut round shard labels a
-    light_answer line line' kept below serves honest = served_answer below honest.1 (serves before.worker (kept before.worker honest.0))
+    module _ (line line' : ℕ → Type 0) (kept : (w : ℕ) → line w → line' w) (serves : (w : ℕ) → line' w → ServesSoFar w (state new.line)) (honest : line old.talk.worker × WentOn state kind old) where
+      pub light_answer : (a : AnswerValue) → Asked round shard labels a (told state old.talk) (told state new) → IsHonestAnswer old.talk.cut round shard labels a
+      light_answer a asked = served_answer a asked honest.1 (serves old.talk.worker (kept old.talk.worker honest.0))
 
-  -- ---- an ask that wasn't
-
-  pub blameless_fault : (fault : PortFault) (line line' : ℕ → Type 0) → ((w : ℕ) → line w → line' w) → before.worker < MAX_WORKERS → ((w : ℕ) → line' w → ServesSoFar w after.line)
-      → EndsUpTo (length labels) (links_at before.cut shard) → Cause fault round shard labels before after → IsHonest line live before → IsBlameless fault
-  blameless_fault fault line line' kept below serves ends cause honest =
-      let (said, answers, step) = honest.1 is_live in
-      blameless round shard labels before after said answers step below (serves before.worker (kept before.worker honest.0)) in_cut is ask fault ends cause
+      pub blameless_fault : (fault : PortFault) → EndsUpTo (length labels) (links_at old.talk.cut shard) → Cause fault round shard labels (told state old.talk) (told state new) → IsBlameless fault
+      blameless_fault fault ends cause =
+          let (said, answers, calm) = calm_open kind old live honest.1 in
+          blameless round shard labels (told state old.talk) (told state new) said answers calm.in_step below (serves old.talk.worker (kept old.talk.worker honest.0)) in_cut is ask fault ends cause

@@ -1,15 +1,16 @@
 -- A wire: a port over a line.
-use Rattle.std.specs.Prelude.{◌≡◌, ℕ, ◌+◌, ◌<◌, ◌≤◌, Bool, true, false, List}
+use Rattle.std.specs.Prelude.{◌≡◌, ◌≢◌, ℕ, ◌+◌, ◌<◌, ◌≤◌, ◌⊎◌, Bool, true, false, List, [], ◌∷◌, length}
 use Rattle.limits.specs.declared.TheConstants.{MAX_WORKERS}
 use Rattle.link_key.specs.declared.links.Link.{Link}
 use Rattle.shard_set.specs.Shards.{has_shard}
 use Rattle.frames.specs.AnswerValue.{AnswerValue}
-use Rattle.frames.specs.FrameValue.{FrameValue}
+use Rattle.frames.specs.FrameValue.{FrameValue, AskFrame}
 use Rattle.ports.specs.Lines.{LineState, HasRoom}
-use Rattle.ports.specs.Ports.{PortState}
-use Rattle.ports.specs.Talking.{TalkState, Talk, told, HasGiven, IsInStep}
+use Rattle.ports.specs.Ports.{PortState, failure_of, want_of}
+use Rattle.ports.specs.Talking.{TalkState, told, HasGiven, IsInStep}
 use Rattle.ports.specs.declared.fault.PortFault.{PortFault}
-use Rattle.ports.specs.Causes.{Cause}
+use Rattle.ports.specs.declared.fault.PortFault.TheVariants.{Closed}
+use Rattle.ports.specs.Causes.{Cause, IsBlameless}
 
 -- a wire: its talk, whether it is open, its counts, and the round and the shard of its last ask
 pub record WireState (L : Type 0) : Type 0 where
@@ -41,23 +42,9 @@ pub record IsNewWire {L : Type 0} (line : L) (cut : List (List Link)) (worker : 
 
 -- as a port
 abbrev pub port_of : {L : Type 0} → WireState L → PortState
-port_of wire = record { cut = wire.talk.cut; is_open = wire.is_open; asks = wire.asks; failures = wire.failures; wants = wire.wants; last = wire.last }
+port_of wire = record { cut = wire.talk.cut; worker = wire.talk.worker; is_open = wire.is_open; asks = wire.asks; failures = wire.failures; wants = wire.wants; last = wire.last }
 
--- while it is open its line sent asks for shards of its cut, and each shard of its set once, and got the hello and one answer for each ask, and nothing else
-abbrev pub IsSound : Bool → Talk → Type 0
-IsSound is_open talk = is_open ≡ true → (said : List FrameValue) × (answers : List AnswerValue) × IsInStep talk said answers
-
--- it is sound, and its line is faithful for its worker
-abbrev pub IsHonest : (ℕ → Type 0) → Bool → Talk → Type 0
-IsHonest faithful is_open talk = faithful talk.worker × IsSound is_open talk
-
--- ---- the same of a wire, by what its line tells of itself
-
-abbrev pub IsSoundWire : {L : Type 0} → (L → LineState) → WireState L → Type 0
-IsSoundWire state wire = IsSound wire.is_open (told state wire.talk)
-
-abbrev pub IsHonestWire : {L : Type 0} → (L → LineState) → (L → ℕ → Type 0) → WireState L → Type 0
-IsHonestWire state faithful wire = IsHonest (faithful wire.talk.line) wire.is_open (told state wire.talk)
+-- ---- by what its line tells of itself
 
 -- it gave these answers
 abbrev pub WireGave : {L : Type 0} → (L → LineState) → WireState L → List AnswerValue → Type 0
@@ -66,3 +53,47 @@ WireGave state wire answers = HasGiven (told state wire.talk) answers
 -- why one of its asks gave no answer
 abbrev pub WireCause : {L : Type 0} → (L → LineState) → PortFault → (round shard : ℕ) → List ℕ → WireState L → WireState L → Type 0
 WireCause state fault round shard labels before after = Cause fault round shard labels (told state before.talk) (told state after.talk)
+
+-- the round and the shard of the last ask among these frames, or of `last` where there is none
+abbrev pub last_ask : ℕ × ℕ → List FrameValue → ℕ × ℕ
+last_ask last [] = last
+last_ask last (AskFrame round shard labels ∷ frames) = last_ask (round, shard) frames
+last_ask last (v ∷ frames) = last_ask last frames
+
+-- over a line that was fresh: nothing failed; just these frames were sent, shards of its cut, none twice, and asks; and the hello and just these answers were got, one for each ask that it counts
+pub record IsCalm {L : Type 0} (state : L → LineState) (wire : WireState L) (said : List FrameValue) (answers : List AnswerValue) : Type 0 where
+  pub in_step : IsInStep (told state wire.talk) said answers
+  pub asks : wire.asks ≡ length answers
+  pub failures : wire.failures ≡ 0
+  pub wants : wire.wants ≡ 0
+  pub last : wire.last ≡ last_ask (0, 0) said
+
+-- its last ask, the first that got no answer, ended with a fault of this kind: why, by the wire before that ask, calm and open, and the wire behind it
+pub record HasFailed {L : Type 0} (state : L → LineState) (kind : PortFault → Type 0) (wire : WireState L) : Type 0 where
+  pub before : WireState L
+  pub said : List FrameValue
+  pub answers : List AnswerValue
+  pub calm : IsCalm state before said answers
+  pub was_open : before.is_open ≡ true
+  pub same_cut : wire.talk.cut ≡ before.talk.cut
+  pub same_worker : wire.talk.worker ≡ before.talk.worker
+  pub fault : PortFault
+  pub is_kind : kind fault
+  pub in_cut : wire.last.1 < length wire.talk.cut
+  pub labels : List ℕ
+  pub cause : WireCause state fault wire.last.0 wire.last.1 labels before wire
+  pub asks : wire.asks ≡ before.asks + 1
+  pub failures : wire.failures ≡ failure_of fault
+  pub wants : wire.wants ≡ want_of fault
+
+-- it is calm, open or shut; or a fault of this kind closed it
+abbrev pub WentOn : {L : Type 0} → (L → LineState) → (PortFault → Type 0) → WireState L → Type 0
+WentOn state kind wire = ((said : List FrameValue) × (answers : List AnswerValue) × IsCalm state wire said answers) ⊎ ((wire.is_open ≡ false) × HasFailed state kind wire)
+
+-- what it told is true: it is calm, or a fault closed it that has its cause
+abbrev pub IsSoundWire : {L : Type 0} → (L → LineState) → WireState L → Type 0
+IsSoundWire state wire = WentOn state (λ fault. fault ≢ Closed) wire
+
+-- its line is faithful for its worker: it is calm, or a fault closed it that is nobody's blame
+abbrev pub IsHonestWire : {L : Type 0} → (L → LineState) → (L → ℕ → Type 0) → WireState L → Type 0
+IsHonestWire state faithful wire = faithful wire.talk.line wire.talk.worker × WentOn state IsBlameless wire

@@ -13,6 +13,8 @@
 //! - An ask that is answered sent the ask alone, and before it the shard where no ask sent it before.
 //! - An open wire over a line that was fresh, and tells its bytes, sent shards of its cut, none twice, and one
 //!   ask for each answer, and nothing else; it got the worker's hello and these answers, and nothing else.
+//! - Closed, such a wire was shut, and stands as it did; or its last ask failed, and the wire tells why, by the
+//!   open wire before that ask: its counts rose by that ask and that fault alone.
 //!
 //! ```text
 //!     Port::ask, shut, is_open, asks        what rounds ask

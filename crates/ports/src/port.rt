@@ -15,7 +15,8 @@ use std::alloc::Allocator;
 ///
 /// A port is open at first, and closed for good by its first fault, or when it is shut. It counts the asks
 /// that it got while it was open, those of them that failed, and those that found no memory; it keeps the
-/// round and the shard of the last ask that it got while it was open.
+/// round and the shard of the last ask that it got while it was open. It tells the number of the worker
+/// that it asks, where it asks one, and never changes it.
 ///
 /// It is honest where each answer that it gives names the round and the shard that were asked, with the
 /// light offers of that shard under the labels that were asked. Where it tells the answers that it gave
@@ -30,7 +31,8 @@ pub trait Port<A: Allocator> {
     // These are the answers that it gave, in their order, where it tells them.
     ghost gave: { Self → List AnswerValue → Type 0 };
 
-    // While it is open, nothing went out or came in but its asks and their answers, where it tells that.
+    // Nothing went out or came in but its asks and their answers, up to the ask whose fault closed it, and that fault
+    // has its cause, where it tells that.
     ghost sound: { Self → Type 0 };
 
     /// Asks for the offers of a shard in a round under the labels of all vertices. It may wait for the

@@ -65,7 +65,7 @@ returns-clause-went g c =
     let before : Each SamePort c.args.lanes.now c.deal.new.lanes = each_map (GotSeat g.P.Port.state) SamePort (λ x y r. record { port = r.port }) _ _ c.deal.ensures.lanes in
     let after : Each SamePort c.cross.new.lanes c.take_all.new.lanes =
     each_then GaveSeat GaveKept SamePort (λ x y z r s. record { port = s.port ∙ r.port }) _ _ _ c.gather.ensures.lanes c.take_all.ensures.lanes in
-    passed_of g.P.Port.state g.P.Port.honest g.P.Port.sound g.P.Port.gave page c.take_all.new.book c.args.lanes.now c.deal.new.lanes c.cross.new.lanes c.take_all.new.lanes before f after taken
+    passed_of g.P.Port.state g.P.Port.honest g.P.Port.sound g.P.Port.gave page c.take_all.new.book c.args.lanes.now c.deal.new.lanes c.cross.new.lanes c.take_all.new.lanes before f after different taken
     (c.take_all.ensures.page ∙ ap (heard_all page) (same_kept c.cross.new.lanes c.gather.new.lanes c.gather.ensures.lanes))
 
 pub returns-clause-idle : goal.returns-clause-idle

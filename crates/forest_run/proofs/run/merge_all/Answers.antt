@@ -19,7 +19,7 @@ pub returns-in_err-turn-clause-fault : goal.returns-in_err-turn-clause-fault
 returns-in_err-turn-clause-fault g c =
     let told = err_from_is_err_and c.from_residual.result c.from_residual.ensures.1 in
     rw (told.1, told.2)
-    (turn_fault g.P.Port.state g.P.Port.honest g.P.Port.sound g.P.Port.gave c.args.n c.args.cut.now c.args.lanes.now c.loop.lanes c.turn.new.lanes c.loop.solver c.loop.alone c.in_err-turn.field-0.0
+    (turn_fault g.P.Port.state g.P.Port.honest g.P.Port.sound g.P.Port.gave c.args.n c.args.cut.now c.args.lanes.now c.loop.lanes c.turn.new.lanes c.loop.solver c.loop.alone c.in_err-turn.field-0.0 c.requires.ends
     c.loop.invariant.so_far c.in_err-turn.ensures.fault)
 
 pub returns-in_err-turn-clause-honest_fault : goal.returns-in_err-turn-clause-honest_fault

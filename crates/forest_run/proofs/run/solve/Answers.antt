@@ -12,7 +12,7 @@ returns-in_err-forest-clause-fault g c =
     let told = err_from_is_err_and c.from_residual-in_err-forest.result c.from_residual-in_err-forest.ensures.1 in
     rw (told.1, told.2)
     (finish_fault g.P.Port.state g.P.Port.honest g.P.Port.sound g.P.Port.gave c.args.n c.args.cut.now c.args.lanes.now c.merge_all.new.lanes c.merge_all.new.solver c.in_ok-alone.ensures.went.0 c.in_ok-alone.alone
-    c.in_err-forest.field-0.0 c.in_ok-alone.ensures.went.1 c.in_err-forest.ensures.fault)
+    c.in_err-forest.field-0.0 c.requires.ends c.in_ok-alone.ensures.went.1 c.in_err-forest.ensures.fault)
 
 pub returns-in_err-forest-clause-honest_fault : goal.returns-in_err-forest-clause-honest_fault
 returns-in_err-forest-clause-honest_fault g c =

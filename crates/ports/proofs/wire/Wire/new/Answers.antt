@@ -1,9 +1,9 @@
-use Rattle.std.proofs.Common.{[], refl}
-use Rattle.ports.proofs.Wiring.{fresh_step}
+use Rattle.std.proofs.Common.{[], refl, inl}
+use Rattle.ports.proofs.Wiring.{fresh_calm}
 use Rattle.ports.proofs.wire.Wire.new.Goals as goal
 
 pub returns-clause-sound : goal.returns-clause-sound
-returns-clause-sound g c fresh tells live = ([], [], fresh_step _ fresh tells refl c.empty.ensures)
+returns-clause-sound g c fresh tells = inl ([], [], fresh_calm g.L.Line.state _ fresh tells refl c.empty.ensures refl refl refl refl)
 
 pub returns-clause-honest : goal.returns-clause-honest
-returns-clause-honest g c fresh tells faithful = (faithful, λ live. ([], [], fresh_step _ fresh tells refl c.empty.ensures))
+returns-clause-honest g c fresh tells faithful = (faithful, inl ([], [], fresh_calm g.L.Line.state _ fresh tells refl c.empty.ensures refl refl refl refl))

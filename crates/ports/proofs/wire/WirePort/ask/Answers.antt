@@ -1,7 +1,7 @@
-use Rattle.std.proofs.Common.{◌≡◌, ◌<◌, sym, rules}
+use Rattle.std.proofs.Common.{◌≡◌, ◌<◌, ◌+◌, refl, sym, ap, subst, rules}
 use Rattle.std.specs.Prelude.{true, length}
 use Rattle.ports.proofs.Asking.{gave_more}
-use Rattle.ports.proofs.Wiring.{sound_more, honest_more, served_answer, light_answer, blameless_fault}
+use Rattle.ports.proofs.Wiring.{answered, served_answer, light_answer, not_closed, failed, blameless_fault}
 use Rattle.ports.proofs.wire.WirePort.ask.Goals as goal
 
 pub returns-in-Ok-clause-gave : goal.returns-in-Ok-clause-gave
@@ -12,32 +12,44 @@ pub returns-in-Ok-clause-sound : goal.returns-in-Ok-clause-sound
 returns-in-Ok-clause-sound g c =
     let live : c.self.inside.is_open ≡ true = search rules in
     let in_cut : c.args.shard < length c.self.inside.talk.cut = rw (sym c.self.view_is) at c.requires.shard in
-    rw (sym c.self.view_is) (sound_more c.args.round c.args.shard c.args.labels.now _ _ in_cut c.ask.ensures.shard_lawful c.ask.ensures.ask_lawful _ live c.in-Ok.answer c.in-Ok.ensures.asked c.self.inside.is_open)
+    rw (sym c.self.view_is) (answered g.L.Line.state c.args.round c.args.shard c.args.labels.now _ _ in_cut live refl refl c.ask.ensures.shard_lawful c.ask.ensures.ask_lawful c.in-Ok.answer c.in-Ok.ensures.asked _ _ refl refl)
 
 pub returns-in-Ok-clause-honest : goal.returns-in-Ok-clause-honest
 returns-in-Ok-clause-honest g c =
     let live : c.self.inside.is_open ≡ true = search rules in
     let in_cut : c.args.shard < length c.self.inside.talk.cut = rw (sym c.self.view_is) at c.requires.shard in
-    rw (sym c.self.view_is) (honest_more c.args.round c.args.shard c.args.labels.now _ _ in_cut c.ask.ensures.shard_lawful c.ask.ensures.ask_lawful _ live c.in-Ok.answer c.in-Ok.ensures.asked c.self.inside.is_open
-    (g.L.Line.faithful c.self.inside.talk.line) (g.L.Line.faithful c.ask.new.self.line) c.ask.ensures.faithful)
+    rw (sym c.self.view_is) (λ honest. ((subst (g.L.Line.faithful c.ask.new.self.line) (sym c.ask.ensures.worker) (c.ask.ensures.faithful _ honest.0)), answered g.L.Line.state c.args.round c.args.shard c.args.labels.now _ _ in_cut live refl refl c.ask.ensures.shard_lawful c.ask.ensures.ask_lawful c.in-Ok.answer c.in-Ok.ensures.asked _ _ refl refl honest.1))
 
 pub returns-in-Ok-clause-served : goal.returns-in-Ok-clause-served
 returns-in-Ok-clause-served g c =
     let live : c.self.inside.is_open ≡ true = search rules in
     let in_cut : c.args.shard < length c.self.inside.talk.cut = rw (sym c.self.view_is) at c.requires.shard in
-    rw (sym c.self.view_is) (served_answer c.args.round c.args.shard c.args.labels.now _ _ in_cut c.ask.ensures.shard_lawful c.ask.ensures.ask_lawful _ live c.in-Ok.answer c.in-Ok.ensures.asked c.self.invariant.below)
+    rw (sym c.self.view_is) (served_answer g.L.Line.state c.args.round c.args.shard c.args.labels.now _ _ in_cut live c.ask.ensures.shard_lawful c.ask.ensures.ask_lawful c.self.invariant.below _ c.in-Ok.answer c.in-Ok.ensures.asked)
 
 pub returns-in-Ok-clause-honest_answer : goal.returns-in-Ok-clause-honest_answer
 returns-in-Ok-clause-honest_answer g c =
     let live : c.self.inside.is_open ≡ true = search rules in
     let in_cut : c.args.shard < length c.self.inside.talk.cut = rw (sym c.self.view_is) at c.requires.shard in
-    rw (sym c.self.view_is) (light_answer c.args.round c.args.shard c.args.labels.now _ _ in_cut c.ask.ensures.shard_lawful c.ask.ensures.ask_lawful _ live c.in-Ok.answer c.in-Ok.ensures.asked
-    (g.L.Line.faithful c.self.inside.talk.line) (g.L.Line.faithful c.ask.new.self.line) c.ask.ensures.faithful c.self.invariant.below (g.met.L.Line.serves c.ask.new.self.line))
+    rw (sym c.self.view_is) (λ honest. light_answer g.L.Line.state c.args.round c.args.shard c.args.labels.now _ _ in_cut live c.ask.ensures.shard_lawful c.ask.ensures.ask_lawful c.self.invariant.below _ (g.L.Line.faithful c.self.inside.talk.line) (g.L.Line.faithful c.ask.new.self.line) c.ask.ensures.faithful (g.met.L.Line.serves c.ask.new.self.line) honest c.in-Ok.answer c.in-Ok.ensures.asked)
+
+pub returns-in-Err-clause-sound : goal.returns-in-Err-clause-sound
+returns-in-Err-clause-sound g c =
+    let live : c.self.inside.is_open ≡ true = search rules in
+    let in_cut : c.args.shard < length c.self.inside.talk.cut = rw (sym c.self.view_is) at c.requires.shard in
+    rw (sym c.self.view_is) (failed g.L.Line.state c.args.round c.args.shard c.args.labels.now _ _ in_cut live refl refl c.in-Err.fault c.in-Err.ensures.cause _ _ (not_closed c.args.round c.args.shard c.args.labels.now _ _ c.in-Err.fault c.in-Err.ensures.cause) refl c.ask.ensures.cut c.ask.ensures.worker (ap (λ n. c.self.inside.failures + n) c.failure_of.ensures) (ap (λ n. c.self.inside.wants + n) c.want_of.ensures))
 
 pub returns-in-Err-clause-blameless : goal.returns-in-Err-clause-blameless
 returns-in-Err-clause-blameless g c =
     let live : c.self.inside.is_open ≡ true = search rules in
     let in_cut : c.args.shard < length c.self.inside.talk.cut = rw (sym c.self.view_is) at c.requires.shard in
     let ends = rw (sym c.self.view_is) at c.requires.ends in
-    rw (sym c.self.view_is) (blameless_fault c.args.round c.args.shard c.args.labels.now _ _ in_cut c.ask.ensures.shard_lawful c.ask.ensures.ask_lawful _ live c.in-Err.fault
-    (g.L.Line.faithful c.self.inside.talk.line) (g.L.Line.faithful c.ask.new.self.line) c.ask.ensures.faithful c.self.invariant.below (g.met.L.Line.serves c.ask.new.self.line) ends c.in-Err.ensures.cause)
+    rw (sym c.self.view_is) (λ honest. blameless_fault g.L.Line.state c.args.round c.args.shard c.args.labels.now _ _ in_cut live c.ask.ensures.shard_lawful c.ask.ensures.ask_lawful c.self.invariant.below _ (g.L.Line.faithful c.self.inside.talk.line) (g.L.Line.faithful c.ask.new.self.line) c.ask.ensures.faithful (g.met.L.Line.serves c.ask.new.self.line) honest c.in-Err.fault ends c.in-Err.ensures.cause)
+
+pub returns-in-Err-clause-honest : goal.returns-in-Err-clause-honest
+returns-in-Err-clause-honest g c =
+    let live : c.self.inside.is_open ≡ true = search rules in
+    let in_cut : c.args.shard < length c.self.inside.talk.cut = rw (sym c.self.view_is) at c.requires.shard in
+    let ends = rw (sym c.self.view_is) at c.requires.ends in
+    rw (sym c.self.view_is) (λ honest.
+    let may = blameless_fault g.L.Line.state c.args.round c.args.shard c.args.labels.now _ _ in_cut live c.ask.ensures.shard_lawful c.ask.ensures.ask_lawful c.self.invariant.below _ (g.L.Line.faithful c.self.inside.talk.line) (g.L.Line.faithful c.ask.new.self.line) c.ask.ensures.faithful (g.met.L.Line.serves c.ask.new.self.line) honest c.in-Err.fault ends c.in-Err.ensures.cause in
+    ((subst (g.L.Line.faithful c.ask.new.self.line) (sym c.ask.ensures.worker) (c.ask.ensures.faithful _ honest.0)), failed g.L.Line.state c.args.round c.args.shard c.args.labels.now _ _ in_cut live refl refl c.in-Err.fault c.in-Err.ensures.cause _ _ may refl c.ask.ensures.cut c.ask.ensures.worker (ap (λ n. c.self.inside.failures + n) c.failure_of.ensures) (ap (λ n. c.self.inside.wants + n) c.want_of.ensures) honest.1))

@@ -1,0 +1,9 @@
+use Rattle.std.proofs.Common.{sym}
+use Rattle.ports.proofs.Wiring.{went_shut}
+use Rattle.ports.proofs.wire.WirePort.shut.Goals as goal
+
+pub returns-clause-honest : goal.returns-clause-honest
+returns-clause-honest g c = rw (sym c.self.view_is) (λ honest. (honest.0, went_shut g.L.Line.state _ _ honest.1))
+
+pub returns-clause-sound : goal.returns-clause-sound
+returns-clause-sound g c = rw (sym c.self.view_is) (went_shut g.L.Line.state _ _)
