@@ -15,7 +15,7 @@ use frames::Answer;
 use limits::MAX_VERTICES;
 use link_key::{Cut, Forest, Labels};
 use std::alloc::{AllocError, Allocator};
-use worker_engine::scan;
+use worker_engine::Scanner;
 
 /// The minimum spanning forest of the links of a cut, between the vertices 1 to `n`, and in how many rounds components
 /// were merged.
@@ -40,7 +40,8 @@ pub fn solve_alone<A: Allocator + Copy>(
     ensures fault { IfErr result (λ fault. fault ≡ Memory) }
 {
     let mut solver = Solver::new(alloc, n)?;
-    'rounds: while let Turn::Merged(_) = go_round(alloc, cut, &mut solver)? {}
+    let mut scanner = Scanner::new(alloc);
+    'rounds: while let Turn::Merged(_) = go_round(alloc, cut, &mut scanner, &mut solver)? {}
     let rounds = solver.round() - 1;
     let forest = solver.finish(cut)?;
     Ok((forest, rounds))
@@ -50,6 +51,7 @@ pub fn solve_alone<A: Allocator + Copy>(
 fn go_round<A: Allocator + Copy>(
     alloc: A,
     cut: &Cut<A>,
+    scanner: &mut Scanner<A>,
     solver: &mut Solver<A>,
 ) -> Result<Turn, SolveFault>
     requires ends { All (EndsUpTo (vertices solver.old)) cut.now }
@@ -57,7 +59,7 @@ fn go_round<A: Allocator + Copy>(
     ensures round { IfOk result (IsRoundOf (joined cut.now) solver.old solver.new) }
     ensures fault { IfErr result (λ fault. fault ≡ Memory) }
 {
-    let picks = hear_all(alloc, cut, solver.round(), solver.labels())?;
+    let picks = hear_all(alloc, cut, scanner, solver.round(), solver.labels())?;
     solver.step(&picks)
 }
 
@@ -65,6 +67,7 @@ fn go_round<A: Allocator + Copy>(
 fn hear_all<A: Allocator + Copy>(
     alloc: A,
     cut: &Cut<A>,
+    scanner: &mut Scanner<A>,
     round: u32,
     labels: &Labels<A>,
 ) -> Result<Picks<A>, AllocError>
@@ -74,7 +77,7 @@ fn hear_all<A: Allocator + Copy>(
 {
     let mut book = RoundBook::open(alloc, round, cut, labels)?;
     for number in 0..cut.len() {
-        let offers = scan(alloc, cut.shard(number).links, labels)?;
+        let offers = scanner.scan(cut.shard(number).links, labels)?;
         let answer = Answer {
             round,
             shard: number,

@@ -1,5 +1,5 @@
 -- What is known of each label once some links of a shard are seen.
-use Rattle.std.specs.Prelude.{◌≡◌, ℕ, ◌-◌, ◌<◌, List, length, slice_index_or, Option, None, Some, MatchOption, Contains}
+use Rattle.std.specs.Prelude.{◌≡◌, ℕ, ◌+◌, ◌-◌, ◌<◌, List, length, take, slice_index_or, Option, None, Some, MatchOption, Contains}
 use Rattle.link_key.specs.declared.links.Link.{Link}
 use Rattle.round_theory.specs.Labelling.{IsVertex}
 use Rattle.round_theory.specs.Offers.{Leaves, IsLightOffer}
@@ -24,6 +24,11 @@ pub record Keeps (links seen : List Link) (labels : List ℕ) (c : ℕ) (kept : 
   pub best : Option ℕ
   pub says : Says links kept best
   pub is : IsBest seen labels c best
+
+-- what is kept before the link at a place, and with it: where that link leaves a label, what says the best of the links before it for the label becomes what says the best with it
+abbrev pub KeepsWithNext : List Link → ℕ → Best → Best → Type 0
+KeepsWithNext links place before after = (labels : List ℕ) (c : ℕ) (l : Link) → l ≡ slice_index_or links place l → Leaves labels l c
+    → Keeps links (take place links) labels c before → Keeps links (take (place + 1) links) labels c after
 
 -- what a table keeps for a label
 abbrev pub best_of : List Best → ℕ → Best

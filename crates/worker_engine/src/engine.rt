@@ -6,7 +6,7 @@ ghost use Rattle.frames.specs.Lawful.{IsLawful, IsShard, IsAsk};
 ghost use Rattle.frames.specs.FrameStream.{AreLawful};
 ghost use Rattle.worker_engine.specs.Serving.{shelf_of, shelf_with, IsReply, MayWantMemory, AreReplyTo, replies_in};
 
-use crate::scanning::{Best, scan_with};
+use crate::scanning::Scanner;
 use frames::{Answer, Frame, Links};
 use limits::MAX_SHARD_LINKS;
 use link_key::{Labels, Link};
@@ -23,13 +23,12 @@ pub const NOT_HELD: u8 = 2;
 /// The code of a fault for a link whose end has no label.
 pub const NO_LABEL: u8 = 3;
 
-/// What a worker keeps between frames: the last shard that it heard under each number, and the memory of its last
+/// What a worker keeps between frames: the last shard that it heard under each number, and the table of its last
 /// scan. Contracts see which links it keeps under which number.
 #[derive(Drop)]
 pub struct Engine<A: Allocator = Global> {
-    alloc: A,
     shards: BTreeMap<u32, Links<A>, A>,
-    table: Vec<Best, A>,
+    scanner: Scanner<A>,
 }
 
 impl<A: Allocator> Model for Engine<A> {
@@ -48,9 +47,8 @@ impl<A: Allocator + Copy> Engine<A> {
         ensures empty { result ≡ [] }
     {
         Engine {
-            alloc,
             shards: BTreeMap::new(alloc),
-            table: Vec::new(alloc),
+            scanner: Scanner::new(alloc),
         }
     }
 
@@ -106,14 +104,7 @@ impl<A: Allocator + Copy> Engine<A> {
         ensures held { OnErr result (IsSome (shelf_of self.old shard)) }
     {
         match self.shards.get(&shard) {
-            Some(links) => offer(
-                self.alloc,
-                &mut self.table,
-                links.as_slice(),
-                round,
-                shard,
-                labels,
-            ),
+            Some(links) => offer(&mut self.scanner, links.as_slice(), round, shard, labels),
             None => Ok(Frame::Fault {
                 round,
                 shard,
@@ -125,8 +116,7 @@ impl<A: Allocator + Copy> Engine<A> {
 
 // The reply to an ask of a shard that is kept.
 fn offer<A: Allocator + Copy>(
-    alloc: A,
-    table: &mut Vec<Best, A>,
+    scanner: &mut Scanner<A>,
     links: &[Link],
     round: u32,
     shard: u32,
@@ -144,7 +134,7 @@ fn offer<A: Allocator + Copy>(
             code: NO_LABEL,
         });
     }
-    let offers = scan_with(alloc, table, links, labels)?;
+    let offers = scanner.scan(links, labels)?;
     Ok(Frame::Answer(Answer {
         round,
         shard,

@@ -3,7 +3,7 @@
 //! What is promised here:
 //!
 //! - [`scan`] gives exactly the light offers of a shard's links under the labels: for each label that a link
-//!   leaves, the first place of the least such link;
+//!   leaves, the first place of the least such link; [`Scanner::scan`] gives the same, in the room of the scan before;
 //! - [`Engine::hear`] keeps a shard in place of an earlier one of its number, replies to an ask by what it keeps,
 //!   and changes nothing at any other frame, nor where it finds no memory;
 //! - [`serve`] writes what a session owes for the frames of a stream, or, where it ends early, what it owes for
@@ -13,7 +13,7 @@
 //! ```text
 //!   Source --read_frame--> Frame --Engine::hear--> reply --encode, fault_bytes, put--> Sink
 //!                                      |
-//!                           links, Labels --scan--> Offers
+//!                           links, Labels --Scanner::scan--> Offers
 //! ```
 //!
 //! Where to start a change: what may be written for a stream stands in `specs/Serving`, over whole streams, and how
@@ -30,5 +30,5 @@ mod scanning;
 mod session;
 
 pub use engine::{Engine, NO_LABEL, NO_MEMORY, NOT_HELD};
-pub use scanning::scan;
+pub use scanning::{Scanner, scan};
 pub use session::{ServeFault, Served, serve, serve_upto};

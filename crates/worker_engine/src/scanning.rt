@@ -1,14 +1,14 @@
 //! The light offers of a shard, in one pass over its links.
-ghost use Rattle.std.specs.Prelude.{◌≡◌, ℕ, List, ◌+◌, ◌<◌, ◌≤◌, [], length, take, replicate, slice_index_or, IfOk};
-ghost use Rattle.link_key.specs.declared.links.Link.{Link as TheLink};
+ghost use Rattle.std.specs.Prelude.{◌≡◌, ◌<◌, ◌≤◌, length, replicate, IfOk, OnOk};
 ghost use Rattle.link_key.specs.Link.{EndsUpTo};
 ghost use Rattle.link_key.specs.Labels.{AreLabels};
-ghost use Rattle.round_theory.specs.Offers.{Leaves, AreLightOffers};
-ghost use Rattle.worker_engine.specs.Scanning.{no_best, Keeps, AreBest};
+ghost use Rattle.round_theory.specs.Offers.{AreLightOffers};
+ghost use Rattle.worker_engine.specs.Scanning.{no_best, KeepsWithNext, AreBest};
 
 use limits::MAX_SHARD_LINKS;
 use link_key::{Labels, Link, Offers};
-use std::alloc::{AllocError, Allocator};
+use std::alloc::{AllocError, Allocator, Global};
+use std::marker::Model;
 
 // What a table keeps for a label: of the links so far that leave it, the least one's weight, and the first place where
 // that link stands. Most comparisons need the weight alone, and so no look at a link anywhere in the list.
@@ -27,7 +27,8 @@ const NO_PLACE: u32 = u32::MAX;
 /// it, the least such link, told by the first place where it stands.
 ///
 /// One pass over the links, and one over a table of the labels: for m links of n vertices O(m + n) time, 8 bytes a
-/// vertex for the table and 8 bytes for each offer. The only error is want of memory.
+/// vertex for the table and 8 bytes for each offer. For scan after scan a [`Scanner`] keeps the table. The only error is
+/// want of memory.
 pub fn scan<A: Allocator + Copy, B: Allocator>(
     alloc: A,
     links: &[Link],
@@ -37,35 +38,63 @@ pub fn scan<A: Allocator + Copy, B: Allocator>(
     requires ends { EndsUpTo (length labels.now) links.now }
     ensures light { IfOk result (AreLightOffers links.now labels.now) }
 {
-    let mut table = Vec::new(alloc);
-    scan_with(alloc, &mut table, links, labels)
+    Scanner::new(alloc).scan(links, labels)
 }
 
-// The same, over a table whose memory is used again.
-pub(crate) fn scan_with<A: Allocator + Copy, B: Allocator>(
-    alloc: A,
-    table: &mut Vec<Best, A>,
-    links: &[Link],
-    labels: &Labels<B>,
-) -> Result<Offers<A>, AllocError>
-    requires few_links { length links.now ≤ MAX_SHARD_LINKS }
-    requires ends { EndsUpTo (length labels.now) links.now }
-    ensures light { IfOk result (AreLightOffers links.now labels.now) }
-{
-    let labels = labels.as_slice();
-    table.clear();
-    table.resize(
-        labels.len(),
-        Best {
-            weight: NO_WEIGHT,
-            place: NO_PLACE,
-        },
-    )?;
-    find_best(links, labels, table.as_mut_slice());
-    let pairs = gather(alloc, links, labels, table.as_slice())?;
-    match Offers::of_pairs(pairs) {
-        Some(offers) => Ok(offers),
-        None => unreachable!(),
+/// Scans one shard after another, each over the table of the one before, so that only the first one, or one of more
+/// labels, asks for memory for it. Contracts see how many labels the table has: those of the last scan.
+#[derive(Drop)]
+pub struct Scanner<A: Allocator = Global> {
+    table: Vec<Best, A>,
+}
+
+impl<A: Allocator> Model for Scanner<A> {
+    ghost use Rattle.std.specs.Prelude.{ℕ, length};
+
+    ghost Value = { ℕ };
+
+    ghost view = { λ s. length s.table.items };
+}
+
+impl<A: Allocator + Copy> Scanner<A> {
+    /// A scanner that has scanned nothing. It takes no memory.
+    pub fn new(alloc: A) -> Self
+        ensures no_labels { result ≡ 0 }
+    {
+        Scanner {
+            table: Vec::new(alloc),
+        }
+    }
+
+    /// The light offers of a shard's links under the labels, as [`scan`] gives them, whatever was scanned before: for m
+    /// links of n vertices O(m + n) time, and 8 bytes for each offer. The only error is want of memory, and a scanner
+    /// goes on after it as before.
+    pub fn scan<B: Allocator>(
+        &mut self,
+        links: &[Link],
+        labels: &Labels<B>,
+    ) -> Result<Offers<A>, AllocError>
+        requires few_links { length links.now ≤ MAX_SHARD_LINKS }
+        requires ends { EndsUpTo (length labels.now) links.now }
+        ensures light { IfOk result (AreLightOffers links.now labels.now) }
+        ensures table { OnOk result (self.new ≡ length labels.now) }
+    {
+        let labels = labels.as_slice();
+        self.table.clear();
+        self.table.resize(
+            labels.len(),
+            Best {
+                weight: NO_WEIGHT,
+                place: NO_PLACE,
+            },
+        )?;
+        find_best(links, labels, self.table.as_mut_slice());
+        let alloc = *self.table.allocator();
+        let pairs = gather(alloc, links, labels, self.table.as_slice())?;
+        match Offers::of_pairs(pairs) {
+            Some(offers) => Ok(offers),
+            None => unreachable!(),
+        }
     }
 }
 
@@ -81,34 +110,35 @@ fn find_best(links: &[Link], labels: &[u32], table: &mut [Best])
         let low = labels[link.low as usize - 1];
         let high = labels[link.high as usize - 1];
         if low != high {
-            table[low as usize - 1] = better(links, table[low as usize - 1], place as u32);
-            table[high as usize - 1] = better(links, table[high as usize - 1], place as u32);
+            keep_lesser(&mut table[low as usize - 1], links, place as u32);
+            keep_lesser(&mut table[high as usize - 1], links, place as u32);
         }
     }
 }
 
-// Of the best link so far and the one at the next place the lesser, and the earlier one where they are equal.
+// Keeps the link at the next place where it is less than the best one so far, or the first one. Mostly it is neither, and
+// then nothing is stored.
 #[inline]
-fn better(links: &[Link], best: Best, place: u32) -> Best
+fn keep_lesser(best: &mut Best, links: &[Link], place: u32)
     requires few_links { length links.now ≤ MAX_SHARD_LINKS }
     requires next { place < length links.now }
-    ensures better { (labels : List ℕ) (c : ℕ) (l : TheLink) → l ≡ slice_index_or links.now place l → Leaves labels l c
-        → Keeps links.now (take place links.now) labels c best → Keeps links.now (take (place + 1) links.now) labels c result }
+    ensures lesser { KeepsWithNext links.now place best.old best.new }
 {
     let next = links[place as usize];
     let new = Best {
         weight: next.weight,
         place,
     };
-    if next.weight < best.weight {
-        return new;
-    }
     if best.weight < next.weight {
-        return best;
+        return;
+    }
+    if next.weight < best.weight {
+        *best = new;
+        return;
     }
     match links.get(best.place as usize) {
-        Some(earlier) if *earlier <= next => best,
-        _ => new,
+        Some(earlier) if *earlier <= next => {}
+        _ => *best = new,
     }
 }
 

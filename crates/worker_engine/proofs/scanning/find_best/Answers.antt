@@ -33,11 +33,11 @@ loop-place-preserved c =
           let leaves_at_high = leaves_high labels l apart in
           let low_vertex = left_label_is_vertex labels l low c.requires.labels ends leaves_at_low in
           let high_vertex = left_label_is_vertex labels l high c.requires.labels ends leaves_at_high in
-          let other = get_or-set_other table (low - 1) (high - 1) w.better.result default (λ same. apart (omega (arith, same, low_vertex, high_vertex))) in
+          let other = get_or-set_other table (low - 1) (high - 1) w.keep_lesser.new.best default (λ same. apart (omega (arith, same, low_vertex, high_vertex))) in
           subst (AreBest links (take _ links) labels) (sym w.table-is)
-          (bests_change links labels place within table l low high w.better.result w.better-then-low-high.result read refl refl apart low_vertex high_vertex
-          (w.better.ensures.better labels low l read leaves_at_low (kept_at links (take place links) labels table low (low - 1) default are low_vertex refl))
-          (w.better-then-low-high.ensures.better labels high l read leaves_at_high (subst (Keeps links (take place links) labels high) (sym other) (kept_at links (take place links) labels table high (high - 1) default are high_vertex refl)))
+          (bests_change links labels place within table l low high w.keep_lesser.new.best w.keep_lesser-then-low-high.new.best read refl refl apart low_vertex high_vertex
+          (w.keep_lesser.ensures.lesser labels low l read leaves_at_low (kept_at links (take place links) labels table low (low - 1) default are low_vertex refl))
+          (w.keep_lesser-then-low-high.ensures.lesser labels high l read leaves_at_high (subst (Keeps links (take place links) labels high) (sym other) (kept_at links (take place links) labels table high (high - 1) default are high_vertex refl)))
           are)
       | else-low-high w ↦ subst (AreBest links (take _ links) labels) (sym w.table-is) (bests_stay links labels place within table l read w.if-low-high.false are)
     ]

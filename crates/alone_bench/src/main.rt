@@ -1,0 +1,84 @@
+//! Times one thread's solving by rounds beside the plain solver, for a `.gr` text from standard input.
+//!
+//! Each is run several times, the rounds over 1, 64 and 4,096 even shards. The number of the forest's links and that of
+//! the merging rounds go to standard output, the least times in microseconds to standard error.
+#![tactic(auto)]
+
+ghost use Rattle.std.specs.Prelude.{◌≤◌, length, IsTrue, All};
+ghost use Rattle.link_key.specs.Link.{EndsUpTo};
+ghost use Rattle.limits.specs.declared.TheConstants.{MAX_VERTICES};
+
+use gr_text::{Graph, read_graph};
+use limits::MAX_VERTICES;
+use link_key::{Cut, Link, plain_forest};
+use round_core::solve_alone;
+use std::time::{Duration, Instant};
+
+// How often each is run.
+const RUNS: usize = 9;
+
+fn main(rt: HostRuntime) -> anyhow::Result<()> {
+    let graph = read_graph(rt.alloc(), &mut rt.stdin())?;
+    let (plain, links) = measure_plain(&rt, &graph)?;
+    eprintln!(rt; "plain_forest {} us", plain.as_micros())?;
+    for shards in [1, 64, 4096] {
+        let (alone, taken, rounds) = measure_alone(&rt, &graph, shards)?;
+        eprintln!(rt; "solve_alone, {shards} shards: {} us", alone.as_micros())?;
+        println!(rt; "{shards} shards: {taken} of {links} links in {rounds} rounds")?;
+    }
+    Ok(())
+}
+
+// The least time of the plain solver, and how many links its forest has.
+fn measure_plain(rt: &HostRuntime, graph: &Graph) -> anyhow::Result<(Duration, usize)> {
+    let mut least = Duration::MAX;
+    let mut links = 0;
+    for _ in 0..RUNS {
+        let start = Instant::now(rt)?;
+        let forest = plain_forest(rt.alloc(), graph.n(), graph.links())?;
+        least = least.min(start.elapsed(rt)?);
+        links = forest.links().len();
+    }
+    Ok((least, links))
+}
+
+// The least time of solving by rounds over so many shards, how many links the forest has, and in how many rounds.
+fn measure_alone(
+    rt: &HostRuntime,
+    graph: &Graph,
+    shards: u32,
+) -> anyhow::Result<(Duration, usize, u32)> {
+    let Ok(cut) = Cut::even(rt.alloc(), graph.links(), shards) else {
+        return Ok((Duration::MAX, 0, 0));
+    };
+    let mut least = Duration::MAX;
+    let mut told = (0, 0);
+    for _ in 0..RUNS {
+        if graph.n() > MAX_VERTICES || !have_labels(&cut, graph.n()) {
+            break;
+        }
+        let start = Instant::now(rt)?;
+        let (forest, rounds) = solve_alone(rt.alloc(), graph.n(), &cut)?;
+        least = least.min(start.elapsed(rt)?);
+        told = (forest.links().len(), rounds);
+    }
+    Ok((least, told.0, told.1))
+}
+
+// Whether each end of each shard's links is one of so many vertices.
+fn have_labels(cut: &Cut, n: u32) -> bool
+    ensures { IsTrue result → All (EndsUpTo n) cut.now }
+{
+    for number in 0..cut.len() {
+        if !are_within(cut.shard(number).links, n) {
+            return false;
+        }
+    }
+    true
+}
+
+fn are_within(links: &[Link], n: u32) -> bool
+    ensures { IsTrue result → EndsUpTo n links.now }
+{
+    links.iter().all(|link| link.high <= n)
+}
