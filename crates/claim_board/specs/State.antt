@@ -38,7 +38,7 @@ pub record AreSeats (board : BoardState) (seats : List SeatState) : Type 0 where
   pub in_order : InOrder board seats
 
 -- a seat of the board that did nothing yet
-pub record IsFresh (board : BoardState) (seat : SeatState) : Type 0 where
+pub record IsUnusedSeat (board : BoardState) (seat : SeatState) : Type 0 where
   pub of_board : seat.board ≡ board
   pub number : seat.number < board.seats
   pub no_events : seat.events ≡ []

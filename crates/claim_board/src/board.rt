@@ -1,7 +1,7 @@
 //! The board: a word for each shard, in a table that its seats share.
 ghost use Rattle.std.specs.Prelude.{◌≡◌, ◌≢◌, ℕ, ◌<◌, ◌≤◌, ◌==◌, ◌↔◌, not, List, [], ◌∷◌, ◌++◌, length, filter, All, AllPairs, Contains, IfOk, IfErr, IsOk};
 ghost use Rattle.claim_board.specs.Machine.{held};
-ghost use Rattle.claim_board.specs.State.{OnWon, IfHeld, AreSeats, IsFresh, all_held, IsHeldBy, owner_told, CameFromRun};
+ghost use Rattle.claim_board.specs.State.{OnWon, IfHeld, AreSeats, IsUnusedSeat, all_held, IsHeldBy, owner_told, CameFromRun};
 ghost use Rattle.claim_board.specs.Rule.{opener};
 ghost use Rattle.claim_board.specs.Kept.{IsInRange};
 ghost use Rattle.claim_board.specs.declared.claim.Claim.TheVariants.{Held};
@@ -60,7 +60,7 @@ impl<A: Allocator + Copy> Board<A> {
         requires seats { (0 < seats) × (seats ≤ MOST_SEATS) }
         ensures size { IfOk result (λ r. (r.0.shards ≡ shards) × (r.0.seats ≡ seats)) }
         ensures seats { IfOk result (λ r. AreSeats r.0 r.1.items) }
-        ensures fresh { IfOk result (λ r. All (IsFresh r.0) r.1.items) }
+        ensures fresh { IfOk result (λ r. All (IsUnusedSeat r.0) r.1.items) }
         ensures fault { IfErr result (λ fault. fault ≡ Memory) }
     {
         let Ok(mut row) = Vec::with_capacity(alloc, seats as usize) else {

@@ -1,7 +1,9 @@
 -- The gate and a counter at a call: what each is handed, a `&` to it with a token of the lifetime, and what a caller has of it. Assumes `Logic`.
---     Asks         the gate is asked whether the next allocation is refused, and answers some truth value
+--     Asks         the gate is asked whether the next allocation is refused, and answers by the number of one
 --     Counts       a counter counts one more
-use Rattle.std.proofs.Common.{◌≡◌, ℕ, Bool, List, [], ◌∷◌, refl, ap}
+use Rattle.std.specs.Prelude.{T}
+use Rattle.std.proofs.lemmas.Bool.{false≢true}
+use Rattle.std.proofs.Common.{◌≡◌, ℕ, Bool, true, false, not, List, [], ◌∷◌, refl, ap}
 use seplogic.Ra.Ura.{Ura}
 use mir.Val.{Val, vunit, vbool, vptr}
 use base.Logic.{SProp, ent, sep, ex, guard, id⊢}
@@ -9,17 +11,28 @@ use base.Fml.{Lft, Share, ftrue, fsep, flft}
 use prog.Memory.{Memory}
 use prog.Routine.{Routine}
 use types.Logic.{Logic, sem}
-use contract.Monad.{Fun}
+use contract.Monad.{Fun, fact}
 use types.Kit.{‵, raw, ◌⊛◌, some, later, ◌$◌, ◌∵◌, !, qed, move, keep, use1, split, join, pick, fjoin, feq_i, feq_l, check, show, await, updating, now as at_once, done}
 use denote.Memory.{hidden_shr}
 use denote.Builtin.{bool, unit}
-use denote.Steps.{nothing, only}
+use denote.Steps.{heard, nothing, only}
 use denote.Triple.Statement.{Contract}
 use denote.Triple.Spec.{triple_of}
+use Rattle.test_memory.specs.declared.refusals.Refusals.{Refusals}
+use Rattle.test_memory.specs.Refused.{IsSaidOf, IsLetPass}
 use Rattle.test_memory.specs.contracts.counter.Counter as CO
 use Rattle.test_memory.specs.contracts.counter.Counter.count as CC
 use Rattle.test_memory.specs.contracts.gate.Gate as GA
 use Rattle.test_memory.specs.contracts.gate.Gate.refuses_next as GR
+
+-- what the gate answered, and of which number
+abbrev pub Ruling : Refusals → Type 0
+Ruling refusals = (refused : Bool) × IsSaidOf refusals refused
+
+-- an allocation that wasn't refused is let pass
+pub let_pass : (refusals : Refusals) (refused : Bool) → IsSaidOf refusals refused → T (not refused) → IsLetPass refusals
+let_pass refusals true said passed = absurd passed
+let_pass refusals false said passed = record { number = said.number; from_one = said.from_one; below = said.below; passes = λ is. false≢true (said.refused_is.1 is) }
 
 module _ {M : Type 1} {𝓤 : Ura M} (𝓛 : Logic 𝓤) (at_mem : Memory → SProp 𝓤) (run : Routine → Fun 𝓤) where
   abbrev pub Asks : Contract 𝓤
@@ -42,11 +55,12 @@ module _ {M : Type 1} {𝓤 : Ura M} (𝓛 : Logic 𝓤) (at_mem : Memory → SP
       qed 𝓛 (‵ (hidden_shr GA.the_row κ g p.0 p.1) ∷ ‵ (flft κ q) ∷ []) ∵ feq_i ! (List Val) (vptr p.0 p.1 ∷ []) (vptr p.0 p.1 ∷ []) refl $ fjoin ! $
       nothing ! $ move ! (1 ∷ []) $ fjoin ! $ nothing ! $ move ! (2 ∷ []) $ join ! $ join ! $ nothing ! $ move ! (1 ∷ []) $ done !
 
-  pub Asks-gives : (g : (GA.the_row).Denot) (v : Val) → ent 𝓤 ((Asks 𝓛 at_mem run).post (at_asks 𝓛 at_mem run κ q g p) v) (H.⇛ (ex 𝓤 (λ (y : Bool). guard 𝓤 (v ≡ vbool y) (A.lft κ q))))
+  pub Asks-gives : (g : (GA.the_row).Denot) (v : Val) → ent 𝓤 ((Asks 𝓛 at_mem run).post (at_asks 𝓛 at_mem run κ q g p) v) (H.⇛ (ex 𝓤 (λ (s : Ruling g.refusals). guard 𝓤 (v ≡ vbool s.0) (A.lft κ q))))
   Asks-gives g v =
       qed 𝓛 (raw ((Asks 𝓛 at_mem run).post (at_asks 𝓛 at_mem run κ q g p) v) ∷ []) ∵ updating ! $
-      use1 𝓛 (later (some (λ (y : Bool). ((‵ (flft κ q) ⊛ ‵ ftrue) ⊛ ‵ (bool.own_val y (v ∷ []))) ⊛ some (λ (ws : Unit {0} × Unit {0}). ‵ (fsep ftrue ftrue) ⊛ ‵ ftrue)))) (id⊢ 𝓤 _) $ await ! tt $ pick ! (λ y.
-      split ! $ split ! $ move ! (1 ∷ []) $ feq_l ! (λ e. split ! $ at_once ! $ show ! (λ (z : Bool). guard 𝓤 (v ≡ vbool z) (A.lft κ q)) y $ check ! (ap only e) $ keep ! (0 ∷ []) $ done !))
+      use1 𝓛 (later (some (λ (y : Bool). ((‵ (flft κ q) ⊛ ‵ ftrue) ⊛ ‵ (bool.own_val y (v ∷ []))) ⊛ some (λ (ws : Unit {0} × Unit {0}). ‵ (fsep ftrue ftrue) ⊛ raw (fact 𝓤 (IsSaidOf g.refusals y)))))) (id⊢ 𝓤 _) $ await ! tt $ pick ! (λ y.
+      split ! $ split ! $ move ! (1 ∷ []) $ feq_l ! (λ e. move ! (1 ∷ []) $ pick ! (λ ws. split ! $ move ! (1 ∷ []) $ heard ! (IsSaidOf g.refusals y) (λ said.
+      move ! (1 ∷ []) $ split ! $ at_once ! $ show ! (λ (s : Ruling g.refusals). guard 𝓤 (v ≡ vbool s.0) (A.lft κ q)) (y, said) $ check ! (ap only e) $ keep ! (0 ∷ []) $ done !))))
 
   pub Counts-goes : (c : (CO.the_row).Denot) → ent 𝓤 (sep 𝓤 (sem 𝓛 (hidden_shr CO.the_row κ c p.0 p.1)) (A.lft κ q)) ((Counts 𝓛 at_mem run).pre (at_counts 𝓛 at_mem run κ q c p))
   Counts-goes c =

@@ -1,2 +1,3 @@
 mod Counts
 pub mod InTurn
+mod SaysMore

@@ -1,4 +1,5 @@
 ghost use Rattle.std.specs.Prelude.{◌≡◌};
+ghost use Rattle.test_memory.specs.Refused.{IsSaidOf};
 
 use crate::counter::Counter;
 use crate::refusals::Refusals;
@@ -20,8 +21,10 @@ impl Gate {
         }
     }
 
-    // Whether the next allocation is refused.
-    pub(crate) fn refuses_next(&self) -> bool {
+    // Whether the next allocation is refused. That its number is the next one is no part of the clause.
+    pub(crate) fn refuses_next(&self) -> bool
+        ensures { IsSaidOf self.now.refusals result }
+    {
         let before = self.asked.next();
         self.refusals.include(before.saturating_add(1))
     }

@@ -6,8 +6,9 @@
 //! asks for a new block each time, so each growth is counted and can be refused. [`refuse_each`] runs some work with each
 //! of its allocations refused in turn, and says whether it failed wherever one was and left no block behind.
 //!
-//! No contract sees an atomic count, so that a refusal falls where it was meant, that a block is counted when it is handed
-//! out and when it comes back, and so what `refuse_each` finds of all its runs, is tested and not proved; what it concludes
+//! No contract sees an atomic count, so an allocation that passes is said to have some number that isn't refused: where
+//! all from 1 on are refused, none passes. That each has the next number, that a block is counted when it is handed out
+//! and when it comes back, and so what `refuse_each` finds of all its runs, is tested and not proved; what it concludes
 //! from one run is proved.
 //!
 //! ```text
@@ -17,7 +18,8 @@
 //!
 //! Where to start a change: `refusals` says which numbers are refused, `counter` and `gate` hold the counts, `in_turn` runs
 //! work over them. A change of `allocate` or `deallocate` in `refusing` changes its proof by hand in `proofs/refusing`,
-//! which follows the code statement by statement; `proofs/Counts` has the calls of the counts.
+//! which follows the code statement by statement; `proofs/Counts` has the calls of the counts, and `proofs/SaysMore`
+//! why what `allocate` says is enough for its trait.
 #![tactic(auto)]
 
 mod counter;

@@ -1,4 +1,8 @@
-ghost use Rattle.std.specs.Prelude.{◌≡◌};
+ghost use mir.Syntax.{Ty};
+ghost use types.Logic.{sem};
+ghost use Rattle.std.specs.Prelude.{◌≡◌, OnOk};
+ghost use Rattle.std.specs.Allocator.{HasLayout, block_if_ok};
+ghost use Rattle.test_memory.specs.Refused.{IsLetPass};
 
 use crate::counter::Counter;
 use crate::gate::Gate;
@@ -62,7 +66,12 @@ impl<B: Allocator> Refusing<B> {
 unsafe impl<B: Allocator> Allocator for Refusing<B> {
     ghost dealloc_token = { λ heap ty ptr. B.dealloc_token heap.inner ty ptr };
 
-    fn allocate(&self, size: usize, align: usize) -> Result<*mut u8, AllocError> {
+    fn allocate(&self, size: usize, align: usize) -> Result<*mut u8, AllocError>
+        ghost ty: { Ty }
+        requires { HasLayout ty size align }
+        ensures* block { sem 𝓛 (block_if_ok (B.dealloc_token self.now.inner) ty result) }
+        ensures passed { OnOk result (IsLetPass self.now.gate.refusals) }
+    {
         if self.gate.refuses_next() {
             return Err(AllocError);
         }
