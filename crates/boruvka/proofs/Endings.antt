@@ -7,10 +7,11 @@ use Rattle.byte_streams.proofs.Streaming.{gave_nothing, took_nothing}
 use Rattle.gr_text.specs.Sourced.{IsReadOf}
 use Rattle.gr_text.specs.declared.faults.ReadFault.{ReadFault}
 use Rattle.gr_text.specs.declared.faults.ReadFault.TheVariants as read
-use Rattle.plain_run.specs.Plain.{streams, RanPlain}
-use Rattle.plain_run.specs.declared.outcome.Report.{Report}
-use Rattle.plain_run.specs.declared.outcome.RunFault.{RunFault}
-use Rattle.plain_run.specs.declared.outcome.RunFault.TheVariants as fault
+use Rattle.forest_run.specs.Outcomes.{streams}
+use Rattle.forest_run.specs.PlainRun.{RanPlain}
+use Rattle.forest_run.specs.declared.report.Report.{Report}
+use Rattle.forest_run.specs.declared.fault.RunFault.{RunFault}
+use Rattle.forest_run.specs.declared.fault.RunFault.TheVariants as fault
 use Rattle.boruvka.specs.Status.{EndsWith, EndsOnFile, LeavesOutput, IsUntouched, status_of_run, untold}
 
 -- memory was wanting before anything was read or written
@@ -29,6 +30,9 @@ pub silent_run : (result : Result Report RunFault) (status : ℕ) (s t : SourceS
     → RanPlain result (streams s a) (streams t b) → LeavesOutput status → IsUntouched a b
 silent_run (Ok report) status s t a b is ran silent = absurd (elim silent [ inl one ↦ omega arith | inr (inl two) ↦ omega arith | inr (inr four) ↦ omega arith ])
 silent_run (Err (fault.Read why)) status s t a b is ran silent = ran.nothing
+silent_run (Err (fault.Cut why)) status s t a b is ran silent = ran.nothing
+silent_run (Err (fault.Rounds round)) status s t a b is ran silent = ran.nothing
+silent_run (Err (fault.Missed link)) status s t a b is ran silent = ran.nothing
 silent_run (Err fault.Memory) status s t a b is ran silent = ran.nothing
 silent_run (Err (fault.Write written)) status s t a b is ran silent = absurd (elim silent [ inl one ↦ omega arith | inr (inl two) ↦ omega arith | inr (inr four) ↦ omega arith ])
 
@@ -50,19 +54,23 @@ ran_untold (Ok report) s t a b ran = record {
   graph = ran.graph;
   forest = ran.forest;
   read = gave_untold 0 1 ran.bytes;
-  gives = ran.gives;
+  file = ran.file;
+  found_is = ran.found_is;
   written = ran.written;
-  reported = ran.reported;
+  said = ran.said;
 }
 ran_untold (Err (fault.Read why)) s t a b ran = record { refused = read_untold why s t ran.refused; nothing = ran.nothing }
-ran_untold (Err fault.Memory) s t a b ran =
-    record { bytes = ran.bytes; graph = ran.graph; read = gave_untold 0 1 ran.bytes; means = ran.means; nothing = ran.nothing }
+ran_untold (Err (fault.Cut why)) s t a b ran = record { bytes = ran.bytes; graph = ran.graph; read = gave_untold 0 1 ran.bytes; file = ran.file; cause = ran.cause; nothing = ran.nothing }
+ran_untold (Err (fault.Rounds round)) s t a b ran = record { bytes = ran.bytes; graph = ran.graph; read = gave_untold 0 1 ran.bytes; file = ran.file; cause = ran.cause; nothing = ran.nothing }
+ran_untold (Err (fault.Missed link)) s t a b ran = record { bytes = ran.bytes; graph = ran.graph; read = gave_untold 0 1 ran.bytes; file = ran.file; cause = ran.cause; nothing = ran.nothing }
+ran_untold (Err fault.Memory) s t a b ran = record { bytes = ran.bytes; graph = ran.graph; read = gave_untold 0 1 ran.bytes; file = ran.file; cause = ran.cause; nothing = ran.nothing }
 ran_untold (Err (fault.Write written)) s t a b ran = record {
   bytes = ran.bytes;
   graph = ran.graph;
   forest = ran.forest;
   read = gave_untold 0 1 ran.bytes;
-  gives = ran.gives;
+  file = ran.file;
+  found_is = ran.found_is;
   part = ran.part;
 }
 

@@ -6,19 +6,25 @@ use Rattle.gr_text.specs.declared.faults.ReadFault.TheVariants as read
 use Rattle.clap.specs.Words.{IsAmong}
 use Rattle.clap.specs.declared.error.kind.ErrorKind.{ErrorKind}
 use Rattle.clap.specs.declared.error.kind.ErrorKind.TheVariants.{DisplayHelp}
-use Rattle.plain_run.specs.Plain.{Streams, streams, RanPlain}
-use Rattle.plain_run.specs.declared.outcome.Report.{Report}
-use Rattle.plain_run.specs.declared.outcome.RunFault.{RunFault}
-use Rattle.plain_run.specs.declared.outcome.RunFault.TheVariants as fault
+use Rattle.link_key.specs.declared.cuts.CutFault.TheVariants as cut
+use Rattle.forest_run.specs.Outcomes.{Streams, streams}
+use Rattle.forest_run.specs.PlainRun.{RanPlain}
+use Rattle.forest_run.specs.declared.report.Report.{Report}
+use Rattle.forest_run.specs.declared.fault.RunFault.{RunFault}
+use Rattle.forest_run.specs.declared.fault.RunFault.TheVariants as fault
 use Rattle.boruvka.specs.Arguments.{refusals, given, file_named, IsMistake}
 
--- the status of a fault: 1 the file's, 3 a stream's, 4 want of memory
+-- the status of a fault: 1 the file's, or that it can't be cut so, 3 a stream's, 4 want of memory, 5 the workers'
 abbrev pub status_for : RunFault → ℕ
 status_for (fault.Read (read.Gr f)) = 1
 status_for (fault.Read read.TooLong) = 1
 status_for (fault.Read (read.Source number)) = 3
 status_for (fault.Write written) = 3
 status_for (fault.Read read.Memory) = 4
+status_for (fault.Cut cut.Memory) = 4
+status_for (fault.Cut refusal) = 1
+status_for (fault.Rounds round) = 5
+status_for (fault.Missed link) = 5
 status_for fault.Memory = 4
 
 -- the status of a run: 0 where it ended well, and else its fault's

@@ -2,7 +2,7 @@
 ghost use Rattle.std.specs.Prelude.{◌≡◌, ◌≢◌, ◌≤◌, true, false, map, IsNone, IsSome};
 ghost use Rattle.std.specs.IoError.{error_kind};
 ghost use Rattle.clap.specs.Words.{kind_of};
-ghost use Rattle.plain_run.specs.Plain.{streams};
+ghost use Rattle.forest_run.specs.Outcomes.{streams};
 ghost use Rattle.boruvka.specs.Arguments.{IsMistake};
 ghost use Rattle.boruvka.specs.Status.{EndsWith, EndsOnFile, HelpEnds, RefusesWords, LeavesOutput, IsUntouched};
 ghost use Rattle.boruvka.specs.Status.{LackPlain, AskOnInput, AskOnFile, AskForHelp, AreWrong};
@@ -12,7 +12,7 @@ use crate::chosen::{Options, OptionsFault};
 use crate::messages::{tell, tell_line, tell_unopened};
 use crate::statuses::{DEVICE, NO_MEMORY, USAGE, status_of};
 use byte_streams::{Sink, Source, Untold, put};
-use plain_run::{RunFault, run_plain};
+use forest_run::{RunFault, run_plain};
 use std::alloc::{Alloc, Global};
 use std::convert::AsStr;
 use std::fs::{File, Files};

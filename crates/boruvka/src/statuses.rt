@@ -2,8 +2,9 @@
 ghost use Rattle.std.specs.Prelude.{◌≡◌};
 ghost use Rattle.boruvka.specs.Status.{status_for};
 
+use forest_run::RunFault;
 use gr_text::ReadFault;
-use plain_run::RunFault;
+use link_key::CutFault;
 
 /// Wrong words.
 pub const USAGE: u8 = 2;
@@ -14,13 +15,20 @@ pub const DEVICE: u8 = 3;
 /// Memory was refused.
 pub const NO_MEMORY: u8 = 4;
 
-/// The status of a run that failed: 1 for what the file says, 3 for a source or a sink that failed, 4 for want of memory.
+/// What was answered in the rounds wasn't right.
+pub const ANSWERS: u8 = 5;
+
+/// The status of a run that failed: 1 for what the file says and for a cut that is refused, 3 for a source or a sink that
+/// failed, 4 for want of memory, 5 for rounds that were answered wrongly.
 pub fn status_of(fault: &RunFault) -> u8
     ensures { result ≡ status_for fault.now }
 {
     match fault {
+        RunFault::Read(ReadFault::Memory) | RunFault::Cut(CutFault::Memory) | RunFault::Memory =>
+            NO_MEMORY,
         RunFault::Read(ReadFault::Gr(_)) | RunFault::Read(ReadFault::TooLong) => 1,
+        RunFault::Cut(_) => 1,
         RunFault::Read(ReadFault::Source { .. }) | RunFault::Write { .. } => DEVICE,
-        RunFault::Read(ReadFault::Memory) | RunFault::Memory => NO_MEMORY,
+        RunFault::Rounds { .. } | RunFault::Missed { .. } => ANSWERS,
     }
 }

@@ -3,7 +3,7 @@ use crate::chosen::OptionsFault;
 use crate::command::{command, without_words};
 use crate::statuses::status_of;
 use byte_streams::{FusedSink, FusedSource, Untold};
-use plain_run::RunFault;
+use forest_run::RunFault;
 use std::alloc::{Alloc, Global};
 use std::fs::{self, File, Files};
 use std::io::{self, ErrorKind, Write};

@@ -10,7 +10,7 @@ use Rattle.round_core.specs.Picks.{ArePicks}
 use Rattle.round_core.specs.Solver.{Progress}
 use Rattle.round_core.proofs.Full.{full_book_is_least}
 use Rattle.forest_run.specs.Asks.{IsLight}
-use Rattle.forest_run.specs.Runs.{IsWhole}
+use Rattle.forest_run.specs.Runs.{IsFullBook}
 use Rattle.forest_run.specs.Chains.{IsMergedBy, AreMergedBy, IsSolvedBy}
 
 -- ---- a book more
@@ -29,7 +29,7 @@ light_hearings book light =
     All-map (λ (h : Hearing). AreLightOffers h.shard book.labels h.offers) (hearing_of book.cut) book.answers (λ i d b. (light i d b).light)
 
 -- the picks of a whole book of light answers are those of the whole list
-pub light_picks : (cut : List (List Link)) (labels : List ℕ) (book : Page) (picks : List (Option Link)) → IsWhole cut book → book.labels ≡ labels → All (IsLight book) book.answers
+pub light_picks : (cut : List (List Link)) (labels : List ℕ) (book : Page) (picks : List (Option Link)) → IsFullBook cut book → book.labels ≡ labels → All (IsLight book) book.answers
     → ArePicks labels (IsNamed (hearings book)) picks → ArePicks labels (Contains (joined cut)) picks
 light_picks cut labels book picks whole same light are =
     let mine : ArePicks book.labels (IsNamed (hearings book)) picks = subst (λ (ls : List ℕ). ArePicks ls (IsNamed (hearings book)) picks) (sym same) are in

@@ -26,7 +26,7 @@ use Rattle.forest_run.specs.Asks.{IsRefused, IsLight}
 use Rattle.forest_run.specs.Bounds.{IsWide}
 use Rattle.forest_run.specs.Passes.{PassWent}
 use Rattle.forest_run.specs.Rounds.{RoundPicked}
-use Rattle.forest_run.specs.Runs.{IsRefusedIn, IsNamedIn, IsWhole, PortsWent, RoundsWent}
+use Rattle.forest_run.specs.Runs.{IsRefusedIn, IsNamedIn, IsFullBook, PortsWent, RoundsWent}
 use Rattle.forest_run.specs.Chains.{IsSolvedBy}
 use Rattle.forest_run.specs.Reports.{IsReportOf}
 use Rattle.forest_run.specs.Solved.{AreHonest, TurnWent, IsTurnFault, PickedAfter, RunWent, RunAsked, IsSolveFault, SolveWent}
@@ -132,7 +132,7 @@ module _ {P : Type 0} (state : P → PortState) (honest sound : P → Type 0) (g
   least_picks n cut xs ys solver picks answered alone v h =
       let books = v.merging ++ v.last ∷ [] in
       let here : Contains books v.last = Contains-append_right v.merging (v.last ∷ []) v.last (0, omega arith, refl) in
-      light_picks cut solver.labels v.last picks (All-contains (IsWhole cut) books v.last v.rounds.whole here) v.picked.labels
+      light_picks cut solver.labels v.last picks (All-contains (IsFullBook cut) books v.last v.rounds.whole here) v.picked.labels
       (All-contains (λ (book : Page). All (IsLight book) book.answers) books v.last (v.rounds.light h) here) v.picked.picked
 
   ends_of : (n : ℕ) (cut : List (List Link)) (solver : Progress) → vertices solver ≡ n → All (EndsUpTo n) cut → EndsUpTo (vertices solver) (joined cut)

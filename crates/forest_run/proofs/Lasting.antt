@@ -5,7 +5,7 @@ use Rattle.frames.specs.AnswerValue.{AnswerValue}
 use Rattle.round_core.specs.Page.{Page}
 use Rattle.ports.specs.Ports.{PortState}
 use Rattle.forest_run.specs.Lanes.{LaneState, IsIdle, one_if}
-use Rattle.forest_run.specs.Bounds.{IsRoundOf, IsBound, IsWide}
+use Rattle.forest_run.specs.Bounds.{IsBookUnder, IsBound, IsWide}
 use Rattle.forest_run.specs.Seating.{Each, GotRoom}
 use Rattle.forest_run.specs.Passes.{PassWent}
 use Rattle.forest_run.proofs.Eaches.{each_at, each_length, each_map}
@@ -37,7 +37,7 @@ module _ {P : Type 0} (state : P → PortState) (honest sound : P → Type 0) (g
   pub cut_stays : (p q : Page) (xs ys : List (LaneState P)) → PassWent state honest sound gave p q xs ys → q.cut ≡ p.cut
   cut_stays p q xs ys u = ap (λ o. o.cut) u.page ∙ (same_round p u.answers).cut
 
-  pub round_stays : (p q : Page) (labels : List ℕ) (xs ys : List (LaneState P)) → PassWent state honest sound gave p q xs ys → IsRoundOf p labels → IsRoundOf q labels
+  pub round_stays : (p q : Page) (labels : List ℕ) (xs ys : List (LaneState P)) → PassWent state honest sound gave p q xs ys → IsBookUnder p labels → IsBookUnder q labels
   round_stays p q labels xs ys u r =
       let s = same_round p u.answers in
       let cut : q.cut ≡ p.cut = cut_stays p q xs ys u in
@@ -50,7 +50,7 @@ module _ {P : Type 0} (state : P → PortState) (honest sound : P → Type 0) (g
       }
 
   -- the room that a round asks for at its start is left in each of its passes
-  pub bound_stays : (p q : Page) (labels : List ℕ) (xs ys : List (LaneState P)) → PassWent state honest sound gave p q xs ys → IsRoundOf p labels
+  pub bound_stays : (p q : Page) (labels : List ℕ) (xs ys : List (LaneState P)) → PassWent state honest sound gave p q xs ys → IsBookUnder p labels
       → All (λ (l : LaneState P). IsWide state p l.port) xs → All (λ (l : LaneState P). IsBound state q l.port) ys
   bound_stays p q labels xs ys u r wide i d b =
       let n = u.same_lanes in

@@ -12,3 +12,5 @@ pub mod Reporting
 pub mod Solving
 pub mod Chained
 pub mod Ending
+mod Telling
+mod PlainRunning

@@ -11,10 +11,10 @@ use Rattle.round_core.specs.Page.{Page, IsPage, opened, heard, missing}
 use Rattle.ports.specs.Ports.{PortState}
 use Rattle.forest_run.specs.Lanes.{LaneState}
 use Rattle.forest_run.specs.Asks.{IsRefused, IsLight}
-use Rattle.forest_run.specs.Bounds.{IsRoundOf}
+use Rattle.forest_run.specs.Bounds.{IsBookUnder}
 use Rattle.forest_run.specs.Taking.{heard_all}
 use Rattle.forest_run.specs.Rounds.{RoundWent}
-use Rattle.forest_run.specs.Runs.{unanswered, IsRefusedIn, IsGivenBy, IsWhole, RoundsWent}
+use Rattle.forest_run.specs.Runs.{unanswered, IsRefusedIn, IsGivenBy, IsFullBook, RoundsWent}
 use Rattle.forest_run.proofs.AsksThen.{stayed, asks_then}
 use Rattle.forest_run.proofs.Passing.{SameRound, same_round, asks_more}
 
@@ -32,7 +32,7 @@ contains_all P xs h = each_more (Contains xs) P xs h (All-contains_itself xs)
 pub opened_misses : (round : ℕ) (cut : List (List Link)) (labels : List ℕ) → missing (opened round cut labels) ≡ length cut
 opened_misses round cut labels = (let e = sum_by-replicate (λ x. cond (not x) 1 0) (length cut) false in omega (arith, e))
 
-pub opened_round : (round : ℕ) (cut : List (List Link)) (labels : List ℕ) → 0 < length cut → All (EndsUpTo (length labels)) cut → 1 ≤ round → IsRoundOf (opened round cut labels) labels
+pub opened_round : (round : ℕ) (cut : List (List Link)) (labels : List ℕ) → 0 < length cut → All (EndsUpTo (length labels)) cut → 1 ≤ round → IsBookUnder (opened round cut labels) labels
 opened_round round cut labels some ends first = record {
   some_shard = some;
   labels_are = refl;
@@ -108,7 +108,7 @@ module _ {P : Type 0} (state : P → PortState) (honest sound : P → Type 0) (g
       let at : ℕ → List AnswerValue = λ i. u.answers_at i ++ v.answers_at i in
       let here : Contains (books ++ new ∷ []) new = Contains-append_right books (new ∷ []) new (0, omega arith, refl) in
       record {
-        whole = All-append (IsWhole cut) books (new ∷ []) u.whole (one (IsWhole cut) new (record { cut_is = same.cut; page = page; all = r.all }));
+        whole = All-append (IsFullBook cut) books (new ∷ []) u.whole (one (IsFullBook cut) new (record { cut_is = same.cut; page = page; all = r.all }));
         answers_at = λ i. u.answers_at i ++ v.answers_at i;
         ports = record {
           same_lanes = v.same_lanes ∙ u.ports.same_lanes;

@@ -4,7 +4,7 @@ use Rattle.std.specs.Prelude.{All, count_by, Option, Some, None, Result, Ok, Err
 use Rattle.std.proofs.lemmas.List.Elements.{All-append}
 use Rattle.frames.specs.AnswerValue.{AnswerValue}
 use Rattle.round_core.specs.Page.{Page, missing, heard, is_taken}
-use Rattle.forest_run.specs.Bounds.{IsRoundOf}
+use Rattle.forest_run.specs.Bounds.{IsBookUnder}
 use Rattle.forest_run.specs.Asks.{IsTaken, IsLight}
 use Rattle.forest_run.specs.Taking.{heard_all}
 use Rattle.forest_run.specs.Scanned.{Scanned}
@@ -73,7 +73,7 @@ pub rounded : {P : Type 0} (state : P → PortState) (honest sound : P → Type 
 rounded state honest sound gave p q r xs ys alone u end s all =
     record { middle = q; passes = u; scans = s; all = all; closed = λ some. end (let m = s.missed in omega arith) }
 
-pub round_after : (p q : Page) (labels : List ℕ) (n : ℕ) → Scanned p q n → IsRoundOf p labels → IsRoundOf q labels
+pub round_after : (p q : Page) (labels : List ℕ) (n : ℕ) → Scanned p q n → IsBookUnder p labels → IsBookUnder q labels
 round_after p q labels n u r =
     let s = same_round p u.answers in
     let cut : q.cut ≡ p.cut = scanned_cut p q n u in

@@ -12,7 +12,7 @@ use Rattle.round_core.specs.Page.{Page}
 use Rattle.ports.specs.Ports.{PortState}
 use Rattle.forest_run.specs.Lanes.{LaneState, one_if, seats_of, all_kept, asks_of, open_of, IsIdle}
 use Rattle.forest_run.specs.Asks.{IsTaken, IsLight, shards_of}
-use Rattle.forest_run.specs.Bounds.{IsRoundOf, IsBoardOf, IsBound}
+use Rattle.forest_run.specs.Bounds.{IsBookUnder, IsBoardOf, IsBound}
 use Rattle.forest_run.specs.Ferries.{IsReady, SeatWent, FerryWent}
 use Rattle.forest_run.specs.Seating.{Each, GotSeat}
 use Rattle.forest_run.proofs.Eaches.{each_at, each_length, each_append}
@@ -33,7 +33,7 @@ seat_at Q (l ∷ ls) a zero d b = if_some Q l.seat (seats_of ls) a
 seat_at Q (l ∷ ls) a (suc i) d b = seat_at Q ls (all_rest Q (option_to_list l.seat) (seats_of ls) a) i d (omega arith)
 
 pub ready_all : {P : Type 0} (state : P → PortState) (board : BoardState) (page : Page) (labels : List ℕ) (xs ys : List (LaneState P))
-    → IsBoardOf board page → IsRoundOf page labels → All (λ (l : LaneState P). IsBound state page l.port) xs → All IsIdle xs
+    → IsBoardOf board page → IsBookUnder page labels → All (λ (l : LaneState P). IsBound state page l.port) xs → All IsIdle xs
     → All (λ (l : LaneState P). length page.cut ≤ l.room) xs → Each (GotSeat state) xs ys → All (IsFresh board) (seats_of ys) → All (IsReady state board page labels) ys
 ready_all state board page labels xs ys board_is round bound idle room got fresh i d b =
     let within : i < length xs = omega (arith, each_length (GotSeat state) xs ys got) in

@@ -14,7 +14,7 @@ use Rattle.round_core.specs.Picks.{pick_of, Picked, IsPickOf, ArePicks}
 use Rattle.ports.specs.Ports.{PortState}
 use Rattle.forest_run.specs.Lanes.{LaneState}
 use Rattle.forest_run.specs.Bounds.{IsWide}
-use Rattle.forest_run.specs.Runs.{IsWhole, IsGivenBy, IsNamedIn, RoundsWent}
+use Rattle.forest_run.specs.Runs.{IsFullBook, IsGivenBy, IsNamedIn, RoundsWent}
 use Rattle.forest_run.proofs.Lasting.{one_at_most}
 use Rattle.forest_run.proofs.Running.{opened_misses}
 
@@ -60,7 +60,7 @@ module _ {P : Type 0} (state : P → PortState) (honest sound : P → Type 0) (g
       → alone ≡ 0 → (l : Link) → IsNamedIn books l → (answer : AnswerValue) × IsGivenBy (length xs) u.answers_at answer × Names (hearing_of cut answer) l
   named_given cut xs ys books answered alone u none l named =
       let book = named.0 in
-      let whole : IsWhole cut book = All-contains (IsWhole cut) books book u.whole named.1 in
+      let whole : IsFullBook cut book = All-contains (IsFullBook cut) books book u.whole named.1 in
       let given : All (IsGivenBy (length xs) u.answers_at) book.answers =
       All-contains (λ (b : Page). All (IsGivenBy (length xs) u.answers_at) b.answers) books book (u.given none) named.1 in
       let r = any_of_map (λ h. Names h l) (hearing_of book.cut) book.answers named.2 in

@@ -7,7 +7,7 @@ use Rattle.round_core.specs.Page.{Page, missing}
 use Rattle.ports.specs.Ports.{PortState}
 
 -- a book of a round under these labels
-pub record IsRoundOf (page : Page) (labels : List ℕ) : Type 0 where
+pub record IsBookUnder (page : Page) (labels : List ℕ) : Type 0 where
   pub some_shard : 0 < length page.cut
   pub labels_are : page.labels ≡ labels
   pub ends : All (EndsUpTo (length labels)) page.cut

@@ -6,13 +6,13 @@ use Rattle.frames.specs.AnswerValue.{AnswerValue}
 use Rattle.round_core.specs.Page.{Page}
 use Rattle.ports.specs.Ports.{PortState}
 use Rattle.forest_run.specs.Lanes.{LaneState}
-use Rattle.forest_run.specs.Bounds.{IsRoundOf, IsBoardOf, IsBound}
+use Rattle.forest_run.specs.Bounds.{IsBookUnder, IsBoardOf, IsBound}
 use Rattle.forest_run.specs.Asks.{AsksWent, IsRefused, IsTaken, IsLight, shards_of}
 
 -- a lane that a ferry may begin with, over a board and a book under these labels
 pub record IsReady {P : Type 0} (state : P → PortState) (board : BoardState) (page : Page) (labels : List ℕ) (lane : LaneState P) : Type 0 where
   pub board_is : IsBoardOf board page
-  pub round : IsRoundOf page labels
+  pub round : IsBookUnder page labels
   pub bound : IsBound state page lane.port
   pub seated : (state lane.port).is_open ≡ is_some lane.seat
   pub seat : IfSome lane.seat (IsFresh board)

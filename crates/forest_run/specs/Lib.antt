@@ -11,3 +11,6 @@ pub mod Runs
 pub mod Chains
 pub mod Reports
 pub mod Solved
+pub mod Files
+pub mod Outcomes
+pub mod PlainRun

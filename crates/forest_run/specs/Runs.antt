@@ -30,14 +30,14 @@ abbrev pub IsNamedIn : List Page → Link → Type 0
 IsNamedIn books l = (book : Page) × Contains books book × IsNamed (hearings book) l
 
 -- a whole book of the cut: each shard has one answer, and no other stands in it
-pub record IsWhole (cut : List (List Link)) (book : Page) : Type 0 where
+pub record IsFullBook (cut : List (List Link)) (book : Page) : Type 0 where
   pub cut_is : book.cut ≡ cut
   pub page : IsPage book
   pub all : missing book ≡ 0
 
 -- lanes before and after whole rounds over books of a cut: so many answers of the ports went into the books, and so many scans of the coordinator
 pub record RoundsWent {P : Type 0} (state : P → PortState) (honest sound : P → Type 0) (gave : P → List AnswerValue → Type 0) (cut : List (List Link)) (before after : List (LaneState P)) (books : List Page) (answered alone : ℕ) : Type 0 where
-  pub whole : All (IsWhole cut) books
+  pub whole : All (IsFullBook cut) books
   pub answers_at : ℕ → List AnswerValue
   pub ports : PortsWent state honest sound gave (IsRefusedIn books) before after answers_at
   pub few : (i : ℕ) → length (answers_at i) ≤ answered

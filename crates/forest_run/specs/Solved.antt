@@ -16,7 +16,7 @@ use Rattle.ports.specs.Ports.{PortState}
 use Rattle.forest_run.specs.declared.report.Report.{Report}
 use Rattle.forest_run.specs.Lanes.{LaneState, asks_of, open_of}
 use Rattle.forest_run.specs.Rounds.{RoundPicked}
-use Rattle.forest_run.specs.Runs.{IsRefusedIn, IsWhole, PortsWent, RoundsWent, IsGivenBy, IsNamedIn}
+use Rattle.forest_run.specs.Runs.{IsRefusedIn, IsFullBook, PortsWent, RoundsWent, IsGivenBy, IsNamedIn}
 use Rattle.forest_run.specs.Chains.{IsPickedBy, IsSolvedBy}
 use Rattle.forest_run.specs.Reports.{IsReportOf}
 
@@ -59,7 +59,7 @@ pub record PickedAfter {P : Type 0} (state : P → PortState) (honest sound : P 
 abbrev pub AreRunBooks : ℕ → List (List Link) → List Page → Type 0
 AreRunBooks n cut books =
     (books ≡ [])
-    ⊎ ((merging : List Page) × (solver : Progress) × (books ≡ merging ++ opened (solver.rounds + 1) cut solver.labels ∷ []) × All (IsWhole cut) merging × IsSolvedBy n merging solver)
+    ⊎ ((merging : List Page) × (solver : Progress) × (books ≡ merging ++ opened (solver.rounds + 1) cut solver.labels ∷ []) × All (IsFullBook cut) merging × IsSolvedBy n merging solver)
 
 -- however a run ended: what it did to the lanes' ports
 pub record RunAsked {P : Type 0} (state : P → PortState) (honest sound : P → Type 0) (gave : P → List AnswerValue → Type 0) (n : ℕ) (cut : List (List Link)) (before after : List (LaneState P)) : Type 0 where

@@ -5,7 +5,7 @@ ghost use Rattle.claim_board.specs.declared.most.TheConstants.{MOST_SEATS};
 ghost use Rattle.limits.specs.declared.TheConstants.{MAX_SHARDS};
 ghost use Rattle.round_core.specs.Page.{is_taken};
 ghost use Rattle.forest_run.specs.Asks.{AsksWent, IsRefused, IsTaken, IsLight, shards_of};
-ghost use Rattle.forest_run.specs.Bounds.{IsRoundOf};
+ghost use Rattle.forest_run.specs.Bounds.{IsBookUnder};
 ghost use Rattle.forest_run.specs.Ferries.{IsReady, FerryWent, seated_lane, first_of, shard_at};
 
 use crate::lane::Lane;
@@ -23,7 +23,7 @@ fn ask_for<A: Allocator, P: Port<A>>(
     port: &mut P,
     shard: u32,
 ) -> Option<Answer<A>>
-    requires round { IsRoundOf book.now labels.now }
+    requires round { IsBookUnder book.now labels.now }
     requires shard { shard < length book.now.cut }
     requires missed { is_taken book.now shard ≡ false }
     requires cut { (P.state port.old).cut ≡ book.now.cut }
@@ -57,7 +57,7 @@ fn visit<A: Allocator, P: Port<A>>(
 ) -> Option<Answer<A>>
     requires seat { seat.old.board ≡ board.now }
     requires board { board.now.shards ≡ length book.now.cut }
-    requires round { IsRoundOf book.now labels.now }
+    requires round { IsBookUnder book.now labels.now }
     requires shard { shard < length book.now.cut }
     requires cut { (P.state port.old).cut ≡ book.now.cut }
     requires room { (P.state port.old).asks < 2 ^ 64 - 1 }

@@ -38,9 +38,12 @@
 #![tactic(auto)]
 
 mod cross;
+mod fault;
 mod ferry;
+mod in_memory;
 mod lane;
 mod pass;
+mod plain;
 mod report;
 mod round;
 mod run;
@@ -48,6 +51,9 @@ mod scans;
 mod seats;
 mod taking;
 
+pub use fault::RunFault;
+pub use in_memory::plain_text;
 pub use lane::Lane;
+pub use plain::run_plain;
 pub use report::Report;
 pub use run::solve;

@@ -3,7 +3,7 @@ ghost use Rattle.std.specs.Prelude.{◌≡◌, ◌<◌, ◌≤◌, length, All};
 ghost use Rattle.claim_board.specs.State.{AreSeats, IsFresh};
 ghost use Rattle.claim_board.specs.declared.most.TheConstants.{MOST_SEATS};
 ghost use Rattle.forest_run.specs.Lanes.{open_of, IsIdle};
-ghost use Rattle.forest_run.specs.Bounds.{IsRoundOf, IsBoardOf, IsBound};
+ghost use Rattle.forest_run.specs.Bounds.{IsBookUnder, IsBoardOf, IsBound};
 ghost use Rattle.forest_run.specs.Passes.{PassWent};
 
 use crate::cross::cross;
@@ -30,7 +30,7 @@ fn ride<A: Allocator + Copy + Send + Sync, P: Port<A> + Send + Drop, R: Threads 
     requires one_each { board.seats ≡ open_of P.state lanes.old }
     requires seats { AreSeats board row.items }
     requires fresh { All (IsFresh board) row.items }
-    requires round { IsRoundOf book.old labels.now }
+    requires round { IsBookUnder book.old labels.now }
     requires bound { All (λ lane. IsBound P.state book.old lane.port) lanes.old }
     requires idle { All IsIdle lanes.old }
     requires room { All (λ lane. length book.old.cut ≤ lane.room) lanes.old }
@@ -56,7 +56,7 @@ pub(crate) fn pass<A: Allocator + Copy + Send + Sync, P: Port<A> + Send + Drop, 
 ) -> Result<(), AllocError>
     requires some_open { 0 < open_of P.state lanes.old }
     requires few { length lanes.old ≤ MOST_SEATS }
-    requires round { IsRoundOf book.old labels.now }
+    requires round { IsBookUnder book.old labels.now }
     requires bound { All (λ lane. IsBound P.state book.old lane.port) lanes.old }
     requires idle { All IsIdle lanes.old }
     ensures went { PassWent P.state P.honest P.sound P.gave book.old book.new lanes.old lanes.new }

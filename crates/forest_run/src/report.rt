@@ -6,11 +6,13 @@ ghost use Rattle.forest_run.specs.Reports.{IsReportOf};
 
 use link_key::Cut;
 use std::alloc::Allocator;
+use std::fmt;
 
-/// What a run did, in counts.
+/// What a run did, in counts; it is shown as one line of names and numbers.
 ///
-/// Each ask brought an answer or closed a port: `asked` is `answered + closed`. Each shard of each round was answered or
-/// scanned alone: `answered + alone` is `(rounds + 1) * shards`.
+/// In a run over workers each ask brought an answer or closed a port: `asked` is `answered + closed`. Each shard of each
+/// round was answered or scanned alone: `answered + alone` is `(rounds + 1) * shards`. A run by one thread has no rounds
+/// and cuts nothing.
 #[derive(Clone, Copy, Debug, PartialEq, Eq)]
 pub struct Report {
     /// The vertices of the graph.
@@ -29,6 +31,23 @@ pub struct Report {
     pub alone: u64,
     /// The ports that were closed in the run.
     pub closed: u64,
+}
+
+impl fmt::Display for Report {
+    fn fmt<W: fmt::Write>(&self, f: &mut fmt::Formatter<W>) -> fmt::Result {
+        write!(
+            f,
+            "vertices={} links={} rounds={} shards={} asked={} answered={} alone={} closed={}",
+            self.vertices,
+            self.links,
+            self.rounds,
+            self.shards,
+            self.asked,
+            self.answered,
+            self.alone,
+            self.closed,
+        )
+    }
 }
 
 // The report of a run whose last round has this number, in which so many shards were scanned alone and so many ports

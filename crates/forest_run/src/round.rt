@@ -4,7 +4,7 @@ ghost use Rattle.claim_board.specs.declared.most.TheConstants.{MOST_SEATS};
 ghost use Rattle.link_key.specs.Link.{EndsUpTo};
 ghost use Rattle.round_core.specs.Page.{Page, opened, missing};
 ghost use Rattle.forest_run.specs.Lanes.{open_of, IsIdle};
-ghost use Rattle.forest_run.specs.Bounds.{IsRoundOf, IsWide};
+ghost use Rattle.forest_run.specs.Bounds.{IsBookUnder, IsWide};
 ghost use Rattle.forest_run.specs.Passes.{PassWent};
 ghost use Rattle.forest_run.specs.Rounds.{RoundWent, RoundPicked};
 
@@ -28,7 +28,7 @@ fn ask_all<A: Allocator + Copy + Send + Sync, P: Port<A> + Send + Drop, R: Threa
     lanes: &mut [Lane<P, A>],
 ) -> Result<(), AllocError>
     requires few { length lanes.old ≤ MOST_SEATS }
-    requires round { IsRoundOf book.old labels.now }
+    requires round { IsBookUnder book.old labels.now }
     requires wide { All (λ lane. IsWide P.state book.old lane.port) lanes.old }
     requires idle { All IsIdle lanes.old }
     ensures went { PassWent P.state P.honest P.sound P.gave book.old book.new lanes.old lanes.new }
@@ -69,7 +69,7 @@ pub(crate) fn whole_round<
 ) -> Result<u32, AllocError>
     requires few { length lanes.old ≤ MOST_SEATS }
     requires cut { book.old.cut ≡ cut.now }
-    requires round { IsRoundOf book.old labels.now }
+    requires round { IsBookUnder book.old labels.now }
     requires wide { All (λ lane. IsWide P.state book.old lane.port) lanes.old }
     requires idle { All IsIdle lanes.old }
     ensures went { IfOk result (λ alone. RoundWent P.state P.honest P.sound P.gave book.old book.new lanes.old lanes.new alone) }

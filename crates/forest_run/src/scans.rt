@@ -1,7 +1,7 @@
 //! What the coordinator scans itself.
 ghost use Rattle.std.specs.Prelude.{◌≡◌, ◌<◌, length, OnOk, IfOk, true, false};
 ghost use Rattle.round_core.specs.Page.{missing, is_taken};
-ghost use Rattle.forest_run.specs.Bounds.{IsRoundOf};
+ghost use Rattle.forest_run.specs.Bounds.{IsBookUnder};
 ghost use Rattle.forest_run.specs.Scanned.{Scanned};
 
 use frames::Answer;
@@ -18,7 +18,7 @@ fn scan_one<A: Allocator + Copy>(
     book: &mut RoundBook<A>,
     shard: u32,
 ) -> Result<(), AllocError>
-    requires round { IsRoundOf book.old labels.now }
+    requires round { IsBookUnder book.old labels.now }
     requires cut { book.old.cut ≡ cut.now }
     requires shard { shard < length book.old.cut }
     requires missed { is_taken book.old shard ≡ false }
@@ -43,7 +43,7 @@ pub(crate) fn scan_missing<A: Allocator + Copy>(
     labels: &Labels<A>,
     book: &mut RoundBook<A>,
 ) -> Result<u32, AllocError>
-    requires round { IsRoundOf book.old labels.now }
+    requires round { IsBookUnder book.old labels.now }
     requires cut { book.old.cut ≡ cut.now }
     ensures scanned { IfOk result (λ alone. Scanned book.old book.new alone) }
     ensures all { OnOk result (missing book.new ≡ 0) }

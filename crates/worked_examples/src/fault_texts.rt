@@ -1,6 +1,6 @@
 // What the faults of files and of a run are told as.
 use gr_text::{GrFault, GrKind, ReadFault, WriteFault};
-use plain_run::{Report, RunFault};
+use forest_run::{Report, RunFault};
 use std::alloc::Global;
 use std::fmt::Display;
 use std::process::Abort;

@@ -4,7 +4,7 @@
 use byte_streams::FusedSource;
 use gr_text::{GrReader, Graph, MAX_BYTES, parse, read_graph, read_graph_upto, write_forest};
 use link_key::{Forest, Labels, Link, Offers, plain_forest};
-use plain_run::{plain_text, run_plain};
+use forest_run::{plain_text, run_plain};
 use std::alloc::{AllocError, Global};
 use std::process::Abort;
 use std::test::Fail;

@@ -1,18 +1,16 @@
--- What a run gives: the forest of the graph that a file means.
-use Rattle.std.specs.Prelude.{◌≡◌, ℕ, ◌≤◌, ⊤, List, [], length, Option, Some, Result, Ok, Err}
+-- What a file gives: a graph, its minimum spanning forest, or a first fault.
+use Rattle.std.specs.Prelude.{◌≡◌, ℕ, ◌≤◌, ⊤, List, length, Option, Some, Result, Ok, Err}
 use Rattle.limits.specs.declared.TheConstants.{MAX_BYTES}
-use Rattle.byte_streams.specs.Streams.{SourceState, SinkState, Gave, Took, WentOut, HadNoFailure}
+use Rattle.byte_streams.specs.Streams.{SourceState, HadNoFailure}
 use Rattle.link_key.specs.Forest.{IsForestOf}
 use Rattle.link_key.specs.declared.links.Link.{Link}
 use Rattle.gr_text.specs.Graph.{GraphValue, IsGraphOf}
 use Rattle.gr_text.specs.Fault.{IsFirstFault}
 use Rattle.gr_text.specs.ForestText.{forest_text}
-use Rattle.gr_text.specs.Sourced.{IsReadOf}
 use Rattle.gr_text.specs.declared.faults.ReadFault.{ReadFault}
 use Rattle.gr_text.specs.declared.faults.ReadFault.TheVariants as read
-use Rattle.plain_run.specs.declared.outcome.Report.{Report}
-use Rattle.plain_run.specs.declared.outcome.RunFault.{RunFault}
-use Rattle.plain_run.specs.declared.outcome.RunFault.TheVariants as fault
+use Rattle.forest_run.specs.declared.fault.RunFault.{RunFault}
+use Rattle.forest_run.specs.declared.fault.RunFault.TheVariants as fault
 
 -- ---- files
 
@@ -41,64 +39,6 @@ IsForestTextOf bytes text = (graph : GraphValue) × (forest : List Link) × HasF
 -- so many bytes are no more than the text of the forest that the bytes give has
 abbrev pub IsPartOfText : List ℕ → ℕ → Type 0
 IsPartOfText bytes written = (text : List ℕ) × IsForestTextOf bytes text × (written ≤ length text)
-
--- ---- what a run does to its source and its sink
-
--- a run's two streams, as each tells itself
-pub record Streams : Type 0 where
-  pub source : SourceState
-  pub sink : SinkState
-
-abbrev pub streams : SourceState → SinkState → Streams
-streams source sink = record { source = source; sink = sink }
-
--- the source was read to its end, exactly the text of its forest went out, and the report says so of the graph
-pub record IsDone (says : GraphValue → Type 0) (before after : Streams) : Type 0 where
-  pub bytes : List ℕ
-  pub graph : GraphValue
-  pub forest : List Link
-  pub read : Gave 0 1 bytes before.source after.source
-  pub gives : HasForest bytes graph forest
-  pub written : Took 0 (forest_text graph.vertices forest) before.sink after.sink
-  pub reported : says graph
-
--- what the source gave is refused by this fault, and nothing was written
-pub record IsUnread (why : ReadFault) (before after : Streams) : Type 0 where
-  pub refused : IsReadOf MAX_BYTES (Err why) before.source after.source
-  pub nothing : Took 0 [] before.sink after.sink
-
--- the source was read to its end and means a graph, and nothing was written
-pub record IsUnsolved (before after : Streams) : Type 0 where
-  pub bytes : List ℕ
-  pub graph : GraphValue
-  pub read : Gave 0 1 bytes before.source after.source
-  pub means : IsFileOf bytes graph
-  pub nothing : Took 0 [] before.sink after.sink
-
--- the source was read to its end, and so many bytes of the text of its forest went out before a setback
-pub record IsBrokenOff (written : ℕ) (before after : Streams) : Type 0 where
-  pub bytes : List ℕ
-  pub graph : GraphValue
-  pub forest : List Link
-  pub read : Gave 0 1 bytes before.source after.source
-  pub gives : HasForest bytes graph forest
-  pub part : WentOut 0 written (forest_text graph.vertices forest) before.sink after.sink
-
--- what a run did that answered this, where a report says so of a graph
-abbrev pub Ran : (GraphValue → Report → Type 0) → Result Report RunFault → Streams → Streams → Type 0
-Ran says (Ok report) = IsDone (λ graph. says graph report)
-Ran says (Err (fault.Read why)) = IsUnread why
-Ran says (Err fault.Memory) = IsUnsolved
-Ran says (Err (fault.Write written)) = IsBrokenOff written
-
--- the report of a plain run: how many vertices and links, and no rounds, shards, asks or workers
-abbrev pub IsPlainReport : GraphValue → Report → Type 0
-IsPlainReport graph report =
-    report ≡ record { vertices = graph.vertices; links = length graph.links; rounds = 0; shards = 0; asked = 0; answered = 0; alone = 0; closed = 0 }
-
--- what a plain run did that answered this
-abbrev pub RanPlain : Result Report RunFault → Streams → Streams → Type 0
-RanPlain = Ran IsPlainReport
 
 -- ---- what follows for a source that tells
 

@@ -12,7 +12,7 @@ use Rattle.gr_text.specs.declared.faults.ReadFault.TheVariants as read
 use Rattle.gr_text.proofs.Feeding.{StopsBy-more}
 use Rattle.gr_text.proofs.Ending.{fails_of_stops}
 use Rattle.gr_text.proofs.OneFault.{never_both}
-use Rattle.plain_run.specs.Plain.{IsFileOf, IsFirstOf}
+use Rattle.forest_run.specs.Files.{IsFileOf, IsFirstOf}
 
 -- what is read of a source that tells its bytes and no failure is what is read of the bytes
 pub reads_the_file : (bytes : List ℕ) (s t : SourceState) (outcome : Result GraphValue ReadFault) → s.left ≡ Some bytes → HadNoFailure s t

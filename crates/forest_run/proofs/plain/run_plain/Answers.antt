@@ -1,7 +1,8 @@
-use Rattle.std.proofs.Common.{rules, Ok, Err, ap, length, arith}
-use Rattle.plain_run.proofs.Telling.{reads_the_file, first_of_failed, no_fault_of_lawful}
-use Rattle.plain_run.proofs.Running.{unread, unsolved, done, broken_off}
-use Rattle.plain_run.proofs.run.run_plain.Goals as goal
+use Rattle.std.proofs.Common.{rules, refl, Ok, Err, ap, length, arith}
+use Rattle.forest_run.specs.Outcomes.{IsLeast}
+use Rattle.forest_run.proofs.Telling.{reads_the_file, first_of_failed, no_fault_of_lawful}
+use Rattle.forest_run.proofs.PlainRunning.{unread, unsolved, done, broken_off}
+use Rattle.forest_run.proofs.plain.run_plain.Goals as goal
 
 pub returns-in-Err-clause-ran : goal.returns-in-Err-clause-ran
 returns-in-Err-clause-ran g c = unread c.in-Err.fault _ _ _ c.in-Err.ensures.outcome
@@ -15,7 +16,7 @@ returns-in-Err-clause-lawful g c = λ bytes file means.
     no_fault_of_lawful c.in-Err.fault bytes means.0 means.1 (reads_the_file bytes _ _ (Err c.in-Err.fault) file.told file.no_failure c.in-Err.ensures.outcome)
 
 pub returns-in_default-clause-ran : goal.returns-in_default-clause-ran
-returns-in_default-clause-ran g c = unsolved _ _ _ _ c.in-Ok.ensures.outcome
+returns-in_default-clause-ran g c = unsolved _ _ _ _ _ c.in-Ok.ensures.outcome refl
 
 pub returns-in_default-clause-malformed : goal.returns-in_default-clause-malformed
 returns-in_default-clause-malformed g c = λ bytes file nothing.
@@ -24,7 +25,7 @@ returns-in_default-clause-malformed g c = λ bytes file nothing.
 pub returns-in-Ok-write_forest-clause-ran : goal.returns-in-Ok-write_forest-clause-ran
 returns-in-Ok-write_forest-clause-ran g c =
     let forest = c.in-Ok-plain_forest in
-    done _ _ forest.forest _ _ _ _ _ c.in-Ok.ensures.outcome (rw c.links.ensures.links at forest.ensures.forest) c.n-2.ensures.vertices
+    done IsLeast _ _ forest.forest _ _ _ _ _ c.in-Ok.ensures.outcome (rw c.links.ensures.links at forest.ensures.forest) c.n-2.ensures.vertices
     c.in-Ok-write_forest.ensures.whole (search rules)
 
 pub returns-in-Ok-write_forest-clause-malformed : goal.returns-in-Ok-write_forest-clause-malformed
@@ -34,7 +35,7 @@ returns-in-Ok-write_forest-clause-malformed g c = λ bytes file nothing.
 pub returns-clause-ran : goal.returns-clause-ran
 returns-clause-ran g c =
     let forest = c.in-Ok-plain_forest in
-    broken_off _ _ forest.forest _ _ _ _ _ c.in-Ok.ensures.outcome (rw c.links.ensures.links at forest.ensures.forest)
+    broken_off IsLeast _ _ forest.forest _ _ _ _ _ c.in-Ok.ensures.outcome (rw c.links.ensures.links at forest.ensures.forest)
     (omega (arith, forest.ensures.few, c.links.ensures.few, ap length c.links.ensures.links)) c.n-2.ensures.vertices
     c.in-Err-write_forest.ensures.part
 

@@ -1,8 +1,11 @@
-//! The run.
+//! A run by one thread, from the bytes of a file to the text of its forest.
 ghost use Rattle.std.specs.Prelude.{ℕ, List, OnOk};
-ghost use Rattle.plain_run.specs.Plain.{RanPlain, streams, HasFile, MeansGraph, MeansNothing, IsFirstFaultOf, IsNoRefusal};
+ghost use Rattle.forest_run.specs.Files.{HasFile, MeansGraph, MeansNothing, IsFirstFaultOf, IsNoRefusal};
+ghost use Rattle.forest_run.specs.Outcomes.{streams};
+ghost use Rattle.forest_run.specs.PlainRun.{RanPlain};
 
-use crate::outcome::{Report, RunFault};
+use crate::fault::RunFault;
+use crate::report::Report;
 use byte_streams::{Sink, Source};
 use gr_text::{read_graph, write_forest};
 use link_key::plain_forest;

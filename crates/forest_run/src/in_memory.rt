@@ -1,10 +1,10 @@
-//! The run over bytes in memory.
+//! A run by one thread over bytes in memory.
 ghost use Rattle.std.specs.Prelude.{◌≤◌, length, IfOk};
 ghost use Rattle.gr_text.specs.Reader.{FailsBy};
-ghost use Rattle.plain_run.specs.Plain.{OnRead, OnWrite, OnNoMemory, IsForestTextOf, IsPartOfText, MeansGraph, MeansNothing, IsFirstFaultOf, IsNoRefusal};
+ghost use Rattle.forest_run.specs.Files.{OnRead, OnWrite, OnNoMemory, IsForestTextOf, IsPartOfText, MeansGraph, MeansNothing, IsFirstFaultOf, IsNoRefusal};
 
-use crate::outcome::RunFault;
-use crate::run::run_plain;
+use crate::fault::RunFault;
+use crate::plain::run_plain;
 use limits::MAX_BYTES;
 use std::alloc::Allocator;
 
