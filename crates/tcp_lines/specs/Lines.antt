@@ -1,0 +1,16 @@
+-- What a line over a connection tells.
+use Rattle.std.specs.Prelude.{ℕ, None}
+use Rattle.ports.specs.Lines.{LineState}
+
+-- how many calls failed, and how many gets found the end
+pub record TcpLineState : Type 0 where
+  pub failures : ℕ
+  pub ends : ℕ
+
+-- a line before its first call
+abbrev pub unused : TcpLineState
+unused = record { failures = 0; ends = 0 }
+
+-- it tells nothing of its bytes
+abbrev pub line_of : TcpLineState → LineState
+line_of line = record { sent = None; got = None; failures = line.failures; ends = line.ends }

@@ -1,0 +1,35 @@
+//! Lines to workers over TCP on this machine, and the threads of these workers.
+//!
+//! What is promised here:
+//!
+//! - A [`TcpLine`] counts its failures and its ends, 0 at first, and fails only where its stream did in that
+//!   call. What a socket took and gave is for the system to say, so it tells nothing of its bytes, and it is
+//!   never known to be faithful.
+//! - [`Workers::start`] gives at most as many lines as were asked for, unused ones, and there are just as many
+//!   threads.
+//!
+//! Tests alone show that what one end writes the other reads, that [`pair`] tells a stranger, and that the
+//! worker at the far end of the line at a place has that place for its number.
+//!
+//! ```text
+//!   Workers::start ── a listener on 127.0.0.1, and for each worker
+//!         │
+//!       pair ──► TcpLine (near end) ══ a connection ══ TcpStream (far end)
+//!                   │                                       │ in a thread of its own
+//!             lines, in order                       worker_engine::serve
+//! ```
+//!
+//! A worker's thread ends once the near end of its stream is closed: drop the lines, and then call
+//! [`Workers::join`].
+//!
+//! Where to start a change: `line` for what a line does, `pairs` for how a connection is made, `workers` for the
+//! threads and the numbers of workers.
+#![tactic(auto)]
+
+mod line;
+mod pairs;
+mod workers;
+
+pub use line::TcpLine;
+pub use pairs::{PairFault, pair};
+pub use workers::Workers;

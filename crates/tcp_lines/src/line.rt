@@ -1,0 +1,78 @@
+//! A line over a connection.
+ghost use Rattle.std.specs.Prelude.{◌≡◌, length};
+ghost use Rattle.std.specs.Io.{ReadsAtMost};
+ghost use Rattle.ports.specs.Lines.{HasRoom, PutWent, GetWent};
+ghost use Rattle.tcp_lines.specs.Lines.{line_of, unused};
+
+use byte_streams::{Source, put};
+use ports::{Line, LineFault};
+use std::marker::Model;
+use std::net::TcpStream;
+
+/// A line over a TCP connection, which it owns and closes where it is dropped.
+///
+/// It takes no memory. A call that finds the connection broken fails, and so does an interrupted one.
+#[derive(Drop)]
+pub struct TcpLine {
+    stream: TcpStream,
+    failures: u64,
+    ends: u64,
+}
+
+impl Model for TcpLine {
+    ghost use Rattle.tcp_lines.specs.Lines.{TcpLineState};
+
+    ghost Value = { TcpLineState };
+
+    ghost view = { λ s. record { failures = s.failures; ends = s.ends } };
+}
+
+impl TcpLine {
+    /// A line over this connection.
+    ///
+    /// The stream should send small segments at once (`set_nodelay`): a frame goes out while the other end may
+    /// still owe the receipt of the one before it.
+    pub fn new(stream: TcpStream) -> Self
+        ensures { result ≡ unused }
+    {
+        TcpLine {
+            stream,
+            failures: 0,
+            ends: 0,
+        }
+    }
+}
+
+impl Line for TcpLine {
+    ghost state = { line_of };
+
+    ghost faithful = { λ _ _. ⊥ };
+
+    // The first write has the whole of `bytes`; others follow while bytes are left.
+    fn put(&mut self, bytes: &[u8]) -> Result<(), LineFault> {
+        match put(&mut self.stream, 0, bytes) {
+            Ok(_) => Ok(()),
+            Err(_) => {
+                self.failures += 1;
+                Err(LineFault::Failed)
+            }
+        }
+    }
+
+    fn get(&mut self, into: &mut [u8]) -> Result<usize, LineFault> {
+        match Source::read(&mut self.stream, into) {
+            Ok(n) => {
+                if n == 0 {
+                    self.ends += 1;
+                }
+                Ok(n)
+            }
+            Err(_) => {
+                self.failures += 1;
+                Err(LineFault::Failed)
+            }
+        }
+    }
+
+    ghost serves = { λ _ _ faithful. absurd faithful };
+}

@@ -1,0 +1,43 @@
+//! Two ends of a connection.
+ghost use Rattle.std.specs.Prelude.{◌≡◌, IfOk};
+ghost use Rattle.tcp_lines.specs.Lines.{unused};
+
+use crate::line::TcpLine;
+use std::net::{Net, TcpListener, TcpStream};
+use thiserror::Error;
+
+/// Why there is no pair.
+#[derive(Clone, Copy, Debug, PartialEq, Eq, Error)]
+pub enum PairFault {
+    /// The listener couldn't be connected to, or the connection not be set up.
+    #[error("cannot connect")]
+    NoConnect,
+    /// No connection could be accepted, or it not be set up.
+    #[error("cannot accept")]
+    NoAccept,
+    /// The connection that was accepted isn't the one just made: somebody else connected before. The one just
+    /// made is still due to be accepted, though closed, so each later pair of this listener finds a stranger too.
+    #[error("a stranger connected")]
+    Stranger,
+}
+
+/// Connects to the listener and accepts: a line over the near end, and the stream at the far end.
+///
+/// Both ends send small segments at once. It takes no memory.
+pub fn pair<R: Net<Listener = TcpListener, Stream = TcpStream>>(
+    rt: &R,
+    listener: &TcpListener,
+) -> Result<(TcpLine, TcpStream), PairFault>
+    ensures { IfOk result (λ ends. ends.0 ≡ unused) }
+{
+    let address = listener.local_addr().map_err(|_| PairFault::NoConnect)?;
+    let near = TcpStream::connect(rt, address).map_err(|_| PairFault::NoConnect)?;
+    let name = near.local_addr().map_err(|_| PairFault::NoConnect)?;
+    near.set_nodelay(true).map_err(|_| PairFault::NoConnect)?;
+    let (far, peer) = listener.accept().map_err(|_| PairFault::NoAccept)?;
+    if peer != name {
+        return Err(PairFault::Stranger);
+    }
+    far.set_nodelay(true).map_err(|_| PairFault::NoAccept)?;
+    Ok((TcpLine::new(near), far))
+}

@@ -1,0 +1,103 @@
+//! Workers in threads of this process, each at the far end of a line.
+ghost use Rattle.std.specs.Prelude.{◌≡◌, ◌<◌, ◌≤◌, All, IfOk, length, vec_len};
+ghost use Rattle.limits.specs.declared.TheConstants.{MAX_WORKERS};
+ghost use Rattle.tcp_lines.specs.Lines.{unused};
+
+use crate::line::TcpLine;
+use crate::pairs::{PairFault, pair};
+use byte_streams::Untold;
+use limits::MAX_WORKERS;
+use std::alloc::{AllocError, Global};
+use std::io;
+use std::marker::Model;
+use std::net::{Ipv4Addr, Net, TcpListener, TcpStream};
+use std::thread::{self, JoinHandle, Threads};
+use worker_engine::serve;
+
+/// The threads of workers. Join them once their lines are dropped.
+#[derive(Drop)]
+pub struct Workers {
+    threads: Vec<JoinHandle<()>>,
+}
+
+impl Model for Workers {
+    ghost use Rattle.std.specs.Prelude.{ℕ, vec_len};
+
+    ghost Value = { ℕ };
+
+    ghost view = { λ s. vec_len s.threads };
+}
+
+impl Workers {
+    /// Starts workers in threads of their own, at most `count`, and gives the lines to them: the line at each
+    /// place is to the worker of that number.
+    ///
+    /// It listens on the loopback address, at a port that the system picks, until all are started. A worker
+    /// whose connection can't be made, or whose thread can't be started, is left out, as all are where it can't
+    /// listen. An error is want of memory for the two lists, and comes before anything is started. A worker's
+    /// shards take memory of `Global`.
+    pub fn start<R: Threads + Net<Listener = TcpListener, Stream = TcpStream>>(
+        rt: &R,
+        alloc: Global,
+        count: u32,
+    ) -> Result<(Vec<TcpLine>, Workers), AllocError>
+        requires { count ≤ MAX_WORKERS }
+
+        // As many lines as threads, and no more than were asked for. Nothing went over any of them.
+        ensures few { IfOk result (λ started. length started.0.items ≤ count) }
+        ensures unused { IfOk result (λ started. All (λ line. line ≡ unused) started.0.items) }
+        ensures threads { IfOk result (λ started. started.1 ≡ length started.0.items) }
+    {
+        let mut lines = Vec::with_capacity(alloc, count as usize)?;
+        let mut threads = Vec::with_capacity(alloc, count as usize)?;
+        let Ok(mut listener) = listen(rt) else {
+            return Ok((lines, Workers { threads }));
+        };
+        for _ in 0..count {
+            match pair(rt, &listener) {
+                Ok((line, far)) => {
+                    if let Some(thread) = start_one(rt, alloc, lines.len() as u32, far) {
+                        lines.push_reserved(line);
+                        threads.push_reserved(thread);
+                    }
+                }
+                Err(PairFault::Stranger) => match listen(rt) {
+                    Ok(another) => listener = another,
+                    Err(_) => break,
+                },
+                Err(_) => {}
+            }
+        }
+        Ok((lines, Workers { threads }))
+    }
+
+    /// Waits until each of the threads has ended, which it does once its line is dropped.
+    pub fn join<R: Threads>(self, rt: &R) {
+        let Workers { threads } = self;
+        for thread in threads {
+            thread.join(rt);
+        }
+    }
+}
+
+// A listener that only this machine can connect to.
+fn listen<R: Net<Listener = TcpListener, Stream = TcpStream>>(rt: &R) -> io::Result<TcpListener> {
+    TcpListener::bind(rt, (Ipv4Addr::LOCALHOST, 0))
+}
+
+// A thread that serves the stream as the worker of this number, and closes it at the end.
+fn start_one<R: Threads>(
+    rt: &R,
+    alloc: Global,
+    worker: u32,
+    stream: TcpStream,
+) -> Option<JoinHandle<()>>
+    requires { worker < MAX_WORKERS }
+{
+    let serves = move ||
+        requires { worker < MAX_WORKERS }
+    {
+        let _served = serve(alloc, worker, &mut Untold(&stream), &mut Untold(&stream));
+    };
+    thread::spawn(rt, serves).ok()
+}

@@ -1,0 +1,60 @@
+// The two ends of a connection.
+
+ghost use Rattle.ports.specs.Lines.{HasRoom};
+ghost use Rattle.tcp_lines.specs.Lines.{line_of};
+
+use ports::Line;
+use std::io;
+use std::io::{Read, Write};
+use std::net::{Ipv4Addr, Net, TcpListener, TcpStream};
+use std::process::Abort;
+use std::test::Fail;
+use tcp_lines::{PairFault, TcpLine, pair};
+
+fn listen(rt: &impl Net<Listener = TcpListener, Stream = TcpStream>) -> io::Result<TcpListener> {
+    TcpListener::bind(rt, (Ipv4Addr::LOCALHOST, 0))
+}
+
+// This byte comes over the line.
+fn expect_byte(rt: &impl Abort, line: &mut TcpLine, byte: u8)
+    requires { HasRoom (line_of line.old) }
+    ensures { HasRoom (line_of line.new) }
+{
+    let mut got = [0u8; 1];
+    match line.get(&mut got) {
+        Ok(1) => assert_eq!(rt; got[0], byte),
+        _ => panic!(rt; "a byte"),
+    }
+}
+
+#[test]
+fn a_pair_carries_bytes_both_ways(rt: HostRuntime) -> Result<(), Fail> {
+    let listener = listen(&rt)?;
+    let (mut line, mut far) = pair(&rt, &listener).map_err(|_| "a pair")?;
+    assert!(rt; far.nodelay()?);
+    let mut heard = [0u8; 5];
+    line.put(b"there").map_err(|_| "bytes sent")?;
+    far.read_exact(&mut heard)?;
+    assert_eq!(rt; heard, *b"there");
+    far.write_all(b"back")?;
+    expect_byte(&rt, &mut line, b'b');
+    expect_byte(&rt, &mut line, b'a');
+    expect_byte(&rt, &mut line, b'c');
+    expect_byte(&rt, &mut line, b'k');
+    drop(far);
+    let mut got = [0u8; 1];
+    assert_eq!(rt; line.get(&mut got), Ok(0));
+    Ok(())
+}
+
+#[test]
+fn a_stranger_who_connected_before_is_told(rt: HostRuntime) -> Result<(), Fail> {
+    let listener = listen(&rt)?;
+    let stranger = TcpStream::connect(&rt, listener.local_addr()?)?;
+    let first = pair(&rt, &listener);
+    assert!(rt; matches!(first, Err(PairFault::Stranger)));
+    drop(stranger);
+    let another = listen(&rt)?;
+    assert!(rt; pair(&rt, &another).is_ok());
+    Ok(())
+}
