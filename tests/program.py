@@ -4,9 +4,10 @@
 usage: tests/program.py [PROGRAM]
 
 PROGRAM is crates/boruvka/out/boruvka if none is named. The cases stand in tests/cases, by subject; running.py there
-says how they run the program. Memory is refused by a small library that is preloaded (tests/refusing.c, built by cc
-into a temporary folder). Python's standard library and a C compiler are all that it needs. The last line is
-`N passed, M failed`, and the status is 0 only where none failed.
+says how they run the program. Memory is refused, and what goes to sockets is seen, by small libraries that are
+preloaded (tests/refusing.c, tests/failing.c, built by cc into a temporary folder). Python's standard library, a shell
+and a C compiler are all that it needs. The last line is `N passed, M failed`, and the status is 0 only where none
+failed.
 """
 import os
 import subprocess

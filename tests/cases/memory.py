@@ -1,5 +1,6 @@
-"""Refused memory: each allocation in turn, alone and with all that follow."""
+"""Refused memory: each allocation in turn, alone and with all that follow; little address space."""
 import os
+import resource
 
 from cases.running import NO_MEMORY, SMALL_FOREST, SMALL_NET, SMALL_REPORT, built, case, drawn_graph, expect, ran, written
 
@@ -63,3 +64,43 @@ def each_allocation_of_a_named_file_refused(room):
 @case
 def each_allocation_of_the_help_refused(room):
     each_refused(room, ["--help"], b"", ran(["--help"])[1], b"")
+
+
+def in_space(size, words, source=b""):
+    """What the program did with so many bytes of address space."""
+
+    def limit():
+        resource.setrlimit(resource.RLIMIT_AS, (size, size))
+
+    return ran(words, source, preexec_fn=limit)
+
+
+def least_space_for_help():
+    """The least address space, in whole pages, in which the help is told."""
+    page = resource.getpagesize()
+    short, enough = 0, 1 << 18
+    while enough - short > 1:
+        middle = (short + enough) // 2
+        if in_space(middle * page, ["--help"])[0] == 0:
+            enough = middle
+        else:
+            short = middle
+    return enough * page
+
+
+def grown_space(words, source, text, last):
+    """Thirty runs in ever more address space, from the least for the help to the last size: each is right, or tells that
+    there is no memory. The sizes grow faster and faster; the last is enough."""
+    least = least_space_for_help()
+    for step in range(30):
+        size = least + (last - least) * step**2 // 29**2
+        found = in_space(size, words, source)
+        if found not in ((0, text, b""), (4, b"", NO_MEMORY)):
+            raise AssertionError(f"{size} bytes of address space: {found!r:.600}")
+    expect(found, 0, text, b"")
+
+
+@case
+def little_address_space(_room):
+    file, text = drawn_graph(8, 30_000, 200_000)
+    grown_space(["--plain"], file, text, 32 << 20)

@@ -34,10 +34,28 @@ def case(function):
     return function
 
 
-def ran(words, source=b"", output=subprocess.PIPE, seconds=SECONDS, **more):
+def run(words, source=b"", output=subprocess.PIPE, seconds=SECONDS, **more):
     """Status, standard output and standard error."""
-    ended = subprocess.run([Program.path, *words], input=source, stdout=output, stderr=subprocess.PIPE, timeout=seconds, **more)
+    ended = subprocess.run(words, input=source, stdout=output, stderr=subprocess.PIPE, timeout=seconds, **more)
     return ended.returncode, ended.stdout, ended.stderr
+
+
+def ran(words, source=b"", output=subprocess.PIPE, **more):
+    """The same of the program with these words."""
+    return run([Program.path, *words], source, output, **more)
+
+
+def told_by(room, words, source, environment, **more):
+    """What was run with tests/failing.c preloaded did, and what that library told: an `x` for each call that failed, and
+    a `T` for each text for the user that went to a socket."""
+    reader, writer = os.pipe()
+    env = {**os.environ, "LD_PRELOAD": built(room, "failing"), "TOLD": str(writer), **environment}
+    try:
+        found = run(words, source, env=env, pass_fds=[writer], **more)
+    finally:
+        os.close(writer)
+    with os.fdopen(reader, "rb") as it:
+        return found, it.read()
 
 
 def expect(found, status, output, errors):
