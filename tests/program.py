@@ -5,8 +5,9 @@ usage: tests/program.py [PROGRAM]
 
 PROGRAM is crates/boruvka/out/boruvka if none is named. The cases stand in tests/cases, by subject; running.py there
 says how they run the program. Memory is refused, and what goes to sockets is seen, by small libraries that are
-preloaded (tests/refusing.c, tests/failing.c, built by cc into a temporary folder). Python's standard library, a shell
-and a C compiler are all that it needs. The last line is `N passed, M failed`, and the status is 0 only where none
+preloaded (tests/refusing.c, tests/failing.c, built by cc into a temporary folder). The recipes of docs/RECIPES.md are
+run as they stand; a picture is drawn only where `dot` is there. Else Python's standard library, a shell with its usual
+tools and a C compiler are all that it needs. The last line is `N passed, M failed`, and the status is 0 only where none
 failed.
 """
 import os
@@ -17,7 +18,7 @@ import time
 
 sys.dont_write_bytecode = True
 
-from cases import words, streams, memory  # noqa: F401, I001 (they run in this order)
+from cases import words, streams, memory, documents  # noqa: F401, I001 (they run in this order)
 from cases.running import CASES, Program
 
 
