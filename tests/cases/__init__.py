@@ -1,0 +1,1 @@
+"""The cases that tests/program.py runs, by subject."""

@@ -1,0 +1,144 @@
+"""Refused memory: each allocation in turn, alone and with all that follow; little address space."""
+import os
+import resource
+
+from cases.running import NO_MEMORY, SMALL_FOREST, SMALL_NET, SMALL_REPORT, Report, built, case, drawn_graph, expect, ran, written
+from cases.workers import over
+
+
+def refused(room, words, source, first, last):
+    """What the program did with the allocations from the first to the last refused, and how many were."""
+    reader, writer = os.pipe()
+    env = {**os.environ, "LD_PRELOAD": built(room, "refusing"), "REFUSED": str(writer), "REFUSE_FIRST": str(first)}
+    if last:
+        env["REFUSE_LAST"] = str(last)
+    try:
+        found = ran(words, source, env=env, pass_fds=[writer])
+    finally:
+        os.close(writer)
+    with os.fdopen(reader, "rb") as it:
+        return found, len(it.read())
+
+
+def each_refused(room, words, source, output, errors):
+    """Refuses each allocation in turn, alone and with all that follow, until none is left to refuse."""
+    for is_alone in (False, True):
+        first = 1
+        while True:
+            found, count = refused(room, words, source, first, first if is_alone else None)
+            # a refused growth may be made good by a smaller one
+            if not count or is_alone and found[0] == 0:
+                expect(found, 0, output, errors)
+            else:
+                expect(found, 4, b"", NO_MEMORY)
+            if not count:
+                break
+            first += 1
+        if first < 5:
+            raise AssertionError(f"only {first - 1} allocations were refused: is the library preloaded?")
+
+
+def each_refused_over_workers(room, source, output, workers, shards):
+    """The same over workers: one that finds no memory is left out, or its line closed, and then the run goes on."""
+    words = [*over(workers, shards), "--report"]
+    for is_alone in (False, True):
+        first = 1
+        while True:
+            found, count = refused(room, words, source, first, first if is_alone else None)
+            expect_right_or_no_memory(found, output, workers, shards)
+            if not count:
+                expect(found[:2] + (b"",), 0, output, b"")
+                break
+            first += 1
+        if first < 50:
+            raise AssertionError(f"only {first - 1} allocations were refused: is the library preloaded?")
+
+
+def expect_right_or_no_memory(found, output, workers, shards):
+    if found[:2] == (0, output):
+        Report(found[2]).expect_equations(shards, workers)
+    else:
+        expect(found, 4, b"", NO_MEMORY)
+
+
+@case
+def the_first_allocation_refused(room):
+    found, count = refused(room, ["--plain"], SMALL_NET, 1, None)
+    expect((found[0], found[1], found[2]), 4, b"", NO_MEMORY)
+    expect((count > 0, b"", b""), True, b"", b"")
+
+
+@case
+def each_allocation_of_a_run_refused(room):
+    each_refused(room, ["--plain", "--report"], SMALL_NET, SMALL_FOREST, SMALL_REPORT)
+
+
+@case
+def each_allocation_of_a_longer_run_refused(room):
+    file, text = drawn_graph(5, 800, 3000)
+    each_refused(room, ["--plain"], file, text, b"")
+
+
+@case
+def each_allocation_of_a_named_file_refused(room):
+    name = written(f"{room}/net.gr", SMALL_NET)
+    each_refused(room, ["--plain", name], b"", SMALL_FOREST, b"")
+
+
+@case
+def each_allocation_of_a_run_over_workers_refused(room):
+    each_refused_over_workers(room, SMALL_NET, SMALL_FOREST, 2, 4)
+    each_refused_over_workers(room, SMALL_NET, SMALL_FOREST, 0, 2)
+
+
+@case
+def each_allocation_of_the_help_refused(room):
+    each_refused(room, ["--help"], b"", ran(["--help"])[1], b"")
+
+
+def in_space(size, words, source=b""):
+    """What the program did with so many bytes of address space."""
+
+    def limit():
+        resource.setrlimit(resource.RLIMIT_AS, (size, size))
+
+    return ran(words, source, preexec_fn=limit)
+
+
+def least_space_for_help():
+    """The least address space, in whole pages, in which the help is told."""
+    page = resource.getpagesize()
+    short, enough = 0, 1 << 18
+    while enough - short > 1:
+        middle = (short + enough) // 2
+        if in_space(middle * page, ["--help"])[0] == 0:
+            enough = middle
+        else:
+            short = middle
+    return enough * page
+
+
+def grown_space(last):
+    """Thirty sizes of address space, from the least for the help to the last, which grow faster and faster."""
+    least = least_space_for_help()
+    return [least + (last - least) * step**2 // 29**2 for step in range(30)]
+
+
+@case
+def little_address_space(_room):
+    file, text = drawn_graph(8, 30_000, 200_000)
+    for size in grown_space(32 << 20):
+        found = in_space(size, ["--plain"], file)
+        if found != (0, text, b""):
+            expect(found, 4, b"", NO_MEMORY)
+    expect(found, 0, text, b"")
+
+
+@case
+def little_address_space_for_workers(_room):
+    file, text = drawn_graph(7, 3000, 10_000)
+    for size in grown_space(1 << 30):
+        found = in_space(size, [*over(2, 4), "--report"], file)
+        expect_right_or_no_memory(found, text, 2, 4)
+    # in a gigabyte both workers have their threads
+    expect((Report(found[2]).alone, b"", b""), 0, b"", b"")

@@ -1,0 +1,130 @@
+"""How the cases run the program, and what they compare.
+
+A case is a function whose name says what it shows; it is given a folder of its own, empty at first. Its statuses,
+standard outputs and standard errors are compared with what is written in it, and never with what the program said
+before. The forest of a drawn graph is computed here, by Kruskal's algorithm over Python's own sort.
+"""
+import os
+import random
+import re
+import shutil
+import subprocess
+
+TESTS = os.path.dirname(os.path.dirname(os.path.realpath(__file__)))
+ROOT = os.path.dirname(TESTS)
+SECONDS = 60
+
+SMALL_NET = b"c a small net\np sp 6 8\na 1 2 17\nc the usual shape\na 1 3 10\na 2 4 2\na 3 5 0\na 4 3 0\na 4 6 3\na 5 2 0\na 5 6 20\n"
+SMALL_FOREST = b"p sp 6 5\na 2 5 0\na 3 4 0\na 3 5 0\na 4 6 3\na 1 3 10\n"
+SMALL_REPORT = b"vertices=6 links=8 rounds=0 shards=0 asked=0 answered=0 alone=0 closed=0\n"
+NO_MEMORY = b"boruvka: no memory\n"
+NOTHING_WRITTEN = b"boruvka: write failed after 0 bytes\n"
+
+CASES = []
+
+
+class Program:
+    """The program that is tried; its path is set before the first case runs."""
+
+    path = f"{ROOT}/crates/boruvka/out/boruvka"
+
+
+def case(function):
+    CASES.append(function)
+    return function
+
+
+def run(words, source=b"", output=subprocess.PIPE, seconds=SECONDS, **more):
+    """Status, standard output and standard error."""
+    ended = subprocess.run(words, input=source, stdout=output, stderr=subprocess.PIPE, timeout=seconds, **more)
+    return ended.returncode, ended.stdout, ended.stderr
+
+
+def ran(words, source=b"", output=subprocess.PIPE, **more):
+    """The same of the program with these words."""
+    return run([Program.path, *words], source, output, **more)
+
+
+def told_by(room, words, source, environment, **more):
+    """What was run with tests/failing.c preloaded did, and what that library told: an `x` for each call that failed, and
+    a `T` for each text for the user that went to a socket."""
+    reader, writer = os.pipe()
+    env = {**os.environ, "LD_PRELOAD": built(room, "failing"), "TOLD": str(writer), **environment}
+    try:
+        found = run(words, source, env=env, pass_fds=[writer], **more)
+    finally:
+        os.close(writer)
+    with os.fdopen(reader, "rb") as it:
+        return found, it.read()
+
+
+def expect(found, status, output, errors):
+    wanted = (status, output, errors)
+    if found != wanted:
+        raise AssertionError(f"wanted {wanted!r:.600}\n    found  {found!r:.600}")
+
+
+def built(room, name):
+    """The library of tests/NAME.c, which is preloaded before the program; built once."""
+    made = f"{room}/../{name}.so"
+    if not os.path.exists(made):
+        compiler = next((it for it in (os.environ.get("CC"), "cc", "gcc", "clang") if it and shutil.which(it)), None)
+        if not compiler:
+            raise AssertionError(f"there is no C compiler (cc, gcc or clang) to build tests/{name}.c")
+        subprocess.run([compiler, "-O1", "-shared", "-fPIC", "-o", made, f"{TESTS}/{name}.c"], check=True)
+    return made
+
+
+def written(path, source):
+    with open(path, "wb") as it:
+        it.write(source)
+    return path
+
+
+def drawn_graph(seed, vertices, arcs):
+    """A file with loops, repeats and equal weights, and the text of its forest."""
+    draw = random.Random(seed)
+    rows = [(draw.randint(1, vertices), draw.randint(1, vertices), draw.randint(-50, 50)) for _ in range(arcs)]
+    file = f"p sp {vertices} {arcs}\n" + "".join(f"a {u} {v} {w}\n" for u, v, w in rows)
+    parent = list(range(vertices + 1))
+
+    def root(v):
+        while parent[v] != v:
+            parent[v] = parent[parent[v]]
+            v = parent[v]
+        return v
+
+    taken = []
+    for weight, low, high in sorted((w, min(u, v), max(u, v)) for u, v, w in rows if u != v):
+        if root(low) != root(high):
+            parent[root(low)] = root(high)
+            taken.append((weight, low, high))
+    text = f"p sp {vertices} {len(taken)}\n" + "".join(f"a {low} {high} {weight}\n" for weight, low, high in taken)
+    return file.encode(), text.encode()
+
+
+REPORT = re.compile(rb"vertices=(\d+) links=(\d+) rounds=(\d+) shards=(\d+) asked=(\d+) answered=(\d+) alone=(\d+) closed=(\d+)\n")
+
+
+class Report:
+    """The counts of a report line, between which the equations of every run over workers hold."""
+
+    def __init__(self, line):
+        found = REPORT.fullmatch(line)
+        if not found:
+            raise AssertionError(f"no report line: {line!r:.300}")
+        counts = [int(it) for it in found.groups()]
+        self.vertices, self.links, self.rounds, self.shards, self.asked, self.answered, self.alone, self.closed = counts
+
+    def expect_equations(self, shards, workers):
+        """The equations, and that nothing is scanned alone while a line is open."""
+        equations = {
+            "shards": self.shards == shards,
+            "asked = answered + closed": self.asked == self.answered + self.closed,
+            "answered + alone = (rounds + 1) * shards": self.answered + self.alone == (self.rounds + 1) * shards,
+            "closed is at most the number of workers": self.closed <= workers,
+            "2^rounds is at most max(1, vertices)": 2**self.rounds <= max(1, self.vertices),
+        }
+        for name, holds in equations.items():
+            if not holds:
+                raise AssertionError(f"not so: {name}: {vars(self)}")

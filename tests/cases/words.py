@@ -1,0 +1,105 @@
+"""Words, files and what is told of them: statuses 0 to 3 by the words, FILE and what the file says."""
+import os
+
+from cases.running import SMALL_FOREST, SMALL_NET, SMALL_REPORT, case, drawn_graph, expect, ran, written
+
+
+@case
+def standard_input_to_standard_output(_room):
+    for words in [[], ["--plain"]]:
+        expect(ran(words, SMALL_NET), 0, SMALL_FOREST, b"")
+
+
+@case
+def a_file_by_its_name(room):
+    written(f"{room}/net.gr", SMALL_NET)
+    for words in [[], ["--plain"]]:
+        expect(ran([*words, "net.gr"], cwd=room), 0, SMALL_FOREST, b"")
+
+
+@case
+def the_report_of_a_file(room):
+    written(f"{room}/net.gr", SMALL_NET)
+    expect(ran(["--plain", "--report", "net.gr"], cwd=room), 0, SMALL_FOREST, SMALL_REPORT)
+
+
+@case
+def a_file_whose_name_has_300_bytes(room):
+    os.mkdir(f"{room}/{'a' * 139}")
+    name = f"{'a' * 139}/{'b' * 160}"
+    assert len(name) == 300
+    written(f"{room}/{name}", SMALL_NET)
+    expect(ran(["--plain", name], cwd=room), 0, SMALL_FOREST, b"")
+
+
+@case
+def drawn_graphs(_room):
+    for seed, vertices, arcs in [(1, 3, 40), (2, 40, 30), (3, 300, 2000), (4, 5000, 60000)]:
+        file, text = drawn_graph(seed, vertices, arcs)
+        expect(ran(["--plain"], file), 0, text, b"")
+
+
+@case
+def the_help(_room):
+    for word in ["--help", "-h"]:
+        status, output, errors = ran([word], SMALL_NET)
+        expect((status, b"", errors), 0, b"", b"")
+        lines = output.decode().split("\n")
+        first = "Computes the minimum spanning forest of a graph in the .gr format."
+        for line in [first, "Usage: boruvka [OPTIONS] [FILE]"]:
+            if line not in lines:
+                raise AssertionError(f"the help has no line {line!r}")
+        for option in ["--workers <N>", "--shards <S>", "--plain", "--report", "--help"]:
+            if option not in output.decode():
+                raise AssertionError(f"the help doesn't name {option}")
+
+
+# What the file says
+
+
+@case
+def a_malformed_file(room):
+    expect(ran(["--plain"], b"a 1 2 3\np sp 2 1\n"), 1, b"", b"boruvka: line 1: NoProblemYet\n")
+    expect(ran(["--plain"], b""), 1, b"", b"boruvka: line 1: MissingProblem\n")
+    written(f"{room}/short.gr", b"p sp 2 2\na 1 2 5")
+    expect(ran(["--plain", "--report", "short.gr"], cwd=room), 1, b"", b"boruvka: line 3: MissingArcs\n")
+
+
+# Wrong words
+
+
+@case
+def wrong_words(_room):
+    usage = b"\n\nUsage: boruvka [OPTIONS] [FILE]\n\nFor more information, try '--help'.\n"
+    tip = b"\n\n  tip: to pass '--wrong' as a value, use '-- --wrong'"
+    expect(ran(["--wrong"], SMALL_NET), 2, b"", b"error: unexpected argument '--wrong' found" + tip + usage)
+    for words in [["--workers=65"], ["--workers=-1"], ["--shards=0"], ["--shards", "4097"], ["--workers"], ["a", "b"]]:
+        for more in [[], ["--plain"]]:
+            status, output, errors = ran([*more, *words], SMALL_NET)
+            expect((status, output, errors[:7]), 2, b"", b"error: ")
+
+
+@case
+def a_word_that_is_not_utf_8(_room):
+    expect(ran([b"--plain", b"\xff.gr"], SMALL_NET), 2, b"", b"boruvka: a word is not UTF-8\n")
+
+
+# A FILE that isn't there
+
+
+@case
+def a_file_that_cannot_be_opened(room):
+    expect(ran(["--plain", "none.gr"], SMALL_NET, cwd=room), 3, b"", b"boruvka: cannot open none.gr\n")
+    expect(ran(["--plain", ""], SMALL_NET, cwd=room), 3, b"", b"boruvka: cannot open \n")
+    expect(ran(["--plain", "-"], SMALL_NET, cwd=room), 3, b"", b"boruvka: cannot open -\n")
+
+
+@case
+def a_name_of_300_bytes_that_cannot_be_opened(room):
+    name = "n" * 300
+    expect(ran(["--plain", name], SMALL_NET, cwd=room), 3, b"", f"boruvka: cannot open {name}\n".encode())
+
+
+@case
+def a_folder_in_place_of_a_file(room):
+    expect(ran(["--plain", "."], SMALL_NET, cwd=room), 3, b"", b"boruvka: line 1: read failed\n")

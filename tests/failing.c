@@ -1,0 +1,133 @@
+/* Preloaded before a program: makes chosen calls of its sockets and threads fail, and tells what goes to a socket.
+ *
+ * FAIL_CALL is the name of a call (listen, connect, accept, recv, send, thread, and others below), FAIL_NUMBER the
+ * number of the first that fails, from 1, and FAIL_LAST that of the last (none: the first alone). FAIL_HOW says how a
+ * recv or a send fails: "error" (none: this), "interrupted", or "end" (a recv gives 0 bytes, a send takes none).
+ * For each call that fails an 'x' goes to the descriptor TOLD. With SHORT each recv, read and send is of one byte.
+ * Where words for the user (a forest, a report, a fault) are written to a socket, or a socket is read as a file, a
+ * 'T' goes to TOLD. It takes no memory itself. */
+#define _GNU_SOURCE
+#include <dlfcn.h>
+#include <errno.h>
+#include <pthread.h>
+#include <stdatomic.h>
+#include <stdlib.h>
+#include <string.h>
+#include <sys/socket.h>
+#include <sys/stat.h>
+#include <unistd.h>
+
+static const char *chosen = "", *how = "error";
+static unsigned long first, last;
+static atomic_ulong counted;
+static int told = -1, is_short;
+
+static unsigned long number(const char *name, unsigned long otherwise) {
+    const char *text = getenv(name);
+    return text ? strtoul(text, 0, 10) : otherwise;
+}
+
+__attribute__((constructor)) static void begin(void) {
+    told = (int)number("TOLD", (unsigned long)-1);
+    first = number("FAIL_NUMBER", 0);
+    last = number("FAIL_LAST", first);
+    is_short = getenv("SHORT") != 0;
+    how = getenv("FAIL_HOW") ? getenv("FAIL_HOW") : how;
+    chosen = getenv("FAIL_CALL") ? getenv("FAIL_CALL") : chosen;
+}
+
+#define REAL(name) ((__typeof__(&name))dlsym(RTLD_NEXT, #name))
+
+static void tell(const char *what) {
+    if (told >= 0 && REAL(write)(told, what, 1) < 0) {
+        _exit(99);
+    }
+}
+
+static int fails(const char *name, int error) {
+    if (!first || strcmp(name, chosen)) {
+        return 0;
+    }
+    unsigned long at = atomic_fetch_add(&counted, 1) + 1;
+    if (at < first || at > last) {
+        return 0;
+    }
+    tell("x");
+    errno = strcmp(how, "interrupted") ? error : EINTR;
+    return 1;
+}
+
+/* what a failing recv or send answers */
+static ssize_t failed(void) { return strcmp(how, "end") ? -1 : 0; }
+
+static int is_socket(int fd) {
+    struct stat it;
+    int before = errno, answer = !fstat(fd, &it) && S_ISSOCK(it.st_mode);
+    errno = before;
+    return answer;
+}
+
+/* frames begin with a small number, and words for the user with a letter */
+static void look(int fd, const void *bytes, size_t count) {
+    if (count && *(const unsigned char *)bytes >= 'A' && is_socket(fd)) {
+        tell("T");
+    }
+}
+
+static size_t at_most(size_t count) { return is_short && count ? 1 : count; }
+
+int socket(int domain, int type, int protocol) {
+    return fails("socket", EMFILE) ? -1 : REAL(socket)(domain, type, protocol);
+}
+
+int bind(int fd, const struct sockaddr *name, socklen_t size) {
+    return fails("bind", EADDRINUSE) ? -1 : REAL(bind)(fd, name, size);
+}
+
+int listen(int fd, int backlog) { return fails("listen", EADDRINUSE) ? -1 : REAL(listen)(fd, backlog); }
+
+int getsockname(int fd, struct sockaddr *name, socklen_t *size) {
+    return fails("getsockname", ENOBUFS) ? -1 : REAL(getsockname)(fd, name, size);
+}
+
+int setsockopt(int fd, int level, int option, const void *value, socklen_t size) {
+    return fails("setsockopt", ENOBUFS) ? -1 : REAL(setsockopt)(fd, level, option, value, size);
+}
+
+int connect(int fd, const struct sockaddr *name, socklen_t size) {
+    return fails("connect", ECONNREFUSED) ? -1 : REAL(connect)(fd, name, size);
+}
+
+int accept(int fd, struct sockaddr *name, socklen_t *size) {
+    return fails("accept", ECONNABORTED) ? -1 : REAL(accept)(fd, name, size);
+}
+
+int accept4(int fd, struct sockaddr *name, socklen_t *size, int flags) {
+    return fails("accept", ECONNABORTED) ? -1 : REAL(accept4)(fd, name, size, flags);
+}
+
+ssize_t recv(int fd, void *into, size_t count, int flags) {
+    return fails("recv", ECONNRESET) ? failed() : REAL(recv)(fd, into, at_most(count), flags);
+}
+
+ssize_t send(int fd, const void *bytes, size_t count, int flags) {
+    look(fd, bytes, count);
+    return fails("send", ECONNRESET) ? failed() : REAL(send)(fd, bytes, at_most(count), flags);
+}
+
+/* of files and streams; a socket is read by recv and written by send */
+ssize_t read(int fd, void *into, size_t count) {
+    if (is_socket(fd)) {
+        tell("T");
+    }
+    return REAL(read)(fd, into, at_most(count));
+}
+
+ssize_t write(int fd, const void *bytes, size_t count) {
+    look(fd, bytes, count);
+    return REAL(write)(fd, bytes, count);
+}
+
+int pthread_create(pthread_t *made, const pthread_attr_t *how_made, void *(*run)(void *), void *with) {
+    return fails("thread", EAGAIN) ? EAGAIN : REAL(pthread_create)(made, how_made, run, with);
+}
