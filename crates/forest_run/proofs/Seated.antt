@@ -5,7 +5,7 @@ use Rattle.std.proofs.lemmas.List.{map-append}
 use Rattle.std.proofs.lemmas.List.Sums.{sum_by-cons}
 use Rattle.std.proofs.lemmas.List.Concat.{flat_map-append, flat_map-cons}
 use Rattle.std.proofs.lemmas.List.Elements.{All-append, All-head, All-tail}
-use Rattle.claim_board.specs.State.{BoardState, SeatState, AreSeats, IsFresh, all_held}
+use Rattle.claim_board.specs.State.{BoardState, SeatState, AreSeats, IsUnusedSeat, all_held}
 use Rattle.claim_board.specs.Machine.{held}
 use Rattle.frames.specs.AnswerValue.{AnswerValue}
 use Rattle.round_core.specs.Page.{Page}
@@ -34,7 +34,7 @@ seat_at Q (l ∷ ls) a (suc i) d b = seat_at Q ls (all_rest Q (option_to_list l.
 
 pub ready_all : {P : Type 0} (state : P → PortState) (board : BoardState) (page : Page) (labels : List ℕ) (xs ys : List (LaneState P))
     → IsBoardOf board page → IsBookUnder page labels → All (λ (l : LaneState P). IsBound state page l.port) xs → All IsIdle xs
-    → All (λ (l : LaneState P). length page.cut ≤ l.room) xs → Each (GotSeat state) xs ys → All (IsFresh board) (seats_of ys) → All (IsReady state board page labels) ys
+    → All (λ (l : LaneState P). length page.cut ≤ l.room) xs → Each (GotSeat state) xs ys → All (IsUnusedSeat board) (seats_of ys) → All (IsReady state board page labels) ys
 ready_all state board page labels xs ys board_is round bound idle room got fresh i d b =
     let within : i < length xs = omega (arith, each_length (GotSeat state) xs ys got) in
     let r = each_at (GotSeat state) xs ys got i d within in
@@ -45,7 +45,7 @@ ready_all state board page labels xs ys board_is round bound idle room got fresh
       round = round;
       bound = subst (λ p. IsBound state page p) (sym e) k;
       seated = ap (λ p. (state p).is_open) e ∙ sym r.seat;
-      seat = seat_at (IsFresh board) ys fresh i d b;
+      seat = seat_at (IsUnusedSeat board) ys fresh i d b;
       none_kept = r.kept ∙ (idle i d within).none_kept;
       room = rw r.room (room i d within);
     }

@@ -1,6 +1,6 @@
 -- A lane before its ferry and after it.
 use Rattle.std.specs.Prelude.{◌≡◌, ℕ, ◌+◌, ◌*◌, ◌/◌, ◌%◌, ◌≤◌, List, [], length, Vec, Option, Some, None, All, IfSome, is_some, vec_capacity}
-use Rattle.claim_board.specs.State.{BoardState, SeatState, IsFresh}
+use Rattle.claim_board.specs.State.{BoardState, SeatState, IsUnusedSeat}
 use Rattle.claim_board.specs.Machine.{held}
 use Rattle.frames.specs.AnswerValue.{AnswerValue}
 use Rattle.round_core.specs.Page.{Page}
@@ -15,7 +15,7 @@ pub record IsReady {P : Type 0} (state : P → PortState) (board : BoardState) (
   pub round : IsBookUnder page labels
   pub bound : IsBound state page lane.port
   pub seated : (state lane.port).is_open ≡ is_some lane.seat
-  pub seat : IfSome lane.seat (IsFresh board)
+  pub seat : IfSome lane.seat (IsUnusedSeat board)
   pub none_kept : lane.kept ≡ []
   pub room : length page.cut ≤ lane.room
 

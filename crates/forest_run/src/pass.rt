@@ -1,6 +1,6 @@
 //! A pass: one ferry for each lane with an open port, and the kept answers into the book.
 ghost use Rattle.std.specs.Prelude.{◌≡◌, ◌<◌, ◌≤◌, length, All};
-ghost use Rattle.claim_board.specs.State.{AreSeats, IsFresh};
+ghost use Rattle.claim_board.specs.State.{AreSeats, IsUnusedSeat};
 ghost use Rattle.claim_board.specs.declared.most.TheConstants.{MOST_SEATS};
 ghost use Rattle.forest_run.specs.Lanes.{open_of, IsIdle};
 ghost use Rattle.forest_run.specs.Bounds.{IsBookUnder, IsBoardOf, IsBound};
@@ -29,7 +29,7 @@ fn ride<A: Allocator + Copy + Send + Sync, P: Port<A> + Send + Drop, R: Threads 
     requires board { IsBoardOf board book.old }
     requires one_each { board.seats ≡ open_of P.state lanes.old }
     requires seats { AreSeats board row.items }
-    requires fresh { All (IsFresh board) row.items }
+    requires fresh { All (IsUnusedSeat board) row.items }
     requires round { IsBookUnder book.old labels.now }
     requires bound { All (λ lane. IsBound P.state book.old lane.port) lanes.old }
     requires idle { All IsIdle lanes.old }

@@ -1,7 +1,7 @@
 use Rattle.std.proofs.Common.{arith, ◌≡◌, ◌∙◌, ap, sym, ◌++◌, length}
 use Rattle.std.specs.Prelude.{All, reverse}
 use Rattle.std.proofs.lemmas.List.{reverse-reverse}
-use Rattle.claim_board.specs.State.{AreSeats, IsFresh, all_held}
+use Rattle.claim_board.specs.State.{AreSeats, IsUnusedSeat, all_held}
 use Rattle.forest_run.specs.Asks.{shards_of}
 use Rattle.forest_run.specs.Ferries.{FerryWent}
 use Rattle.forest_run.specs.Lanes.{seats_of, all_kept}
@@ -16,7 +16,7 @@ use Rattle.forest_run.proofs.pass.ride.Goals as goal
 pub cross-requires-clause-ready : goal.cross-requires-clause-ready
 cross-requires-clause-ready g c κs within =
     let row : seats_of c.deal.new.lanes ≡ c.args.row.items = c.deal.ensures.seats ∙ (ap reverse c.reverse.ensures.items ∙ reverse-reverse c.args.row.items) in
-    let fresh : All (IsFresh c.args.board) (seats_of c.deal.new.lanes) = rw row c.requires.fresh in
+    let fresh : All (IsUnusedSeat c.args.board) (seats_of c.deal.new.lanes) = rw row c.requires.fresh in
     ready_all g.P.Port.state c.args.board c.args.book.now c.args.labels.now c.args.lanes.now c.deal.new.lanes c.requires.board c.requires.round c.requires.bound c.requires.idle c.requires.room c.deal.ensures.lanes fresh
 
 pub gather-requires : goal.gather-requires
