@@ -1,6 +1,6 @@
 -- What a run over lines did, by what its steps say.
-use Rattle.std.proofs.Common.{◌≡◌, ℕ, zero, suc, ◌+◌, ◌*◌, ◌<◌, ◌≤◌, ◌^◌, ◌⊎◌, inl, inr, true, List, [], ◌∷◌, ◌++◌, length, get_or, map, Some, None, Ok, Err, refl, sym, ap, subst, ◌∙◌, arith}
-use Rattle.std.specs.Prelude.{All, AllPairs, Contains, Result, Vec, max, filter}
+use Rattle.std.proofs.Common.{◌≡◌, ℕ, zero, suc, ◌+◌, ◌<◌, ◌≤◌, ◌^◌, ◌⊎◌, inl, inr, true, List, [], ◌∷◌, length, get_or, map, None, Ok, Err, refl, sym, ap, subst, ◌∙◌, arith}
+use Rattle.std.specs.Prelude.{All, Contains, max, filter}
 use Rattle.std.proofs.lemmas.List.{length-append, length-map, get_or_append_left, get_or-append-add}
 use Rattle.std.proofs.lemmas.List.Elements.{All-head, All-tail}
 use Rattle.std.proofs.lemmas.List.Sorted.{IsPermutation-remove, length_permutation, Contains-permutation}
@@ -24,16 +24,15 @@ use Rattle.gr_text.proofs.Texts.{means_one_graph}
 use Rattle.round_core.specs.declared.solver.SolveFault.{SolveFault}
 use Rattle.round_core.specs.declared.solver.SolveFault.TheVariants as solving
 use Rattle.ports.specs.Lines.{LineState}
-use Rattle.ports.specs.Wires.{WireState, IsNewWire, port_of, IsHonestWire, IsSoundWire, WireGave}
+use Rattle.ports.specs.Wires.{WireState, port_of}
 use Rattle.forest_run.specs.declared.cutting.Cutting.{Cutting}
-use Rattle.forest_run.specs.declared.fault.RunFault.{RunFault}
 use Rattle.forest_run.specs.declared.fault.RunFault.TheVariants as fault
 use Rattle.forest_run.specs.declared.report.Report.{Report}
 use Rattle.forest_run.specs.Lanes.{LaneState, one_if, open_of}
 use Rattle.forest_run.specs.Cuttings.{cut_refusal, IsCutOf}
 use Rattle.forest_run.specs.Outcomes.{streams, IsUnsolved}
-use Rattle.forest_run.specs.WiredLines.{AreServed, AreNewLanes, LinesSolved, LinesRefused}
-use Rattle.forest_run.specs.LinesRun.{IsSpanningForest, IsLinesReport, LinesWent, IsRefusedRun, IsLinesFault, told_fault, RanLines, IsHonestReport, IsServedFault, RanServed, IsUnhindered}
+use Rattle.forest_run.specs.WiredLines.{AreServed, LinesSolved, LinesRefused}
+use Rattle.forest_run.specs.LinesRun.{IsSpanningForest, IsLinesReport, LinesWent, IsLinesFault, told_fault, RanLines, IsHonestReport, IsServedFault, RanServed, IsUnhindered}
 use Rattle.forest_run.proofs.PlainRunning.{unsolved}
 use Rattle.forest_run.proofs.NewWires.{served_honest}
 use Rattle.forest_run.proofs.TalkedLines.{have_talked}
