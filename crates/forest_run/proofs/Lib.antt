@@ -16,3 +16,5 @@ pub mod Ending
 mod Telling
 mod PlainRunning
 mod NewWires
+mod TalkedLines
+mod LinesRunning

@@ -1,11 +1,9 @@
 //! A run over lines to workers, from the bytes of a file to the text of its forest.
-ghost use Rattle.std.specs.Prelude.{◌≡◌, ℕ, ◌⊎◌, ◌≤◌, List, [], None, length, All, IfOk, IfErr, OnOk, vec_capacity};
+ghost use Rattle.std.specs.Prelude.{◌≡◌, ℕ, ◌⊎◌, ◌≤◌, List, [], length, All, IfOk, IfErr, OnOk, vec_capacity};
 ghost use Rattle.limits.specs.declared.TheConstants.{MAX_ARCS, MAX_VERTICES, MAX_WORKERS};
-ghost use Rattle.link_key.specs.Cut.{joined, IsCutFault};
+ghost use Rattle.link_key.specs.Cut.{IsCutFault};
 ghost use Rattle.link_key.specs.Link.{EndsUpTo};
-ghost use Rattle.link_key.specs.Forest.{IsForestOf};
 ghost use Rattle.gr_text.specs.Graph.{GraphValue};
-ghost use Rattle.round_theory.specs.Rounds.{IsMergingRounds};
 ghost use Rattle.round_core.specs.declared.solver.SolveFault.TheVariants.{Memory};
 ghost use Rattle.ports.specs.Lines.{HasRoom};
 ghost use Rattle.forest_run.specs.Files.{HasFile, IsFileOf, MeansGraph, MeansNothing, IsFirstFaultOf, IsNoRefusal};
