@@ -15,6 +15,7 @@ module _ {P : Type 0} (state : P → PortState) (honest sound : P → Type 0) (g
   pub stayed : (a : P) → AsksWent state honest sound gave refused a a []
   stayed a = record {
     cut = refl;
+    worker = refl;
     asks = search (rules, arith);
     failures = omega arith;
     wants = omega arith;
@@ -57,6 +58,7 @@ module _ {P : Type 0} (state : P → PortState) (honest sound : P → Type 0) (g
   pub asks_then : (a b c : P) (xs ys : List AnswerValue) → AsksWent state honest sound gave refused a b xs → AsksWent state honest sound gave refused b c ys → AsksWent state honest sound gave refused a c (xs ++ ys)
   asks_then a b c xs ys p q = record {
     cut = q.cut ∙ p.cut;
+    worker = q.worker ∙ p.worker;
     asks = omega (arith, length-append xs ys, p.asks, q.asks);
     failures = omega (arith, p.failures, q.failures);
     wants = omega (arith, p.wants, q.wants);

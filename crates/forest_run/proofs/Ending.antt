@@ -10,6 +10,7 @@ use Rattle.limits.specs.declared.TheConstants.{MAX_SHARDS}
 use Rattle.link_key.specs.declared.links.Link.{Link}
 use Rattle.link_key.specs.Link.{EndsUpTo}
 use Rattle.link_key.specs.Cut.{joined}
+use Rattle.link_key.specs.Forest.{IsForestOf}
 use Rattle.link_key.specs.Labels.{AreLabels}
 use Rattle.frames.specs.AnswerValue.{AnswerValue}
 use Rattle.round_theory.specs.Rounds.{IsMergingRounds}
@@ -303,6 +304,9 @@ module _ {P : Type 0} (state : P → PortState) (honest sound : P → Type 0) (g
       (subst (λ (k : ℕ). RunWent state honest sound gave n cut xs ys solver k alone) same u) in
       let merging : List Page = run.went.merging in
       let last : List Page = run.went.last ∷ [] in
+      let right_forest : AreLightBooks (merging ++ last) → IsForestOf (joined cut) forest = λ light. is_forest (joined cut) solver (run.right light).so_far forest f in
+      let right_rounds : AreLightBooks (merging ++ last) → IsMergingRounds n (joined cut) report.rounds =
+      λ light. rw rounds_are (subst (λ (m : ℕ). IsMergingRounds m (joined cut) solver.rounds) run.vertices_are (run.right light).all) in
       record {
         solver = solver;
         picks = run.picks;
@@ -321,6 +325,8 @@ module _ {P : Type 0} (state : P → PortState) (honest sound : P → Type 0) (g
         named = λ none l l_in.
             named_given state honest sound gave cut xs ys (merging ++ last) report.answered report.alone run.went.rounds none l
             (let q = All-contains (IsNamedIn merging) solver.taken l run.named ((f.same l).0 l_in) in (q.0, Contains-append_left merging last q.0 q.1, q.2));
-        honest_forest = λ h. (let r = run.right (run.went.rounds.light h) in is_forest (joined cut) solver r.so_far forest f);
-        honest_rounds = λ h. rw rounds_are (subst (λ (m : ℕ). IsMergingRounds m (joined cut) solver.rounds) run.vertices_are (run.right (run.went.rounds.light h)).all);
+        light_forest = right_forest;
+        light_rounds = right_rounds;
+        honest_forest = λ h. right_forest (run.went.rounds.light h);
+        honest_rounds = λ h. right_rounds (run.went.rounds.light h);
       }

@@ -1,8 +1,8 @@
 -- That no two kept answers are for one shard of one round, and that a book stays one.
-use Rattle.std.proofs.Common.{◌≡◌, ℕ, zero, suc, ◌+◌, ◌-◌, ◌<◌, ◌≤◌, ◌⊎◌, inl, inr, Bool, true, false, List, [], ◌∷◌, ◌++◌, length, get_or, map, replicate, set, refl, ap, sym, subst, ◌∙◌, arith, length-append, None}
+use Rattle.std.proofs.Common.{◌≡◌, ℕ, zero, suc, ◌-◌, ◌<◌, ◌≤◌, inl, inr, true, false, List, [], ◌∷◌, ◌++◌, length, get_or, replicate, refl, ap, sym, subst, ◌∙◌, arith, length-append, None}
 use Rattle.std.specs.Prelude.{All, Contains, Option}
 use Rattle.std.proofs.lemmas.Bool.{cases_lt}
-use Rattle.std.proofs.lemmas.List.{get_or_append_left, get_or-append_right, length-replicate, get_or-replicate, length-map, get_or-map}
+use Rattle.std.proofs.lemmas.List.{get_or_append_left, get_or-append_right, length-replicate, get_or-replicate, length-map}
 use Rattle.std.proofs.lemmas.List.Elements.{Contains-append_left, Contains-append_right, All-contains_itself}
 use Rattle.limits.specs.declared.TheConstants.{MAX_SHARDS}
 use Rattle.link_key.specs.declared.links.Link.{Link}
@@ -13,7 +13,7 @@ use Rattle.round_core.specs.Page.{Page, IsPage, IsBook, opened, heard, is_taken}
 use Rattle.round_core.proofs.Books.{book_opened}
 use Rattle.round_core.proofs.Full.{book_heard}
 use Rattle.forest_run.specs.Lanes.{LaneState, all_kept}
-use Rattle.forest_run.specs.Asks.{AreForOne, IsTaken, shards_of}
+use Rattle.forest_run.specs.Asks.{AreForOne, shards_of}
 use Rattle.forest_run.specs.Passes.{AreOnce}
 use Rattle.forest_run.specs.Taking.{heard_all, AreTaken}
 use Rattle.forest_run.proofs.AsksThen.{either}

@@ -1,5 +1,5 @@
 -- What passes did over all lanes.
-use Rattle.std.proofs.Common.{◌≡◌, ℕ, zero, suc, ◌<◌, ◌≤◌, Bool, true, false, List, [], ◌∷◌, ◌++◌, length, get_or, set, refl, ap, sym, subst, ◌∙◌, inl, inr, arith, length-append}
+use Rattle.std.proofs.Common.{◌≡◌, ℕ, zero, suc, ◌<◌, ◌≤◌, Bool, true, false, List, [], ◌∷◌, ◌++◌, length, get_or, refl, ap, sym, subst, ◌∙◌, inl, inr, arith, length-append}
 use Rattle.std.specs.Prelude.{All, Contains, map, IsSome}
 use Rattle.std.proofs.lemmas.List.{get_or-map}
 use Rattle.std.proofs.lemmas.List.Sums.{sum_by-cons}
@@ -169,6 +169,7 @@ light_before p ts t r = (let s = same_round p ts in rw (s.cut, s.round, s.labels
 pub asks_more : {P : Type 0} (state : P → PortState) (honest sound : P → Type 0) (gave : P → List AnswerValue → Type 0) (R Q : ℕ × ℕ → AnswerValue → Type 0) → ((w : ℕ × ℕ) (t : AnswerValue) → R w t → Q w t) → (a b : P) (kept : List AnswerValue) → AsksWent state honest sound gave R a b kept → AsksWent state honest sound gave Q a b kept
 asks_more state honest sound gave R Q h a b kept v = record {
   cut = v.cut;
+  worker = v.worker;
   asks = v.asks;
   failures = v.failures;
   wants = v.wants;

@@ -10,7 +10,7 @@ use Rattle.frames.specs.AnswerValue.{AnswerValue}
 use Rattle.round_core.specs.Page.{Page, IsRight, IsPage, opened, heard, missing}
 use Rattle.ports.specs.Ports.{PortState}
 use Rattle.forest_run.specs.Lanes.{LaneState}
-use Rattle.forest_run.specs.Asks.{IsRefused, IsLight, AreForOne}
+use Rattle.forest_run.specs.Asks.{IsRefused, IsLight}
 use Rattle.forest_run.specs.Bounds.{IsBookUnder}
 use Rattle.forest_run.specs.Taking.{heard_all}
 use Rattle.forest_run.specs.Passes.{AreOnce, PassWent}

@@ -4,14 +4,14 @@ use Rattle.std.specs.Prelude.{Option, Some, None, All, IfSome, option_to_list, f
 use Rattle.std.proofs.lemmas.List.{map-append}
 use Rattle.std.proofs.lemmas.List.Sums.{sum_by-cons}
 use Rattle.std.proofs.lemmas.List.Concat.{flat_map-append, flat_map-cons}
-use Rattle.std.proofs.lemmas.List.Elements.{All-append, All-head, All-tail}
+use Rattle.std.proofs.lemmas.List.Elements.{All-append, All-tail}
 use Rattle.claim_board.specs.State.{BoardState, SeatState, AreSeats, IsUnusedSeat, all_held}
 use Rattle.claim_board.specs.Machine.{held}
 use Rattle.frames.specs.AnswerValue.{AnswerValue}
 use Rattle.round_core.specs.Page.{Page}
 use Rattle.ports.specs.Ports.{PortState}
 use Rattle.forest_run.specs.Lanes.{LaneState, one_if, seats_of, all_kept, asks_of, open_of, IsIdle}
-use Rattle.forest_run.specs.Asks.{IsTaken, IsLight, shards_of}
+use Rattle.forest_run.specs.Asks.{IsTaken, shards_of}
 use Rattle.forest_run.specs.Bounds.{IsBookUnder, IsBoardOf, IsBound}
 use Rattle.forest_run.specs.Ferries.{IsReady, SeatWent, FerryWent}
 use Rattle.forest_run.specs.Seating.{Each, GotSeat}

@@ -36,6 +36,7 @@ FailedMore before after = before.failures + before.wants < after.failures + afte
 -- a port before and after some asks, of which these answers were kept; each answer that wasn't is one that a book refuses, which closed the port
 pub record AsksWent {P : Type 0} (state : P → PortState) (honest sound : P → Type 0) (gave : P → List AnswerValue → Type 0) (refused : ℕ × ℕ → AnswerValue → Type 0) (before after : P) (kept : List AnswerValue) : Type 0 where
   pub cut : (state after).cut ≡ (state before).cut
+  pub worker : (state after).worker ≡ (state before).worker
   -- each ask brought an answer that was kept, but the one that closed the port
   pub asks : (state after).asks + one_if (state after).is_open ≡ (state before).asks + length kept + one_if (state before).is_open
   pub failures : (state before).failures ≤ (state after).failures

@@ -130,6 +130,9 @@ pub record SolveWent {P : Type 0} (state : P → PortState) (honest sound : P �
   pub from_list : All (Contains (joined cut)) forest
   -- where the coordinator scanned nothing, an answer that a lane kept names each link
   pub named : report.alone ≡ 0 → (l : Link) → Contains forest l → (answer : AnswerValue) × IsGivenBy (length before) went.rounds.answers_at answer × Names (hearing_of cut answer) l
-  -- where all ports are honest: the minimum spanning forest, and the number of merging rounds
+  -- where each answer is light, whoever gave it: the minimum spanning forest, and the number of merging rounds
+  pub light_forest : AreLightBooks (went.merging ++ went.last ∷ []) → IsForestOf (joined cut) forest
+  pub light_rounds : AreLightBooks (went.merging ++ went.last ∷ []) → IsMergingRounds n (joined cut) report.rounds
+  -- and so where all ports are honest
   pub honest_forest : AreHonest honest before → IsForestOf (joined cut) forest
   pub honest_rounds : AreHonest honest before → IsMergingRounds n (joined cut) report.rounds
