@@ -1,5 +1,5 @@
 -- What is found of work whose allocations are refused in turn.
-use Rattle.std.specs.Prelude.{◌≡◌, ℕ, ◌+◌, ◌<◌, ◌≤◌, Bool, true, false}
+use Rattle.std.specs.Prelude.{◌≡◌, ℕ, ◌+◌, ◌<◌, ◌≤◌, true, false}
 use Rattle.test_memory.specs.declared.in_turn.Found.{Found}
 use Rattle.test_memory.specs.declared.in_turn.Found.TheVariants.{Each, Passes, Fails, Leaks, More}
 use Rattle.test_memory.specs.declared.in_turn.Ran.{Ran}
