@@ -13,7 +13,7 @@ use Rattle.frames.specs.FrameText.{u16_text, u32_text, link_text, offer_text}
 use Rattle.frames.specs.Lawful.{IsU32, IsShard}
 use Rattle.frames.specs.Refusals.{IsWithItems, IsOtherVersion, IsFrameOf, ShardBegun, IsListBegun, BodyRefused, LinksRefused}
 use Rattle.frames.specs.declared.fault.FrameFault.{FrameFault}
-use Rattle.frames.specs.declared.fault.FrameFault.TheVariants.{BadKind, BadLength, BadField, BadVersion, Ended, Torn, Device, Memory}
+use Rattle.frames.specs.declared.fault.FrameFault.TheVariants.{BadField, Memory}
 use Rattle.frames.proofs.Texts.{u16_length, u32_length, u16_prefix, u32_prefix, link_length, offer_length, items_length, items_same, offer_prefix, FitsOffer}
 use Rattle.frames.proofs.OneText.{two_prefix, labels_fit}
 

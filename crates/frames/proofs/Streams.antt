@@ -10,7 +10,7 @@ use Rattle.frames.specs.Lawful.{IsU32}
 use Rattle.frames.specs.Refusals.{IsPossible, HeadRefused, IsFrameOf, BodyRefused, kind_at, length_at, body_at, HasGoodHead, HasBody, IsInBody, StreamRefused}
 use Rattle.frames.specs.ReadFault.{failures_of, ends_of, IsReadRefused, CutsShort, IsCutShort}
 use Rattle.frames.specs.declared.fault.FrameFault.{FrameFault}
-use Rattle.frames.specs.declared.fault.FrameFault.TheVariants.{BadKind, BadLength, BadField, BadVersion, Ended, Torn, Device, Memory}
+use Rattle.frames.specs.declared.fault.FrameFault.TheVariants.{BadKind, BadLength, BadField, BadVersion, Memory}
 use Rattle.frames.proofs.Texts.{u32_length, u32_again}
 
 -- ---- a head

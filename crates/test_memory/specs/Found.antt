@@ -1,5 +1,5 @@
 -- What is found of work whose allocations are refused in turn.
-use Rattle.std.specs.Prelude.{◌≡◌, ℕ, ◌+◌, ◌<◌, ◌≤◌, Bool, true, false}
+use Rattle.std.specs.Prelude.{◌≡◌, ℕ, ◌+◌, ◌<◌, ◌≤◌, true, false, ⊤}
 use Rattle.test_memory.specs.declared.in_turn.Found.{Found}
 use Rattle.test_memory.specs.declared.in_turn.Found.TheVariants.{Each, Passes, Fails, Leaks, More}
 use Rattle.test_memory.specs.declared.in_turn.Ran.{Ran}
@@ -12,10 +12,10 @@ IsFoundOf number ran (Fails k) = (k ≡ number) × (ran.live ≡ 0) × (ran.aske
 IsFoundOf number ran (Each k) = (k + 1 ≡ number) × (ran.live ≡ 0) × (ran.asked < number) × (ran.well ≡ true)
 IsFoundOf number ran More = ⊥
 
--- the number that is told: of an allocation, or of allocations
-abbrev pub tells : Found → ℕ
-tells (Each k) = k
-tells (Passes k) = k
-tells (Fails k) = k
-tells (Leaks k) = k
-tells More = 0
+-- what may be told where at most so many allocations are refused in turn: fewer allocations than that, or the number of one of them
+abbrev pub IsWithin : ℕ → Found → Type 0
+IsWithin most (Each k) = k < most
+IsWithin most (Passes k) = (0 < k) × (k ≤ most)
+IsWithin most (Fails k) = (0 < k) × (k ≤ most)
+IsWithin most (Leaks k) = (0 < k) × (k ≤ most)
+IsWithin most More = ⊤

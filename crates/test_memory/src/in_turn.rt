@@ -1,5 +1,5 @@
 ghost use Rattle.std.specs.Prelude.{◌≡◌, ℕ, ◌+◌, ◌<◌, ◌≤◌, ◌↔◌, Some, IsTrue};
-ghost use Rattle.test_memory.specs.Found.{IsFoundOf, tells};
+ghost use Rattle.test_memory.specs.Found.{IsFoundOf, IsWithin};
 
 use crate::refusals::Refusals;
 use crate::refusing::Refusing;
@@ -78,7 +78,7 @@ where
     E: Drop,
     F: Fn(&Refusing<B>) -> Result<(), E>,
     requires callable { F.IsAlwaysCallable work }
-    ensures tells { tells result ≤ most }
+    ensures tells { IsWithin most result }
 {
     for before in 0..most {
         let number = before + 1;
