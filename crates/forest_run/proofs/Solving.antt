@@ -1,8 +1,8 @@
 -- What the rounds of a run leave for its end.
-use Rattle.std.proofs.Common.{◌≡◌, ℕ, zero, suc, ◌+◌, ◌-◌, ◌*◌, ◌<◌, ◌≤◌, ◌^◌, List, [], ◌∷◌, ◌++◌, length, get_or, refl, ap, sym, subst, ◌∙◌, arith, Some, None}
+use Rattle.std.proofs.Common.{◌≡◌, ℕ, zero, suc, ◌+◌, ◌-◌, ◌*◌, ◌<◌, ◌≤◌, ◌^◌, List, [], ◌∷◌, ◌++◌, length, get_or, refl, ap, sym, subst, ◌∙◌, arith, length-append, Some, None}
 use Rattle.std.specs.Prelude.{All, Any, Contains, Option, map}
 use Rattle.std.proofs.Math.Nat.{mul-le-mul_right}
-use Rattle.std.proofs.lemmas.List.{get_or_default}
+use Rattle.std.proofs.lemmas.List.{get_or_default, get_or_append_left}
 use Rattle.std.proofs.lemmas.List.Elements.{All-append, All-contains, All-contains_itself, Contains-append_left, Contains-append_right}
 use Rattle.link_key.specs.declared.links.Link.{Link}
 use Rattle.link_key.specs.Cut.{joined}
@@ -55,6 +55,9 @@ named_more books book labels picks taken added are same all =
     let l = get_or added i d in
     let c : Contains added l = All-contains_itself added i d b in
     (book, Contains-append_right books (book ∷ []) book (0, omega arith, refl), picked_named labels (hearings book) picks l are ((same l).0 c))))
+
+pub all_front : {X : Type 0} (P : X → Type 0) (xs ys : List X) → All P (xs ++ ys) → All P xs
+all_front P xs ys all i d b = subst P (get_or_append_left xs ys d i b) (all i d (omega (arith, length-append xs ys)))
 
 any_more : {X : Type 0} (P Q : X → Type 0) (xs : List X) → ((x : X) → P x → Q x) → Any P xs → Any Q xs
 any_more P Q xs h (k, y, lt, at, here) = (k, y, lt, at, h y here)
