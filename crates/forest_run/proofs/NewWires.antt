@@ -7,8 +7,8 @@ use Rattle.std.proofs.lemmas.List.Elements.{All-push, All-nil}
 use Rattle.link_key.specs.declared.links.Link.{Link}
 use Rattle.ports.specs.Lines.{LineState, HasRoom, IsFresh, Tells}
 use Rattle.ports.specs.Talking.{told, IsInStep}
-use Rattle.ports.specs.Wires.{WireState, IsNewWire, port_of, IsHonestWire, IsSoundWire, WireGave}
-use Rattle.ports.proofs.Wiring.{fresh_step}
+use Rattle.ports.specs.Wires.{WireState, IsNewWire, IsCalm, port_of, IsHonestWire, IsSoundWire, WireGave}
+use Rattle.ports.proofs.Wiring.{fresh_step, fresh_calm}
 use Rattle.forest_run.specs.Lanes.{LaneState, IsIdle}
 use Rattle.forest_run.specs.WiredLines.{AreServed, AreNewLanes, lines_of, LinesSolved, LinesRefused}
 use Rattle.forest_run.specs.Solved.{AreHonest, SolveWent, IsSolveFault}
@@ -100,13 +100,17 @@ module _ {L : Type 0} (state : L → LineState) (faithful : L → ℕ → Type 0
   new_step line cut worker wire new fresh tells =
       fresh_step (told state wire.talk) (subst (λ l. IsFresh (state l)) (sym new.line_is) fresh) (subst (λ l. Tells (state l)) (sym new.line_is) tells) new.ungreeted new.nothing_sent
 
+  new_calm : (line : L) (cut : List (List Link)) (worker : ℕ) (wire : WireState L) → IsNewWire line cut worker wire → IsFresh (state line) → Tells (state line) → IsCalm state wire [] []
+  new_calm line cut worker wire new fresh tells =
+      fresh_calm state wire (subst (λ l. IsFresh (state l)) (sym new.line_is) fresh) (subst (λ l. Tells (state l)) (sym new.line_is) tells) new.ungreeted new.nothing_sent new.asks new.failures new.wants new.last
+
   pub new_sound : (line : L) (cut : List (List Link)) (worker : ℕ) (wire : WireState L) → IsNewWire line cut worker wire → IsFresh (state line) → Tells (state line) → IsSoundWire state wire
-  new_sound line cut worker wire new fresh tells opened = ([], [], new_step line cut worker wire new fresh tells)
+  new_sound line cut worker wire new fresh tells = inl ([], [], new_calm line cut worker wire new fresh tells)
 
   pub new_honest : (line : L) (cut : List (List Link)) (worker : ℕ) (wire : WireState L) → IsNewWire line cut worker wire → IsFresh (state line) → Tells (state line) → faithful line worker
       → IsHonestWire state faithful wire
   new_honest line cut worker wire new fresh tells carries =
-      (subst (λ w. faithful wire.talk.line w) (sym new.worker_is) (subst (λ l. faithful l worker) (sym new.line_is) carries), new_sound line cut worker wire new fresh tells)
+      (subst (λ w. faithful wire.talk.line w) (sym new.worker_is) (subst (λ l. faithful l worker) (sym new.line_is) carries), inl ([], [], new_calm line cut worker wire new fresh tells))
 
   -- over lines that are served each wire is honest
   pub served_honest : (lines : List L) (cut : List (List Link)) (lanes : List (LaneState (WireState L))) → AreNewLanes lines cut lanes → AreServed state faithful lines

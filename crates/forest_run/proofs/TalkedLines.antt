@@ -1,5 +1,5 @@
 -- What was said and heard over lines whose wires stayed open.
-use Rattle.std.proofs.Common.{◌≡◌, ℕ, zero, suc, ◌<◌, ◌≤◌, Bool, true, false, List, [], ◌∷◌, length, get_or, map, refl, sym, ap, subst, ◌∙◌, arith}
+use Rattle.std.proofs.Common.{◌≡◌, ◌≢◌, ℕ, zero, suc, ◌<◌, ◌≤◌, Bool, true, false, List, [], ◌∷◌, length, get_or, map, refl, sym, ap, subst, ◌∙◌, arith}
 use Rattle.std.specs.Prelude.{Contains, sum_by}
 use Rattle.std.proofs.lemmas.List.{length-map, get_or-map, append_cancel_left}
 use Rattle.std.proofs.lemmas.List.Elements.{Contains-get_or}
@@ -14,6 +14,9 @@ use Rattle.worker_engine.specs.Serving.{asks_in}
 use Rattle.ports.specs.Lines.{LineState}
 use Rattle.ports.specs.Talking.{Talk, told, frames_got, HasGiven}
 use Rattle.ports.specs.Wires.{WireState, port_of}
+use Rattle.ports.specs.declared.fault.PortFault.{PortFault}
+use Rattle.ports.specs.declared.fault.PortFault.TheVariants.{Closed}
+use Rattle.ports.proofs.Wiring.{calm_open}
 use Rattle.forest_run.specs.declared.report.Report.{Report}
 use Rattle.forest_run.specs.Lanes.{LaneState, one_if, asks_of, open_of}
 use Rattle.forest_run.specs.WiredLines.{AreFresh, LinesSolved, Said, HasTalked, HaveTalked}
@@ -118,7 +121,8 @@ module _ {L : Type 0} (state : L → LineState) (faithful : L → ℕ → Type 0
         let new = solved.new.each i line d within in
         let news = fresh i line within in
         let opened : last.port.is_open ≡ true = each_open (λ (lane : LaneState (WireState L)). lane.port.is_open) solved.ended (omega (arith, still, number)) i d (omega (arith, number)) in
-        let (said, answers, step) = went.sound_is (new_sound state faithful (get_or before i line) cut i first.port new news.0 news.1) opened in
+        let (said, answers, calm) = calm_open state (λ (fault : PortFault). fault ≢ Closed) last.port opened (went.sound_is (new_sound state faithful (get_or before i line) cut i first.port new news.0 news.1)) in
+        let step = calm.in_step in
         let given = went.given opened [] (new_step state faithful (get_or before i line) cut i first.port new news.0 news.1).gave in
         let same : answers ≡ rounds.answers_at i = given_once (told state last.port.talk) answers (rounds.answers_at i) step.gave given in
         let one_open : one_if last.port.is_open ≡ 1 = ap one_if opened in
