@@ -1,5 +1,6 @@
 -- Asks, and more asks after them.
 use Rattle.std.proofs.Common.{◌≡◌, ℕ, ◌⊎◌, inl, inr, Bool, true, false, List, [], ◌∷◌, ◌++◌, refl, ap, sym, subst, ◌∙◌, arith, append_assoc, length-append, rules}
+use Rattle.std.specs.Prelude.{Option, Some, None}
 use Rattle.std.proofs.lemmas.List.{append-nil}
 use Rattle.frames.specs.AnswerValue.{AnswerValue}
 use Rattle.ports.specs.Ports.{PortState}
@@ -10,9 +11,9 @@ pub either : (v : Bool) → (v ≡ true) ⊎ (v ≡ false)
 either true = inl refl
 either false = inr refl
 
-module _ {P : Type 0} (state : P → PortState) (honest sound : P → Type 0) (gave : P → List AnswerValue → Type 0) (refused : ℕ × ℕ → AnswerValue → Type 0) where
+module _ {P : Type 0} (state : P → PortState) (honest sound : P → Type 0) (gave : P → List AnswerValue → Type 0) (closing : ℕ × ℕ → Option AnswerValue → Type 0) where
   -- nothing was done
-  pub stayed : (a : P) → AsksWent state honest sound gave refused a a []
+  pub stayed : (a : P) → AsksWent state honest sound gave closing a a []
   stayed a = record {
     cut = refl;
     worker = refl;
@@ -30,32 +31,33 @@ module _ {P : Type 0} (state : P → PortState) (honest sound : P → Type 0) (g
   }
 
   -- a closed port stays closed
-  closed_stays : (a b : P) (xs : List AnswerValue) → AsksWent state honest sound gave refused a b xs → (state a).is_open ≡ false → (state b).is_open ≡ false
+  closed_stays : (a b : P) (xs : List AnswerValue) → AsksWent state honest sound gave closing a b xs → (state a).is_open ≡ false → (state b).is_open ≡ false
   closed_stays a b xs p f = elim (either (state b).is_open) [ inl e ↦ absurd (let r = (p.opened e).0 in cc) | inr e ↦ e ]
 
   abbrev Cause : P → P → List AnswerValue → Type 0
-  Cause a b kept = FailedMore (state a) (state b) ⊎ ((t : AnswerValue) × refused (state b).last t × ((before : List AnswerValue) → gave a before → gave b ((before ++ kept) ++ t ∷ [])))
+  Cause a b kept = (FailedMore (state a) (state b) × closing (state b).last None) ⊎ ((t : AnswerValue) × closing (state b).last (Some t) × ((before : List AnswerValue) → gave a before → gave b ((before ++ kept) ++ t ∷ [])))
 
   -- it was closed in the second part
-  later : (a b c : P) (xs ys : List AnswerValue) → AsksWent state honest sound gave refused a b xs → AsksWent state honest sound gave refused b c ys → (state b).is_open ≡ true
+  later : (a b c : P) (xs ys : List AnswerValue) → AsksWent state honest sound gave closing a b xs → AsksWent state honest sound gave closing b c ys → (state b).is_open ≡ true
       → Cause b c ys → Cause a c (xs ++ ys)
-  later a b c xs ys p q e (inl r) = inl (omega (arith, r, p.failures, p.wants))
+  later a b c xs ys p q e (inl r) = inl (omega (arith, r.0, p.failures, p.wants), r.1)
   later a b c xs ys p q e (inr r) =
       inr (r.0, r.1, λ before g. subst (λ zs. gave c (zs ++ r.0 ∷ [])) (append_assoc before xs ys) (r.2 (before ++ xs) (p.given e before g)))
 
   -- it was closed in the first part
-  sooner : (a b c : P) (xs ys : List AnswerValue) → AsksWent state honest sound gave refused a b xs → AsksWent state honest sound gave refused b c ys → (state b).is_open ≡ false
+  sooner : (a b c : P) (xs ys : List AnswerValue) → AsksWent state honest sound gave closing a b xs → AsksWent state honest sound gave closing b c ys → (state b).is_open ≡ false
       → Cause a b xs → Cause a c (xs ++ ys)
-  sooner a b c xs ys p q e (inl r) = inl (omega (arith, r, q.failures, q.wants))
+  sooner a b c xs ys p q e (inl r) =
+      let s = q.still e in inl (omega (arith, r.0, q.failures, q.wants), subst (λ (w : ℕ × ℕ). closing w None) (sym s.1) r.1)
   sooner a b c xs ys p q e (inr r) =
       let s = q.still e in
       inr (
         r.0,
-        subst (λ (w : ℕ × ℕ). refused w r.0) (sym s.1) r.1,
+        subst (λ (w : ℕ × ℕ). closing w (Some r.0)) (sym s.1) r.1,
         λ before g. subst (λ zs. gave c ((before ++ zs) ++ r.0 ∷ [])) (sym (append-nil xs) ∙ ap (λ zs. xs ++ zs) (sym s.0)) (s.2 _ (r.2 before g)),
       )
 
-  pub asks_then : (a b c : P) (xs ys : List AnswerValue) → AsksWent state honest sound gave refused a b xs → AsksWent state honest sound gave refused b c ys → AsksWent state honest sound gave refused a c (xs ++ ys)
+  pub asks_then : (a b c : P) (xs ys : List AnswerValue) → AsksWent state honest sound gave closing a b xs → AsksWent state honest sound gave closing b c ys → AsksWent state honest sound gave closing a c (xs ++ ys)
   asks_then a b c xs ys p q = record {
     cut = q.cut ∙ p.cut;
     worker = q.worker ∙ p.worker;

@@ -27,11 +27,11 @@ use Rattle.round_core.proofs.WholeRounds.{at_first, one_round, no_round, only_me
 use Rattle.ports.specs.Ports.{PortState}
 use Rattle.forest_run.specs.declared.report.Report.{Report}
 use Rattle.forest_run.specs.Lanes.{LaneState, open_of}
-use Rattle.forest_run.specs.Asks.{IsRefused, IsLight}
+use Rattle.forest_run.specs.Asks.{IsClosing, IsLight}
 use Rattle.forest_run.specs.Bounds.{IsWide}
 use Rattle.forest_run.specs.Passes.{PassWent}
 use Rattle.forest_run.specs.Rounds.{RoundPicked}
-use Rattle.forest_run.specs.Runs.{IsRefusedIn, IsNamedIn, IsFullBook, AreLightBooks, RoundsWent}
+use Rattle.forest_run.specs.Runs.{IsClosingIn, IsNamedIn, IsFullBook, AreLightBooks, RoundsWent}
 use Rattle.forest_run.specs.Chains.{IsSolvedBy}
 use Rattle.forest_run.specs.Reports.{IsReportOf}
 use Rattle.forest_run.specs.Solved.{AreHonest, TurnWent, TurnAsked, IsTurnFault, PickedAfter, RunWent, RunAsked, IsSolveFault, SolveWent}
@@ -39,7 +39,7 @@ use Rattle.forest_run.proofs.AsksThen.{stayed, asks_then}
 use Rattle.forest_run.proofs.Once.{page_of}
 use Rattle.forest_run.proofs.Passing.{SameRound, asks_more}
 use Rattle.forest_run.proofs.Scanning.{scanned_none}
-use Rattle.forest_run.proofs.Running.{one, heard_same, refused_still, same_still, whole_pages, kept_none, kept_in, kept_then, rounds_none, rounds_then}
+use Rattle.forest_run.proofs.Running.{one, heard_same, closing_still, same_still, whole_pages, kept_none, kept_in, kept_then, rounds_none, rounds_then}
 use Rattle.forest_run.proofs.Chained.{merged_then, light_picks}
 use Rattle.forest_run.proofs.Solving.{named_more, named_given, from_cut, wide_still}
 
@@ -61,7 +61,7 @@ module _ {P : Type 0} (state : P → PortState) (honest sound : P → Type 0) (g
     books = [];
     are_books = inl refl;
     answers_at = λ i. [];
-    ports = record { same_lanes = refl; each = λ i d b. stayed state honest sound gave (IsRefusedIn []) (get_or xs i d).port };
+    ports = record { same_lanes = refl; each = λ i d b. stayed state honest sound gave (IsClosingIn []) (get_or xs i d).port };
     kept = kept_none honest xs;
   }
 
@@ -85,7 +85,7 @@ module _ {P : Type 0} (state : P → PortState) (honest sound : P → Type 0) (g
         answers_at = v.answers_at;
         ports = record {
           same_lanes = v.same_lanes;
-          each = λ i d b. asks_more state honest sound gave (IsRefused first) (IsRefusedIn (middle ∷ [])) (λ w t q. (middle, (0, omega arith, refl), refused_still first middle same w t q)) _ _ (v.answers_at i) (v.each i d b);
+          each = λ i d b. asks_more state honest sound gave (IsClosing first) (IsClosingIn (middle ∷ [])) (λ w t q. (middle, (0, omega arith, refl), closing_still first middle same w t q)) _ _ (v.answers_at i) (v.each i d b);
         };
         kept = kept_in state honest sound gave first middle middle xs ys 0 v (scanned_none middle) refl;
       }
@@ -118,9 +118,9 @@ module _ {P : Type 0} (state : P → PortState) (honest sound : P → Type 0) (g
           same_lanes = v.ports.same_lanes ∙ p.same_lanes;
           each = λ i d b. (
               let within : i < length ys = (let e = p.same_lanes in omega arith) in
-              asks_then state honest sound gave (IsRefusedIn books) _ _ _ (u.rounds.answers_at i) (v.answers_at i)
-              (asks_more state honest sound gave (IsRefusedIn u.books) (IsRefusedIn books) (λ w t q. (q.0, Contains-append_left u.books last q.0 q.1, q.2)) _ _ (u.rounds.answers_at i) (p.each i d b))
-              (asks_more state honest sound gave (IsRefusedIn last) (IsRefusedIn books) (λ w t q. (q.0, Contains-append_right u.books last q.0 q.1, q.2)) _ _ (v.answers_at i) (v.ports.each i d within)));
+              asks_then state honest sound gave (IsClosingIn books) _ _ _ (u.rounds.answers_at i) (v.answers_at i)
+              (asks_more state honest sound gave (IsClosingIn u.books) (IsClosingIn books) (λ w t q. (q.0, Contains-append_left u.books last q.0 q.1, q.2)) _ _ (u.rounds.answers_at i) (p.each i d b))
+              (asks_more state honest sound gave (IsClosingIn last) (IsClosingIn books) (λ w t q. (q.0, Contains-append_right u.books last q.0 q.1, q.2)) _ _ (v.answers_at i) (v.ports.each i d within)));
         };
         kept =
             kept_then honest xs ys u.books v.book u.rounds.answers_at v.answers_at p.same_lanes (λ i d b. (p.each i d b).honest_is) (whole_pages cut u.books u.rounds.whole) v.next.page

@@ -1,6 +1,6 @@
 -- What passes did over all lanes.
 use Rattle.std.proofs.Common.{◌≡◌, ℕ, zero, suc, ◌<◌, ◌≤◌, Bool, true, false, List, [], ◌∷◌, ◌++◌, length, get_or, refl, ap, sym, subst, ◌∙◌, inl, inr, arith, length-append}
-use Rattle.std.specs.Prelude.{All, Contains, map, IsSome}
+use Rattle.std.specs.Prelude.{All, Contains, map, IsSome, Option, Some, None}
 use Rattle.std.proofs.lemmas.List.{get_or-map}
 use Rattle.std.proofs.lemmas.List.Sums.{sum_by-cons}
 use Rattle.std.proofs.lemmas.List.Elements.{All-append, Contains-append_left, Contains-append_right, Contains-append_cases}
@@ -9,7 +9,7 @@ use Rattle.link_key.specs.declared.links.Link.{Link}
 use Rattle.round_core.specs.Page.{Page, is_taken, heard, refusal}
 use Rattle.ports.specs.Ports.{PortState}
 use Rattle.forest_run.specs.Lanes.{LaneState, one_if, all_kept, asks_of, open_of}
-use Rattle.forest_run.specs.Asks.{AsksWent, IsRefused, IsLight, shards_of}
+use Rattle.forest_run.specs.Asks.{AsksWent, IsRefused, IsClosing, IsLight, shards_of}
 use Rattle.forest_run.specs.Ferries.{FerryWent}
 use Rattle.forest_run.specs.Seating.{Each, GaveSeat}
 use Rattle.forest_run.specs.Passes.{AreOnce, PassWent}
@@ -92,9 +92,9 @@ module _ {P : Type 0} (state : P → PortState) (honest sound : P → Type 0) (g
             let e = (each_at SamePort xs ys before i d b).port in
             let g = (each_at SamePort zs ws after i d (omega arith)).port in
             let m : kept_at zs i ≡ (get_or zs i d).kept = get_or-map (λ (l : LaneState P). l.kept) zs i d [] (omega arith) in
-            subst (λ n. AsksWent state honest sound gave (IsRefused old) (get_or xs i d).port (get_or ws i d).port n) (sym m)
-            (subst (λ p. AsksWent state honest sound gave (IsRefused old) p (get_or ws i d).port (get_or zs i d).kept) e
-            (subst (λ q. AsksWent state honest sound gave (IsRefused old) (get_or ys i d).port q (get_or zs i d).kept) (sym g) v)));
+            subst (λ n. AsksWent state honest sound gave (IsClosing old) (get_or xs i d).port (get_or ws i d).port n) (sym m)
+            (subst (λ p. AsksWent state honest sound gave (IsClosing old) p (get_or ws i d).port (get_or zs i d).kept) e
+            (subst (λ q. AsksWent state honest sound gave (IsClosing old) (get_or ys i d).port q (get_or zs i d).kept) (sym g) v)));
         once = subst (λ n. AreOnce n (kept_at zs)) (l2 ∙ l1) (once_of zs apart);
         few = λ i. kept_few zs i;
         reached = λ i t b h. kept_to zs i t (omega arith) h;
@@ -124,7 +124,7 @@ module _ {P : Type 0} (state : P → PortState) (honest sound : P → Type 0) (g
     answers = [];
     answers_at = λ i. [];
     same_lanes = each_length SamePort xs ys same;
-    each = λ i d b. (let e = (each_at SamePort xs ys same i d b).port in subst (λ q. AsksWent state honest sound gave (IsRefused page) (get_or xs i d).port q []) (sym e) (stayed state honest sound gave (IsRefused page) (get_or xs i d).port));
+    each = λ i d b. (let e = (each_at SamePort xs ys same i d b).port in subst (λ q. AsksWent state honest sound gave (IsClosing page) (get_or xs i d).port q []) (sym e) (stayed state honest sound gave (IsClosing page) (get_or xs i d).port));
     few = λ i. omega arith;
     reached = λ i t b h. absurd (omega arith);
     given = λ t h. absurd (omega arith);
@@ -151,7 +151,7 @@ refusal_of : (r r' : ℕ) (cut cut' : List (List Link)) (labels labels' : List �
     → refusal (record { round = r'; cut = cut'; labels = labels'; taken = taken'; answers = answers' }) s t ≡ refusal (record { round = r; cut = cut; labels = labels; taken = taken; answers = answers }) s t
 refusal_of r r' cut cut' labels labels' taken taken' answers answers' s t a b c d e = rw (a, b, c, d, e) refl
 
-pub refused_before : (p : Page) (ts : List AnswerValue) (w : ℕ × ℕ) (t : AnswerValue) → IsRefused (heard_all p ts) w t → IsRefused p w t
+refused_before : (p : Page) (ts : List AnswerValue) (w : ℕ × ℕ) (t : AnswerValue) → IsRefused (heard_all p ts) w t → IsRefused p w t
 refused_before p ts w t r =
     let q = heard_all p ts in
     let s = same_round p ts in
@@ -163,10 +163,20 @@ refused_before p ts w t r =
       refused = subst (λ o. IsSome o) (refusal_of p.round q.round p.cut q.cut p.labels q.labels p.taken q.taken p.answers q.answers w.1 t s.round s.cut s.labels free r.missed) r.refused;
     }
 
+closing_before : (p : Page) (ts : List AnswerValue) (w : ℕ × ℕ) (o : Option AnswerValue) → IsClosing (heard_all p ts) w o → IsClosing p w o
+closing_before p ts w None r =
+    let s = same_round p ts in
+    record {
+      round = r.round ∙ s.round;
+      within = rw s.cut at r.within;
+      missed = taken_before p ts w.1 r.missed;
+    }
+closing_before p ts w (Some t) r = refused_before p ts w t r
+
 pub light_before : (p : Page) (ts : List AnswerValue) (t : AnswerValue) → IsLight (heard_all p ts) t → IsLight p t
 light_before p ts t r = (let s = same_round p ts in rw (s.cut, s.round, s.labels) at r)
 
-pub asks_more : {P : Type 0} (state : P → PortState) (honest sound : P → Type 0) (gave : P → List AnswerValue → Type 0) (R Q : ℕ × ℕ → AnswerValue → Type 0) → ((w : ℕ × ℕ) (t : AnswerValue) → R w t → Q w t) → (a b : P) (kept : List AnswerValue) → AsksWent state honest sound gave R a b kept → AsksWent state honest sound gave Q a b kept
+pub asks_more : {P : Type 0} (state : P → PortState) (honest sound : P → Type 0) (gave : P → List AnswerValue → Type 0) (R Q : ℕ × ℕ → Option AnswerValue → Type 0) → ((w : ℕ × ℕ) (o : Option AnswerValue) → R w o → Q w o) → (a b : P) (kept : List AnswerValue) → AsksWent state honest sound gave R a b kept → AsksWent state honest sound gave Q a b kept
 asks_more state honest sound gave R Q h a b kept v = record {
   cut = v.cut;
   worker = v.worker;
@@ -179,7 +189,7 @@ asks_more state honest sound gave R Q h a b kept v = record {
   still = v.still;
   honest_is = v.honest_is;
   sound_is = v.sound_is;
-  why = λ t f. elim (v.why t f) [ inl k ↦ inl k | inr k ↦ inr (k.0, h (state b).last k.0 k.1, k.2) ];
+  why = λ t f. elim (v.why t f) [ inl k ↦ inl (k.0, h (state b).last None k.1) | inr k ↦ inr (k.0, h (state b).last (Some k.0) k.1, k.2) ];
   why_honest = v.why_honest;
 }
 
@@ -192,8 +202,8 @@ module _ {P : Type 0} (state : P → PortState) (honest sound : P → Type 0) (g
     same_lanes = v.same_lanes ∙ u.same_lanes;
     each = λ i d b. (
         let w = v.each i d (let e = u.same_lanes in omega arith) in
-        asks_then state honest sound gave (IsRefused p) _ _ _ (u.answers_at i) (v.answers_at i) (u.each i d b)
-        (asks_more state honest sound gave (IsRefused q) (IsRefused p) (λ w t k. refused_before p u.answers w t (subst (λ o. IsRefused o w t) u.page k)) _ _ (v.answers_at i) w));
+        asks_then state honest sound gave (IsClosing p) _ _ _ (u.answers_at i) (v.answers_at i) (u.each i d b)
+        (asks_more state honest sound gave (IsClosing q) (IsClosing p) (λ w o k. closing_before p u.answers w o (subst (λ page. IsClosing page w o) u.page k)) _ _ (v.answers_at i) w));
     given = λ t h. elim (Contains-append_cases u.answers v.answers t h) [
       | inl a ↦ (let k = u.given t a in (k.0, k.1, Contains-append_left (u.answers_at k.0) (v.answers_at k.0) t k.2))
       | inr a ↦ (let k = v.given t a in (k.0, (let e = u.same_lanes in let l = k.1 in omega arith), Contains-append_right (u.answers_at k.0) (v.answers_at k.0) t k.2))

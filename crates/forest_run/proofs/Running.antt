@@ -1,6 +1,6 @@
 -- One round after others.
 use Rattle.std.proofs.Common.{◌≡◌, ℕ, zero, suc, ◌+◌, ◌*◌, ◌<◌, ◌≤◌, ◌⊎◌, inl, inr, not, cond, false, List, [], ◌∷◌, ◌++◌, length, get_or, refl, ap, sym, subst, ◌∙◌, arith, length-append, append-nil, append_assoc}
-use Rattle.std.specs.Prelude.{All, Contains}
+use Rattle.std.specs.Prelude.{All, Contains, Option, Some, None}
 use Rattle.std.proofs.Math.Nat.{suc-mul}
 use Rattle.std.proofs.lemmas.List.Folds.{sum_by-replicate}
 use Rattle.std.proofs.lemmas.List.Elements.{All-append, Contains-append_left, Contains-append_right, Contains-append_cases, All-contains, All-contains_itself}
@@ -10,13 +10,13 @@ use Rattle.frames.specs.AnswerValue.{AnswerValue}
 use Rattle.round_core.specs.Page.{Page, IsRight, IsPage, opened, heard, missing}
 use Rattle.ports.specs.Ports.{PortState}
 use Rattle.forest_run.specs.Lanes.{LaneState}
-use Rattle.forest_run.specs.Asks.{IsRefused, IsLight}
+use Rattle.forest_run.specs.Asks.{IsClosing, IsLight}
 use Rattle.forest_run.specs.Bounds.{IsBookUnder}
 use Rattle.forest_run.specs.Taking.{heard_all}
 use Rattle.forest_run.specs.Passes.{AreOnce, PassWent}
 use Rattle.forest_run.specs.Scanned.{Scanned}
 use Rattle.forest_run.specs.Rounds.{RoundWent}
-use Rattle.forest_run.specs.Runs.{unanswered, IsRefusedIn, IsGivenBy, IsLightIn, IsFullBook, AreKept, RoundsWent}
+use Rattle.forest_run.specs.Runs.{unanswered, IsClosingIn, IsGivenBy, IsLightIn, IsFullBook, AreKept, RoundsWent}
 use Rattle.forest_run.proofs.AsksThen.{stayed, asks_then}
 use Rattle.forest_run.proofs.Once.{once_then}
 use Rattle.forest_run.proofs.Passing.{SameRound, same_round, asks_more}
@@ -67,8 +67,9 @@ heard_same p q ts e =
 light_still : (p q : Page) → SameRound p q → (t : AnswerValue) → IsLight p t → IsLight q t
 light_still p q s t l = rw (s.cut, s.round, s.labels) l
 
-pub refused_still : (p q : Page) → SameRound p q → (w : ℕ × ℕ) (t : AnswerValue) → IsRefused (unanswered p) w t → IsRefused (unanswered q) w t
-refused_still p q s w t r = rw (s.cut, s.round, s.labels) r
+pub closing_still : (p q : Page) → SameRound p q → (w : ℕ × ℕ) (o : Option AnswerValue) → IsClosing (unanswered p) w o → IsClosing (unanswered q) w o
+closing_still p q s w None r = rw (s.cut, s.round, s.labels) r
+closing_still p q s w (Some t) r = rw (s.cut, s.round, s.labels) r
 
 module _ {P : Type 0} (state : P → PortState) (honest sound : P → Type 0) (gave : P → List AnswerValue → Type 0) where
   -- a round leaves the book's round, cut and labels
@@ -180,7 +181,7 @@ module _ {P : Type 0} (state : P → PortState) (honest sound : P → Type 0) (g
   rounds_none cut xs = record {
     whole = λ i d b. absurd (omega arith);
     answers_at = λ i. [];
-    ports = record { same_lanes = refl; each = λ i d b. stayed state honest sound gave (IsRefusedIn []) (get_or xs i d).port };
+    ports = record { same_lanes = refl; each = λ i d b. stayed state honest sound gave (IsClosingIn []) (get_or xs i d).port };
     kept = kept_none honest xs;
     few = λ i. omega arith;
     counted = omega arith;
@@ -214,9 +215,9 @@ module _ {P : Type 0} (state : P → PortState) (honest sound : P → Type 0) (g
           same_lanes = v.same_lanes ∙ u.ports.same_lanes;
           each = λ i d b. (
               let within : i < length ys = (let e = u.ports.same_lanes in omega arith) in
-              asks_then state honest sound gave (IsRefusedIn (books ++ new ∷ [])) _ _ _ (u.answers_at i) (v.answers_at i)
-              (asks_more state honest sound gave (IsRefusedIn books) (IsRefusedIn (books ++ new ∷ [])) (λ w t q. (q.0, Contains-append_left books (new ∷ []) q.0 q.1, q.2)) _ _ (u.answers_at i) (u.ports.each i d b))
-              (asks_more state honest sound gave (IsRefused old) (IsRefusedIn (books ++ new ∷ [])) (λ w t q. (new, here, refused_still old new same w t q)) _ _ (v.answers_at i) (v.each i d within)));
+              asks_then state honest sound gave (IsClosingIn (books ++ new ∷ [])) _ _ _ (u.answers_at i) (v.answers_at i)
+              (asks_more state honest sound gave (IsClosingIn books) (IsClosingIn (books ++ new ∷ [])) (λ w t q. (q.0, Contains-append_left books (new ∷ []) q.0 q.1, q.2)) _ _ (u.answers_at i) (u.ports.each i d b))
+              (asks_more state honest sound gave (IsClosing old) (IsClosingIn (books ++ new ∷ [])) (λ w t q. (new, here, closing_still old new same w t q)) _ _ (v.answers_at i) (v.each i d within)));
         };
         kept =
             kept_then honest xs ys books new u.answers_at v.answers_at u.ports.same_lanes (λ i d b. (u.ports.each i d b).honest_is) (whole_pages cut books u.whole) page

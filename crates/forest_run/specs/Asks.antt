@@ -1,5 +1,5 @@
 -- What some asks did to a port.
-use Rattle.std.specs.Prelude.{◌≡◌, ℕ, ◌+◌, ◌<◌, ◌≤◌, ◌⊎◌, true, false, List, [], ◌∷◌, ◌++◌, length, map, IsSome, None}
+use Rattle.std.specs.Prelude.{◌≡◌, ℕ, ◌+◌, ◌<◌, ◌≤◌, ◌⊎◌, true, false, List, [], ◌∷◌, ◌++◌, length, map, IsSome, Option, Some, None}
 use Rattle.frames.specs.AnswerValue.{AnswerValue}
 use Rattle.round_core.specs.Page.{Page, refusal, is_taken}
 use Rattle.ports.specs.Ports.{PortState, IsHonestAnswer}
@@ -11,6 +11,17 @@ pub record IsRefused (page : Page) (last : ℕ × ℕ) (answer : AnswerValue) : 
   pub within : last.1 < length page.cut
   pub missed : is_taken page last.1 ≡ false
   pub refused : IsSome (refusal page last.1 answer)
+
+-- the ask is of the book's round, for a shard that it misses
+pub record IsAskOf (page : Page) (ask : ℕ × ℕ) : Type 0 where
+  pub round : ask.0 ≡ page.round
+  pub within : ask.1 < length page.cut
+  pub missed : is_taken page ask.1 ≡ false
+
+-- an ask of the book, the last one of a port, brought no answer, or one that the book refuses
+abbrev pub IsClosing : Page → ℕ × ℕ → Option AnswerValue → Type 0
+IsClosing page last None = IsAskOf page last
+IsClosing page last (Some answer) = IsRefused page last answer
 
 -- the book takes the answer
 pub record IsTaken (page : Page) (answer : AnswerValue) : Type 0 where
@@ -34,7 +45,7 @@ abbrev pub FailedMore : PortState → PortState → Type 0
 FailedMore before after = before.failures + before.wants < after.failures + after.wants
 
 -- a port before and after some asks, of which these answers were kept; each answer that wasn't is one that a book refuses, which closed the port
-pub record AsksWent {P : Type 0} (state : P → PortState) (honest sound : P → Type 0) (gave : P → List AnswerValue → Type 0) (refused : ℕ × ℕ → AnswerValue → Type 0) (before after : P) (kept : List AnswerValue) : Type 0 where
+pub record AsksWent {P : Type 0} (state : P → PortState) (honest sound : P → Type 0) (gave : P → List AnswerValue → Type 0) (closing : ℕ × ℕ → Option AnswerValue → Type 0) (before after : P) (kept : List AnswerValue) : Type 0 where
   pub cut : (state after).cut ≡ (state before).cut
   pub worker : (state after).worker ≡ (state before).worker
   -- each ask brought an answer that was kept, but the one that closed the port
@@ -50,7 +61,7 @@ pub record AsksWent {P : Type 0} (state : P → PortState) (honest sound : P →
   pub still : (state before).is_open ≡ false → (kept ≡ []) × ((state after).last ≡ (state before).last) × ((answers : List AnswerValue) → gave before answers → gave after answers)
   pub honest_is : honest before → honest after
   pub sound_is : sound before → sound after
-  -- why it was closed: by a fault, or by a refused answer to its last ask, which no honest port gives
+  -- why it was closed: its last ask failed or found no memory, or brought an answer that is refused, which no honest port gives
   pub why : (state before).is_open ≡ true → (state after).is_open ≡ false
-      → FailedMore (state before) (state after) ⊎ ((answer : AnswerValue) × refused (state after).last answer × ((answers : List AnswerValue) → gave before answers → gave after ((answers ++ kept) ++ answer ∷ [])))
+      → (FailedMore (state before) (state after) × closing (state after).last None) ⊎ ((answer : AnswerValue) × closing (state after).last (Some answer) × ((answers : List AnswerValue) → gave before answers → gave after ((answers ++ kept) ++ answer ∷ [])))
   pub why_honest : honest before → (state before).is_open ≡ true → (state after).is_open ≡ false → FailedMore (state before) (state after)

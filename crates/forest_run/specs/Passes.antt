@@ -4,7 +4,7 @@ use Rattle.frames.specs.AnswerValue.{AnswerValue}
 use Rattle.round_core.specs.Page.{Page, missing}
 use Rattle.ports.specs.Ports.{PortState}
 use Rattle.forest_run.specs.Lanes.{LaneState, asks_of, open_of}
-use Rattle.forest_run.specs.Asks.{AsksWent, IsRefused, IsLight, AreForOne}
+use Rattle.forest_run.specs.Asks.{AsksWent, IsClosing, IsLight, AreForOne}
 use Rattle.forest_run.specs.Taking.{heard_all, AreTaken}
 
 -- of the answers that so many lanes kept, no two are for one shard of one round
@@ -19,7 +19,7 @@ pub record PassWent {P : Type 0} (state : P → PortState) (honest sound : P →
   -- those of the lane at each place
   pub answers_at : ℕ → List AnswerValue
   pub same_lanes : length after ≡ length before
-  pub each : (i : ℕ) (d : LaneState P) → i < length before → AsksWent state honest sound gave (IsRefused old) (slice_index_or before i d).port (slice_index_or after i d).port (answers_at i)
+  pub each : (i : ℕ) (d : LaneState P) → i < length before → AsksWent state honest sound gave (IsClosing old) (slice_index_or before i d).port (slice_index_or after i d).port (answers_at i)
   pub given : (answer : AnswerValue) → Contains answers answer → (i : ℕ) × (i < length before) × Contains (answers_at i) answer
   pub reached : (i : ℕ) (answer : AnswerValue) → i < length before → Contains (answers_at i) answer → Contains answers answer
   pub once : AreOnce (length before) answers_at

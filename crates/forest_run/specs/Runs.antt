@@ -1,26 +1,26 @@
 -- What the rounds of a run do: to each lane, and to one book after another.
-use Rattle.std.specs.Prelude.{◌≡◌, ℕ, ◌+◌, ◌*◌, ◌<◌, ◌≤◌, ◌⊎◌, List, length, slice_index_or, All, Contains}
+use Rattle.std.specs.Prelude.{◌≡◌, ℕ, ◌+◌, ◌*◌, ◌<◌, ◌≤◌, ◌⊎◌, List, length, slice_index_or, All, Contains, Option}
 use Rattle.link_key.specs.declared.links.Link.{Link}
 use Rattle.frames.specs.AnswerValue.{AnswerValue}
 use Rattle.round_theory.specs.Offers.{IsNamed}
 use Rattle.round_core.specs.Page.{Page, IsPage, opened, missing, hearings}
 use Rattle.ports.specs.Ports.{PortState}
 use Rattle.forest_run.specs.Lanes.{LaneState, asks_of, open_of}
-use Rattle.forest_run.specs.Asks.{AsksWent, IsRefused, IsLight}
+use Rattle.forest_run.specs.Asks.{AsksWent, IsClosing, IsLight}
 use Rattle.forest_run.specs.Passes.{AreOnce}
 
 -- the book, as it was opened
 abbrev pub unanswered : Page → Page
 unanswered book = opened book.round book.cut book.labels
 
--- one of the books, as it was opened, refuses the answer to the last ask
-abbrev pub IsRefusedIn : List Page → ℕ × ℕ → AnswerValue → Type 0
-IsRefusedIn books last answer = (book : Page) × Contains books book × IsRefused (unanswered book) last answer
+-- an ask of one of the books, as it was opened, the last one of a port, brought no answer, or one that the book refuses
+abbrev pub IsClosingIn : List Page → ℕ × ℕ → Option AnswerValue → Type 0
+IsClosingIn books last answer = (book : Page) × Contains books book × IsClosing (unanswered book) last answer
 
 -- the ports of lanes before and after asks, of which these answers were kept at each lane's place
-pub record PortsWent {P : Type 0} (state : P → PortState) (honest sound : P → Type 0) (gave : P → List AnswerValue → Type 0) (refused : ℕ × ℕ → AnswerValue → Type 0) (before after : List (LaneState P)) (answers_at : ℕ → List AnswerValue) : Type 0 where
+pub record PortsWent {P : Type 0} (state : P → PortState) (honest sound : P → Type 0) (gave : P → List AnswerValue → Type 0) (closing : ℕ × ℕ → Option AnswerValue → Type 0) (before after : List (LaneState P)) (answers_at : ℕ → List AnswerValue) : Type 0 where
   pub same_lanes : length after ≡ length before
-  pub each : (i : ℕ) (d : LaneState P) → i < length before → AsksWent state honest sound gave refused (slice_index_or before i d).port (slice_index_or after i d).port (answers_at i)
+  pub each : (i : ℕ) (d : LaneState P) → i < length before → AsksWent state honest sound gave closing (slice_index_or before i d).port (slice_index_or after i d).port (answers_at i)
 
 -- a lane kept the answer
 abbrev pub IsGivenBy : ℕ → (ℕ → List AnswerValue) → AnswerValue → Type 0
@@ -57,7 +57,7 @@ pub record IsFullBook (cut : List (List Link)) (book : Page) : Type 0 where
 pub record RoundsWent {P : Type 0} (state : P → PortState) (honest sound : P → Type 0) (gave : P → List AnswerValue → Type 0) (cut : List (List Link)) (before after : List (LaneState P)) (books : List Page) (answered alone : ℕ) : Type 0 where
   pub whole : All (IsFullBook cut) books
   pub answers_at : ℕ → List AnswerValue
-  pub ports : PortsWent state honest sound gave (IsRefusedIn books) before after answers_at
+  pub ports : PortsWent state honest sound gave (IsClosingIn books) before after answers_at
   pub kept : AreKept honest before books answers_at
   pub few : (i : ℕ) → length (answers_at i) ≤ answered
   -- each shard of each round has an answer that a lane kept, or another

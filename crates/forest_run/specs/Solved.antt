@@ -16,7 +16,7 @@ use Rattle.ports.specs.Ports.{PortState}
 use Rattle.forest_run.specs.declared.report.Report.{Report}
 use Rattle.forest_run.specs.Lanes.{LaneState, asks_of, open_of}
 use Rattle.forest_run.specs.Rounds.{RoundPicked}
-use Rattle.forest_run.specs.Runs.{IsRefusedIn, IsFullBook, AreKept, AreLightBooks, PortsWent, RoundsWent, IsGivenBy, IsNamedIn}
+use Rattle.forest_run.specs.Runs.{IsClosingIn, IsFullBook, AreKept, AreLightBooks, PortsWent, RoundsWent, IsGivenBy, IsNamedIn}
 use Rattle.forest_run.specs.Chains.{IsNextOf, IsPickedBy, IsSolvedBy}
 use Rattle.forest_run.specs.Reports.{IsReportOf}
 
@@ -38,7 +38,7 @@ pub record TurnAsked {P : Type 0} (state : P → PortState) (honest sound : P �
   pub book : Page
   pub next : IsNextOf cut old book
   pub answers_at : ℕ → List AnswerValue
-  pub ports : PortsWent state honest sound gave (IsRefusedIn (book ∷ [])) before after answers_at
+  pub ports : PortsWent state honest sound gave (IsClosingIn (book ∷ [])) before after answers_at
   pub kept : AreKept honest before (book ∷ []) answers_at
 
 -- a round under the solver's labels, whose picks the solver refuses
@@ -74,7 +74,7 @@ pub record RunAsked {P : Type 0} (state : P → PortState) (honest sound : P →
   pub books : List Page
   pub are_books : AreRunBooks n cut books
   pub answers_at : ℕ → List AnswerValue
-  pub ports : PortsWent state honest sound gave (IsRefusedIn books) before after answers_at
+  pub ports : PortsWent state honest sound gave (IsClosingIn books) before after answers_at
   pub kept : AreKept honest before books answers_at
 
 -- the links taken are those of all merging rounds over the list
