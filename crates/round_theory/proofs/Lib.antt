@@ -7,7 +7,6 @@ pub mod Steps
 pub mod Cutting
 pub mod Counting
 pub mod Rounds
-pub mod PlainSteps
 pub mod Relabelling
 pub mod OfferSteps
 pub mod Unions

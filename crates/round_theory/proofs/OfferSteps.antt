@@ -1,8 +1,6 @@
 -- The offers and the picks, label by label.
-use Rattle.std.proofs.Common.{◌≡◌, ◌≢◌, ℕ, ◌+◌, ◌<◌, ◌≤◌, ◌↔◌, List, [], ◌∷◌, ◌++◌, length, get_or, Contains, sym, ◌∙◌, subst, inl, inr, arith}
-use Rattle.std.specs.Prelude.{AllPairs}
+use Rattle.std.proofs.Common.{◌≡◌, ℕ, ◌+◌, ◌<◌, ◌≤◌, ◌↔◌, List, [], ◌∷◌, ◌++◌, length, get_or, Contains, sym, subst, inl, inr, arith}
 use Rattle.std.proofs.lemmas.Bool.{cases_lt}
-use Rattle.std.proofs.lemmas.List.{get_or_default}
 use Rattle.std.proofs.lemmas.List.Elements.{Contains-get_or, Contains-append_left, Contains-push, Contains-push_cases}
 use Rattle.std.proofs.lemmas.List.Quantifiers.{all_pairs_push}
 use Rattle.link_key.specs.declared.links.Link.{Link}
@@ -10,9 +8,8 @@ use Rattle.link_key.specs.Link.{EndsUpTo}
 use Rattle.link_key.specs.Labels.{label_of, AreLabels}
 use Rattle.link_key.specs.Offers.{Offer, AreOffers}
 use Rattle.link_key.proofs.Members.{contains_none}
-use Rattle.round_theory.specs.LinkSet.{SameLinks}
 use Rattle.round_theory.specs.Labelling.{IsVertex}
-use Rattle.round_theory.specs.Offers.{Leaves, IsLeastLeaving, IsPick, IsFirstPlace, IsLightOffer, AreLightOffers}
+use Rattle.round_theory.specs.Offers.{Leaves, IsFirstPlace, IsLightOffer, AreLightOffers}
 use Rattle.round_theory.proofs.Lists.{set_ends}
 use Rattle.round_theory.proofs.Labels.{low_vertex, high_vertex}
 use Rattle.round_theory.proofs.Leaving.{leaves_end, least_leaving_unique}
@@ -98,63 +95,3 @@ offers_push links labels bound place offers are light = record {
           let one : i ≡ place = light_offer_unique links labels bound i place (subst (λ x. IsLightOffer links labels x i) same offer) light in
           subst (λ (p : ℕ × ℕ). Contains (offers ++ (bound, place) ∷ []) p) (λ k. (sym same k, sym one k)) (Contains-push offers (bound, place))
     ]
-
--- the picks for the labels below one, each once
-pub record ArePicksBelow (links : List Link) (labels : List ℕ) (bound : ℕ) (picks : List Link) : Type 0 where
-  pub within : (l : Link) → Contains picks l → IsPick labels (Contains links) l
-  pub all : (c : ℕ) (l : Link) → c < bound → IsLeastLeaving labels (Contains links) c l → Contains picks l
-  pub each_once : AllPairs (λ l m. l ≢ m) picks
-
-module _ (links : List Link) (labels : List ℕ) (ends : EndsUpTo (length labels) links) (all : AreLabels labels) where
-  pick_vertex : (c : ℕ) (l : Link) → IsLeastLeaving labels (Contains links) c l → IsVertex (length labels) c
-  pick_vertex c l least = left_label_is_vertex labels l c all (set_ends (length labels) links ends l least.member) least.leaves
-
-  pub picks_none : ArePicksBelow links labels 1 []
-  picks_none = record {
-    within = λ l l_in. absurd (contains_none l l_in);
-    all = λ c l lt least. absurd (omega (arith, pick_vertex c l least, lt));
-    each_once = λ i j d lt in_range. absurd (omega arith);
-  }
-
-  pub picks_all : (bound : ℕ) (picks : List Link) → length labels < bound → ArePicksBelow links labels bound picks → SameLinks (Contains picks) (IsPick labels (Contains links))
-  picks_all bound picks past are l = (are.within l, λ (c, least). are.all c l (omega (arith, pick_vertex c l least, past)) least)
-
--- no link leaves the next label
-pub picks_skip : (links : List Link) (labels : List ℕ) (bound : ℕ) (picks : List Link) → ArePicksBelow links labels bound picks → ((l : Link) → Contains links l → ¬ (Leaves labels l bound)) → ArePicksBelow links labels (bound + 1) picks
-picks_skip links labels bound picks are none = record {
-  within = are.within;
-  all = λ c l lt least. elim (cases_lt c bound) [
-    | inl below ↦ are.all c l below least
-    | inr le ↦ let same : c ≡ bound = omega arith in absurd (none l least.member (subst (Leaves labels l) same least.leaves))
-  ];
-  each_once = are.each_once;
-}
-
--- the pick for the next label is there already
-pub picks_keep : (links : List Link) (labels : List ℕ) (bound : ℕ) (picks : List Link) (x : Link) → ArePicksBelow links labels bound picks → IsLeastLeaving labels (Contains links) bound x → Contains picks x → ArePicksBelow links labels (bound + 1) picks
-picks_keep links labels bound picks x are least x_in = record {
-  within = are.within;
-  all = λ c l lt l_least. elim (cases_lt c bound) [
-    | inl below ↦ are.all c l below l_least
-    | inr le ↦ let same : c ≡ bound = omega arith in subst (Contains picks) (least_leaving_unique labels (Contains links) bound x l least (subst (λ y. IsLeastLeaving labels (Contains links) y l) same l_least)) x_in
-  ];
-  each_once = are.each_once;
-}
-
--- or it is added
-pub picks_push : (links : List Link) (labels : List ℕ) (bound : ℕ) (picks : List Link) (x : Link) → ArePicksBelow links labels bound picks → IsLeastLeaving labels (Contains links) bound x → ¬ (Contains picks x) → ArePicksBelow links labels (bound + 1) (picks ++ x ∷ [])
-picks_push links labels bound picks x are least not_in =
-    picks_keep links labels bound (picks ++ x ∷ []) x (record {
-      within = λ l l_in. elim (Contains-push_cases picks x l l_in) [ inl old ↦ are.within l old | inr same ↦ (bound, subst (IsLeastLeaving labels (Contains links) bound) same least) ];
-      all = λ c l lt l_least. Contains-append_left picks (x ∷ []) l (are.all c l lt l_least);
-      each_once = all_pairs_push (λ l m. l ≢ m) picks x are.each_once (λ k d lt same. not_in (subst (Contains picks) same (Contains-get_or picks k d lt)));
-    }) least (Contains-push picks x)
-
--- the link that a light offer names, read from the list
-pub offered_is_least : (links : List Link) (labels : List ℕ) (c place : ℕ) (x : Link) → IsLightOffer links labels c place → x ≡ get_or links place x → IsLeastLeaving labels (Contains links) c x
-offered_is_least links labels c place x (l, least, at) read =
-    subst (IsLeastLeaving labels (Contains links) c) (sym (read ∙ get_or_default links place x l at.within ∙ at.here)) least
-
--- two reads of one place
-pub same_read : (links : List Link) (labels : List ℕ) (c place : ℕ) (x y : Link) → IsLightOffer links labels c place → x ≡ get_or links place x → y ≡ get_or links place y → x ≡ y
-same_read links labels c place x y (l, least, at) x_read y_read = x_read ∙ get_or_default links place x y at.within ∙ sym y_read

@@ -1,11 +1,10 @@
 -- A labelling made link by link: at first each vertex labels itself, and a link makes the labels of its ends one.
-use Rattle.std.proofs.Common.{◌≡◌, ◌≢◌, ℕ, ◌+◌, ◌-◌, ◌<◌, ◌≤◌, ◌⊎◌, ◌==◌, ◌↔◌, min, max, cond, List, [], ◌∷◌, ◌++◌, length, get_or, take, Contains, refl, sym, ap, ap₂, ◌∙◌, subst, subst₂, inl, inr, arith, eq-eqb, ne_eqb}
+use Rattle.std.proofs.Common.{◌≡◌, ◌≢◌, ℕ, ◌+◌, ◌-◌, ◌<◌, ◌≤◌, ◌⊎◌, ◌==◌, ◌↔◌, min, max, cond, List, [], ◌∷◌, ◌++◌, length, get_or, take, Contains, refl, sym, ap, ◌∙◌, subst, inl, inr, arith, eq-eqb, ne_eqb}
 use Rattle.std.specs.Prelude.{if◌then◌else◌}
 use Rattle.std.proofs.lemmas.Bool.{cases_eq, cases_lt}
-use Rattle.std.proofs.lemmas.List.{take_more, get_or_default}
+use Rattle.std.proofs.lemmas.List.{take_more}
 use Rattle.std.proofs.lemmas.List.Elements.{Contains-append_left, Contains-push, Contains-push_cases}
 use Rattle.link_key.specs.declared.links.Link.{Link}
-use Rattle.link_key.specs.Link.{EndsUpTo}
 use Rattle.link_key.specs.Walk.{Joins}
 use Rattle.link_key.proofs.Members.{contains_none}
 use Rattle.link_key.proofs.Walks.{WithLink, joins_same, joins_symm, joins_trans, joins_link, joins_more, joins_equal, joins_one_more}
@@ -132,24 +131,3 @@ pub labelling_more : (n : ℕ) (links : List Link) (i : ℕ) (x : Link) (old new
 labelling_more n links i x old new within read ends is moved =
     labelling_alike n (WithLink (Contains (take i links)) x) (Contains (take (i + 1) links)) new (prefix_with_link links i x within read)
     (labelling_one_more n (Contains (take i links)) old new x is ends moved)
-
--- the same, by what the code reads and writes
-pub labelling_step : (n : ℕ) (links : List Link) (i : ℕ) (x : Link) (old view new : List ℕ) (low high from to : ℕ) → i < length links → x ≡ get_or links i x → EndsUpTo n links → IsLabelling n (Contains (take i links)) old → low ≡ get_or old (x.low - 1) low → high ≡ get_or old (x.high - 1) high → from ≡ max low high → to ≡ min low high → view ≡ old → length new ≡ length view → ((k : ℕ) → k < length view → get_or new k 0 ≡ (if get_or view k 0 == from then to else get_or view k 0)) → IsLabelling n (Contains (take (i + 1) links)) new
-labelling_step n links i x old view new low high from to within read ends is low_read high_read from_is to_is view_is long each =
-    labelling_more n links i x old new within read x_ends is
-    (subst₂ (λ f t. IsMoved n f t old new) from_max to_min (moved_by_test n from to old new is.each_vertex (long ∙ ap length view_is ∙ is.each_vertex) (subst (λ xs. (k : ℕ) → k < length xs → get_or new k 0 ≡ (if get_or xs k 0 == from then to else get_or xs k 0)) view_is each)))
-  where
-    x_ends : x.high ≤ n
-    x_ends = subst (λ (y : Link). y.high ≤ n) (sym read) (ends i x within)
-
-    low_is : low ≡ label_of old x.low
-    low_is = low_read ∙ get_or_default old (x.low - 1) low 0 (omega (arith, is.each_vertex, x_ends, x.from_one, x.ascending))
-
-    high_is : high ≡ label_of old x.high
-    high_is = high_read ∙ get_or_default old (x.high - 1) high 0 (omega (arith, is.each_vertex, x_ends, x.from_one, x.ascending))
-
-    from_max : from ≡ max (label_of old x.low) (label_of old x.high)
-    from_max = from_is ∙ ap₂ max low_is high_is
-
-    to_min : to ≡ min (label_of old x.low) (label_of old x.high)
-    to_min = to_is ∙ ap₂ min low_is high_is

@@ -1,5 +1,5 @@
 -- The rounds, one after the other, until one has nothing to add.
-use Rattle.std.proofs.Common.{sym, ◌≢◌, ◌≡◌, subst₂, ◌-◌, get_or, refl, ℕ, suc, ◌+◌, ◌<◌, List, [], ◌∷◌, ◌++◌, length, Contains, subst, inl, inr, arith, add-one}
+use Rattle.std.proofs.Common.{sym, ◌≡◌, subst₂, ◌-◌, get_or, refl, ℕ, suc, ◌+◌, ◌<◌, List, [], ◌∷◌, ◌++◌, length, Contains, subst, inl, inr, arith, add-one}
 use Rattle.std.proofs.lemmas.Bool.{cases_lt}
 use Rattle.std.specs.Prelude.{AllPairs}
 use Rattle.std.proofs.lemmas.List.{nil_from_length, length-append, get_or_append_left, get_or-append_right}
@@ -12,9 +12,7 @@ use Rattle.round_theory.specs.Offers.{Leaves, IsPick}
 use Rattle.round_theory.specs.Rounds.{AreRoundPicks, TakenAfter, IsMergingRounds}
 use Rattle.round_theory.proofs.Labels.{labelling_alike}
 use Rattle.round_theory.proofs.Leaving.{least_leaving_exists}
-use Rattle.round_theory.proofs.Lists.{set_ends}
-use Rattle.round_theory.proofs.Steps.{pick_apart}
-use Rattle.round_theory.proofs.Rounds.{lt_pow, round_by_round, rounds_in_forest, adds_nothing, round_in_time}
+use Rattle.round_theory.proofs.Rounds.{round_by_round, adds_nothing}
 
 -- nothing is taken before the first round
 pub nothing_taken : (n : ℕ) (links : List Link) → SameLinks (Contains []) (TakenAfter n links 0)
@@ -24,20 +22,11 @@ nothing_taken n links l = (contains_none l, λ none. absurd none)
 pub taken_more : (n : ℕ) (links taken added : List Link) (i : ℕ) → SameLinks (Contains taken) (TakenAfter n links i) → AreRoundPicks n links taken added → SameLinks (Contains (taken ++ added)) (TakenAfter n links (i + 1))
 taken_more n links taken added i before picks = rw (add-one) (round_by_round n links taken added i before picks)
 
--- the ends of what is taken are vertices, as those of the list are
-pub taken_ends_up_to : (n : ℕ) (links taken : List Link) (i : ℕ) → EndsUpTo n links → SameLinks (Contains taken) (TakenAfter n links i) → EndsUpTo n taken
-taken_ends_up_to n links taken i ends same k d lt =
-    let in_taken = Contains-get_or taken k d lt in
-    set_ends n links ends (get_or taken k d) (rounds_in_forest n links i (get_or taken k d) ((same (get_or taken k d)).0 in_taken)).0
-
 -- what is taken after so many rounds, each of which added something, and what the next adds
 pub record AreRoundsSoFar (n : ℕ) (links taken added : List Link) (rounds : ℕ) : Type 0 where
   pub same : SameLinks (Contains taken) (TakenAfter n links rounds)
   pub next : AreRoundPicks n links taken added
   pub earlier : (k : ℕ) → k < rounds → ¬ (SameLinks (TakenAfter n links (suc k)) (TakenAfter n links k))
-
-pub no_rounds_yet : (n : ℕ) (links added : List Link) → AreRoundPicks n links [] added → AreRoundsSoFar n links [] added 0
-no_rounds_yet n links added picks = record { same = nothing_taken n links; next = picks; earlier = λ k lt. absurd (omega arith) }
 
 -- where there is something to add, the round adds it
 pub round_adds : (n : ℕ) (links taken added : List Link) (rounds : ℕ) → EndsUpTo n links → AreRoundsSoFar n links taken added rounds → 0 < length added → ¬ (SameLinks (TakenAfter n links (suc rounds)) (TakenAfter n links rounds))
@@ -46,21 +35,6 @@ round_adds n links taken (x ∷ added) rounds ends are some same =
     let (labels, is, picks) = are.next in
     let (c, least) = (picks x).0 (contains_head x added) in
     (adds_nothing n links ends rounds labels (labelling_alike n (Contains taken) (TakenAfter n links rounds) labels are.same is)).0 same x c least.member least.leaves
-
-pub one_round_more : (n : ℕ) (links taken added next : List Link) (rounds : ℕ) → EndsUpTo n links → AreRoundsSoFar n links taken added rounds → 0 < length added → AreRoundPicks n links (taken ++ added) next → AreRoundsSoFar n links (taken ++ added) next (rounds + 1)
-one_round_more n links taken added next rounds ends are some picks = record {
-  same = taken_more n links taken added rounds are.same are.next;
-  next = picks;
-  earlier = λ k lt. elim (cases_lt k rounds) [
-    | inl below ↦ are.earlier k below
-    | inr le ↦ let same : rounds ≡ k = omega arith in subst (λ j. ¬ (SameLinks (TakenAfter n links (suc j)) (TakenAfter n links j))) same (round_adds n links taken added rounds ends are some)
-  ];
-}
-
--- there are fewer rounds that add something than vertices
-pub rounds_below : (n : ℕ) (links taken added : List Link) (rounds : ℕ) → EndsUpTo n links → AreRoundsSoFar n links taken added rounds → 0 < length added → rounds < n
-rounds_below n links taken added rounds ends are some =
-    omega (arith, round_in_time n links ends rounds (round_adds n links taken added rounds ends are some), lt_pow (suc rounds))
 
 -- where the next round has nothing to add, the number is found
 pub rounds_end : (n : ℕ) (links taken added : List Link) (rounds : ℕ) → EndsUpTo n links → AreRoundsSoFar n links taken added rounds → length added ≡ 0 → IsMergingRounds n links rounds
@@ -91,20 +65,3 @@ all_pairs_append R xs ys xs_pairs ys_pairs across i j d lt within = elim (cases_
             subst₂ R (sym (get_or-append_right xs ys (length xs) i d refl i_right)) (sym at_j) (ys_pairs (i - length xs) (j - length xs) d order j_in)
       ]
 ]
-
--- what is taken after so many rounds, each once
-pub record AreTakenOnce (n : ℕ) (links taken : List Link) (rounds : ℕ) : Type 0 where
-  pub same : SameLinks (Contains taken) (TakenAfter n links rounds)
-  pub each_once : AllPairs (λ l m. l ≢ m) taken
-
-pub taken_once_none : (n : ℕ) (links : List Link) → AreTakenOnce n links [] 0
-taken_once_none n links = record { same = nothing_taken n links; each_once = λ i j d lt within. absurd (omega arith) }
-
--- one round more: what it adds is new
-pub taken_once_more : (n : ℕ) (links taken added : List Link) (i : ℕ) → EndsUpTo n links → AreTakenOnce n links taken i → AreRoundPicks n links taken added → AllPairs (λ l m. l ≢ m) added → AreTakenOnce n links (taken ++ added) (i + 1)
-taken_once_more n links taken added i ends before picks each_once = record {
-  same = taken_more n links taken added i before.same picks;
-  each_once = all_pairs_append (λ l m. l ≢ m) taken added before.each_once each_once (λ l m l_in m_in same.
-      let (labels, is, are) = picks in
-      pick_apart n (Contains taken) (Contains links) labels (set_ends n taken (taken_ends_up_to n links taken i ends before.same)) is m ((are m).0 m_in) (subst (Contains taken) same l_in));
-}

@@ -22,11 +22,9 @@
 //! the members of a list of links, and what the offers that were heard name.
 //!
 //! Where to start a change: the definitions stand in `specs/` (`LinkSet`, `Labelling`, `Offers`, `Rounds`) and the laws
-//! in `specs/Laws`; [`laws`] promises them, [`examples`] applies each to a triangle, and [`plain`] runs the definitions on
-//! small networks. A layer above cites a law, and shows of its own step alone that it labels, offers, picks or adds
-//! what the definition says.
+//! in `specs/Laws`; [`laws`] promises them, and [`examples`] applies each to a triangle. A layer above cites a law, and
+//! shows of its own step alone that it labels, offers, picks or adds what the definition says.
 #![tactic(auto)]
 
 pub mod examples;
 pub mod laws;
-pub mod plain;

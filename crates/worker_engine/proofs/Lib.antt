@@ -1,3 +1,4 @@
+pub mod BestSoFar
 pub mod Scans
 pub mod Offering
 pub mod Replying

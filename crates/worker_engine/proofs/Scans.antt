@@ -13,7 +13,7 @@ use Rattle.link_key.proofs.Members.{contains_none}
 use Rattle.round_theory.specs.Labelling.{IsVertex}
 use Rattle.round_theory.specs.Offers.{Leaves, AreLightOffers}
 use Rattle.round_theory.proofs.Leaving.{leaves_apart, leaves_end, leaves_low, leaves_high}
-use Rattle.round_theory.proofs.PlainSteps.{best_out, best_first, best_stays, best_new}
+use Rattle.worker_engine.proofs.BestSoFar.{best_out, best_first, best_stays, best_new}
 use Rattle.worker_engine.specs.declared.scanning.Best.{Best}
 use Rattle.worker_engine.specs.Scanning.{no_best, IsBest, Says, Keeps, best_of, AreBest}
 

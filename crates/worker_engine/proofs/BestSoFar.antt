@@ -1,5 +1,5 @@
--- The plain functions' steps: one more link seen, one more label asked for.
-use Rattle.std.proofs.Common.{◌≡◌, ◌≢◌, ℕ, ◌+◌, ◌<◌, List, [], ◌∷◌, ◌++◌, length, get_or, take, Contains, true, false, Ordering, Less, Equal, Greater, is_le, Option, Some, None, MatchOption, refl, sym, ap, ◌∙◌, subst, inl, inr, arith}
+-- The best place for a label, as one more link of a list is seen.
+use Rattle.std.proofs.Common.{◌≡◌, ◌≢◌, ℕ, ◌+◌, ◌<◌, List, [], ◌∷◌, ◌++◌, length, get_or, take, Contains, true, false, Ordering, Less, Equal, Greater, is_le, Option, Some, None, refl, sym, ap, ◌∙◌, subst, inl, inr, arith}
 use Rattle.std.specs.Ordering.{ordering_reverse}
 use Rattle.std.proofs.lemmas.List.{get_or_append_left, get_or_push, length_push, length-take, length-take-le, get_or_default, get_or-take, take_more}
 use Rattle.std.proofs.lemmas.List.Elements.{Contains-append_left, Contains-push, Contains-push_cases}
@@ -7,10 +7,7 @@ use Rattle.link_key.specs.declared.links.Link.{Link}
 use Rattle.link_key.specs.Link.{IsBelow, key_cmp}
 use Rattle.link_key.proofs.Keys.{key_cmp_total, trichotomy, below_irrefl, below_asymm, below_trans}
 use Rattle.round_theory.specs.Offers.{Leaves, IsLeastLeaving, IsFirstPlace, IsLightOffer}
-
--- what is known of one label once some links of a list are seen: the place of the least that leaves it, or that none does
-abbrev pub IsBest : List Link → List ℕ → ℕ → Option ℕ → Type 0
-IsBest seen labels c best = MatchOption best ((l : Link) → Contains seen l → ¬ (Leaves labels l c)) (λ place. IsLightOffer seen labels c place)
+use Rattle.worker_engine.specs.Scanning.{IsBest}
 
 -- a link that doesn't leave the label, or isn't below the least, changes nothing
 pub light_offer_kept : (seen : List Link) (labels : List ℕ) (c place : ℕ) (x : Link) (offer : IsLightOffer seen labels c place) → (Leaves labels x c → ¬ (IsBelow x offer.0)) → IsLightOffer (seen ++ x ∷ []) labels c place
