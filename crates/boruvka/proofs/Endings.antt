@@ -1,6 +1,6 @@
 -- What the program does, by what its words ask for.
 use Rattle.std.specs.Prelude.{Result}
-use Rattle.std.proofs.Common.{◌≡◌, ℕ, List, [], inl, inr, Ok, Err, refl, arith}
+use Rattle.std.proofs.Common.{◌≡◌, ◌≤◌, ℕ, List, [], inl, inr, Ok, Err, refl, arith}
 use Rattle.limits.specs.declared.TheConstants.{MAX_BYTES}
 use Rattle.byte_streams.specs.Streams.{SourceState, SinkState, Gave}
 use Rattle.byte_streams.proofs.Streaming.{gave_nothing, took_nothing}
@@ -12,7 +12,7 @@ use Rattle.forest_run.specs.PlainRun.{RanPlain}
 use Rattle.forest_run.specs.declared.report.Report.{Report}
 use Rattle.forest_run.specs.declared.fault.RunFault.{RunFault}
 use Rattle.forest_run.specs.declared.fault.RunFault.TheVariants as fault
-use Rattle.boruvka.specs.Status.{EndsWith, EndsOnFile, LeavesOutput, IsUntouched, status_of_run, untold}
+use Rattle.boruvka.specs.Status.{EndsWith, EndsOnFile, LeavesOutput, IsUntouched, status_for, status_of_run, untold}
 
 -- memory was wanting before anything was read or written
 pub wants_memory : (s : SourceState) (a : SinkState) → EndsWith 4 (streams s a) (streams s a)
@@ -24,6 +24,19 @@ wants_memory s a = (
 
 pub wants_memory_on_file : (a : SinkState) → EndsOnFile 4 a a
 wants_memory_on_file a = inr (wants_memory untold a)
+
+-- a plain run ends with no fault of a cut or of workers
+pub fault_status : (why : RunFault) (status : ℕ) (s t : SourceState) (a b : SinkState) → status ≡ status_for why
+    → RanPlain (Err why) (streams s a) (streams t b) → status ≤ 4
+fault_status (fault.Read (read.Gr f)) status s t a b is ran = omega arith
+fault_status (fault.Read (read.Source line)) status s t a b is ran = omega arith
+fault_status (fault.Read read.TooLong) status s t a b is ran = omega arith
+fault_status (fault.Read read.Memory) status s t a b is ran = omega arith
+fault_status (fault.Cut why) status s t a b is ran = (let other = ran.cause in absurd (cc))
+fault_status (fault.Rounds round) status s t a b is ran = (let other = ran.cause in absurd (cc))
+fault_status (fault.Missed link) status s t a b is ran = (let other = ran.cause in absurd (cc))
+fault_status fault.Memory status s t a b is ran = omega arith
+fault_status (fault.Write written) status s t a b is ran = omega arith
 
 -- at a status of those nothing was written
 pub silent_run : (result : Result Report RunFault) (status : ℕ) (s t : SourceState) (a b : SinkState) → status ≡ status_of_run result

@@ -4,7 +4,7 @@ use Rattle.std.specs.Prelude.{All, Contains, Option, max}
 use Rattle.std.proofs.Math.Nat.{mul-le-mul_right}
 use Rattle.std.proofs.lemmas.Bool.{cases_lt}
 use Rattle.std.proofs.lemmas.Nat.{pow_below}
-use Rattle.std.proofs.lemmas.List.Elements.{Contains-append_left, Contains-append_right, All-contains}
+use Rattle.std.proofs.lemmas.List.Elements.{Contains-append_left, Contains-append_right, All-contains, All-contains_itself}
 use Rattle.link_key.specs.declared.links.Link.{Link}
 use Rattle.link_key.specs.Link.{EndsUpTo}
 use Rattle.link_key.specs.Cut.{joined}
@@ -34,7 +34,7 @@ use Rattle.forest_run.proofs.AsksThen.{stayed, asks_then}
 use Rattle.forest_run.proofs.Passing.{asks_more}
 use Rattle.forest_run.proofs.Running.{same_still, rounds_none, rounds_then}
 use Rattle.forest_run.proofs.Chained.{merged_then, light_picks}
-use Rattle.forest_run.proofs.Solving.{named_more, named_given, wide_still}
+use Rattle.forest_run.proofs.Solving.{named_more, named_given, named_listed, all_front, wide_still}
 
 -- rounds that are no more than the vertices allow are few
 pub rounds_few : (n r : ℕ) → n ≤ 2 ^ 26 → 2 ^ r ≤ max 1 n → r ≤ 26
@@ -271,6 +271,9 @@ module _ {P : Type 0} (state : P → PortState) (honest sound : P → Type 0) (g
         asked = (let a = run.went.rounds.asks in let b = counts.asked in omega arith);
         closed = closed;
         finished = f;
+        from_list = λ i d b.
+            named_listed cut merging (get_or forest i d) (all_front (IsFullBook cut) merging last run.went.rounds.whole)
+            (All-contains (IsNamedIn merging) solver.taken (get_or forest i d) run.named ((f.same (get_or forest i d)).0 (All-contains_itself forest i d b)));
         named = λ none l l_in.
             named_given state honest sound gave cut xs ys (merging ++ last) report.answered report.alone run.went.rounds none l
             (let q = All-contains (IsNamedIn merging) solver.taken l run.named ((f.same l).0 l_in) in (q.0, Contains-append_left merging last q.0 q.1, q.2));

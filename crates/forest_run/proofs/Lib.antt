@@ -14,3 +14,6 @@ pub mod Chained
 pub mod Ending
 mod Telling
 mod PlainRunning
+mod NewWires
+mod TalkedLines
+mod LinesRunning

@@ -1,8 +1,8 @@
 -- What the rounds of a run leave for its end.
-use Rattle.std.proofs.Common.{◌≡◌, ℕ, zero, suc, ◌+◌, ◌-◌, ◌*◌, ◌<◌, ◌≤◌, ◌^◌, List, [], ◌∷◌, ◌++◌, length, get_or, refl, ap, sym, subst, ◌∙◌, arith, Some, None}
+use Rattle.std.proofs.Common.{◌≡◌, ℕ, zero, suc, ◌+◌, ◌-◌, ◌*◌, ◌<◌, ◌≤◌, ◌^◌, List, [], ◌∷◌, ◌++◌, length, get_or, refl, ap, sym, subst, ◌∙◌, arith, length-append, Some, None}
 use Rattle.std.specs.Prelude.{All, Any, Contains, Option, map}
 use Rattle.std.proofs.Math.Nat.{mul-le-mul_right}
-use Rattle.std.proofs.lemmas.List.{get_or_default}
+use Rattle.std.proofs.lemmas.List.{get_or_default, get_or_append_left}
 use Rattle.std.proofs.lemmas.List.Elements.{All-append, All-contains, All-contains_itself, Contains-append_left, Contains-append_right}
 use Rattle.link_key.specs.declared.links.Link.{Link}
 use Rattle.frames.specs.AnswerValue.{AnswerValue}
@@ -15,6 +15,9 @@ use Rattle.ports.specs.Ports.{PortState}
 use Rattle.forest_run.specs.Lanes.{LaneState}
 use Rattle.forest_run.specs.Bounds.{IsWide}
 use Rattle.forest_run.specs.Runs.{IsFullBook, IsGivenBy, IsNamedIn, RoundsWent}
+use Rattle.link_key.specs.Cut.{joined}
+use Rattle.round_core.proofs.Full.{full_book_has_all_links}
+use Rattle.round_theory.proofs.Cutting.{named_in_shard}
 use Rattle.forest_run.proofs.Lasting.{one_at_most}
 use Rattle.forest_run.proofs.Running.{opened_misses}
 
@@ -53,6 +56,17 @@ named_more books book labels picks taken added are same all =
     let l = get_or added i d in
     let c : Contains added l = All-contains_itself added i d b in
     (book, Contains-append_right books (book ∷ []) book (0, omega arith, refl), picked_named labels (hearings book) picks l are ((same l).0 c))))
+
+pub all_front : {X : Type 0} (P : X → Type 0) (xs ys : List X) → All P (xs ++ ys) → All P xs
+all_front P xs ys all i d b = subst P (get_or_append_left xs ys d i b) (all i d (omega (arith, length-append xs ys)))
+
+-- a link that an answer in a full book of the cut names is one of the cut's
+pub named_listed : (cut : List (List Link)) (books : List Page) (l : Link) → All (IsFullBook cut) books → IsNamedIn books l → Contains (joined cut) l
+named_listed cut books l full named =
+    let book = named.0 in
+    let is : IsFullBook cut book = All-contains (IsFullBook cut) books book full named.1 in
+    let (k, h, lt, at, here) = named.2 in
+    subst (λ (c : List (List Link)). Contains (joined c) l) is.cut_is ((full_book_has_all_links book is.page is.all l).1 (k, h, lt, at, named_in_shard h l here))
 
 module _ {P : Type 0} (state : P → PortState) (honest sound : P → Type 0) (gave : P → List AnswerValue → Type 0) where
   -- where the coordinator scanned nothing, a lane kept the answer that named it

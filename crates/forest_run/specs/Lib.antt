@@ -14,3 +14,6 @@ pub mod Solved
 pub mod Files
 pub mod Outcomes
 pub mod PlainRun
+pub mod Cuttings
+pub mod WiredLines
+pub mod LinesRun

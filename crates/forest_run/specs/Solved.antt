@@ -114,6 +114,7 @@ pub record SolveWent {P : Type 0} (state : P → PortState) (honest sound : P �
   pub closed : open_of state after + report.closed ≡ open_of state before
   -- the links that the solver took, which are a spanning forest, whatever was answered
   pub finished : IsFinished solver (joined cut) forest
+  pub from_list : All (Contains (joined cut)) forest
   -- where the coordinator scanned nothing, an answer that a lane kept names each link
   pub named : report.alone ≡ 0 → (l : Link) → Contains forest l → (answer : AnswerValue) × IsGivenBy (length before) went.rounds.answers_at answer × Names (hearing_of cut answer) l
   -- where all ports are honest: the minimum spanning forest, and the number of merging rounds

@@ -38,10 +38,12 @@
 #![tactic(auto)]
 
 mod cross;
+mod cutting;
 mod fault;
 mod ferry;
 mod in_memory;
 mod lane;
+mod lines;
 mod pass;
 mod plain;
 mod report;
@@ -51,9 +53,11 @@ mod scans;
 mod seats;
 mod taking;
 
+pub use cutting::Cutting;
 pub use fault::RunFault;
 pub use in_memory::plain_text;
 pub use lane::Lane;
+pub use lines::run_lines;
 pub use plain::run_plain;
 pub use report::Report;
 pub use run::solve;

@@ -1,0 +1,186 @@
+-- What a run over lines did, by what its steps say.
+use Rattle.std.proofs.Common.{◌≡◌, ℕ, zero, suc, ◌+◌, ◌*◌, ◌<◌, ◌≤◌, ◌^◌, ◌⊎◌, inl, inr, true, List, [], ◌∷◌, ◌++◌, length, get_or, map, Some, None, Ok, Err, refl, sym, ap, subst, ◌∙◌, arith}
+use Rattle.std.specs.Prelude.{All, AllPairs, Contains, Result, Vec, max, filter}
+use Rattle.std.proofs.lemmas.List.{length-append, length-map, get_or_append_left, get_or-append-add}
+use Rattle.std.proofs.lemmas.List.Elements.{All-head, All-tail}
+use Rattle.std.proofs.lemmas.List.Sorted.{IsPermutation-remove, length_permutation, Contains-permutation}
+use Rattle.std.proofs.lemmas.List.Sums.{sum_by-cons}
+use Rattle.std.specs.List.{remove}
+use Rattle.limits.specs.declared.TheConstants.{MAX_ARCS, MAX_BYTES}
+use Rattle.byte_streams.specs.Streams.{SourceState, SinkState}
+use Rattle.link_key.specs.Arc.{Arc}
+use Rattle.link_key.specs.declared.links.Link.{Link}
+use Rattle.link_key.specs.declared.cuts.CutFault.{CutFault}
+use Rattle.link_key.specs.declared.cuts.CutFault.TheVariants as cut
+use Rattle.link_key.specs.Cut.{joined, IsCutFault}
+use Rattle.link_key.specs.Link.{IsBelow, IsAscending, EndsUpTo, key_of, arc_key, is_no_loop}
+use Rattle.link_key.specs.Forest.{IsForestOf}
+use Rattle.link_key.proofs.Keys.{below_irrefl}
+use Rattle.gr_text.specs.Graph.{GraphValue, IsGraphOf}
+use Rattle.forest_run.specs.Files.{IsNoRefusal}
+use Rattle.round_theory.specs.Rounds.{IsMergingRounds}
+use Rattle.gr_text.specs.Sourced.{IsReadOf}
+use Rattle.gr_text.proofs.Texts.{means_one_graph}
+use Rattle.round_core.specs.declared.solver.SolveFault.{SolveFault}
+use Rattle.round_core.specs.declared.solver.SolveFault.TheVariants as solving
+use Rattle.ports.specs.Lines.{LineState}
+use Rattle.ports.specs.Wires.{WireState, IsNewWire, port_of, IsHonestWire, IsSoundWire, WireGave}
+use Rattle.forest_run.specs.declared.cutting.Cutting.{Cutting}
+use Rattle.forest_run.specs.declared.fault.RunFault.{RunFault}
+use Rattle.forest_run.specs.declared.fault.RunFault.TheVariants as fault
+use Rattle.forest_run.specs.declared.report.Report.{Report}
+use Rattle.forest_run.specs.Lanes.{LaneState, one_if, open_of}
+use Rattle.forest_run.specs.Cuttings.{cut_refusal, IsCutOf}
+use Rattle.forest_run.specs.Outcomes.{streams, IsUnsolved}
+use Rattle.forest_run.specs.WiredLines.{AreServed, AreNewLanes, LinesSolved, LinesRefused}
+use Rattle.forest_run.specs.LinesRun.{IsSpanningForest, IsLinesReport, LinesWent, IsRefusedRun, IsLinesFault, told_fault, RanLines, IsHonestReport, IsServedFault, RanServed, IsUnhindered}
+use Rattle.forest_run.proofs.PlainRunning.{unsolved}
+use Rattle.forest_run.proofs.NewWires.{served_honest}
+use Rattle.forest_run.proofs.TalkedLines.{have_talked}
+
+-- ---- a list that ascends
+
+-- what ascends and is in a list is no longer than it: of each link one place is taken
+pub no_longer : (xs ys : List Link) → IsAscending xs → All (Contains ys) xs → length xs ≤ length ys
+no_longer [] ys up all = omega arith
+no_longer (x ∷ xs) ys up all =
+    let (k, within, at) = All-head (Contains ys) x xs all in
+    let moved = IsPermutation-remove ys k x within (sym at) in
+    let others : All (Contains (remove ys k)) xs = (λ i d b.
+    other (remove ys k) x (get_or xs i d) (λ e. below_irrefl x (subst (IsBelow x) (sym e) (up 0 (suc i) d (omega arith) (omega arith))))
+    (Contains-permutation ys (x ∷ remove ys k) (get_or xs i d) moved (All-tail (Contains ys) x xs all i d b))) in
+    let rest = no_longer xs (remove ys k) (λ i j d l b. up (suc i) (suc j) d (omega arith) (omega arith)) others in
+    omega (arith, rest, length_permutation ys (x ∷ remove ys k) moved)
+  where
+    other : (zs : List Link) (x y : Link) → ¬ (x ≡ y) → Contains (x ∷ zs) y → Contains zs y
+    other zs x y apart (zero, b, e) = absurd (apart e)
+    other zs x y apart (suc k, b, e) = (k, omega arith, e)
+
+-- ---- cuts
+
+-- where the ends of the list's links are vertices those of each shard's are
+pub shards_ends : (n : ℕ) (shards : List (List Link)) → EndsUpTo n (joined shards) → All (EndsUpTo n) shards
+shards_ends n [] ends i d b = absurd (omega arith)
+shards_ends n (s ∷ shards) ends zero d b = λ i e within. subst (λ l. l.high ≤ n) (get_or_append_left s (joined shards) e i within) (ends i e (omega (arith, length-append s (joined shards))))
+shards_ends n (s ∷ shards) ends (suc k) d b =
+    shards_ends n shards (λ i e within. subst (λ l. l.high ≤ n) (get_or-append-add s (joined shards) i e) (ends (length s + i) e (omega (arith, length-append s (joined shards))))) k d (omega arith)
+
+-- two graphs of one text have as many links
+pub same_length : (bytes : List ℕ) (graph other : GraphValue) → IsGraphOf bytes graph → IsGraphOf bytes other → length graph.links ≡ length other.links
+same_length bytes graph other (arcs, means, links) (arcs', means', links') =
+    let same = means_one_graph bytes graph.vertices other.vertices arcs arcs' means means' in
+    let keys : map key_of graph.links ≡ map key_of other.links = links ∙ (ap (λ (xs : List Arc). map arc_key (filter is_no_loop xs)) same.1 ∙ sym links') in
+    sym (length-map graph.links key_of) ∙ (ap (λ ks. length ks) keys ∙ length-map other.links key_of)
+
+-- a graph has so few links that the text of its forest is told whole
+pub few_enough : (n m : ℕ) → n ≤ m → m ≤ MAX_ARCS → n ≤ 2 ^ 55
+few_enough n m less few = omega (arith, less, few)
+
+-- ---- the forest and the report
+
+module _ {L : Type 0} (state : L → LineState) (faithful : L → ℕ → Type 0) (n : ℕ) (cut : List (List Link)) (links : List Link) (whole : joined cut ≡ links) (before after : List L) (forest : List Link) (report : Report)
+    (solved : LinesSolved state faithful n cut before after forest report) where
+  pub spanning : IsSpanningForest links forest
+  spanning =
+      let f = solved.went.finished in
+      subst (λ (ls : List Link). IsSpanningForest ls forest) whole (record { ascending = f.ascending; from_list = solved.went.from_list; no_cycle = f.no_cycle; spans = f.spans })
+
+  pub few_links : length forest ≤ length links
+  few_links = no_longer forest links spanning.ascending spanning.from_list
+
+  -- all new wires are open
+  open_all : (lanes : List (LaneState (WireState L))) → ((i : ℕ) (d : LaneState (WireState L)) → i < length lanes → (get_or lanes i d).port.is_open ≡ true) → open_of port_of lanes ≡ length lanes
+  open_all [] opened = refl
+  open_all (lane ∷ lanes) opened =
+      let here : one_if lane.port.is_open ≡ 1 = ap one_if (opened 0 lane (omega arith)) in
+      omega (arith, sum_by-cons (λ (l : LaneState (WireState L)). one_if (port_of l.port).is_open) lane lanes, here, open_all lanes (λ i d b. opened (suc i) d (omega arith)))
+
+  pub opened_all : open_of port_of solved.lanes ≡ length before
+  opened_all = open_all solved.lanes (λ i d b. (solved.new.each i d.port.talk.line d (let e = solved.new.number in omega arith)).opened) ∙ solved.new.number
+
+  pub reported : (graph : GraphValue) → n ≡ graph.vertices → graph.links ≡ links → IsLinesReport (length before) graph (length cut) report
+  reported graph vertices same =
+      let went = solved.went in
+      let closed = went.closed in
+      let opened = opened_all in
+      record {
+        vertices = went.counts.vertices ∙ vertices;
+        links = went.counts.links ∙ ap (λ (ls : List Link). length ls) (whole ∙ sym same);
+        shards_are = went.counts.shards;
+        in_time = subst (λ (m : ℕ). 2 ^ report.rounds ≤ max 1 m) vertices went.in_time;
+        asked = went.counts.asked;
+        answered = went.counts.answered;
+        few_closed = omega (arith, closed, opened);
+        alone = λ some. (let none = went.went.rounds.closed some in omega (arith, closed, opened, none));
+      }
+
+  pub least : AreServed state faithful before → IsForestOf links forest
+  least served = subst (λ (ls : List Link). IsForestOf ls forest) whole (solved.went.honest_forest (served_honest state faithful before cut solved.lanes solved.new served))
+
+-- what a run says of a graph that it found a forest of
+module _ {L : Type 0} (state : L → LineState) (faithful : L → ℕ → Type 0) (cutting : Cutting) (graph : GraphValue) (shards : List (List Link)) (is : IsCutOf cutting graph.links shards) (before after : List L) (forest : List Link) (report : Report)
+    (solved : LinesSolved state faithful graph.vertices shards before after forest report) where
+  pub lines_went : LinesWent state faithful cutting before after graph forest report
+  lines_went = record {
+    cut = shards;
+    cut_is = is;
+    report_is = reported state faithful graph.vertices shards graph.links is.whole before after forest report solved graph refl refl;
+    solved = solved;
+    talked = λ scanned closed fresh. have_talked state faithful graph.vertices shards before after forest report solved scanned (open_still scanned closed) fresh;
+  }
+    where
+      open_still : report.alone ≡ 0 → report.closed ≡ 0 → open_of port_of solved.ended ≡ length before
+      open_still scanned closed =
+          let all = opened_all state faithful graph.vertices shards graph.links is.whole before after forest report solved in
+          omega (arith, solved.went.closed, closed, all)
+
+  pub honest_report : AreServed state faithful before → IsHonestReport graph report
+  honest_report served = record {
+    rounds_are =
+        subst (λ (ls : List Link). IsMergingRounds graph.vertices ls report.rounds) is.whole (solved.went.honest_rounds (served_honest state faithful before shards solved.lanes solved.new served));
+    in_time = solved.went.in_time;
+  }
+
+-- ---- why there is no forest
+
+module _ {L : Type 0} (state : L → LineState) (faithful : L → ℕ → Type 0) (cutting : Cutting) (lines : List L) (graph : GraphValue) (s t : SourceState) (a : SinkState) (read : IsReadOf MAX_BYTES (Ok graph) s t) where
+  pub cut_unsolved : (why : CutFault) → IsCutFault (cut_refusal cutting (length graph.links)) why
+      → IsUnsolved (λ g. IsLinesFault state faithful cutting lines g (fault.Cut why)) (streams s a) (streams t a)
+  cut_unsolved why refused = unsolved (λ g. IsLinesFault state faithful cutting lines g (fault.Cut why)) graph s t a read refused
+
+  pub solve_unsolved : (A : Type 0) (shards : List (List Link)) → IsCutOf cutting graph.links shards → (why : SolveFault) → (why ≡ solving.Memory) ⊎ LinesRefused state faithful graph.vertices shards lines why
+      → RanLines {A = A} state faithful cutting lines (Err (told_fault why)) (streams s a) (streams t a)
+  solve_unsolved A shards is (solving.Rounds round) (inl none) = absurd (cc)
+  solve_unsolved A shards is (solving.Rounds round) (inr refused) =
+      unsolved (λ g. IsLinesFault state faithful cutting lines g (fault.Rounds round)) graph s t a read (record { cut = shards; cut_is = is; refused = refused })
+  solve_unsolved A shards is (solving.Missed link) (inl none) = absurd (cc)
+  solve_unsolved A shards is (solving.Missed link) (inr refused) =
+      unsolved (λ g. IsLinesFault state faithful cutting lines g (fault.Missed link)) graph s t a read (record { cut = shards; cut_is = is; refused = refused })
+  solve_unsolved A shards is solving.Memory why = unsolved (λ g. IsLinesFault state faithful cutting lines g fault.Memory) graph s t a read is.allowed
+
+module _ (cutting : Cutting) (graph : GraphValue) (s t : SourceState) (a : SinkState) (read : IsReadOf MAX_BYTES (Ok graph) s t) where
+  pub cut_served : (why : CutFault) → IsCutFault (cut_refusal cutting (length graph.links)) why → IsUnsolved (λ g. IsServedFault cutting g (fault.Cut why)) (streams s a) (streams t a)
+  cut_served why refused = unsolved (λ g. IsServedFault cutting g (fault.Cut why)) graph s t a read refused
+
+  pub solve_served : (X : Type 0) (shards : List (List Link)) → IsCutOf cutting graph.links shards → (why : SolveFault) → why ≡ solving.Memory
+      → RanServed {X = X} cutting (Err (told_fault why)) (streams s a) (streams t a)
+  solve_served X shards is (solving.Rounds round) none = absurd (cc)
+  solve_served X shards is (solving.Missed link) none = absurd (cc)
+  solve_served X shards is solving.Memory none = unsolved (λ g. IsServedFault cutting g fault.Memory) graph s t a read is.allowed
+
+-- a fault of the cut or of the solver isn't one of the file
+pub no_refusal : (X : Type 0) (why : SolveFault) → IsNoRefusal {X = X} (Err (told_fault why))
+no_refusal X (solving.Rounds round) = tt
+no_refusal X (solving.Missed link) = tt
+no_refusal X solving.Memory = tt
+
+pub solve_unhindered : (X : Type 0) (why : SolveFault) → why ≡ solving.Memory → IsUnhindered {X = X} (Err (told_fault why))
+solve_unhindered X (solving.Rounds round) none = absurd (cc)
+solve_unhindered X (solving.Missed link) none = absurd (cc)
+solve_unhindered X solving.Memory none = tt
+
+-- a cut that is allowed is refused for want of memory alone
+pub cut_unhindered : (cutting : Cutting) (links others : ℕ) (why : CutFault) → IsCutFault (cut_refusal cutting links) why → links ≡ others → cut_refusal cutting others ≡ None
+    → why ≡ cut.Memory
+cut_unhindered cutting links others why refused same allowed =
+    subst (λ o. IsCutFault o why) (ap (λ k. cut_refusal cutting k) same ∙ allowed) refused

@@ -1,0 +1,143 @@
+-- New wires over lines, and the lines out of them again.
+use Rattle.std.proofs.Common.{◌≡◌, ℕ, suc, ◌+◌, ◌<◌, ◌≤◌, ◌^◌, ◌⊎◌, inl, inr, List, [], ◌∷◌, ◌++◌, length, get_or, take, drop, refl, sym, ap, subst, ◌∙◌, arith, append_assoc, append-nil, true}
+use Rattle.std.specs.Prelude.{All, reverse}
+use Rattle.std.proofs.lemmas.Bool.{cases_lt}
+use Rattle.std.proofs.lemmas.List.{length-append, length-map, length-reverse, map-append, reverse-append, reverse-reverse, get_or_append_left, get_or-append-add, get_or_push, take_at}
+use Rattle.std.proofs.lemmas.List.Elements.{All-append, All-push, All-nil}
+use Rattle.link_key.specs.declared.links.Link.{Link}
+use Rattle.ports.specs.Lines.{LineState, HasRoom, IsFresh, Tells}
+use Rattle.ports.specs.Talking.{told, IsInStep}
+use Rattle.ports.specs.Wires.{WireState, IsNewWire, port_of, IsHonestWire, IsSoundWire, WireGave}
+use Rattle.ports.proofs.Wiring.{fresh_step}
+use Rattle.forest_run.specs.Lanes.{LaneState, IsIdle}
+use Rattle.forest_run.specs.WiredLines.{AreServed, AreNewLanes, lines_of, LinesSolved, LinesRefused}
+use Rattle.forest_run.specs.Solved.{AreHonest, SolveWent, IsSolveFault}
+use Rattle.forest_run.specs.declared.report.Report.{Report}
+use Rattle.round_core.specs.declared.solver.SolveFault.{SolveFault}
+use Rattle.round_core.specs.declared.solver.SolveFault.TheVariants.{Memory}
+use Rattle.forest_run.proofs.Solving.{all_front}
+
+-- the last of a list is the first of its reverse
+pub reverse_last : {X : Type 0} (xs ys : List X) (x : X) → ys ≡ xs ++ x ∷ [] → reverse ys ≡ x ∷ reverse xs
+reverse_last xs ys x e = ap (λ zs. reverse zs) e ∙ reverse-append xs (x ∷ [])
+
+all_last : {X : Type 0} (P : X → Type 0) (xs : List X) (x : X) → All P (xs ++ x ∷ []) → P x
+all_last P xs x all = subst P (get_or_push xs x x (length xs) refl) (all (length xs) x (omega (arith, length-append xs (x ∷ []))))
+
+module _ {L : Type 0} (state : L → LineState) (cut : List (List Link)) (all : List L) where
+  -- lanes over the first lines; the others are left, the last one first
+  pub record SomeLanes (lanes : List (LaneState (WireState L))) (left : List L) : Type 0 where
+    pub split : all ≡ lines_of lanes ++ reverse left
+    pub each : (worker : ℕ) (line : L) (lane : LaneState (WireState L)) → worker < length lanes
+        → IsNewWire (get_or all worker line) cut worker (get_or lanes worker lane).port
+    pub idle : All IsIdle lanes
+    pub room : All (λ line. HasRoom (state line)) left
+
+  pub no_lanes : (left : List L) → left ≡ reverse all → All (λ line. HasRoom (state line)) all → SomeLanes [] left
+  no_lanes left e room = record {
+    split = sym (reverse-reverse all) ∙ ap (λ xs. reverse xs) (sym e);
+    each = λ worker line lane b. absurd (omega arith);
+    idle = All-nil IsIdle;
+    room = subst (λ xs. All (λ line. HasRoom (state line)) xs) (sym e) (reversed (λ line. HasRoom (state line)) all room);
+  }
+    where
+      reversed : (P : L → Type 0) (xs : List L) → All P xs → All P (reverse xs)
+      reversed P [] a = All-nil P
+      reversed P (x ∷ xs) a =
+          subst (λ zs. All P zs) (sym (reverse-append (x ∷ []) xs)) (All-push P (reverse xs) x (reversed P xs (λ i d b. a (suc i) d (omega arith))) (a 0 x (omega arith)))
+
+  pub lane_more : (lanes : List (LaneState (WireState L))) (left rest : List L) (line : L) (lane : LaneState (WireState L)) → left ≡ rest ++ line ∷ []
+      → IsNewWire line cut (length lanes) lane.port → IsIdle lane → SomeLanes lanes left → SomeLanes (lanes ++ lane ∷ []) rest
+  lane_more lanes left rest line lane e new idle some =
+      let split : all ≡ lines_of lanes ++ line ∷ reverse rest = some.split ∙ ap (λ zs. lines_of lanes ++ zs) (reverse_last rest left line e) in
+      let number : length (lines_of lanes) ≡ length lanes = length-map lanes (λ lane. lane.port.talk.line) in
+      record {
+        split = split ∙ (sym (append_assoc (lines_of lanes) (line ∷ []) (reverse rest))
+            ∙ ap (λ zs. zs ++ reverse rest) (ap (λ l. lines_of lanes ++ l ∷ []) (sym new.line_is) ∙ sym (map-append (λ lane. lane.port.talk.line) lanes (lane ∷ []))));
+        each = λ worker d lane' b. elim (cases_lt worker (length lanes)) [
+          | inl before ↦
+              subst (λ (w : WireState L). IsNewWire (get_or all worker d) cut worker w) (ap (λ l. l.port) (sym (get_or_append_left lanes (lane ∷ []) lane' worker before))) (some.each worker d lane' before)
+          | inr past ↦
+              let at : length lanes ≡ worker = omega (arith, length-append lanes (lane ∷ [])) in
+              let here : get_or all worker d ≡ line = ap (λ zs. get_or zs worker d) split ∙ (ap (λ k. get_or (lines_of lanes ++ line ∷ reverse rest) k d) (omega (arith, number)) ∙ get_or-append-add (lines_of lanes) (line ∷ reverse rest) 0 d) in
+              let there : get_or (lanes ++ lane ∷ []) worker lane' ≡ lane = get_or_push lanes lane lane' worker at in
+              subst (λ (l : L). IsNewWire l cut worker (get_or (lanes ++ lane ∷ []) worker lane').port) (sym here)
+              (subst (λ (x : LaneState (WireState L)). IsNewWire line cut worker x.port) (sym there) (subst (λ k. IsNewWire line cut k lane.port) at new))
+        ];
+        idle = All-push IsIdle lanes lane some.idle idle;
+        room = all_front (λ l. HasRoom (state l)) rest (line ∷ []) (subst (λ xs. All (λ l. HasRoom (state l)) xs) e some.room);
+      }
+
+  -- the room of the line that comes next, and how many lanes there are before it
+  pub next_room : (lanes : List (LaneState (WireState L))) (left rest : List L) (line : L) → left ≡ rest ++ line ∷ [] → SomeLanes lanes left → HasRoom (state line)
+  next_room lanes left rest line e some = all_last (λ l. HasRoom (state l)) rest line (subst (λ xs. All (λ l. HasRoom (state l)) xs) e some.room)
+
+  pub lanes_number : (lanes : List (LaneState (WireState L))) (left : List L) → SomeLanes lanes left → length lanes + length left ≡ length all
+  lanes_number lanes left some =
+      omega (arith, ap (λ zs. length zs) some.split, length-append (lines_of lanes) (reverse left), length-map lanes (λ (lane : LaneState (WireState L)). lane.port.talk.line), length-reverse left)
+
+  pub all_lanes : (lanes : List (LaneState (WireState L))) (left : List L) → left ≡ [] → SomeLanes lanes left → AreNewLanes all cut lanes
+  all_lanes lanes left none some =
+      let number : length lanes ≡ length all = omega (arith, lanes_number lanes left some, ap (λ zs. length zs) none) in
+      record { number = number; each = λ worker line lane b. some.each worker line lane (omega arith); idle = some.idle }
+
+-- ---- the lines out of the lanes
+
+module _ {L : Type 0} where
+  pub lines_reversed : (lanes : List (LaneState (WireState L))) → reverse (reverse lanes) ≡ lanes
+  lines_reversed lanes = reverse-reverse lanes
+
+  pub line_out : (all : List L) (lines : List L) (left rest : List (LaneState (WireState L))) (lane : LaneState (WireState L)) → left ≡ rest ++ lane ∷ []
+      → all ≡ lines ++ lines_of (reverse left) → all ≡ (lines ++ lane.port.talk.line ∷ []) ++ lines_of (reverse rest)
+  line_out all lines left rest lane e split =
+      split ∙ (ap (λ zs. lines ++ lines_of zs) (reverse_last rest left lane e) ∙ sym (append_assoc lines (lane.port.talk.line ∷ []) (lines_of (reverse rest))))
+
+-- ---- what new wires over new lines are
+
+module _ {L : Type 0} (state : L → LineState) (faithful : L → ℕ → Type 0) where
+  pub new_step : (line : L) (cut : List (List Link)) (worker : ℕ) (wire : WireState L) → IsNewWire line cut worker wire → IsFresh (state line) → Tells (state line)
+      → IsInStep (told state wire.talk) [] []
+  new_step line cut worker wire new fresh tells =
+      fresh_step (told state wire.talk) (subst (λ l. IsFresh (state l)) (sym new.line_is) fresh) (subst (λ l. Tells (state l)) (sym new.line_is) tells) new.ungreeted new.nothing_sent
+
+  pub new_sound : (line : L) (cut : List (List Link)) (worker : ℕ) (wire : WireState L) → IsNewWire line cut worker wire → IsFresh (state line) → Tells (state line) → IsSoundWire state wire
+  new_sound line cut worker wire new fresh tells opened = ([], [], new_step line cut worker wire new fresh tells)
+
+  pub new_honest : (line : L) (cut : List (List Link)) (worker : ℕ) (wire : WireState L) → IsNewWire line cut worker wire → IsFresh (state line) → Tells (state line) → faithful line worker
+      → IsHonestWire state faithful wire
+  new_honest line cut worker wire new fresh tells carries =
+      (subst (λ w. faithful wire.talk.line w) (sym new.worker_is) (subst (λ l. faithful l worker) (sym new.line_is) carries), new_sound line cut worker wire new fresh tells)
+
+  -- over lines that are served each wire is honest
+  pub served_honest : (lines : List L) (cut : List (List Link)) (lanes : List (LaneState (WireState L))) → AreNewLanes lines cut lanes → AreServed state faithful lines
+      → AreHonest (IsHonestWire state faithful) lanes
+  served_honest lines cut lanes new served i d b =
+      let within : i < length lines = (let e = new.number in omega arith) in
+      let line : L = d.port.talk.line in
+      let fresh = served.0 i line within in
+      new_honest (get_or lines i line) cut i (get_or lanes i d).port (new.each i line d within) fresh.0 fresh.1 (served.1 i line within)
+
+-- ---- what a run asks of new wires' lanes, and what it leaves of them
+
+module _ {L : Type 0} where
+  pub new_cut : (lines : List L) (cut : List (List Link)) (lanes : List (LaneState (WireState L))) → AreNewLanes lines cut lanes
+      → All (λ (lane : LaneState (WireState L)). (port_of lane.port).cut ≡ cut) lanes
+  new_cut lines cut lanes new k d b = (new.each k d.port.talk.line d (let e = new.number in omega arith)).cut_is
+
+  pub new_counts : (lines : List L) (cut : List (List Link)) (lanes : List (LaneState (WireState L))) → AreNewLanes lines cut lanes
+      → All (λ (lane : LaneState (WireState L)). (port_of lane.port).asks < 2 ^ 63) lanes
+  new_counts lines cut lanes new k d b = (let none = (new.each k d.port.talk.line d (let e = new.number in omega arith)).asks in omega arith)
+
+-- the whole list was written
+pub written_back : {X : Type 0} (n : ℕ) (xs ys : List X) → length ys ≡ n → take n (ys ++ drop (length ys) xs) ≡ ys
+written_back n xs ys e = take_at ys (drop (length ys) xs) n e
+
+module _ {L : Type 0} (state : L → LineState) (faithful : L → ℕ → Type 0) (n : ℕ) (cut : List (List Link)) (lines : List L) (before after : List (LaneState (WireState L))) (new : AreNewLanes lines cut before) where
+  pub solve_fault : (fault : SolveFault) → IsSolveFault port_of (IsHonestWire state faithful) (IsSoundWire state) (WireGave state) n cut before after fault
+      → (fault ≡ Memory) ⊎ LinesRefused state faithful n cut lines fault
+  solve_fault fault (inl none) = inl none
+  solve_fault fault (inr refused) = inr (record { lanes = before; new = new; ended = after; refused = refused })
+
+  pub solve_went : (forest : List Link) (report : Report) (lines' : List L) → SolveWent port_of (IsHonestWire state faithful) (IsSoundWire state) (WireGave state) n cut before after forest report
+      → lines' ≡ lines_of after → LinesSolved state faithful n cut lines lines' forest report
+  solve_went forest report lines' went out = record { lanes = before; new = new; ended = after; went = went; lines_are = out }

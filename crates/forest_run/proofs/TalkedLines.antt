@@ -1,0 +1,175 @@
+-- What was said and heard over lines whose wires stayed open.
+use Rattle.std.proofs.Common.{◌≡◌, ℕ, zero, suc, ◌+◌, ◌<◌, ◌≤◌, Bool, true, false, List, [], ◌∷◌, ◌++◌, length, get_or, map, Some, refl, sym, ap, subst, ◌∙◌, arith, append-nil}
+use Rattle.std.specs.Prelude.{All, Contains, sum_by}
+use Rattle.std.proofs.lemmas.List.{length-map, get_or-map, append_cancel_left}
+use Rattle.std.proofs.lemmas.List.Elements.{All-head, All-tail, Contains-get_or}
+use Rattle.std.proofs.lemmas.List.Sums.{sum_by-cons}
+use Rattle.link_key.specs.declared.links.Link.{Link}
+use Rattle.frames.specs.AnswerValue.{AnswerValue}
+use Rattle.frames.specs.FrameValue.{FrameValue, HelloFrame, AnswerFrame}
+use Rattle.frames.specs.FrameText.{text_of}
+use Rattle.frames.specs.FrameStream.{texts_of, AreLawful, AreFramesOf}
+use Rattle.frames.proofs.FrameStreams.{frames_of_texts, only_frames_of_texts}
+use Rattle.worker_engine.specs.Serving.{asks_in}
+use Rattle.ports.specs.Lines.{LineState}
+use Rattle.ports.specs.Talking.{Talk, told, frames_got, HasGiven, IsInStep}
+use Rattle.ports.specs.Wires.{WireState, port_of, IsHonestWire, IsSoundWire, WireGave}
+use Rattle.forest_run.specs.declared.report.Report.{Report}
+use Rattle.forest_run.specs.Lanes.{LaneState, one_if, asks_of, open_of}
+use Rattle.forest_run.specs.Asks.{AsksWent}
+use Rattle.forest_run.specs.Runs.{IsRefusedIn}
+use Rattle.forest_run.specs.WiredLines.{AreFresh, LinesSolved, Said, HasTalked, HaveTalked, lines_of}
+use Rattle.forest_run.proofs.NewWires.{new_step, new_sound}
+
+-- ---- what was got has one list of answers
+
+answers_back : (xs ys : List AnswerValue) → map AnswerFrame xs ≡ map AnswerFrame ys → xs ≡ ys
+answers_back [] [] same = refl
+answers_back [] (y ∷ ys) same = absurd (cc)
+answers_back (x ∷ xs) [] same = absurd (cc)
+answers_back (x ∷ xs) (y ∷ ys) same =
+    let heads : x ≡ y = cc in
+    let tails : map AnswerFrame xs ≡ map AnswerFrame ys = cc in
+    let rest = answers_back xs ys tails in
+    cc
+
+same_text : (xs ys : List AnswerValue) → AreLawful (map AnswerFrame xs) → AreLawful (map AnswerFrame ys) → texts_of (map AnswerFrame xs) ≡ texts_of (map AnswerFrame ys) → xs ≡ ys
+same_text xs ys lawful lawful' same =
+    let both = frames_of_texts (map AnswerFrame xs) lawful in
+    answers_back xs ys (only_frames_of_texts (map AnswerFrame ys) (map AnswerFrame xs) lawful' (subst (λ t. AreFramesOf t (map AnswerFrame xs)) same both))
+
+same_got : (greeted : Bool) (worker : ℕ) (xs ys : List AnswerValue) → AreLawful (map AnswerFrame xs) → AreLawful (map AnswerFrame ys) → (greeted ≡ false → xs ≡ []) → (greeted ≡ false → ys ≡ [])
+    → texts_of (frames_got greeted worker xs) ≡ texts_of (frames_got greeted worker ys) → xs ≡ ys
+same_got true worker xs ys lawful lawful' silent silent' same =
+    same_text xs ys lawful lawful' (append_cancel_left (text_of (HelloFrame 1 worker)) (texts_of (map AnswerFrame xs)) (texts_of (map AnswerFrame ys)) same)
+same_got false worker xs ys lawful lawful' silent silent' same = silent refl ∙ sym (silent' refl)
+
+given_once : (talk : Talk) (xs ys : List AnswerValue) → HasGiven talk xs → HasGiven talk ys → xs ≡ ys
+given_once talk xs ys given given' =
+    let same : texts_of (frames_got talk.greeted talk.worker xs) ≡ texts_of (frames_got talk.greeted talk.worker ys) = (let a = given.got in let b = given'.got in cc) in
+    same_got talk.greeted talk.worker xs ys given.lawful given'.lawful given.silent given'.silent same
+
+-- ---- lists
+
+-- a list of what there is at each place
+choose : {X : Type 0} (n : ℕ) (R : ℕ → X → Type 0) → ((i : ℕ) → i < n → (x : X) × R i x) → (xs : List X) × (length xs ≡ n) × ((i : ℕ) (d : X) → i < n → R i (get_or xs i d))
+choose {X = X} zero R some = ([], refl, λ i d b. absurd (omega arith))
+choose {X = X} (suc n) R some =
+    let first = some 0 (omega arith) in
+    let rest = choose n (λ i x. R (suc i) x) (λ i b. some (suc i) (omega arith)) in
+    (first.0 ∷ rest.0, ap suc rest.1, each first.0 rest.0 first.1 rest.2)
+  where
+    each : (x : X) (xs : List X) → R 0 x → ((i : ℕ) (d : X) → i < n → R (suc i) (get_or xs i d)) → (i : ℕ) (d : X) → i < suc n → R i (get_or (x ∷ xs) i d)
+    each x xs here others zero d b = here
+    each x xs here others (suc i) d b = others i d (omega arith)
+
+same_sums : {X Y : Type 0} (f : X → ℕ) (g : Y → ℕ) (xs : List X) (ys : List Y) → length xs ≡ length ys → ((i : ℕ) (d : X) (e : Y) → i < length xs → f (get_or xs i d) ≡ g (get_or ys i e)) → sum_by f xs ≡ sum_by g ys
+same_sums f g [] [] same each = refl
+same_sums f g [] (y ∷ ys) same each = absurd (omega (arith, same))
+same_sums f g (x ∷ xs) [] same each = absurd (omega (arith, same))
+same_sums f g (x ∷ xs) (y ∷ ys) same each =
+    omega (arith, sum_by-cons f x xs, sum_by-cons g y ys, each 0 x y (omega arith), same_sums f g xs ys (omega (arith, same)) (λ i d e b. each (suc i) d e (omega arith)))
+
+-- an element of the list, where it has one
+at_place : {X : Type 0} (xs : List X) (i : ℕ) → i < length xs → X
+at_place [] i b = absurd (omega arith)
+at_place (x ∷ xs) i b = x
+
+one_most : (b : Bool) → one_if b ≤ 1
+one_most true = omega arith
+one_most false = omega arith
+
+is_one : (b : Bool) → one_if b ≡ 1 → b ≡ true
+is_one true one = refl
+is_one false none = absurd (omega (arith, none))
+
+-- where as many ports are open as there are, each is
+each_open : {P : Type 0} (is : P → Bool) (xs : List P) → length xs ≤ sum_by (λ x. one_if (is x)) xs → (i : ℕ) (d : P) → i < length xs → is (get_or xs i d) ≡ true
+each_open {P = P} is [] many i d b = absurd (omega arith)
+each_open {P = P} is (x ∷ xs) many zero d b =
+    is_one (is x) (omega (arith, many, sum_by-cons (λ x. one_if (is x)) x xs, one_most (is x), few is xs))
+  where
+    few : (is : P → Bool) (xs : List P) → sum_by (λ x. one_if (is x)) xs ≤ length xs
+    few is [] = omega arith
+    few is (x ∷ xs) = omega (arith, sum_by-cons (λ x. one_if (is x)) x xs, one_most (is x), few is xs)
+each_open {P = P} is (x ∷ xs) many (suc i) d b =
+    each_open is xs (omega (arith, many, sum_by-cons (λ x. one_if (is x)) x xs, one_most (is x))) i d (omega arith)
+
+-- ---- the talks of a run
+
+module _ {L : Type 0} (state : L → LineState) (faithful : L → ℕ → Type 0) (n : ℕ) (cut : List (List Link)) (before after : List L) (forest : List Link) (report : Report)
+    (solved : LinesSolved state faithful n cut before after forest report) where
+  -- what was said and heard over the line at a place, and how often it was asked
+  record Talked (i : ℕ) (said : Said) : Type 0 where
+    pub each : (line : L) → HasTalked cut (state (get_or after i line)) said
+    pub answers : said.1 ≡ solved.went.went.rounds.answers_at i
+    pub asks : (lane : LaneState (WireState L)) → asks_in said.0 ≡ (port_of (get_or solved.ended i lane).port).asks
+
+  module _ (scanned : report.alone ≡ 0) (still : open_of port_of solved.ended ≡ length before) (fresh : AreFresh state before) where
+    number : length solved.ended ≡ length before
+    number = solved.went.went.rounds.ports.same_lanes ∙ solved.new.number
+
+    talked_at : (i : ℕ) → i < length before → (said : Said) × Talked i said
+    talked_at i within =
+        let rounds = solved.went.went.rounds in
+        let d : LaneState (WireState L) = at_place solved.ended i (omega (arith, number)) in
+        let line : L = d.port.talk.line in
+        let first = get_or solved.lanes i d in
+        let last = get_or solved.ended i d in
+        let went = rounds.ports.each i d (omega (arith, solved.new.number)) in
+        let new = solved.new.each i line d within in
+        let news = fresh i line within in
+        let opened : last.port.is_open ≡ true = each_open (λ (lane : LaneState (WireState L)). lane.port.is_open) solved.ended (omega (arith, still, number)) i d (omega (arith, number)) in
+        let (said, answers, step) = went.sound_is (new_sound state faithful (get_or before i line) cut i first.port new news.0 news.1) opened in
+        let given = went.given opened [] (new_step state faithful (get_or before i line) cut i first.port new news.0 news.1).gave in
+        let same : answers ≡ rounds.answers_at i = given_once (told state last.port.talk) answers (rounds.answers_at i) step.gave given in
+        let one_open : one_if last.port.is_open ≡ 1 = ap one_if opened in
+        let one_new : one_if first.port.is_open ≡ 1 = ap one_if new.opened in
+        let asks : asks_in said ≡ last.port.asks = omega (arith, step.asked, ap (λ ts. length ts) same, went.asks, one_open, one_new, new.asks) in
+        let out : (line' : L) → get_or after i line' ≡ last.port.talk.line =
+        λ line'. ap (λ ls. get_or ls i line') solved.lines_are ∙ get_or-map (λ (lane : LaneState (WireState L)). lane.port.talk.line) solved.ended i d line' (omega (arith, number)) in (
+          (said, answers),
+          record {
+            each = λ line'. record { talk = told state last.port.talk; line_is = ap state (sym (out line')); cut_is = went.cut ∙ new.cut_is; in_step = step };
+            answers = same;
+            asks = λ lane. asks ∙ ap (λ (l : LaneState (WireState L)). l.port.asks) (same_place solved.ended i d lane (omega (arith, number)));
+          },
+        )
+      where
+        same_place : {X : Type 0} (xs : List X) (i : ℕ) (d e : X) → i < length xs → get_or xs i d ≡ get_or xs i e
+        same_place [] i d e b = absurd (omega arith)
+        same_place (x ∷ xs) zero d e b = refl
+        same_place (x ∷ xs) (suc i) d e b = same_place xs i d e (omega arith)
+
+    -- a new wire was never asked
+    none_asked : (lanes : List (LaneState (WireState L))) → ((i : ℕ) (d : LaneState (WireState L)) → i < length lanes → (get_or lanes i d).port.asks ≡ 0) → asks_of port_of lanes ≡ 0
+    none_asked [] none = refl
+    none_asked (lane ∷ lanes) none =
+        omega (arith, sum_by-cons (λ (l : LaneState (WireState L)). (port_of l.port).asks) lane lanes, none 0 lane (omega arith), none_asked lanes (λ i d b. none (suc i) d (omega arith)))
+
+    pub have_talked : HaveTalked state cut forest report.asked after
+    have_talked =
+        let (talks, many, each) = choose (length before) Talked talked_at in
+        let outs : length after ≡ length before = ap (λ ls. length ls) solved.lines_are ∙ (length-map solved.ended (λ (lane : LaneState (WireState L)). lane.port.talk.line) ∙ number) in
+        let start = none_asked solved.lanes (λ i d b. (solved.new.each i d.port.talk.line d (omega (arith, solved.new.number))).asks) in
+        let sums : sum_by (λ (said : Said). asks_in said.0) talks ≡ asks_of port_of solved.ended =
+        same_sums (λ (said : Said). asks_in said.0) (λ (lane : LaneState (WireState L)). (port_of lane.port).asks) talks solved.ended (many ∙ sym number)
+        (λ i d e b. (each i d (omega (arith, many))).asks e) in
+        record {
+          talks = talks;
+          number = many ∙ sym outs;
+          each = λ worker line said b. (each worker said (omega (arith, outs))).each line;
+          asks = omega (arith, sums, start, solved.went.asked);
+          named = λ l l_in.
+              let (answer, given, names) = solved.went.named scanned l l_in in
+              let i : ℕ = given.0 in
+              let within : i < length before = (let b = given.1 in omega (arith, solved.new.number)) in
+              let d : Said = ([], []) in
+              let said : Said = get_or talks i d in (
+                said,
+                answer,
+                Contains-get_or talks i d (omega (arith, many)),
+                subst (λ (ts : List AnswerValue). Contains ts answer) (sym (each i d within).answers) given.2,
+                names,
+              );
+        }

@@ -1,0 +1,124 @@
+use Rattle.std.proofs.Common.{◌≡◌, ◌∙◌, ◌≤◌, ◌^◌, Vec, Ok, Err, ap, length}
+use Rattle.link_key.specs.declared.links.Link.{Link}
+use Rattle.link_key.specs.Link.{EndsUpTo}
+use Rattle.link_key.specs.Cut.{joined, IsCutFault}
+use Rattle.gr_text.specs.Graph.{GraphValue}
+use Rattle.forest_run.specs.Cuttings.{cut_refusal, IsCutOf}
+use Rattle.forest_run.specs.WiredLines.{AreServed, LinesSolved, LinesRefused}
+use Rattle.forest_run.specs.Outcomes.{IsLeast}
+use Rattle.forest_run.specs.LinesRun.{IsSpanning}
+use Rattle.forest_run.proofs.Telling.{reads_the_file, first_of_failed, no_fault_of_lawful}
+use Rattle.forest_run.proofs.PlainRunning.{unread, done, broken_off}
+use Rattle.forest_run.proofs.LinesRunning.{shards_ends, few_enough, same_length, spanning, few_links, least, lines_went, honest_report, cut_unsolved, cut_served, solve_unsolved, solve_served, no_refusal, solve_unhindered, cut_unhindered}
+use Rattle.forest_run.proofs.lines.run_lines.Goals as goal
+
+-- ---- the file isn't read
+
+pub returns-in-Err-clause-malformed : goal.returns-in-Err-clause-malformed
+returns-in-Err-clause-malformed g c = λ bytes file nothing.
+    first_of_failed c.in-Err.fault bytes file.within (reads_the_file bytes _ _ (Err c.in-Err.fault) file.told file.no_failure c.in-Err.ensures.outcome)
+
+pub returns-in-Err-clause-lawful : goal.returns-in-Err-clause-lawful
+returns-in-Err-clause-lawful g c = λ bytes file means.
+    no_fault_of_lawful c.in-Err.fault bytes means.0 means.1 (reads_the_file bytes _ _ (Err c.in-Err.fault) file.told file.no_failure c.in-Err.ensures.outcome)
+
+pub returns-in-Err-clause-ends_well : goal.returns-in-Err-clause-ends_well
+returns-in-Err-clause-ends_well g c = λ served bytes graph file means allowed.
+    no_fault_of_lawful c.in-Err.fault bytes graph means (reads_the_file bytes _ _ (Err c.in-Err.fault) file.told file.no_failure c.in-Err.ensures.outcome)
+
+-- ---- the list isn't cut
+
+pub returns-in-Err-cut_links-clause-ran : goal.returns-in-Err-cut_links-clause-ran
+returns-in-Err-cut_links-clause-ran g c =
+    cut_unsolved g.L.Line.state g.L.Line.faithful c.args.cutting c.args.lines.items c.in-Ok.graph _ _ _ c.in-Ok.ensures.outcome c.in-Err-cut_links.fault
+    (rw c.links.ensures.links at c.in-Err-cut_links.ensures.refused)
+
+pub returns-in-Err-cut_links-clause-served : goal.returns-in-Err-cut_links-clause-served
+returns-in-Err-cut_links-clause-served g c = λ served.
+    cut_served c.args.cutting c.in-Ok.graph _ _ _ c.in-Ok.ensures.outcome c.in-Err-cut_links.fault
+    (rw c.links.ensures.links at c.in-Err-cut_links.ensures.refused)
+
+pub returns-in-Err-cut_links-clause-malformed : goal.returns-in-Err-cut_links-clause-malformed
+returns-in-Err-cut_links-clause-malformed g c = λ bytes file nothing.
+    absurd (nothing _ (reads_the_file bytes _ _ (Ok _) file.told file.no_failure c.in-Ok.ensures.outcome).1)
+
+pub returns-in-Err-cut_links-clause-ends_well : goal.returns-in-Err-cut_links-clause-ends_well
+returns-in-Err-cut_links-clause-ends_well g c = λ served bytes graph file means allowed.
+    cut_unhindered c.args.cutting (length c.links.result.now) (length graph.links) c.in-Err-cut_links.fault c.in-Err-cut_links.ensures.refused
+    (ap (λ ls. length ls) c.links.ensures.links ∙ same_length bytes c.in-Ok.graph graph (reads_the_file bytes _ _ (Ok c.in-Ok.graph) file.told file.no_failure c.in-Ok.ensures.outcome).1 means.means) allowed
+
+-- ---- no forest is found
+
+pub solve_lines-requires-clause-ends : goal.solve_lines-requires-clause-ends
+solve_lines-requires-clause-ends g c κs within =
+    let ends : EndsUpTo c.n.result (joined c.in-Ok-cut_links.cut) = rw (c.n.ensures.vertices, c.in-Ok-cut_links.ensures.cut.whole, c.links.ensures.links) c.links.ensures.ends in
+    shards_ends c.n.result c.in-Ok-cut_links.cut ends
+
+pub returns-in-Err-solve_lines-clause-ran : goal.returns-in-Err-solve_lines-clause-ran
+returns-in-Err-solve_lines-clause-ran g c =
+    let cut : IsCutOf c.args.cutting c.in-Ok.graph.links c.in-Ok-cut_links.cut = rw c.links.ensures.links at c.in-Ok-cut_links.ensures.cut in
+    rw c.run_fault.ensures
+    (solve_unsolved g.L.Line.state g.L.Line.faithful c.args.cutting c.args.lines.items c.in-Ok.graph _ _ _ c.in-Ok.ensures.outcome g.row.A.Denot c.in-Ok-cut_links.cut cut c.in-Err-solve_lines.fault
+    (rw c.n.ensures.vertices at c.in-Err-solve_lines.ensures.fault))
+
+pub returns-in-Err-solve_lines-clause-served : goal.returns-in-Err-solve_lines-clause-served
+returns-in-Err-solve_lines-clause-served g c = λ served.
+    let cut : IsCutOf c.args.cutting c.in-Ok.graph.links c.in-Ok-cut_links.cut = rw c.links.ensures.links at c.in-Ok-cut_links.ensures.cut in
+    rw c.run_fault.ensures
+    (solve_served c.args.cutting c.in-Ok.graph _ _ _ c.in-Ok.ensures.outcome (Vec g.row.L.Denot g.row.A.Denot) c.in-Ok-cut_links.cut cut c.in-Err-solve_lines.fault (c.in-Err-solve_lines.ensures.served served))
+
+pub returns-in-Err-solve_lines-clause-malformed : goal.returns-in-Err-solve_lines-clause-malformed
+returns-in-Err-solve_lines-clause-malformed g c = λ bytes file nothing.
+    absurd (nothing _ (reads_the_file bytes _ _ (Ok _) file.told file.no_failure c.in-Ok.ensures.outcome).1)
+
+-- ---- a forest is found
+
+pub returns-in-Ok-write_forest-clause-ran : goal.returns-in-Ok-write_forest-clause-ran
+returns-in-Ok-write_forest-clause-ran g c =
+    let solved = c.in-Ok-solve_lines.solved in
+    let cut : IsCutOf c.args.cutting c.in-Ok.graph.links c.in-Ok-cut_links.cut = rw c.links.ensures.links at c.in-Ok-cut_links.ensures.cut in
+    let went : LinesSolved g.L.Line.state g.L.Line.faithful c.in-Ok.graph.vertices c.in-Ok-cut_links.cut c.args.lines.items solved.2.items solved.0 solved.1 = rw c.n.ensures.vertices at c.in-Ok-solve_lines.ensures.went in
+    done IsSpanning _ c.in-Ok.graph solved.0 c.n-2.result _ _ _ _ c.in-Ok.ensures.outcome
+    (spanning g.L.Line.state g.L.Line.faithful c.in-Ok.graph.vertices c.in-Ok-cut_links.cut c.in-Ok.graph.links cut.whole c.args.lines.items solved.2.items solved.0 solved.1 went) c.n-2.ensures.vertices
+    (c.in-Ok-write_forest.ensures.whole)
+    (lines_went g.L.Line.state g.L.Line.faithful c.args.cutting c.in-Ok.graph c.in-Ok-cut_links.cut cut c.args.lines.items solved.2.items solved.0 solved.1 went)
+
+pub returns-in-Ok-write_forest-clause-served : goal.returns-in-Ok-write_forest-clause-served
+returns-in-Ok-write_forest-clause-served g c = λ served.
+    let solved = c.in-Ok-solve_lines.solved in
+    let cut : IsCutOf c.args.cutting c.in-Ok.graph.links c.in-Ok-cut_links.cut = rw c.links.ensures.links at c.in-Ok-cut_links.ensures.cut in
+    let went : LinesSolved g.L.Line.state g.L.Line.faithful c.in-Ok.graph.vertices c.in-Ok-cut_links.cut c.args.lines.items solved.2.items solved.0 solved.1 = rw c.n.ensures.vertices at c.in-Ok-solve_lines.ensures.went in
+    done IsLeast _ c.in-Ok.graph solved.0 c.n-2.result _ _ _ _ c.in-Ok.ensures.outcome
+    (least g.L.Line.state g.L.Line.faithful c.in-Ok.graph.vertices c.in-Ok-cut_links.cut c.in-Ok.graph.links cut.whole c.args.lines.items solved.2.items solved.0 solved.1 went served) c.n-2.ensures.vertices
+    (c.in-Ok-write_forest.ensures.whole)
+    (honest_report g.L.Line.state g.L.Line.faithful c.args.cutting c.in-Ok.graph c.in-Ok-cut_links.cut cut c.args.lines.items solved.2.items solved.0 solved.1 went served)
+
+pub returns-in-Ok-write_forest-clause-malformed : goal.returns-in-Ok-write_forest-clause-malformed
+returns-in-Ok-write_forest-clause-malformed g c = λ bytes file nothing.
+    absurd (nothing _ (reads_the_file bytes _ _ (Ok _) file.told file.no_failure c.in-Ok.ensures.outcome).1)
+
+-- ---- and not all of its text went out
+
+pub returns-clause-ran : goal.returns-clause-ran
+returns-clause-ran g c =
+    let solved = c.in-Ok-solve_lines.solved in
+    let cut : IsCutOf c.args.cutting c.in-Ok.graph.links c.in-Ok-cut_links.cut = rw c.links.ensures.links at c.in-Ok-cut_links.ensures.cut in
+    let went : LinesSolved g.L.Line.state g.L.Line.faithful c.in-Ok.graph.vertices c.in-Ok-cut_links.cut c.args.lines.items solved.2.items solved.0 solved.1 = rw c.n.ensures.vertices at c.in-Ok-solve_lines.ensures.went in
+    let few = few_links g.L.Line.state g.L.Line.faithful c.in-Ok.graph.vertices c.in-Ok-cut_links.cut c.in-Ok.graph.links cut.whole c.args.lines.items solved.2.items solved.0 solved.1 went in
+    broken_off IsSpanning _ c.in-Ok.graph solved.0 c.n-2.result _ _ _ _ c.in-Ok.ensures.outcome
+    (spanning g.L.Line.state g.L.Line.faithful c.in-Ok.graph.vertices c.in-Ok-cut_links.cut c.in-Ok.graph.links cut.whole c.args.lines.items solved.2.items solved.0 solved.1 went) (few_enough (length solved.0) (length c.in-Ok.graph.links) few c.links.ensures.few)
+    c.n-2.ensures.vertices c.in-Err-write_forest.ensures.part
+
+pub returns-clause-served : goal.returns-clause-served
+returns-clause-served g c = λ served.
+    let solved = c.in-Ok-solve_lines.solved in
+    let cut : IsCutOf c.args.cutting c.in-Ok.graph.links c.in-Ok-cut_links.cut = rw c.links.ensures.links at c.in-Ok-cut_links.ensures.cut in
+    let went : LinesSolved g.L.Line.state g.L.Line.faithful c.in-Ok.graph.vertices c.in-Ok-cut_links.cut c.args.lines.items solved.2.items solved.0 solved.1 = rw c.n.ensures.vertices at c.in-Ok-solve_lines.ensures.went in
+    let few = few_links g.L.Line.state g.L.Line.faithful c.in-Ok.graph.vertices c.in-Ok-cut_links.cut c.in-Ok.graph.links cut.whole c.args.lines.items solved.2.items solved.0 solved.1 went in
+    broken_off IsLeast _ c.in-Ok.graph solved.0 c.n-2.result _ _ _ _ c.in-Ok.ensures.outcome
+    (least g.L.Line.state g.L.Line.faithful c.in-Ok.graph.vertices c.in-Ok-cut_links.cut c.in-Ok.graph.links cut.whole c.args.lines.items solved.2.items solved.0 solved.1 went served) (few_enough (length solved.0) (length c.in-Ok.graph.links) few c.links.ensures.few)
+    c.n-2.ensures.vertices c.in-Err-write_forest.ensures.part
+
+pub returns-clause-malformed : goal.returns-clause-malformed
+returns-clause-malformed g c = λ bytes file nothing.
+    absurd (nothing _ (reads_the_file bytes _ _ (Ok _) file.told file.no_failure c.in-Ok.ensures.outcome).1)

@@ -1,0 +1,106 @@
+-- A run over lines to workers.
+use Rattle.std.specs.Prelude.{◌≡◌, ℕ, ◌+◌, ◌*◌, ◌^◌, ◌<◌, ◌≤◌, ⊤, max, List, length, All, Contains, None, Vec, Result, Ok, Err}
+use Rattle.link_key.specs.declared.links.Link.{Link}
+use Rattle.link_key.specs.declared.cuts.CutFault.TheVariants as cut
+use Rattle.link_key.specs.Cut.{IsCutFault}
+use Rattle.link_key.specs.Link.{IsAscending}
+use Rattle.gr_text.specs.Graph.{GraphValue}
+use Rattle.gr_text.specs.declared.faults.ReadFault.TheVariants as read
+use Rattle.round_theory.specs.LinkSet.{HasNoCycle, Spans}
+use Rattle.round_theory.specs.Rounds.{IsMergingRounds}
+use Rattle.round_core.specs.declared.solver.SolveFault.{SolveFault}
+use Rattle.round_core.specs.declared.solver.SolveFault.TheVariants as solving
+use Rattle.ports.specs.Lines.{LineState}
+use Rattle.forest_run.specs.declared.report.Report.{Report}
+use Rattle.forest_run.specs.declared.fault.RunFault.{RunFault}
+use Rattle.forest_run.specs.declared.fault.RunFault.TheVariants as fault
+use Rattle.forest_run.specs.declared.cutting.Cutting.{Cutting}
+use Rattle.forest_run.specs.Cuttings.{cut_refusal, IsCutOf}
+use Rattle.forest_run.specs.Outcomes.{Streams, Ran, IsLeast}
+use Rattle.forest_run.specs.WiredLines.{AreFresh, LinesSolved, LinesRefused, HaveTalked}
+
+-- ---- a run whatever the workers answer
+
+-- the links are a spanning forest of the list's: some of them, in the order of their keys, which close no cycle and join what the list joins
+pub record IsSpanningForest (links forest : List Link) : Type 0 where
+  pub ascending : IsAscending forest
+  pub from_list : All (Contains links) forest
+  pub no_cycle : HasNoCycle (Contains forest)
+  pub spans : Spans (Contains forest) links
+
+abbrev pub IsSpanning : GraphValue → List Link → Type 0
+IsSpanning graph forest = IsSpanningForest graph.links forest
+
+-- what a run over so many lines reports of a graph that was cut into so many shards
+pub record IsLinesReport (lines : ℕ) (graph : GraphValue) (shards : ℕ) (report : Report) : Type 0 where
+  pub vertices : report.vertices ≡ graph.vertices
+  pub links : report.links ≡ length graph.links
+  pub shards_are : report.shards ≡ shards
+  pub in_time : 2 ^ report.rounds ≤ max 1 graph.vertices
+  -- each ask brought an answer or closed a port, and each shard of each round was answered or scanned alone
+  pub asked : report.asked ≡ report.answered + report.closed
+  pub answered : report.answered + report.alone ≡ (report.rounds + 1) * shards
+  -- no more ports were closed than there were, and shards were scanned alone only where all were
+  pub few_closed : report.closed ≤ lines
+  pub alone : 0 < report.alone → report.closed ≡ lines
+
+-- a run that found a forest over lines, which come back in their order
+pub record LinesWent {L : Type 0} (state : L → LineState) (faithful : L → ℕ → Type 0) (cutting : Cutting) (before after : List L) (graph : GraphValue) (forest : List Link) (report : Report) : Type 0 where
+  pub cut : List (List Link)
+  pub cut_is : IsCutOf cutting graph.links cut
+  pub report_is : IsLinesReport (length before) graph (length cut) report
+  pub solved : LinesSolved state faithful graph.vertices cut before after forest report
+  -- where no port was closed and nothing scanned alone: each line's bytes are the asks and their answers, which name all links of the forest
+  pub talked : report.alone ≡ 0 → report.closed ≡ 0 → AreFresh state before → HaveTalked state cut forest report.asked after
+
+-- a run over new wires, whose rounds' answers the solver refuses by this fault
+pub record IsRefusedRun {L : Type 0} (state : L → LineState) (faithful : L → ℕ → Type 0) (cutting : Cutting) (lines : List L) (graph : GraphValue) (why : SolveFault) : Type 0 where
+  pub cut : List (List Link)
+  pub cut_is : IsCutOf cutting graph.links cut
+  pub refused : LinesRefused state faithful graph.vertices cut lines why
+
+-- why a run over lines has no forest of a graph: its list can't be cut so; the answers of a round are past the bound, or their links don't join the ends of a link; or want of memory
+abbrev pub IsLinesFault : {L : Type 0} → (L → LineState) → (L → ℕ → Type 0) → Cutting → List L → GraphValue → RunFault → Type 0
+IsLinesFault state faithful cutting lines graph (fault.Cut why) = IsCutFault (cut_refusal cutting (length graph.links)) why
+IsLinesFault state faithful cutting lines graph (fault.Rounds round) = IsRefusedRun state faithful cutting lines graph (solving.Rounds round)
+IsLinesFault state faithful cutting lines graph (fault.Missed link) = IsRefusedRun state faithful cutting lines graph (solving.Missed link)
+IsLinesFault state faithful cutting lines graph fault.Memory = cut_refusal cutting (length graph.links) ≡ None
+IsLinesFault state faithful cutting lines graph other = ⊥
+
+-- what such a fault of the solver's is told as
+abbrev pub told_fault : SolveFault → RunFault
+told_fault (solving.Rounds round) = fault.Rounds round
+told_fault (solving.Missed link) = fault.Missed link
+told_fault solving.Memory = fault.Memory
+
+-- what a run over these lines did that answered this, whatever the workers answered: a report, and the lines
+abbrev pub RanLines : {L A : Type 0} → (L → LineState) → (L → ℕ → Type 0) → Cutting → List L → Result (Report × Vec L A) RunFault → Streams → Streams → Type 0
+RanLines state faithful cutting lines = Ran IsSpanning (λ graph forest r. LinesWent state faithful cutting lines r.1.items graph forest r.0) (IsLinesFault state faithful cutting lines)
+
+-- ---- a run whose lines are all served by the worker's engine
+
+-- the report has the number of the list's merging rounds
+pub record IsHonestReport (graph : GraphValue) (report : Report) : Type 0 where
+  pub rounds_are : IsMergingRounds graph.vertices graph.links report.rounds
+  pub in_time : 2 ^ report.rounds ≤ max 1 graph.vertices
+
+-- why such a run has no forest of a graph: its list can't be cut so, or want of memory
+abbrev pub IsServedFault : Cutting → GraphValue → RunFault → Type 0
+IsServedFault cutting graph (fault.Cut why) = IsCutFault (cut_refusal cutting (length graph.links)) why
+IsServedFault cutting graph fault.Memory = cut_refusal cutting (length graph.links) ≡ None
+IsServedFault cutting graph other = ⊥
+
+-- what such a run did: it found the minimum spanning forest, after just its merging rounds
+abbrev pub RanServed : {X : Type 0} → Cutting → Result (Report × X) RunFault → Streams → Streams → Type 0
+RanServed cutting = Ran IsLeast (λ graph forest r. IsHonestReport graph r.0) (IsServedFault cutting)
+
+-- ---- what follows for a source that tells
+
+-- the answer is no fault but want of memory, or a setback of the sink
+abbrev pub IsUnhindered : {X : Type 0} → Result X RunFault → Type 0
+IsUnhindered (Ok x) = ⊤
+IsUnhindered (Err (fault.Read why)) = why ≡ read.Memory
+IsUnhindered (Err (fault.Cut why)) = why ≡ cut.Memory
+IsUnhindered (Err fault.Memory) = ⊤
+IsUnhindered (Err (fault.Write written)) = ⊤
+IsUnhindered other = ⊥

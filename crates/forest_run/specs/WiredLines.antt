@@ -1,0 +1,74 @@
+-- Lines to workers, and a run over new wires over them.
+use Rattle.std.specs.Prelude.{◌≡◌, ℕ, ◌+◌, ◌<◌, List, length, map, sum_by, slice_index_or, All, Contains}
+use Rattle.link_key.specs.declared.links.Link.{Link}
+use Rattle.frames.specs.AnswerValue.{AnswerValue}
+use Rattle.frames.specs.FrameValue.{FrameValue}
+use Rattle.round_theory.specs.Offers.{Names}
+use Rattle.worker_engine.specs.Serving.{asks_in}
+use Rattle.round_core.specs.Page.{hearing_of}
+use Rattle.round_core.specs.declared.solver.SolveFault.{SolveFault}
+use Rattle.ports.specs.Lines.{LineState, IsFresh, Tells}
+use Rattle.ports.specs.Talking.{Talk, IsInStep}
+use Rattle.ports.specs.Wires.{WireState, IsNewWire, port_of, IsHonestWire, IsSoundWire, WireGave}
+use Rattle.forest_run.specs.declared.report.Report.{Report}
+use Rattle.forest_run.specs.Lanes.{LaneState, IsIdle}
+use Rattle.forest_run.specs.Solved.{SolveWent, RunRefused}
+
+-- ---- the lines
+
+-- each line is new and tells its bytes
+abbrev pub AreFresh : {L : Type 0} → (L → LineState) → List L → Type 0
+AreFresh state lines = All (λ line. IsFresh (state line) × Tells (state line)) lines
+
+-- each line is new and tells its bytes, and the line at each place is faithful for the worker of that number
+abbrev pub AreServed : {L : Type 0} → (L → LineState) → (L → ℕ → Type 0) → List L → Type 0
+AreServed state faithful lines = AreFresh state lines × ((worker : ℕ) (d : _) → worker < length lines → faithful (slice_index_or lines worker d) worker)
+
+-- lanes with a new wire over each line: the wire at each place is for the worker of that number
+pub record AreNewLanes {L : Type 0} (lines : List L) (cut : List (List Link)) (lanes : List (LaneState (WireState L))) : Type 0 where
+  pub number : length lanes ≡ length lines
+  pub each : (worker : ℕ) (line : L) (lane : LaneState (WireState L)) → worker < length lines
+      → IsNewWire (slice_index_or lines worker line) cut worker (slice_index_or lanes worker lane).port
+  pub idle : All IsIdle lanes
+
+-- the lines of lanes, in their order
+abbrev pub lines_of : {L : Type 0} → List (LaneState (WireState L)) → List L
+lines_of lanes = map (λ lane. lane.port.talk.line) lanes
+
+-- ---- what a run does to them
+
+-- over new wires a run of their lanes found this forest of the cut's links, for the vertices 1 to n; the lines were taken out again in their order
+pub record LinesSolved {L : Type 0} (state : L → LineState) (faithful : L → ℕ → Type 0) (n : ℕ) (cut : List (List Link)) (before after : List L) (forest : List Link) (report : Report) : Type 0 where
+  pub lanes : List (LaneState (WireState L))
+  pub new : AreNewLanes before cut lanes
+  pub ended : List (LaneState (WireState L))
+  pub went : SolveWent port_of (IsHonestWire state faithful) (IsSoundWire state) (WireGave state) n cut lanes ended forest report
+  pub lines_are : after ≡ lines_of ended
+
+-- over new wires the rounds of a run were answered so that the solver refuses them by this fault
+pub record LinesRefused {L : Type 0} (state : L → LineState) (faithful : L → ℕ → Type 0) (n : ℕ) (cut : List (List Link)) (lines : List L) (fault : SolveFault) : Type 0 where
+  pub lanes : List (LaneState (WireState L))
+  pub new : AreNewLanes lines cut lanes
+  pub ended : List (LaneState (WireState L))
+  pub refused : RunRefused port_of (IsHonestWire state faithful) (IsSoundWire state) (WireGave state) n cut lanes ended fault
+
+-- ---- the bytes on the lines
+
+-- what was said and heard with a worker
+abbrev pub Said : Type 0
+Said = List FrameValue × List AnswerValue
+
+-- a new line's whole talk about shards of the cut: these frames were sent, and a hello and these answers got, one for each ask, and nothing else
+pub record HasTalked (cut : List (List Link)) (line : LineState) (said : Said) : Type 0 where
+  pub talk : Talk
+  pub line_is : talk.line ≡ line
+  pub cut_is : talk.cut ≡ cut
+  pub in_step : IsInStep talk said.0 said.1
+
+-- what was said and heard over all lines, at each place: so many asks in all, and each link of the forest is named by one of the answers
+pub record HaveTalked {L : Type 0} (state : L → LineState) (cut : List (List Link)) (forest : List Link) (asked : ℕ) (lines : List L) : Type 0 where
+  pub talks : List Said
+  pub number : length talks ≡ length lines
+  pub each : (worker : ℕ) (line : L) (said : Said) → worker < length lines → HasTalked cut (state (slice_index_or lines worker line)) (slice_index_or talks worker said)
+  pub asks : sum_by (λ said. asks_in said.0) talks ≡ asked
+  pub named : (l : Link) → Contains forest l → (said : Said) × (answer : AnswerValue) × Contains talks said × Contains said.1 answer × Names (hearing_of cut answer) l

@@ -1,0 +1,195 @@
+//! A run over lines to workers, from the bytes of a file to the text of its forest.
+ghost use Rattle.std.specs.Prelude.{◌≡◌, ℕ, ◌⊎◌, ◌≤◌, List, [], None, length, All, IfOk, IfErr, OnOk, vec_capacity};
+ghost use Rattle.limits.specs.declared.TheConstants.{MAX_ARCS, MAX_VERTICES, MAX_WORKERS};
+ghost use Rattle.link_key.specs.Cut.{joined, IsCutFault};
+ghost use Rattle.link_key.specs.Link.{EndsUpTo};
+ghost use Rattle.link_key.specs.Forest.{IsForestOf};
+ghost use Rattle.gr_text.specs.Graph.{GraphValue};
+ghost use Rattle.round_theory.specs.Rounds.{IsMergingRounds};
+ghost use Rattle.round_core.specs.declared.solver.SolveFault.TheVariants.{Memory};
+ghost use Rattle.ports.specs.Lines.{HasRoom};
+ghost use Rattle.forest_run.specs.Files.{HasFile, IsFileOf, MeansGraph, MeansNothing, IsFirstFaultOf, IsNoRefusal};
+ghost use Rattle.forest_run.specs.Outcomes.{streams};
+ghost use Rattle.forest_run.specs.Cuttings.{cut_refusal, IsCutOf};
+ghost use Rattle.forest_run.specs.WiredLines.{AreServed, AreNewLanes, lines_of, LinesSolved, LinesRefused};
+ghost use Rattle.forest_run.specs.LinesRun.{RanLines, RanServed, IsUnhindered, told_fault};
+
+use crate::cutting::Cutting;
+use crate::fault::RunFault;
+use crate::lane::Lane;
+use crate::report::Report;
+use crate::run::solve;
+use byte_streams::{Sink, Source};
+use gr_text::{read_graph, write_forest};
+use limits::MAX_WORKERS;
+use link_key::{Cut, CutFault, Forest, Link};
+use ports::{Line, Wire};
+use round_core::SolveFault;
+use std::alloc::{AllocError, Allocator};
+use std::sync::Wait;
+use std::thread::Threads;
+
+// Cuts the links as it was asked for.
+fn cut_links<'a, A: Allocator + Copy>(
+    alloc: A,
+    links: &'a [Link],
+    cutting: Cutting,
+) -> Result<Cut<'a, A>, CutFault>
+    requires few_links { length links.now ≤ MAX_ARCS }
+    ensures cut { IfOk result (IsCutOf cutting.entry links.now) }
+    ensures refused { IfErr result (IsCutFault (cut_refusal cutting.entry (length links.now))) }
+{
+    match cutting {
+        Cutting::Even(count) => Cut::even(alloc, links, count),
+        Cutting::At(places) => Cut::at(alloc, links, places),
+    }
+}
+
+// A lane with a new wire over each line, the wire at place i for worker i. `lines` is left empty, and keeps its room.
+fn open_lanes<'a, L: Line + Drop, A: Allocator + Copy>(
+    alloc: A,
+    cut: &'a Cut<'a, A>,
+    lines: &mut Vec<L, A>,
+) -> Result<Vec<Lane<Wire<'a, L, A>, A>, A>, AllocError>
+    requires few { length lines.old.items ≤ MAX_WORKERS }
+    requires room { All (λ line. HasRoom (L.state line)) lines.old.items }
+    ensures lanes { IfOk result (λ lanes. AreNewLanes lines.old.items cut.now lanes.items) }
+    ensures left { OnOk result (lines.new.items ≡ []) }
+    ensures capacity { OnOk result (length lines.old.items ≤ vec_capacity lines.new) }
+{
+    let mut lanes = Vec::with_capacity(alloc, lines.len())?;
+    lines.reverse();
+    while let Some(line) = lines.pop() {
+        let worker = lanes.len() as u32;
+        lanes.push_reserved(Lane::new(alloc, Wire::new(alloc, line, cut, worker)));
+    }
+    Ok(lanes)
+}
+
+// The lines of the lanes, in their order, into `lines`, which has room for them.
+fn close_lanes<'a, L: Line + Drop, A: Allocator + Copy>(
+    mut lanes: Vec<Lane<Wire<'a, L, A>, A>, A>,
+    lines: &mut Vec<L, A>,
+)
+    requires none { lines.old.items ≡ [] }
+    requires room { length lanes.items ≤ vec_capacity lines.old }
+    ensures lines { lines.new.items ≡ lines_of lanes.entry.items }
+{
+    lanes.reverse();
+    while let Some(lane) = lanes.pop() {
+        lines.push_reserved(lane.into_port().into_line());
+    }
+}
+
+// What a run is told whose rounds gave no forest.
+fn run_fault(fault: SolveFault) -> RunFault
+    ensures { result ≡ told_fault fault }
+{
+    match fault {
+        SolveFault::Rounds { round } => RunFault::Rounds { round },
+        SolveFault::Missed { link } => RunFault::Missed { link },
+        SolveFault::Memory => RunFault::Memory,
+    }
+}
+
+// Finds a spanning forest of the cut's links over new wires, and takes the lines out of them.
+fn solve_lines<
+    'a,
+    L: Line + Send + Drop,
+    A: Allocator + Copy + Send + Sync,
+    R: Threads + Wait + Sync,
+>(
+    rt: &R,
+    alloc: A,
+    n: u32,
+    cut: &'a Cut<'a, A>,
+    mut lines: Vec<L, A>,
+) -> Result<(Forest<A>, Report, Vec<L, A>), SolveFault>
+    requires few { length lines.items ≤ MAX_WORKERS }
+    requires room { All (λ line. HasRoom (L.state line)) lines.items }
+    requires vertices { n ≤ MAX_VERTICES }
+    requires ends { All (EndsUpTo n) cut.now }
+    ensures went { IfOk result (λ r. LinesSolved L.state L.faithful n cut.now lines.items r.2.items r.0 r.1) }
+    ensures fault { IfErr result (λ fault. (fault ≡ Memory) ⊎ LinesRefused L.state L.faithful n cut.now lines.items fault) }
+    ensures served { IfErr result (λ fault. AreServed L.state L.faithful lines.items → fault ≡ Memory) }
+{
+    let mut lanes = open_lanes(alloc, cut, &mut lines)?;
+    let (forest, report) = solve(rt, alloc, n, cut, &mut lanes)?;
+    close_lanes(lanes, &mut lines);
+    Ok((forest, report, lines))
+}
+
+/// Reads a graph of at most [`limits::MAX_BYTES`] bytes, finds its minimum spanning forest over lines to workers, and
+/// writes the forest's text. It answers what the run did, and the lines as it left them, in their order.
+///
+/// The links are cut as `cutting` says, and the worker at line i, numbered from 0, is asked for the light offers of one
+/// shard after another, as [`solve`] says. A line that fails, or over which something else than an answer comes, is given
+/// up for good, and its shards are asked of the others; where none is left they are scanned here. So a failing line is
+/// never the run's fault. Where all lines carry the sessions of their workers the links are the minimum spanning forest;
+/// whatever comes over them, the links close no cycle and span those of the file.
+///
+/// It waits for the workers' answers. The forest is whole before the first byte is written; after a fault the lines are
+/// dropped. It takes a list of the links, the places of the cut, 600 bytes a line, and what [`solve`] takes; the time of
+/// a round is that of scanning the links once, shared by the workers.
+pub fn run_lines<
+    S: Source,
+    W: Sink,
+    L: Line + Send + Drop,
+    A: Allocator + Copy + Send + Sync,
+    R: Threads + Wait + Sync,
+>(
+    rt: &R,
+    alloc: A,
+    source: &mut S,
+    cutting: Cutting,
+    lines: Vec<L, A>,
+    sink: &mut W,
+) -> Result<(Report, Vec<L, A>), RunFault>
+    requires source { S.can_read source.old }
+    requires sink { W.can_write sink.old }
+    requires few { length lines.items ≤ MAX_WORKERS }
+    requires room { All (λ line. HasRoom (L.state line)) lines.items }
+
+    // Whatever the workers answer: the source was read to its end, and exactly the text of a spanning forest went out, or
+    // the fault says what was done.
+    ensures ran { RanLines L.state L.faithful cutting.entry lines.items result (streams (S.state source.old) (W.state sink.old))
+        (streams (S.state source.new) (W.state sink.new)) }
+
+    // Where each line is new and carries its worker's session: the minimum spanning forest, after as many rounds as merge
+    // components.
+    ensures served { AreServed L.state L.faithful lines.items → RanServed cutting.entry result
+        (streams (S.state source.old) (W.state sink.old)) (streams (S.state source.new) (W.state sink.new)) }
+
+    // A file that means nothing is refused by its first fault, where no read fails; one that means a graph isn't.
+    ensures malformed { (bytes : List ℕ) → HasFile bytes (S.state source.old) (S.state source.new)
+        → MeansNothing bytes → IsFirstFaultOf bytes result }
+    ensures lawful { (bytes : List ℕ) → HasFile bytes (S.state source.old) (S.state source.new)
+        → MeansGraph bytes → IsNoRefusal result }
+
+    // Over such lines, where the cut of the file's graph is allowed, only want of memory and the sink can hinder a run.
+    ensures ends_well { AreServed L.state L.faithful lines.items → (bytes : List ℕ) (graph : GraphValue)
+        → HasFile bytes (S.state source.old) (S.state source.new) → IsFileOf bytes graph
+        → cut_refusal cutting.entry (length graph.links) ≡ None → IsUnhindered result }
+
+    // After a run that ends well the sink can be written again.
+    ensures again { OnOk result (W.can_write sink.new) }
+{
+    let graph = match read_graph(alloc, source) {
+        Ok(graph) => graph,
+        Err(fault) => return Err(RunFault::Read(fault)),
+    };
+    let cut = match cut_links(alloc, graph.links(), cutting) {
+        Ok(cut) => cut,
+        Err(fault) => return Err(RunFault::Cut(fault)),
+    };
+    let (forest, report, lines) = match solve_lines(rt, alloc, graph.n(), &cut, lines) {
+        Ok(solved) => solved,
+        Err(fault) => return Err(run_fault(fault)),
+    };
+    match write_forest(sink, graph.n(), &forest) {
+        Ok(_) => Ok((report, lines)),
+        Err(fault) => Err(RunFault::Write {
+            written: fault.written,
+        }),
+    }
+}
