@@ -10,6 +10,7 @@ pub mod Rounds
 pub mod Runs
 pub mod Chains
 pub mod Reports
+pub mod ReportText
 pub mod Solved
 pub mod Files
 pub mod Outcomes

@@ -1,10 +1,8 @@
 // Workers in threads at the far ends of connections.
-ghost use Rattle.std.specs.Prelude.{◌≡◌, ◌<◌, ◌≤◌, length, All, IfOk};
-ghost use Rattle.ports.specs.Lines.{HasRoom};
-ghost use Rattle.forest_run.specs.Lanes.{IsIdle};
-ghost use Rattle.tcp_lines.specs.Lines.{line_of, unused};
+ghost use Rattle.std.specs.Prelude.{◌≡◌, ◌+◌, ◌≤◌, length, All, OnOk};
+ghost use Rattle.tcp_lines.specs.Lines.{unused};
 
-use forest_run::{Lane, Report, solve};
+use forest_run::{Cutting, Report, run_lines};
 use link_key::{Cut, Labels};
 use ports::{Port, PortFault, Wire};
 use std::alloc::{AllocError, Global};
@@ -15,31 +13,7 @@ use std::test::Fail;
 use std::thread::Threads;
 use std::time::{Duration, Instant};
 use tcp_lines::{TcpLine, Workers, pair};
-use worked_graphs::{EQUAL_WEIGHTS, SMALL_NET, all_have_labels, have_labels, links_of};
-
-/// A lane to a worker at the far end of a connection.
-type Far<'a> = Lane<Wire<'a, TcpLine, Global>, Global>;
-
-// A lane over each line, to the worker of its place.
-fn lanes<'a>(
-    alloc: Global,
-    cut: &'a Cut<'a>,
-    lines: Vec<TcpLine>,
-) -> Result<Vec<Far<'a>>, AllocError>
-    requires count { length lines.items ≤ 64 }
-    requires unused { All (λ line. line ≡ unused) lines.items }
-    ensures count { IfOk result (λ lanes. length lanes.items ≤ 64) }
-    ensures cut { IfOk result (λ lanes. All (λ lane. lane.port.talk.cut ≡ cut.now) lanes.items) }
-    ensures asks { IfOk result (λ lanes. All (λ lane. lane.port.asks ≡ 0) lanes.items) }
-    ensures idle { IfOk result (λ lanes. All IsIdle lanes.items) }
-{
-    let mut lanes = Vec::new(alloc);
-    for line in lines {
-        let worker = lanes.len() as u32;
-        lanes.push(Lane::new(alloc, Wire::new(alloc, line, cut, worker)))?;
-    }
-    Ok(lanes)
-}
+use worked_graphs::{EQUAL_WEIGHTS, SMALL_NET, have_labels, links_of};
 
 // An ask of a round for the whole triangle is answered by its offers.
 fn expect_offers(
@@ -98,31 +72,33 @@ fn a_worker_who_hangs_up_is_down(rt: HostRuntime) -> Result<(), Fail> {
     Ok(())
 }
 
-// A run over the small net, cut into so many shards, ends with its forest and this report.
-fn expect_run(
+// What a run over the small net, cut into so many shards, reports: it writes the net's forest.
+#[tactic(auto, using(crate::proofs::NewLines::unused_room))]
+fn report_of(
     rt: &(impl Threads + Abort + Wait + Sync),
     alloc: Global,
     shards: u32,
     lines: Vec<TcpLine>,
-    expected: Report,
-) -> Result<(), Fail>
+) -> Report
     requires count { length lines.items ≤ 64 }
     requires unused { All (λ line. line ≡ unused) lines.items }
 {
-    let links = links_of(alloc, 6, SMALL_NET.arcs)?.expect(rt, "arcs");
-    let forest = links_of(alloc, 6, SMALL_NET.forest)?.expect(rt, "arcs");
-    assert!(rt; links.len() <= 1 << 30);
-    let cut = Cut::even(alloc, links.as_slice(), shards).expect(rt, "a cut");
-    assert!(rt; all_have_labels(&cut, 6));
-    let mut lanes = lanes(alloc, &cut, lines)?;
-    let (found, report) = solve(rt, alloc, 6, &cut, lanes.as_mut_slice()).expect(rt, "a forest");
-    assert_eq!(rt; found.links(), forest.as_slice());
-    assert_eq!(rt; report, expected);
-    Ok(())
+    let mut source = SMALL_NET.file;
+    let mut text = Vec::new(alloc);
+    let cutting = Cutting::Even(shards);
+    match run_lines(rt, alloc, &mut source, cutting, lines, &mut text) {
+        Ok((report, _lines)) => {
+            assert_eq!(rt; text.as_slice(), SMALL_NET.text);
+            report
+        }
+        Err(_) => panic!(rt; "a forest"),
+    }
 }
 
-// What a run over the small net reports where each shard of its three rounds was answered.
-fn all_answered(shards: u32) -> Report {
+// What it reports where each shard of its three rounds was answered.
+fn all_answered(shards: u32) -> Report
+    requires { shards ≤ 4096 }
+{
     let asks = 3 * u64::from(shards);
     Report {
         vertices: 6,
@@ -141,7 +117,7 @@ fn each_shard_is_answered_by_one_of_three_workers(rt: HostRuntime) -> Result<(),
     let alloc = rt.alloc();
     let (lines, workers) = Workers::start(&rt, alloc, 3)?;
     assert_eq!(rt; lines.len(), 3);
-    expect_run(&rt, alloc, 2, lines, all_answered(2))?;
+    assert_eq!(rt; report_of(&rt, alloc, 2, lines), all_answered(2));
     workers.join(&rt);
     Ok(())
 }
@@ -154,7 +130,7 @@ fn many_small_shards_take_no_time(rt: HostRuntime) -> Result<(), Fail> {
     let (lines, workers) = Workers::start(&rt, alloc, 1)?;
     assert_eq!(rt; lines.len(), 1);
     let start = Instant::now(&rt)?;
-    expect_run(&rt, alloc, 64, lines, all_answered(64))?;
+    assert_eq!(rt; report_of(&rt, alloc, 64, lines), all_answered(64));
     assert!(rt; start.elapsed(&rt)? < Duration::from_secs(1));
     workers.join(&rt);
     Ok(())
@@ -165,8 +141,20 @@ fn as_many_workers_as_may_be(rt: HostRuntime) -> Result<(), Fail> {
     let alloc = rt.alloc();
     let (lines, workers) = Workers::start(&rt, alloc, 64)?;
     assert_eq!(rt; lines.len(), 64);
-    expect_run(&rt, alloc, 4, lines, all_answered(4))?;
+    assert_eq!(rt; report_of(&rt, alloc, 4, lines), all_answered(4));
     workers.join(&rt);
+    Ok(())
+}
+
+// One line more.
+#[tactic(auto, using(crate::proofs::NewLines::unused_push))]
+fn add(lines: &mut Vec<TcpLine>, line: TcpLine) -> Result<(), AllocError>
+    requires unused { All (λ line. line ≡ unused) lines.old.items }
+    requires line { line ≡ unused }
+    ensures unused { OnOk result (All (λ line. line ≡ unused) lines.new.items) }
+    ensures count { OnOk result (length lines.new.items ≡ length lines.old.items + 1) }
+{
+    lines.push(line)?;
     Ok(())
 }
 
@@ -177,19 +165,11 @@ fn a_worker_who_hangs_up_leaves_its_shards_to_the_other(rt: HostRuntime) -> Resu
     let listener = TcpListener::bind(&rt, (Ipv4Addr::LOCALHOST, 0))?;
     let (line, far) = pair(&rt, &listener).map_err(|_| "a pair")?;
     drop(far);
-    lines.push(line)?;
-    let links = links_of(alloc, 6, SMALL_NET.arcs)?.expect(&rt, "arcs");
-    let forest = links_of(alloc, 6, SMALL_NET.forest)?.expect(&rt, "arcs");
-    assert!(rt; links.len() <= 1 << 30);
-    let cut = Cut::even(alloc, links.as_slice(), 2).expect(&rt, "a cut");
-    assert!(rt; all_have_labels(&cut, 6));
-    let mut lanes = lanes(alloc, &cut, lines)?;
-    let (found, report) = solve(&rt, alloc, 6, &cut, lanes.as_mut_slice()).expect(&rt, "a forest");
-    assert_eq!(rt; found.links(), forest.as_slice());
+    add(&mut lines, line)?;
+    let report = report_of(&rt, alloc, 2, lines);
     assert_eq!(rt; (report.rounds, report.answered, report.alone), (2, 6, 0));
     assert!(rt; report.closed <= 1);
     assert_eq!(rt; report.asked, 6 + report.closed);
-    drop(lanes);
     workers.join(&rt);
     Ok(())
 }
