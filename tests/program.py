@@ -1,14 +1,14 @@
 #!/usr/bin/env python3
-"""Tries the built program whole: what it does with words, files, streams, statuses and refused memory.
+"""Tries the built program whole: words, files, streams, statuses, workers that fail, and refused memory.
 
 usage: tests/program.py [PROGRAM]
 
 PROGRAM is crates/boruvka/out/boruvka if none is named. The cases stand in tests/cases, by subject; running.py there
-says how they run the program. Memory is refused, and what goes to sockets is seen, by small libraries that are
-preloaded (tests/refusing.c, tests/failing.c, built by cc into a temporary folder). The recipes of docs/RECIPES.md are
-run as they stand; a picture is drawn only where `dot` is there. Else Python's standard library, a shell with its usual
-tools and a C compiler are all that it needs. The last line is `N passed, M failed`, and the status is 0 only where none
-failed.
+says how they run the program. Memory is refused, and calls of sockets fail, by small libraries that are preloaded
+(tests/refusing.c and tests/failing.c, built by cc into a temporary folder). What docs/RECIPES.md and the manual page
+show is run as it stands; a picture is drawn only where `dot` is there. Else Python's standard library, make, a shell
+with its usual tools and a C compiler are all that it needs. The last line is `N passed, M failed`, and the status is 0
+only where none failed.
 """
 import os
 import subprocess
@@ -18,7 +18,7 @@ import time
 
 sys.dont_write_bytecode = True
 
-from cases import words, streams, memory, documents  # noqa: F401, I001 (they run in this order)
+from cases import words, streams, workers, sockets, memory, documents  # noqa: F401, I001 (they run in this order)
 from cases.running import CASES, Program
 
 

@@ -4,6 +4,7 @@
  * all from the first on). For each that is refused a byte goes to the descriptor REFUSED, so that whoever started the
  * program sees whether one was. It takes no memory itself. */
 #include <errno.h>
+#include <stdatomic.h>
 #include <stdlib.h>
 #include <unistd.h>
 
@@ -12,7 +13,8 @@ void *__libc_calloc(size_t count, size_t size);
 void *__libc_realloc(void *block, size_t size);
 void *__libc_memalign(size_t align, size_t size);
 
-static unsigned long first, last, asked;
+static unsigned long first, last;
+static atomic_ulong asked;
 static int told = -1;
 
 static unsigned long number(const char *name, unsigned long otherwise) {
@@ -23,7 +25,6 @@ static unsigned long number(const char *name, unsigned long otherwise) {
 __attribute__((constructor)) static void begin(void) {
     told = (int)number("REFUSED", (unsigned long)-1);
     last = number("REFUSE_LAST", (unsigned long)-1);
-    asked = 0;
     first = number("REFUSE_FIRST", 0);
 }
 
@@ -31,8 +32,8 @@ static int refuses_next(void) {
     if (!first) {
         return 0;
     }
-    asked += 1;
-    if (asked < first || asked > last) {
+    unsigned long at = atomic_fetch_add(&asked, 1) + 1;
+    if (at < first || at > last) {
         return 0;
     }
     if (told >= 0 && write(told, "x", 1) < 0) {

@@ -2,7 +2,8 @@
 import os
 import resource
 
-from cases.running import NO_MEMORY, SMALL_FOREST, SMALL_NET, SMALL_REPORT, built, case, drawn_graph, expect, ran, written
+from cases.running import NO_MEMORY, SMALL_FOREST, SMALL_NET, SMALL_REPORT, Report, built, case, drawn_graph, expect, ran, written
+from cases.workers import over
 
 
 def refused(room, words, source, first, last):
@@ -37,6 +38,29 @@ def each_refused(room, words, source, output, errors):
             raise AssertionError(f"only {first - 1} allocations were refused: is the library preloaded?")
 
 
+def each_refused_over_workers(room, source, output, workers, shards):
+    """The same over workers: one that finds no memory is left out, or its line closed, and then the run goes on."""
+    words = [*over(workers, shards), "--report"]
+    for is_alone in (False, True):
+        first = 1
+        while True:
+            found, count = refused(room, words, source, first, first if is_alone else None)
+            expect_right_or_no_memory(found, output, workers, shards)
+            if not count:
+                expect(found[:2] + (b"",), 0, output, b"")
+                break
+            first += 1
+        if first < 50:
+            raise AssertionError(f"only {first - 1} allocations were refused: is the library preloaded?")
+
+
+def expect_right_or_no_memory(found, output, workers, shards):
+    if found[:2] == (0, output):
+        Report(found[2]).expect_equations(shards, workers)
+    else:
+        expect(found, 4, b"", NO_MEMORY)
+
+
 @case
 def the_first_allocation_refused(room):
     found, count = refused(room, ["--plain"], SMALL_NET, 1, None)
@@ -59,6 +83,12 @@ def each_allocation_of_a_longer_run_refused(room):
 def each_allocation_of_a_named_file_refused(room):
     name = written(f"{room}/net.gr", SMALL_NET)
     each_refused(room, ["--plain", name], b"", SMALL_FOREST, b"")
+
+
+@case
+def each_allocation_of_a_run_over_workers_refused(room):
+    each_refused_over_workers(room, SMALL_NET, SMALL_FOREST, 2, 4)
+    each_refused_over_workers(room, SMALL_NET, SMALL_FOREST, 0, 2)
 
 
 @case
@@ -88,19 +118,27 @@ def least_space_for_help():
     return enough * page
 
 
-def grown_space(words, source, text, last):
-    """Thirty runs in ever more address space, from the least for the help to the last size: each is right, or tells that
-    there is no memory. The sizes grow faster and faster; the last is enough."""
+def grown_space(last):
+    """Thirty sizes of address space, from the least for the help to the last, which grow faster and faster."""
     least = least_space_for_help()
-    for step in range(30):
-        size = least + (last - least) * step**2 // 29**2
-        found = in_space(size, words, source)
-        if found not in ((0, text, b""), (4, b"", NO_MEMORY)):
-            raise AssertionError(f"{size} bytes of address space: {found!r:.600}")
-    expect(found, 0, text, b"")
+    return [least + (last - least) * step**2 // 29**2 for step in range(30)]
 
 
 @case
 def little_address_space(_room):
     file, text = drawn_graph(8, 30_000, 200_000)
-    grown_space(["--plain"], file, text, 32 << 20)
+    for size in grown_space(32 << 20):
+        found = in_space(size, ["--plain"], file)
+        if found != (0, text, b""):
+            expect(found, 4, b"", NO_MEMORY)
+    expect(found, 0, text, b"")
+
+
+@case
+def little_address_space_for_workers(_room):
+    file, text = drawn_graph(7, 3000, 10_000)
+    for size in grown_space(1 << 30):
+        found = in_space(size, [*over(2, 4), "--report"], file)
+        expect_right_or_no_memory(found, text, 2, 4)
+    # in a gigabyte both workers have their threads
+    expect((Report(found[2]).alone, b"", b""), 0, b"", b"")

@@ -6,8 +6,8 @@ import time
 
 from cases.running import NOTHING_WRITTEN, SECONDS, SMALL_FOREST, SMALL_NET, Program, case, expect, ran, told_by, written
 
-# by one thread
-MODES = [["--plain"]]
+# by one thread, and over workers
+MODES = [["--plain"], ["--workers", "2", "--shards", "4"]]
 
 
 @case

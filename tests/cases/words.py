@@ -6,13 +6,15 @@ from cases.running import SMALL_FOREST, SMALL_NET, SMALL_REPORT, case, drawn_gra
 
 @case
 def standard_input_to_standard_output(_room):
-    expect(ran(["--plain"], SMALL_NET), 0, SMALL_FOREST, b"")
+    for words in [[], ["--plain"]]:
+        expect(ran(words, SMALL_NET), 0, SMALL_FOREST, b"")
 
 
 @case
 def a_file_by_its_name(room):
     written(f"{room}/net.gr", SMALL_NET)
-    expect(ran(["--plain", "net.gr"], cwd=room), 0, SMALL_FOREST, b"")
+    for words in [[], ["--plain"]]:
+        expect(ran([*words, "net.gr"], cwd=room), 0, SMALL_FOREST, b"")
 
 
 @case
@@ -67,18 +69,14 @@ def a_malformed_file(room):
 
 
 @case
-def no_plain_word(_room):
-    expect(ran([], SMALL_NET), 2, b"", b"boruvka: --plain is needed\n")
-
-
-@case
 def wrong_words(_room):
     usage = b"\n\nUsage: boruvka [OPTIONS] [FILE]\n\nFor more information, try '--help'.\n"
     tip = b"\n\n  tip: to pass '--wrong' as a value, use '-- --wrong'"
     expect(ran(["--wrong"], SMALL_NET), 2, b"", b"error: unexpected argument '--wrong' found" + tip + usage)
-    for words in [["--plain", "--workers=65"], ["--plain", "--shards=0"], ["--plain", "--shards=4097"], ["--plain", "a", "b"]]:
-        status, output, errors = ran(words, SMALL_NET)
-        expect((status, output, errors[:7]), 2, b"", b"error: ")
+    for words in [["--workers=65"], ["--workers=-1"], ["--shards=0"], ["--shards", "4097"], ["--workers"], ["a", "b"]]:
+        for more in [[], ["--plain"]]:
+            status, output, errors = ran([*more, *words], SMALL_NET)
+            expect((status, output, errors[:7]), 2, b"", b"error: ")
 
 
 @case

@@ -1,0 +1,134 @@
+"""Runs over workers: the forest is the same whatever their number and that of the shards, and the report's equations hold."""
+import os
+import random
+import resource
+import time
+
+from cases.running import SMALL_FOREST, SMALL_NET, Report, case, drawn_graph, expect, ran
+
+
+def over(workers, shards):
+    return ["--workers", str(workers), "--shards", str(shards)]
+
+
+@case
+def the_report_for_each_number_of_workers_and_shards(_room):
+    for workers in [0, 1, 2, 64]:
+        for shards in [1, 2, 64, 4096]:
+            status, output, errors = ran([*over(workers, shards), "--report"], SMALL_NET)
+            Report(errors).expect_equations(shards, workers)
+            # two rounds take links, and a third finds none; nothing fails
+            asked, alone = (3 * shards, 0) if workers else (0, 3 * shards)
+            line = f"vertices=6 links=8 rounds=2 shards={shards} asked={asked} answered={asked} alone={alone} closed=0\n"
+            expect((status, output, errors), 0, SMALL_FOREST, line.encode())
+
+
+@case
+def two_workers_and_sixty_four_shards_where_no_words_say_so(_room):
+    line = b"vertices=6 links=8 rounds=2 shards=64 asked=192 answered=192 alone=0 closed=0\n"
+    expect(ran(["--report"], SMALL_NET), 0, SMALL_FOREST, line)
+    expect(ran(["--report", "--workers", "2", "--shards", "64"], SMALL_NET), 0, SMALL_FOREST, line)
+
+
+@case
+def small_graphs(_room):
+    # (file, forest text, merging rounds): no vertex, a loop, repeats, equal weights, the bound on rounds met, a negative weight
+    rows = [
+        ("p sp 0 0\n", "p sp 0 0\n", 0),
+        ("p sp 1 1\na 1 1 5\n", "p sp 1 0\n", 0),
+        ("p sp 2 3\na 1 2 7\na 2 1 7\na 1 2 4\n", "p sp 2 1\na 1 2 4\n", 1),
+        ("p sp 3 3\na 1 2 5\na 2 3 5\na 1 3 5\n", "p sp 3 2\na 1 2 5\na 1 3 5\n", 1),
+        (
+            "p sp 8 7\na 1 2 1\na 3 4 1\na 5 6 1\na 7 8 1\na 2 3 2\na 6 7 2\na 4 5 3\n",
+            "p sp 8 7\na 1 2 1\na 3 4 1\na 5 6 1\na 7 8 1\na 2 3 2\na 6 7 2\na 4 5 3\n",
+            3,
+        ),
+        ("p sp 4 2\na 1 2 -3\na 3 4 0\n", "p sp 4 2\na 1 2 -3\na 3 4 0\n", 1),
+    ]
+    for file, text, rounds in rows:
+        for workers, shards in [(0, 1), (1, 3), (2, 2), (3, 64)]:
+            status, output, errors = ran([*over(workers, shards), "--report"], file.encode())
+            expect((status, output, b""), 0, text.encode(), b"")
+            report = Report(errors)
+            report.expect_equations(shards, workers)
+            if report.rounds != rounds:
+                raise AssertionError(f"{file!r}: {rounds} rounds take links: {vars(report)}")
+        expect(ran(["--plain"], file.encode()), 0, text.encode(), b"")
+
+
+@case
+def forty_drawn_graphs_as_by_one_thread(_room):
+    draw = random.Random(40)
+    for seed in range(40):
+        vertices = draw.choice([1, 2, 7, 60, 900])
+        file, text = drawn_graph(100 + seed, vertices, draw.randint(0, 4 * vertices))
+        plain = ran(["--plain"], file)
+        expect(plain, 0, text, b"")
+        workers, shards = draw.choice([0, 1, 2, 3, 8]), draw.choice([1, 2, 5, 64, 300])
+        status, output, errors = ran([*over(workers, shards), "--report"], file)
+        expect((status, output, b""), *plain)
+        report = Report(errors)
+        report.expect_equations(shards, workers)
+        if workers and (report.alone or report.closed):
+            raise AssertionError(f"a worker failed: {vars(report)}")
+
+
+@case
+def a_larger_graph_over_workers(_room):
+    file, text = drawn_graph(4, 5000, 60000)
+    for workers, shards in [(1, 1), (2, 64), (4, 7)]:
+        expect(ran(over(workers, shards), file), 0, text, b"")
+
+
+@case
+def what_is_refused_is_refused_before_workers_are_asked(_room):
+    for words in [[], over(0, 1), over(2, 4)]:
+        expect(ran([*words, "--report"], b"a 1 2 3\np sp 2 1\n"), 1, b"", b"boruvka: line 1: NoProblemYet\n")
+        expect(ran([*words, "--report"], b"p sp 2 2\na 1 2 5\n"), 1, b"", b"boruvka: line 3: MissingArcs\n")
+        expect(ran([*words, "none.gr"]), 3, b"", b"boruvka: cannot open none.gr\n")
+
+
+@case
+def one_shard_of_more_links_than_a_shard_may_have(room):
+    with open(f"{room}/wide.gr", "wb") as it:
+        it.write(b"p sp 2 16777217\n")
+        for _ in range(1024):
+            it.write(b"a 1 2 3\n" * 16384)
+        it.write(b"a 1 2 3\n")
+    expect(ran([*over(1, 1), "wide.gr"], cwd=room), 1, b"", b"boruvka: cut refused: ShardTooLarge\n")
+    os.remove(f"{room}/wide.gr")
+
+
+@case
+def one_worker_answers_sixty_four_shards_at_once(_room):
+    # a frame that waits until the one before it is acknowledged takes 40 ms, and there are 192 asks
+    words = over(1, 64)
+    least = 60.0
+    for _ in range(3):
+        begun = time.monotonic()
+        expect(ran(words, SMALL_NET), 0, SMALL_FOREST, b"")
+        least = min(least, time.monotonic() - begun)
+    if least > 0.5:
+        raise AssertionError(f"it took {least:.2f} s at the least")
+
+
+@case
+def few_descriptors(_room):
+    # a pair takes two or more; those that can't be made are left out
+    for workers in [2, 64]:
+        seen = set()
+        for most in [*range(4, 24), 40, 80, 160, 320]:
+
+            def limit(most=most):
+                resource.setrlimit(resource.RLIMIT_NOFILE, (most, most))
+
+            status, output, errors = ran([*over(workers, 4), "--report"], SMALL_NET, preexec_fn=limit)
+            expect((status, output, b""), 0, SMALL_FOREST, b"")
+            report = Report(errors)
+            report.expect_equations(4, workers)
+            if report.closed:
+                raise AssertionError(f"{most} descriptors: a worker was lost: {vars(report)}")
+            seen.add(report.alone)
+        # with four descriptors there is no line, and with 320 there are some
+        if seen != {0, 12}:
+            raise AssertionError(f"shards scanned alone: {seen}")
