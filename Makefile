@@ -4,8 +4,10 @@ PREFIX ?= /usr/local
 PROGRAM := crates/boruvka/out/boruvka
 STEPS := crates/plain_bench/out/plain_bench
 SOURCES := $(shell find crates -path '*/out' -prune -o -type f \( -name '*.rt' -o -name '*.antt' \) -print) crates.txt
-# (a path that may have a space, in single quotes for the shell)
-BIN := '$(subst ','\'',$(DESTDIR)$(PREFIX))/bin'
+# (paths that may have a space, in single quotes for the shell)
+UNDER := '$(subst ','\'',$(DESTDIR)$(PREFIX))'
+BIN := $(UNDER)/bin
+MAN := $(UNDER)/share/man/man1
 
 .PHONY: help run test wrong install uninstall bench clean
 
@@ -13,8 +15,8 @@ help:
 	@echo 'make run        proves and builds the program, and runs it on examples/small.gr'
 	@echo 'make test       the gate: all proofs from nothing, the wrong bodies of must-fail/, the tests, the program whole'
 	@echo 'make wrong      tries the wrong bodies of wrong-bodies/, many at a time'
-	@echo 'make install    puts the proved program into PREFIX/bin (PREFIX=$(PREFIX))'
-	@echo 'make uninstall  takes it away'
+	@echo 'make install    puts the proved program into PREFIX/bin, its manual page into PREFIX/share/man (PREFIX=$(PREFIX))'
+	@echo 'make uninstall  takes them away'
 	@echo 'make bench      times it beside a C++ program; needs Python 3, a C++17 compiler and GNU time'
 	@echo 'make clean      removes what was built and what checks kept (out/ of each crate): the next run proves all anew'
 
@@ -28,11 +30,12 @@ wrong:
 	@python3 tests/wrong_bodies.py
 
 install: $(PROGRAM)
-	install -d $(BIN)
+	install -d $(BIN) $(MAN)
 	install -m 755 $(PROGRAM) $(BIN)/boruvka
+	install -m 644 man/boruvka.1 $(MAN)/boruvka.1
 
 uninstall:
-	rm -f $(BIN)/boruvka
+	rm -f $(BIN)/boruvka $(MAN)/boruvka.1
 
 bench: $(PROGRAM) $(STEPS)
 	python3 benches/run.py $(PROGRAM) $(STEPS)

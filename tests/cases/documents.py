@@ -1,10 +1,10 @@
-"""What docs/RECIPES.md shows, run as it stands there."""
+"""What docs/RECIPES.md and the manual page show, run as it stands there; what the manual page names; make install."""
 import os
 import re
 import shutil
 import subprocess
 
-from cases.running import ROOT, SECONDS, Program, case
+from cases.running import ROOT, SECONDS, SMALL_FOREST, SMALL_NET, Program, case, expect, ran, run
 
 
 def text_of(name):
@@ -57,3 +57,46 @@ def the_recipes(room):
             counts = picture.count('class="node"'), picture.count('class="edge"'), picture.count('stroke-width="3"')
             if counts != (10, 13, 8):
                 raise AssertionError(f"villages, roads and roads of the forest: {counts}")
+
+
+@case
+def the_examples_of_the_manual_page(room):
+    page = text_of("man/boruvka.1").replace("\\-", "-").replace("\\e", "\\")
+    blocks = [it for it in re.findall(r"^\.EX\n(.*?)^\.EE$", page, re.M | re.S) if it.startswith("$ ")]
+    count = expect_shown(room, blocks)
+    if count != 3:
+        raise AssertionError(f"{count} examples were found")
+
+
+@case
+def the_manual_page_names_what_the_help_does(_room):
+    page = text_of("man/boruvka.1").replace("\\-", "-")
+    told = ran(["--help"])[1].decode()
+    options = set(re.findall(r"--[a-z]+", told.split("Exit status:")[0]))
+    sections = re.split(r"^\.SH (.*)$", page, flags=re.M)
+    section = dict(zip(sections[1::2], sections[2::2]))
+    for name, wanted, found in [
+        ("options", options, set(re.findall(r"--[a-z]+", section["OPTIONS"]))),
+        ("options of the synopsis", options, set(re.findall(r"--[a-z]+", section["SYNOPSIS"]))),
+        ("statuses", re.findall(r"^  (\d)  ", told, re.M), re.findall(r"^\.B (\d)$", section["EXIT STATUS"], re.M)),
+    ]:
+        if wanted != found:
+            raise AssertionError(f"{name}: the help has {wanted}, the page {found}")
+    if shutil.which("groff"):
+        expect(run(["groff", "-man", "-Tutf8", "-ww", "-z", f"{ROOT}/man/boruvka.1"]), 0, b"", b"")
+
+
+@case
+def the_program_and_its_manual_page_are_installed_and_taken_away(room):
+    prefix = f"{room}/a prefix"
+    words = ["make", "-s", "-C", ROOT, "-o", Program.path, f"PROGRAM={Program.path}", f"PREFIX={prefix}"]
+    env = {it: word for it, word in os.environ.items() if it not in ("MAKEFLAGS", "MAKELEVEL", "MFLAGS", "DESTDIR")}
+    expect(run([*words, "install"], env=env), 0, b"", b"")
+    expect(run([f"{prefix}/bin/boruvka", "--plain"], SMALL_NET), 0, SMALL_FOREST, b"")
+    with open(f"{prefix}/share/man/man1/boruvka.1", encoding="utf-8") as it:
+        if it.read() != text_of("man/boruvka.1"):
+            raise AssertionError("another manual page was installed")
+    expect(run([*words, "uninstall"], env=env), 0, b"", b"")
+    left = [it for _, _, files in os.walk(prefix) for it in files]
+    if left:
+        raise AssertionError(f"left behind: {left}")
