@@ -21,7 +21,7 @@ help:
 	@echo 'make clean      removes what was built and what checks kept (out/ of each crate): the next run proves all anew'
 
 run: $(PROGRAM)
-	@$(PROGRAM) --plain examples/small.gr
+	@$(PROGRAM) examples/small.gr
 
 test:
 	@python3 tests/gate.py
@@ -49,7 +49,7 @@ PROGRESS := awk '/^rt: chose --jobs/ { print "proving " $$NF; fflush() }' >&2
 
 $(PROGRAM): $(SOURCES)
 	@echo 'proving and building; the first time this takes some minutes' >&2
-	@cd crates/boruvka && { rt run -- --plain ../../examples/small.gr 2>&1 || echo failed > out.failed; } | tee out.log | $(PROGRESS)
+	@cd crates/boruvka && { rt run -- ../../examples/small.gr 2>&1 || echo failed > out.failed; } | tee out.log | $(PROGRESS)
 	@cd crates/boruvka && { test ! -e out.failed || { cat out.log >&2; rm -f out.failed out.log; exit 1; }; }
 	@rm -f crates/boruvka/out.log
 	@touch $(PROGRAM)
