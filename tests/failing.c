@@ -3,12 +3,14 @@
  * FAIL_CALL is the name of a call (listen, connect, accept, recv, send, thread, and others below), FAIL_NUMBER the
  * number of the first that fails, from 1, and FAIL_LAST that of the last (none: the first alone). FAIL_HOW says how a
  * recv or a send fails: "error" (none: this), "interrupted", or "end" (a recv gives 0 bytes, a send takes none).
+ * A listen under the name "stranger" passes, but somebody else then connects first.
  * For each call that fails an 'x' goes to the descriptor TOLD. With SHORT each recv, read and send is of one byte.
  * Where words for the user (a forest, a report, a fault) are written to a socket, or a socket is read as a file, a
  * 'T' goes to TOLD. It takes no memory itself. */
 #define _GNU_SOURCE
 #include <dlfcn.h>
 #include <errno.h>
+#include <netinet/in.h>
 #include <pthread.h>
 #include <stdatomic.h>
 #include <stdlib.h>
@@ -84,14 +86,35 @@ int bind(int fd, const struct sockaddr *name, socklen_t size) {
     return fails("bind", EADDRINUSE) ? -1 : REAL(bind)(fd, name, size);
 }
 
-int listen(int fd, int backlog) { return fails("listen", EADDRINUSE) ? -1 : REAL(listen)(fd, backlog); }
+/* connects to a listener before anybody else does, and stays */
+static void visit(int listener) {
+    struct sockaddr_storage name;
+    socklen_t size = sizeof name;
+    int stranger = REAL(socket)(AF_INET, SOCK_STREAM | SOCK_CLOEXEC, 0);
+    if (stranger < 0 || REAL(getsockname)(listener, (struct sockaddr *)&name, &size) ||
+        REAL(connect)(stranger, (struct sockaddr *)&name, size)) {
+        _exit(98);
+    }
+}
+
+int listen(int fd, int backlog) {
+    if (fails("listen", EADDRINUSE)) {
+        return -1;
+    }
+    int answer = REAL(listen)(fd, backlog);
+    if (!answer && fails("stranger", 0)) {
+        visit(fd);
+    }
+    return answer;
+}
 
 int getsockname(int fd, struct sockaddr *name, socklen_t *size) {
     return fails("getsockname", ENOBUFS) ? -1 : REAL(getsockname)(fd, name, size);
 }
 
 int setsockopt(int fd, int level, int option, const void *value, socklen_t size) {
-    return fails("setsockopt", ENOBUFS) ? -1 : REAL(setsockopt)(fd, level, option, value, size);
+    const char *name = level == IPPROTO_TCP ? "nodelay" : "setsockopt";
+    return fails(name, ENOBUFS) ? -1 : REAL(setsockopt)(fd, level, option, value, size);
 }
 
 int connect(int fd, const struct sockaddr *name, socklen_t size) {

@@ -83,7 +83,7 @@ def the_manual_page_names_what_the_help_does(_room):
         if wanted != found:
             raise AssertionError(f"{name}: the help has {wanted}, the page {found}")
     if shutil.which("groff"):
-        expect(run(["groff", "-man", "-Kutf8", "-ww", "-z", f"{ROOT}/man/boruvka.1"]), 0, b"", b"")
+        expect(run(["groff", "-man", "-Tutf8", "-ww", "-z", f"{ROOT}/man/boruvka.1"]), 0, b"", b"")
 
 
 @case

@@ -40,7 +40,7 @@ def expect_some(reports, least):
 
 def no_pair_lost_but_one(room, source, text):
     """A pair that can't be made, or whose thread can't be started, is left out; the other answers all."""
-    for call in ["connect", "accept", "setsockopt", "thread"]:
+    for call in ["connect", "accept", "nodelay", "thread"]:
         reports = each_failed(room, source, text, call)
         expect_some(reports, WORKERS)
         for report in reports:
@@ -86,18 +86,28 @@ def each_call_that_makes_a_pair_fails(room):
 
 @case
 def each_call_that_makes_a_listener_fails(room):
-    # a socket, bind, listen and getsockname also of the pairs; with none of these there are no lines
-    for call in ["socket", "bind", "listen", "getsockname"]:
+    # (pairs have sockets and names too)
+    for call in ["socket", "setsockopt", "bind", "listen", "getsockname"]:
         expect_some(each_failed(room, SMALL_NET, SMALL_FOREST, call), 1)
         no_worker_left(room, call)
 
 
 @case
 def no_pair_and_no_thread_can_be_made(room):
-    for call in ["connect", "accept", "setsockopt", "thread"]:
+    for call in ["connect", "accept", "nodelay", "thread"]:
         for number in [1, 2]:
             failed_from(room, SMALL_NET, SMALL_FOREST, call, number, {"FAIL_LAST": FAR})
         no_worker_left(room, call)
+
+
+@case
+def a_stranger_connects_first(room):
+    reports = each_failed(room, SMALL_NET, SMALL_FOREST, "stranger")
+    expect_some(reports, 1)
+    for report in reports:
+        if report.alone or report.closed:
+            raise AssertionError(f"no worker was left: {vars(report)}")
+    no_worker_left(room, "stranger")
 
 
 @case

@@ -1,4 +1,5 @@
 """Runs over workers: the forest is the same whatever their number and that of the shards, and the report's equations hold."""
+import os
 import random
 import resource
 import time
@@ -85,6 +86,17 @@ def what_is_refused_is_refused_before_workers_are_asked(_room):
         expect(ran([*words, "--report"], b"a 1 2 3\np sp 2 1\n"), 1, b"", b"boruvka: line 1: NoProblemYet\n")
         expect(ran([*words, "--report"], b"p sp 2 2\na 1 2 5\n"), 1, b"", b"boruvka: line 3: MissingArcs\n")
         expect(ran([*words, "none.gr"]), 3, b"", b"boruvka: cannot open none.gr\n")
+
+
+@case
+def one_shard_of_more_links_than_a_shard_may_have(room):
+    with open(f"{room}/wide.gr", "wb") as it:
+        it.write(b"p sp 2 16777217\n")
+        for _ in range(1024):
+            it.write(b"a 1 2 3\n" * 16384)
+        it.write(b"a 1 2 3\n")
+    expect(ran([*over(1, 1), "wide.gr"], cwd=room), 1, b"", b"boruvka: cut refused: ShardTooLarge\n")
+    os.remove(f"{room}/wide.gr")
 
 
 @case
