@@ -120,12 +120,20 @@ module _ {L : Type 0} (state : L → LineState) (faithful : L → ℕ → Type 0
 -- what a run says of a graph that it found a forest of
 module _ {L : Type 0} (state : L → LineState) (faithful : L → ℕ → Type 0) (cutting : Cutting) (graph : GraphValue) (shards : List (List Link)) (is : IsCutOf cutting graph.links shards) (before after : List L) (forest : List Link) (report : Report)
     (solved : LinesSolved state faithful graph.vertices shards before after forest report) where
+  pub honest_report : AreServed state faithful before → IsHonestReport graph report
+  honest_report served = record {
+    rounds_are =
+        subst (λ (ls : List Link). IsMergingRounds graph.vertices ls report.rounds) is.whole (solved.went.honest_rounds (served_honest state faithful before shards solved.lanes solved.new served));
+    in_time = solved.went.in_time;
+  }
+
   pub lines_went : LinesWent state faithful cutting before after graph forest report
   lines_went = record {
     cut = shards;
     cut_is = is;
     report_is = reported state faithful graph.vertices shards graph.links is.whole before after forest report solved graph refl refl;
     solved = solved;
+    least = λ served. (least state faithful graph.vertices shards graph.links is.whole before after forest report solved served, honest_report served);
     talked = λ scanned closed fresh. have_talked state faithful graph.vertices shards before after forest report solved scanned (open_still scanned closed) fresh;
   }
     where
@@ -133,13 +141,6 @@ module _ {L : Type 0} (state : L → LineState) (faithful : L → ℕ → Type 0
       open_still scanned closed =
           let all = opened_all state faithful graph.vertices shards graph.links is.whole before after forest report solved in
           omega (arith, solved.went.closed, closed, all)
-
-  pub honest_report : AreServed state faithful before → IsHonestReport graph report
-  honest_report served = record {
-    rounds_are =
-        subst (λ (ls : List Link). IsMergingRounds graph.vertices ls report.rounds) is.whole (solved.went.honest_rounds (served_honest state faithful before shards solved.lanes solved.new served));
-    in_time = solved.went.in_time;
-  }
 
 -- ---- why there is no forest
 

@@ -5,12 +5,14 @@ use Rattle.std.proofs.lemmas.Bool.{cases_lt}
 use Rattle.std.proofs.lemmas.List.{length-append, length-map, length-reverse, map-append, reverse-append, reverse-reverse, get_or_append_left, get_or-append-add, get_or_push, take_at}
 use Rattle.std.proofs.lemmas.List.Elements.{All-push, All-nil}
 use Rattle.link_key.specs.declared.links.Link.{Link}
+use Rattle.frames.specs.AnswerValue.{AnswerValue}
 use Rattle.ports.specs.Lines.{LineState, HasRoom, IsFresh, Tells}
 use Rattle.ports.specs.Talking.{told, IsInStep}
 use Rattle.ports.specs.Wires.{WireState, IsNewWire, IsCalm, port_of, IsHonestWire, IsSoundWire, WireGave}
 use Rattle.ports.proofs.Wiring.{fresh_step, fresh_calm}
 use Rattle.forest_run.specs.Lanes.{LaneState, IsIdle}
-use Rattle.forest_run.specs.WiredLines.{AreServed, AreNewLanes, lines_of, LinesSolved, LinesRefused}
+use Rattle.forest_run.specs.Runs.{PortsWent}
+use Rattle.forest_run.specs.WiredLines.{AreServed, AreNewLanes, lines_of, WiresWent, LinesSolved, LinesRefused}
 use Rattle.forest_run.specs.Solved.{AreHonest, SolveWent, IsSolveFault}
 use Rattle.forest_run.specs.declared.report.Report.{Report}
 use Rattle.round_core.specs.declared.solver.SolveFault.{SolveFault}
@@ -137,11 +139,22 @@ pub written_back : {X : Type 0} (n : ℕ) (xs ys : List X) → length ys ≡ n �
 written_back n xs ys e = take_at ys (drop (length ys) xs) n e
 
 module _ {L : Type 0} (state : L → LineState) (faithful : L → ℕ → Type 0) (n : ℕ) (cut : List (List Link)) (lines : List L) (before after : List (LaneState (WireState L))) (new : AreNewLanes lines cut before) where
+  wires_went : (refused : ℕ × ℕ → AnswerValue → Type 0) (answers_at : ℕ → List AnswerValue)
+      → PortsWent port_of (IsHonestWire state faithful) (IsSoundWire state) (WireGave state) refused before after answers_at → WiresWent state faithful lines after
+  wires_went refused answers_at ports =
+      let number = new.number in
+      record {
+        workers = λ worker lane b. (ports.each worker lane (omega (arith, number, b))).worker ∙ (new.each worker lane.port.talk.line lane b).worker_is;
+        sound = λ worker line lane b fresh tells.
+            (ports.each worker lane (omega (arith, number, b))).sound_is (new_sound state faithful (get_or lines worker line) cut worker (get_or before worker lane).port (new.each worker line lane b) fresh tells);
+        honest = λ served worker lane b. (ports.each worker lane (omega (arith, number, b))).honest_is (served_honest state faithful lines cut before new served worker lane (omega (arith, number, b)));
+      }
+
   pub solve_fault : (fault : SolveFault) → IsSolveFault port_of (IsHonestWire state faithful) (IsSoundWire state) (WireGave state) n cut before after fault
       → (fault ≡ Memory) ⊎ LinesRefused state faithful n cut lines fault
   solve_fault fault (inl none) = inl none
-  solve_fault fault (inr refused) = inr (record { lanes = before; new = new; ended = after; refused = refused })
+  solve_fault fault (inr refused) = inr (record { lanes = before; new = new; ended = after; refused = refused; wires = (let rounds = refused.went.rounds in wires_went _ rounds.answers_at rounds.ports) })
 
   pub solve_went : (forest : List Link) (report : Report) (lines' : List L) → SolveWent port_of (IsHonestWire state faithful) (IsSoundWire state) (WireGave state) n cut before after forest report
       → lines' ≡ lines_of after → LinesSolved state faithful n cut lines lines' forest report
-  solve_went forest report lines' went out = record { lanes = before; new = new; ended = after; went = went; lines_are = out }
+  solve_went forest report lines' went out = record { lanes = before; new = new; ended = after; went = went; wires = (let rounds = went.went.rounds in wires_went _ rounds.answers_at rounds.ports); lines_are = out }

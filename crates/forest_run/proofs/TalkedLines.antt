@@ -102,7 +102,7 @@ module _ {L : Type 0} (state : L → LineState) (faithful : L → ℕ → Type 0
     (solved : LinesSolved state faithful n cut before after forest report) where
   -- what was said and heard over the line at a place, and how often it was asked
   record Talked (i : ℕ) (said : Said) : Type 0 where
-    pub each : (line : L) → HasTalked cut (state (get_or after i line)) said
+    pub each : (line : L) → HasTalked cut i (state (get_or after i line)) said
     pub answers : said.1 ≡ solved.went.went.rounds.answers_at i
     pub asks : (lane : LaneState (WireState L)) → asks_in said.0 ≡ (port_of (get_or solved.ended i lane).port).asks
 
@@ -132,7 +132,7 @@ module _ {L : Type 0} (state : L → LineState) (faithful : L → ℕ → Type 0
         λ line'. ap (λ ls. get_or ls i line') solved.lines_are ∙ get_or-map (λ (lane : LaneState (WireState L)). lane.port.talk.line) solved.ended i d line' (omega (arith, number)) in (
           (said, answers),
           record {
-            each = λ line'. record { talk = told state last.port.talk; line_is = ap state (sym (out line')); cut_is = went.cut ∙ new.cut_is; in_step = step };
+            each = λ line'. record { talk = told state last.port.talk; worker_is = went.worker ∙ new.worker_is; line_is = ap state (sym (out line')); cut_is = went.cut ∙ new.cut_is; in_step = step };
             answers = same;
             asks = λ lane. asks ∙ ap (λ (l : LaneState (WireState L)). l.port.asks) (same_place solved.ended i d lane (omega (arith, number)));
           },

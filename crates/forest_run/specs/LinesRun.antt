@@ -18,7 +18,7 @@ use Rattle.forest_run.specs.declared.fault.RunFault.TheVariants as fault
 use Rattle.forest_run.specs.declared.cutting.Cutting.{Cutting}
 use Rattle.forest_run.specs.Cuttings.{cut_refusal, IsCutOf}
 use Rattle.forest_run.specs.Outcomes.{Streams, Ran, IsLeast}
-use Rattle.forest_run.specs.WiredLines.{AreFresh, LinesSolved, LinesRefused, HaveTalked}
+use Rattle.forest_run.specs.WiredLines.{AreFresh, AreServed, LinesSolved, LinesRefused, HaveTalked}
 
 -- ---- a run whatever the workers answer
 
@@ -45,12 +45,19 @@ pub record IsLinesReport (lines : ℕ) (graph : GraphValue) (shards : ℕ) (repo
   pub few_closed : report.closed ≤ lines
   pub alone : 0 < report.alone → report.closed ≡ lines
 
+-- the report has the number of the list's merging rounds
+pub record IsHonestReport (graph : GraphValue) (report : Report) : Type 0 where
+  pub rounds_are : IsMergingRounds graph.vertices graph.links report.rounds
+  pub in_time : 2 ^ report.rounds ≤ max 1 graph.vertices
+
 -- a run that found a forest over lines, which come back in their order
 pub record LinesWent {L : Type 0} (state : L → LineState) (faithful : L → ℕ → Type 0) (cutting : Cutting) (before after : List L) (graph : GraphValue) (forest : List Link) (report : Report) : Type 0 where
   pub cut : List (List Link)
   pub cut_is : IsCutOf cutting graph.links cut
   pub report_is : IsLinesReport (length before) graph (length cut) report
   pub solved : LinesSolved state faithful graph.vertices cut before after forest report
+  -- where each line was new and carries its worker's session: this forest is the least, and this report has the number of merging rounds
+  pub least : AreServed state faithful before → IsLeast graph forest × IsHonestReport graph report
   -- where no port was closed and nothing scanned alone: each line's bytes are the asks and their answers, which name all links of the forest
   pub talked : report.alone ≡ 0 → report.closed ≡ 0 → AreFresh state before → HaveTalked state cut forest report.asked after
 
@@ -79,11 +86,6 @@ abbrev pub RanLines : {L A : Type 0} → (L → LineState) → (L → ℕ → Ty
 RanLines state faithful cutting lines = Ran IsSpanning (λ graph forest r. LinesWent state faithful cutting lines r.1.items graph forest r.0) (IsLinesFault state faithful cutting lines)
 
 -- ---- a run whose lines are all served by the worker's engine
-
--- the report has the number of the list's merging rounds
-pub record IsHonestReport (graph : GraphValue) (report : Report) : Type 0 where
-  pub rounds_are : IsMergingRounds graph.vertices graph.links report.rounds
-  pub in_time : 2 ^ report.rounds ≤ max 1 graph.vertices
 
 -- why such a run has no forest of a graph: its list can't be cut so, or want of memory
 abbrev pub IsServedFault : Cutting → GraphValue → RunFault → Type 0

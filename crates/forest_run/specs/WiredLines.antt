@@ -37,12 +37,22 @@ lines_of lanes = map (λ lane. lane.port.talk.line) lanes
 
 -- ---- what a run does to them
 
+-- the wires that lanes with new wires over these lines have after a run: each is of the worker of its place, and they tell why those that are shut were shut
+pub record WiresWent {L : Type 0} (state : L → LineState) (faithful : L → ℕ → Type 0) (lines : List L) (ended : List (LaneState (WireState L))) : Type 0 where
+  pub workers : (worker : ℕ) (lane : LaneState (WireState L)) → worker < length lines → (slice_index_or ended worker lane).port.talk.worker ≡ worker
+  -- over a line that was new and tells its bytes, whatever the other lines are
+  pub sound : (worker : ℕ) (line : L) (lane : LaneState (WireState L)) → worker < length lines
+      → IsFresh (state (slice_index_or lines worker line)) → Tells (state (slice_index_or lines worker line)) → IsSoundWire state (slice_index_or ended worker lane).port
+  -- where each line was new and carries its worker's session
+  pub honest : AreServed state faithful lines → (worker : ℕ) (lane : LaneState (WireState L)) → worker < length lines → IsHonestWire state faithful (slice_index_or ended worker lane).port
+
 -- over new wires a run of their lanes found this forest of the cut's links, for the vertices 1 to n; the lines were taken out again in their order
 pub record LinesSolved {L : Type 0} (state : L → LineState) (faithful : L → ℕ → Type 0) (n : ℕ) (cut : List (List Link)) (before after : List L) (forest : List Link) (report : Report) : Type 0 where
   pub lanes : List (LaneState (WireState L))
   pub new : AreNewLanes before cut lanes
   pub ended : List (LaneState (WireState L))
   pub went : SolveWent port_of (IsHonestWire state faithful) (IsSoundWire state) (WireGave state) n cut lanes ended forest report
+  pub wires : WiresWent state faithful before ended
   pub lines_are : after ≡ lines_of ended
 
 -- over new wires the rounds of a run were answered so that the solver refuses them by this fault
@@ -51,6 +61,7 @@ pub record LinesRefused {L : Type 0} (state : L → LineState) (faithful : L →
   pub new : AreNewLanes lines cut lanes
   pub ended : List (LaneState (WireState L))
   pub refused : RunRefused port_of (IsHonestWire state faithful) (IsSoundWire state) (WireGave state) n cut lanes ended fault
+  pub wires : WiresWent state faithful lines ended
 
 -- ---- the bytes on the lines
 
@@ -58,9 +69,10 @@ pub record LinesRefused {L : Type 0} (state : L → LineState) (faithful : L →
 abbrev pub Said : Type 0
 Said = List FrameValue × List AnswerValue
 
--- a new line's whole talk about shards of the cut: these frames were sent, and a hello and these answers got, one for each ask, and nothing else
-pub record HasTalked (cut : List (List Link)) (line : LineState) (said : Said) : Type 0 where
+-- a new line's whole talk with this worker about shards of the cut: these frames were sent, and nothing else; and the worker's hello and these answers got, one for each ask, and nothing else, or nothing where no hello came
+pub record HasTalked (cut : List (List Link)) (worker : ℕ) (line : LineState) (said : Said) : Type 0 where
   pub talk : Talk
+  pub worker_is : talk.worker ≡ worker
   pub line_is : talk.line ≡ line
   pub cut_is : talk.cut ≡ cut
   pub in_step : IsInStep talk said.0 said.1
@@ -69,6 +81,6 @@ pub record HasTalked (cut : List (List Link)) (line : LineState) (said : Said) :
 pub record HaveTalked {L : Type 0} (state : L → LineState) (cut : List (List Link)) (forest : List Link) (asked : ℕ) (lines : List L) : Type 0 where
   pub talks : List Said
   pub number : length talks ≡ length lines
-  pub each : (worker : ℕ) (line : L) (said : Said) → worker < length lines → HasTalked cut (state (slice_index_or lines worker line)) (slice_index_or talks worker said)
+  pub each : (worker : ℕ) (line : L) (said : Said) → worker < length lines → HasTalked cut worker (state (slice_index_or lines worker line)) (slice_index_or talks worker said)
   pub asks : sum_by (λ said. asks_in said.0) talks ≡ asked
   pub named : (l : Link) → Contains forest l → (said : Said) × (answer : AnswerValue) × Contains talks said × Contains said.1 answer × Names (hearing_of cut answer) l
