@@ -9,5 +9,6 @@ pub mod Picking
 pub mod Merging
 pub mod Missing
 pub mod Sorting
+pub mod WholeCuts
 pub mod WholeRounds
 pub mod Worked

@@ -1,5 +1,7 @@
 //! The whole run by one thread, which scans the shards itself.
-ghost use Rattle.std.specs.Prelude.{◌≡◌, ◌≤◌, length, All, Contains, IfOk, IfErr};
+ghost use Rattle.std.specs.Prelude.{◌≡◌, ◌≤◌, ◌++◌, List, length, All, Contains, IfOk, IfErr};
+ghost use Rattle.link_key.specs.declared.links.Link.{Link as TheLink};
+ghost use Rattle.link_key.specs.Labels.{AreLabels};
 ghost use Rattle.link_key.specs.Cut.{joined};
 ghost use Rattle.link_key.specs.Forest.{IsForestOf};
 ghost use Rattle.link_key.specs.Link.{EndsUpTo};
@@ -8,14 +10,12 @@ ghost use Rattle.round_core.specs.Picks.{ArePicks, ArePicksOfHearings};
 ghost use Rattle.round_core.specs.Solver.{vertices, HasRoundsOf, IsRoundOf};
 ghost use Rattle.round_core.specs.declared.solver.SolveFault.TheVariants.{Memory};
 
-use crate::book::RoundBook;
-use crate::picks::Picks;
+use crate::book::none_yet;
+use crate::picks::{Picks, count};
 use crate::solver::{SolveFault, Solver, Turn};
-use frames::Answer;
 use limits::MAX_VERTICES;
-use link_key::{Cut, Forest, Labels};
+use link_key::{Cut, Forest, Labels, Link};
 use std::alloc::{AllocError, Allocator};
-use worker_engine::Scanner;
 
 /// The minimum spanning forest of the links of a cut, between the vertices 1 to `n`, and in how many rounds components
 /// were merged.
@@ -24,10 +24,9 @@ use worker_engine::Scanner;
 /// component in the next round. The only error is want of memory.
 ///
 /// There are at most log2 n + 1 rounds, the last of which picks nothing. For m links in s shards a round costs
-/// O(m + s n + n log n) time: each shard's scan has a table of the labels, and [`hook_relabel`](crate::hook_relabel) makes
-/// the new ones. Memory: a vertex takes 4 bytes for its label, 16 for its pick, 8 in a scan's table and what
-/// `hook_relabel` needs; a round 33 bytes a shard for its [book](RoundBook), 8 an offer, and 12 for each link that it
-/// picks; and each link taken 12 bytes, and at the end 12 more in the forest.
+/// O(m + s + n log n) time: each link of each shard counts for both of the components that it leaves, and
+/// [`hook_relabel`](crate::hook_relabel) makes the new labels. Memory: a vertex takes 4 bytes for its label, 16 for its
+/// pick and what `hook_relabel` needs; each link taken 12 bytes, and at the end 12 more in the forest.
 pub fn solve_alone<A: Allocator + Copy>(
     alloc: A,
     n: u32,
@@ -40,8 +39,7 @@ pub fn solve_alone<A: Allocator + Copy>(
     ensures fault { IfErr result (λ fault. fault ≡ Memory) }
 {
     let mut solver = Solver::new(alloc, n)?;
-    let mut scanner = Scanner::new(alloc);
-    'rounds: while let Turn::Merged(_) = go_round(alloc, cut, &mut scanner, &mut solver)? {}
+    'rounds: while let Turn::Merged(_) = go_round(alloc, cut, &mut solver)? {}
     let rounds = solver.round() - 1;
     let forest = solver.finish(cut)?;
     Ok((forest, rounds))
@@ -51,7 +49,6 @@ pub fn solve_alone<A: Allocator + Copy>(
 fn go_round<A: Allocator + Copy>(
     alloc: A,
     cut: &Cut<A>,
-    scanner: &mut Scanner<A>,
     solver: &mut Solver<A>,
 ) -> Result<Turn, SolveFault>
     requires ends { All (EndsUpTo (vertices solver.old)) cut.now }
@@ -59,33 +56,39 @@ fn go_round<A: Allocator + Copy>(
     ensures round { IfOk result (IsRoundOf (joined cut.now) solver.old solver.new) }
     ensures fault { IfErr result (λ fault. fault ≡ Memory) }
 {
-    let picks = hear_all(alloc, cut, scanner, solver.round(), solver.labels())?;
+    let picks = pick_all(alloc, cut, solver.labels())?;
     solver.step(&picks)
 }
 
-// The picks of a round whose shards are all scanned here.
-fn hear_all<A: Allocator + Copy>(
+// The picks of a round: the least of all links that leave each component.
+fn pick_all<A: Allocator + Copy>(
     alloc: A,
     cut: &Cut<A>,
-    scanner: &mut Scanner<A>,
-    round: u32,
     labels: &Labels<A>,
 ) -> Result<Picks<A>, AllocError>
     requires ends { All (EndsUpTo (length labels.now)) cut.now }
     ensures least { IfOk result (ArePicks labels.now (Contains (joined cut.now))) }
     ensures heard { IfOk result (ArePicksOfHearings labels.now) }
 {
-    let mut book = RoundBook::open(alloc, round, cut, labels)?;
+    let mut best = none_yet(alloc, labels.n())?;
     for number in 0..cut.len() {
-        let offers = scanner.scan(cut.shard(number).links, labels)?;
-        let answer = Answer {
-            round,
-            shard: number,
-            offers,
-        };
-        if book.take(number, answer).is_err() {
-            unreachable!();
+        count_leaving(&mut best, labels.as_slice(), cut.shard(number).links);
+    }
+    Ok(Picks { best })
+}
+
+// Counts each link of a shard that leaves a component, for both of its components.
+fn count_leaving(best: &mut [Option<Link>], labels: &[u32], links: &[Link])
+    requires labels { AreLabels labels.now }
+    requires ends { EndsUpTo (length labels.now) links.now }
+    requires each_vertex { length best.old ≡ length labels.now }
+    ensures { (seen : List TheLink) → ArePicks labels.now (Contains seen) best.old → ArePicks labels.now (Contains (seen ++ links.now)) best.new }
+{
+    for link in links {
+        let low = labels[link.low as usize - 1];
+        let high = labels[link.high as usize - 1];
+        if low != high {
+            count(best, labels, *link);
         }
     }
-    Ok(book.close())
 }

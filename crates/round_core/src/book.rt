@@ -161,7 +161,10 @@ impl<'a, A: Allocator> RoundBook<'a, A> {
 }
 
 // No pick for each of n labels.
-fn none_yet<A: Allocator + Copy>(alloc: A, n: u32) -> Result<Vec<Option<Link>, A>, AllocError>
+pub(crate) fn none_yet<A: Allocator + Copy>(
+    alloc: A,
+    n: u32,
+) -> Result<Vec<Option<Link>, A>, AllocError>
     ensures each_vertex { IfOk result (λ best. length best.items ≡ n) }
     ensures none { IfOk result (λ best. AreNoPicks best.items) }
 {

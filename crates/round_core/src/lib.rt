@@ -24,14 +24,14 @@
 //!     Picks  --step-->  Solver, with new labels for the next book  --finish, where nothing was picked-->  Forest
 //!
 //! Where to start a change: `specs/Page` says what a book is and when it refuses, `specs/Picks` what picks are, and
-//! `specs/Solver` what a solver is, a round of it, and how it ends. `book` keeps the answers, and `picks` counts one link
-//! at a time; `proofs/Counts` follows that, `proofs/Books` says that the links counted are those that the answers name,
-//! and `proofs/Full` what a book without a missing shard has heard. `solver` takes the picks, and `alone` runs all of it:
-//! `proofs/Picking` says which label gives a link, `proofs/Merging` what a step keeps, `proofs/Missing` and
-//! `proofs/Sorting` what a finished forest is, and `proofs/WholeRounds` joins the rounds to the theory's. `hooks` makes
-//! the old labels' components one along the picks: `specs/Hooks` says when components are joined and what a least member
-//! is, `proofs/Hooking` follows one pick at a time by the walks of `proofs/HookWalks`, and `proofs/HookMembers` the pass
-//! that finds the least members.
+//! `specs/Solver` what a solver is, a round of it, and how it ends. `book` keeps the answers, and `picks` counts one
+//! link at a time; `proofs/Counts` follows that, `proofs/Books` says that the links counted are those that the answers
+//! name, and `proofs/Full` what a book without a missing shard has heard. `solver` takes the picks, and `alone` runs
+//! all of it: `proofs/Picking` says which label gives a link, `proofs/Merging` what a step keeps, `proofs/Missing` and
+//! `proofs/Sorting` what a finished forest is, `proofs/WholeCuts` what counting a whole cut picks, and
+//! `proofs/WholeRounds` joins the rounds to the theory's. `hooks` makes the old labels' components one along the
+//! picks: `specs/Hooks` says when components are joined and what a least member is, `proofs/Hooking` follows one pick
+//! at a time by the walks of `proofs/HookWalks`, and `proofs/HookMembers` the pass that finds the least members.
 #![tactic(auto)]
 
 pub mod alone;

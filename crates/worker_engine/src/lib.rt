@@ -16,11 +16,12 @@
 //!                           links, Labels --Scanner::scan--> Offers
 //! ```
 //!
-//! Where to start a change: what may be written for a stream stands in `specs/Serving`, over whole streams, and how
-//! a session ends in `specs/Served`. `scanning` has the pass over the links, with its table in `specs/Scanning`;
-//! `engine` keeps and replies, `session` reads and writes. `proofs/Scans` follows the pass, `proofs/Offering` shows
-//! that light offers make a lawful answer, `proofs/Replying` and `proofs/Sessions` take streams apart, and
-//! `proofs/Steps` follows a session frame by frame. `examples` shows which replies an ask may have.
+//! Where to start a change: what may be written for a stream stands in `specs/Serving`, over whole streams, and
+//! how a session ends in `specs/Served`. `scanning` has the pass over the links, with its table in
+//! `specs/Scanning`; `engine` keeps and replies, `session` reads and writes. `proofs/Scans` follows the pass, by
+//! `proofs/BestSoFar`, `proofs/Offering` shows that light offers make a lawful answer, `proofs/Replying` and
+//! `proofs/Sessions` take streams apart, and `proofs/Steps` follows a session frame by frame. `examples` shows
+//! which replies an ask may have.
 #![tactic(auto)]
 
 mod engine;

@@ -1,0 +1,10 @@
+use Rattle.std.proofs.Common.{◌≡◌, List, ◌++◌, length, take, Contains}
+use Rattle.link_key.specs.declared.links.Link.{Link}
+use Rattle.round_core.specs.Picks.{ArePicks}
+use Rattle.round_core.proofs.alone.count_leaving.Given as goal
+
+abbrev pub invariant-loop-link : goal.invariant-loop-link
+invariant-loop-link l = record {
+  each_vertex : length l.best ≡ length l.labels;
+  picks : (seen : List Link) → ArePicks l.labels (Contains seen) l.initial.best → ArePicks l.labels (Contains (seen ++ take l.link-index l.links)) l.best;
+}
