@@ -8,11 +8,11 @@ use frames::Answer;
 use link_key::{Cut, Labels};
 use round_core::{RoundBook, laws};
 use std::alloc::{AllocError, Allocator};
-use worker_engine::scan;
+use worker_engine::Scanner;
 
 // Scans a shard that the book misses, and takes its light offers into the book.
 fn scan_one<A: Allocator + Copy>(
-    alloc: A,
+    scanner: &mut Scanner<A>,
     cut: &Cut<A>,
     labels: &Labels<A>,
     book: &mut RoundBook<A>,
@@ -26,7 +26,7 @@ fn scan_one<A: Allocator + Copy>(
     ensures taken { OnOk result (is_taken book.new shard ≡ true) }
 {
     laws::light_offers_are_taken();
-    let offers = scan(alloc, cut.shard(shard).links, labels)?;
+    let offers = scanner.scan(cut.shard(shard).links, labels)?;
     let answer = Answer {
         round: book.round(),
         shard,
@@ -48,10 +48,11 @@ pub(crate) fn scan_missing<A: Allocator + Copy>(
     ensures scanned { IfOk result (λ alone. Scanned book.old book.new alone) }
     ensures all { OnOk result (missing book.new ≡ 0) }
 {
+    let mut scanner = Scanner::new(alloc);
     let mut alone = 0;
     for shard in 0..book.len() {
         if book.is_missing(shard) {
-            scan_one(alloc, cut, labels, book, shard)?;
+            scan_one(&mut scanner, cut, labels, book, shard)?;
             alone += 1;
         }
     }
