@@ -8,6 +8,11 @@
 //!   written, and a write that fails is told with the number of bytes of that text that went out.
 //! - Over lines that carry the sessions of their workers, and by one thread, it is the minimum spanning forest; over any
 //!   lines the forest closes no cycle and spans the file's links. A failing line is never the run's fault.
+//! - A line that was new and tells its bytes is given up only for a fault that they and its counts bear out, or for an
+//!   answer that the round's book refuses, whatever the other lines are. Over lines that carry the sessions of their
+//!   workers no line is blamed: one is given up only where it is down, or for want of memory here or at its worker.
+//! - Where no port was closed and nothing scanned alone, the bytes of new lines that tell them are just the asks, each of
+//!   the worker of its line, and their answers, which name each link of the forest.
 //! - Where all ports are honest, want of memory is the only fault, and a run that ends well has the minimum spanning
 //!   forest of the cut's links and the number of merging rounds.
 //! - Whatever was answered, the forest closes no cycle and spans the links, and the report's counts are equations. Where
@@ -42,7 +47,7 @@
 //!
 //! Where to start a change: `specs/Asks` says what asks do to a port, `specs/Passes` what passes do to all lanes and to the
 //! book, `specs/Rounds` what a round does, `specs/Chains` how rounds
-//! follow one another, `specs/Solved` what a run over lanes does, `specs/WiredLines` what it does over lines.
+//! follow one another, `specs/Solved` what a run over lanes does, `specs/WiredLines` what it does over lines and why it gives one up.
 //! `specs/Outcomes` says what any run does to its source and its sink, `specs/PlainRun` and `specs/LinesRun` what each of
 //! the two finds and tells. `proofs/AsksThen`, `proofs/Passing`, `proofs/Running`, `proofs/NewWires` and
 //! `proofs/TalkedLines` compose them.

@@ -121,10 +121,12 @@ fn solve_lines<
 /// writes the forest's text. It answers what the run did, and the lines as it left them, in their order.
 ///
 /// The links are cut as `cutting` says, and the worker at line i, numbered from 0, is asked for the light offers of one
-/// shard after another, as [`solve`] says. A line that fails, or over which something else than an answer comes, is given
-/// up for good, and its shards are asked of the others; where none is left they are scanned here. So a failing line is
-/// never the run's fault. Where all lines carry the sessions of their workers the links are the minimum spanning forest;
-/// whatever comes over them, the links close no cycle and span those of the file.
+/// shard after another, as [`solve`] says. A line that fails, over which something else than an answer comes, or an answer
+/// that the round's book refuses, or one of whose asks finds no memory, is given up for good, and its shards are asked of
+/// the others; where none is left they are scanned here. So a failing line is never the run's fault. Nor is a line given up without a cause: where it was new
+/// and tells its bytes, they and its counts bear the cause out. Where all lines carry the sessions of their workers the
+/// links are the minimum spanning forest, and no line is given up but one that is down, or for want of memory here or at
+/// its worker; whatever comes over them, the links close no cycle and span those of the file.
 ///
 /// It waits for the workers' answers. The forest is whole before the first byte is written; after a fault the lines are
 /// dropped. It takes a list of the links, the places of the cut, 600 bytes a line, and what [`solve`] takes; the time of
@@ -149,12 +151,12 @@ pub fn run_lines<
     requires room { All (λ line. HasRoom (L.state line)) lines.items }
 
     // Whatever the workers answer: the source was read to its end, and exactly the text of a spanning forest went out, or
-    // the fault says what was done.
+    // the fault says what was done. Each line was asked as its worker, and given up only for a cause that it bears out.
     ensures ran { RanLines L.state L.faithful cutting.entry lines.items result (streams (S.state source.old) (W.state sink.old))
         (streams (S.state source.new) (W.state sink.new)) }
 
     // Where each line is new and carries its worker's session: the minimum spanning forest, after as many rounds as merge
-    // components.
+    // components. `ran` says so too, of the forest and the report that it tells of.
     ensures served { AreServed L.state L.faithful lines.items → RanServed cutting.entry result
         (streams (S.state source.old) (W.state sink.old)) (streams (S.state source.new) (W.state sink.new)) }
 
