@@ -1,6 +1,6 @@
 -- New wires over lines, and the lines out of them again.
 use Rattle.std.proofs.Common.{◌≡◌, ℕ, suc, ◌+◌, ◌<◌, ◌^◌, ◌⊎◌, inl, inr, List, [], ◌∷◌, ◌++◌, length, get_or, take, drop, refl, sym, ap, subst, ◌∙◌, arith, append_assoc}
-use Rattle.std.specs.Prelude.{All, reverse}
+use Rattle.std.specs.Prelude.{All, Option, reverse}
 use Rattle.std.proofs.lemmas.Bool.{cases_lt}
 use Rattle.std.proofs.lemmas.List.{length-append, length-map, length-reverse, map-append, reverse-append, reverse-reverse, get_or_append_left, get_or-append-add, get_or_push, take_at}
 use Rattle.std.proofs.lemmas.List.Elements.{All-push, All-nil}
@@ -139,9 +139,9 @@ pub written_back : {X : Type 0} (n : ℕ) (xs ys : List X) → length ys ≡ n �
 written_back n xs ys e = take_at ys (drop (length ys) xs) n e
 
 module _ {L : Type 0} (state : L → LineState) (faithful : L → ℕ → Type 0) (n : ℕ) (cut : List (List Link)) (lines : List L) (before after : List (LaneState (WireState L))) (new : AreNewLanes lines cut before) where
-  wires_went : (refused : ℕ × ℕ → AnswerValue → Type 0) (answers_at : ℕ → List AnswerValue)
-      → PortsWent port_of (IsHonestWire state faithful) (IsSoundWire state) (WireGave state) refused before after answers_at → WiresWent state faithful lines after
-  wires_went refused answers_at ports =
+  wires_went : (closing : ℕ × ℕ → Option AnswerValue → Type 0) (answers_at : ℕ → List AnswerValue)
+      → PortsWent port_of (IsHonestWire state faithful) (IsSoundWire state) (WireGave state) closing before after answers_at → WiresWent state faithful lines after
+  wires_went closing answers_at ports =
       let number = new.number in
       record {
         workers = λ worker lane b. (ports.each worker lane (omega (arith, number, b))).worker ∙ (new.each worker lane.port.talk.line lane b).worker_is;
