@@ -71,7 +71,7 @@ fn of_each_refused_cut(rt: HostRuntime) -> Result<(), Fail> {
         (CutFault::TooManyShards, "cut refused: TooManyShards"),
         (CutFault::ShardTooLarge, "cut refused: ShardTooLarge"),
         (CutFault::BadPlaces, "cut refused: BadPlaces"),
-        (CutFault::Memory, "cut refused: Memory"),
+        (CutFault::Memory, "no memory"),
     ];
     for (fault, text) in texts {
         expect_text(&rt, rt.alloc(), &RunFault::Cut(fault), text)?;
