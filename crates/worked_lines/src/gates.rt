@@ -1,0 +1,126 @@
+// Lines that answer only once another was asked, and else fail. They don't fail: ports are asked at the same time, and
+// a port takes over what another hasn't come to.
+ghost use Rattle.std.specs.Prelude.{◌≡◌, ◌<◌, IfOk};
+ghost use Rattle.ports.specs.EngineLines.{line_of};
+ghost use Rattle.ports.specs.Lines.{HasRoom};
+ghost use Rattle.ports.specs.Testing.{with_stops};
+
+use crate::runs::run_of_worked;
+use forest_run::Cutting;
+use ports::{EngineLine, Line, LineFault};
+use std::alloc::Global;
+use std::sync::atomic::AtomicU64;
+use std::sync::atomic::Ordering::SeqCst;
+use std::test::Fail;
+use worked_graphs::SMALL_NET;
+
+// How often a line looks at another's count.
+const TURNS: u64 = 1 << 28;
+
+/// A line to a worker in memory, which counts its asks: its first gets after a put. At the first of them it waits until
+/// another line was asked so often; where it doesn't see that within its turns it fails.
+#[derive(Drop)]
+struct Gate<'a> {
+    line: EngineLine<Global>,
+    asked: &'a AtomicU64,
+    other: &'a AtomicU64,
+    least: u64,
+    has_put: bool,
+    has_passed: bool,
+    stopped: u64,
+}
+
+impl<'a> Line for Gate<'a> {
+    ghost use Rattle.ports.specs.EngineLines.{line_of, IsEngineLine};
+    ghost use Rattle.ports.specs.Testing.{with_stops};
+    ghost use Rattle.ports.specs.LineLaws.{engine_serves, fused_serves};
+
+    ghost state = { λ s. with_stops (line_of s.line) s.stopped };
+
+    ghost faithful = { λ s worker. IsEngineLine worker s.line };
+
+    fn put(&mut self, bytes: &[u8]) -> Result<(), LineFault> {
+        self.has_put = true;
+        self.line.put(bytes)
+    }
+
+    fn get(&mut self, into: &mut [u8]) -> Result<usize, LineFault> {
+        if self.has_put && !self.passes() {
+            self.stopped += 1;
+            return Err(LineFault::Failed);
+        }
+        self.line.get(into)
+    }
+
+    ghost serves = { λ s worker is. fused_serves worker (line_of s.line) s.stopped (engine_serves worker s.line is) };
+}
+
+impl<'a> Gate<'a> {
+    // Counts an ask, and at the first waits for the other line.
+    fn passes(&mut self) -> bool
+        ensures { (self.new.line ≡ self.old.line) × (self.new.stopped ≡ self.old.stopped) }
+    {
+        self.has_put = false;
+        self.asked.fetch_add(1, SeqCst);
+        if !self.has_passed {
+            self.has_passed = reaches(self.other, self.least);
+        }
+        self.has_passed
+    }
+}
+
+// Whether the count is seen to be so much.
+fn reaches(count: &AtomicU64, least: u64) -> bool {
+    for _ in 0..TURNS {
+        if count.load(SeqCst) >= least {
+            return true;
+        }
+    }
+    false
+}
+
+// A gate before the worker of this number.
+fn gate_to<'a>(
+    alloc: Global,
+    worker: u32,
+    asked: &'a AtomicU64,
+    other: &'a AtomicU64,
+    least: u64,
+) -> Result<Gate<'a>, Fail>
+    requires { worker < 64 }
+    ensures room { IfOk result (λ line. HasRoom (with_stops (line_of line.line) line.stopped)) }
+{
+    Ok(Gate {
+        line: EngineLine::new(alloc, worker)?,
+        asked,
+        other,
+        least,
+        has_put: false,
+        has_passed: false,
+        stopped: 0,
+    })
+}
+
+// Each waits for the other's first ask.
+#[test]
+fn lines_that_wait_for_each_other(rt: HostRuntime) -> Result<(), Fail> {
+    let alloc = rt.alloc();
+    let (zero, one) = (AtomicU64::new(0), AtomicU64::new(0));
+    let first = gate_to(alloc, 0, &zero, &one, 1)?;
+    let lines = Vec::from_array(alloc, [first, gate_to(alloc, 1, &one, &zero, 1)?])?;
+    let counts = run_of_worked(&rt, alloc, &SMALL_NET, Cutting::Even(2), lines);
+    assert_eq!(rt; counts, [2, 2, 6, 6, 0, 0]);
+    Ok(())
+}
+
+// Line 0 waits with one of four shards until the other line was asked for the other three.
+#[test]
+fn a_line_that_waits_for_three_asks(rt: HostRuntime) -> Result<(), Fail> {
+    let alloc = rt.alloc();
+    let (zero, one) = (AtomicU64::new(0), AtomicU64::new(0));
+    let first = gate_to(alloc, 0, &zero, &one, 3)?;
+    let lines = Vec::from_array(alloc, [first, gate_to(alloc, 1, &one, &zero, 0)?])?;
+    let counts = run_of_worked(&rt, alloc, &SMALL_NET, Cutting::Even(4), lines);
+    assert_eq!(rt; counts, [2, 4, 12, 12, 0, 0]);
+    Ok(())
+}

@@ -1,0 +1,31 @@
+//! Worked examples of whole runs over lines to workers, from a file's bytes to its forest's, each a test that needs
+//! public calls alone. What an example is for, and where a new one goes, stands at the head of `worked_examples`.
+//!
+//! ```text
+//!   runs            a run into memory, and what is said of each: the calls that the others make
+//!   served          the worked graphs over no line, one, two, and as many as there may be
+//!   stopping        lines that stop after so many bytes or calls
+//!   scripts         stored bytes in place of a worker: answers that are refused, and answers that lie
+//!   refusals        cuts that aren't allowed, sinks that stop, files that aren't read
+//!   gates           lines that answer only once another was asked
+//!   drawn           drawn graphs, cuts and lines beside the run by one thread
+//!   sizes           a run past the size of every inner piece
+//! ```
+#![tactic(auto)]
+
+#[cfg(test)]
+mod drawn;
+#[cfg(test)]
+mod gates;
+#[cfg(test)]
+mod refusals;
+#[cfg(test)]
+mod runs;
+#[cfg(test)]
+mod scripts;
+#[cfg(test)]
+mod served;
+#[cfg(test)]
+mod sizes;
+#[cfg(test)]
+mod stopping;

@@ -1,0 +1,112 @@
+// A run over lines into memory, and what holds of each.
+ghost use Rattle.std.specs.Prelude.{◌≡◌, ◌≤◌, length, All, IfOk};
+ghost use Rattle.ports.specs.EngineLines.{line_of};
+ghost use Rattle.ports.specs.Lines.{HasRoom};
+
+use forest_run::{Cutting, Report, RunFault, run_lines};
+use ports::{EngineLine, Line};
+use std::alloc::{AllocError, Global};
+use std::process::Abort;
+use std::sync::Wait;
+use std::thread::Threads;
+use worked_graphs::Worked;
+
+/// What a run did: merging rounds, shards, asks, answers taken, scans without a worker, ports closed.
+pub(crate) type Counts = [u64; 6];
+
+// Lines to so many workers, numbered from 0.
+pub(crate) fn engines(alloc: Global, count: u32) -> Result<Vec<EngineLine<Global>>, AllocError>
+    requires { count ≤ 64 }
+    ensures count { IfOk result (λ lines. length lines.items ≡ count) }
+    ensures room { IfOk result (λ lines. All (λ line. HasRoom (line_of line)) lines.items) }
+{
+    let mut lines = Vec::new(alloc);
+    for worker in 0..count {
+        lines.push(EngineLine::new(alloc, worker)?)?;
+    }
+    Ok(lines)
+}
+
+// The counts of a report over so many lines: each ask brought an answer or closed a port; each shard of each round was
+// answered, or scanned without a worker where all ports were closed; the rounds are within the bound.
+fn lawful_counts(rt: &impl Abort, report: &Report, lines: usize) -> Counts {
+    let rounds = u64::from(report.rounds);
+    let shards = u64::from(report.shards);
+    let Report {
+        asked,
+        answered,
+        alone,
+        closed,
+        ..
+    } = *report;
+    assert_eq!(rt; asked, answered.wrapping_add(closed));
+    assert_eq!(rt;
+        answered.wrapping_add(alone),
+        rounds.wrapping_add(1).wrapping_mul(shards)
+    );
+    assert!(rt; closed <= lines as u64);
+    assert!(rt; alone == 0 || closed == lines as u64);
+    assert!(rt; rounds < 32);
+    assert!(rt; 1u64 << rounds <= u64::from(report.vertices.max(1)));
+    [rounds, shards, asked, answered, alone, closed]
+}
+
+// The counts of a run over these lines, which gives this text and finds so many vertices and links. It reads its whole
+// source, and gives as many lines back.
+pub(crate) fn run_of<L: Line + Send + Drop, R: Threads + Wait + Sync + Abort>(
+    rt: &R,
+    alloc: Global,
+    file: &[u8],
+    cutting: Cutting,
+    lines: Vec<L>,
+    text: &[u8],
+    size: (u32, u64),
+) -> Counts
+    requires few { length lines.items ≤ 64 }
+    requires room { All (λ line. HasRoom (L.state line)) lines.items }
+{
+    let count = lines.len();
+    let mut source = file;
+    let mut sink = Vec::new(alloc);
+    let ended = run_lines(rt, alloc, &mut source, cutting, lines, &mut sink);
+    let (report, lines) = ended.expect(rt, "a forest");
+    assert_eq!(rt; sink.as_slice(), text);
+    assert!(rt; source.is_empty());
+    assert_eq!(rt; lines.len(), count);
+    assert_eq!(rt; (report.vertices, report.links), size);
+    lawful_counts(rt, &report, count)
+}
+
+// The same of a worked graph, whose loops are no links.
+pub(crate) fn run_of_worked<L: Line + Send + Drop, R: Threads + Wait + Sync + Abort>(
+    rt: &R,
+    alloc: Global,
+    graph: &Worked,
+    cutting: Cutting,
+    lines: Vec<L>,
+) -> Counts
+    requires few { length lines.items ≤ 64 }
+    requires room { All (λ line. HasRoom (L.state line)) lines.items }
+{
+    let links = graph.arcs.iter().filter(|arc| arc.0 != arc.1).count();
+    let size = (graph.n, links as u64);
+    run_of(rt, alloc, graph.file, cutting, lines, graph.text, size)
+}
+
+// Why a run over these lines ends, which writes nothing.
+pub(crate) fn fault_of<L: Line + Send + Drop, R: Threads + Wait + Sync + Abort>(
+    rt: &R,
+    alloc: Global,
+    file: &[u8],
+    cutting: Cutting,
+    lines: Vec<L>,
+) -> Option<RunFault>
+    requires few { length lines.items ≤ 64 }
+    requires room { All (λ line. HasRoom (L.state line)) lines.items }
+{
+    let mut source = file;
+    let mut sink = Vec::new(alloc);
+    let ended = run_lines(rt, alloc, &mut source, cutting, lines, &mut sink);
+    assert!(rt; sink.is_empty());
+    ended.err()
+}

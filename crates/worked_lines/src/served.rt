@@ -1,0 +1,61 @@
+// The worked graphs over lines to workers in memory.
+use crate::runs::{engines, run_of_worked};
+use forest_run::Cutting;
+use std::test::Fail;
+use worked_graphs::{A_PATH_OF_EIGHT, NO_VERTICES, SMALL_NET, WORKED};
+
+// Both shards are asked for in each of three rounds, and both lines are open at the end.
+#[test]
+fn the_small_net_over_two_workers(rt: HostRuntime) -> Result<(), Fail> {
+    let lines = engines(rt.alloc(), 2)?;
+    let counts = run_of_worked(&rt, rt.alloc(), &SMALL_NET, Cutting::Even(2), lines);
+    assert_eq!(rt; counts, [2, 2, 6, 6, 0, 0]);
+    Ok(())
+}
+
+// The coordinator scans each shard itself. A graph without links has one round too.
+#[test]
+fn no_workers(rt: HostRuntime) -> Result<(), Fail> {
+    let lines = engines(rt.alloc(), 0)?;
+    let counts = run_of_worked(&rt, rt.alloc(), &SMALL_NET, Cutting::Even(2), lines);
+    assert_eq!(rt; counts, [2, 2, 0, 0, 6, 0]);
+    let lines = engines(rt.alloc(), 0)?;
+    let counts = run_of_worked(&rt, rt.alloc(), &NO_VERTICES, Cutting::Even(1), lines);
+    assert_eq!(rt; counts, [0, 1, 0, 0, 1, 0]);
+    Ok(())
+}
+
+// Three merging rounds are as many as eight vertices can have.
+#[test]
+fn a_path_of_eight(rt: HostRuntime) -> Result<(), Fail> {
+    for workers in 1..3u32 {
+        let lines = engines(rt.alloc(), workers)?;
+        let counts = run_of_worked(&rt, rt.alloc(), &A_PATH_OF_EIGHT, Cutting::Even(3), lines);
+        assert_eq!(rt; counts, [3, 3, 12, 12, 0, 0], "over {workers}");
+    }
+    Ok(())
+}
+
+// As many lines and shards as there may be; all but eight of the shards are empty.
+#[test]
+fn the_most_workers_and_shards(rt: HostRuntime) -> Result<(), Fail> {
+    let lines = engines(rt.alloc(), 64)?;
+    let counts = run_of_worked(&rt, rt.alloc(), &SMALL_NET, Cutting::Even(4096), lines);
+    assert_eq!(rt; counts, [2, 4096, 12_288, 12_288, 0, 0]);
+    Ok(())
+}
+
+// In one shard, in five, and in three of which the first two are empty: no worker answers ill.
+#[test]
+fn each_worked_graph_over_up_to_two_workers(rt: HostRuntime) -> Result<(), Fail> {
+    for graph in WORKED {
+        for cutting in [Cutting::Even(1), Cutting::Even(5), Cutting::At(&[0, 0])] {
+            for workers in 0..3u32 {
+                let lines = engines(rt.alloc(), workers)?;
+                let counts = run_of_worked(&rt, rt.alloc(), &graph, cutting, lines);
+                assert_eq!(rt; counts[5], 0);
+            }
+        }
+    }
+    Ok(())
+}

@@ -1,0 +1,64 @@
+// A run past the size of every inner piece: 10,000 vertices and links.
+use crate::runs::{engines, run_of};
+use forest_run::Cutting;
+use std::alloc::Global;
+use std::test::Fail;
+
+const MANY: u32 = 10_000;
+
+// The weight of the link from this vertex to the next: how often its number can be halved. So in each round each second
+// component is joined to the one after it, and an odd last one to those before it.
+fn weight(vertex: u32) -> u32 {
+    vertex.trailing_zeros()
+}
+
+// The arc from a vertex to the next.
+fn push_arc(alloc: Global, text: &mut Vec<u8>, vertex: u32) -> Result<(), Fail> {
+    let next = vertex.wrapping_add(1);
+    let line = format!(in alloc; "a {vertex} {next} {}\n", weight(vertex))?;
+    text.extend_from_slice(line.as_bytes())?;
+    Ok(())
+}
+
+// A ring: the arcs of the path in a scattered order, and the heaviest one, which closes it.
+fn ring(alloc: Global) -> Result<Vec<u8>, Fail> {
+    let mut file = Vec::from_slice(alloc, b"p sp 10000 10000\na 10000 1 20\n")?;
+    for place in 0..MANY - 1 {
+        push_arc(alloc, &mut file, 1 + place * 7919 % (MANY - 1))?;
+    }
+    Ok(file)
+}
+
+// The path, by weight and then by vertex.
+fn path_text(alloc: Global) -> Result<Vec<u8>, Fail> {
+    let mut text = Vec::from_slice(alloc, b"p sp 10000 9999\n")?;
+    for weight_of in 0..14u32 {
+        for vertex in 1..MANY {
+            if weight(vertex) == weight_of {
+                push_arc(alloc, &mut text, vertex)?;
+            }
+        }
+    }
+    Ok(text)
+}
+
+// The components are halved in each round: 10,000, 5,000, and so on to 4, 2, 1.
+#[test]
+fn a_ring_of_ten_thousand_over_three_workers(rt: HostRuntime) -> Result<(), Fail> {
+    let alloc = rt.alloc();
+    let file = ring(alloc)?;
+    let text = path_text(alloc)?;
+    let lines = engines(alloc, 3)?;
+    let size = (MANY, u64::from(MANY));
+    let counts = run_of(
+        &rt,
+        alloc,
+        file.as_slice(),
+        Cutting::Even(7),
+        lines,
+        text.as_slice(),
+        size,
+    );
+    assert_eq!(rt; counts, [13, 7, 98, 98, 0, 0]);
+    Ok(())
+}
