@@ -1,13 +1,15 @@
 -- What a run over lines did, by what its steps say.
-use Rattle.std.proofs.Common.{◌≡◌, ℕ, zero, suc, ◌+◌, ◌*◌, ◌<◌, ◌≤◌, ◌^◌, ◌⊎◌, inl, inr, true, List, [], ◌∷◌, ◌++◌, length, get_or, map, Some, None, Ok, Err, refl, sym, ap, subst, ◌∙◌, arith}
-use Rattle.std.specs.Prelude.{All, AllPairs, Contains, Result, Vec, max, filter}
+use Rattle.std.proofs.Common.{◌≡◌, ℕ, zero, suc, ◌+◌, ◌<◌, ◌≤◌, ◌^◌, ◌⊎◌, inl, inr, true, List, [], ◌∷◌, length, get_or, take, map, None, Ok, Err, refl, sym, ap, subst, ◌∙◌, arith}
+use Rattle.std.specs.Prelude.{All, Contains, max, filter}
 use Rattle.std.proofs.lemmas.List.{length-append, length-map, get_or_append_left, get_or-append-add}
 use Rattle.std.proofs.lemmas.List.Elements.{All-head, All-tail}
 use Rattle.std.proofs.lemmas.List.Sorted.{IsPermutation-remove, length_permutation, Contains-permutation}
 use Rattle.std.proofs.lemmas.List.Sums.{sum_by-cons}
 use Rattle.std.specs.List.{remove}
 use Rattle.limits.specs.declared.TheConstants.{MAX_ARCS, MAX_BYTES}
-use Rattle.byte_streams.specs.Streams.{SourceState, SinkState}
+use Rattle.byte_streams.specs.Streams.{SourceState, SinkState, HadNoSetback}
+use Rattle.byte_streams.proofs.Streaming.{took_unhindered}
+use Rattle.gr_text.specs.Written.{PrefixWentOut}
 use Rattle.link_key.specs.Arc.{Arc}
 use Rattle.link_key.specs.declared.links.Link.{Link}
 use Rattle.link_key.specs.declared.cuts.CutFault.{CutFault}
@@ -17,23 +19,21 @@ use Rattle.link_key.specs.Link.{IsBelow, IsAscending, EndsUpTo, key_of, arc_key,
 use Rattle.link_key.specs.Forest.{IsForestOf}
 use Rattle.link_key.proofs.Keys.{below_irrefl}
 use Rattle.gr_text.specs.Graph.{GraphValue, IsGraphOf}
-use Rattle.forest_run.specs.Files.{IsNoRefusal}
 use Rattle.round_theory.specs.Rounds.{IsMergingRounds}
 use Rattle.gr_text.specs.Sourced.{IsReadOf}
 use Rattle.gr_text.proofs.Texts.{means_one_graph}
 use Rattle.round_core.specs.declared.solver.SolveFault.{SolveFault}
 use Rattle.round_core.specs.declared.solver.SolveFault.TheVariants as solving
 use Rattle.ports.specs.Lines.{LineState}
-use Rattle.ports.specs.Wires.{WireState, IsNewWire, port_of, IsHonestWire, IsSoundWire, WireGave}
+use Rattle.ports.specs.Wires.{WireState, port_of}
 use Rattle.forest_run.specs.declared.cutting.Cutting.{Cutting}
-use Rattle.forest_run.specs.declared.fault.RunFault.{RunFault}
 use Rattle.forest_run.specs.declared.fault.RunFault.TheVariants as fault
 use Rattle.forest_run.specs.declared.report.Report.{Report}
 use Rattle.forest_run.specs.Lanes.{LaneState, one_if, open_of}
 use Rattle.forest_run.specs.Cuttings.{cut_refusal, IsCutOf}
 use Rattle.forest_run.specs.Outcomes.{streams, IsUnsolved}
-use Rattle.forest_run.specs.WiredLines.{AreServed, AreNewLanes, LinesSolved, LinesRefused}
-use Rattle.forest_run.specs.LinesRun.{IsSpanningForest, IsLinesReport, LinesWent, IsRefusedRun, IsLinesFault, told_fault, RanLines, IsHonestReport, IsServedFault, RanServed, IsUnhindered}
+use Rattle.forest_run.specs.WiredLines.{AreServed, LinesSolved, LinesRefused}
+use Rattle.forest_run.specs.LinesRun.{IsSpanningForest, IsLinesReport, LinesWent, IsLinesFault, told_fault, RanLines, IsHonestReport, IsServedFault, RanServed}
 use Rattle.forest_run.proofs.PlainRunning.{unsolved}
 use Rattle.forest_run.proofs.NewWires.{served_honest}
 use Rattle.forest_run.proofs.TalkedLines.{have_talked}
@@ -168,19 +168,12 @@ module _ (cutting : Cutting) (graph : GraphValue) (s t : SourceState) (a : SinkS
   solve_served X shards is (solving.Missed link) none = absurd (cc)
   solve_served X shards is solving.Memory none = unsolved (λ g. IsServedFault cutting g fault.Memory) graph s t a read is.allowed
 
--- a fault of the cut or of the solver isn't one of the file
-pub no_refusal : (X : Type 0) (why : SolveFault) → IsNoRefusal {X = X} (Err (told_fault why))
-no_refusal X (solving.Rounds round) = tt
-no_refusal X (solving.Missed link) = tt
-no_refusal X solving.Memory = tt
-
-pub solve_unhindered : (X : Type 0) (why : SolveFault) → why ≡ solving.Memory → IsUnhindered {X = X} (Err (told_fault why))
-solve_unhindered X (solving.Rounds round) none = absurd (cc)
-solve_unhindered X (solving.Missed link) none = absurd (cc)
-solve_unhindered X solving.Memory none = tt
-
 -- a cut that is allowed is refused for want of memory alone
 pub cut_unhindered : (cutting : Cutting) (links others : ℕ) (why : CutFault) → IsCutFault (cut_refusal cutting links) why → links ≡ others → cut_refusal cutting others ≡ None
     → why ≡ cut.Memory
 cut_unhindered cutting links others why refused same allowed =
     subst (λ o. IsCutFault o why) (ap (λ k. cut_refusal cutting k) same ∙ allowed) refused
+
+-- a sink that took a part of the text and then had a setback isn't one that had none
+pub had_setback : (written : ℕ) (text : List ℕ) (a b : SinkState) → PrefixWentOut written text a b → ¬ HadNoSetback a b
+had_setback written text a b part calm = absurd (omega (arith, took_unhindered 1 (take part.count text) a b calm part.took))

@@ -1,9 +1,8 @@
 -- What a run did, by what its steps say; and what follows for bytes in memory.
-use Rattle.std.proofs.Common.{◌≡◌, ◌≤◌, ◌<◌, ◌^◌, ℕ, List, [], length, inl, inr, Some, Ok, Err, refl, sym, ap, subst, arith}
+use Rattle.std.proofs.Common.{◌≡◌, ◌≤◌, ◌^◌, ℕ, List, [], length, inl, inr, Some, Ok, Err, refl, sym, subst, arith}
 use Rattle.limits.specs.declared.TheConstants.{MAX_BYTES}
 use Rattle.byte_streams.specs.Streams.{SourceState, SinkState, Gave, Took, HadNoFailure}
 use Rattle.byte_streams.proofs.Streaming.{gave_to_end, took_nothing, took_told}
-use Rattle.link_key.specs.Forest.{IsForestOf}
 use Rattle.link_key.specs.declared.links.Link.{Link}
 use Rattle.gr_text.specs.ForestText.{forest_text}
 use Rattle.gr_text.specs.Graph.{GraphValue}

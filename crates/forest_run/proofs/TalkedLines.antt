@@ -1,24 +1,22 @@
 -- What was said and heard over lines whose wires stayed open.
-use Rattle.std.proofs.Common.{◌≡◌, ℕ, zero, suc, ◌+◌, ◌<◌, ◌≤◌, Bool, true, false, List, [], ◌∷◌, ◌++◌, length, get_or, map, Some, refl, sym, ap, subst, ◌∙◌, arith, append-nil}
-use Rattle.std.specs.Prelude.{All, Contains, sum_by}
+use Rattle.std.proofs.Common.{◌≡◌, ℕ, zero, suc, ◌<◌, ◌≤◌, Bool, true, false, List, [], ◌∷◌, length, get_or, map, refl, sym, ap, subst, ◌∙◌, arith}
+use Rattle.std.specs.Prelude.{Contains, sum_by}
 use Rattle.std.proofs.lemmas.List.{length-map, get_or-map, append_cancel_left}
-use Rattle.std.proofs.lemmas.List.Elements.{All-head, All-tail, Contains-get_or}
+use Rattle.std.proofs.lemmas.List.Elements.{Contains-get_or}
 use Rattle.std.proofs.lemmas.List.Sums.{sum_by-cons}
 use Rattle.link_key.specs.declared.links.Link.{Link}
 use Rattle.frames.specs.AnswerValue.{AnswerValue}
-use Rattle.frames.specs.FrameValue.{FrameValue, HelloFrame, AnswerFrame}
+use Rattle.frames.specs.FrameValue.{HelloFrame, AnswerFrame}
 use Rattle.frames.specs.FrameText.{text_of}
 use Rattle.frames.specs.FrameStream.{texts_of, AreLawful, AreFramesOf}
 use Rattle.frames.proofs.FrameStreams.{frames_of_texts, only_frames_of_texts}
 use Rattle.worker_engine.specs.Serving.{asks_in}
 use Rattle.ports.specs.Lines.{LineState}
-use Rattle.ports.specs.Talking.{Talk, told, frames_got, HasGiven, IsInStep}
-use Rattle.ports.specs.Wires.{WireState, port_of, IsHonestWire, IsSoundWire, WireGave}
+use Rattle.ports.specs.Talking.{Talk, told, frames_got, HasGiven}
+use Rattle.ports.specs.Wires.{WireState, port_of}
 use Rattle.forest_run.specs.declared.report.Report.{Report}
 use Rattle.forest_run.specs.Lanes.{LaneState, one_if, asks_of, open_of}
-use Rattle.forest_run.specs.Asks.{AsksWent}
-use Rattle.forest_run.specs.Runs.{IsRefusedIn}
-use Rattle.forest_run.specs.WiredLines.{AreFresh, LinesSolved, Said, HasTalked, HaveTalked, lines_of}
+use Rattle.forest_run.specs.WiredLines.{AreFresh, LinesSolved, Said, HasTalked, HaveTalked}
 use Rattle.forest_run.proofs.NewWires.{new_step, new_sound}
 
 -- ---- what was got has one list of answers

@@ -1,5 +1,5 @@
 -- What a file gives: a graph, its minimum spanning forest, or a first fault.
-use Rattle.std.specs.Prelude.{◌≡◌, ℕ, ◌≤◌, ⊤, List, length, Option, Some, Result, Ok, Err}
+use Rattle.std.specs.Prelude.{◌≡◌, ℕ, ◌≤◌, ⊤, List, length, Some, Result, Err}
 use Rattle.limits.specs.declared.TheConstants.{MAX_BYTES}
 use Rattle.byte_streams.specs.Streams.{SourceState, HadNoFailure}
 use Rattle.link_key.specs.Forest.{IsForestOf}

@@ -1,5 +1,6 @@
 -- A run over lines to workers.
 use Rattle.std.specs.Prelude.{◌≡◌, ℕ, ◌+◌, ◌*◌, ◌^◌, ◌<◌, ◌≤◌, ⊤, max, List, length, All, Contains, None, Vec, Result, Ok, Err}
+use Rattle.byte_streams.specs.Streams.{SinkState, HadNoSetback}
 use Rattle.link_key.specs.declared.links.Link.{Link}
 use Rattle.link_key.specs.declared.cuts.CutFault.TheVariants as cut
 use Rattle.link_key.specs.Cut.{IsCutFault}
@@ -96,11 +97,11 @@ RanServed cutting = Ran IsLeast (λ graph forest r. IsHonestReport graph r.0) (I
 
 -- ---- what follows for a source that tells
 
--- the answer is no fault but want of memory, or a setback of the sink
-abbrev pub IsUnhindered : {X : Type 0} → Result X RunFault → Type 0
-IsUnhindered (Ok x) = ⊤
-IsUnhindered (Err (fault.Read why)) = why ≡ read.Memory
-IsUnhindered (Err (fault.Cut why)) = why ≡ cut.Memory
-IsUnhindered (Err fault.Memory) = ⊤
-IsUnhindered (Err (fault.Write written)) = ⊤
-IsUnhindered other = ⊥
+-- the answer is no fault but want of memory; or else the sink had a setback, or doesn't tell
+abbrev pub IsUnhindered : {X : Type 0} → Result X RunFault → SinkState → SinkState → Type 0
+IsUnhindered (Ok x) before after = ⊤
+IsUnhindered (Err (fault.Read why)) before after = why ≡ read.Memory
+IsUnhindered (Err (fault.Cut why)) before after = why ≡ cut.Memory
+IsUnhindered (Err fault.Memory) before after = ⊤
+IsUnhindered (Err (fault.Write written)) before after = ¬ HadNoSetback before after
+IsUnhindered other before after = ⊥

@@ -1,7 +1,21 @@
 //! Why a run ends ill.
 use gr_text::ReadFault;
 use link_key::{CutFault, Link};
+use std::fmt;
 use thiserror::Error;
+
+// A cut's fault as a run tells it: want of memory is told as everywhere.
+#[derive(Clone, Copy)]
+struct CutText<'a>(&'a CutFault);
+
+impl<'a> fmt::Display for CutText<'a> {
+    fn fmt<W: fmt::Write>(&self, f: &mut fmt::Formatter<W>) -> fmt::Result {
+        match self.0 {
+            CutFault::Memory => write!(f, "no memory"),
+            refusal => write!(f, "cut refused: {refusal:?}"),
+        }
+    }
+}
 
 /// Why a run gave no forest, or not all of its text.
 #[derive(Clone, Copy, Debug, PartialEq, Eq, Error)]
@@ -11,7 +25,7 @@ pub enum RunFault {
     Read(ReadFault),
 
     /// The links can't be cut into shards as it was asked for, or memory was refused in cutting them.
-    #[error("cut refused: {0:?}")]
+    #[error("{}", CutText(.0))]
     Cut(CutFault),
 
     /// A round had picks, though no graph of so many vertices has so many merging rounds: what was answered in the

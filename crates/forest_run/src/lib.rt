@@ -1,7 +1,13 @@
-//! The run over workers: rounds of passes, in which ferry threads ask ports for the light offers of shards.
+//! Whole runs, from the bytes of a `.gr` file to the text of its minimum spanning forest: by one thread, or over workers,
+//! in rounds of passes in which ferry threads ask ports for the light offers of shards.
 //!
 //! What is promised here:
 //!
+//! - A run that ends well has read the whole source, whose bytes mean a graph, and written exactly the text of a forest of
+//!   that graph. A file that means none is refused by its first fault. At every other fault but that of a write nothing is
+//!   written, and a write that fails is told with the number of bytes of that text that went out.
+//! - Over lines that carry the sessions of their workers, and by one thread, it is the minimum spanning forest; over any
+//!   lines the forest closes no cycle and spans the file's links. A failing line is never the run's fault.
 //! - Where all ports are honest, want of memory is the only fault, and a run that ends well has the minimum spanning
 //!   forest of the cut's links and the number of merging rounds.
 //! - Whatever was answered, the forest closes no cycle and spans the links, and the report's counts are equations. Where
@@ -16,6 +22,9 @@
 //! - No clause speaks of the order in which answers come.
 //!
 //! ```text
+//!     run_lines            read, cut, a wire and a lane for each line, solve, the lines out again, write
+//!     run_plain            read, solve by one thread, write; plain_text does it over bytes in memory
+//!
 //!     solve                rounds until one has no picks, and the forest
 //!      round_picks         a book, a whole round, the picks
 //!       whole_round        passes, then scan_missing for what no port answered
@@ -33,8 +42,10 @@
 //!
 //! Where to start a change: `specs/Asks` says what asks do to a port, `specs/Passes` what passes do to all lanes and to the
 //! book, `specs/Rounds` what a round does, `specs/Chains` how rounds
-//! follow one another, `specs/Solved` what a run does.
-//! `proofs/AsksThen`, `proofs/Passing` and `proofs/Running` compose them.
+//! follow one another, `specs/Solved` what a run over lanes does, `specs/WiredLines` what it does over lines.
+//! `specs/Outcomes` says what any run does to its source and its sink, `specs/PlainRun` and `specs/LinesRun` what each of
+//! the two finds and tells. `proofs/AsksThen`, `proofs/Passing`, `proofs/Running`, `proofs/NewWires` and
+//! `proofs/TalkedLines` compose them.
 #![tactic(auto)]
 
 mod cross;

@@ -1,11 +1,9 @@
 //! A run over lines to workers, from the bytes of a file to the text of its forest.
 ghost use Rattle.std.specs.Prelude.{◌≡◌, ℕ, ◌⊎◌, ◌≤◌, List, [], None, length, All, IfOk, IfErr, OnOk, vec_capacity};
 ghost use Rattle.limits.specs.declared.TheConstants.{MAX_ARCS, MAX_VERTICES, MAX_WORKERS};
-ghost use Rattle.link_key.specs.Cut.{joined, IsCutFault};
+ghost use Rattle.link_key.specs.Cut.{IsCutFault};
 ghost use Rattle.link_key.specs.Link.{EndsUpTo};
-ghost use Rattle.link_key.specs.Forest.{IsForestOf};
 ghost use Rattle.gr_text.specs.Graph.{GraphValue};
-ghost use Rattle.round_theory.specs.Rounds.{IsMergingRounds};
 ghost use Rattle.round_core.specs.declared.solver.SolveFault.TheVariants.{Memory};
 ghost use Rattle.ports.specs.Lines.{HasRoom};
 ghost use Rattle.forest_run.specs.Files.{HasFile, IsFileOf, MeansGraph, MeansNothing, IsFirstFaultOf, IsNoRefusal};
@@ -166,10 +164,12 @@ pub fn run_lines<
     ensures lawful { (bytes : List ℕ) → HasFile bytes (S.state source.old) (S.state source.new)
         → MeansGraph bytes → IsNoRefusal result }
 
-    // Over such lines, where the cut of the file's graph is allowed, only want of memory and the sink can hinder a run.
+    // Over such lines, where the cut of the file's graph is allowed, only want of memory and a setback of the sink can
+    // hinder a run.
     ensures ends_well { AreServed L.state L.faithful lines.items → (bytes : List ℕ) (graph : GraphValue)
         → HasFile bytes (S.state source.old) (S.state source.new) → IsFileOf bytes graph
-        → cut_refusal cutting.entry (length graph.links) ≡ None → IsUnhindered result }
+        → cut_refusal cutting.entry (length graph.links) ≡ None
+        → IsUnhindered result (W.state sink.old) (W.state sink.new) }
 
     // After a run that ends well the sink can be written again.
     ensures again { OnOk result (W.can_write sink.new) }

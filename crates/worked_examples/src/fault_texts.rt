@@ -1,6 +1,7 @@
 // What the faults of files and of a run are told as.
-use gr_text::{GrFault, GrKind, ReadFault, WriteFault};
 use forest_run::{Report, RunFault};
+use gr_text::{GrFault, GrKind, ReadFault, WriteFault};
+use link_key::{CutFault, Link};
 use std::alloc::Global;
 use std::fmt::Display;
 use std::process::Abort;
@@ -53,9 +54,29 @@ fn of_reading_writing_and_running(rt: HostRuntime) -> Result<(), Fail> {
         expect_text(&rt, rt.alloc(), &RunFault::Read(fault), text)?;
     }
     expect_text(&rt, rt.alloc(), &RunFault::Memory, "no memory")?;
+    let past = RunFault::Rounds { round: 2 };
+    expect_text(&rt, rt.alloc(), &past, "round 2 is past the bound")?;
+    let link = Link::of_arc(2, 1, 17).expect(&rt, "ends that differ");
+    let missed = RunFault::Missed { link };
+    expect_text(&rt, rt.alloc(), &missed, "link 1 2 17 was missed")?;
     let write = "write failed after 10 bytes";
     expect_text(&rt, rt.alloc(), &RunFault::Write { written: 10 }, write)?;
     expect_text(&rt, rt.alloc(), &WriteFault { written: 10 }, write)
+}
+
+#[test]
+fn of_each_refused_cut(rt: HostRuntime) -> Result<(), Fail> {
+    let texts = [
+        (CutFault::NoShards, "cut refused: NoShards"),
+        (CutFault::TooManyShards, "cut refused: TooManyShards"),
+        (CutFault::ShardTooLarge, "cut refused: ShardTooLarge"),
+        (CutFault::BadPlaces, "cut refused: BadPlaces"),
+        (CutFault::Memory, "no memory"),
+    ];
+    for (fault, text) in texts {
+        expect_text(&rt, rt.alloc(), &RunFault::Cut(fault), text)?;
+    }
+    Ok(())
 }
 
 // Each number of a report stands behind its own name.

@@ -1,7 +1,7 @@
 // Files to the texts of their forests.
 use byte_streams::{FusedSink, FusedSource};
-use gr_text::{GrFault, GrKind, ReadFault};
 use forest_run::{Report, RunFault, plain_text, run_plain};
+use gr_text::{GrFault, GrKind, ReadFault};
 use std::alloc::Global;
 use std::process::Abort;
 use std::test::Fail;

@@ -2,9 +2,9 @@
 // 10,000 vertices and links. A body that gives up past some size is proved as well as one that doesn't. What is
 // expected is written by a formula, here.
 use byte_streams::FusedSource;
+use forest_run::{plain_text, run_plain};
 use gr_text::{GrReader, Graph, MAX_BYTES, parse, read_graph, read_graph_upto, write_forest};
 use link_key::{Forest, Labels, Link, Offers, plain_forest};
-use forest_run::{plain_text, run_plain};
 use std::alloc::{AllocError, Global};
 use std::process::Abort;
 use std::test::Fail;

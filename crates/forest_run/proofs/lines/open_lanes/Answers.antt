@@ -1,6 +1,6 @@
-use Rattle.std.proofs.Common.{◌≡◌, ◌<◌, ◌≤◌, ℕ, [], ◌∷◌, ◌++◌, length, vec_len, vec_capacity, subst, sym, rules, arith}
+use Rattle.std.proofs.Common.{◌≡◌, ◌<◌, [], length, rules, arith}
 use Rattle.ports.specs.Wires.{IsNewWire}
-use Rattle.forest_run.proofs.NewWires.{SomeLanes, no_lanes, lane_more, next_room, lanes_number, all_lanes}
+use Rattle.forest_run.proofs.NewWires.{no_lanes, lane_more, next_room, lanes_number}
 use Rattle.forest_run.proofs.lines.open_lanes.Goals as goal
 
 pub loop-line-init : goal.loop-line-init

@@ -1,4 +1,4 @@
-use Rattle.std.proofs.Common.{◌≡◌, ◌+◌, ◌≤◌, length, vec_len, vec_capacity}
+use Rattle.std.proofs.Common.{◌≤◌, length, vec_len, vec_capacity}
 use Rattle.forest_run.proofs.NewWires.{SomeLanes}
 use Rattle.forest_run.proofs.lines.open_lanes.Given as goal
 

@@ -1,15 +1,13 @@
-use Rattle.std.proofs.Common.{◌≡◌, ◌∙◌, ◌≤◌, ◌^◌, Vec, Ok, Err, ap, length}
-use Rattle.link_key.specs.declared.links.Link.{Link}
+use Rattle.std.proofs.Common.{◌∙◌, Vec, Ok, Err, ap, length}
 use Rattle.link_key.specs.Link.{EndsUpTo}
-use Rattle.link_key.specs.Cut.{joined, IsCutFault}
-use Rattle.gr_text.specs.Graph.{GraphValue}
-use Rattle.forest_run.specs.Cuttings.{cut_refusal, IsCutOf}
-use Rattle.forest_run.specs.WiredLines.{AreServed, LinesSolved, LinesRefused}
+use Rattle.link_key.specs.Cut.{joined}
+use Rattle.forest_run.specs.Cuttings.{IsCutOf}
+use Rattle.forest_run.specs.WiredLines.{LinesSolved}
 use Rattle.forest_run.specs.Outcomes.{IsLeast}
 use Rattle.forest_run.specs.LinesRun.{IsSpanning}
 use Rattle.forest_run.proofs.Telling.{reads_the_file, first_of_failed, no_fault_of_lawful}
-use Rattle.forest_run.proofs.PlainRunning.{unread, done, broken_off}
-use Rattle.forest_run.proofs.LinesRunning.{shards_ends, few_enough, same_length, spanning, few_links, least, lines_went, honest_report, cut_unsolved, cut_served, solve_unsolved, solve_served, no_refusal, solve_unhindered, cut_unhindered}
+use Rattle.forest_run.proofs.PlainRunning.{done, broken_off}
+use Rattle.forest_run.proofs.LinesRunning.{had_setback, shards_ends, few_enough, same_length, spanning, few_links, least, lines_went, honest_report, cut_unsolved, cut_served, solve_unsolved, solve_served, cut_unhindered}
 use Rattle.forest_run.proofs.lines.run_lines.Goals as goal
 
 -- ---- the file isn't read
@@ -122,3 +120,6 @@ returns-clause-served g c = λ served.
 pub returns-clause-malformed : goal.returns-clause-malformed
 returns-clause-malformed g c = λ bytes file nothing.
     absurd (nothing _ (reads_the_file bytes _ _ (Ok _) file.told file.no_failure c.in-Ok.ensures.outcome).1)
+
+pub returns-clause-ends_well : goal.returns-clause-ends_well
+returns-clause-ends_well g c = λ served bytes graph file means allowed. had_setback _ _ _ _ c.in-Err-write_forest.ensures.part

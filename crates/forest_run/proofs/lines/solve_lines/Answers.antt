@@ -1,4 +1,4 @@
-use Rattle.std.proofs.Common.{◌≡◌, ◌∙◌, ◌++◌, length, take, drop, ap, subst, sym, rules, arith}
+use Rattle.std.proofs.Common.{◌∙◌, length, ap, arith}
 use Rattle.std.proofs.lemmas.Result.{err_from_is_err_and}
 use Rattle.forest_run.specs.WiredLines.{AreNewLanes, lines_of}
 use Rattle.forest_run.proofs.NewWires.{new_cut, new_counts, written_back, solve_fault, solve_went, served_honest}
