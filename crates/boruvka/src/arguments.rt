@@ -18,13 +18,14 @@ const ABOUT: &str = "Computes the minimum spanning forest of a graph in the .gr 
 
 const BEHIND_THE_HELP: &str = "Exit status:
   0  Done
-  1  The file is refused, and its first fault is told
+  1  The file is refused, and its first fault is told; or it can't be cut so
   2  Wrong arguments
   3  FILE can't be opened, or a read or a write failed
   4  No memory
+  5  What the workers answered makes no forest
 
 Example:
-  boruvka --plain net.gr > forest.gr";
+  boruvka net.gr > forest.gr";
 
 fn workers_arg<'a>(alloc: Global) -> Arg<'a>
     ensures own { IsOwnArg result }
@@ -91,11 +92,7 @@ fn the_command<'a>(alloc: Global) -> Result<Command<'a>, AllocError>
     command = with(command, shards_arg(alloc))?;
     command = with(
         command,
-        flag(
-            alloc,
-            "plain",
-            "Solve in one thread, without workers; needed for now",
-        ),
+        flag(alloc, "plain", "Solve in one thread, without workers"),
     )?;
     command = with(
         command,

@@ -1,41 +1,47 @@
 //! The program: it reads a graph in the `.gr` format and writes the text of its minimum spanning forest.
 //!
 //! **What it promises.** The forest goes to the output only where the whole input was read and means a
-//! graph, and then exactly its text; whatever goes wrong has one of four statuses, which tells what failed,
-//! and puts no other byte on the output than a prefix of that text ([`command::obey`]). The help goes to
-//! the output too, where the words ask for it ([`command::command`]). Tests alone show that standard error
-//! gets a line that says what went wrong, for wrong words the usage, and the report where it is asked for.
+//! graph, and then exactly its text; whatever goes wrong has one of five statuses, which tells what failed,
+//! and puts no other byte on the output than a prefix of that text ([`command::obey`]). By one thread, or
+//! without workers, it is the minimum spanning forest; over workers a spanning forest whatever they answer,
+//! and the minimum one where each answers as the worker's engine does, which no contract can see of a socket.
+//! The help goes to the output too, where the words ask for it ([`command::command`]). Tests alone show that
+//! standard error gets a line that says what went wrong, for wrong words the usage, and the report where it is
+//! asked for.
 //!
 //! **How it is built.**
 //!
 //! ```text
-//! words --arguments::options--> Options --command::obey--> run_plain over FILE or standard input --> status
-//!                                         \--messages--> standard error
+//! words --arguments::options--> Options --command::obey--> a run over FILE or standard input --> status
+//!                                               \--messages--> standard error
+//!   a run: tcp_lines::Workers::start, forest_run::run_lines, Workers::join; with --plain forest_run::run_plain
 //! ```
 //!
 //! **Where to start a change.** A new option: `arguments` and `chosen`, with the table in `specs/Arguments.antt`. A new fault: `statuses`, with the
 //! table in `specs/`. What the program does, in order: `command`. What each status says of a run:
-//! `specs/Status.antt`.
+//! `specs/Status.antt`. How the standard streams are written and kept apart from sockets: `standard`.
 #![tactic(auto)]
 
 mod arguments;
 mod chosen;
 mod command;
 mod messages;
+mod standard;
 mod statuses;
 #[cfg(test)]
 mod tests;
 
+use standard::Standard;
 use std::process::ExitCode;
 
 fn main(rt: HostRuntime) -> ExitCode {
-    let mut errors = rt.stderr();
+    let mut errors = Standard::errors();
     let status = match arguments::all_words(&rt) {
         Ok(words) => command::command(
             &rt,
             words.as_slice(),
             &mut rt.stdin(),
-            &mut rt.stdout(),
+            &mut Standard::output(),
             &mut errors,
         ),
         Err(error) => command::without_words(&error, &mut errors),

@@ -1,14 +1,19 @@
 use crate::arguments::{all_words, options};
 use crate::chosen::OptionsFault;
 use crate::command::{command, without_words};
+use crate::messages::tell;
 use crate::statuses::status_of;
 use byte_streams::{FusedSink, FusedSource, Untold};
 use forest_run::RunFault;
+use link_key::{CutFault, Link};
 use std::alloc::{Alloc, Global};
 use std::fs::{self, File, Files};
 use std::io::{self, ErrorKind, Write};
+use std::net::{Net, TcpListener, TcpStream};
 use std::process::Abort;
+use std::sync::Wait;
 use std::test::Fail;
+use std::thread::Threads;
 
 const SMALL_NET: &[u8; 108] =
     b"c a small net\np sp 6 8\na 1 2 17\nc the usual shape\na 1 3 10\na 2 4 2\na 3 5 0\na 4 3 0\na 4 6 3\na 5 2 0\na 5 6 20\n";
@@ -25,24 +30,31 @@ Arguments:
 Options:
       --workers <N>  How many workers scan the shards: 0 to 64 [default: 2]
       --shards <S>   How many shards the links are cut into: 1 to 4096 [default: 64]
-      --plain        Solve in one thread, without workers; needed for now
+      --plain        Solve in one thread, without workers
       --report       Print what the run did to standard error
   -h, --help         Print help
 
 Exit status:
   0  Done
-  1  The file is refused, and its first fault is told
+  1  The file is refused, and its first fault is told; or it can't be cut so
   2  Wrong arguments
   3  FILE can't be opened, or a read or a write failed
   4  No memory
+  5  What the workers answered makes no forest
 
 Example:
-  boruvka --plain net.gr > forest.gr
+  boruvka net.gr > forest.gr
 ";
 
 // The program answers this status for these words and this input, and writes just these texts.
 fn expect(
-    rt: &(impl Abort + Files + Alloc<A = Global>),
+    rt: &(impl Abort
+        + Files<File = File>
+        + Alloc<A = Global>
+        + Net<Listener = TcpListener, Stream = TcpStream>
+        + Threads
+        + Wait
+        + Sync),
     words: &[&str],
     input: &[u8],
     status: u8,
@@ -133,18 +145,42 @@ fn tells_a_file_that_cannot_be_read(rt: HostRuntime) -> Result<(), Fail> {
     Ok(())
 }
 
-// The words are judged before a file is opened.
+// Over workers the forest is the same, whatever their number.
 #[test]
-fn needs_the_plain_word(rt: HostRuntime) -> Result<(), Fail> {
-    let needed = b"boruvka: --plain is needed\n";
-    expect(&rt, &["boruvka"], SMALL_NET, 2, b"", needed);
+fn runs_over_workers(rt: HostRuntime) -> Result<(), Fail> {
     expect(
         &rt,
-        &["boruvka", "--workers", "3", "no/such/file"],
+        &["boruvka", "--workers", "2", "--shards", "2", "--report"],
         SMALL_NET,
-        2,
+        0,
+        SMALL_FOREST,
+        b"vertices=6 links=8 rounds=2 shards=2 asked=6 answered=6 alone=0 closed=0\n",
+    );
+    expect(
+        &rt,
+        &["boruvka", "--workers", "0", "--shards", "2", "--report"],
+        SMALL_NET,
+        0,
+        SMALL_FOREST,
+        b"vertices=6 links=8 rounds=2 shards=2 asked=0 answered=0 alone=6 closed=0\n",
+    );
+    expect(&rt, &["boruvka"], SMALL_NET, 0, SMALL_FOREST, b"");
+    Ok(())
+}
+
+// The workers end where the run ends ill.
+#[test]
+fn refuses_a_file_over_workers(rt: HostRuntime) -> Result<(), Fail> {
+    let late = b"boruvka: line 1: NoProblemYet\n";
+    expect(&rt, &["boruvka"], b"a 1 2 3\np sp 2 1\n", 1, b"", late);
+    let unopened = b"boruvka: cannot open no/such/file\n";
+    expect(
+        &rt,
+        &["boruvka", "no/such/file"],
+        SMALL_NET,
+        3,
         b"",
-        needed,
+        unopened,
     );
     Ok(())
 }
@@ -168,6 +204,26 @@ fn tells_how_much_was_written(rt: HostRuntime) -> Result<(), Fail> {
         b"boruvka: write failed after 10 bytes\n".as_slice()
     );
     assert_eq!(rt; status_of(&RunFault::Memory), 4);
+    Ok(())
+}
+
+// A fault is told by this line, and has this status.
+fn expect_told(rt: &(impl Abort + Alloc<A = Global>), fault: RunFault, status: u8, line: &[u8]) {
+    let mut errors = Vec::new(rt.alloc());
+    tell(&mut errors, &fault);
+    assert_eq!(rt; errors.as_slice(), line);
+    assert_eq!(rt; status_of(&fault), status);
+}
+
+#[test]
+fn tells_what_the_cut_and_the_workers_made_impossible(rt: HostRuntime) -> Result<(), Fail> {
+    let link = Link::of_arc(1, 2, 17).ok_or("a link")?;
+    let missed = b"boruvka: link 1 2 17 was missed\n";
+    expect_told(&rt, RunFault::Missed { link }, 5, missed);
+    let late = b"boruvka: round 2 is past the bound\n";
+    expect_told(&rt, RunFault::Rounds { round: 2 }, 5, late);
+    let large = b"boruvka: cut refused: ShardTooLarge\n";
+    expect_told(&rt, RunFault::Cut(CutFault::ShardTooLarge), 1, large);
     Ok(())
 }
 
@@ -297,7 +353,17 @@ impl Write for CountingWriter {
 }
 
 // The line that tells that a file of this name can't be opened goes out in one write.
-fn expect_one_write(rt: &(impl Abort + Files + Alloc<A = Global>), name: &str, line: &str) {
+fn expect_one_write(
+    rt: &(impl Abort
+        + Files<File = File>
+        + Alloc<A = Global>
+        + Net<Listener = TcpListener, Stream = TcpStream>
+        + Threads
+        + Wait
+        + Sync),
+    name: &str,
+    line: &str,
+) {
     let mut input = SMALL_NET.as_slice();
     let mut output = Vec::new(rt.alloc());
     let mut errors = Untold(CountingWriter {
@@ -411,7 +477,16 @@ fn takes_the_words_for_what_they_ask(rt: HostRuntime) -> Result<(), Fail> {
 }
 
 // These words are refused as the usage says, and nothing goes to the output.
-fn expect_refused(rt: &(impl Abort + Files + Alloc<A = Global>), words: &[&str]) {
+fn expect_refused(
+    rt: &(impl Abort
+        + Files<File = File>
+        + Alloc<A = Global>
+        + Net<Listener = TcpListener, Stream = TcpStream>
+        + Threads
+        + Wait
+        + Sync),
+    words: &[&str],
+) {
     let is_usage = matches!(options(rt.alloc(), words), Err(OptionsFault::Usage(_)));
     assert!(rt; is_usage);
     let mut errors = Vec::new(rt.alloc());
