@@ -4,7 +4,7 @@ ghost use Rattle.limits.specs.declared.TheConstants.{MAX_WORKERS};
 ghost use Rattle.tcp_lines.specs.Lines.{unused};
 
 use crate::line::TcpLine;
-use crate::pairs::{PairFault, pair};
+use crate::pairs::pair;
 use byte_streams::Untold;
 use limits::MAX_WORKERS;
 use std::alloc::{AllocError, Global};
@@ -61,11 +61,11 @@ impl Workers {
                         threads.push_reserved(thread);
                     }
                 }
-                Err(PairFault::Stranger) => match listen(rt) {
+                // A connection that was made may still be due to be accepted, so the next pair would meet a stranger.
+                Err(_) => match listen(rt) {
                     Ok(another) => listener = another,
                     Err(_) => break,
                 },
-                Err(_) => {}
             }
         }
         Ok((lines, Workers { threads }))
