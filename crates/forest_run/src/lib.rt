@@ -46,8 +46,8 @@
 //! and no shard is in the lists of two seats.
 //!
 //! Where to start a change: `specs/Asks` says what asks do to a port, `specs/Passes` what passes do to all lanes and to the
-//! book, `specs/Rounds` what a round does, `specs/Chains` how rounds
-//! follow one another, `specs/Solved` what a run over lanes does, `specs/WiredLines` what it does over lines and why it gives one up.
+//! book, `specs/Rounds` what a round does, `specs/Chains` how rounds follow one another, `specs/Solved` what a run over
+//! lanes does, `specs/WiredLines` what it does over lines and why it gives one up.
 //! `specs/Outcomes` says what any run does to its source and its sink, `specs/PlainRun` and `specs/LinesRun` what each of
 //! the two finds and tells. `proofs/AsksThen`, `proofs/Passing`, `proofs/Running`, `proofs/NewWires` and
 //! `proofs/TalkedLines` compose them.

@@ -123,10 +123,10 @@ fn solve_lines<
 /// The links are cut as `cutting` says, and the worker at line i, numbered from 0, is asked for the light offers of one
 /// shard after another, as [`solve`] says. A line that fails, over which something else than an answer comes, or an answer
 /// that the round's book refuses, or one of whose asks finds no memory, is given up for good, and its shards are asked of
-/// the others; where none is left they are scanned here. So a failing line is never the run's fault. Nor is a line given up without a cause: where it was new
-/// and tells its bytes, they and its counts bear the cause out. Where all lines carry the sessions of their workers the
-/// links are the minimum spanning forest, and no line is given up but one that is down, or for want of memory here or at
-/// its worker; whatever comes over them, the links close no cycle and span those of the file.
+/// the others; where none is left they are scanned here. So a failing line is never the run's fault. Nor is a line given up
+/// without a cause: where it was new and tells its bytes, they and its counts bear the cause out. Where all lines carry the
+/// sessions of their workers the links are the minimum spanning forest, and no line is given up but one that is down, or
+/// for want of memory here or at its worker; whatever comes over them, the links close no cycle and span those of the file.
 ///
 /// It waits for the workers' answers. The forest is whole before the first byte is written; after a fault the lines are
 /// dropped. It takes a list of the links, the places of the cut, 600 bytes a line, and what [`solve`] takes; the time of
