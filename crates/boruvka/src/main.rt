@@ -19,7 +19,7 @@
 //!
 //! **Where to start a change.** A new option: `arguments` and `chosen`, with the table in `specs/Arguments.antt`. A new fault: `statuses`, with the
 //! table in `specs/`. What the program does, in order: `command`. What each status says of a run:
-//! `specs/Status.antt`. How the standard streams are written and kept apart from sockets: `standard`.
+//! `specs/Status.antt`. How the standard streams are kept apart from sockets: `standard`.
 #![tactic(auto)]
 
 mod arguments;
@@ -31,17 +31,16 @@ mod statuses;
 #[cfg(test)]
 mod tests;
 
-use standard::Standard;
 use std::process::ExitCode;
 
 fn main(rt: HostRuntime) -> ExitCode {
-    let mut errors = Standard::errors();
+    let mut errors = rt.stderr();
     let status = match arguments::all_words(&rt) {
         Ok(words) => command::command(
             &rt,
             words.as_slice(),
             &mut rt.stdin(),
-            &mut Standard::output(),
+            &mut rt.stdout(),
             &mut errors,
         ),
         Err(error) => command::without_words(&error, &mut errors),

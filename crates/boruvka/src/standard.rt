@@ -1,41 +1,6 @@
-//! The standard streams as the program finds them: closed ones, and pipes that nobody reads.
-ghost use Rattle.std.specs.Prelude.{◌≡◌, ◌≤◌, length, IfOk};
-ghost use Rattle.std.specs.Io.{WritesAtMost};
-
-use byte_streams::{Failed, Sink};
+//! The standard streams as the program finds them, some of them closed.
 use std::fs::{File, Files};
 use std::os::fd::AsRawFd;
-
-/// Standard output or standard error. A write to a pipe that nobody reads fails, and raises no signal.
-#[derive(Drop)]
-pub struct Standard {
-    descriptor: i32,
-}
-
-impl Standard {
-    /// Standard output.
-    pub fn output() -> Standard {
-        Standard { descriptor: 1 }
-    }
-
-    /// Standard error.
-    pub fn errors() -> Standard {
-        Standard { descriptor: 2 }
-    }
-}
-
-impl Sink for Standard {
-    fn write(&mut self, buf: &[u8]) -> Result<usize, Failed> {
-        match usize::try_from(os::write_no_sigpipe(self.descriptor, buf)) {
-            Ok(taken) if taken <= buf.len() => Ok(taken),
-            _ => Err(Failed),
-        }
-    }
-
-    fn flush(&mut self) -> Result<(), Failed> {
-        Ok(())
-    }
-}
 
 /// What holds the standard descriptors that weren't open.
 #[derive(Drop)]

@@ -9,7 +9,7 @@ use std::alloc::{AllocError, Global};
 use std::process::Abort;
 use std::test::Fail;
 use worked_graphs::{have_labels, links_of};
-use worker_engine::{Engine, ServeFault, Served, scan, serve, serve_upto};
+use worker_engine::{Engine, Scanner, ServeFault, Served, scan, serve, serve_upto};
 
 const HELLO: [u8; 11] = [1, 0, 0, 0, 6, 0, 1, 0, 0, 0, 0];
 
@@ -340,6 +340,37 @@ fn a_scan_of_ten_thousand_links(rt: HostRuntime) -> Result<(), Fail> {
     assert!(rt; links.len() == 9998 && labels.n() == MANY);
     let offers = scanned(&rt, rt.alloc(), links.as_slice(), &labels)?;
     assert_eq!(rt; offers.pairs(), expected.as_slice());
+    Ok(())
+}
+
+// The same by a scanner that has scanned before.
+fn scanned_again(
+    rt: &impl Abort,
+    scanner: &mut Scanner,
+    links: &[Link],
+    labels: &Labels,
+) -> Result<Offers, Fail> {
+    assert!(rt; links.len() <= 1 << 24);
+    assert!(rt; have_labels(links, labels.n()));
+    let offers = scanner.scan(links, labels)?;
+    Ok(offers)
+}
+
+#[test]
+fn one_scanner_for_shards_of_any_length(rt: HostRuntime) -> Result<(), Fail> {
+    let triangle = links_of(rt.alloc(), 3, &[(1, 2, 5), (2, 3, 5), (1, 3, 5)])?.expect(&rt, "arcs");
+    let apart = Labels::apart(rt.alloc(), 3)?;
+    let links = many_links(&rt, rt.alloc())?;
+    let labels = many_labels(&rt, rt.alloc())?;
+    let expected = plain_offers(&rt, rt.alloc(), links.as_slice(), &labels)?;
+    expect_known(&rt, expected.as_slice());
+    let mut scanner = Scanner::new(rt.alloc());
+    for _ in 0..2 {
+        let few = scanned_again(&rt, &mut scanner, triangle.as_slice(), &apart)?;
+        assert_eq!(rt; few.pairs(), [(1, 0), (2, 0), (3, 2)].as_slice());
+        let many = scanned_again(&rt, &mut scanner, links.as_slice(), &labels)?;
+        assert_eq!(rt; many.pairs(), expected.as_slice());
+    }
     Ok(())
 }
 
