@@ -8,7 +8,7 @@
 //!   written, and a write that fails is told with the number of bytes of that text that went out.
 //! - Over lines that carry the sessions of their workers, and by one thread, it is the minimum spanning forest; over any
 //!   lines the forest closes no cycle and spans the file's links. A failing line is never the run's fault.
-//! - A line that was new and tells its bytes is given up only for a fault that they and its counts bear out, or for an
+//! - A line that was new and tells its bytes is given up only for a fault that fits them and its counts, or for an
 //!   answer that the round's book refuses, whatever the other lines are. Over lines that carry the sessions of their
 //!   workers no line is blamed: one is given up only where it is down, or for want of memory here or at its worker.
 //! - Where no port was closed and nothing scanned alone, the bytes of new lines that tell them are just the asks, each of

@@ -123,10 +123,12 @@ fn solve_lines<
 /// The links are cut as `cutting` says, and the worker at line i, numbered from 0, is asked for the light offers of one
 /// shard after another, as [`solve`] says. A line that fails, over which something else than an answer comes, or an answer
 /// that the round's book refuses, or one of whose asks finds no memory, is given up for good, and its shards are asked of
-/// the others; where none is left they are scanned here. So a failing line is never the run's fault. Nor is a line given up
-/// without a cause: where it was new and tells its bytes, they and its counts bear the cause out. Where all lines carry the
-/// sessions of their workers the links are the minimum spanning forest, and no line is given up but one that is down, or
-/// for want of memory here or at its worker; whatever comes over them, the links close no cycle and span those of the file.
+/// the others; where none is left they are scanned here. So a failing line is never the run's fault. A line that was new,
+/// tells its bytes and was given up for a fault has counted a failure or an end, or bytes came over it that fit the fault;
+/// that they came in the ask that gave it up is promised of each ask ([`ports::Wire`]), and of a whole run only as far as
+/// the line's counts tell. Where all lines carry the sessions of their workers the links are the minimum spanning forest,
+/// and no line is given up but one that is down, or for want of memory here or at its worker; whatever comes over them, the
+/// links close no cycle and span those of the file.
 ///
 /// It waits for the workers' answers. The forest is whole before the first byte is written; after a fault the lines are
 /// dropped. It takes a list of the links, the places of the cut, 600 bytes a line, and what [`solve`] takes; the time of
@@ -151,7 +153,7 @@ pub fn run_lines<
     requires room { All (λ line. HasRoom (L.state line)) lines.items }
 
     // Whatever the workers answer: the source was read to its end, and exactly the text of a spanning forest went out, or
-    // the fault says what was done. Each line was asked as its worker, and given up only for a cause that it bears out.
+    // the fault says what was done. Each line was asked as its worker, and where it was given up it tells why.
     ensures ran { RanLines L.state L.faithful cutting.entry lines.items result (streams (S.state source.old) (W.state sink.old))
         (streams (S.state source.new) (W.state sink.new)) }
 

@@ -2,14 +2,14 @@
 //!
 //! What is promised here:
 //!
-//! - A [`TcpLine`] counts its failures and its ends, 0 at first, and fails only where its stream did in that
-//!   call. What a socket took and gave is for the system to say, so it tells nothing of its bytes, and it is
-//!   never known to be faithful.
+//! - A [`TcpLine`] counts each failure that it answers and each end, 0 at first. What a socket took and gave is
+//!   for the system to say, so it tells nothing of its bytes, and it is never known to be faithful.
 //! - [`Workers::start`] gives at most as many lines as were asked for, unused ones, and there are just as many
 //!   threads.
 //!
-//! Tests alone show that what one end writes the other reads, that [`pair`] tells a stranger, and that the
-//! worker at the far end of the line at a place has that place for its number.
+//! Tests alone show that a call fails only where its stream did, that what one end writes the other reads, that
+//! [`pair`] tells a stranger, and that the worker at the far end of the line at a place has that place for its
+//! number.
 //!
 //! ```text
 //!   Workers::start ── a listener on 127.0.0.1, and for each worker
