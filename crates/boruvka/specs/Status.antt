@@ -40,7 +40,7 @@ status_of_run (Err why) = status_for why
 abbrev pub EndsWith : ℕ → Streams → Streams → Type 0
 EndsWith status before after = (result : Result Report RunFault) × (status ≡ status_of_run result) × RanPlain result before after
 
--- a run over new lines to at most so many workers, of links cut into so many shards, had this status, and did to its streams what it says. Nothing is known of what comes over the lines; a run without workers found the minimum spanning forest
+-- a run over new lines to at most so many workers, of links cut into so many shards, had this status, and did to its streams what it says. Nothing is known of what comes over the lines; a run that had no line found the minimum spanning forest
 pub record EndsOver (workers shards status : ℕ) (before after : Streams) : Type 0 where
   pub lines : List TcpLineState
   pub few : length lines ≤ workers
@@ -48,7 +48,7 @@ pub record EndsOver (workers shards status : ℕ) (before after : Streams) : Typ
   pub result : Result (Report × Vec TcpLine) RunFault
   pub status_is : status ≡ status_of_run result
   pub ran : RanLines line_of (λ line worker. ⊥) (Even shards) lines result before after
-  pub alone : workers ≡ 0 → RanServed (Even shards) result before after
+  pub alone : length lines ≡ 0 → RanServed (Even shards) result before after
 
 -- a source that tells nothing of itself
 abbrev pub untold : SourceState

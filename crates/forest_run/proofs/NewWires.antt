@@ -147,7 +147,8 @@ module _ {L : Type 0} (state : L → LineState) (faithful : L → ℕ → Type 0
         workers = λ worker lane b. (ports.each worker lane (omega (arith, number, b))).worker ∙ (new.each worker lane.port.talk.line lane b).worker_is;
         sound = λ worker line lane b fresh tells.
             (ports.each worker lane (omega (arith, number, b))).sound_is (new_sound state faithful (get_or lines worker line) cut worker (get_or before worker lane).port (new.each worker line lane b) fresh tells);
-        honest = λ served worker lane b. (ports.each worker lane (omega (arith, number, b))).honest_is (served_honest state faithful lines cut before new served worker lane (omega (arith, number, b)));
+        honest = λ worker line lane b fresh tells carries.
+            (ports.each worker lane (omega (arith, number, b))).honest_is (new_honest state faithful (get_or lines worker line) cut worker (get_or before worker lane).port (new.each worker line lane b) fresh tells carries);
       }
 
   pub solve_fault : (fault : SolveFault) → IsSolveFault port_of (IsHonestWire state faithful) (IsSoundWire state) (WireGave state) n cut before after fault

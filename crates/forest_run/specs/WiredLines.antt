@@ -43,8 +43,10 @@ pub record WiresWent {L : Type 0} (state : L → LineState) (faithful : L → �
   -- over a line that was new and tells its bytes, whatever the other lines are
   pub sound : (worker : ℕ) (line : L) (lane : LaneState (WireState L)) → worker < length lines
       → IsFresh (state (slice_index_or lines worker line)) → Tells (state (slice_index_or lines worker line)) → IsSoundWire state (slice_index_or ended worker lane).port
-  -- where each line was new and carries its worker's session
-  pub honest : AreServed state faithful lines → (worker : ℕ) (lane : LaneState (WireState L)) → worker < length lines → IsHonestWire state faithful (slice_index_or ended worker lane).port
+  -- over such a line that carries its worker's session, whatever the other lines are
+  pub honest : (worker : ℕ) (line : L) (lane : LaneState (WireState L)) → worker < length lines
+      → IsFresh (state (slice_index_or lines worker line)) → Tells (state (slice_index_or lines worker line)) → faithful (slice_index_or lines worker line) worker
+      → IsHonestWire state faithful (slice_index_or ended worker lane).port
 
 -- over new wires a run of their lanes found this forest of the cut's links, for the vertices 1 to n; the lines were taken out again in their order
 pub record LinesSolved {L : Type 0} (state : L → LineState) (faithful : L → ℕ → Type 0) (n : ℕ) (cut : List (List Link)) (before after : List L) (forest : List Link) (report : Report) : Type 0 where
