@@ -10,7 +10,7 @@
  *   first      the part of asking in the first round, in which all shards are sent
  *   finish     the part of merging after the last round
  *   sending    in calls of send, and
- *   waiting    in calls of recv: sums over the coordinator's sockets, whose threads run side by side
+ *   waiting    in calls of recv after the first ASK: sums over the coordinator's sockets, whose threads run side by side
  *   rounds     the rounds that asked
  *   sent, got  bytes over the coordinator's sockets
  *
@@ -31,7 +31,7 @@ enum { MOST = 1024, SHARD = 2, ASK = 3 };
 
 /* times are nanoseconds; 0 stands for none */
 struct wire {
-    int connected;
+    int connected, asked;
     uint64_t left;     /* what isn't sent yet of the frame begun */
     uint64_t shard_at; /* when a SHARD was sent whose ASK is due */
 };
@@ -83,6 +83,7 @@ static void look(struct wire *wire, const unsigned char *bytes, size_t count, ui
         wire->shard_at = at;
     }
     if (bytes[0] == ASK) {
+        wire->asked = 1;
         if (!rounds || field(bytes + 5) != round_now) {
             for (struct wire *each = wires; each < wires + MOST; each++) {
                 at = each->shard_at && each->shard_at < at ? each->shard_at : at;
@@ -130,14 +131,15 @@ ssize_t send(int fd, const void *bytes, size_t count, int flags) {
 }
 
 ssize_t recv(int fd, void *into, size_t count, int flags) {
-    if (!wire_of(fd)) {
+    struct wire *wire = wire_of(fd);
+    if (!wire) {
         return real_recv(fd, into, count, flags);
     }
     uint64_t from = now();
     ssize_t answer = real_recv(fd, into, count, flags);
     uint64_t to = now();
     pthread_mutex_lock(&lock);
-    waiting += to - from;
+    waiting += wire->asked ? to - from : 0;
     if (answer > 0) {
         got += (uint64_t)answer, got_at = to > got_at ? to : got_at;
     }
