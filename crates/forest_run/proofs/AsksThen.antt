@@ -11,7 +11,7 @@ pub either : (v : Bool) → (v ≡ true) ⊎ (v ≡ false)
 either true = inl refl
 either false = inr refl
 
-module _ {P : Type 0} (state : P → PortState) (honest sound : P → Type 0) (gave : P → List AnswerValue → Type 0) (closing : ℕ × ℕ → Option AnswerValue → Type 0) where
+module _ {P : Type 0} (state : P → PortState) (honest : P → Type 0) (sound : P → ℕ → Type 0) (gave : P → List AnswerValue → Type 0) (closing : ℕ × ℕ → Option AnswerValue → Type 0) where
   -- nothing was done
   pub stayed : (a : P) → AsksWent state honest sound gave closing a a []
   stayed a = record {
@@ -25,7 +25,7 @@ module _ {P : Type 0} (state : P → PortState) (honest sound : P → Type 0) (g
     given = λ t before g. subst (gave a) (sym (append-nil before)) g;
     still = λ f. (refl, refl, λ answers g. g);
     honest_is = λ x. x;
-    sound_is = λ x. x;
+    sound_is = λ ends x. x;
     why = λ t f. absurd (cc);
     why_honest = λ x t f. absurd (cc);
   }
@@ -72,7 +72,7 @@ module _ {P : Type 0} (state : P → PortState) (honest sound : P → Type 0) (g
     given = λ t before g. (let r = q.opened t in subst (gave c) (append_assoc before xs ys) (q.given t (before ++ xs) (p.given r.0 before g)));
     still = λ f. (let s = p.still f in let shut : (state b).is_open ≡ false = closed_stays a b xs p f in let r = q.still shut in (ap (λ zs. zs ++ ys) s.0 ∙ r.0, r.1 ∙ s.1, λ answers g. r.2 answers (s.2 answers g)));
     honest_is = λ x. q.honest_is (p.honest_is x);
-    sound_is = λ x. q.sound_is (p.sound_is x);
+    sound_is = λ ends x. q.sound_is ends (p.sound_is ends x);
     why = λ t f. elim (either (state b).is_open) [
       | inl e ↦ later a b c xs ys p q e (q.why e f)
       | inr e ↦ sooner a b c xs ys p q e (p.why t e)

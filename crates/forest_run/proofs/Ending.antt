@@ -55,7 +55,7 @@ light_first : (books more : List Page) → AreLightBooks (books ++ more) → Are
 light_first books more light i d b =
     subst (λ (book : Page). All (IsLight book) book.answers) (get_or_append_left books more d i b) (light i d (omega (arith, b, length-append books more)))
 
-module _ {P : Type 0} (state : P → PortState) (honest sound : P → Type 0) (gave : P → List AnswerValue → Type 0) where
+module _ {P : Type 0} (state : P → PortState) (honest : P → Type 0) (sound : P → ℕ → Type 0) (gave : P → List AnswerValue → Type 0) where
   pub asked_none : (n : ℕ) (cut : List (List Link)) (xs : List (LaneState P)) → RunAsked state honest sound gave n cut xs xs
   asked_none n cut xs = record {
     books = [];

@@ -33,7 +33,7 @@ pub one_at_most : (b : Bool) → one_if b ≤ 1
 one_at_most true = omega arith
 one_at_most false = omega arith
 
-module _ {P : Type 0} (state : P → PortState) (honest sound : P → Type 0) (gave : P → List AnswerValue → Type 0) where
+module _ {P : Type 0} (state : P → PortState) (honest : P → Type 0) (sound : P → ℕ → Type 0) (gave : P → List AnswerValue → Type 0) where
   pub cut_stays : (p q : Page) (xs ys : List (LaneState P)) → PassWent state honest sound gave p q xs ys → q.cut ≡ p.cut
   cut_stays p q xs ys u = ap (λ o. o.cut) u.page ∙ (same_round p u.answers).cut
 

@@ -102,17 +102,17 @@ module _ {L : Type 0} (state : L → LineState) (faithful : L → ℕ → Type 0
   new_step line cut worker wire new fresh tells =
       fresh_step (told state wire.talk) (subst (λ l. IsFresh (state l)) (sym new.line_is) fresh) (subst (λ l. Tells (state l)) (sym new.line_is) tells) new.ungreeted new.nothing_sent
 
-  new_calm : (line : L) (cut : List (List Link)) (worker : ℕ) (wire : WireState L) → IsNewWire line cut worker wire → IsFresh (state line) → Tells (state line) → IsCalm state wire [] []
+  new_calm : (line : L) (cut : List (List Link)) (worker : ℕ) (wire : WireState L) → IsNewWire line cut worker wire → IsFresh (state line) → Tells (state line) → IsCalm state (state line).ends wire [] []
   new_calm line cut worker wire new fresh tells =
-      fresh_calm state wire (subst (λ l. IsFresh (state l)) (sym new.line_is) fresh) (subst (λ l. Tells (state l)) (sym new.line_is) tells) new.ungreeted new.nothing_sent new.asks new.failures new.wants new.last
+      fresh_calm state wire (state line).ends (subst (λ l. IsFresh (state l)) (sym new.line_is) fresh) (subst (λ l. Tells (state l)) (sym new.line_is) tells) (ap (λ l. (state l).ends) new.line_is) new.ungreeted new.nothing_sent new.asks new.failures new.wants new.last
 
-  pub new_sound : (line : L) (cut : List (List Link)) (worker : ℕ) (wire : WireState L) → IsNewWire line cut worker wire → IsFresh (state line) → Tells (state line) → IsSoundWire state wire
+  pub new_sound : (line : L) (cut : List (List Link)) (worker : ℕ) (wire : WireState L) → IsNewWire line cut worker wire → IsFresh (state line) → Tells (state line) → IsSoundWire state wire (state line).ends
   new_sound line cut worker wire new fresh tells = inl ([], [], new_calm line cut worker wire new fresh tells)
 
   pub new_honest : (line : L) (cut : List (List Link)) (worker : ℕ) (wire : WireState L) → IsNewWire line cut worker wire → IsFresh (state line) → Tells (state line) → faithful line worker
       → IsHonestWire state faithful wire
   new_honest line cut worker wire new fresh tells carries =
-      (subst (λ w. faithful wire.talk.line w) (sym new.worker_is) (subst (λ l. faithful l worker) (sym new.line_is) carries), inl ([], [], new_calm line cut worker wire new fresh tells))
+      (subst (λ w. faithful wire.talk.line w) (sym new.worker_is) (subst (λ l. faithful l worker) (sym new.line_is) carries), ((state line).ends, inl ([], [], new_calm line cut worker wire new fresh tells)))
 
   -- over lines that are served each wire is honest
   pub served_honest : (lines : List L) (cut : List (List Link)) (lanes : List (LaneState (WireState L))) → AreNewLanes lines cut lanes → AreServed state faithful lines
@@ -146,7 +146,7 @@ module _ {L : Type 0} (state : L → LineState) (faithful : L → ℕ → Type 0
       record {
         workers = λ worker lane b. (ports.each worker lane (omega (arith, number, b))).worker ∙ (new.each worker lane.port.talk.line lane b).worker_is;
         sound = λ worker line lane b fresh tells.
-            (ports.each worker lane (omega (arith, number, b))).sound_is (new_sound state faithful (get_or lines worker line) cut worker (get_or before worker lane).port (new.each worker line lane b) fresh tells);
+            (ports.each worker lane (omega (arith, number, b))).sound_is (state (get_or lines worker line)).ends (new_sound state faithful (get_or lines worker line) cut worker (get_or before worker lane).port (new.each worker line lane b) fresh tells);
         honest = λ worker line lane b fresh tells carries.
             (ports.each worker lane (omega (arith, number, b))).honest_is (new_honest state faithful (get_or lines worker line) cut worker (get_or before worker lane).port (new.each worker line lane b) fresh tells carries);
       }

@@ -61,7 +61,7 @@ fewer true false h = omega arith
 fewer false true h = absurd (let e = h refl in cc)
 fewer false false h = omega arith
 
-module _ {P : Type 0} (state : P → PortState) (honest sound : P → Type 0) (gave : P → List AnswerValue → Type 0) where
+module _ {P : Type 0} (state : P → PortState) (honest : P → Type 0) (sound : P → ℕ → Type 0) (gave : P → List AnswerValue → Type 0) where
   -- no ferry opens a port
   fewer_open : (page : Page) (xs ys : List (LaneState P)) → Each (FerryWent state honest sound gave page) xs ys → open_of state ys ≤ open_of state xs
   fewer_open page [] [] p = omega arith
@@ -176,7 +176,7 @@ closing_before p ts w (Some t) r = refused_before p ts w t r
 pub light_before : (p : Page) (ts : List AnswerValue) (t : AnswerValue) → IsLight (heard_all p ts) t → IsLight p t
 light_before p ts t r = (let s = same_round p ts in rw (s.cut, s.round, s.labels) at r)
 
-pub asks_more : {P : Type 0} (state : P → PortState) (honest sound : P → Type 0) (gave : P → List AnswerValue → Type 0) (R Q : ℕ × ℕ → Option AnswerValue → Type 0) → ((w : ℕ × ℕ) (o : Option AnswerValue) → R w o → Q w o) → (a b : P) (kept : List AnswerValue) → AsksWent state honest sound gave R a b kept → AsksWent state honest sound gave Q a b kept
+pub asks_more : {P : Type 0} (state : P → PortState) (honest : P → Type 0) (sound : P → ℕ → Type 0) (gave : P → List AnswerValue → Type 0) (R Q : ℕ × ℕ → Option AnswerValue → Type 0) → ((w : ℕ × ℕ) (o : Option AnswerValue) → R w o → Q w o) → (a b : P) (kept : List AnswerValue) → AsksWent state honest sound gave R a b kept → AsksWent state honest sound gave Q a b kept
 asks_more state honest sound gave R Q h a b kept v = record {
   cut = v.cut;
   worker = v.worker;
@@ -194,7 +194,7 @@ asks_more state honest sound gave R Q h a b kept v = record {
 }
 
 -- one pass after another
-module _ {P : Type 0} (state : P → PortState) (honest sound : P → Type 0) (gave : P → List AnswerValue → Type 0) where
+module _ {P : Type 0} (state : P → PortState) (honest : P → Type 0) (sound : P → ℕ → Type 0) (gave : P → List AnswerValue → Type 0) where
   pub passed_then : (p q r : Page) (xs ys zs : List (LaneState P)) → PassWent state honest sound gave p q xs ys → PassWent state honest sound gave q r ys zs → PassWent state honest sound gave p r xs zs
   passed_then p q r xs ys zs u v = record {
     answers = u.answers ++ v.answers;

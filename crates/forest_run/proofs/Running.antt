@@ -71,7 +71,7 @@ pub closing_still : (p q : Page) → SameRound p q → (w : ℕ × ℕ) (o : Opt
 closing_still p q s w None r = rw (s.cut, s.round, s.labels) r
 closing_still p q s w (Some t) r = rw (s.cut, s.round, s.labels) r
 
-module _ {P : Type 0} (state : P → PortState) (honest sound : P → Type 0) (gave : P → List AnswerValue → Type 0) where
+module _ {P : Type 0} (state : P → PortState) (honest : P → Type 0) (sound : P → ℕ → Type 0) (gave : P → List AnswerValue → Type 0) where
   -- a round leaves the book's round, cut and labels
   pub same_still : (round : ℕ) (cut : List (List Link)) (labels : List ℕ) (new : Page) (xs ys : List (LaneState P)) (k : ℕ)
       → RoundWent state honest sound gave (opened round cut labels) new xs ys k → SameRound (opened round cut labels) new
@@ -107,7 +107,7 @@ kept_none honest xs = record {
 }
 
 -- what passes kept stands in the book that they and scans filled
-pub kept_in : {P : Type 0} (state : P → PortState) (honest sound : P → Type 0) (gave : P → List AnswerValue → Type 0) (old middle new : Page) (xs ys : List (LaneState P)) (k : ℕ)
+pub kept_in : {P : Type 0} (state : P → PortState) (honest : P → Type 0) (sound : P → ℕ → Type 0) (gave : P → List AnswerValue → Type 0) (old middle new : Page) (xs ys : List (LaneState P)) (k : ℕ)
     → (v : PassWent state honest sound gave old middle xs ys) → Scanned middle new k → old.answers ≡ [] → AreKept honest xs (new ∷ []) v.answers_at
 kept_in state honest sound gave old middle new xs ys k v w none =
     let answers : new.answers ≡ v.answers ++ w.answers = filled old middle new v.answers w.answers v.page w.page none in
@@ -176,7 +176,7 @@ kept_then {P} honest xs ys books new at bt same stays pages page earlier u v =
           absurd (omega arith)));
     }
 
-module _ {P : Type 0} (state : P → PortState) (honest sound : P → Type 0) (gave : P → List AnswerValue → Type 0) where
+module _ {P : Type 0} (state : P → PortState) (honest : P → Type 0) (sound : P → ℕ → Type 0) (gave : P → List AnswerValue → Type 0) where
   pub rounds_none : (cut : List (List Link)) (xs : List (LaneState P)) → RoundsWent state honest sound gave cut xs xs [] 0 0
   rounds_none cut xs = record {
     whole = λ i d b. absurd (omega arith);

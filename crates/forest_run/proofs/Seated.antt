@@ -80,7 +80,7 @@ holds_of None b shards h = ap (λ o. flat_map (λ (s : SeatState). held s.events
 holds_of (Some s) None shards h = absurd h
 holds_of (Some s) (Some t) shards h = append-nil (held t.events) ∙ h.2
 
-module _ {P : Type 0} (state : P → PortState) (honest sound : P → Type 0) (gave : P → List AnswerValue → Type 0) (page : Page) where
+module _ {P : Type 0} (state : P → PortState) (honest : P → Type 0) (sound : P → ℕ → Type 0) (gave : P → List AnswerValue → Type 0) (page : Page) where
   pub same_seats : (xs ys : List (LaneState P)) → Each (FerryWent state honest sound gave page) xs ys → Each SameSeat (seats_of xs) (seats_of ys)
   same_seats [] [] p = tt
   same_seats [] (y ∷ ys) p = absurd p

@@ -71,7 +71,7 @@ from_cut cut books l whole named =
     any_more (λ h. Names h l) (λ h. Contains h.shard l) (hearings book) (λ h names. (names.place, names.within, names.here)) named.2 in
     subst (λ (c : List (List Link)). Contains (joined c) l) is.cut_is ((full_book_has_all_links book is.page is.all l).1 there)
 
-module _ {P : Type 0} (state : P → PortState) (honest sound : P → Type 0) (gave : P → List AnswerValue → Type 0) where
+module _ {P : Type 0} (state : P → PortState) (honest : P → Type 0) (sound : P → ℕ → Type 0) (gave : P → List AnswerValue → Type 0) where
   -- where the coordinator scanned nothing, a lane kept the answer that named it
   pub named_given : (cut : List (List Link)) (xs ys : List (LaneState P)) (books : List Page) (answered alone : ℕ) (u : RoundsWent state honest sound gave cut xs ys books answered alone)
       → alone ≡ 0 → (l : Link) → IsNamedIn books l → (answer : AnswerValue) × IsGivenBy (length xs) u.answers_at answer × Names (hearing_of cut answer) l

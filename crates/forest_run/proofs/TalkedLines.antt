@@ -121,7 +121,7 @@ module _ {L : Type 0} (state : L → LineState) (faithful : L → ℕ → Type 0
         let new = solved.new.each i line d within in
         let news = fresh i line within in
         let opened : last.port.is_open ≡ true = each_open (λ (lane : LaneState (WireState L)). lane.port.is_open) solved.ended (omega (arith, still, number)) i d (omega (arith, number)) in
-        let (said, answers, calm) = calm_open state (λ (fault : PortFault). fault ≢ Closed) last.port opened (went.sound_is (new_sound state faithful (get_or before i line) cut i first.port new news.0 news.1)) in
+        let (said, answers, calm) = calm_open state (λ (fault : PortFault). fault ≢ Closed) last.port (state (get_or before i line)).ends opened (went.sound_is (state (get_or before i line)).ends (new_sound state faithful (get_or before i line) cut i first.port new news.0 news.1)) in
         let step = calm.in_step in
         let given = went.given opened [] (new_step state faithful (get_or before i line) cut i first.port new news.0 news.1).gave in
         let same : answers ≡ rounds.answers_at i = given_once (told state last.port.talk) answers (rounds.answers_at i) step.gave given in

@@ -45,7 +45,7 @@ abbrev pub FailedMore : PortState → PortState → Type 0
 FailedMore before after = before.failures + before.wants < after.failures + after.wants
 
 -- a port before and after some asks, of which these answers were kept; each answer that wasn't is one that a book refuses, which closed the port
-pub record AsksWent {P : Type 0} (state : P → PortState) (honest sound : P → Type 0) (gave : P → List AnswerValue → Type 0) (closing : ℕ × ℕ → Option AnswerValue → Type 0) (before after : P) (kept : List AnswerValue) : Type 0 where
+pub record AsksWent {P : Type 0} (state : P → PortState) (honest : P → Type 0) (sound : P → ℕ → Type 0) (gave : P → List AnswerValue → Type 0) (closing : ℕ × ℕ → Option AnswerValue → Type 0) (before after : P) (kept : List AnswerValue) : Type 0 where
   pub cut : (state after).cut ≡ (state before).cut
   pub worker : (state after).worker ≡ (state before).worker
   -- each ask brought an answer that was kept, but the one that closed the port
@@ -60,7 +60,7 @@ pub record AsksWent {P : Type 0} (state : P → PortState) (honest sound : P →
   -- once it is closed it is asked no more, and gives nothing
   pub still : (state before).is_open ≡ false → (kept ≡ []) × ((state after).last ≡ (state before).last) × ((answers : List AnswerValue) → gave before answers → gave after answers)
   pub honest_is : honest before → honest after
-  pub sound_is : sound before → sound after
+  pub sound_is : (ends : ℕ) → sound before ends → sound after ends
   -- why it was closed: its last ask failed or found no memory, or brought an answer that is refused, which no honest port gives
   pub why : (state before).is_open ≡ true → (state after).is_open ≡ false
       → (FailedMore (state before) (state after) × closing (state after).last None) ⊎ ((answer : AnswerValue) × closing (state after).last (Some answer) × ((answers : List AnswerValue) → gave before answers → gave after ((answers ++ kept) ++ answer ∷ [])))

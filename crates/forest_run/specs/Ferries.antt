@@ -26,7 +26,7 @@ SeatWent (Some before) None shards = ⊥
 SeatWent (Some before) (Some after) shards = (after.board ≡ before.board) × (after.number ≡ before.number) × (held after.events ≡ shards)
 
 -- a lane before and after its ferry: it kept answers that the book takes, each for a shard that its seat holds
-pub record FerryWent {P : Type 0} (state : P → PortState) (honest sound : P → Type 0) (gave : P → List AnswerValue → Type 0) (page : Page) (before after : LaneState P) : Type 0 where
+pub record FerryWent {P : Type 0} (state : P → PortState) (honest : P → Type 0) (sound : P → ℕ → Type 0) (gave : P → List AnswerValue → Type 0) (page : Page) (before after : LaneState P) : Type 0 where
   pub asked : AsksWent state honest sound gave (IsClosing page) before.port after.port after.kept
   pub seat : SeatWent before.seat after.seat (shards_of after.kept)
   pub taken : All (IsTaken page) after.kept

@@ -14,7 +14,7 @@ AreOnce lanes answers_at =
     → AreForOne (slice_index_or (answers_at i) k d) (slice_index_or (answers_at j) l d) → (i ≡ j) × (k ≡ l)
 
 -- lanes and a book before and after some passes: these answers went into the book, and each is one that a lane's port gave
-pub record PassWent {P : Type 0} (state : P → PortState) (honest sound : P → Type 0) (gave : P → List AnswerValue → Type 0) (old new : Page) (before after : List (LaneState P)) : Type 0 where
+pub record PassWent {P : Type 0} (state : P → PortState) (honest : P → Type 0) (sound : P → ℕ → Type 0) (gave : P → List AnswerValue → Type 0) (old new : Page) (before after : List (LaneState P)) : Type 0 where
   pub answers : List AnswerValue
   -- those of the lane at each place
   pub answers_at : ℕ → List AnswerValue

@@ -11,7 +11,7 @@ use Rattle.forest_run.specs.Passes.{PassWent}
 use Rattle.forest_run.specs.Scanned.{Scanned}
 
 -- first the ports were asked, and then the coordinator scanned so many shards alone, which it does only where no port is open
-pub record RoundWent {P : Type 0} (state : P → PortState) (honest sound : P → Type 0) (gave : P → List AnswerValue → Type 0) (old new : Page) (before after : List (LaneState P)) (alone : ℕ) : Type 0 where
+pub record RoundWent {P : Type 0} (state : P → PortState) (honest : P → Type 0) (sound : P → ℕ → Type 0) (gave : P → List AnswerValue → Type 0) (old new : Page) (before after : List (LaneState P)) (alone : ℕ) : Type 0 where
   pub middle : Page
   pub passes : PassWent state honest sound gave old middle before after
   pub scans : Scanned middle new alone
@@ -19,7 +19,7 @@ pub record RoundWent {P : Type 0} (state : P → PortState) (honest sound : P �
   pub closed : 0 < alone → open_of state after ≡ 0
 
 -- a whole round over a book that was opened for the cut under the labels: these are the picks of its answers
-pub record RoundPicked {P : Type 0} (state : P → PortState) (honest sound : P → Type 0) (gave : P → List AnswerValue → Type 0) (round : ℕ) (cut : List (List Link)) (labels : List ℕ) (before after : List (LaneState P)) (picks : List (Option Link)) (alone : ℕ) : Type 0 where
+pub record RoundPicked {P : Type 0} (state : P → PortState) (honest : P → Type 0) (sound : P → ℕ → Type 0) (gave : P → List AnswerValue → Type 0) (round : ℕ) (cut : List (List Link)) (labels : List ℕ) (before after : List (LaneState P)) (picks : List (Option Link)) (alone : ℕ) : Type 0 where
   pub book : Page
   pub went : RoundWent state honest sound gave (opened round cut labels) book before after alone
   pub page : IsPage book

@@ -18,7 +18,7 @@ abbrev pub IsClosingIn : List Page → ℕ × ℕ → Option AnswerValue → Typ
 IsClosingIn books last answer = (book : Page) × Contains books book × IsClosing (unanswered book) last answer
 
 -- the ports of lanes before and after asks, of which these answers were kept at each lane's place
-pub record PortsWent {P : Type 0} (state : P → PortState) (honest sound : P → Type 0) (gave : P → List AnswerValue → Type 0) (closing : ℕ × ℕ → Option AnswerValue → Type 0) (before after : List (LaneState P)) (answers_at : ℕ → List AnswerValue) : Type 0 where
+pub record PortsWent {P : Type 0} (state : P → PortState) (honest : P → Type 0) (sound : P → ℕ → Type 0) (gave : P → List AnswerValue → Type 0) (closing : ℕ × ℕ → Option AnswerValue → Type 0) (before after : List (LaneState P)) (answers_at : ℕ → List AnswerValue) : Type 0 where
   pub same_lanes : length after ≡ length before
   pub each : (i : ℕ) (d : LaneState P) → i < length before → AsksWent state honest sound gave closing (slice_index_or before i d).port (slice_index_or after i d).port (answers_at i)
 
@@ -54,7 +54,7 @@ pub record IsFullBook (cut : List (List Link)) (book : Page) : Type 0 where
   pub all : missing book ≡ 0
 
 -- lanes before and after whole rounds over books of a cut: the books have so many answers that lanes kept, and so many others, each of which is light: those the coordinator scanned itself
-pub record RoundsWent {P : Type 0} (state : P → PortState) (honest sound : P → Type 0) (gave : P → List AnswerValue → Type 0) (cut : List (List Link)) (before after : List (LaneState P)) (books : List Page) (answered alone : ℕ) : Type 0 where
+pub record RoundsWent {P : Type 0} (state : P → PortState) (honest : P → Type 0) (sound : P → ℕ → Type 0) (gave : P → List AnswerValue → Type 0) (cut : List (List Link)) (before after : List (LaneState P)) (books : List Page) (answered alone : ℕ) : Type 0 where
   pub whole : All (IsFullBook cut) books
   pub answers_at : ℕ → List AnswerValue
   pub ports : PortsWent state honest sound gave (IsClosingIn books) before after answers_at

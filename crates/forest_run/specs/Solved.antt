@@ -27,14 +27,14 @@ AreHonest honest lanes = All (λ lane. honest lane.port) lanes
 -- ---- one round
 
 -- a round under the solver's labels, and a step of the solver by its picks
-pub record TurnWent {P : Type 0} (state : P → PortState) (honest sound : P → Type 0) (gave : P → List AnswerValue → Type 0) (cut : List (List Link)) (old new : Progress) (before after : List (LaneState P)) (turn : Turn) (alone : ℕ) : Type 0 where
+pub record TurnWent {P : Type 0} (state : P → PortState) (honest : P → Type 0) (sound : P → ℕ → Type 0) (gave : P → List AnswerValue → Type 0) (cut : List (List Link)) (old new : Progress) (before after : List (LaneState P)) (turn : Turn) (alone : ℕ) : Type 0 where
   pub picks : List (Option Link)
   pub progress : IsProgress old
   pub picked : RoundPicked state honest sound gave (old.rounds + 1) cut old.labels before after picks alone
   pub stepped : IsTurn picks old new turn
 
 -- however a turn ended: what it did to the lanes' ports, and the book that it filled, as far as it came
-pub record TurnAsked {P : Type 0} (state : P → PortState) (honest sound : P → Type 0) (gave : P → List AnswerValue → Type 0) (cut : List (List Link)) (old : Progress) (before after : List (LaneState P)) : Type 0 where
+pub record TurnAsked {P : Type 0} (state : P → PortState) (honest : P → Type 0) (sound : P → ℕ → Type 0) (gave : P → List AnswerValue → Type 0) (cut : List (List Link)) (old : Progress) (before after : List (LaneState P)) : Type 0 where
   pub book : Page
   pub next : IsNextOf cut old book
   pub answers_at : ℕ → List AnswerValue
@@ -42,7 +42,7 @@ pub record TurnAsked {P : Type 0} (state : P → PortState) (honest sound : P �
   pub kept : AreKept honest before (book ∷ []) answers_at
 
 -- a round under the solver's labels, whose picks the solver refuses
-pub record TurnRefused {P : Type 0} (state : P → PortState) (honest sound : P → Type 0) (gave : P → List AnswerValue → Type 0) (cut : List (List Link)) (old : Progress) (before after : List (LaneState P)) (fault : SolveFault) : Type 0 where
+pub record TurnRefused {P : Type 0} (state : P → PortState) (honest : P → Type 0) (sound : P → ℕ → Type 0) (gave : P → List AnswerValue → Type 0) (cut : List (List Link)) (old : Progress) (before after : List (LaneState P)) (fault : SolveFault) : Type 0 where
   pub picks : List (Option Link)
   pub alone : ℕ
   pub progress : IsProgress old
@@ -50,13 +50,13 @@ pub record TurnRefused {P : Type 0} (state : P → PortState) (honest sound : P 
   pub refused : IsStepFault old picks fault
 
 -- why a turn ends ill: want of memory, or the solver refuses the picks
-abbrev pub IsTurnFault : {P : Type 0} → (P → PortState) → (P → Type 0) → (P → Type 0) → (P → List AnswerValue → Type 0) → List (List Link) → Progress → List (LaneState P) → List (LaneState P) → SolveFault → Type 0
+abbrev pub IsTurnFault : {P : Type 0} → (P → PortState) → (P → Type 0) → (P → ℕ → Type 0) → (P → List AnswerValue → Type 0) → List (List Link) → Progress → List (LaneState P) → List (LaneState P) → SolveFault → Type 0
 IsTurnFault state honest sound gave cut old before after fault = (fault ≡ Memory) ⊎ TurnRefused state honest sound gave cut old before after fault
 
 -- ---- rounds from the start of a run
 
 -- merging rounds from a run's start, which led to this solver, and one whole round more, of which these are the picks
-pub record PickedAfter {P : Type 0} (state : P → PortState) (honest sound : P → Type 0) (gave : P → List AnswerValue → Type 0) (n : ℕ) (cut : List (List Link)) (before after : List (LaneState P)) (solver : Progress) (picks : List (Option Link)) (answered alone : ℕ) : Type 0 where
+pub record PickedAfter {P : Type 0} (state : P → PortState) (honest : P → Type 0) (sound : P → ℕ → Type 0) (gave : P → List AnswerValue → Type 0) (n : ℕ) (cut : List (List Link)) (before after : List (LaneState P)) (solver : Progress) (picks : List (Option Link)) (answered alone : ℕ) : Type 0 where
   pub merging : List Page
   pub last : Page
   pub rounds : RoundsWent state honest sound gave cut before after (merging ++ last ∷ []) answered alone
@@ -70,7 +70,7 @@ AreRunBooks n cut books =
     ⊎ ((merging : List Page) × (solver : Progress) × (last : Page) × (books ≡ merging ++ last ∷ []) × All (IsFullBook cut) merging × IsSolvedBy n merging solver × IsNextOf cut solver last)
 
 -- however a run ended: what it did to the lanes' ports, and the books that it filled
-pub record RunAsked {P : Type 0} (state : P → PortState) (honest sound : P → Type 0) (gave : P → List AnswerValue → Type 0) (n : ℕ) (cut : List (List Link)) (before after : List (LaneState P)) : Type 0 where
+pub record RunAsked {P : Type 0} (state : P → PortState) (honest : P → Type 0) (sound : P → ℕ → Type 0) (gave : P → List AnswerValue → Type 0) (n : ℕ) (cut : List (List Link)) (before after : List (LaneState P)) : Type 0 where
   pub books : List Page
   pub are_books : AreRunBooks n cut books
   pub answers_at : ℕ → List AnswerValue
@@ -83,7 +83,7 @@ pub record HasAllRoundsOf (links : List Link) (p : Progress) : Type 0 where
   pub all : IsMergingRounds (vertices p) links p.rounds
 
 -- rounds of a run until one had no picks: an answer of each link that the solver took stands in a book
-pub record RunWent {P : Type 0} (state : P → PortState) (honest sound : P → Type 0) (gave : P → List AnswerValue → Type 0) (n : ℕ) (cut : List (List Link)) (before after : List (LaneState P)) (solver : Progress) (answered alone : ℕ) : Type 0 where
+pub record RunWent {P : Type 0} (state : P → PortState) (honest : P → Type 0) (sound : P → ℕ → Type 0) (gave : P → List AnswerValue → Type 0) (n : ℕ) (cut : List (List Link)) (before after : List (LaneState P)) (solver : Progress) (answered alone : ℕ) : Type 0 where
   pub picks : List (Option Link)
   pub went : PickedAfter state honest sound gave n cut before after solver picks answered alone
   pub none : AreNoPicks picks
@@ -96,7 +96,7 @@ pub record RunWent {P : Type 0} (state : P → PortState) (honest sound : P → 
   pub right : AreLightBooks (went.merging ++ went.last ∷ []) → HasAllRoundsOf (joined cut) solver
 
 -- rounds of a run, after which the solver refuses the picks of the last one, or there were none and it can't be finished
-pub record RunRefused {P : Type 0} (state : P → PortState) (honest sound : P → Type 0) (gave : P → List AnswerValue → Type 0) (n : ℕ) (cut : List (List Link)) (before after : List (LaneState P)) (fault : SolveFault) : Type 0 where
+pub record RunRefused {P : Type 0} (state : P → PortState) (honest : P → Type 0) (sound : P → ℕ → Type 0) (gave : P → List AnswerValue → Type 0) (n : ℕ) (cut : List (List Link)) (before after : List (LaneState P)) (fault : SolveFault) : Type 0 where
   pub solver : Progress
   pub picks : List (Option Link)
   pub answered : ℕ
@@ -108,11 +108,11 @@ pub record RunRefused {P : Type 0} (state : P → PortState) (honest sound : P �
   pub to_blame : fault ≢ Memory → ¬ (AreLightBooks (went.merging ++ went.last ∷ []))
 
 -- why a run has no forest: want of memory, or what was answered in its rounds
-abbrev pub IsSolveFault : {P : Type 0} → (P → PortState) → (P → Type 0) → (P → Type 0) → (P → List AnswerValue → Type 0) → ℕ → List (List Link) → List (LaneState P) → List (LaneState P) → SolveFault → Type 0
+abbrev pub IsSolveFault : {P : Type 0} → (P → PortState) → (P → Type 0) → (P → ℕ → Type 0) → (P → List AnswerValue → Type 0) → ℕ → List (List Link) → List (LaneState P) → List (LaneState P) → SolveFault → Type 0
 IsSolveFault state honest sound gave n cut before after fault = (fault ≡ Memory) ⊎ RunRefused state honest sound gave n cut before after fault
 
 -- a run that ended well over the lanes: its forest, and its report
-pub record SolveWent {P : Type 0} (state : P → PortState) (honest sound : P → Type 0) (gave : P → List AnswerValue → Type 0) (n : ℕ) (cut : List (List Link)) (before after : List (LaneState P)) (forest : List Link) (report : Report) : Type 0 where
+pub record SolveWent {P : Type 0} (state : P → PortState) (honest : P → Type 0) (sound : P → ℕ → Type 0) (gave : P → List AnswerValue → Type 0) (n : ℕ) (cut : List (List Link)) (before after : List (LaneState P)) (forest : List Link) (report : Report) : Type 0 where
   pub solver : Progress
   pub picks : List (Option Link)
   -- a merging round for each that is reported, and the last one, which had no picks

@@ -40,9 +40,10 @@ lines_of lanes = map (λ lane. lane.port.talk.line) lanes
 -- the wires that lanes with new wires over these lines have after a run: each is of the worker of its place, and they tell why those that are shut were shut
 pub record WiresWent {L : Type 0} (state : L → LineState) (faithful : L → ℕ → Type 0) (lines : List L) (ended : List (LaneState (WireState L))) : Type 0 where
   pub workers : (worker : ℕ) (lane : LaneState (WireState L)) → worker < length lines → (slice_index_or ended worker lane).port.talk.worker ≡ worker
-  -- over a line that was new and tells its bytes, whatever the other lines are
+  -- over a line that was new and tells its bytes, whatever the other lines are, from the ends on that it had found before the run
   pub sound : (worker : ℕ) (line : L) (lane : LaneState (WireState L)) → worker < length lines
-      → IsFresh (state (slice_index_or lines worker line)) → Tells (state (slice_index_or lines worker line)) → IsSoundWire state (slice_index_or ended worker lane).port
+      → IsFresh (state (slice_index_or lines worker line)) → Tells (state (slice_index_or lines worker line))
+      → IsSoundWire state (slice_index_or ended worker lane).port (state (slice_index_or lines worker line)).ends
   -- over such a line that carries its worker's session, whatever the other lines are
   pub honest : (worker : ℕ) (line : L) (lane : LaneState (WireState L)) → worker < length lines
       → IsFresh (state (slice_index_or lines worker line)) → Tells (state (slice_index_or lines worker line)) → faithful (slice_index_or lines worker line) worker

@@ -52,10 +52,11 @@ not_closed round shard labels before after fault cause same = subst (λ (f : Por
 
 module _ {L : Type 0} (state : L → LineState) where
   -- a wire that asked nothing yet, over a fresh line that tells its bytes
-  pub fresh_calm : (wire : WireState L) → IsFresh (state wire.talk.line) → Tells (state wire.talk.line) → wire.talk.greeted ≡ false → ((s : ℕ) → has_shard wire.talk.sent s ≡ false)
-      → wire.asks ≡ 0 → wire.failures ≡ 0 → wire.wants ≡ 0 → wire.last ≡ (0, 0) → IsCalm state wire [] []
-  fresh_calm wire fresh tells quiet none asks failures wants last = record {
+  pub fresh_calm : (wire : WireState L) (ends : ℕ) → IsFresh (state wire.talk.line) → Tells (state wire.talk.line) → (state wire.talk.line).ends ≡ ends → wire.talk.greeted ≡ false → ((s : ℕ) → has_shard wire.talk.sent s ≡ false)
+      → wire.asks ≡ 0 → wire.failures ≡ 0 → wire.wants ≡ 0 → wire.last ≡ (0, 0) → IsCalm state ends wire [] []
+  fresh_calm wire ends fresh tells ends_are quiet none asks failures wants last = record {
     in_step = fresh_step (told state wire.talk) fresh tells quiet none;
+    ends_are = ends_are;
     asks = asks;
     failures = failures;
     wants = wants;
@@ -63,17 +64,18 @@ module _ {L : Type 0} (state : L → LineState) where
   }
 
   -- one that is open is calm
-  pub calm_open : (kind : PortFault → Type 0) (wire : WireState L) → wire.is_open ≡ true → WentOn state kind wire → (said : List FrameValue) × (answers : List AnswerValue) × IsCalm state wire said answers
-  calm_open kind wire live went = elim went [
+  pub calm_open : (kind : PortFault → Type 0) (wire : WireState L) (ends : ℕ) → wire.is_open ≡ true → WentOn state kind wire ends
+      → (said : List FrameValue) × (answers : List AnswerValue) × IsCalm state ends wire said answers
+  calm_open kind wire ends live went = elim went [
     | inl calm ↦ calm
     | inr failed ↦ cc
   ]
 
   -- one that is shut stays what it was
-  pub went_shut : (kind : PortFault → Type 0) (wire : WireState L) → WentOn state kind wire → WentOn state kind (record wire { is_open = false })
-  went_shut kind wire went = elim went [
+  pub went_shut : (kind : PortFault → Type 0) (wire : WireState L) (ends : ℕ) → WentOn state kind wire ends → WentOn state kind (record wire { is_open = false }) ends
+  went_shut kind wire ends went = elim went [
     | inl on ↦ let calm = on.2 in
-        inl (on.0, on.1, record { in_step = calm.in_step; asks = calm.asks; failures = calm.failures; wants = calm.wants; last = calm.last })
+        inl (on.0, on.1, record { in_step = calm.in_step; ends_are = calm.ends_are; asks = calm.asks; failures = calm.failures; wants = calm.wants; last = calm.last })
     | inr off ↦ let failed = off.1 in
         inr (
           refl,
@@ -102,15 +104,16 @@ module _ {L : Type 0} (state : L → LineState) where
   module _ (round shard : ℕ) (labels : List ℕ) (old new : WireState L) (in_cut : shard < length old.talk.cut) (live : old.is_open ≡ true) (asks : new.asks ≡ old.asks + 1) (last : new.last ≡ (round, shard)) where
     -- it was answered
     module _ (is : IsShard shard (links_at old.talk.cut shard)) (ask : IsAsk round shard labels) (a : AnswerValue) (asked : Asked round shard labels a (told state old.talk) (told state new.talk)) where
-      pub answered : (kind kind' : PortFault → Type 0) → new.failures ≡ old.failures → new.wants ≡ old.wants → WentOn state kind old → WentOn state kind' new
-      answered kind kind' failures wants went =
-          let (said, answers, calm) = calm_open kind old live went in
+      pub answered : (kind kind' : PortFault → Type 0) (ends : ℕ) → new.failures ≡ old.failures → new.wants ≡ old.wants → WentOn state kind old ends → WentOn state kind' new ends
+      answered kind kind' ends failures wants went =
+          let (said, answers, calm) = calm_open kind old ends live went in
           let first : List FrameValue = shard_once (has_shard old.talk.sent shard) shard (links_at old.talk.cut shard) in
           inl (
             said ++ frames_put (told state old.talk) round shard labels,
             answers ++ a ∷ [],
             record {
               in_step = step_more round shard labels a (told state old.talk) (told state new.talk) asked in_cut is ask said answers calm.in_step;
+              ends_are = omega (arith, asked.brought.ends, calm.ends_are);
               asks = omega (arith, asks, calm.asks, length-append answers (a ∷ []));
               failures = failures ∙ calm.failures;
               wants = wants ∙ calm.wants;
@@ -120,10 +123,10 @@ module _ {L : Type 0} (state : L → LineState) where
 
     -- it wasn't
     module _ (fault : PortFault) (cause : WireCause state fault round shard labels old new) where
-      pub failed : (kind kind' : PortFault → Type 0) → kind' fault → new.is_open ≡ false → new.talk.cut ≡ old.talk.cut → new.talk.worker ≡ old.talk.worker
-          → new.failures ≡ old.failures + failure_of fault → new.wants ≡ old.wants + want_of fault → WentOn state kind old → WentOn state kind' new
-      failed kind kind' is_kind closed cut worker failures wants went =
-          let (said, answers, calm) = calm_open kind old live went in
+      pub failed : (kind kind' : PortFault → Type 0) (ends : ℕ) → kind' fault → new.is_open ≡ false → new.talk.cut ≡ old.talk.cut → new.talk.worker ≡ old.talk.worker
+          → new.failures ≡ old.failures + failure_of fault → new.wants ≡ old.wants + want_of fault → WentOn state kind old ends → WentOn state kind' new ends
+      failed kind kind' ends is_kind closed cut worker failures wants went =
+          let (said, answers, calm) = calm_open kind old ends live went in
           let round_is : round ≡ new.last.0 = ap (λ (p : ℕ × ℕ). p.0) (sym last) in
           let shard_is : shard ≡ new.last.1 = ap (λ (p : ℕ × ℕ). p.1) (sym last) in
           inr (
@@ -152,16 +155,20 @@ module _ {L : Type 0} (state : L → LineState) where
   module _ (round shard : ℕ) (labels : List ℕ) (old : WireState L) (new : TalkState L) (in_cut : shard < length old.talk.cut) (live : old.is_open ≡ true) (is : IsShard shard (links_at old.talk.cut shard)) (ask : IsAsk round shard labels)
       (below : old.talk.worker < MAX_WORKERS) (kind : PortFault → Type 0) where
     -- what the line told by the end of the ask is enough
-    pub served_answer : (a : AnswerValue) → Asked round shard labels a (told state old.talk) (told state new) → WentOn state kind old → ServesSoFar old.talk.worker (state new.line) → IsHonestAnswer old.talk.cut round shard labels a
-    served_answer a asked went serves =
-        let (said, answers, calm) = calm_open kind old live went in
+    pub served_answer : (a : AnswerValue) → Asked round shard labels a (told state old.talk) (told state new) → (ends : ℕ) → WentOn state kind old ends → ServesSoFar old.talk.worker (state new.line)
+        → IsHonestAnswer old.talk.cut round shard labels a
+    served_answer a asked ends went serves =
+        let (said, answers, calm) = calm_open kind old ends live went in
         honest_answer round shard labels (told state old.talk) (told state new) said answers calm.in_step below serves in_cut is ask a asked
 
-    module _ (line line' : ℕ → Type 0) (kept : (w : ℕ) → line w → line' w) (serves : (w : ℕ) → line' w → ServesSoFar w (state new.line)) (honest : line old.talk.worker × WentOn state kind old) where
+    module _ (line line' : ℕ → Type 0) (kept : (w : ℕ) → line w → line' w) (serves : (w : ℕ) → line' w → ServesSoFar w (state new.line)) (honest : line old.talk.worker × ((ends : ℕ) × WentOn state kind old ends)) where
       pub light_answer : (a : AnswerValue) → Asked round shard labels a (told state old.talk) (told state new) → IsHonestAnswer old.talk.cut round shard labels a
-      light_answer a asked = served_answer a asked honest.1 (serves old.talk.worker (kept old.talk.worker honest.0))
+      light_answer a asked =
+          let (carries, some) = honest in let (ends, went) = some in
+          served_answer a asked ends went (serves old.talk.worker (kept old.talk.worker carries))
 
       pub blameless_fault : (fault : PortFault) → EndsUpTo (length labels) (links_at old.talk.cut shard) → Cause fault round shard labels (told state old.talk) (told state new) → IsBlameless fault
       blameless_fault fault ends cause =
-          let (said, answers, calm) = calm_open kind old live honest.1 in
-          blameless round shard labels (told state old.talk) (told state new) said answers calm.in_step below (serves old.talk.worker (kept old.talk.worker honest.0)) in_cut is ask fault ends cause
+          let (carries, some) = honest in let (found, went) = some in
+          let (said, answers, calm) = calm_open kind old found live went in
+          blameless round shard labels (told state old.talk) (told state new) said answers calm.in_step below (serves old.talk.worker (kept old.talk.worker carries)) in_cut is ask fault ends cause

@@ -60,20 +60,21 @@ last_ask last [] = last
 last_ask last (AskFrame round shard labels ∷ frames) = last_ask (round, shard) frames
 last_ask last (v ∷ frames) = last_ask last frames
 
--- over a line that was fresh: nothing failed; just these frames were sent, shards of its cut, none twice, and asks; and the hello and just these answers were got, one for each ask that it counts
-pub record IsCalm {L : Type 0} (state : L → LineState) (wire : WireState L) (said : List FrameValue) (answers : List AnswerValue) : Type 0 where
+-- over a line that was fresh and had found so many ends: nothing failed, and no more ends were found; just these frames were sent, shards of its cut, none twice, and asks; and the hello and just these answers were got, one for each ask that it counts
+pub record IsCalm {L : Type 0} (state : L → LineState) (ends : ℕ) (wire : WireState L) (said : List FrameValue) (answers : List AnswerValue) : Type 0 where
   pub in_step : IsInStep (told state wire.talk) said answers
+  pub ends_are : (state wire.talk.line).ends ≡ ends
   pub asks : wire.asks ≡ length answers
   pub failures : wire.failures ≡ 0
   pub wants : wire.wants ≡ 0
   pub last : wire.last ≡ last_ask (0, 0) said
 
 -- its last ask, the first that got no answer, ended with a fault of this kind: why, by the wire before that ask, calm and open, and the wire behind it
-pub record HasFailed {L : Type 0} (state : L → LineState) (kind : PortFault → Type 0) (wire : WireState L) : Type 0 where
+pub record HasFailed {L : Type 0} (state : L → LineState) (ends : ℕ) (kind : PortFault → Type 0) (wire : WireState L) : Type 0 where
   pub before : WireState L
   pub said : List FrameValue
   pub answers : List AnswerValue
-  pub calm : IsCalm state before said answers
+  pub calm : IsCalm state ends before said answers
   pub was_open : before.is_open ≡ true
   pub same_cut : wire.talk.cut ≡ before.talk.cut
   pub same_worker : wire.talk.worker ≡ before.talk.worker
@@ -86,14 +87,14 @@ pub record HasFailed {L : Type 0} (state : L → LineState) (kind : PortFault �
   pub failures : wire.failures ≡ failure_of fault
   pub wants : wire.wants ≡ want_of fault
 
--- it is calm, open or shut; or a fault of this kind closed it
-abbrev pub WentOn : {L : Type 0} → (L → LineState) → (PortFault → Type 0) → WireState L → Type 0
-WentOn state kind wire = ((said : List FrameValue) × (answers : List AnswerValue) × IsCalm state wire said answers) ⊎ ((wire.is_open ≡ false) × HasFailed state kind wire)
+-- over a line that had found so many ends it is calm, open or shut; or a fault of this kind closed it
+abbrev pub WentOn : {L : Type 0} → (L → LineState) → (PortFault → Type 0) → WireState L → ℕ → Type 0
+WentOn state kind wire ends = ((said : List FrameValue) × (answers : List AnswerValue) × IsCalm state ends wire said answers) ⊎ ((wire.is_open ≡ false) × HasFailed state ends kind wire)
 
--- what it told is true: it is calm, or a fault closed it that has its cause
-abbrev pub IsSoundWire : {L : Type 0} → (L → LineState) → WireState L → Type 0
-IsSoundWire state wire = WentOn state (λ fault. fault ≢ Closed) wire
+-- what it told is true, over a line that had found so many ends when the wire was new: it is calm, or a fault closed it that has its cause
+abbrev pub IsSoundWire : {L : Type 0} → (L → LineState) → WireState L → ℕ → Type 0
+IsSoundWire state wire ends = WentOn state (λ fault. fault ≢ Closed) wire ends
 
--- its line is faithful for its worker: it is calm, or a fault closed it that is nobody's blame
+-- its line is faithful for its worker: it is calm, or a fault closed it that is nobody's blame. How many ends the line had found isn't told here: who asks that has the sound wire beside it
 abbrev pub IsHonestWire : {L : Type 0} → (L → LineState) → (L → ℕ → Type 0) → WireState L → Type 0
-IsHonestWire state faithful wire = faithful wire.talk.line wire.talk.worker × WentOn state IsBlameless wire
+IsHonestWire state faithful wire = faithful wire.talk.line wire.talk.worker × ((ends : ℕ) × WentOn state IsBlameless wire ends)

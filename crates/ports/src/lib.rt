@@ -12,7 +12,8 @@
 //!   bytes are those up to the frame that memory was wanting for.
 //! - An ask that is answered sent the ask alone, and before it the shard where no ask sent it before.
 //! - An open wire over a line that was fresh, and tells its bytes, sent shards of its cut, none twice, and one
-//!   ask for each answer, and nothing else; it got the worker's hello and these answers, and nothing else.
+//!   ask for each answer, and nothing else; it got the worker's hello and these answers, and nothing else,
+//!   and found no end.
 //! - Closed, such a wire was shut, and stands as it did; or its last ask failed, and the wire tells why, by the
 //!   open wire before that ask: its counts rose by that ask and that fault alone.
 //!

@@ -1,5 +1,5 @@
 //! Whom a shard is asked of.
-ghost use Rattle.std.specs.Prelude.{◌≡◌, ◌+◌, ◌-◌, ◌<◌, ◌≤◌, ◌^◌, List, [], ◌∷◌, ◌++◌, length, false, IfOk};
+ghost use Rattle.std.specs.Prelude.{◌≡◌, ℕ, ◌+◌, ◌-◌, ◌<◌, ◌≤◌, ◌^◌, List, [], ◌∷◌, ◌++◌, length, false, IfOk};
 ghost use Rattle.link_key.specs.Link.{EndsUpTo};
 ghost use Rattle.link_key.specs.Cut.{links_at};
 ghost use Rattle.frames.specs.AnswerValue.{AnswerValue};
@@ -31,9 +31,10 @@ pub trait Port<A: Allocator> {
     // These are the answers that it gave, in their order, where it tells them.
     ghost gave: { Self → List AnswerValue → Type 0 };
 
-    // Nothing went out or came in but its asks and their answers, up to the ask whose fault closed it, and that fault
-    // has its cause, where it tells that.
-    ghost sound: { Self → Type 0 };
+    // Nothing went out or came in but its asks and their answers, and no end was found, up to the ask whose fault closed
+    // it, and that fault has its cause, where it tells that. The number is that of the ends which its line had found before
+    // its first ask; a port without a line tells what fits.
+    ghost sound: { Self → ℕ → Type 0 };
 
     /// Asks for the offers of a shard in a round under the labels of all vertices. It may wait for the
     /// answer.
@@ -56,7 +57,7 @@ pub trait Port<A: Allocator> {
             → (answers : List AnswerValue) → gave self.old answers → gave self.new answers }
 
         ensures honest { honest self.old → honest self.new }
-        ensures sound { sound self.old → sound self.new };
+        ensures sound { (ends : ℕ) → sound self.old ends → sound self.new ends };
 
     /// Closes it for good. It waits for nothing, and takes no memory.
     fn shut(&mut self)
@@ -64,7 +65,7 @@ pub trait Port<A: Allocator> {
         ensures went { PortWent 0 0 0 (state self.old) (state self.new) }
         ensures gave { (answers : List AnswerValue) → gave self.old answers → gave self.new answers }
         ensures honest { honest self.old → honest self.new }
-        ensures sound { sound self.old → sound self.new };
+        ensures sound { (ends : ℕ) → sound self.old ends → sound self.new ends };
 
     /// Whether it is open.
     fn is_open(&self) -> bool

@@ -57,7 +57,7 @@ impl<'a, L: Line, A: Allocator + Copy> Wire<'a, L, A> {
 
         // Over a fresh line that tells its bytes it is sound, and over one that is faithful for the worker honest.
         ensures sound { IsFresh (L.state line) → Tells (L.state line)
-            → IsSoundWire L.state result }
+            → IsSoundWire L.state result (L.state line).ends }
         ensures honest { IsFresh (L.state line) → Tells (L.state line) → L.faithful line worker
             → IsHonestWire L.state L.faithful result }
     {
@@ -112,7 +112,7 @@ impl<'a, L: Line, A: Allocator + Copy> Port<A> for Wire<'a, L, A> {
         ensures silent { self.old.is_open ≡ false → (answers : List AnswerValue)
             → WireGave L.state self.old answers → WireGave L.state self.new answers }
         ensures honest { IsHonestWire L.state L.faithful self.old → IsHonestWire L.state L.faithful self.new }
-        ensures sound { IsSoundWire L.state self.old → IsSoundWire L.state self.new }
+        ensures sound { (ends : ℕ) → IsSoundWire L.state self.old ends → IsSoundWire L.state self.new ends }
 
         // An answer: which frames were sent for it, which bytes came, and which shards are sent by now.
         ensures asked { IfOk result (λ a. Asked round shard labels.now a
@@ -120,7 +120,7 @@ impl<'a, L: Line, A: Allocator + Copy> Port<A> for Wire<'a, L, A> {
 
         // Over a line that tells its bytes, known to be faithful or not: where what came by now begins what the
         // worker may write, the answer is honest.
-        ensures served { IfOk result (λ a. IsSoundWire L.state self.old
+        ensures served { IfOk result (λ a. (ends : ℕ) → IsSoundWire L.state self.old ends
             → ServesSoFar self.old.talk.worker (L.state self.new.talk.line)
             → IsHonestAnswer self.old.talk.cut round shard labels.now a) }
 
@@ -157,7 +157,7 @@ impl<'a, L: Line, A: Allocator + Copy> Port<A> for Wire<'a, L, A> {
         ensures gave { (answers : List AnswerValue)
             → WireGave L.state self.old answers → WireGave L.state self.new answers }
         ensures honest { IsHonestWire L.state L.faithful self.old → IsHonestWire L.state L.faithful self.new }
-        ensures sound { IsSoundWire L.state self.old → IsSoundWire L.state self.new }
+        ensures sound { (ends : ℕ) → IsSoundWire L.state self.old ends → IsSoundWire L.state self.new ends }
 
         // Nothing else changes: the line is as it was.
         ensures talk { self.new.talk ≡ self.old.talk }

@@ -12,13 +12,18 @@ pub returns-in-Ok-clause-sound : goal.returns-in-Ok-clause-sound
 returns-in-Ok-clause-sound g c =
     let live : c.self.inside.is_open ≡ true = search rules in
     let in_cut : c.args.shard < length c.self.inside.talk.cut = rw (sym c.self.view_is) at c.requires.shard in
-    rw (sym c.self.view_is) (answered g.L.Line.state c.args.round c.args.shard c.args.labels.now _ _ in_cut live refl refl c.ask.ensures.shard_lawful c.ask.ensures.ask_lawful c.in-Ok.answer c.in-Ok.ensures.asked _ _ refl refl)
+    rw (sym c.self.view_is)
+    (λ ends. answered g.L.Line.state c.args.round c.args.shard c.args.labels.now _ _ in_cut live refl refl c.ask.ensures.shard_lawful c.ask.ensures.ask_lawful c.in-Ok.answer c.in-Ok.ensures.asked _ _ ends refl refl)
 
 pub returns-in-Ok-clause-honest : goal.returns-in-Ok-clause-honest
 returns-in-Ok-clause-honest g c =
     let live : c.self.inside.is_open ≡ true = search rules in
     let in_cut : c.args.shard < length c.self.inside.talk.cut = rw (sym c.self.view_is) at c.requires.shard in
-    rw (sym c.self.view_is) (λ honest. ((subst (g.L.Line.faithful c.ask.new.self.line) (sym c.ask.ensures.worker) (c.ask.ensures.faithful _ honest.0)), answered g.L.Line.state c.args.round c.args.shard c.args.labels.now _ _ in_cut live refl refl c.ask.ensures.shard_lawful c.ask.ensures.ask_lawful c.in-Ok.answer c.in-Ok.ensures.asked _ _ refl refl honest.1))
+    rw (sym c.self.view_is) (λ honest.
+    let (carries, some) = honest in let (ends, went) = some in (
+      subst (g.L.Line.faithful c.ask.new.self.line) (sym c.ask.ensures.worker) (c.ask.ensures.faithful _ carries),
+      (ends, answered g.L.Line.state c.args.round c.args.shard c.args.labels.now _ _ in_cut live refl refl c.ask.ensures.shard_lawful c.ask.ensures.ask_lawful c.in-Ok.answer c.in-Ok.ensures.asked _ _ ends refl refl went),
+    ))
 
 pub returns-in-Ok-clause-served : goal.returns-in-Ok-clause-served
 returns-in-Ok-clause-served g c =
@@ -36,7 +41,8 @@ pub returns-in-Err-clause-sound : goal.returns-in-Err-clause-sound
 returns-in-Err-clause-sound g c =
     let live : c.self.inside.is_open ≡ true = search rules in
     let in_cut : c.args.shard < length c.self.inside.talk.cut = rw (sym c.self.view_is) at c.requires.shard in
-    rw (sym c.self.view_is) (failed g.L.Line.state c.args.round c.args.shard c.args.labels.now _ _ in_cut live refl refl c.in-Err.fault c.in-Err.ensures.cause _ _ (not_closed c.args.round c.args.shard c.args.labels.now _ _ c.in-Err.fault c.in-Err.ensures.cause) refl c.ask.ensures.cut c.ask.ensures.worker (ap (λ n. c.self.inside.failures + n) c.failure_of.ensures) (ap (λ n. c.self.inside.wants + n) c.want_of.ensures))
+    rw (sym c.self.view_is)
+    (λ ends. failed g.L.Line.state c.args.round c.args.shard c.args.labels.now _ _ in_cut live refl refl c.in-Err.fault c.in-Err.ensures.cause _ _ ends (not_closed c.args.round c.args.shard c.args.labels.now _ _ c.in-Err.fault c.in-Err.ensures.cause) refl c.ask.ensures.cut c.ask.ensures.worker (ap (λ n. c.self.inside.failures + n) c.failure_of.ensures) (ap (λ n. c.self.inside.wants + n) c.want_of.ensures))
 
 pub returns-in-Err-clause-blameless : goal.returns-in-Err-clause-blameless
 returns-in-Err-clause-blameless g c =
@@ -52,4 +58,7 @@ returns-in-Err-clause-honest g c =
     let ends = rw (sym c.self.view_is) at c.requires.ends in
     rw (sym c.self.view_is) (λ honest.
     let may = blameless_fault g.L.Line.state c.args.round c.args.shard c.args.labels.now _ _ in_cut live c.ask.ensures.shard_lawful c.ask.ensures.ask_lawful c.self.invariant.below _ (g.L.Line.faithful c.self.inside.talk.line) (g.L.Line.faithful c.ask.new.self.line) c.ask.ensures.faithful (g.met.L.Line.serves c.ask.new.self.line) honest c.in-Err.fault ends c.in-Err.ensures.cause in
-    ((subst (g.L.Line.faithful c.ask.new.self.line) (sym c.ask.ensures.worker) (c.ask.ensures.faithful _ honest.0)), failed g.L.Line.state c.args.round c.args.shard c.args.labels.now _ _ in_cut live refl refl c.in-Err.fault c.in-Err.ensures.cause _ _ may refl c.ask.ensures.cut c.ask.ensures.worker (ap (λ n. c.self.inside.failures + n) c.failure_of.ensures) (ap (λ n. c.self.inside.wants + n) c.want_of.ensures) honest.1))
+    let (carries, some) = honest in let (found, went) = some in (
+      subst (g.L.Line.faithful c.ask.new.self.line) (sym c.ask.ensures.worker) (c.ask.ensures.faithful _ carries),
+      (found, failed g.L.Line.state c.args.round c.args.shard c.args.labels.now _ _ in_cut live refl refl c.in-Err.fault c.in-Err.ensures.cause _ _ found may refl c.ask.ensures.cut c.ask.ensures.worker (ap (λ n. c.self.inside.failures + n) c.failure_of.ensures) (ap (λ n. c.self.inside.wants + n) c.want_of.ensures) went),
+    ))
