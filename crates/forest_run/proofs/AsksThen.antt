@@ -1,19 +1,35 @@
 -- Asks, and more asks after them.
-use Rattle.std.proofs.Common.{◌≡◌, ℕ, ◌⊎◌, inl, inr, Bool, true, false, List, [], ◌∷◌, ◌++◌, refl, ap, sym, subst, ◌∙◌, arith, append_assoc, length-append, rules}
-use Rattle.std.specs.Prelude.{Option, Some, None}
-use Rattle.std.proofs.lemmas.List.{append-nil}
+use Rattle.std.proofs.Common.{◌≡◌, ℕ, ◌⊎◌, inl, inr, Bool, true, false, List, [], ◌++◌, refl, ap, sym, subst, ◌∙◌, arith, append_assoc, length-append, rules}
+use Rattle.std.specs.Prelude.{Option, Some, None, option_to_list}
+use Rattle.std.proofs.lemmas.List.{append-nil, map-append}
+use Rattle.std.proofs.lemmas.List.Elements.{All-nil, All-append}
 use Rattle.frames.specs.AnswerValue.{AnswerValue}
 use Rattle.ports.specs.Ports.{PortState}
+use Rattle.ports.specs.Exchanges.{Exchange, answers_of}
 use Rattle.forest_run.specs.Lanes.{one_if}
-use Rattle.forest_run.specs.Asks.{AsksWent, FailedMore}
+use Rattle.forest_run.specs.Asks.{AsksWent, StoodStill, answered}
 
 pub either : (v : Bool) → (v ≡ true) ⊎ (v ≡ false)
 either true = inl refl
 either false = inr refl
 
-module _ {P : Type 0} (state : P → PortState) (honest : P → Type 0) (sound : P → ℕ → Type 0) (gave : P → List AnswerValue → Type 0) (closing : ℕ × ℕ → Option AnswerValue → Type 0) where
+-- exchanges of two parts, in the first of which no answer was refused
+both_parts : (others xs ys : List Exchange) (last last' : Option Exchange) → last ≡ None → (others ++ answered xs last) ++ answered ys last' ≡ others ++ answered (xs ++ ys) last'
+both_parts others xs ys last last' none =
+    ap (λ (o : Option Exchange). (others ++ (xs ++ option_to_list o)) ++ answered ys last') none
+    ∙ (ap (λ (zs : List Exchange). (others ++ zs) ++ answered ys last') (append-nil xs)
+    ∙ (append_assoc others xs (answered ys last')
+    ∙ ap (λ (zs : List Exchange). others ++ zs) (sym (append_assoc xs ys (option_to_list last')))))
+
+-- exchanges of a first part alone
+first_part : (others xs ys : List Exchange) (last last' : Option Exchange) → ys ≡ [] → last' ≡ None → (others ++ answered xs last) ++ answered ys last' ≡ others ++ answered xs last
+first_part others xs ys last last' no_more none =
+    ap (λ (zs : List Exchange). (others ++ answered xs last) ++ answered zs last') no_more
+    ∙ (ap (λ (o : Option Exchange). (others ++ answered xs last) ++ option_to_list o) none ∙ append-nil (others ++ answered xs last))
+
+module _ {P : Type 0} (state : P → PortState) (honest : P → Type 0) (sound : P → ℕ → List Exchange → Type 0) (exchanged : P → List Exchange → Type 0) (keeping : Exchange → Type 0) (closing : ℕ × ℕ → Option Exchange → Type 0) where
   -- nothing was done
-  pub stayed : (a : P) → AsksWent state honest sound gave closing a a []
+  pub stayed : (a : P) → AsksWent state honest sound exchanged keeping closing a a []
   stayed a = record {
     cut = refl;
     worker = refl;
@@ -21,64 +37,98 @@ module _ {P : Type 0} (state : P → PortState) (honest : P → Type 0) (sound :
     failures = omega arith;
     wants = omega arith;
     one_fault = omega arith;
-    opened = λ t. (t, refl, refl);
-    given = λ t before g. subst (gave a) (sym (append-nil before)) g;
-    still = λ f. (refl, refl, λ answers g. g);
+    exchanges = [];
+    kept_are = refl;
+    keeps = All-nil keeping;
+    refused = None;
+    opened = λ t. (t, record { failures = refl; wants = refl }, refl);
+    still = λ f. (refl, refl, refl);
+    given = λ s others g. subst (exchanged a) (sym (append-nil others)) g;
     honest_is = λ x. x;
-    sound_is = λ ends x. x;
+    sound_is = λ ends others x. subst (sound a ends) (sym (append-nil others)) x;
     why = λ t f. absurd (cc);
     why_honest = λ x t f. absurd (cc);
   }
 
   -- a closed port stays closed
-  closed_stays : (a b : P) (xs : List AnswerValue) → AsksWent state honest sound gave closing a b xs → (state a).is_open ≡ false → (state b).is_open ≡ false
+  closed_stays : (a b : P) (xs : List AnswerValue) → AsksWent state honest sound exchanged keeping closing a b xs → (state a).is_open ≡ false → (state b).is_open ≡ false
   closed_stays a b xs p f = elim (either (state b).is_open) [ inl e ↦ absurd (let r = (p.opened e).0 in cc) | inr e ↦ e ]
 
-  abbrev Cause : P → P → List AnswerValue → Type 0
-  Cause a b kept = (FailedMore (state a) (state b) × closing (state b).last None) ⊎ ((t : AnswerValue) × closing (state b).last (Some t) × ((before : List AnswerValue) → gave a before → gave b ((before ++ kept) ++ t ∷ [])))
+  module _ (a b c : P) (xs ys : List AnswerValue) (p : AsksWent state honest sound exchanged keeping closing a b xs) (q : AsksWent state honest sound exchanged keeping closing b c ys) where
+    -- the counts that stood still over both parts stood still in each
+    each_stood : StoodStill (state a) (state c) → StoodStill (state a) (state b) × StoodStill (state b) (state c)
+    each_stood s = (
+      record { failures = omega (arith, s.failures, p.failures, q.failures); wants = omega (arith, s.wants, p.wants, q.wants) },
+      record { failures = omega (arith, s.failures, p.failures, q.failures); wants = omega (arith, s.wants, p.wants, q.wants) },
+    )
 
-  -- it was closed in the second part
-  later : (a b c : P) (xs ys : List AnswerValue) → AsksWent state honest sound gave closing a b xs → AsksWent state honest sound gave closing b c ys → (state b).is_open ≡ true
-      → Cause b c ys → Cause a c (xs ++ ys)
-  later a b c xs ys p q e (inl r) = inl (omega (arith, r.0, p.failures, p.wants), r.1)
-  later a b c xs ys p q e (inr r) =
-      inr (r.0, r.1, λ before g. subst (λ zs. gave c (zs ++ r.0 ∷ [])) (append_assoc before xs ys) (r.2 (before ++ xs) (p.given e before g)))
+    -- the second part begins with an open port
+    then_open : (state b).is_open ≡ true → AsksWent state honest sound exchanged keeping closing a c (xs ++ ys)
+    then_open e =
+        let s = p.opened e in
+        let joined = λ (others : List Exchange). both_parts others p.exchanges q.exchanges p.refused q.refused s.2 in
+        record {
+          cut = q.cut ∙ p.cut;
+          worker = q.worker ∙ p.worker;
+          asks = omega (arith, length-append xs ys, p.asks, q.asks);
+          failures = omega (arith, p.failures, q.failures);
+          wants = omega (arith, p.wants, q.wants);
+          one_fault = (let t = q.one_fault in let u = ap one_if s.0 in let v = ap one_if e in omega (arith, t, u, v, s.1.failures, s.1.wants));
+          exchanges = p.exchanges ++ q.exchanges;
+          kept_are = ap (λ zs. zs ++ ys) p.kept_are ∙ (ap (λ zs. answers_of p.exchanges ++ zs) q.kept_are ∙ sym (map-append (λ (x : Exchange). x.answer) p.exchanges q.exchanges));
+          keeps = All-append keeping p.exchanges q.exchanges p.keeps q.keeps;
+          refused = q.refused;
+          opened = λ t. (
+              let r = q.opened t in
+              (s.0, record { failures = r.1.failures ∙ s.1.failures; wants = r.1.wants ∙ s.1.wants }, r.2));
+          still = λ f. absurd (let o = s.0 in cc);
+          given = λ t others g. (let h = each_stood t in subst (exchanged c) (joined others) (q.given h.1 _ (p.given h.0 others g)));
+          honest_is = λ x. q.honest_is (p.honest_is x);
+          sound_is = λ ends others x. subst (sound c ends) (joined others) (q.sound_is ends _ (p.sound_is ends others x));
+          why = λ t f. elim (q.why e f) [
+            | inl r ↦ inl (omega (arith, r.0, p.failures, p.wants), r.1, r.2)
+            | inr r ↦ inr (r.0, r.1, record { failures = r.2.failures ∙ s.1.failures; wants = r.2.wants ∙ s.1.wants }, r.3)
+          ];
+          why_honest = λ x t f. (let r = q.why_honest (p.honest_is x) e f in omega (arith, r, p.failures, p.wants));
+        }
 
-  -- it was closed in the first part
-  sooner : (a b c : P) (xs ys : List AnswerValue) → AsksWent state honest sound gave closing a b xs → AsksWent state honest sound gave closing b c ys → (state b).is_open ≡ false
-      → Cause a b xs → Cause a c (xs ++ ys)
-  sooner a b c xs ys p q e (inl r) =
-      let s = q.still e in inl (omega (arith, r.0, q.failures, q.wants), subst (λ (w : ℕ × ℕ). closing w None) (sym s.1) r.1)
-  sooner a b c xs ys p q e (inr r) =
-      let s = q.still e in
-      inr (
-        r.0,
-        subst (λ (w : ℕ × ℕ). closing w (Some r.0)) (sym s.1) r.1,
-        λ before g. subst (λ zs. gave c ((before ++ zs) ++ r.0 ∷ [])) (sym (append-nil xs) ∙ ap (λ zs. xs ++ zs) (sym s.0)) (s.2 _ (r.2 before g)),
-      )
+    -- or with one that was closed, so there is no second part
+    then_closed : (state b).is_open ≡ false → AsksWent state honest sound exchanged keeping closing a c (xs ++ ys)
+    then_closed e =
+        let s = q.still e in
+        let fault = q.one_fault in
+        let shut = ap one_if e in
+        let more : StoodStill (state b) (state c) =
+        record { failures = omega (arith, fault, shut, q.failures, q.wants); wants = omega (arith, fault, shut, q.failures, q.wants) } in
+        let nothing : ys ≡ [] = q.kept_are ∙ ap (λ zs. answers_of zs) s.0 in
+        let joined = λ (others : List Exchange). first_part others p.exchanges q.exchanges p.refused q.refused s.0 s.1 in
+        record {
+          cut = q.cut ∙ p.cut;
+          worker = q.worker ∙ p.worker;
+          asks = omega (arith, length-append xs ys, p.asks, q.asks);
+          failures = omega (arith, p.failures, q.failures);
+          wants = omega (arith, p.wants, q.wants);
+          one_fault = (let t = p.one_fault in omega (arith, t, more.failures, more.wants));
+          exchanges = p.exchanges;
+          kept_are = ap (λ zs. xs ++ zs) nothing ∙ (append-nil xs ∙ p.kept_are);
+          keeps = p.keeps;
+          refused = p.refused;
+          opened = λ t. absurd (let r = (q.opened t).0 in cc);
+          still = λ f. (let r = p.still f in (r.0, r.1, s.2 ∙ r.2));
+          given = λ t others g. (let h = each_stood t in subst (exchanged c) (joined others) (q.given h.1 _ (p.given h.0 others g)));
+          honest_is = λ x. q.honest_is (p.honest_is x);
+          sound_is = λ ends others x. subst (sound c ends) (joined others) (q.sound_is ends _ (p.sound_is ends others x));
+          why = λ t f. elim (p.why t e) [
+            | inl r ↦ inl (omega (arith, r.0, q.failures, q.wants), r.1, subst (λ (w : ℕ × ℕ). closing w None) (sym s.2) r.2)
+            | inr r ↦ inr (
+              r.0,
+              r.1,
+              record { failures = more.failures ∙ r.2.failures; wants = more.wants ∙ r.2.wants },
+              subst (λ (w : ℕ × ℕ). closing w (Some r.0)) (sym s.2) r.3,
+            )
+          ];
+          why_honest = λ x t f. (let r = p.why_honest x t e in omega (arith, r, q.failures, q.wants));
+        }
 
-  pub asks_then : (a b c : P) (xs ys : List AnswerValue) → AsksWent state honest sound gave closing a b xs → AsksWent state honest sound gave closing b c ys → AsksWent state honest sound gave closing a c (xs ++ ys)
-  asks_then a b c xs ys p q = record {
-    cut = q.cut ∙ p.cut;
-    worker = q.worker ∙ p.worker;
-    asks = omega (arith, length-append xs ys, p.asks, q.asks);
-    failures = omega (arith, p.failures, q.failures);
-    wants = omega (arith, p.wants, q.wants);
-    one_fault = elim (either (state b).is_open) [
-      | inl e ↦ (let s = p.opened e in let t = q.one_fault in let u = ap one_if s.0 in let v = ap one_if e in omega (arith, t, u, v, s.1, s.2))
-      | inr e ↦ (let s = p.one_fault in let t = q.one_fault in let v = ap one_if e in omega (arith, s, t, v))
-    ];
-    opened = λ t. (let r = q.opened t in let s = p.opened r.0 in (s.0, r.1 ∙ s.1, r.2 ∙ s.2));
-    given = λ t before g. (let r = q.opened t in subst (gave c) (append_assoc before xs ys) (q.given t (before ++ xs) (p.given r.0 before g)));
-    still = λ f. (let s = p.still f in let shut : (state b).is_open ≡ false = closed_stays a b xs p f in let r = q.still shut in (ap (λ zs. zs ++ ys) s.0 ∙ r.0, r.1 ∙ s.1, λ answers g. r.2 answers (s.2 answers g)));
-    honest_is = λ x. q.honest_is (p.honest_is x);
-    sound_is = λ ends x. q.sound_is ends (p.sound_is ends x);
-    why = λ t f. elim (either (state b).is_open) [
-      | inl e ↦ later a b c xs ys p q e (q.why e f)
-      | inr e ↦ sooner a b c xs ys p q e (p.why t e)
-    ];
-    why_honest = λ x t f. elim (either (state b).is_open) [
-      | inl e ↦ (let r = q.why_honest (p.honest_is x) e f in omega (arith, r, p.failures, p.wants))
-      | inr e ↦ (let r = p.why_honest x t e in omega (arith, r, q.failures, q.wants))
-    ];
-  }
+    pub asks_then : AsksWent state honest sound exchanged keeping closing a c (xs ++ ys)
+    asks_then = elim (either (state b).is_open) [ inl e ↦ then_open e | inr e ↦ then_closed e ]

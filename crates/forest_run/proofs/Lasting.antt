@@ -1,9 +1,9 @@
 -- What lasts from pass to pass.
 use Rattle.std.proofs.Common.{◌≡◌, ℕ, ◌≤◌, Bool, true, false, List, get_or, ap, sym, subst, ◌∙◌, arith}
 use Rattle.std.specs.Prelude.{All}
-use Rattle.frames.specs.AnswerValue.{AnswerValue}
 use Rattle.round_core.specs.Page.{Page}
 use Rattle.ports.specs.Ports.{PortState}
+use Rattle.ports.specs.Exchanges.{Exchange}
 use Rattle.forest_run.specs.Lanes.{LaneState, IsIdle, one_if}
 use Rattle.forest_run.specs.Bounds.{IsBookUnder, IsBound, IsWide}
 use Rattle.forest_run.specs.Seating.{Each, GotRoom}
@@ -33,11 +33,11 @@ pub one_at_most : (b : Bool) → one_if b ≤ 1
 one_at_most true = omega arith
 one_at_most false = omega arith
 
-module _ {P : Type 0} (state : P → PortState) (honest : P → Type 0) (sound : P → ℕ → Type 0) (gave : P → List AnswerValue → Type 0) where
-  pub cut_stays : (p q : Page) (xs ys : List (LaneState P)) → PassWent state honest sound gave p q xs ys → q.cut ≡ p.cut
+module _ {P : Type 0} (state : P → PortState) (honest : P → Type 0) (sound : P → ℕ → List Exchange → Type 0) (exchanged : P → List Exchange → Type 0) where
+  pub cut_stays : (p q : Page) (xs ys : List (LaneState P)) → PassWent state honest sound exchanged p q xs ys → q.cut ≡ p.cut
   cut_stays p q xs ys u = ap (λ o. o.cut) u.page ∙ (same_round p u.answers).cut
 
-  pub round_stays : (p q : Page) (labels : List ℕ) (xs ys : List (LaneState P)) → PassWent state honest sound gave p q xs ys → IsBookUnder p labels → IsBookUnder q labels
+  pub round_stays : (p q : Page) (labels : List ℕ) (xs ys : List (LaneState P)) → PassWent state honest sound exchanged p q xs ys → IsBookUnder p labels → IsBookUnder q labels
   round_stays p q labels xs ys u r =
       let s = same_round p u.answers in
       let cut : q.cut ≡ p.cut = cut_stays p q xs ys u in
@@ -50,7 +50,7 @@ module _ {P : Type 0} (state : P → PortState) (honest : P → Type 0) (sound :
       }
 
   -- the room that a round asks for at its start is left in each of its passes
-  pub bound_stays : (p q : Page) (labels : List ℕ) (xs ys : List (LaneState P)) → PassWent state honest sound gave p q xs ys → IsBookUnder p labels
+  pub bound_stays : (p q : Page) (labels : List ℕ) (xs ys : List (LaneState P)) → PassWent state honest sound exchanged p q xs ys → IsBookUnder p labels
       → All (λ (l : LaneState P). IsWide state p l.port) xs → All (λ (l : LaneState P). IsBound state q l.port) ys
   bound_stays p q labels xs ys u r wide i d b =
       let n = u.same_lanes in

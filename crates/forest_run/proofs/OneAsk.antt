@@ -1,13 +1,19 @@
--- What one answer is to the book that asked for it.
-use Rattle.std.proofs.Common.{◌≡◌, ℕ, ◌<◌, false, List, length, refl, sym, subst, arith}
-use Rattle.std.specs.Prelude.{Option, Some, None, is_some}
+-- What one ask does to its port, and what its answer is to the book that asked for it.
+use Rattle.std.proofs.Common.{◌≡◌, ℕ, zero, suc, ◌+◌, ◌<◌, true, false, inl, inr, List, [], ◌∷◌, ◌++◌, length, refl, sym, ap, subst, ◌∙◌, append-nil, arith}
+use Rattle.std.specs.Prelude.{All, Option, Some, None, Result, Ok, Err, IfErr, OnOk, IsSome, is_some}
+use Rattle.std.specs.Result.{is_err}
 use Rattle.std.proofs.lemmas.Grind.{common_steps}
 use Rattle.std.proofs.lemmas.Bool.Decides.{nat_tests}
 use Rattle.link_key.specs.declared.links.Link.{Link}
 use Rattle.frames.specs.AnswerValue.{AnswerValue}
-use Rattle.round_core.specs.Page.{Page, refusal}
-use Rattle.ports.specs.Ports.{IsHonestAnswer}
-use Rattle.forest_run.specs.Asks.{IsTaken, IsLight}
+use Rattle.round_core.specs.Page.{Page, refusal, is_taken, LightOffersAreTaken}
+use Rattle.round_core.specs.declared.refusals.Refusal.{Refusal}
+use Rattle.ports.specs.declared.fault.PortFault.{PortFault}
+use Rattle.ports.specs.declared.fault.PortFault.TheVariants.{Down, Garbled, WrongHello, Gave, Memory, Closed}
+use Rattle.ports.specs.Ports.{PortState, PortWent, AskWent, IsHonestAnswer}
+use Rattle.ports.specs.Exchanges.{Exchange, exchange_of}
+use Rattle.forest_run.specs.Lanes.{one_if}
+use Rattle.forest_run.specs.Asks.{IsAskOf, IsExchangeOf, IsKept, IsClosing, IsTaken, IsLight, AsksWent}
 
 -- an honest answer to an ask under the book's labels
 pub told_of : (page : Page) (cut : List (List Link)) (round shard : ℕ) (labels : List ℕ) (t : AnswerValue) → cut ≡ page.cut → round ≡ page.round → page.labels ≡ labels
@@ -32,3 +38,120 @@ is_taken_of page shard t within e =
 pub nothing_of : {X : Type 0} (o : Option X) → is_some o ≡ false → o ≡ None
 nothing_of None e = refl
 nothing_of (Some x) e = absurd (cc)
+
+-- the book doesn't refuse an honest answer
+pub honest_taken : (page : Page) (cut : List (List Link)) (round shard : ℕ) (labels : List ℕ) (t : AnswerValue) → LightOffersAreTaken → cut ≡ page.cut → round ≡ page.round → page.labels ≡ labels → is_taken page shard ≡ false
+    → IsHonestAnswer cut round shard labels t → refusal page shard t ≡ None
+honest_taken page cut round shard labels t law a b c missed h = (let r = told_of page cut round shard labels t a b c h in law page shard t missed r.round_is r.shard_is r.light)
+
+-- what a call says where it is refused, and where it isn't
+pub some_of_err : {X E : Type 0} (o : Option E) (r : Result X E) → IfErr r (λ e. o ≡ Some e) → is_err r ≡ true → IsSome o
+some_of_err o (Ok x) h e = absurd (cc)
+some_of_err o (Err x) h e = subst (λ p. IsSome p) (sym h) refl
+
+pub none_of_ok : {X E : Type 0} (o : Option E) (r : Result X E) → OnOk r (o ≡ None) → is_err r ≡ false → o ≡ None
+none_of_ok o (Ok x) h e = h
+none_of_ok o (Err x) h e = absurd (cc)
+
+-- ---- one ask of an open port, for a shard that the book misses
+
+module _ {P : Type 0} (state : P → PortState) (honest : P → Type 0) (sound : P → ℕ → List Exchange → Type 0) (exchanged : P → List Exchange → Type 0) (page : Page) (a : P) (round shard : ℕ) (labels : List ℕ)
+    (round_is : round ≡ page.round) (labels_are : labels ≡ page.labels) (inside : shard < length page.cut) (missed : is_taken page shard ≡ false) (live : (state a).is_open ≡ true) where
+  asked_of : IsAskOf page (round, shard)
+  asked_of = record { round = round_is; within = inside; missed = missed }
+
+  exchange_is : (t : AnswerValue) → IsExchangeOf page (exchange_of round shard labels t)
+  exchange_is t = record { ask = asked_of; labels = labels_are }
+
+  one_kept : (e : Exchange) → IsKept page e → All (IsKept page) (e ∷ [])
+  one_kept e is zero d b = is
+  one_kept e is (suc i) d b = absurd (omega arith)
+
+  -- the answer is kept
+  pub kept_one : (b : P) (t : AnswerValue) → refusal page shard t ≡ None → (state b).is_open ≡ true → PortWent 1 0 0 (state a) (state b)
+      → ((before : List Exchange) → exchanged a before → exchanged b (before ++ exchange_of round shard labels t ∷ [])) → (honest a → honest b)
+      → ((ends : ℕ) (before : List Exchange) → sound a ends before → sound b ends (before ++ exchange_of round shard labels t ∷ []))
+      → AsksWent state honest sound exchanged (IsKept page) (IsClosing page) a b (t ∷ [])
+  kept_one b t taken still_live went exchanges stays sounds = record {
+    cut = went.cut;
+    worker = went.worker;
+    asks = (let u = ap one_if live in let v = ap one_if still_live in omega (arith, went.asks, u, v));
+    failures = omega (arith, went.failures);
+    wants = omega (arith, went.wants);
+    one_fault = omega (arith, went.failures, went.wants);
+    exchanges = exchange_of round shard labels t ∷ [];
+    kept_are = refl;
+    keeps = one_kept (exchange_of round shard labels t) (record { asked = exchange_is t; taken = taken });
+    refused = None;
+    opened = λ e. (live, record { failures = omega (arith, went.failures); wants = omega (arith, went.wants) }, refl);
+    still = λ f. absurd (cc);
+    given = λ s others g. exchanges others g;
+    honest_is = stays;
+    sound_is = sounds;
+    why = λ e f. absurd (cc);
+    why_honest = λ x e f. absurd (cc);
+  }
+
+  -- the answer is refused, and the port shut
+  pub refused_one : (m b : P) (t : AnswerValue) → IsSome (refusal page shard t) → (honest a → refusal page shard t ≡ None) → PortWent 1 0 0 (state a) (state m) → (state m).last ≡ (round, shard)
+      → PortWent 0 0 0 (state m) (state b) → (state b).is_open ≡ false
+      → ((before : List Exchange) → exchanged a before → exchanged m (before ++ exchange_of round shard labels t ∷ [])) → ((others : List Exchange) → exchanged m others → exchanged b others)
+      → (honest a → honest m) → (honest m → honest b)
+      → ((ends : ℕ) (before : List Exchange) → sound a ends before → sound m ends (before ++ exchange_of round shard labels t ∷ [])) → ((ends : ℕ) (others : List Exchange) → sound m ends others → sound b ends others)
+      → AsksWent state honest sound exchanged (IsKept page) (IsClosing page) a b []
+  refused_one m b t some none_of_honest went last shut closed exchanges exchanges' stays stays' sounds sounds' = record {
+    cut = shut.cut ∙ went.cut;
+    worker = shut.worker ∙ went.worker;
+    asks = (let u = ap one_if live in let v = ap one_if closed in omega (arith, went.asks, shut.asks, u, v));
+    failures = omega (arith, went.failures, shut.failures);
+    wants = omega (arith, went.wants, shut.wants);
+    one_fault = omega (arith, went.failures, shut.failures, went.wants, shut.wants);
+    exchanges = [];
+    kept_are = refl;
+    keeps = λ i d b. absurd (omega arith);
+    refused = Some (exchange_of round shard labels t);
+    opened = λ e. absurd (cc);
+    still = λ f. absurd (cc);
+    given = λ s others g. exchanges' _ (exchanges others g);
+    honest_is = λ x. stays' (stays x);
+    sound_is = λ ends others x. sounds' ends _ (sounds ends others x);
+    why = λ e f. inr (
+      exchange_of round shard labels t,
+      refl,
+      record { failures = omega (arith, went.failures, shut.failures); wants = omega (arith, went.wants, shut.wants) },
+      record { last_is = shut.last refl ∙ last; asked = exchange_is t; refused = some },
+    );
+    why_honest = λ x e f. absurd (let s : IsSome {T = Refusal} None = subst (λ o. IsSome o) (none_of_honest x) some in cc);
+  }
+
+  closed_one : (b : P) (failed wanted : ℕ) → failed + wanted ≡ 1 → PortWent 1 failed wanted (state a) (state b) → (state b).last ≡ (round, shard) → (state b).is_open ≡ false
+      → (honest a → honest b) → ((ends : ℕ) (others : List Exchange) → sound a ends others → sound b ends others) → AsksWent state honest sound exchanged (IsKept page) (IsClosing page) a b []
+  closed_one b failed wanted one went last closed stays sounds = record {
+    cut = went.cut;
+    worker = went.worker;
+    asks = (let u = ap one_if live in let v = ap one_if closed in omega (arith, went.asks, u, v));
+    failures = omega (arith, went.failures);
+    wants = omega (arith, went.wants);
+    one_fault = (let u = ap one_if live in omega (arith, went.failures, went.wants, one, u));
+    exchanges = [];
+    kept_are = refl;
+    keeps = λ i d b. absurd (omega arith);
+    refused = None;
+    opened = λ e. absurd (cc);
+    still = λ f. absurd (cc);
+    given = λ s others g. absurd (omega (arith, s.failures, s.wants, went.failures, went.wants, one));
+    honest_is = stays;
+    sound_is = λ ends others x. subst (sound b ends) (sym (append-nil others)) (sounds ends others x);
+    why = λ e f. inl (omega (arith, went.failures, went.wants, one), refl, subst (IsAskOf page) (sym last) asked_of);
+    why_honest = λ x e f. omega (arith, went.failures, went.wants, one);
+  }
+
+  -- there is no answer
+  pub failed_one : (b : P) (fault : PortFault) → AskWent {T = AnswerValue} (Err fault) round shard (state a) (state b) → (honest a → honest b)
+      → ((ends : ℕ) (others : List Exchange) → sound a ends others → sound b ends others) → AsksWent state honest sound exchanged (IsKept page) (IsClosing page) a b []
+  failed_one b Closed went stays sounds = absurd (let e = went.0 in cc)
+  failed_one b Memory went stays sounds = closed_one b 0 1 refl went.2 went.3 went.1 stays sounds
+  failed_one b Down went stays sounds = closed_one b 1 0 refl went.2 went.3 went.1 stays sounds
+  failed_one b Garbled went stays sounds = closed_one b 1 0 refl went.2 went.3 went.1 stays sounds
+  failed_one b WrongHello went stays sounds = closed_one b 1 0 refl went.2 went.3 went.1 stays sounds
+  failed_one b (Gave code) went stays sounds = closed_one b 1 0 refl went.2 went.3 went.1 stays sounds

@@ -8,8 +8,9 @@ use Rattle.frames.specs.AnswerValue.{AnswerValue}
 use Rattle.link_key.specs.declared.links.Link.{Link}
 use Rattle.round_core.specs.Page.{Page, is_taken, heard, refusal}
 use Rattle.ports.specs.Ports.{PortState}
+use Rattle.ports.specs.Exchanges.{Exchange}
 use Rattle.forest_run.specs.Lanes.{LaneState, one_if, all_kept, asks_of, open_of}
-use Rattle.forest_run.specs.Asks.{AsksWent, IsRefused, IsClosing, IsLight, shards_of}
+use Rattle.forest_run.specs.Asks.{AsksWent, IsAskOf, IsExchangeOf, IsKept, IsClosing, IsLight, shards_of}
 use Rattle.forest_run.specs.Ferries.{FerryWent}
 use Rattle.forest_run.specs.Seating.{Each, GaveSeat}
 use Rattle.forest_run.specs.Passes.{AreOnce, PassWent}
@@ -61,9 +62,9 @@ fewer true false h = omega arith
 fewer false true h = absurd (let e = h refl in cc)
 fewer false false h = omega arith
 
-module _ {P : Type 0} (state : P → PortState) (honest : P → Type 0) (sound : P → ℕ → Type 0) (gave : P → List AnswerValue → Type 0) where
+module _ {P : Type 0} (state : P → PortState) (honest : P → Type 0) (sound : P → ℕ → List Exchange → Type 0) (exchanged : P → List Exchange → Type 0) where
   -- no ferry opens a port
-  fewer_open : (page : Page) (xs ys : List (LaneState P)) → Each (FerryWent state honest sound gave page) xs ys → open_of state ys ≤ open_of state xs
+  fewer_open : (page : Page) (xs ys : List (LaneState P)) → Each (FerryWent state honest sound exchanged page) xs ys → open_of state ys ≤ open_of state xs
   fewer_open page [] [] p = omega arith
   fewer_open page [] (y ∷ ys) p = absurd p
   fewer_open page (x ∷ xs) [] p = absurd p
@@ -77,24 +78,24 @@ module _ {P : Type 0} (state : P → PortState) (honest : P → Type 0) (sound :
       )
 
   -- ferries between steps that ask no port
-  pub passed_of : (old new : Page) (xs ys zs ws : List (LaneState P)) → Each SamePort xs ys → Each (FerryWent state honest sound gave old) ys zs → Each SamePort zs ws
-      → Distinct (shards_of (all_kept zs)) → AreTaken old (all_kept zs) → new ≡ heard_all old (all_kept zs) → PassWent state honest sound gave old new xs ws
+  pub passed_of : (old new : Page) (xs ys zs ws : List (LaneState P)) → Each SamePort xs ys → Each (FerryWent state honest sound exchanged old) ys zs → Each SamePort zs ws
+      → Distinct (shards_of (all_kept zs)) → AreTaken old (all_kept zs) → new ≡ heard_all old (all_kept zs) → PassWent state honest sound exchanged old new xs ws
   passed_of old new xs ys zs ws before f after apart fresh page =
       let l1 = each_length SamePort xs ys before in
-      let l2 = each_length (FerryWent state honest sound gave old) ys zs f in
+      let l2 = each_length (FerryWent state honest sound exchanged old) ys zs f in
       let l3 = each_length SamePort zs ws after in
       record {
         answers = all_kept zs;
         answers_at = kept_at zs;
         same_lanes = l3 ∙ (l2 ∙ l1);
         each = λ i d b. (
-            let v = (each_at (FerryWent state honest sound gave old) ys zs f i d (omega arith)).asked in
+            let v = (each_at (FerryWent state honest sound exchanged old) ys zs f i d (omega arith)).asked in
             let e = (each_at SamePort xs ys before i d b).port in
             let g = (each_at SamePort zs ws after i d (omega arith)).port in
             let m : kept_at zs i ≡ (get_or zs i d).kept = get_or-map (λ (l : LaneState P). l.kept) zs i d [] (omega arith) in
-            subst (λ n. AsksWent state honest sound gave (IsClosing old) (get_or xs i d).port (get_or ws i d).port n) (sym m)
-            (subst (λ p. AsksWent state honest sound gave (IsClosing old) p (get_or ws i d).port (get_or zs i d).kept) e
-            (subst (λ q. AsksWent state honest sound gave (IsClosing old) (get_or ys i d).port q (get_or zs i d).kept) (sym g) v)));
+            subst (λ n. AsksWent state honest sound exchanged (IsKept old) (IsClosing old) (get_or xs i d).port (get_or ws i d).port n) (sym m)
+            (subst (λ p. AsksWent state honest sound exchanged (IsKept old) (IsClosing old) p (get_or ws i d).port (get_or zs i d).kept) e
+            (subst (λ q. AsksWent state honest sound exchanged (IsKept old) (IsClosing old) (get_or ys i d).port q (get_or zs i d).kept) (sym g) v)));
         once = subst (λ n. AreOnce n (kept_at zs)) (l2 ∙ l1) (once_of zs apart);
         few = λ i. kept_few zs i;
         reached = λ i t b h. kept_to zs i t (omega arith) h;
@@ -102,7 +103,7 @@ module _ {P : Type 0} (state : P → PortState) (honest : P → Type 0) (sound :
         asks = (
             let a = same_asks state xs ys before in
             let b = same_asks state zs ws after in
-            let c = counted state honest sound gave old ys zs f in
+            let c = counted state honest sound exchanged old ys zs f in
             omega (arith, a.0, a.1, b.0, b.1, c));
         never_opened = (
             let a = same_asks state xs ys before in
@@ -113,18 +114,18 @@ module _ {P : Type 0} (state : P → PortState) (honest : P → Type 0) (sound :
         missed = rw page (taken_all old (all_kept zs) fresh);
         light_at = λ i d b h. (
             let e = (each_at SamePort xs ys before i d b).port in
-            let v = (each_at (FerryWent state honest sound gave old) ys zs f i d (omega arith)).light (subst honest (sym e) h) in
+            let v = (each_at (FerryWent state honest sound exchanged old) ys zs f i d (omega arith)).light (subst honest (sym e) h) in
             let m : kept_at zs i ≡ (get_or zs i d).kept = get_or-map (λ (l : LaneState P). l.kept) zs i d [] (omega arith) in
             subst (λ ts. All (IsLight old) ts) (sym m) v);
       }
 
   -- nothing was asked
-  pub passed_none : (page : Page) (xs ys : List (LaneState P)) → Each SamePort xs ys → PassWent state honest sound gave page page xs ys
+  pub passed_none : (page : Page) (xs ys : List (LaneState P)) → Each SamePort xs ys → PassWent state honest sound exchanged page page xs ys
   passed_none page xs ys same = record {
     answers = [];
     answers_at = λ i. [];
     same_lanes = each_length SamePort xs ys same;
-    each = λ i d b. (let e = (each_at SamePort xs ys same i d b).port in subst (λ q. AsksWent state honest sound gave (IsClosing page) (get_or xs i d).port q []) (sym e) (stayed state honest sound gave (IsClosing page) (get_or xs i d).port));
+    each = λ i d b. (let e = (each_at SamePort xs ys same i d b).port in subst (λ q. AsksWent state honest sound exchanged (IsKept page) (IsClosing page) (get_or xs i d).port q []) (sym e) (stayed state honest sound exchanged (IsKept page) (IsClosing page) (get_or xs i d).port));
     few = λ i. omega arith;
     reached = λ i t b h. absurd (omega arith);
     given = λ t h. absurd (omega arith);
@@ -151,59 +152,67 @@ refusal_of : (r r' : ℕ) (cut cut' : List (List Link)) (labels labels' : List �
     → refusal (record { round = r'; cut = cut'; labels = labels'; taken = taken'; answers = answers' }) s t ≡ refusal (record { round = r; cut = cut; labels = labels; taken = taken; answers = answers }) s t
 refusal_of r r' cut cut' labels labels' taken taken' answers answers' s t a b c d e = rw (a, b, c, d, e) refl
 
-refused_before : (p : Page) (ts : List AnswerValue) (w : ℕ × ℕ) (t : AnswerValue) → IsRefused (heard_all p ts) w t → IsRefused p w t
-refused_before p ts w t r =
+ask_before : (p : Page) (ts : List AnswerValue) (w : ℕ × ℕ) → IsAskOf (heard_all p ts) w → IsAskOf p w
+ask_before p ts w r =
+    let s = same_round p ts in
+    record { round = r.round ∙ s.round; within = rw s.cut at r.within; missed = taken_before p ts w.1 r.missed }
+
+exchange_before : (p : Page) (ts : List AnswerValue) (x : Exchange) → IsExchangeOf (heard_all p ts) x → IsExchangeOf p x
+exchange_before p ts x r = record { ask = ask_before p ts (x.round, x.shard) r.ask; labels = r.labels ∙ (same_round p ts).labels }
+
+-- the book says of an answer to such an ask what it said before
+same_refusal : (p : Page) (ts : List AnswerValue) (x : Exchange) → IsExchangeOf (heard_all p ts) x → refusal (heard_all p ts) x.shard x.answer ≡ refusal p x.shard x.answer
+same_refusal p ts x r =
     let q = heard_all p ts in
     let s = same_round p ts in
-    let free = taken_before p ts w.1 r.missed in
-    record {
-      round = r.round ∙ s.round;
-      within = rw s.cut at r.within;
-      missed = free;
-      refused = subst (λ o. IsSome o) (refusal_of p.round q.round p.cut q.cut p.labels q.labels p.taken q.taken p.answers q.answers w.1 t s.round s.cut s.labels free r.missed) r.refused;
-    }
+    refusal_of p.round q.round p.cut q.cut p.labels q.labels p.taken q.taken p.answers q.answers x.shard x.answer s.round s.cut s.labels (taken_before p ts x.shard r.ask.missed) r.ask.missed
 
-closing_before : (p : Page) (ts : List AnswerValue) (w : ℕ × ℕ) (o : Option AnswerValue) → IsClosing (heard_all p ts) w o → IsClosing p w o
-closing_before p ts w None r =
-    let s = same_round p ts in
-    record {
-      round = r.round ∙ s.round;
-      within = rw s.cut at r.within;
-      missed = taken_before p ts w.1 r.missed;
-    }
-closing_before p ts w (Some t) r = refused_before p ts w t r
+closing_before : (p : Page) (ts : List AnswerValue) (w : ℕ × ℕ) (o : Option Exchange) → IsClosing (heard_all p ts) w o → IsClosing p w o
+closing_before p ts w None r = ask_before p ts w r
+closing_before p ts w (Some x) r =
+    record { last_is = r.last_is; asked = exchange_before p ts x r.asked; refused = subst (λ o. IsSome o) (same_refusal p ts x r.asked) r.refused }
+
+kept_before : (p : Page) (ts : List AnswerValue) (x : Exchange) → IsKept (heard_all p ts) x → IsKept p x
+kept_before p ts x r = record { asked = exchange_before p ts x r.asked; taken = sym (same_refusal p ts x r.asked) ∙ r.taken }
 
 pub light_before : (p : Page) (ts : List AnswerValue) (t : AnswerValue) → IsLight (heard_all p ts) t → IsLight p t
 light_before p ts t r = (let s = same_round p ts in rw (s.cut, s.round, s.labels) at r)
 
-pub asks_more : {P : Type 0} (state : P → PortState) (honest : P → Type 0) (sound : P → ℕ → Type 0) (gave : P → List AnswerValue → Type 0) (R Q : ℕ × ℕ → Option AnswerValue → Type 0) → ((w : ℕ × ℕ) (o : Option AnswerValue) → R w o → Q w o) → (a b : P) (kept : List AnswerValue) → AsksWent state honest sound gave R a b kept → AsksWent state honest sound gave Q a b kept
-asks_more state honest sound gave R Q h a b kept v = record {
+pub asks_more : {P : Type 0} (state : P → PortState) (honest : P → Type 0) (sound : P → ℕ → List Exchange → Type 0) (exchanged : P → List Exchange → Type 0) (keeping keeping' : Exchange → Type 0) (R Q : ℕ × ℕ → Option Exchange → Type 0)
+    → ((x : Exchange) → keeping x → keeping' x) → ((w : ℕ × ℕ) (o : Option Exchange) → R w o → Q w o) → (a b : P) (kept : List AnswerValue)
+    → AsksWent state honest sound exchanged keeping R a b kept → AsksWent state honest sound exchanged keeping' Q a b kept
+asks_more state honest sound exchanged keeping keeping' R Q k h a b kept v = record {
   cut = v.cut;
   worker = v.worker;
   asks = v.asks;
   failures = v.failures;
   wants = v.wants;
   one_fault = v.one_fault;
+  exchanges = v.exchanges;
+  kept_are = v.kept_are;
+  keeps = λ i d below. k (get_or v.exchanges i d) (v.keeps i d below);
+  refused = v.refused;
   opened = v.opened;
-  given = v.given;
   still = v.still;
+  given = v.given;
   honest_is = v.honest_is;
   sound_is = v.sound_is;
-  why = λ t f. elim (v.why t f) [ inl k ↦ inl (k.0, h (state b).last None k.1) | inr k ↦ inr (k.0, h (state b).last (Some k.0) k.1, k.2) ];
+  why = λ t f. elim (v.why t f) [ inl r ↦ inl (r.0, r.1, h (state b).last None r.2) | inr r ↦ inr (r.0, r.1, r.2, h (state b).last (Some r.0) r.3) ];
   why_honest = v.why_honest;
 }
 
 -- one pass after another
-module _ {P : Type 0} (state : P → PortState) (honest : P → Type 0) (sound : P → ℕ → Type 0) (gave : P → List AnswerValue → Type 0) where
-  pub passed_then : (p q r : Page) (xs ys zs : List (LaneState P)) → PassWent state honest sound gave p q xs ys → PassWent state honest sound gave q r ys zs → PassWent state honest sound gave p r xs zs
+module _ {P : Type 0} (state : P → PortState) (honest : P → Type 0) (sound : P → ℕ → List Exchange → Type 0) (exchanged : P → List Exchange → Type 0) where
+  pub passed_then : (p q r : Page) (xs ys zs : List (LaneState P)) → PassWent state honest sound exchanged p q xs ys → PassWent state honest sound exchanged q r ys zs → PassWent state honest sound exchanged p r xs zs
   passed_then p q r xs ys zs u v = record {
     answers = u.answers ++ v.answers;
     answers_at = λ i. u.answers_at i ++ v.answers_at i;
     same_lanes = v.same_lanes ∙ u.same_lanes;
     each = λ i d b. (
         let w = v.each i d (let e = u.same_lanes in omega arith) in
-        asks_then state honest sound gave (IsClosing p) _ _ _ (u.answers_at i) (v.answers_at i) (u.each i d b)
-        (asks_more state honest sound gave (IsClosing q) (IsClosing p) (λ w o k. closing_before p u.answers w o (subst (λ page. IsClosing page w o) u.page k)) _ _ (v.answers_at i) w));
+        asks_then state honest sound exchanged (IsKept p) (IsClosing p) _ _ _ (u.answers_at i) (v.answers_at i) (u.each i d b)
+        (asks_more state honest sound exchanged (IsKept q) (IsKept p) (IsClosing q) (IsClosing p) (λ x k. kept_before p u.answers x (subst (λ page. IsKept page x) u.page k))
+        (λ w o k. closing_before p u.answers w o (subst (λ page. IsClosing page w o) u.page k)) _ _ (v.answers_at i) w));
     given = λ t h. elim (Contains-append_cases u.answers v.answers t h) [
       | inl a ↦ (let k = u.given t a in (k.0, k.1, Contains-append_left (u.answers_at k.0) (v.answers_at k.0) t k.2))
       | inr a ↦ (let k = v.given t a in (k.0, (let e = u.same_lanes in let l = k.1 in omega arith), Contains-append_right (u.answers_at k.0) (v.answers_at k.0) t k.2))

@@ -9,14 +9,15 @@ use Rattle.link_key.specs.Link.{EndsUpTo}
 use Rattle.frames.specs.AnswerValue.{AnswerValue}
 use Rattle.round_core.specs.Page.{Page, IsRight, IsPage, opened, heard, missing}
 use Rattle.ports.specs.Ports.{PortState}
+use Rattle.ports.specs.Exchanges.{Exchange}
 use Rattle.forest_run.specs.Lanes.{LaneState}
-use Rattle.forest_run.specs.Asks.{IsClosing, IsLight}
+use Rattle.forest_run.specs.Asks.{IsKept, IsClosing, IsLight}
 use Rattle.forest_run.specs.Bounds.{IsBookUnder}
 use Rattle.forest_run.specs.Taking.{heard_all}
 use Rattle.forest_run.specs.Passes.{AreOnce, PassWent}
 use Rattle.forest_run.specs.Scanned.{Scanned}
 use Rattle.forest_run.specs.Rounds.{RoundWent}
-use Rattle.forest_run.specs.Runs.{unanswered, IsClosingIn, IsGivenBy, IsLightIn, IsFullBook, AreKept, RoundsWent}
+use Rattle.forest_run.specs.Runs.{unanswered, IsClosingIn, IsKeptIn, IsGivenBy, IsLightIn, IsFullBook, AreKept, RoundsWent}
 use Rattle.forest_run.proofs.AsksThen.{stayed, asks_then}
 use Rattle.forest_run.proofs.Once.{once_then}
 use Rattle.forest_run.proofs.Passing.{SameRound, same_round, asks_more}
@@ -67,14 +68,17 @@ heard_same p q ts e =
 light_still : (p q : Page) → SameRound p q → (t : AnswerValue) → IsLight p t → IsLight q t
 light_still p q s t l = rw (s.cut, s.round, s.labels) l
 
-pub closing_still : (p q : Page) → SameRound p q → (w : ℕ × ℕ) (o : Option AnswerValue) → IsClosing (unanswered p) w o → IsClosing (unanswered q) w o
+pub closing_still : (p q : Page) → SameRound p q → (w : ℕ × ℕ) (o : Option Exchange) → IsClosing (unanswered p) w o → IsClosing (unanswered q) w o
 closing_still p q s w None r = rw (s.cut, s.round, s.labels) r
 closing_still p q s w (Some t) r = rw (s.cut, s.round, s.labels) r
 
-module _ {P : Type 0} (state : P → PortState) (honest : P → Type 0) (sound : P → ℕ → Type 0) (gave : P → List AnswerValue → Type 0) where
+pub kept_still : (p q : Page) → SameRound p q → (x : Exchange) → IsKept (unanswered p) x → IsKept (unanswered q) x
+kept_still p q s x r = rw (s.cut, s.round, s.labels) r
+
+module _ {P : Type 0} (state : P → PortState) (honest : P → Type 0) (sound : P → ℕ → List Exchange → Type 0) (exchanged : P → List Exchange → Type 0) where
   -- a round leaves the book's round, cut and labels
   pub same_still : (round : ℕ) (cut : List (List Link)) (labels : List ℕ) (new : Page) (xs ys : List (LaneState P)) (k : ℕ)
-      → RoundWent state honest sound gave (opened round cut labels) new xs ys k → SameRound (opened round cut labels) new
+      → RoundWent state honest sound exchanged (opened round cut labels) new xs ys k → SameRound (opened round cut labels) new
   same_still round cut labels new xs ys k r =
       same_then (opened round cut labels) r.middle new (heard_same _ _ r.passes.answers r.passes.page) (heard_same _ _ r.scans.answers r.scans.page)
 
@@ -107,9 +111,9 @@ kept_none honest xs = record {
 }
 
 -- what passes kept stands in the book that they and scans filled
-pub kept_in : {P : Type 0} (state : P → PortState) (honest : P → Type 0) (sound : P → ℕ → Type 0) (gave : P → List AnswerValue → Type 0) (old middle new : Page) (xs ys : List (LaneState P)) (k : ℕ)
-    → (v : PassWent state honest sound gave old middle xs ys) → Scanned middle new k → old.answers ≡ [] → AreKept honest xs (new ∷ []) v.answers_at
-kept_in state honest sound gave old middle new xs ys k v w none =
+pub kept_in : {P : Type 0} (state : P → PortState) (honest : P → Type 0) (sound : P → ℕ → List Exchange → Type 0) (exchanged : P → List Exchange → Type 0) (old middle new : Page) (xs ys : List (LaneState P)) (k : ℕ)
+    → (v : PassWent state honest sound exchanged old middle xs ys) → Scanned middle new k → old.answers ≡ [] → AreKept honest xs (new ∷ []) v.answers_at
+kept_in state honest sound exchanged old middle new xs ys k v w none =
     let answers : new.answers ≡ v.answers ++ w.answers = filled old middle new v.answers w.answers v.page w.page none in
     let second : SameRound middle new = heard_same middle new w.answers w.page in
     let same : SameRound old new = same_then old middle new (heard_same old middle v.answers v.page) second in
@@ -176,12 +180,12 @@ kept_then {P} honest xs ys books new at bt same stays pages page earlier u v =
           absurd (omega arith)));
     }
 
-module _ {P : Type 0} (state : P → PortState) (honest : P → Type 0) (sound : P → ℕ → Type 0) (gave : P → List AnswerValue → Type 0) where
-  pub rounds_none : (cut : List (List Link)) (xs : List (LaneState P)) → RoundsWent state honest sound gave cut xs xs [] 0 0
+module _ {P : Type 0} (state : P → PortState) (honest : P → Type 0) (sound : P → ℕ → List Exchange → Type 0) (exchanged : P → List Exchange → Type 0) where
+  pub rounds_none : (cut : List (List Link)) (xs : List (LaneState P)) → RoundsWent state honest sound exchanged cut xs xs [] 0 0
   rounds_none cut xs = record {
     whole = λ i d b. absurd (omega arith);
     answers_at = λ i. [];
-    ports = record { same_lanes = refl; each = λ i d b. stayed state honest sound gave (IsClosingIn []) (get_or xs i d).port };
+    ports = record { same_lanes = refl; each = λ i d b. stayed state honest sound exchanged (IsKeptIn []) (IsClosingIn []) (get_or xs i d).port };
     kept = kept_none honest xs;
     few = λ i. omega arith;
     counted = omega arith;
@@ -194,8 +198,8 @@ module _ {P : Type 0} (state : P → PortState) (honest : P → Type 0) (sound :
 
   -- a round more, over a book that was opened for the cut
   pub rounds_then : (cut : List (List Link)) (round : ℕ) (labels : List ℕ) (new : Page) (xs ys zs : List (LaneState P)) (books : List Page) (answered alone k : ℕ)
-      → RoundsWent state honest sound gave cut xs ys books answered alone → All (λ (book : Page). book.round < round) books → (r : RoundWent state honest sound gave (opened round cut labels) new ys zs k) → IsPage new
-      → RoundsWent state honest sound gave cut xs zs (books ++ new ∷ []) (answered + length r.passes.answers) (alone + k)
+      → RoundsWent state honest sound exchanged cut xs ys books answered alone → All (λ (book : Page). book.round < round) books → (r : RoundWent state honest sound exchanged (opened round cut labels) new ys zs k) → IsPage new
+      → RoundsWent state honest sound exchanged cut xs zs (books ++ new ∷ []) (answered + length r.passes.answers) (alone + k)
   rounds_then cut round labels new xs ys zs books answered alone k u earlier r page =
       let old = opened round cut labels in
       let v = r.passes in
@@ -215,14 +219,16 @@ module _ {P : Type 0} (state : P → PortState) (honest : P → Type 0) (sound :
           same_lanes = v.same_lanes ∙ u.ports.same_lanes;
           each = λ i d b. (
               let within : i < length ys = (let e = u.ports.same_lanes in omega arith) in
-              asks_then state honest sound gave (IsClosingIn (books ++ new ∷ [])) _ _ _ (u.answers_at i) (v.answers_at i)
-              (asks_more state honest sound gave (IsClosingIn books) (IsClosingIn (books ++ new ∷ [])) (λ w t q. (q.0, Contains-append_left books (new ∷ []) q.0 q.1, q.2)) _ _ (u.answers_at i) (u.ports.each i d b))
-              (asks_more state honest sound gave (IsClosing old) (IsClosingIn (books ++ new ∷ [])) (λ w t q. (new, here, closing_still old new same w t q)) _ _ (v.answers_at i) (v.each i d within)));
+              asks_then state honest sound exchanged (IsKeptIn (books ++ new ∷ [])) (IsClosingIn (books ++ new ∷ [])) _ _ _ (u.answers_at i) (v.answers_at i)
+              (asks_more state honest sound exchanged (IsKeptIn books) (IsKeptIn (books ++ new ∷ [])) (IsClosingIn books) (IsClosingIn (books ++ new ∷ []))
+              (λ x q. (q.0, Contains-append_left books (new ∷ []) q.0 q.1, q.2)) (λ w t q. (q.0, Contains-append_left books (new ∷ []) q.0 q.1, q.2)) _ _ (u.answers_at i) (u.ports.each i d b))
+              (asks_more state honest sound exchanged (IsKept old) (IsKeptIn (books ++ new ∷ [])) (IsClosing old) (IsClosingIn (books ++ new ∷ []))
+              (λ x q. (new, here, kept_still old new same x q)) (λ w t q. (new, here, closing_still old new same w t q)) _ _ (v.answers_at i) (v.each i d within)));
         };
         kept =
             kept_then honest xs ys books new u.answers_at v.answers_at u.ports.same_lanes (λ i d b. (u.ports.each i d b).honest_is) (whole_pages cut books u.whole) page
             (subst (λ (r : ℕ). All (λ (book : Page). book.round < r) books) (sym same.round) earlier) u.kept
-            (kept_in state honest sound gave old r.middle new ys zs k v w refl);
+            (kept_in state honest sound exchanged old r.middle new ys zs k v w refl);
         few = λ i. (let a = u.few i in let b = v.few i in omega (arith, length-append (u.answers_at i) (v.answers_at i)));
         counted = (
             let one_more : length (books ++ new ∷ []) ≡ suc (length books) = omega (arith, length-append books (new ∷ [])) in

@@ -12,6 +12,7 @@ use Rattle.forest_run.specs.Rounds.{RoundWent}
 use Rattle.forest_run.specs.Passes.{PassWent}
 use Rattle.forest_run.specs.Lanes.{LaneState, open_of}
 use Rattle.ports.specs.Ports.{PortState}
+use Rattle.ports.specs.Exchanges.{Exchange}
 use Rattle.forest_run.proofs.Takes.{taken_one, heard_append, taken_before, set_takes}
 use Rattle.forest_run.proofs.Passing.{light_before, same_round}
 use Rattle.forest_run.proofs.AsksThen.{either}
@@ -65,9 +66,9 @@ scanned_cut p q n u = ap (λ o. o.cut) u.page ∙ (same_round p u.answers).cut
 pub now_taken : (p q : Page) (t : AnswerValue) (s : ℕ) → t.shard ≡ s → q ≡ heard p t → is_taken q s ≡ true
 now_taken p q t s e f = ap (λ o. is_taken o s) f ∙ subst (λ (k : ℕ). get_or (set p.taken t.shard true) k true ≡ true) e (set_takes p.taken t.shard)
 
-pub rounded : {P : Type 0} (state : P → PortState) (honest : P → Type 0) (sound : P → ℕ → Type 0) (gave : P → List AnswerValue → Type 0) (p q r : Page) (xs ys : List (LaneState P)) (alone : ℕ)
-    → PassWent state honest sound gave p q xs ys → (0 < missing q → open_of state ys ≡ 0) → Scanned q r alone → missing r ≡ 0 → RoundWent state honest sound gave p r xs ys alone
-rounded state honest sound gave p q r xs ys alone u end s all =
+pub rounded : {P : Type 0} (state : P → PortState) (honest : P → Type 0) (sound : P → ℕ → List Exchange → Type 0) (exchanged : P → List Exchange → Type 0) (p q r : Page) (xs ys : List (LaneState P)) (alone : ℕ)
+    → PassWent state honest sound exchanged p q xs ys → (0 < missing q → open_of state ys ≡ 0) → Scanned q r alone → missing r ≡ 0 → RoundWent state honest sound exchanged p r xs ys alone
+rounded state honest sound exchanged p q r xs ys alone u end s all =
     record { middle = q; passes = u; scans = s; all = all; closed = λ some. end (let m = s.missed in omega arith) }
 
 pub round_after : (p q : Page) (labels : List ℕ) (n : ℕ) → Scanned p q n → IsBookUnder p labels → IsBookUnder q labels

@@ -7,9 +7,9 @@ use Rattle.std.proofs.lemmas.List.Concat.{flat_map-append, flat_map-cons}
 use Rattle.std.proofs.lemmas.List.Elements.{All-append, All-tail}
 use Rattle.claim_board.specs.State.{BoardState, SeatState, AreSeats, IsUnusedSeat, all_held}
 use Rattle.claim_board.specs.Machine.{held}
-use Rattle.frames.specs.AnswerValue.{AnswerValue}
 use Rattle.round_core.specs.Page.{Page}
 use Rattle.ports.specs.Ports.{PortState}
+use Rattle.ports.specs.Exchanges.{Exchange}
 use Rattle.forest_run.specs.Lanes.{LaneState, one_if, seats_of, all_kept, asks_of, open_of, IsIdle}
 use Rattle.forest_run.specs.Asks.{IsTaken, shards_of}
 use Rattle.forest_run.specs.Bounds.{IsBookUnder, IsBoardOf, IsBound}
@@ -80,8 +80,8 @@ holds_of None b shards h = ap (λ o. flat_map (λ (s : SeatState). held s.events
 holds_of (Some s) None shards h = absurd h
 holds_of (Some s) (Some t) shards h = append-nil (held t.events) ∙ h.2
 
-module _ {P : Type 0} (state : P → PortState) (honest : P → Type 0) (sound : P → ℕ → Type 0) (gave : P → List AnswerValue → Type 0) (page : Page) where
-  pub same_seats : (xs ys : List (LaneState P)) → Each (FerryWent state honest sound gave page) xs ys → Each SameSeat (seats_of xs) (seats_of ys)
+module _ {P : Type 0} (state : P → PortState) (honest : P → Type 0) (sound : P → ℕ → List Exchange → Type 0) (exchanged : P → List Exchange → Type 0) (page : Page) where
+  pub same_seats : (xs ys : List (LaneState P)) → Each (FerryWent state honest sound exchanged page) xs ys → Each SameSeat (seats_of xs) (seats_of ys)
   same_seats [] [] p = tt
   same_seats [] (y ∷ ys) p = absurd p
   same_seats (x ∷ xs) [] p = absurd p
@@ -89,7 +89,7 @@ module _ {P : Type 0} (state : P → PortState) (honest : P → Type 0) (sound :
       each_append SameSeat (option_to_list x.seat) (option_to_list y.seat) (seats_of xs) (seats_of ys) (same_of x.seat y.seat (shards_of y.kept) p.0.seat) (same_seats xs ys p.1)
 
   -- the lists of the seats are the shards of what was kept
-  pub held_kept : (xs ys : List (LaneState P)) → Each (FerryWent state honest sound gave page) xs ys → all_held (seats_of ys) ≡ shards_of (all_kept ys)
+  pub held_kept : (xs ys : List (LaneState P)) → Each (FerryWent state honest sound exchanged page) xs ys → all_held (seats_of ys) ≡ shards_of (all_kept ys)
   held_kept [] [] p = refl
   held_kept [] (y ∷ ys) p = absurd p
   held_kept (x ∷ xs) [] p = absurd p
@@ -98,14 +98,14 @@ module _ {P : Type 0} (state : P → PortState) (honest : P → Type 0) (sound :
       ∙ (ap (λ zs. zs ++ all_held (seats_of ys)) (holds_of x.seat y.seat (shards_of y.kept) p.0.seat)
       ∙ (ap (λ zs. shards_of y.kept ++ zs) (held_kept xs ys p.1) ∙ sym (map-append (λ t. t.shard) y.kept (all_kept ys))))
 
-  pub kept_all : (xs ys : List (LaneState P)) → Each (FerryWent state honest sound gave page) xs ys → All (IsTaken page) (all_kept ys)
+  pub kept_all : (xs ys : List (LaneState P)) → Each (FerryWent state honest sound exchanged page) xs ys → All (IsTaken page) (all_kept ys)
   kept_all [] [] p = λ i d b. absurd (omega arith)
   kept_all [] (y ∷ ys) p = absurd p
   kept_all (x ∷ xs) [] p = absurd p
   kept_all (x ∷ xs) (y ∷ ys) p = All-append (IsTaken page) y.kept (all_kept ys) p.0.taken (kept_all xs ys p.1)
 
   -- the asks of all ports rose by the kept answers and by the ports that closed
-  pub counted : (xs ys : List (LaneState P)) → Each (FerryWent state honest sound gave page) xs ys → asks_of state ys + open_of state ys ≡ (asks_of state xs + length (all_kept ys)) + open_of state xs
+  pub counted : (xs ys : List (LaneState P)) → Each (FerryWent state honest sound exchanged page) xs ys → asks_of state ys + open_of state ys ≡ (asks_of state xs + length (all_kept ys)) + open_of state xs
   counted [] [] p = refl
   counted [] (y ∷ ys) p = absurd p
   counted (x ∷ xs) [] p = absurd p

@@ -14,6 +14,7 @@ use Rattle.round_core.specs.Page.{Page, opened, hearing_of, hearings}
 use Rattle.round_core.proofs.Full.{full_book_has_all_links}
 use Rattle.round_core.specs.Picks.{pick_of, Picked, IsPickOf, ArePicks}
 use Rattle.ports.specs.Ports.{PortState}
+use Rattle.ports.specs.Exchanges.{Exchange}
 use Rattle.forest_run.specs.Lanes.{LaneState}
 use Rattle.forest_run.specs.Bounds.{IsWide}
 use Rattle.forest_run.specs.Runs.{IsFullBook, IsGivenBy, IsNamedIn, RoundsWent}
@@ -71,9 +72,9 @@ from_cut cut books l whole named =
     any_more (λ h. Names h l) (λ h. Contains h.shard l) (hearings book) (λ h names. (names.place, names.within, names.here)) named.2 in
     subst (λ (c : List (List Link)). Contains (joined c) l) is.cut_is ((full_book_has_all_links book is.page is.all l).1 there)
 
-module _ {P : Type 0} (state : P → PortState) (honest : P → Type 0) (sound : P → ℕ → Type 0) (gave : P → List AnswerValue → Type 0) where
+module _ {P : Type 0} (state : P → PortState) (honest : P → Type 0) (sound : P → ℕ → List Exchange → Type 0) (exchanged : P → List Exchange → Type 0) where
   -- where the coordinator scanned nothing, a lane kept the answer that named it
-  pub named_given : (cut : List (List Link)) (xs ys : List (LaneState P)) (books : List Page) (answered alone : ℕ) (u : RoundsWent state honest sound gave cut xs ys books answered alone)
+  pub named_given : (cut : List (List Link)) (xs ys : List (LaneState P)) (books : List Page) (answered alone : ℕ) (u : RoundsWent state honest sound exchanged cut xs ys books answered alone)
       → alone ≡ 0 → (l : Link) → IsNamedIn books l → (answer : AnswerValue) × IsGivenBy (length xs) u.answers_at answer × Names (hearing_of cut answer) l
   named_given cut xs ys books answered alone u none l named =
       let book = named.0 in
@@ -86,7 +87,7 @@ module _ {P : Type 0} (state : P → PortState) (honest : P → Type 0) (sound :
   -- ---- the room for a round more
 
   pub wide_still : (cut : List (List Link)) (round : ℕ) (labels : List ℕ) (xs ys : List (LaneState P)) (books : List Page) (answered alone : ℕ)
-      → RoundsWent state honest sound gave cut xs ys books answered alone → length cut ≤ 4096 → length books ≤ 32
+      → RoundsWent state honest sound exchanged cut xs ys books answered alone → length cut ≤ 4096 → length books ≤ 32
       → All (λ (lane : LaneState P). (state lane.port).cut ≡ cut) xs → All (λ (lane : LaneState P). (state lane.port).asks < 2 ^ 63) xs
       → All (λ (lane : LaneState P). IsWide state (opened round cut labels) lane.port) ys
   wide_still cut round labels xs ys books answered alone u small few cuts counts i d b =

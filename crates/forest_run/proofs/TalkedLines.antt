@@ -1,54 +1,27 @@
 -- What was said and heard over lines whose wires stayed open.
-use Rattle.std.proofs.Common.{◌≡◌, ◌≢◌, ℕ, zero, suc, ◌<◌, ◌≤◌, Bool, true, false, List, [], ◌∷◌, length, get_or, map, refl, sym, ap, subst, ◌∙◌, arith}
-use Rattle.std.specs.Prelude.{Contains, sum_by}
-use Rattle.std.proofs.lemmas.List.{length-map, get_or-map, append_cancel_left}
+use Rattle.std.proofs.Common.{◌≡◌, ◌≢◌, ℕ, zero, suc, ◌<◌, ◌≤◌, Bool, true, false, List, [], ◌∷◌, length, get_or, refl, sym, ap, subst, ◌∙◌, arith}
+use Rattle.std.specs.Prelude.{Contains, Option, sum_by}
+use Rattle.std.proofs.lemmas.List.{append-nil, length-map, get_or-map}
 use Rattle.std.proofs.lemmas.List.Elements.{Contains-get_or}
 use Rattle.std.proofs.lemmas.List.Sums.{sum_by-cons}
 use Rattle.link_key.specs.declared.links.Link.{Link}
 use Rattle.frames.specs.AnswerValue.{AnswerValue}
-use Rattle.frames.specs.FrameValue.{HelloFrame, AnswerFrame}
-use Rattle.frames.specs.FrameText.{text_of}
-use Rattle.frames.specs.FrameStream.{texts_of, AreLawful, AreFramesOf}
-use Rattle.frames.proofs.FrameStreams.{frames_of_texts, only_frames_of_texts}
 use Rattle.worker_engine.specs.Serving.{asks_in}
 use Rattle.ports.specs.Lines.{LineState}
-use Rattle.ports.specs.Talking.{Talk, told, frames_got, HasGiven}
-use Rattle.ports.specs.Wires.{WireState, port_of}
+use Rattle.ports.specs.Exchanges.{Exchange, answers_of}
+use Rattle.ports.specs.Talking.{told}
+use Rattle.ports.specs.Wires.{WireState, port_of, IsSoundWire}
 use Rattle.ports.specs.declared.fault.PortFault.{PortFault}
 use Rattle.ports.specs.declared.fault.PortFault.TheVariants.{Closed}
+use Rattle.ports.proofs.Asking.{asks_made}
 use Rattle.ports.proofs.Wiring.{calm_open}
 use Rattle.forest_run.specs.declared.report.Report.{Report}
 use Rattle.forest_run.specs.Lanes.{LaneState, one_if, asks_of, open_of}
 use Rattle.forest_run.specs.WiredLines.{AreFresh, LinesSolved, Said, HasTalked, HaveTalked}
-use Rattle.forest_run.proofs.NewWires.{new_step, new_sound}
-
--- ---- what was got has one list of answers
-
-answers_back : (xs ys : List AnswerValue) → map AnswerFrame xs ≡ map AnswerFrame ys → xs ≡ ys
-answers_back [] [] same = refl
-answers_back [] (y ∷ ys) same = absurd (cc)
-answers_back (x ∷ xs) [] same = absurd (cc)
-answers_back (x ∷ xs) (y ∷ ys) same =
-    let heads : x ≡ y = cc in
-    let tails : map AnswerFrame xs ≡ map AnswerFrame ys = cc in
-    let rest = answers_back xs ys tails in
-    cc
-
-same_text : (xs ys : List AnswerValue) → AreLawful (map AnswerFrame xs) → AreLawful (map AnswerFrame ys) → texts_of (map AnswerFrame xs) ≡ texts_of (map AnswerFrame ys) → xs ≡ ys
-same_text xs ys lawful lawful' same =
-    let both = frames_of_texts (map AnswerFrame xs) lawful in
-    answers_back xs ys (only_frames_of_texts (map AnswerFrame ys) (map AnswerFrame xs) lawful' (subst (λ t. AreFramesOf t (map AnswerFrame xs)) same both))
-
-same_got : (greeted : Bool) (worker : ℕ) (xs ys : List AnswerValue) → AreLawful (map AnswerFrame xs) → AreLawful (map AnswerFrame ys) → (greeted ≡ false → xs ≡ []) → (greeted ≡ false → ys ≡ [])
-    → texts_of (frames_got greeted worker xs) ≡ texts_of (frames_got greeted worker ys) → xs ≡ ys
-same_got true worker xs ys lawful lawful' silent silent' same =
-    same_text xs ys lawful lawful' (append_cancel_left (text_of (HelloFrame 1 worker)) (texts_of (map AnswerFrame xs)) (texts_of (map AnswerFrame ys)) same)
-same_got false worker xs ys lawful lawful' silent silent' same = silent refl ∙ sym (silent' refl)
-
-given_once : (talk : Talk) (xs ys : List AnswerValue) → HasGiven talk xs → HasGiven talk ys → xs ≡ ys
-given_once talk xs ys given given' =
-    let same : texts_of (frames_got talk.greeted talk.worker xs) ≡ texts_of (frames_got talk.greeted talk.worker ys) = (let a = given.got in let b = given'.got in cc) in
-    same_got talk.greeted talk.worker xs ys given.lawful given'.lawful given.silent given'.silent same
+use Rattle.round_theory.specs.Offers.{Names}
+use Rattle.round_core.specs.Page.{hearing_of}
+use Rattle.forest_run.specs.Asks.{answered}
+use Rattle.forest_run.proofs.NewWires.{new_sound}
 
 -- ---- lists
 
@@ -70,6 +43,12 @@ same_sums f g [] (y ∷ ys) same each = absurd (omega (arith, same))
 same_sums f g (x ∷ xs) [] same each = absurd (omega (arith, same))
 same_sums f g (x ∷ xs) (y ∷ ys) same each =
     omega (arith, sum_by-cons f x xs, sum_by-cons g y ys, each 0 x y (omega arith), same_sums f g xs ys (omega (arith, same)) (λ i d e b. each (suc i) d e (omega arith)))
+
+-- the exchange that an answer is of
+exchange_with : (exchanges : List Exchange) (t : AnswerValue) → Contains (answers_of exchanges) t → (e : Exchange) × Contains exchanges e × (e.answer ≡ t)
+exchange_with [] t h = absurd (omega (arith, h.1))
+exchange_with (e ∷ exchanges) t (zero, b, is) = (e, (0, omega arith, refl), is)
+exchange_with (e ∷ exchanges) t (suc k, b, is) = (let r = exchange_with exchanges t (k, omega arith, is) in (r.0, (suc r.1.0, (let q = r.1.1 in omega arith), r.1.2), r.2))
 
 -- an element of the list, where it has one
 at_place : {X : Type 0} (xs : List X) (i : ℕ) → i < length xs → X
@@ -103,7 +82,7 @@ module _ {L : Type 0} (state : L → LineState) (faithful : L → ℕ → Type 0
   -- what was said and heard over the line at a place, and how often it was asked
   record Talked (i : ℕ) (said : Said) : Type 0 where
     pub each : (line : L) → HasTalked cut i (state (get_or after i line)) said
-    pub answers : said.1 ≡ solved.went.went.rounds.answers_at i
+    pub answers : solved.went.went.rounds.answers_at i ≡ answers_of said.1
     pub asks : (lane : LaneState (WireState L)) → asks_in said.0 ≡ (port_of (get_or solved.ended i lane).port).asks
 
   module _ (scanned : report.alone ≡ 0) (still : open_of port_of solved.ended ≡ length before) (fresh : AreFresh state before) where
@@ -121,19 +100,23 @@ module _ {L : Type 0} (state : L → LineState) (faithful : L → ℕ → Type 0
         let new = solved.new.each i line d within in
         let news = fresh i line within in
         let opened : last.port.is_open ≡ true = each_open (λ (lane : LaneState (WireState L)). lane.port.is_open) solved.ended (omega (arith, still, number)) i d (omega (arith, number)) in
-        let (said, answers, calm) = calm_open state (λ (fault : PortFault). fault ≢ Closed) last.port (state (get_or before i line)).ends opened (went.sound_is (state (get_or before i line)).ends (new_sound state faithful (get_or before i line) cut i first.port new news.0 news.1)) in
+        let none : answered went.exchanges went.refused ≡ went.exchanges =
+        ap (λ (o : Option Exchange). answered went.exchanges o) (went.opened opened).2 ∙ append-nil went.exchanges in
+        let sound : IsSoundWire state last.port (state (get_or before i line)).ends went.exchanges =
+        subst (λ (es : List Exchange). IsSoundWire state last.port (state (get_or before i line)).ends es) none
+        (went.sound_is (state (get_or before i line)).ends [] (new_sound state faithful (get_or before i line) cut i first.port new news.0 news.1)) in
+        let (said, calm) = calm_open state (λ (fault : PortFault). fault ≢ Closed) last.port (state (get_or before i line)).ends went.exchanges opened sound in
         let step = calm.in_step in
-        let given = went.given opened [] (new_step state faithful (get_or before i line) cut i first.port new news.0 news.1).gave in
-        let same : answers ≡ rounds.answers_at i = given_once (told state last.port.talk) answers (rounds.answers_at i) step.gave given in
         let one_open : one_if last.port.is_open ≡ 1 = ap one_if opened in
         let one_new : one_if first.port.is_open ≡ 1 = ap one_if new.opened in
-        let asks : asks_in said ≡ last.port.asks = omega (arith, step.asked, ap (λ ts. length ts) same, went.asks, one_open, one_new, new.asks) in
+        let many : length (rounds.answers_at i) ≡ length went.exchanges = ap (λ ts. length ts) went.kept_are ∙ length-map went.exchanges (λ (e : Exchange). e.answer) in
+        let asks : asks_in said ≡ last.port.asks = omega (arith, asks_made (told state last.port.talk) said went.exchanges step, many, went.asks, one_open, one_new, new.asks) in
         let out : (line' : L) → get_or after i line' ≡ last.port.talk.line =
         λ line'. ap (λ ls. get_or ls i line') solved.lines_are ∙ get_or-map (λ (lane : LaneState (WireState L)). lane.port.talk.line) solved.ended i d line' (omega (arith, number)) in (
-          (said, answers),
+          (said, went.exchanges),
           record {
             each = λ line'. record { talk = told state last.port.talk; worker_is = went.worker ∙ new.worker_is; line_is = ap state (sym (out line')); cut_is = went.cut ∙ new.cut_is; in_step = step };
-            answers = same;
+            answers = went.kept_are;
             asks = λ lane. asks ∙ ap (λ (l : LaneState (WireState L)). l.port.asks) (same_place solved.ended i d lane (omega (arith, number)));
           },
         )
@@ -167,11 +150,12 @@ module _ {L : Type 0} (state : L → LineState) (faithful : L → ℕ → Type 0
               let i : ℕ = given.0 in
               let within : i < length before = (let b = given.1 in omega (arith, solved.new.number)) in
               let d : Said = ([], []) in
-              let said : Said = get_or talks i d in (
+              let said : Said = get_or talks i d in
+              let (exchange, there, is) = exchange_with said.1 answer (subst (λ (ts : List AnswerValue). Contains ts answer) (each i d within).answers given.2) in (
                 said,
-                answer,
+                exchange,
                 Contains-get_or talks i d (omega (arith, many)),
-                subst (λ (ts : List AnswerValue). Contains ts answer) (sym (each i d within).answers) given.2,
-                names,
+                there,
+                subst (λ (t : AnswerValue). Names (hearing_of cut t) l) (sym is) names,
               );
         }

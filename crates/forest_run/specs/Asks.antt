@@ -1,16 +1,10 @@
 -- What some asks did to a port.
-use Rattle.std.specs.Prelude.{◌≡◌, ℕ, ◌+◌, ◌<◌, ◌≤◌, ◌⊎◌, true, false, List, [], ◌∷◌, ◌++◌, length, map, IsSome, Option, Some, None}
+use Rattle.std.specs.Prelude.{◌≡◌, ℕ, ◌+◌, ◌<◌, ◌≤◌, ◌⊎◌, true, false, List, [], ◌++◌, length, map, All, IsSome, Option, Some, None, option_to_list}
 use Rattle.frames.specs.AnswerValue.{AnswerValue}
 use Rattle.round_core.specs.Page.{Page, refusal, is_taken}
 use Rattle.ports.specs.Ports.{PortState, IsHonestAnswer}
+use Rattle.ports.specs.Exchanges.{Exchange, answers_of}
 use Rattle.forest_run.specs.Lanes.{one_if}
-
--- asked last for this round and shard, which is one that the book misses, a port gave an answer that the book refuses
-pub record IsRefused (page : Page) (last : ℕ × ℕ) (answer : AnswerValue) : Type 0 where
-  pub round : last.0 ≡ page.round
-  pub within : last.1 < length page.cut
-  pub missed : is_taken page last.1 ≡ false
-  pub refused : IsSome (refusal page last.1 answer)
 
 -- the ask is of the book's round, for a shard that it misses
 pub record IsAskOf (page : Page) (ask : ℕ × ℕ) : Type 0 where
@@ -18,10 +12,26 @@ pub record IsAskOf (page : Page) (ask : ℕ × ℕ) : Type 0 where
   pub within : ask.1 < length page.cut
   pub missed : is_taken page ask.1 ≡ false
 
+-- an exchange whose ask is one of the book, under its labels
+pub record IsExchangeOf (page : Page) (exchange : Exchange) : Type 0 where
+  pub ask : IsAskOf page (exchange.round, exchange.shard)
+  pub labels : exchange.labels ≡ page.labels
+
+-- and whose answer the book takes for the shard that was asked
+pub record IsKept (page : Page) (exchange : Exchange) : Type 0 where
+  pub asked : IsExchangeOf page exchange
+  pub taken : refusal page exchange.shard exchange.answer ≡ None
+
+-- the last ask of a port got an answer that the book refuses for the shard that was asked
+pub record IsRefused (page : Page) (last : ℕ × ℕ) (exchange : Exchange) : Type 0 where
+  pub last_is : last ≡ (exchange.round, exchange.shard)
+  pub asked : IsExchangeOf page exchange
+  pub refused : IsSome (refusal page exchange.shard exchange.answer)
+
 -- an ask of the book, the last one of a port, brought no answer, or one that the book refuses
-abbrev pub IsClosing : Page → ℕ × ℕ → Option AnswerValue → Type 0
+abbrev pub IsClosing : Page → ℕ × ℕ → Option Exchange → Type 0
 IsClosing page last None = IsAskOf page last
-IsClosing page last (Some answer) = IsRefused page last answer
+IsClosing page last (Some exchange) = IsRefused page last exchange
 
 -- the book takes the answer
 pub record IsTaken (page : Page) (answer : AnswerValue) : Type 0 where
@@ -44,8 +54,17 @@ shards_of answers = map (λ answer. answer.shard) answers
 abbrev pub FailedMore : PortState → PortState → Type 0
 FailedMore before after = before.failures + before.wants < after.failures + after.wants
 
--- a port before and after some asks, of which these answers were kept; each answer that wasn't is one that a book refuses, which closed the port
-pub record AsksWent {P : Type 0} (state : P → PortState) (honest : P → Type 0) (sound : P → ℕ → Type 0) (gave : P → List AnswerValue → Type 0) (closing : ℕ × ℕ → Option AnswerValue → Type 0) (before after : P) (kept : List AnswerValue) : Type 0 where
+-- no ask failed, and none found no memory
+pub record StoodStill (before after : PortState) : Type 0 where
+  pub failures : after.failures ≡ before.failures
+  pub wants : after.wants ≡ before.wants
+
+-- all asks that were answered: those whose answers were kept, and the one whose answer is refused, if there is one
+abbrev pub answered : List Exchange → Option Exchange → List Exchange
+answered exchanges refused = exchanges ++ option_to_list refused
+
+-- a port before and after some asks, of which these answers were kept; an answer that wasn't is one that a book refuses, which closed the port
+pub record AsksWent {P : Type 0} (state : P → PortState) (honest : P → Type 0) (sound : P → ℕ → List Exchange → Type 0) (exchanged : P → List Exchange → Type 0) (keeping : Exchange → Type 0) (closing : ℕ × ℕ → Option Exchange → Type 0) (before after : P) (kept : List AnswerValue) : Type 0 where
   pub cut : (state after).cut ≡ (state before).cut
   pub worker : (state after).worker ≡ (state before).worker
   -- each ask brought an answer that was kept, but the one that closed the port
@@ -54,14 +73,23 @@ pub record AsksWent {P : Type 0} (state : P → PortState) (honest : P → Type 
   pub wants : (state before).wants ≤ (state after).wants
   -- at most one of the asks failed or found no memory, and none of a port that was closed
   pub one_fault : (state after).failures + (state after).wants ≤ (state before).failures + (state before).wants + one_if (state before).is_open
-  -- while it is open both counts stand still, and it gave just the kept answers
-  pub opened : (state after).is_open ≡ true → ((state before).is_open ≡ true) × ((state after).failures ≡ (state before).failures) × ((state after).wants ≡ (state before).wants)
-  pub given : (state after).is_open ≡ true → (answers : List AnswerValue) → gave before answers → gave after (answers ++ kept)
-  -- once it is closed it is asked no more, and gives nothing
-  pub still : (state before).is_open ≡ false → (kept ≡ []) × ((state after).last ≡ (state before).last) × ((answers : List AnswerValue) → gave before answers → gave after answers)
+  -- the asks whose answers were kept, in their order: the book takes each for the shard that was asked
+  pub exchanges : List Exchange
+  pub kept_are : kept ≡ answers_of exchanges
+  pub keeps : All keeping exchanges
+  -- the ask whose answer is refused, if there is one
+  pub refused : Option Exchange
+  -- while it is open both counts stand still, and no answer was refused
+  pub opened : (state after).is_open ≡ true → ((state before).is_open ≡ true) × StoodStill (state before) (state after) × (refused ≡ None)
+  -- once it is closed it is asked no more
+  pub still : (state before).is_open ≡ false → (exchanges ≡ []) × (refused ≡ None) × ((state after).last ≡ (state before).last)
+  -- where no ask failed or found no memory these are just the asks that it answered more
+  pub given : StoodStill (state before) (state after) → (others : List Exchange) → exchanged before others → exchanged after (others ++ answered exchanges refused)
   pub honest_is : honest before → honest after
-  pub sound_is : (ends : ℕ) → sound before ends → sound after ends
+  -- and what a port answered that failed later is told with why it failed
+  pub sound_is : (ends : ℕ) (others : List Exchange) → sound before ends others → sound after ends (others ++ answered exchanges refused)
   -- why it was closed: its last ask failed or found no memory, or brought an answer that is refused, which no honest port gives
   pub why : (state before).is_open ≡ true → (state after).is_open ≡ false
-      → (FailedMore (state before) (state after) × closing (state after).last None) ⊎ ((answer : AnswerValue) × closing (state after).last (Some answer) × ((answers : List AnswerValue) → gave before answers → gave after ((answers ++ kept) ++ answer ∷ [])))
+      → (FailedMore (state before) (state after) × (refused ≡ None) × closing (state after).last None)
+      ⊎ ((exchange : Exchange) × (refused ≡ Some exchange) × StoodStill (state before) (state after) × closing (state after).last (Some exchange))
   pub why_honest : honest before → (state before).is_open ≡ true → (state after).is_open ≡ false → FailedMore (state before) (state after)

@@ -5,9 +5,10 @@ use Rattle.claim_board.specs.Machine.{held}
 use Rattle.frames.specs.AnswerValue.{AnswerValue}
 use Rattle.round_core.specs.Page.{Page}
 use Rattle.ports.specs.Ports.{PortState}
+use Rattle.ports.specs.Exchanges.{Exchange}
 use Rattle.forest_run.specs.Lanes.{LaneState}
 use Rattle.forest_run.specs.Bounds.{IsBookUnder, IsBoardOf, IsBound}
-use Rattle.forest_run.specs.Asks.{AsksWent, IsClosing, IsTaken, IsLight, shards_of}
+use Rattle.forest_run.specs.Asks.{AsksWent, IsKept, IsClosing, IsTaken, IsLight, shards_of}
 
 -- a lane that a ferry may begin with, over a board and a book under these labels
 pub record IsReady {P : Type 0} (state : P → PortState) (board : BoardState) (page : Page) (labels : List ℕ) (lane : LaneState P) : Type 0 where
@@ -26,8 +27,8 @@ SeatWent (Some before) None shards = ⊥
 SeatWent (Some before) (Some after) shards = (after.board ≡ before.board) × (after.number ≡ before.number) × (held after.events ≡ shards)
 
 -- a lane before and after its ferry: it kept answers that the book takes, each for a shard that its seat holds
-pub record FerryWent {P : Type 0} (state : P → PortState) (honest : P → Type 0) (sound : P → ℕ → Type 0) (gave : P → List AnswerValue → Type 0) (page : Page) (before after : LaneState P) : Type 0 where
-  pub asked : AsksWent state honest sound gave (IsClosing page) before.port after.port after.kept
+pub record FerryWent {P : Type 0} (state : P → PortState) (honest : P → Type 0) (sound : P → ℕ → List Exchange → Type 0) (exchanged : P → List Exchange → Type 0) (page : Page) (before after : LaneState P) : Type 0 where
+  pub asked : AsksWent state honest sound exchanged (IsKept page) (IsClosing page) before.port after.port after.kept
   pub seat : SeatWent before.seat after.seat (shards_of after.kept)
   pub taken : All (IsTaken page) after.kept
   pub light : honest before.port → All (IsLight page) after.kept

@@ -5,8 +5,9 @@ use Rattle.frames.specs.AnswerValue.{AnswerValue}
 use Rattle.round_theory.specs.Offers.{IsNamed}
 use Rattle.round_core.specs.Page.{Page, IsPage, opened, missing, hearings}
 use Rattle.ports.specs.Ports.{PortState}
+use Rattle.ports.specs.Exchanges.{Exchange}
 use Rattle.forest_run.specs.Lanes.{LaneState, asks_of, open_of}
-use Rattle.forest_run.specs.Asks.{AsksWent, IsClosing, IsLight}
+use Rattle.forest_run.specs.Asks.{AsksWent, IsKept, IsClosing, IsLight}
 use Rattle.forest_run.specs.Passes.{AreOnce}
 
 -- the book, as it was opened
@@ -14,13 +15,17 @@ abbrev pub unanswered : Page → Page
 unanswered book = opened book.round book.cut book.labels
 
 -- an ask of one of the books, as it was opened, the last one of a port, brought no answer, or one that the book refuses
-abbrev pub IsClosingIn : List Page → ℕ × ℕ → Option AnswerValue → Type 0
-IsClosingIn books last answer = (book : Page) × Contains books book × IsClosing (unanswered book) last answer
+abbrev pub IsClosingIn : List Page → ℕ × ℕ → Option Exchange → Type 0
+IsClosingIn books last refused = (book : Page) × Contains books book × IsClosing (unanswered book) last refused
 
--- the ports of lanes before and after asks, of which these answers were kept at each lane's place
-pub record PortsWent {P : Type 0} (state : P → PortState) (honest : P → Type 0) (sound : P → ℕ → Type 0) (gave : P → List AnswerValue → Type 0) (closing : ℕ × ℕ → Option AnswerValue → Type 0) (before after : List (LaneState P)) (answers_at : ℕ → List AnswerValue) : Type 0 where
+-- an exchange of one of the books, as it was opened, whose answer it takes for the shard that was asked
+abbrev pub IsKeptIn : List Page → Exchange → Type 0
+IsKeptIn books exchange = (book : Page) × Contains books book × IsKept (unanswered book) exchange
+
+-- the ports of lanes before and after asks of these books, of which these answers were kept at each lane's place
+pub record PortsWent {P : Type 0} (state : P → PortState) (honest : P → Type 0) (sound : P → ℕ → List Exchange → Type 0) (exchanged : P → List Exchange → Type 0) (books : List Page) (before after : List (LaneState P)) (answers_at : ℕ → List AnswerValue) : Type 0 where
   pub same_lanes : length after ≡ length before
-  pub each : (i : ℕ) (d : LaneState P) → i < length before → AsksWent state honest sound gave closing (slice_index_or before i d).port (slice_index_or after i d).port (answers_at i)
+  pub each : (i : ℕ) (d : LaneState P) → i < length before → AsksWent state honest sound exchanged (IsKeptIn books) (IsClosingIn books) (slice_index_or before i d).port (slice_index_or after i d).port (answers_at i)
 
 -- a lane kept the answer
 abbrev pub IsGivenBy : ℕ → (ℕ → List AnswerValue) → AnswerValue → Type 0
@@ -54,10 +59,10 @@ pub record IsFullBook (cut : List (List Link)) (book : Page) : Type 0 where
   pub all : missing book ≡ 0
 
 -- lanes before and after whole rounds over books of a cut: the books have so many answers that lanes kept, and so many others, each of which is light: those the coordinator scanned itself
-pub record RoundsWent {P : Type 0} (state : P → PortState) (honest : P → Type 0) (sound : P → ℕ → Type 0) (gave : P → List AnswerValue → Type 0) (cut : List (List Link)) (before after : List (LaneState P)) (books : List Page) (answered alone : ℕ) : Type 0 where
+pub record RoundsWent {P : Type 0} (state : P → PortState) (honest : P → Type 0) (sound : P → ℕ → List Exchange → Type 0) (exchanged : P → List Exchange → Type 0) (cut : List (List Link)) (before after : List (LaneState P)) (books : List Page) (answered alone : ℕ) : Type 0 where
   pub whole : All (IsFullBook cut) books
   pub answers_at : ℕ → List AnswerValue
-  pub ports : PortsWent state honest sound gave (IsClosingIn books) before after answers_at
+  pub ports : PortsWent state honest sound exchanged books before after answers_at
   pub kept : AreKept honest before books answers_at
   pub few : (i : ℕ) → length (answers_at i) ≤ answered
   -- each shard of each round has an answer that a lane kept, or another

@@ -13,10 +13,11 @@ use Rattle.round_core.specs.declared.solver.Turn.{Turn}
 use Rattle.round_core.specs.declared.solver.SolveFault.{SolveFault}
 use Rattle.round_core.specs.declared.solver.SolveFault.TheVariants.{Memory}
 use Rattle.ports.specs.Ports.{PortState}
+use Rattle.ports.specs.Exchanges.{Exchange}
 use Rattle.forest_run.specs.declared.report.Report.{Report}
 use Rattle.forest_run.specs.Lanes.{LaneState, asks_of, open_of}
 use Rattle.forest_run.specs.Rounds.{RoundPicked}
-use Rattle.forest_run.specs.Runs.{IsClosingIn, IsFullBook, AreKept, AreLightBooks, PortsWent, RoundsWent, IsGivenBy, IsNamedIn}
+use Rattle.forest_run.specs.Runs.{IsFullBook, AreKept, AreLightBooks, PortsWent, RoundsWent, IsGivenBy, IsNamedIn}
 use Rattle.forest_run.specs.Chains.{IsNextOf, IsPickedBy, IsSolvedBy}
 use Rattle.forest_run.specs.Reports.{IsReportOf}
 
@@ -27,39 +28,39 @@ AreHonest honest lanes = All (λ lane. honest lane.port) lanes
 -- ---- one round
 
 -- a round under the solver's labels, and a step of the solver by its picks
-pub record TurnWent {P : Type 0} (state : P → PortState) (honest : P → Type 0) (sound : P → ℕ → Type 0) (gave : P → List AnswerValue → Type 0) (cut : List (List Link)) (old new : Progress) (before after : List (LaneState P)) (turn : Turn) (alone : ℕ) : Type 0 where
+pub record TurnWent {P : Type 0} (state : P → PortState) (honest : P → Type 0) (sound : P → ℕ → List Exchange → Type 0) (exchanged : P → List Exchange → Type 0) (cut : List (List Link)) (old new : Progress) (before after : List (LaneState P)) (turn : Turn) (alone : ℕ) : Type 0 where
   pub picks : List (Option Link)
   pub progress : IsProgress old
-  pub picked : RoundPicked state honest sound gave (old.rounds + 1) cut old.labels before after picks alone
+  pub picked : RoundPicked state honest sound exchanged (old.rounds + 1) cut old.labels before after picks alone
   pub stepped : IsTurn picks old new turn
 
 -- however a turn ended: what it did to the lanes' ports, and the book that it filled, as far as it came
-pub record TurnAsked {P : Type 0} (state : P → PortState) (honest : P → Type 0) (sound : P → ℕ → Type 0) (gave : P → List AnswerValue → Type 0) (cut : List (List Link)) (old : Progress) (before after : List (LaneState P)) : Type 0 where
+pub record TurnAsked {P : Type 0} (state : P → PortState) (honest : P → Type 0) (sound : P → ℕ → List Exchange → Type 0) (exchanged : P → List Exchange → Type 0) (cut : List (List Link)) (old : Progress) (before after : List (LaneState P)) : Type 0 where
   pub book : Page
   pub next : IsNextOf cut old book
   pub answers_at : ℕ → List AnswerValue
-  pub ports : PortsWent state honest sound gave (IsClosingIn (book ∷ [])) before after answers_at
+  pub ports : PortsWent state honest sound exchanged (book ∷ []) before after answers_at
   pub kept : AreKept honest before (book ∷ []) answers_at
 
 -- a round under the solver's labels, whose picks the solver refuses
-pub record TurnRefused {P : Type 0} (state : P → PortState) (honest : P → Type 0) (sound : P → ℕ → Type 0) (gave : P → List AnswerValue → Type 0) (cut : List (List Link)) (old : Progress) (before after : List (LaneState P)) (fault : SolveFault) : Type 0 where
+pub record TurnRefused {P : Type 0} (state : P → PortState) (honest : P → Type 0) (sound : P → ℕ → List Exchange → Type 0) (exchanged : P → List Exchange → Type 0) (cut : List (List Link)) (old : Progress) (before after : List (LaneState P)) (fault : SolveFault) : Type 0 where
   pub picks : List (Option Link)
   pub alone : ℕ
   pub progress : IsProgress old
-  pub picked : RoundPicked state honest sound gave (old.rounds + 1) cut old.labels before after picks alone
+  pub picked : RoundPicked state honest sound exchanged (old.rounds + 1) cut old.labels before after picks alone
   pub refused : IsStepFault old picks fault
 
 -- why a turn ends ill: want of memory, or the solver refuses the picks
-abbrev pub IsTurnFault : {P : Type 0} → (P → PortState) → (P → Type 0) → (P → ℕ → Type 0) → (P → List AnswerValue → Type 0) → List (List Link) → Progress → List (LaneState P) → List (LaneState P) → SolveFault → Type 0
-IsTurnFault state honest sound gave cut old before after fault = (fault ≡ Memory) ⊎ TurnRefused state honest sound gave cut old before after fault
+abbrev pub IsTurnFault : {P : Type 0} → (P → PortState) → (P → Type 0) → (P → ℕ → List Exchange → Type 0) → (P → List Exchange → Type 0) → List (List Link) → Progress → List (LaneState P) → List (LaneState P) → SolveFault → Type 0
+IsTurnFault state honest sound exchanged cut old before after fault = (fault ≡ Memory) ⊎ TurnRefused state honest sound exchanged cut old before after fault
 
 -- ---- rounds from the start of a run
 
 -- merging rounds from a run's start, which led to this solver, and one whole round more, of which these are the picks
-pub record PickedAfter {P : Type 0} (state : P → PortState) (honest : P → Type 0) (sound : P → ℕ → Type 0) (gave : P → List AnswerValue → Type 0) (n : ℕ) (cut : List (List Link)) (before after : List (LaneState P)) (solver : Progress) (picks : List (Option Link)) (answered alone : ℕ) : Type 0 where
+pub record PickedAfter {P : Type 0} (state : P → PortState) (honest : P → Type 0) (sound : P → ℕ → List Exchange → Type 0) (exchanged : P → List Exchange → Type 0) (n : ℕ) (cut : List (List Link)) (before after : List (LaneState P)) (solver : Progress) (picks : List (Option Link)) (answered alone : ℕ) : Type 0 where
   pub merging : List Page
   pub last : Page
-  pub rounds : RoundsWent state honest sound gave cut before after (merging ++ last ∷ []) answered alone
+  pub rounds : RoundsWent state honest sound exchanged cut before after (merging ++ last ∷ []) answered alone
   pub solved : IsSolvedBy n merging solver
   pub picked : IsPickedBy solver last picks
 
@@ -70,11 +71,11 @@ AreRunBooks n cut books =
     ⊎ ((merging : List Page) × (solver : Progress) × (last : Page) × (books ≡ merging ++ last ∷ []) × All (IsFullBook cut) merging × IsSolvedBy n merging solver × IsNextOf cut solver last)
 
 -- however a run ended: what it did to the lanes' ports, and the books that it filled
-pub record RunAsked {P : Type 0} (state : P → PortState) (honest : P → Type 0) (sound : P → ℕ → Type 0) (gave : P → List AnswerValue → Type 0) (n : ℕ) (cut : List (List Link)) (before after : List (LaneState P)) : Type 0 where
+pub record RunAsked {P : Type 0} (state : P → PortState) (honest : P → Type 0) (sound : P → ℕ → List Exchange → Type 0) (exchanged : P → List Exchange → Type 0) (n : ℕ) (cut : List (List Link)) (before after : List (LaneState P)) : Type 0 where
   pub books : List Page
   pub are_books : AreRunBooks n cut books
   pub answers_at : ℕ → List AnswerValue
-  pub ports : PortsWent state honest sound gave (IsClosingIn books) before after answers_at
+  pub ports : PortsWent state honest sound exchanged books before after answers_at
   pub kept : AreKept honest before books answers_at
 
 -- the links taken are those of all merging rounds over the list
@@ -83,9 +84,9 @@ pub record HasAllRoundsOf (links : List Link) (p : Progress) : Type 0 where
   pub all : IsMergingRounds (vertices p) links p.rounds
 
 -- rounds of a run until one had no picks: an answer of each link that the solver took stands in a book
-pub record RunWent {P : Type 0} (state : P → PortState) (honest : P → Type 0) (sound : P → ℕ → Type 0) (gave : P → List AnswerValue → Type 0) (n : ℕ) (cut : List (List Link)) (before after : List (LaneState P)) (solver : Progress) (answered alone : ℕ) : Type 0 where
+pub record RunWent {P : Type 0} (state : P → PortState) (honest : P → Type 0) (sound : P → ℕ → List Exchange → Type 0) (exchanged : P → List Exchange → Type 0) (n : ℕ) (cut : List (List Link)) (before after : List (LaneState P)) (solver : Progress) (answered alone : ℕ) : Type 0 where
   pub picks : List (Option Link)
-  pub went : PickedAfter state honest sound gave n cut before after solver picks answered alone
+  pub went : PickedAfter state honest sound exchanged n cut before after solver picks answered alone
   pub none : AreNoPicks picks
   pub number : length (went.merging ++ went.last ∷ []) ≡ solver.rounds + 1
   pub progress : IsProgress solver
@@ -96,27 +97,27 @@ pub record RunWent {P : Type 0} (state : P → PortState) (honest : P → Type 0
   pub right : AreLightBooks (went.merging ++ went.last ∷ []) → HasAllRoundsOf (joined cut) solver
 
 -- rounds of a run, after which the solver refuses the picks of the last one, or there were none and it can't be finished
-pub record RunRefused {P : Type 0} (state : P → PortState) (honest : P → Type 0) (sound : P → ℕ → Type 0) (gave : P → List AnswerValue → Type 0) (n : ℕ) (cut : List (List Link)) (before after : List (LaneState P)) (fault : SolveFault) : Type 0 where
+pub record RunRefused {P : Type 0} (state : P → PortState) (honest : P → Type 0) (sound : P → ℕ → List Exchange → Type 0) (exchanged : P → List Exchange → Type 0) (n : ℕ) (cut : List (List Link)) (before after : List (LaneState P)) (fault : SolveFault) : Type 0 where
   pub solver : Progress
   pub picks : List (Option Link)
   pub answered : ℕ
   pub alone : ℕ
-  pub went : PickedAfter state honest sound gave n cut before after solver picks answered alone
+  pub went : PickedAfter state honest sound exchanged n cut before after solver picks answered alone
   pub vertices_are : vertices solver ≡ n
   pub why : IsStepFault solver picks fault ⊎ (AreNoPicks picks × IsFinishFault solver (joined cut) fault)
   -- a fault other than want of memory comes of an answer that isn't light
   pub to_blame : fault ≢ Memory → ¬ (AreLightBooks (went.merging ++ went.last ∷ []))
 
 -- why a run has no forest: want of memory, or what was answered in its rounds
-abbrev pub IsSolveFault : {P : Type 0} → (P → PortState) → (P → Type 0) → (P → ℕ → Type 0) → (P → List AnswerValue → Type 0) → ℕ → List (List Link) → List (LaneState P) → List (LaneState P) → SolveFault → Type 0
-IsSolveFault state honest sound gave n cut before after fault = (fault ≡ Memory) ⊎ RunRefused state honest sound gave n cut before after fault
+abbrev pub IsSolveFault : {P : Type 0} → (P → PortState) → (P → Type 0) → (P → ℕ → List Exchange → Type 0) → (P → List Exchange → Type 0) → ℕ → List (List Link) → List (LaneState P) → List (LaneState P) → SolveFault → Type 0
+IsSolveFault state honest sound exchanged n cut before after fault = (fault ≡ Memory) ⊎ RunRefused state honest sound exchanged n cut before after fault
 
 -- a run that ended well over the lanes: its forest, and its report
-pub record SolveWent {P : Type 0} (state : P → PortState) (honest : P → Type 0) (sound : P → ℕ → Type 0) (gave : P → List AnswerValue → Type 0) (n : ℕ) (cut : List (List Link)) (before after : List (LaneState P)) (forest : List Link) (report : Report) : Type 0 where
+pub record SolveWent {P : Type 0} (state : P → PortState) (honest : P → Type 0) (sound : P → ℕ → List Exchange → Type 0) (exchanged : P → List Exchange → Type 0) (n : ℕ) (cut : List (List Link)) (before after : List (LaneState P)) (forest : List Link) (report : Report) : Type 0 where
   pub solver : Progress
   pub picks : List (Option Link)
   -- a merging round for each that is reported, and the last one, which had no picks
-  pub went : PickedAfter state honest sound gave n cut before after solver picks report.answered report.alone
+  pub went : PickedAfter state honest sound exchanged n cut before after solver picks report.answered report.alone
   pub none : AreNoPicks picks
   pub rounds_are : report.rounds ≡ solver.rounds
   pub in_time : 2 ^ report.rounds ≤ max 1 n

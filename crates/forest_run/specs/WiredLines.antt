@@ -1,15 +1,15 @@
 -- Lines to workers, and a run over new wires over them.
 use Rattle.std.specs.Prelude.{◌≡◌, ℕ, ◌<◌, List, length, map, sum_by, slice_index_or, All, Contains}
 use Rattle.link_key.specs.declared.links.Link.{Link}
-use Rattle.frames.specs.AnswerValue.{AnswerValue}
 use Rattle.frames.specs.FrameValue.{FrameValue}
 use Rattle.round_theory.specs.Offers.{Names}
 use Rattle.worker_engine.specs.Serving.{asks_in}
 use Rattle.round_core.specs.Page.{hearing_of}
 use Rattle.round_core.specs.declared.solver.SolveFault.{SolveFault}
 use Rattle.ports.specs.Lines.{LineState, IsFresh, Tells}
+use Rattle.ports.specs.Exchanges.{Exchange}
 use Rattle.ports.specs.Talking.{Talk, IsInStep}
-use Rattle.ports.specs.Wires.{WireState, IsNewWire, port_of, IsHonestWire, IsSoundWire, WireGave}
+use Rattle.ports.specs.Wires.{WireState, IsNewWire, port_of, IsHonestWire, IsSoundWire, WireExchanged}
 use Rattle.forest_run.specs.declared.report.Report.{Report}
 use Rattle.forest_run.specs.Lanes.{LaneState, IsIdle}
 use Rattle.forest_run.specs.Solved.{SolveWent, RunRefused}
@@ -43,7 +43,7 @@ pub record WiresWent {L : Type 0} (state : L → LineState) (faithful : L → �
   -- over a line that was new and tells its bytes, whatever the other lines are, from the ends on that it had found before the run
   pub sound : (worker : ℕ) (line : L) (lane : LaneState (WireState L)) → worker < length lines
       → IsFresh (state (slice_index_or lines worker line)) → Tells (state (slice_index_or lines worker line))
-      → IsSoundWire state (slice_index_or ended worker lane).port (state (slice_index_or lines worker line)).ends
+      → (exchanges : List Exchange) × IsSoundWire state (slice_index_or ended worker lane).port (state (slice_index_or lines worker line)).ends exchanges
   -- over such a line that carries its worker's session, whatever the other lines are
   pub honest : (worker : ℕ) (line : L) (lane : LaneState (WireState L)) → worker < length lines
       → IsFresh (state (slice_index_or lines worker line)) → Tells (state (slice_index_or lines worker line)) → faithful (slice_index_or lines worker line) worker
@@ -54,7 +54,7 @@ pub record LinesSolved {L : Type 0} (state : L → LineState) (faithful : L → 
   pub lanes : List (LaneState (WireState L))
   pub new : AreNewLanes before cut lanes
   pub ended : List (LaneState (WireState L))
-  pub went : SolveWent port_of (IsHonestWire state faithful) (IsSoundWire state) (WireGave state) n cut lanes ended forest report
+  pub went : SolveWent port_of (IsHonestWire state faithful) (IsSoundWire state) (WireExchanged state) n cut lanes ended forest report
   pub wires : WiresWent state faithful before ended
   pub lines_are : after ≡ lines_of ended
 
@@ -63,16 +63,16 @@ pub record LinesRefused {L : Type 0} (state : L → LineState) (faithful : L →
   pub lanes : List (LaneState (WireState L))
   pub new : AreNewLanes lines cut lanes
   pub ended : List (LaneState (WireState L))
-  pub refused : RunRefused port_of (IsHonestWire state faithful) (IsSoundWire state) (WireGave state) n cut lanes ended fault
+  pub refused : RunRefused port_of (IsHonestWire state faithful) (IsSoundWire state) (WireExchanged state) n cut lanes ended fault
   pub wires : WiresWent state faithful lines ended
 
 -- ---- the bytes on the lines
 
--- what was said and heard with a worker
+-- what was said with a worker: the frames that were sent, and the asks among them with their answers
 abbrev pub Said : Type 0
-Said = List FrameValue × List AnswerValue
+Said = List FrameValue × List Exchange
 
--- a new line's whole talk with this worker about shards of the cut: these frames were sent, and nothing else; and the worker's hello and these answers got, one for each ask, and nothing else, or nothing where no hello came
+-- a new line's whole talk with this worker about shards of the cut: these frames were sent, shards once each and the asks of these exchanges, and nothing else; and the worker's hello and the answers of the exchanges got, and nothing else, or nothing where no hello came
 pub record HasTalked (cut : List (List Link)) (worker : ℕ) (line : LineState) (said : Said) : Type 0 where
   pub talk : Talk
   pub worker_is : talk.worker ≡ worker
@@ -86,4 +86,4 @@ pub record HaveTalked {L : Type 0} (state : L → LineState) (cut : List (List L
   pub number : length talks ≡ length lines
   pub each : (worker : ℕ) (line : L) (said : Said) → worker < length lines → HasTalked cut worker (state (slice_index_or lines worker line)) (slice_index_or talks worker said)
   pub asks : sum_by (λ said. asks_in said.0) talks ≡ asked
-  pub named : (l : Link) → Contains forest l → (said : Said) × (answer : AnswerValue) × Contains talks said × Contains said.1 answer × Names (hearing_of cut answer) l
+  pub named : (l : Link) → Contains forest l → (said : Said) × (exchange : Exchange) × Contains talks said × Contains said.1 exchange × Names (hearing_of cut exchange.answer) l

@@ -24,7 +24,7 @@ pub(crate) fn cross<A: Allocator + Copy + Send + Sync, P: Port<A> + Send + Drop,
     requires ready { All (IsReady P.state board.now book.now labels.now) lanes.old }
     requires seats { seats ≡ board.now.seats }
     ensures { (i : ℕ) (d : _) → i < length lanes.old
-        → FerryWent P.state P.honest P.sound P.gave book.now (slice_index_or lanes.old i d) (slice_index_or lanes.new i d) }
+        → FerryWent P.state P.honest P.sound P.exchanged book.now (slice_index_or lanes.old i d) (slice_index_or lanes.new i d) }
 {
     thread::for_each_mut(
         rt,
@@ -32,7 +32,7 @@ pub(crate) fn cross<A: Allocator + Copy + Send + Sync, P: Port<A> + Send + Drop,
         MOST_SEATS as usize,
         &|_: usize, lane: &mut Lane<P, A>|
             requires { IsReady P.state board.now book.now labels.now lane.now × (seats ≡ board.now.seats) }
-            ensures { FerryWent P.state P.honest P.sound P.gave book.entry.now lane.entry.now lane.exit.now }
+            ensures { FerryWent P.state P.honest P.sound P.exchanged book.entry.now lane.entry.now lane.exit.now }
         { ferry(board, book, labels, seats, lane) },
     );
 }

@@ -4,7 +4,7 @@ ghost use Rattle.claim_board.specs.Machine.{held};
 ghost use Rattle.claim_board.specs.declared.most.TheConstants.{MOST_SEATS};
 ghost use Rattle.limits.specs.declared.TheConstants.{MAX_SHARDS};
 ghost use Rattle.round_core.specs.Page.{is_taken};
-ghost use Rattle.forest_run.specs.Asks.{AsksWent, IsClosing, IsTaken, IsLight, shards_of};
+ghost use Rattle.forest_run.specs.Asks.{AsksWent, IsKept, IsClosing, IsTaken, IsLight, shards_of};
 ghost use Rattle.forest_run.specs.Bounds.{IsBookUnder};
 ghost use Rattle.forest_run.specs.Ferries.{IsReady, FerryWent, seated_lane, first_of, shard_at};
 
@@ -29,7 +29,7 @@ fn ask_for<A: Allocator, P: Port<A>>(
     requires cut { (P.state port.old).cut ≡ book.now.cut }
     requires room { (P.state port.old).asks < 2 ^ 64 - 1 }
     requires opened { (P.state port.old).is_open ≡ true }
-    ensures asked { AsksWent P.state P.honest P.sound P.gave (IsClosing book.now) port.old port.new (option_to_list result) }
+    ensures asked { AsksWent P.state P.honest P.sound P.exchanged (IsKept book.now) (IsClosing book.now) port.old port.new (option_to_list result) }
     ensures shard { IfSome result (λ a. a.shard ≡ shard) }
     ensures opened { IfSome result (λ _. (P.state port.new).is_open ≡ true) }
     ensures taken { IfSome result (IsTaken book.now) }
@@ -46,6 +46,7 @@ fn ask_for<A: Allocator, P: Port<A>>(
     Some(answer)
 }
 
+#[tactic(auto, using(crate::proofs::AsksThen::stayed))]
 // Claims a shard that the book misses, and asks the port for it. Where no answer is kept, the shard is given back.
 fn visit<A: Allocator, P: Port<A>>(
     board: &Board<A>,
@@ -63,7 +64,7 @@ fn visit<A: Allocator, P: Port<A>>(
     requires room { (P.state port.old).asks < 2 ^ 64 - 1 }
     requires opened { (P.state port.old).is_open ≡ true }
     ensures seat { (seat.new.board ≡ seat.old.board) × (seat.new.number ≡ seat.old.number) }
-    ensures asked { AsksWent P.state P.honest P.sound P.gave (IsClosing book.now) port.old port.new (option_to_list result) }
+    ensures asked { AsksWent P.state P.honest P.sound P.exchanged (IsKept book.now) (IsClosing book.now) port.old port.new (option_to_list result) }
     ensures held { held seat.new.events ≡ held seat.old.events ++ shards_of (option_to_list result) }
     ensures opened { IfSome result (λ _. (P.state port.new).is_open ≡ true) }
     ensures taken { IfSome result (IsTaken book.now) }
@@ -117,7 +118,7 @@ fn go_round<A: Allocator, P: Port<A>>(
 )
     requires ready { IsReady P.state board.now book.now labels.now (seated_lane port.old seat.old kept.old) }
     requires seats { seats ≡ board.now.seats }
-    ensures { FerryWent P.state P.honest P.sound P.gave book.now
+    ensures { FerryWent P.state P.honest P.sound P.exchanged book.now
         (seated_lane port.old seat.old kept.old) (seated_lane port.new seat.new kept.new) }
 {
     let shards = book.len();
@@ -152,7 +153,7 @@ pub(crate) fn ferry<A: Allocator, P: Port<A>>(
 )
     requires ready { IsReady P.state board.now book.now labels.now lane.old }
     requires seats { seats ≡ board.now.seats }
-    ensures { FerryWent P.state P.honest P.sound P.gave book.now lane.old lane.new }
+    ensures { FerryWent P.state P.honest P.sound P.exchanged book.now lane.old lane.new }
 {
     let Lane { port, seat, kept } = lane;
     if let Some(seat) = seat {

@@ -11,16 +11,17 @@
 //! - A line that was new and tells its bytes is given up only for a fault that fits them and its counts, or for an
 //!   answer that the round's book refuses, whatever the other lines are. Over lines that carry the sessions of their
 //!   workers no line is blamed: one is given up only where it is down, or for want of memory here or at its worker.
-//! - Where no port was closed and nothing scanned alone, the bytes of new lines that tell them are just the asks, each of
-//!   the worker of its line, and their answers, which name each link of the forest.
+//! - Where no port was closed and nothing scanned alone, the bytes of new lines that tell them are just the shards, once
+//!   each, the asks, each of the worker of its line, and their answers, which name each link of the forest.
 //! - Where all ports are honest, want of memory is the only fault, and a run that ends well has the minimum spanning
 //!   forest of the cut's links and the number of merging rounds.
 //! - Whatever was answered, the forest closes no cycle and spans the links, and the report's counts are equations. Where
 //!   the coordinator scanned nothing, an answer that a lane kept names each link of the forest.
 //! - A run's books are tied to its solver: each but the last has the picks of one merging round, and the last has none, so
 //!   no round is reported that wasn't. A fault other than want of memory comes after such rounds, by the last one's picks.
-//! - A round ends with an answer for each shard in its book, or with want of memory. Each answer is one that a port
-//!   gave, or the coordinator's own scan; it scans itself only where no port is open.
+//! - A round ends with an answer for each shard in its book, or with want of memory. Each answer is one that a port gave
+//!   when it was asked for that shard, in that round under its labels, or the coordinator's own scan; it scans itself only
+//!   where no port is open.
 //! - A port is closed only where an ask of it failed or found no memory, or where the round's book refuses its answer to
 //!   the last ask. No answer of an honest port is refused.
 //! - The counts: the asks of all ports and the ports that are open add up, before and after, with the answers taken.

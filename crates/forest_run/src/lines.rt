@@ -121,13 +121,13 @@ fn solve_lines<
 /// writes the forest's text. It answers what the run did, and the lines as it left them, in their order.
 ///
 /// The links are cut as `cutting` says, and the worker at line i, numbered from 0, is asked for the light offers of one
-/// shard after another, as [`solve`] says. A line that fails, over which something else than an answer comes, or an answer
-/// that the round's book refuses, or one of whose asks finds no memory, is given up for good, and its shards are asked of
-/// the others; where none is left they are scanned here. So a failing line is never the run's fault. A line that was new
-/// and tells its bytes is given up for a fault only where its last ask counted a failure or an end, or brought bytes that
-/// fit the fault, and no ask before did. Where all lines carry the sessions of their workers the links are the minimum spanning forest,
-/// and no line is given up but one that is down, or for want of memory here or at its worker; whatever comes over them, the
-/// links close no cycle and span those of the file.
+/// shard after another, as [`solve`] says. A line that fails, over which something else than an answer comes, or an
+/// answer that the round's book refuses, or one of whose asks finds no memory, is given up for good, and its shards are
+/// asked of the others; where none is left they are scanned here. So a failing line is never the run's fault. A line
+/// that was new and tells its bytes is given up for a fault only where its last ask counted a failure or an end, or
+/// brought bytes that fit the fault, and no ask before did. Where all lines carry the sessions of their workers the
+/// links are the minimum spanning forest, and no line is given up but one that is down, or for want of memory here or
+/// at its worker; whatever comes over them, the links close no cycle and span those of the file.
 ///
 /// It waits for the workers' answers. The forest is whole before the first byte is written; after a fault the lines are
 /// dropped. It takes a list of the links, the places of the cut, 600 bytes a line, and what [`solve`] takes; the time of

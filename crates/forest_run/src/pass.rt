@@ -34,7 +34,7 @@ fn ride<A: Allocator + Copy + Send + Sync, P: Port<A> + Send + Drop, R: Threads 
     requires bound { All (λ lane. IsBound P.state book.old lane.port) lanes.old }
     requires idle { All IsIdle lanes.old }
     requires room { All (λ lane. length book.old.cut ≤ lane.room) lanes.old }
-    ensures went { PassWent P.state P.honest P.sound P.gave book.old book.new lanes.old lanes.new }
+    ensures went { PassWent P.state P.honest P.sound P.exchanged book.old book.new lanes.old lanes.new }
     ensures idle { All IsIdle lanes.new }
 {
     let seats = row.len() as u32;
@@ -59,7 +59,7 @@ pub(crate) fn pass<A: Allocator + Copy + Send + Sync, P: Port<A> + Send + Drop, 
     requires round { IsBookUnder book.old labels.now }
     requires bound { All (λ lane. IsBound P.state book.old lane.port) lanes.old }
     requires idle { All IsIdle lanes.old }
-    ensures went { PassWent P.state P.honest P.sound P.gave book.old book.new lanes.old lanes.new }
+    ensures went { PassWent P.state P.honest P.sound P.exchanged book.old book.new lanes.old lanes.new }
     ensures idle { All IsIdle lanes.new }
 {
     let shards = book.len();

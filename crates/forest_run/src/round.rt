@@ -31,7 +31,7 @@ fn ask_all<A: Allocator + Copy + Send + Sync, P: Port<A> + Send + Drop, R: Threa
     requires round { IsBookUnder book.old labels.now }
     requires wide { All (λ lane. IsWide P.state book.old lane.port) lanes.old }
     requires idle { All IsIdle lanes.old }
-    ensures went { PassWent P.state P.honest P.sound P.gave book.old book.new lanes.old lanes.new }
+    ensures went { PassWent P.state P.honest P.sound P.exchanged book.old book.new lanes.old lanes.new }
     ensures idle { All IsIdle lanes.new }
     ensures end { OnOk result (0 < missing book.new → open_of P.state lanes.new ≡ 0) }
 {
@@ -72,8 +72,8 @@ pub(crate) fn whole_round<
     requires round { IsBookUnder book.old labels.now }
     requires wide { All (λ lane. IsWide P.state book.old lane.port) lanes.old }
     requires idle { All IsIdle lanes.old }
-    ensures went { IfOk result (λ alone. RoundWent P.state P.honest P.sound P.gave book.old book.new lanes.old lanes.new alone) }
-    ensures asked { (middle : Page) × PassWent P.state P.honest P.sound P.gave book.old middle lanes.old lanes.new }
+    ensures went { IfOk result (λ alone. RoundWent P.state P.honest P.sound P.exchanged book.old book.new lanes.old lanes.new alone) }
+    ensures asked { (middle : Page) × PassWent P.state P.honest P.sound P.exchanged book.old middle lanes.old lanes.new }
     ensures idle { All IsIdle lanes.new }
 {
     ask_all(rt, alloc, book, labels, lanes)?;
@@ -103,8 +103,8 @@ pub(crate) fn round_picks<
     requires ends { All (EndsUpTo (length labels.now)) cut.now }
     requires wide { All (λ lane. IsWide P.state (opened round cut.now labels.now) lane.port) lanes.old }
     requires idle { All IsIdle lanes.old }
-    ensures picked { IfOk result (λ r. RoundPicked P.state P.honest P.sound P.gave round cut.now labels.now lanes.old lanes.new r.0 r.1) }
-    ensures asked { (middle : Page) × PassWent P.state P.honest P.sound P.gave (opened round cut.now labels.now) middle lanes.old lanes.new }
+    ensures picked { IfOk result (λ r. RoundPicked P.state P.honest P.sound P.exchanged round cut.now labels.now lanes.old lanes.new r.0 r.1) }
+    ensures asked { (middle : Page) × PassWent P.state P.honest P.sound P.exchanged (opened round cut.now labels.now) middle lanes.old lanes.new }
     ensures idle { All IsIdle lanes.new }
 {
     let mut book = RoundBook::open(alloc, round, cut, labels)?;

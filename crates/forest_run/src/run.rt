@@ -35,9 +35,9 @@ fn turn<'a, A: Allocator + Copy + Send + Sync, P: Port<A> + Send + Drop, R: Thre
     requires ends { All (EndsUpTo (vertices solver.old)) cut.now }
     requires wide { All (λ lane. IsWide P.state (opened (solver.old.rounds + 1) cut.now solver.old.labels) lane.port) lanes.old }
     requires idle { All IsIdle lanes.old }
-    ensures went { IfOk result (λ r. TurnWent P.state P.honest P.sound P.gave cut.now solver.old solver.new lanes.old lanes.new r.0 r.1) }
-    ensures ports { TurnAsked P.state P.honest P.sound P.gave cut.now solver.old lanes.old lanes.new }
-    ensures fault { IfErr result (IsTurnFault P.state P.honest P.sound P.gave cut.now solver.old lanes.old lanes.new) }
+    ensures went { IfOk result (λ r. TurnWent P.state P.honest P.sound P.exchanged cut.now solver.old solver.new lanes.old lanes.new r.0 r.1) }
+    ensures ports { TurnAsked P.state P.honest P.sound P.exchanged cut.now solver.old lanes.old lanes.new }
+    ensures fault { IfErr result (IsTurnFault P.state P.honest P.sound P.exchanged cut.now solver.old lanes.old lanes.new) }
     ensures idle { All IsIdle lanes.new }
 {
     let (picks, alone) = round_picks(rt, alloc, solver.round(), cut, solver.labels(), lanes)?;
@@ -69,9 +69,9 @@ fn merge_all<
     requires counts { All (λ lane. (P.state lane.port).asks < 2 ^ 63) lanes.old }
     requires idle { All IsIdle lanes.old }
     ensures went { IfOk result (λ alone. (answered : ℕ)
-        × RunWent P.state P.honest P.sound P.gave n cut.now lanes.old lanes.new solver.new answered alone) }
-    ensures ports { RunAsked P.state P.honest P.sound P.gave n cut.now lanes.old lanes.new }
-    ensures fault { IfErr result (IsSolveFault P.state P.honest P.sound P.gave n cut.now lanes.old lanes.new) }
+        × RunWent P.state P.honest P.sound P.exchanged n cut.now lanes.old lanes.new solver.new answered alone) }
+    ensures ports { RunAsked P.state P.honest P.sound P.exchanged n cut.now lanes.old lanes.new }
+    ensures fault { IfErr result (IsSolveFault P.state P.honest P.sound P.exchanged n cut.now lanes.old lanes.new) }
     ensures honest_fault { IfErr result (λ fault. AreHonest P.honest lanes.old → fault ≡ Memory) }
     ensures idle { All IsIdle lanes.new }
 {
@@ -117,9 +117,9 @@ pub fn solve<
     requires cut { All (λ lane. (P.state lane.port).cut ≡ cut.now) lanes.old }
     requires counts { All (λ lane. (P.state lane.port).asks < 2 ^ 63) lanes.old }
     requires idle { All IsIdle lanes.old }
-    ensures went { IfOk result (λ r. SolveWent P.state P.honest P.sound P.gave n cut.now lanes.old lanes.new r.0 r.1) }
-    ensures ports { RunAsked P.state P.honest P.sound P.gave n cut.now lanes.old lanes.new }
-    ensures fault { IfErr result (IsSolveFault P.state P.honest P.sound P.gave n cut.now lanes.old lanes.new) }
+    ensures went { IfOk result (λ r. SolveWent P.state P.honest P.sound P.exchanged n cut.now lanes.old lanes.new r.0 r.1) }
+    ensures ports { RunAsked P.state P.honest P.sound P.exchanged n cut.now lanes.old lanes.new }
+    ensures fault { IfErr result (IsSolveFault P.state P.honest P.sound P.exchanged n cut.now lanes.old lanes.new) }
     ensures honest_fault { IfErr result (λ fault. AreHonest P.honest lanes.old → fault ≡ Memory) }
     ensures idle { All IsIdle lanes.new }
 {

@@ -2,7 +2,7 @@
 use Rattle.std.proofs.Common.{◌≡◌, ◌≢◌, ℕ, ◌<◌, List, [], ◌∷◌, ◌++◌, length, drop, Some, refl, sym, ap, subst, ◌∙◌, append_assoc, append-nil, ⊎_elim, inl, inr, arith, eq-eqb, ne_eqb}
 use Rattle.std.specs.Prelude.{◌+◌, Option, None, Bool, true, false, ◌||◌, if◌then◌else◌, map}
 use Rattle.std.proofs.lemmas.Bool.{cases_eq}
-use Rattle.std.proofs.lemmas.List.{map-append, length-append, length-map}
+use Rattle.std.proofs.lemmas.List.{map-append, length-map}
 use Rattle.std.proofs.lemmas.List.Elements.{All-nil, All-cons, All-append}
 use Rattle.std.specs.List.{All}
 use Rattle.byte_streams.proofs.Streaming.{appends-told}
@@ -24,7 +24,8 @@ use Rattle.shard_set.specs.Shards.{has_shard}
 use Rattle.ports.specs.Lines.{ServesSoFar}
 use Rattle.ports.specs.Causes.{IsNoReply, Came, Cause, IsBlameless}
 use Rattle.ports.specs.Ports.{IsHonestAnswer}
-use Rattle.ports.specs.Talking.{Talk, hello_once, shard_once, frames_put, AskBrought, Asked, frames_got, HasGiven, IsOfCut, times_sent, IsInStep}
+use Rattle.ports.specs.Exchanges.{Exchange, exchange_of, answers_of}
+use Rattle.ports.specs.Talking.{Talk, hello_once, shard_once, frames_put, AskBrought, Asked, frames_got, HasGiven, IsOfCut, times_sent, asks_among, IsInStep}
 use Rattle.ports.proofs.Refused.{bad_never}
 
 -- ---- what one ask puts
@@ -59,9 +60,31 @@ of_cut_put true cut round shard labels within = of_cut_ask cut round shard label
 of_cut_put false cut round shard labels within =
     All-cons (IsOfCut cut) (ShardFrame shard (links_at cut shard)) (AskFrame round shard labels ∷ []) (within, refl) (of_cut_ask cut round shard labels within)
 
-asks_put : (sent : Bool) (shard : ℕ) (links : List Link) (round : ℕ) (labels : List ℕ) → asks_in (shard_once sent shard links ++ AskFrame round shard labels ∷ []) ≡ 1
-asks_put true shard links round labels = refl
-asks_put false shard links round labels = refl
+-- the one ask that an ask puts
+among_put : (sent : Bool) (shard : ℕ) (links : List Link) (round : ℕ) (labels : List ℕ) → asks_among (shard_once sent shard links ++ AskFrame round shard labels ∷ []) ≡ AskFrame round shard labels ∷ []
+among_put true shard links round labels = refl
+among_put false shard links round labels = refl
+
+among_append : (fs gs : List FrameValue) → asks_among (fs ++ gs) ≡ asks_among fs ++ asks_among gs
+among_append [] gs = refl
+among_append (AskFrame r k ls ∷ fs) gs = ap (λ (hs : List FrameValue). AskFrame r k ls ∷ hs) (among_append fs gs)
+among_append (ShardFrame number links ∷ fs) gs = among_append fs gs
+among_append (HelloFrame v w ∷ fs) gs = among_append fs gs
+among_append (AnswerFrame a ∷ fs) gs = among_append fs gs
+among_append (FaultFrame r k c ∷ fs) gs = among_append fs gs
+
+among_count : (fs : List FrameValue) → asks_in fs ≡ length (asks_among fs)
+among_count [] = refl
+among_count (AskFrame r k ls ∷ fs) = omega (arith, among_count fs)
+among_count (ShardFrame number links ∷ fs) = omega (arith, among_count fs)
+among_count (HelloFrame v w ∷ fs) = omega (arith, among_count fs)
+among_count (AnswerFrame a ∷ fs) = omega (arith, among_count fs)
+among_count (FaultFrame r k c ∷ fs) = omega (arith, among_count fs)
+
+-- a talk in step asked once for each exchange
+pub asks_made : (talk : Talk) (said : List FrameValue) (exchanges : List Exchange) → IsInStep talk said exchanges → asks_in said ≡ length exchanges
+asks_made talk said exchanges step =
+    omega (arith, among_count said, ap (λ (fs : List FrameValue). length fs) step.asked, length-map exchanges (λ (e : Exchange). AskFrame e.round e.shard e.labels))
 
 shard_lawful : (sent : Bool) (shard : ℕ) (links : List Link) → IsShard shard links → AreLawful (shard_once sent shard links)
 shard_lawful true shard links is = tt
@@ -121,8 +144,15 @@ module _ (round shard : ℕ) (labels : List ℕ) (a : AnswerValue) (before after
         silent = λ e. cc;
       }
 
+  answers_then : (exchanges : List Exchange) → answers_of (exchanges ++ exchange_of round shard labels a ∷ []) ≡ answers_of exchanges ++ a ∷ []
+  answers_then exchanges = map-append (λ (e : Exchange). e.answer) exchanges (exchange_of round shard labels a ∷ [])
+
+  -- and so with its ask behind the exchanges before
+  pub exchanged_more : (exchanges : List Exchange) → HasGiven before (answers_of exchanges) → HasGiven after (answers_of (exchanges ++ exchange_of round shard labels a ∷ []))
+  exchanged_more exchanges given = subst (HasGiven after) (sym (answers_then exchanges)) (gave_more (answers_of exchanges) given)
+
   module _ (in_cut : shard < length before.cut) (is : IsShard shard (links_at before.cut shard)) (ask : IsAsk round shard labels) where
-    module _ (said : List FrameValue) (answers : List AnswerValue) (step : IsInStep before said answers) where
+    module _ (said : List FrameValue) (exchanges : List Exchange) (step : IsInStep before said exchanges) where
       shelves_step : (s : ℕ) → s < length before.cut
           → shelf_after empty_shelf (said ++ frames_put before round shard labels) s ≡ (if has_shard after.sent s then Some (links_at before.cut s) else None)
       shelves_step s within =
@@ -160,7 +190,7 @@ module _ (round shard : ℕ) (labels : List ℕ) (a : AnswerValue) (before after
           whole ∙ count ∙ step.once s ∙ ap (λ b. if b then 1 else 0) (sym now))
           (cases_eq s shard)
 
-      pub step_more : IsInStep after (said ++ frames_put before round shard labels) (answers ++ a ∷ [])
+      pub step_more : IsInStep after (said ++ frames_put before round shard labels) (exchanges ++ exchange_of round shard labels a ∷ [])
       step_more =
           let more : List FrameValue = frames_put before round shard labels in
           record {
@@ -169,14 +199,18 @@ module _ (round shard : ℕ) (labels : List ℕ) (a : AnswerValue) (before after
             lawful = lawful-append said more step.lawful (put_lawful round shard labels before is ask);
             only = subst (λ (k : List (List Link)). All (IsOfCut k) (said ++ more)) (sym asked.cut) (All-append (IsOfCut before.cut) said more step.only (of_cut_put (has_shard before.sent shard) before.cut round shard labels in_cut));
             once = once_step;
-            asked = omega (arith, asks-append said more, asks_put (has_shard before.sent shard) shard (links_at before.cut shard) round labels, step.asked, length-append answers (a ∷ []));
-            gave = gave_more answers step.gave;
+            asked =
+                among_append said more
+                ∙ (ap (λ (fs : List FrameValue). asks_among said ++ fs) (among_put (has_shard before.sent shard) shard (links_at before.cut shard) round labels)
+                ∙ (ap (λ (fs : List FrameValue). fs ++ AskFrame round shard labels ∷ []) step.asked
+                ∙ sym (map-append (λ (e : Exchange). AskFrame e.round e.shard e.labels) exchanges (exchange_of round shard labels a ∷ []))));
+            gave = exchanged_more exchanges step.gave;
             shelves = subst (λ (k : List (List Link)). (s : ℕ) → s < length k → shelf_after empty_shelf (said ++ more) s ≡ (if has_shard after.sent s then Some (links_at k s) else None)) (sym asked.cut) shelves_step;
           }
 
 -- ---- what a faithful line answers
 
-module _ (round shard : ℕ) (labels : List ℕ) (before after : Talk) (said : List FrameValue) (answers : List AnswerValue) (step : IsInStep before said answers) (below : before.worker < MAX_WORKERS)
+module _ (round shard : ℕ) (labels : List ℕ) (before after : Talk) (said : List FrameValue) (exchanges : List Exchange) (step : IsInStep before said exchanges) (below : before.worker < MAX_WORKERS)
     (faithful : ServesSoFar before.worker after.line) where
   version : IsLawful (HelloFrame 1 before.worker)
   version = record { version = refl; worker = below }
@@ -187,35 +221,35 @@ module _ (round shard : ℕ) (labels : List ℕ) (before after : Talk) (said : L
     pub rest : List ℕ
     pub texts : bytes ++ rest ≡ texts_of left
     pub lawful : AreLawful left
-    pub replies : AreReplies empty_shelf (said ++ frames_put before round shard labels) (map AnswerFrame answers ++ left)
+    pub replies : AreReplies empty_shelf (said ++ frames_put before round shard labels) (map AnswerFrame (answers_of exchanges) ++ left)
 
   left_of : (bytes : List ℕ) → AreLawful (frames_put before round shard labels) → AskBrought round shard labels bytes before after → Left bytes
   left_of bytes lawful brought =
       let more : List FrameValue = frames_put before round shard labels in
-      let hello : List FrameValue = HelloFrame 1 before.worker ∷ map AnswerFrame answers in
+      let hello : List FrameValue = HelloFrame 1 before.worker ∷ map AnswerFrame (answers_of exchanges) in
       let sent_is : after.line.sent ≡ Some (texts_of (said ++ more)) =
       appends-told before.line.sent after.line.sent (texts_of said) (texts_of more) step.sent (brought.sent refl) ∙ ap (λ t. Some t) (sym (texts-append said more)) in
       let got_is : after.line.got ≡ Some (texts_of hello ++ bytes) =
-      appends-told before.line.got after.line.got _ _ step.gave.got (brought.got refl) ∙ ap (λ t. Some t) (got_more before.greeted before.worker answers bytes step.gave.silent) in
+      appends-told before.line.got after.line.got _ _ step.gave.got (brought.got refl) ∙ ap (λ t. Some t) (got_more before.greeted before.worker (answers_of exchanges) bytes step.gave.silent) in
       let (rest, serves) = faithful (omega (arith, brought.failures, step.calm)) (texts_of (said ++ more)) (texts_of hello ++ bytes) sent_is got_is in
       let lawful_replies : AreLawful serves.replies = served_lawful before.worker (texts_of (said ++ more)) ((texts_of hello ++ bytes) ++ rest) serves in
       let frames : serves.frames ≡ said ++ more = only_frames_of_texts (said ++ more) serves.frames (lawful-append said more step.lawful lawful) serves.heard in
       let whole : texts_of hello ++ (bytes ++ rest) ≡ texts_of (HelloFrame 1 before.worker ∷ serves.replies) = sym (append_assoc (texts_of hello) bytes rest) ∙ serves.written in
       let (left, is, texts) = prefix_of_frames hello (HelloFrame 1 before.worker ∷ serves.replies) (bytes ++ rest) (version, step.gave.lawful) (version, lawful_replies) whole in
-      let replies : serves.replies ≡ map AnswerFrame answers ++ left = ap (drop 1) is in
+      let replies : serves.replies ≡ map AnswerFrame (answers_of exchanges) ++ left = ap (drop 1) is in
       record {
         left = left;
         rest = rest;
         texts = texts;
-        lawful = lawful_back (map AnswerFrame answers) left (subst AreLawful replies lawful_replies);
-        replies = subst (λ (fs : List FrameValue). AreReplies empty_shelf fs (map AnswerFrame answers ++ left)) frames (subst (AreReplies empty_shelf serves.frames) replies serves.answered);
+        lawful = lawful_back (map AnswerFrame (answers_of exchanges)) left (subst AreLawful replies lawful_replies);
+        replies = subst (λ (fs : List FrameValue). AreReplies empty_shelf fs (map AnswerFrame (answers_of exchanges) ++ left)) frames (subst (AreReplies empty_shelf serves.frames) replies serves.answered);
       }
 
   -- what came first begins with the hello
   first_of : (bytes : List ℕ) → before.greeted ≡ false → Came bytes before.line after.line
       → (rest : List ℕ) × (replies : List FrameValue) × (bytes ++ rest ≡ texts_of (HelloFrame 1 before.worker ∷ replies)) × AreLawful replies
   first_of bytes quiet came =
-      let none : before.line.got ≡ Some [] = step.gave.got ∙ ap (λ b. Some (texts_of (frames_got b before.worker answers))) quiet in
+      let none : before.line.got ≡ Some [] = step.gave.got ∙ ap (λ b. Some (texts_of (frames_got b before.worker (answers_of exchanges)))) quiet in
       let sent_is : after.line.sent ≡ Some (texts_of said ++ []) = appends-told before.line.sent after.line.sent (texts_of said) [] step.sent (came.sent refl) in
       let got_is : after.line.got ≡ Some bytes = appends-told before.line.got after.line.got [] bytes none (came.got refl) in
       let (rest, serves) = faithful (omega (arith, came.failures, step.calm)) (texts_of said ++ []) bytes sent_is got_is in
@@ -229,13 +263,13 @@ module _ (round shard : ℕ) (labels : List ℕ) (before after : Talk) (said : L
         let first : List FrameValue = shard_once (has_shard before.sent shard) shard links in
         let left = left_of (text_of v) (put_lawful round shard labels before is ask) brought in
         let (later, one, texts) = prefix_of_frames (v ∷ []) left.left left.rest (lawful, tt) left.lawful (ap (λ (t : List ℕ). t ++ left.rest) (append-nil (text_of v)) ∙ left.texts) in
-        let are : AreReplies empty_shelf ((said ++ first) ++ AskFrame round shard labels ∷ []) (map AnswerFrame answers ++ v ∷ later) =
-        subst (λ (fs : List FrameValue). AreReplies empty_shelf fs (map AnswerFrame answers ++ v ∷ later)) (sym (append_assoc said first (AskFrame round shard labels ∷ [])))
-        (subst (λ (rs : List FrameValue). AreReplies empty_shelf (said ++ frames_put before round shard labels) (map AnswerFrame answers ++ rs)) one left.replies) in
-        let count : length (map AnswerFrame answers) ≡ asks_in (said ++ first) = omega (arith, length-map answers AnswerFrame, step.asked, asks-append said first, asks_shard (has_shard before.sent shard) shard links) in
+        let are : AreReplies empty_shelf ((said ++ first) ++ AskFrame round shard labels ∷ []) (map AnswerFrame (answers_of exchanges) ++ v ∷ later) =
+        subst (λ (fs : List FrameValue). AreReplies empty_shelf fs (map AnswerFrame (answers_of exchanges) ++ v ∷ later)) (sym (append_assoc said first (AskFrame round shard labels ∷ [])))
+        (subst (λ (rs : List FrameValue). AreReplies empty_shelf (said ++ frames_put before round shard labels) (map AnswerFrame (answers_of exchanges) ++ rs)) one left.replies) in
+        let count : length (map AnswerFrame (answers_of exchanges)) ≡ asks_in (said ++ first) = omega (arith, length-map (answers_of exchanges) AnswerFrame, length-map exchanges (λ (e : Exchange). e.answer), asks_made before said exchanges step, asks-append said first, asks_shard (has_shard before.sent shard) shard links) in
         let shelf : shelf_after empty_shelf (said ++ first) shard ≡ Some links =
         ap (λ (f : Shelf). f shard) (shelf_after-append empty_shelf said first) ∙ shelf_there (has_shard before.sent shard) (shelf_after empty_shelf said) shard links (step.shelves shard in_cut) in
-        subst (λ (o : Option (List Link)). MayReply o round shard labels v) shelf (last_reply empty_shelf (said ++ first) round shard labels (map AnswerFrame answers) v later are count)
+        subst (λ (o : Option (List Link)). MayReply o round shard labels v) shelf (last_reply empty_shelf (said ++ first) round shard labels (map AnswerFrame (answers_of exchanges)) v later are count)
 
     pub honest_answer : (a : AnswerValue) → Asked round shard labels a before after → IsHonestAnswer before.cut round shard labels a
     honest_answer a asked = elim (reply_of (AnswerFrame a) asked.lawful asked.brought) [

@@ -16,6 +16,7 @@ use Rattle.shard_set.specs.Shards.{has_shard}
 use Rattle.ports.specs.Lines.{LineState, IsFresh, Tells, ServesSoFar}
 use Rattle.ports.specs.Ports.{IsHonestAnswer, failure_of, want_of}
 use Rattle.ports.specs.Causes.{Cause, IsBlameless}
+use Rattle.ports.specs.Exchanges.{Exchange, exchange_of}
 use Rattle.ports.specs.Talking.{Talk, TalkState, told, shard_once, frames_put, Asked, IsOfCut, IsInStep}
 use Rattle.ports.specs.Wires.{WireState, last_ask, IsCalm, WentOn, WireCause}
 use Rattle.ports.proofs.Asking.{step_more, honest_answer, blameless}
@@ -64,25 +65,24 @@ module _ {L : Type 0} (state : L → LineState) where
   }
 
   -- one that is open is calm
-  pub calm_open : (kind : PortFault → Type 0) (wire : WireState L) (ends : ℕ) → wire.is_open ≡ true → WentOn state kind wire ends
-      → (said : List FrameValue) × (answers : List AnswerValue) × IsCalm state ends wire said answers
-  calm_open kind wire ends live went = elim went [
+  pub calm_open : (kind : PortFault → Type 0) (wire : WireState L) (ends : ℕ) (exchanges : List Exchange) → wire.is_open ≡ true → WentOn state kind wire ends exchanges
+      → (said : List FrameValue) × IsCalm state ends wire said exchanges
+  calm_open kind wire ends exchanges live went = elim went [
     | inl calm ↦ calm
     | inr failed ↦ cc
   ]
 
   -- one that is shut stays what it was
-  pub went_shut : (kind : PortFault → Type 0) (wire : WireState L) (ends : ℕ) → WentOn state kind wire ends → WentOn state kind (record wire { is_open = false }) ends
-  went_shut kind wire ends went = elim went [
-    | inl on ↦ let calm = on.2 in
-        inl (on.0, on.1, record { in_step = calm.in_step; ends_are = calm.ends_are; asks = calm.asks; failures = calm.failures; wants = calm.wants; last = calm.last })
+  pub went_shut : (kind : PortFault → Type 0) (wire : WireState L) (ends : ℕ) (exchanges : List Exchange) → WentOn state kind wire ends exchanges → WentOn state kind (record wire { is_open = false }) ends exchanges
+  went_shut kind wire ends exchanges went = elim went [
+    | inl on ↦ let calm = on.1 in
+        inl (on.0, record { in_step = calm.in_step; ends_are = calm.ends_are; asks = calm.asks; failures = calm.failures; wants = calm.wants; last = calm.last })
     | inr off ↦ let failed = off.1 in
         inr (
           refl,
           record {
             before = failed.before;
             said = failed.said;
-            answers = failed.answers;
             calm = failed.calm;
             was_open = failed.was_open;
             same_cut = failed.same_cut;
@@ -104,17 +104,17 @@ module _ {L : Type 0} (state : L → LineState) where
   module _ (round shard : ℕ) (labels : List ℕ) (old new : WireState L) (in_cut : shard < length old.talk.cut) (live : old.is_open ≡ true) (asks : new.asks ≡ old.asks + 1) (last : new.last ≡ (round, shard)) where
     -- it was answered
     module _ (is : IsShard shard (links_at old.talk.cut shard)) (ask : IsAsk round shard labels) (a : AnswerValue) (asked : Asked round shard labels a (told state old.talk) (told state new.talk)) where
-      pub answered : (kind kind' : PortFault → Type 0) (ends : ℕ) → new.failures ≡ old.failures → new.wants ≡ old.wants → WentOn state kind old ends → WentOn state kind' new ends
-      answered kind kind' ends failures wants went =
-          let (said, answers, calm) = calm_open kind old ends live went in
+      pub answered : (kind kind' : PortFault → Type 0) (ends : ℕ) (exchanges : List Exchange) → new.failures ≡ old.failures → new.wants ≡ old.wants → WentOn state kind old ends exchanges
+          → WentOn state kind' new ends (exchanges ++ exchange_of round shard labels a ∷ [])
+      answered kind kind' ends exchanges failures wants went =
+          let (said, calm) = calm_open kind old ends exchanges live went in
           let first : List FrameValue = shard_once (has_shard old.talk.sent shard) shard (links_at old.talk.cut shard) in
           inl (
             said ++ frames_put (told state old.talk) round shard labels,
-            answers ++ a ∷ [],
             record {
-              in_step = step_more round shard labels a (told state old.talk) (told state new.talk) asked in_cut is ask said answers calm.in_step;
+              in_step = step_more round shard labels a (told state old.talk) (told state new.talk) asked in_cut is ask said exchanges calm.in_step;
               ends_are = omega (arith, asked.brought.ends, calm.ends_are);
-              asks = omega (arith, asks, calm.asks, length-append answers (a ∷ []));
+              asks = omega (arith, asks, calm.asks, length-append exchanges (exchange_of round shard labels a ∷ []));
               failures = failures ∙ calm.failures;
               wants = wants ∙ calm.wants;
               last = last ∙ sym (ap (last_ask (0, 0)) (sym (append_assoc said first (AskFrame round shard labels ∷ []))) ∙ last_put (0, 0) (said ++ first) round shard labels);
@@ -123,10 +123,10 @@ module _ {L : Type 0} (state : L → LineState) where
 
     -- it wasn't
     module _ (fault : PortFault) (cause : WireCause state fault round shard labels old new) where
-      pub failed : (kind kind' : PortFault → Type 0) (ends : ℕ) → kind' fault → new.is_open ≡ false → new.talk.cut ≡ old.talk.cut → new.talk.worker ≡ old.talk.worker
-          → new.failures ≡ old.failures + failure_of fault → new.wants ≡ old.wants + want_of fault → WentOn state kind old ends → WentOn state kind' new ends
-      failed kind kind' ends is_kind closed cut worker failures wants went =
-          let (said, answers, calm) = calm_open kind old ends live went in
+      pub failed : (kind kind' : PortFault → Type 0) (ends : ℕ) (exchanges : List Exchange) → kind' fault → new.is_open ≡ false → new.talk.cut ≡ old.talk.cut → new.talk.worker ≡ old.talk.worker
+          → new.failures ≡ old.failures + failure_of fault → new.wants ≡ old.wants + want_of fault → WentOn state kind old ends exchanges → WentOn state kind' new ends exchanges
+      failed kind kind' ends exchanges is_kind closed cut worker failures wants went =
+          let (said, calm) = calm_open kind old ends exchanges live went in
           let round_is : round ≡ new.last.0 = ap (λ (p : ℕ × ℕ). p.0) (sym last) in
           let shard_is : shard ≡ new.last.1 = ap (λ (p : ℕ × ℕ). p.1) (sym last) in
           inr (
@@ -134,7 +134,6 @@ module _ {L : Type 0} (state : L → LineState) where
             record {
               before = old;
               said = said;
-              answers = answers;
               calm = calm;
               was_open = live;
               same_cut = cut;
@@ -155,20 +154,22 @@ module _ {L : Type 0} (state : L → LineState) where
   module _ (round shard : ℕ) (labels : List ℕ) (old : WireState L) (new : TalkState L) (in_cut : shard < length old.talk.cut) (live : old.is_open ≡ true) (is : IsShard shard (links_at old.talk.cut shard)) (ask : IsAsk round shard labels)
       (below : old.talk.worker < MAX_WORKERS) (kind : PortFault → Type 0) where
     -- what the line told by the end of the ask is enough
-    pub served_answer : (a : AnswerValue) → Asked round shard labels a (told state old.talk) (told state new) → (ends : ℕ) → WentOn state kind old ends → ServesSoFar old.talk.worker (state new.line)
+    pub served_answer : (a : AnswerValue) → Asked round shard labels a (told state old.talk) (told state new) → (ends : ℕ) (exchanges : List Exchange) → WentOn state kind old ends exchanges → ServesSoFar old.talk.worker (state new.line)
         → IsHonestAnswer old.talk.cut round shard labels a
-    served_answer a asked ends went serves =
-        let (said, answers, calm) = calm_open kind old ends live went in
-        honest_answer round shard labels (told state old.talk) (told state new) said answers calm.in_step below serves in_cut is ask a asked
+    served_answer a asked ends exchanges went serves =
+        let (said, calm) = calm_open kind old ends exchanges live went in
+        honest_answer round shard labels (told state old.talk) (told state new) said exchanges calm.in_step below serves in_cut is ask a asked
 
-    module _ (line line' : ℕ → Type 0) (kept : (w : ℕ) → line w → line' w) (serves : (w : ℕ) → line' w → ServesSoFar w (state new.line)) (honest : line old.talk.worker × ((ends : ℕ) × WentOn state kind old ends)) where
+    module _ (line line' : ℕ → Type 0) (kept : (w : ℕ) → line w → line' w) (serves : (w : ℕ) → line' w → ServesSoFar w (state new.line)) (honest : line old.talk.worker × ((ends : ℕ) × (exchanges : List Exchange) × WentOn state kind old ends exchanges)) where
       pub light_answer : (a : AnswerValue) → Asked round shard labels a (told state old.talk) (told state new) → IsHonestAnswer old.talk.cut round shard labels a
       light_answer a asked =
-          let (carries, some) = honest in let (ends, went) = some in
-          served_answer a asked ends went (serves old.talk.worker (kept old.talk.worker carries))
+          let (carries, some) = honest in
+          let (ends, exchanges, went) = some in
+          served_answer a asked ends exchanges went (serves old.talk.worker (kept old.talk.worker carries))
 
       pub blameless_fault : (fault : PortFault) → EndsUpTo (length labels) (links_at old.talk.cut shard) → Cause fault round shard labels (told state old.talk) (told state new) → IsBlameless fault
       blameless_fault fault ends cause =
-          let (carries, some) = honest in let (found, went) = some in
-          let (said, answers, calm) = calm_open kind old found live went in
-          blameless round shard labels (told state old.talk) (told state new) said answers calm.in_step below (serves old.talk.worker (kept old.talk.worker carries)) in_cut is ask fault ends cause
+          let (carries, some) = honest in
+          let (found, exchanges, went) = some in
+          let (said, calm) = calm_open kind old found exchanges live went in
+          blameless round shard labels (told state old.talk) (told state new) said exchanges calm.in_step below (serves old.talk.worker (kept old.talk.worker carries)) in_cut is ask fault ends cause

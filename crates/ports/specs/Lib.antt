@@ -1,6 +1,7 @@
 pub mod Lines
 pub mod Testing
 pub mod Ports
+pub mod Exchanges
 pub mod Hearing
 pub mod Talking
 pub mod Causes

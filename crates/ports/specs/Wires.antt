@@ -3,9 +3,9 @@ use Rattle.std.specs.Prelude.{◌≡◌, ◌≢◌, ℕ, ◌+◌, ◌<◌, ◌�
 use Rattle.limits.specs.declared.TheConstants.{MAX_WORKERS}
 use Rattle.link_key.specs.declared.links.Link.{Link}
 use Rattle.shard_set.specs.Shards.{has_shard}
-use Rattle.frames.specs.AnswerValue.{AnswerValue}
 use Rattle.frames.specs.FrameValue.{FrameValue, AskFrame}
 use Rattle.ports.specs.Lines.{LineState, HasRoom}
+use Rattle.ports.specs.Exchanges.{Exchange, answers_of}
 use Rattle.ports.specs.Ports.{PortState, failure_of, want_of}
 use Rattle.ports.specs.Talking.{TalkState, told, HasGiven, IsInStep}
 use Rattle.ports.specs.declared.fault.PortFault.{PortFault}
@@ -46,9 +46,9 @@ port_of wire = record { cut = wire.talk.cut; worker = wire.talk.worker; is_open 
 
 -- ---- by what its line tells of itself
 
--- it gave these answers
-abbrev pub WireGave : {L : Type 0} → (L → LineState) → WireState L → List AnswerValue → Type 0
-WireGave state wire answers = HasGiven (told state wire.talk) answers
+-- its line got just the answers of these exchanges
+abbrev pub WireExchanged : {L : Type 0} → (L → LineState) → WireState L → List Exchange → Type 0
+WireExchanged state wire exchanges = HasGiven (told state wire.talk) (answers_of exchanges)
 
 -- why one of its asks gave no answer
 abbrev pub WireCause : {L : Type 0} → (L → LineState) → PortFault → (round shard : ℕ) → List ℕ → WireState L → WireState L → Type 0
@@ -60,21 +60,20 @@ last_ask last [] = last
 last_ask last (AskFrame round shard labels ∷ frames) = last_ask (round, shard) frames
 last_ask last (v ∷ frames) = last_ask last frames
 
--- over a line that was fresh and had found so many ends: nothing failed, and no more ends were found; just these frames were sent, shards of its cut, none twice, and asks; and the hello and just these answers were got, one for each ask that it counts
-pub record IsCalm {L : Type 0} (state : L → LineState) (ends : ℕ) (wire : WireState L) (said : List FrameValue) (answers : List AnswerValue) : Type 0 where
-  pub in_step : IsInStep (told state wire.talk) said answers
+-- over a line that was fresh and had found so many ends: nothing failed, and no more ends were found; just these frames were sent, shards of its cut, none twice, and the asks of the exchanges; and the hello and just the answers of the exchanges were got, one for each ask that it counts
+pub record IsCalm {L : Type 0} (state : L → LineState) (ends : ℕ) (wire : WireState L) (said : List FrameValue) (exchanges : List Exchange) : Type 0 where
+  pub in_step : IsInStep (told state wire.talk) said exchanges
   pub ends_are : (state wire.talk.line).ends ≡ ends
-  pub asks : wire.asks ≡ length answers
+  pub asks : wire.asks ≡ length exchanges
   pub failures : wire.failures ≡ 0
   pub wants : wire.wants ≡ 0
   pub last : wire.last ≡ last_ask (0, 0) said
 
--- its last ask, the first that got no answer, ended with a fault of this kind: why, by the wire before that ask, calm and open, and the wire behind it
-pub record HasFailed {L : Type 0} (state : L → LineState) (ends : ℕ) (kind : PortFault → Type 0) (wire : WireState L) : Type 0 where
+-- its last ask, the first that got no answer and behind these exchanges, ended with a fault of this kind: why, by the wire before that ask, calm and open, and the wire behind it
+pub record HasFailed {L : Type 0} (state : L → LineState) (ends : ℕ) (exchanges : List Exchange) (kind : PortFault → Type 0) (wire : WireState L) : Type 0 where
   pub before : WireState L
   pub said : List FrameValue
-  pub answers : List AnswerValue
-  pub calm : IsCalm state ends before said answers
+  pub calm : IsCalm state ends before said exchanges
   pub was_open : before.is_open ≡ true
   pub same_cut : wire.talk.cut ≡ before.talk.cut
   pub same_worker : wire.talk.worker ≡ before.talk.worker
@@ -87,14 +86,14 @@ pub record HasFailed {L : Type 0} (state : L → LineState) (ends : ℕ) (kind :
   pub failures : wire.failures ≡ failure_of fault
   pub wants : wire.wants ≡ want_of fault
 
--- over a line that had found so many ends it is calm, open or shut; or a fault of this kind closed it
-abbrev pub WentOn : {L : Type 0} → (L → LineState) → (PortFault → Type 0) → WireState L → ℕ → Type 0
-WentOn state kind wire ends = ((said : List FrameValue) × (answers : List AnswerValue) × IsCalm state ends wire said answers) ⊎ ((wire.is_open ≡ false) × HasFailed state ends kind wire)
+-- over a line that had found so many ends it answered just these exchanges, and is calm, open or shut; or a fault of this kind closed it
+abbrev pub WentOn : {L : Type 0} → (L → LineState) → (PortFault → Type 0) → WireState L → ℕ → List Exchange → Type 0
+WentOn state kind wire ends exchanges = ((said : List FrameValue) × IsCalm state ends wire said exchanges) ⊎ ((wire.is_open ≡ false) × HasFailed state ends exchanges kind wire)
 
--- what it told is true, over a line that had found so many ends when the wire was new: it is calm, or a fault closed it that has its cause
-abbrev pub IsSoundWire : {L : Type 0} → (L → LineState) → WireState L → ℕ → Type 0
-IsSoundWire state wire ends = WentOn state (λ fault. fault ≢ Closed) wire ends
+-- what it told is true, over a line that had found so many ends when the wire was new: it answered just these exchanges, and is calm, or a fault closed it that has its cause
+abbrev pub IsSoundWire : {L : Type 0} → (L → LineState) → WireState L → ℕ → List Exchange → Type 0
+IsSoundWire state wire ends exchanges = WentOn state (λ fault. fault ≢ Closed) wire ends exchanges
 
--- its line is faithful for its worker: it is calm, or a fault closed it that is nobody's blame. How many ends the line had found isn't told here: who asks that has the sound wire beside it
+-- its line is faithful for its worker: it is calm, or a fault closed it that is nobody's blame. How many ends the line had found, and what was exchanged, isn't told here: who asks that has the sound wire beside it
 abbrev pub IsHonestWire : {L : Type 0} → (L → LineState) → (L → ℕ → Type 0) → WireState L → Type 0
-IsHonestWire state faithful wire = faithful wire.talk.line wire.talk.worker × ((ends : ℕ) × WentOn state IsBlameless wire ends)
+IsHonestWire state faithful wire = faithful wire.talk.line wire.talk.worker × ((ends : ℕ) × (exchanges : List Exchange) × WentOn state IsBlameless wire ends exchanges)

@@ -11,11 +11,11 @@
 //!   the frame that it waited for. In an ask that found no memory the line neither failed nor ended, and the
 //!   bytes are those up to the frame that memory was wanting for.
 //! - An ask that is answered sent the ask alone, and before it the shard where no ask sent it before.
-//! - An open wire over a line that was fresh, and tells its bytes, sent shards of its cut, none twice, and one
-//!   ask for each answer, and nothing else; it got the worker's hello and these answers, and nothing else,
-//!   and found no end.
+//! - An open wire over a line that was fresh, and tells its bytes, sent shards of its cut, none twice, and the
+//!   asks of its exchanges, in their order, and nothing else; it got the worker's hello and the answers of the
+//!   exchanges, and nothing else, and found no end.
 //! - Closed, such a wire was shut, and stands as it did; or its last ask failed, and the wire tells why, by the
-//!   open wire before that ask: its counts rose by that ask and that fault alone.
+//!   open wire before that ask, which had the same exchanges: its counts rose by that ask and that fault alone.
 //!
 //! ```text
 //!     Port::ask, shut, is_open, asks        what rounds ask
@@ -35,9 +35,9 @@
 //! of faith. They are public and stand here because the tests of each crate above need such lines.
 //!
 //! Where to start a change: `line` and `specs/Lines` for what a line tells; `port` and `specs/Ports` for what
-//! a port does; `steps` and `specs/Causes` for a new fault or step; `specs/Talking` for what a wire said and
-//! heard; `session` for the engine in memory. `proofs/Asking` has the one proof of weight: what a faithful
-//! line answers to an ask.
+//! a port does, and `specs/Exchanges` for what it was asked and answered; `steps` and `specs/Causes` for a
+//! new fault or step; `specs/Talking` for what a wire said and heard; `session` for the engine in memory.
+//! `proofs/Asking` has the one proof of weight: what a faithful line answers to an ask.
 #![tactic(auto)]
 
 mod engine_line;

@@ -1,8 +1,8 @@
 //! Whom a shard is asked of.
-ghost use Rattle.std.specs.Prelude.{◌≡◌, ℕ, ◌+◌, ◌-◌, ◌<◌, ◌≤◌, ◌^◌, List, [], ◌∷◌, ◌++◌, length, false, IfOk};
+ghost use Rattle.std.specs.Prelude.{◌≡◌, ℕ, ◌+◌, ◌-◌, ◌<◌, ◌≤◌, ◌^◌, List, [], ◌∷◌, ◌++◌, length, false, IfOk, OnErr};
 ghost use Rattle.link_key.specs.Link.{EndsUpTo};
 ghost use Rattle.link_key.specs.Cut.{links_at};
-ghost use Rattle.frames.specs.AnswerValue.{AnswerValue};
+ghost use Rattle.ports.specs.Exchanges.{Exchange, exchange_of};
 ghost use Rattle.ports.specs.Ports.{PortState, PortWent, AskWent, IsHonestAnswer};
 
 use crate::fault::PortFault;
@@ -19,8 +19,8 @@ use std::alloc::Allocator;
 /// that it asks, where it asks one, and never changes it.
 ///
 /// It is honest where each answer that it gives names the round and the shard that were asked, with the
-/// light offers of that shard under the labels that were asked. Where it tells the answers that it gave
-/// while it was open, they are a list, and each answer comes last.
+/// light offers of that shard under the labels that were asked. Where it tells the asks that it answered
+/// while it was open, they are a list with their answers, and each comes last.
 pub trait Port<A: Allocator> {
     // What the port tells.
     ghost state: { Self → PortState };
@@ -28,13 +28,14 @@ pub trait Port<A: Allocator> {
     // Each answer that it gives is an honest one.
     ghost honest: { Self → Type 0 };
 
-    // These are the answers that it gave, in their order, where it tells them.
-    ghost gave: { Self → List AnswerValue → Type 0 };
+    // These are the asks that it answered while it was open, with their answers, in their order, where it tells them.
+    ghost exchanged: { Self → List Exchange → Type 0 };
 
-    // Nothing went out or came in but its asks and their answers, and no end was found, up to the ask whose fault closed
-    // it, and that fault has its cause, where it tells that. The number is that of the ends which its line had found before
-    // its first ask; a port without a line tells what fits.
-    ghost sound: { Self → ℕ → Type 0 };
+    // Nothing went out or came in but its asks and their answers, and no end was found, up to the ask whose fault
+    // closed it, and that fault has its cause, where it tells that. The number is that of the ends which its line had
+    // found before its first ask; a port without a line tells what fits. The exchanges are all asks that were
+    // answered, in their order, also where a later one closed it by a fault.
+    ghost sound: { Self → ℕ → List Exchange → Type 0 };
 
     /// Asks for the offers of a shard in a round under the labels of all vertices. It may wait for the
     /// answer.
@@ -50,22 +51,26 @@ pub trait Port<A: Allocator> {
         ensures honest_answer { IfOk result
             (λ a. honest self.old → IsHonestAnswer (state self.old).cut round shard labels.now a) }
 
-        // The answer comes behind those that were given before; a closed port gives none.
-        ensures gave { IfOk result
-            (λ a. (before : List AnswerValue) → gave self.old before → gave self.new (before ++ a ∷ [])) }
+        // The ask and its answer come behind those before; a closed port answers none.
+        ensures exchanged { IfOk result (λ a. (before : List Exchange) → exchanged self.old before
+            → exchanged self.new (before ++ exchange_of round shard labels.now a ∷ [])) }
         ensures silent { (state self.old).is_open ≡ false
-            → (answers : List AnswerValue) → gave self.old answers → gave self.new answers }
+            → (exchanges : List Exchange) → exchanged self.old exchanges → exchanged self.new exchanges }
 
         ensures honest { honest self.old → honest self.new }
-        ensures sound { (ends : ℕ) → sound self.old ends → sound self.new ends };
+        ensures sound { IfOk result (λ a. (ends : ℕ) (before : List Exchange) → sound self.old ends before
+            → sound self.new ends (before ++ exchange_of round shard labels.now a ∷ [])) }
+        ensures sound_fault { OnErr result
+            ((ends : ℕ) (exchanges : List Exchange) → sound self.old ends exchanges → sound self.new ends exchanges) };
 
     /// Closes it for good. It waits for nothing, and takes no memory.
     fn shut(&mut self)
         ensures shut { (state self.new).is_open ≡ false }
         ensures went { PortWent 0 0 0 (state self.old) (state self.new) }
-        ensures gave { (answers : List AnswerValue) → gave self.old answers → gave self.new answers }
+        ensures exchanged { (exchanges : List Exchange) → exchanged self.old exchanges → exchanged self.new exchanges }
         ensures honest { honest self.old → honest self.new }
-        ensures sound { (ends : ℕ) → sound self.old ends → sound self.new ends };
+        ensures sound { (ends : ℕ) (exchanges : List Exchange) → sound self.old ends exchanges
+            → sound self.new ends exchanges };
 
     /// Whether it is open.
     fn is_open(&self) -> bool

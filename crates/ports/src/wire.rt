@@ -1,13 +1,13 @@
 //! A port over a line.
-ghost use Rattle.std.specs.Prelude.{◌≡◌, ℕ, ◌+◌, ◌-◌, ◌<◌, ◌≤◌, ◌^◌, true, false, List, [], ◌∷◌, ◌++◌, length, IfOk, IfErr};
+ghost use Rattle.std.specs.Prelude.{◌≡◌, ℕ, ◌+◌, ◌-◌, ◌<◌, ◌≤◌, ◌^◌, true, false, List, [], ◌∷◌, ◌++◌, length, IfOk, IfErr, OnErr};
 ghost use Rattle.link_key.specs.Link.{EndsUpTo};
 ghost use Rattle.link_key.specs.Cut.{links_at};
-ghost use Rattle.frames.specs.AnswerValue.{AnswerValue};
 ghost use Rattle.ports.specs.Lines.{HasRoom, IsFresh, Tells, ServesSoFar};
+ghost use Rattle.ports.specs.Exchanges.{Exchange, exchange_of};
 ghost use Rattle.ports.specs.Ports.{PortWent, AskWent, IsHonestAnswer, failure_of, want_of};
 ghost use Rattle.ports.specs.Causes.{IsBlameless};
 ghost use Rattle.ports.specs.Talking.{told, Asked};
-ghost use Rattle.ports.specs.Wires.{port_of, IsNewWire, IsSoundWire, IsHonestWire, WireGave, WireCause};
+ghost use Rattle.ports.specs.Wires.{port_of, IsNewWire, IsSoundWire, IsHonestWire, WireExchanged, WireCause};
 
 use crate::fault::PortFault;
 use crate::heard::Heard;
@@ -57,7 +57,7 @@ impl<'a, L: Line, A: Allocator + Copy> Wire<'a, L, A> {
 
         // Over a fresh line that tells its bytes it is sound, and over one that is faithful for the worker honest.
         ensures sound { IsFresh (L.state line) → Tells (L.state line)
-            → IsSoundWire L.state result (L.state line).ends }
+            → IsSoundWire L.state result (L.state line).ends [] }
         ensures honest { IsFresh (L.state line) → Tells (L.state line) → L.faithful line worker
             → IsHonestWire L.state L.faithful result }
     {
@@ -94,7 +94,7 @@ impl<'a, L: Line, A: Allocator + Copy> Port<A> for Wire<'a, L, A> {
 
     ghost honest = { λ w. IsHonestWire L.state L.faithful w };
 
-    ghost gave = { λ w. WireGave L.state w };
+    ghost exchanged = { λ w. WireExchanged L.state w };
 
     ghost sound = { λ w. IsSoundWire L.state w };
 
@@ -107,12 +107,15 @@ impl<'a, L: Line, A: Allocator + Copy> Port<A> for Wire<'a, L, A> {
         ensures went { AskWent result round shard (port_of self.old) (port_of self.new) }
         ensures honest_answer { IfOk result (λ a. IsHonestWire L.state L.faithful self.old
             → IsHonestAnswer self.old.talk.cut round shard labels.now a) }
-        ensures gave { IfOk result (λ a. (before : List AnswerValue)
-            → WireGave L.state self.old before → WireGave L.state self.new (before ++ a ∷ [])) }
-        ensures silent { self.old.is_open ≡ false → (answers : List AnswerValue)
-            → WireGave L.state self.old answers → WireGave L.state self.new answers }
+        ensures exchanged { IfOk result (λ a. (before : List Exchange) → WireExchanged L.state self.old before
+            → WireExchanged L.state self.new (before ++ exchange_of round shard labels.now a ∷ [])) }
+        ensures silent { self.old.is_open ≡ false → (exchanges : List Exchange)
+            → WireExchanged L.state self.old exchanges → WireExchanged L.state self.new exchanges }
         ensures honest { IsHonestWire L.state L.faithful self.old → IsHonestWire L.state L.faithful self.new }
-        ensures sound { (ends : ℕ) → IsSoundWire L.state self.old ends → IsSoundWire L.state self.new ends }
+        ensures sound { IfOk result (λ a. (ends : ℕ) (before : List Exchange) → IsSoundWire L.state self.old ends before
+            → IsSoundWire L.state self.new ends (before ++ exchange_of round shard labels.now a ∷ [])) }
+        ensures sound_fault { OnErr result ((ends : ℕ) (exchanges : List Exchange)
+            → IsSoundWire L.state self.old ends exchanges → IsSoundWire L.state self.new ends exchanges) }
 
         // An answer: which frames were sent for it, which bytes came, and which shards are sent by now.
         ensures asked { IfOk result (λ a. Asked round shard labels.now a
@@ -120,7 +123,8 @@ impl<'a, L: Line, A: Allocator + Copy> Port<A> for Wire<'a, L, A> {
 
         // Over a line that tells its bytes, known to be faithful or not: where what came by now begins what the
         // worker may write, the answer is honest.
-        ensures served { IfOk result (λ a. (ends : ℕ) → IsSoundWire L.state self.old ends
+        ensures served { IfOk result (λ a. (ends : ℕ) (exchanges : List Exchange)
+            → IsSoundWire L.state self.old ends exchanges
             → ServesSoFar self.old.talk.worker (L.state self.new.talk.line)
             → IsHonestAnswer self.old.talk.cut round shard labels.now a) }
 
@@ -154,10 +158,11 @@ impl<'a, L: Line, A: Allocator + Copy> Port<A> for Wire<'a, L, A> {
     fn shut(&mut self)
         ensures shut { self.new.is_open ≡ false }
         ensures went { PortWent 0 0 0 (port_of self.old) (port_of self.new) }
-        ensures gave { (answers : List AnswerValue)
-            → WireGave L.state self.old answers → WireGave L.state self.new answers }
+        ensures exchanged { (exchanges : List Exchange)
+            → WireExchanged L.state self.old exchanges → WireExchanged L.state self.new exchanges }
         ensures honest { IsHonestWire L.state L.faithful self.old → IsHonestWire L.state L.faithful self.new }
-        ensures sound { (ends : ℕ) → IsSoundWire L.state self.old ends → IsSoundWire L.state self.new ends }
+        ensures sound { (ends : ℕ) (exchanges : List Exchange)
+            → IsSoundWire L.state self.old ends exchanges → IsSoundWire L.state self.new ends exchanges }
 
         // Nothing else changes: the line is as it was.
         ensures talk { self.new.talk ≡ self.old.talk }

@@ -1,12 +1,12 @@
 use Rattle.std.proofs.Common.{◌≡◌, ◌≤◌, true, vec_len}
 use Rattle.std.specs.Prelude.{All, vec_capacity}
 use Rattle.claim_board.specs.Machine.{held}
-use Rattle.forest_run.specs.Asks.{AsksWent, IsClosing, IsTaken, IsLight, shards_of}
+use Rattle.forest_run.specs.Asks.{AsksWent, IsKept, IsClosing, IsTaken, IsLight, shards_of}
 use Rattle.forest_run.proofs.ferry.go_round.Given as goal
 
 abbrev pub invariant-loop-step : goal.invariant-loop-step
 invariant-loop-step g l = record {
-  asked : AsksWent g.P.Port.state g.P.Port.honest g.P.Port.sound g.P.Port.gave (IsClosing l.book) l.fn.port l.port l.kept.items;
+  asked : AsksWent g.P.Port.state g.P.Port.honest g.P.Port.sound g.P.Port.exchanged (IsKept l.book) (IsClosing l.book) l.fn.port l.port l.kept.items;
   opened : (g.P.Port.state l.port).is_open ≡ true;
   board : l.seat.board ≡ l.fn.seat.board;
   number : l.seat.number ≡ l.fn.seat.number;

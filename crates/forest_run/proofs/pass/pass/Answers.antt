@@ -5,7 +5,7 @@ use Rattle.forest_run.proofs.Lasting.{room_same, room_idle, same_bound}
 use Rattle.forest_run.proofs.pass.pass.Goals as goal
 
 pub returns-in_err-make_room-clause-went : goal.returns-in_err-make_room-clause-went
-returns-in_err-make_room-clause-went g c = passed_none g.P.Port.state g.P.Port.honest g.P.Port.sound g.P.Port.gave c.args.book.now _ _ (room_same _ _ c.make_room.ensures.lanes)
+returns-in_err-make_room-clause-went g c = passed_none g.P.Port.state g.P.Port.honest g.P.Port.sound g.P.Port.exchanged c.args.book.now _ _ (room_same _ _ c.make_room.ensures.lanes)
 
 pub returns-in_err-make_room-clause-idle : goal.returns-in_err-make_room-clause-idle
 returns-in_err-make_room-clause-idle g c = room_idle c.args.lanes.now c.make_room.new.lanes c.make_room.ensures.lanes c.requires.idle
@@ -19,7 +19,7 @@ open-requires-clause-seats g c =
     (omega arith, omega arith)
 
 pub returns-in_default-clause-went : goal.returns-in_default-clause-went
-returns-in_default-clause-went g c = passed_none g.P.Port.state g.P.Port.honest g.P.Port.sound g.P.Port.gave c.args.book.now _ _ (room_same _ _ c.make_room.ensures.lanes)
+returns-in_default-clause-went g c = passed_none g.P.Port.state g.P.Port.honest g.P.Port.sound g.P.Port.exchanged c.args.book.now _ _ (room_same _ _ c.make_room.ensures.lanes)
 
 pub returns-in_default-clause-idle : goal.returns-in_default-clause-idle
 returns-in_default-clause-idle g c = room_idle c.args.lanes.now c.make_room.new.lanes c.make_room.ensures.lanes c.requires.idle
@@ -33,5 +33,5 @@ ride-requires-clause-idle g c κs within = room_idle c.args.lanes.now c.make_roo
 
 pub returns-clause-went : goal.returns-clause-went
 returns-clause-went g c =
-    passed_then g.P.Port.state g.P.Port.honest g.P.Port.sound g.P.Port.gave c.args.book.now c.args.book.now c.ride.new.book c.args.lanes.now c.make_room.new.lanes c.ride.new.lanes
-    (passed_none g.P.Port.state g.P.Port.honest g.P.Port.sound g.P.Port.gave c.args.book.now _ _ (room_same _ _ c.make_room.ensures.lanes)) c.ride.ensures.went
+    passed_then g.P.Port.state g.P.Port.honest g.P.Port.sound g.P.Port.exchanged c.args.book.now c.args.book.now c.ride.new.book c.args.lanes.now c.make_room.new.lanes c.ride.new.lanes
+    (passed_none g.P.Port.state g.P.Port.honest g.P.Port.sound g.P.Port.exchanged c.args.book.now _ _ (room_same _ _ c.make_room.ensures.lanes)) c.ride.ensures.went

@@ -7,25 +7,25 @@ use Rattle.forest_run.proofs.round.ask_all.Goals as goal
 pub loop-init : goal.loop-init
 loop-init g c = record {
   went =
-      passed_none g.P.Port.state g.P.Port.honest g.P.Port.sound g.P.Port.gave c.args.book.now c.args.lanes.now c.args.lanes.now
+      passed_none g.P.Port.state g.P.Port.honest g.P.Port.sound g.P.Port.exchanged c.args.book.now c.args.lanes.now c.args.lanes.now
       (each_refl SamePort c.args.lanes.now (λ x. record { port = refl }));
   idle = c.requires.idle;
 }
 
 pub pass-requires-clause-round : goal.pass-requires-clause-round
 pass-requires-clause-round g c κs within =
-    round_stays g.P.Port.state g.P.Port.honest g.P.Port.sound g.P.Port.gave c.args.book.now _ c.args.labels.now c.args.lanes.now _ c.loop.invariant.went c.requires.round
+    round_stays g.P.Port.state g.P.Port.honest g.P.Port.sound g.P.Port.exchanged c.args.book.now _ c.args.labels.now c.args.lanes.now _ c.loop.invariant.went c.requires.round
 
 pub pass-requires-clause-bound : goal.pass-requires-clause-bound
 pass-requires-clause-bound g c κs within =
-    bound_stays g.P.Port.state g.P.Port.honest g.P.Port.sound g.P.Port.gave c.args.book.now _ c.args.labels.now c.args.lanes.now _ c.loop.invariant.went c.requires.round c.requires.wide
+    bound_stays g.P.Port.state g.P.Port.honest g.P.Port.sound g.P.Port.exchanged c.args.book.now _ c.args.labels.now c.args.lanes.now _ c.loop.invariant.went c.requires.round c.requires.wide
 
 pub loop-preserved : goal.loop-preserved
 loop-preserved g c = record {
-  went = passed_then g.P.Port.state g.P.Port.honest g.P.Port.sound g.P.Port.gave c.args.book.now _ _ c.args.lanes.now _ _ c.loop.invariant.went c.pass.ensures.went;
+  went = passed_then g.P.Port.state g.P.Port.honest g.P.Port.sound g.P.Port.exchanged c.args.book.now _ _ c.args.lanes.now _ _ c.loop.invariant.went c.pass.ensures.went;
   idle = c.pass.ensures.idle;
 }
 
 pub returns-in_err-pass-clause-went : goal.returns-in_err-pass-clause-went
 returns-in_err-pass-clause-went g c =
-    passed_then g.P.Port.state g.P.Port.honest g.P.Port.sound g.P.Port.gave c.args.book.now _ _ c.args.lanes.now _ _ c.loop.invariant.went c.pass.ensures.went
+    passed_then g.P.Port.state g.P.Port.honest g.P.Port.sound g.P.Port.exchanged c.args.book.now _ _ c.args.lanes.now _ _ c.loop.invariant.went c.pass.ensures.went

@@ -5,6 +5,6 @@ use Rattle.forest_run.proofs.round.ask_all.Given as goal
 
 abbrev pub invariant-loop : goal.invariant-loop
 invariant-loop g l = record {
-  went : PassWent g.P.Port.state g.P.Port.honest g.P.Port.sound g.P.Port.gave l.fn.book l.book l.fn.lanes l.lanes;
+  went : PassWent g.P.Port.state g.P.Port.honest g.P.Port.sound g.P.Port.exchanged l.fn.book l.book l.fn.lanes l.lanes;
   idle : All IsIdle l.lanes;
 }

@@ -11,7 +11,7 @@ use Rattle.forest_run.proofs.round.round_picks.Goals as goal
 pub returns-in_err-book-clause-asked : goal.returns-in_err-book-clause-asked
 returns-in_err-book-clause-asked g c =
     let page = opened c.args.round c.args.cut.now c.args.labels.now in
-    (page, passed_none g.P.Port.state g.P.Port.honest g.P.Port.sound g.P.Port.gave page c.args.lanes.now c.args.lanes.now (each_refl SamePort c.args.lanes.now (λ x. record { port = refl })))
+    (page, passed_none g.P.Port.state g.P.Port.honest g.P.Port.sound g.P.Port.exchanged page c.args.lanes.now c.args.lanes.now (each_refl SamePort c.args.lanes.now (λ x. record { port = refl })))
 
 pub whole_round-requires-clause-round : goal.whole_round-requires-clause-round
 whole_round-requires-clause-round g c κs within =
@@ -23,12 +23,12 @@ whole_round-requires-clause-wide g c κs within = rw c.in_ok-book.ensures.opened
 pub returns-clause-picked : goal.returns-clause-picked
 returns-clause-picked g c =
     let book = c.whole_round.new.book in
-    let went : RoundWent g.P.Port.state g.P.Port.honest g.P.Port.sound g.P.Port.gave (opened c.args.round c.args.cut.now c.args.labels.now) book c.args.lanes.now c.whole_round.new.lanes c.in_ok-alone.alone =
+    let went : RoundWent g.P.Port.state g.P.Port.honest g.P.Port.sound g.P.Port.exchanged (opened c.args.round c.args.cut.now c.args.labels.now) book c.args.lanes.now c.whole_round.new.lanes c.in_ok-alone.alone =
     rw c.in_ok-book.ensures.opened at c.in_ok-alone.ensures.went in
     record {
       book = book;
       went = went;
       page = c.close.ensures.page;
       picked = subst (λ (labels : List ℕ). ArePicks labels (IsNamed (hearings book)) c.close.result)
-          (same_still g.P.Port.state g.P.Port.honest g.P.Port.sound g.P.Port.gave c.args.round c.args.cut.now c.args.labels.now book c.args.lanes.now c.whole_round.new.lanes c.in_ok-alone.alone went).labels c.close.ensures.picks;
+          (same_still g.P.Port.state g.P.Port.honest g.P.Port.sound g.P.Port.exchanged c.args.round c.args.cut.now c.args.labels.now book c.args.lanes.now c.whole_round.new.lanes c.in_ok-alone.alone went).labels c.close.ensures.picks;
     }

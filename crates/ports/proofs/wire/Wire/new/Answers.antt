@@ -3,7 +3,7 @@ use Rattle.ports.proofs.Wiring.{fresh_calm}
 use Rattle.ports.proofs.wire.Wire.new.Goals as goal
 
 pub returns-clause-sound : goal.returns-clause-sound
-returns-clause-sound g c fresh tells = inl ([], [], fresh_calm g.L.Line.state _ _ fresh tells refl refl c.empty.ensures refl refl refl refl)
+returns-clause-sound g c fresh tells = inl ([], fresh_calm g.L.Line.state _ _ fresh tells refl refl c.empty.ensures refl refl refl refl)
 
 pub returns-clause-honest : goal.returns-clause-honest
-returns-clause-honest g c fresh tells faithful = (faithful, ((g.L.Line.state c.args.line).ends, inl ([], [], fresh_calm g.L.Line.state _ _ fresh tells refl refl c.empty.ensures refl refl refl refl)))
+returns-clause-honest g c fresh tells faithful = (faithful, ((g.L.Line.state c.args.line).ends, [], inl ([], fresh_calm g.L.Line.state _ _ fresh tells refl refl c.empty.ensures refl refl refl refl)))

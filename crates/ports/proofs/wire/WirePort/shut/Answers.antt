@@ -3,7 +3,7 @@ use Rattle.ports.proofs.Wiring.{went_shut}
 use Rattle.ports.proofs.wire.WirePort.shut.Goals as goal
 
 pub returns-clause-honest : goal.returns-clause-honest
-returns-clause-honest g c = rw (sym c.self.view_is) (λ honest. let (carries, some) = honest in let (ends, went) = some in (carries, (ends, went_shut g.L.Line.state _ _ ends went)))
+returns-clause-honest g c = rw (sym c.self.view_is) (λ honest. let (carries, some) = honest in let (ends, exchanges, went) = some in (carries, (ends, exchanges, went_shut g.L.Line.state _ _ ends exchanges went)))
 
 pub returns-clause-sound : goal.returns-clause-sound
-returns-clause-sound g c = rw (sym c.self.view_is) (λ ends. went_shut g.L.Line.state _ _ ends)
+returns-clause-sound g c = rw (sym c.self.view_is) (λ ends exchanges. went_shut g.L.Line.state _ _ ends exchanges)
