@@ -7,6 +7,7 @@ pub mod Tables
 pub mod Pieces
 pub mod OneForest
 pub mod Apart
+pub mod Coarser
 pub mod Rings
 pub mod WideKeys
 pub mod Spans

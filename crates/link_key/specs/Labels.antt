@@ -21,3 +21,9 @@ pub record AreLabels (labels : List ℕ) : Type 0 where
 pub record AreApart (n : ℕ) (labels : List ℕ) : Type 0 where
   pub vertices : length labels ≡ n
   pub itself : (v : ℕ) → 1 ≤ v → v ≤ n → label_of labels v ≡ v
+
+-- labels coarsen finer ones of the same vertices: vertices of one label in the finer ones have one label in them
+pub record Coarsens (labels finer : List ℕ) : Type 0 where
+  pub vertices : length labels ≡ length finer
+  pub together : (u v : ℕ) → 1 ≤ u → u ≤ length finer → 1 ≤ v → v ≤ length finer
+      → label_of finer u ≡ label_of finer v → label_of labels u ≡ label_of labels v

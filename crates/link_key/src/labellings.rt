@@ -1,5 +1,5 @@
 ghost use Rattle.std.specs.Prelude.{◌≡◌, ℕ, ◌+◌, ◌<◌, ◌≤◌, ◌^◌, ◌↔◌, length, slice_index, IsSome, IfSome, IfOk, IsTrue};
-ghost use Rattle.link_key.specs.Labels.{label_of, IsLabelled, AreLabels, AreApart};
+ghost use Rattle.link_key.specs.Labels.{label_of, IsLabelled, AreLabels, AreApart, Coarsens};
 
 use limits::MAX_VERTICES;
 use std::alloc::{AllocError, Allocator, Global};
@@ -89,9 +89,22 @@ impl<A: Allocator> Labels<A> {
     {
         self.labels.as_slice()
     }
+
+    /// Whether these labels coarsen `finer`: both are of the same number of vertices, and vertices of one label in `finer`
+    /// have one label in these. So the components of `finer` are whole parts of these ones; labels coarsen themselves.
+    ///
+    /// One pass over both, which takes no memory: O(n) time for n vertices, much less a vertex where both have the same
+    /// labels.
+    pub fn coarsens<B: Allocator>(&self, finer: &Labels<B>) -> bool
+        ensures { IsTrue result ↔ Coarsens self.now finer.now }
+    {
+        let labels = self.labels.as_slice();
+        let finer = finer.as_slice();
+        labels.len() == finer.len() && are_coarser(labels, finer)
+    }
 }
 
-// How many labels are compared with their vertices at once.
+// How many labels are compared at once.
 const PIECE: usize = 256;
 
 // Whether the list holds labels of the vertices 1, 2, .. in order. In a run's first round each vertex has its own,
@@ -174,4 +187,49 @@ fn is_labelled(labels: &[u32], v: usize) -> bool
     let label = labels[v - 1];
     let place = label.wrapping_sub(1) as usize;
     place < v && labels[place] == label
+}
+
+// Whether each vertex has the label of the vertex that labels it in the finer labels. Labels label themselves, so that
+// it is so where both labels of a vertex are one.
+fn are_coarser(labels: &[u32], finer: &[u32]) -> bool
+    requires vertices { length labels.now ≡ length finer.now }
+    requires labels { AreLabels labels.now }
+    requires finer { AreLabels finer.now }
+    ensures { IsTrue result ↔ Coarsens labels.now finer.now }
+{
+    for v in same_front(labels, finer) + 1..labels.len() + 1 {
+        if labels[v - 1] != labels[finer[v - 1] as usize - 1] {
+            return false;
+        }
+    }
+    true
+}
+
+// How many labels at the front are the same in both, by whole pieces.
+fn same_front(labels: &[u32], others: &[u32]) -> usize
+    requires few_vertices { length labels.now ≤ MAX_VERTICES }
+    requires vertices { length labels.now ≡ length others.now }
+    ensures front { result ≤ length labels.now }
+    ensures same { (v : ℕ) → 1 ≤ v → v ≤ result → label_of labels.now v ≡ label_of others.now v }
+{
+    let pieces = labels.len() / PIECE;
+    for i in 0..pieces {
+        let from = i * PIECE;
+        if !are_same(&labels[from..from + PIECE], &others[from..from + PIECE]) {
+            return from;
+        }
+    }
+    pieces * PIECE
+}
+
+// Whether both pieces have the same labels. It looks at all of them, so that they are compared many at a time.
+fn are_same(piece: &[u32], other: &[u32]) -> bool
+    requires { length piece.now ≡ length other.now }
+    ensures { IsTrue result → (k : ℕ) → k < length piece.now → slice_index piece.now k ≡ slice_index other.now k }
+{
+    let mut same = true;
+    for k in 0..piece.len() {
+        same &= piece[k] == other[k];
+    }
+    same
 }

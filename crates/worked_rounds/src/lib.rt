@@ -4,6 +4,7 @@
 //! ```text
 //!   cuts                         a list of links, cut into shards
 //!   board, shard_sets            claims of shards, by one seat and by many; sets of shards
+//!   labels                       labels that coarsen others
 //!   engine                       a worker's scan, what it hears, and whole sessions
 //!   refusals                     work whose allocations are refused in turn
 //!   memory_counts, memory_of_lists      which blocks of memory live after a call
@@ -16,6 +17,8 @@ mod board;
 mod cuts;
 #[cfg(test)]
 mod engine;
+#[cfg(test)]
+mod labels;
 #[cfg(test)]
 mod memory_counts;
 #[cfg(test)]
