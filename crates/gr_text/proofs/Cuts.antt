@@ -1,5 +1,5 @@
 -- The lines of a text when more of it comes.
-use Rattle.std.proofs.Common.{◌≡◌, ◌≢◌, ℕ, List, [], ◌∷◌, ◌++◌, refl, ap, sym, ◌∙◌, append_assoc, append-nil, ◌⊎◌, inl, inr}
+use Rattle.std.proofs.Common.{◌≡◌, ◌≢◌, ℕ, List, [], ◌∷◌, ◌++◌, refl, ap, sym, ◌∙◌, subst, append_assoc, append-nil, ◌⊎◌, inl, inr}
 use Rattle.std.specs.List.{AllByRecursion, flat_map}
 use Rattle.std.proofs.lemmas.Grind.{flat_map-append}
 use Rattle.std.proofs.lemmas.Bool.Decides.{eqb_tells}
@@ -9,12 +9,16 @@ use Rattle.gr_text.proofs.Steps.{AllByRecursion-push}
 pub EndsLines-none : EndsLines [] [] []
 EndsLines-none = record { whole = refl; each = tt; last = tt }
 
--- one more byte of a line
-pub EndsLines-byte : (text : List ℕ) (lines : List (List ℕ)) (part : List ℕ) (b : ℕ) → EndsLines text lines part → b ≢ line_feed → EndsLines (text ++ b ∷ []) lines (part ++ b ∷ [])
-EndsLines-byte text lines part b cut other = record {
-  whole = ap (λ (xs : List ℕ). xs ++ b ∷ []) cut.whole ∙ append_assoc (flat_map ended lines) part (b ∷ []);
+pub All-both : {X : Type 0} (P : X → Type 0) (xs ys : List X) → AllByRecursion P xs → AllByRecursion P ys → AllByRecursion P (xs ++ ys)
+All-both P [] ys px py = py
+All-both P (x ∷ xs) ys px py = (px.0, All-both P xs ys px.1 py)
+
+-- more bytes of a line
+pub EndsLines-bytes : (text : List ℕ) (lines : List (List ℕ)) (part more : List ℕ) → EndsLines text lines part → IsLine more → EndsLines (text ++ more) lines (part ++ more)
+EndsLines-bytes text lines part more cut is_line = record {
+  whole = ap (λ (xs : List ℕ). xs ++ more) cut.whole ∙ append_assoc (flat_map ended lines) part more;
   each = cut.each;
-  last = AllByRecursion-push (λ b. b ≢ line_feed) part b cut.last other;
+  last = All-both (λ b. b ≢ line_feed) part more cut.last is_line;
 }
 
 -- a line feed ends the line
@@ -27,9 +31,11 @@ EndsLines-feed text lines part cut = record {
   last = tt;
 }
 
-All-both : {X : Type 0} (P : X → Type 0) (xs ys : List X) → AllByRecursion P xs → AllByRecursion P ys → AllByRecursion P (xs ++ ys)
-All-both P [] ys px py = py
-All-both P (x ∷ xs) ys px py = (px.0, All-both P xs ys px.1 py)
+-- the rest of a line, and its line feed
+pub EndsLines-line : (text : List ℕ) (lines : List (List ℕ)) (part line : List ℕ) → EndsLines text lines part → IsLine line → EndsLines (text ++ ended line) (lines ++ (part ++ line) ∷ []) []
+EndsLines-line text lines part line cut is_line =
+    subst (λ (xs : List ℕ). EndsLines xs (lines ++ (part ++ line) ∷ []) []) (append_assoc text line (line_feed ∷ []))
+    (EndsLines-feed (text ++ line) lines (part ++ line) (EndsLines-bytes text lines part line cut is_line))
 
 -- whole lines, and then a text
 pub EndsLines-append : (s t : List ℕ) (ls ms : List (List ℕ)) (r : List ℕ) → EndsLines s ls [] → EndsLines t ms r → EndsLines (s ++ t) (ls ++ ms) r

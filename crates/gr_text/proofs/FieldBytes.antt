@@ -20,7 +20,7 @@ digits-more : (xs : List ℕ) (b : ℕ) → AllByRecursion IsDigit xs → IsDigi
 digits-more [] b all d = (d, tt)
 digits-more (x ∷ xs) b all d = (all.0, digits-more xs b all.1 d)
 
-fold-more : (xs : List ℕ) (a b : ℕ) → fold (λ n b. 10 * n + (b - 48)) a (xs ++ b ∷ []) ≡ 10 * fold (λ n b. 10 * n + (b - 48)) a xs + (b - 48)
+pub fold-more : (xs : List ℕ) (a b : ℕ) → fold (λ n b. 10 * n + (b - 48)) a (xs ++ b ∷ []) ≡ 10 * fold (λ n b. 10 * n + (b - 48)) a xs + (b - 48)
 fold-more [] a b = refl
 fold-more (x ∷ xs) a b = fold-more xs (10 * a + (x - 48)) b
 

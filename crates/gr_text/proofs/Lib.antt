@@ -6,6 +6,7 @@ pub mod Unique
 pub mod Broken
 pub mod Steps
 pub mod Parts
+pub mod PlainLines
 pub mod Faulty
 pub mod Cuts
 pub mod Standing

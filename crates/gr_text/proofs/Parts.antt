@@ -1,5 +1,5 @@
 -- What follows a part of a line may go on with the field that it ends in, or begin with a blank.
-use Rattle.std.proofs.Common.{◌≡◌, ℕ, List, [], ◌∷◌, ◌++◌, refl, ap, sym, ◌∙◌, subst, append_assoc, append-nil, true}
+use Rattle.std.proofs.Common.{◌≡◌, ℕ, List, [], ◌∷◌, ◌++◌, refl, ap, sym, ◌∙◌, subst, append_assoc, append-nil, true, false}
 use Rattle.gr_text.specs.Fields.{IsBlank, IsFieldByte, AreFields}
 use Rattle.gr_text.specs.Partial.{with_field, AreParts, is_begun}
 
@@ -51,3 +51,7 @@ AreParts-whole part fields last parts =
 pub is_begun-push : (part : List ℕ) (b : ℕ) → true ≡ is_begun (part ++ b ∷ [])
 is_begun-push [] b = refl
 is_begun-push (x ∷ part) b = refl
+
+pub not_begun : (part : List ℕ) → is_begun part ≡ false → part ≡ []
+not_begun [] none = refl
+not_begun (b ∷ part) none = absurd (cc)

@@ -1,8 +1,8 @@
 -- What was read of a text when more of it comes.
-use Rattle.std.proofs.Common.{◌≡◌, ◌≢◌, ℕ, ◌+◌, inl, inr, List, [], ◌∷◌, ◌++◌, ap, sym, ◌∙◌, arith, append_assoc, ◌<◌, length, take, drop, get_or, Option, Some, None}
-use Rattle.std.proofs.lemmas.List.{length_push, take_more, take-append-drop}
+use Rattle.std.proofs.Common.{◌≡◌, ℕ, ◌+◌, inl, inr, List, [], ◌∷◌, ◌++◌, ap, sym, ◌∙◌, arith, append_assoc, length, Option, Some, None}
+use Rattle.std.proofs.lemmas.List.{length_push}
 use Rattle.link_key.specs.declared.links.Link.{Link}
-use Rattle.gr_text.specs.Lines.{line_feed, EndsLines}
+use Rattle.gr_text.specs.Lines.{IsLine, ended, EndsLines}
 use Rattle.gr_text.specs.Graph.{AreLawfulSoFar}
 use Rattle.gr_text.specs.Reading.{Gives, IsLineFault}
 use Rattle.gr_text.specs.Partial.{IsKeptAs}
@@ -11,7 +11,7 @@ use Rattle.gr_text.specs.declared.faults.ReadFault.{ReadFault}
 use Rattle.gr_text.specs.declared.faults.ReadFault.TheVariants as fault
 use Rattle.gr_text.specs.declared.partial.Partial.{Partial}
 use Rattle.gr_text.specs.declared.sizes.Size.{Size}
-use Rattle.gr_text.proofs.Cuts.{EndsLines-byte, EndsLines-feed, EndsLines-append, cut_of}
+use Rattle.gr_text.proofs.Cuts.{EndsLines-bytes, EndsLines-line, EndsLines-append, cut_of}
 use Rattle.gr_text.proofs.Faulty.{fault_is_faulty}
 
 pub lawful_of : (size : Option Size) (count : ℕ) (links : List Link) (lines : List (List ℕ)) → Gives size count links lines → AreLawfulSoFar lines
@@ -39,44 +39,42 @@ first_faulty lines part more (fault.Source k) number lawful numbered no_such tex
 first_faulty lines part more fault.TooLong number lawful numbered no_such text r cut = no_such
 first_faulty lines part more fault.Memory number lawful numbered any text r cut = tt
 
--- one more byte of a line
-pub Stands-byte : (size : Option Size) (count : ℕ) (links : List Link) (partial partial' : Partial) (number : ℕ) (text : List ℕ) (b : ℕ) → Stands size count links partial number text → b ≢ line_feed
-    → ((part : List ℕ) → IsKeptAs partial part → IsKeptAs partial' (part ++ b ∷ [])) → Stands size count links partial' number (text ++ b ∷ [])
-Stands-byte size count links partial partial' number text b stands other keeps = record {
+-- more bytes of a line
+pub Stands-part : (size : Option Size) (count : ℕ) (links : List Link) (partial partial' : Partial) (number : ℕ) (text more : List ℕ)
+    → (stands : Stands size count links partial number text) → IsLine more → IsKeptAs partial' (stands.part ++ more) → Stands size count links partial' number (text ++ more)
+Stands-part size count links partial partial' number text more stands is_line kept = record {
   lines = stands.lines;
-  part = stands.part ++ b ∷ [];
-  cut = EndsLines-byte text stands.lines stands.part b stands.cut other;
+  part = stands.part ++ more;
+  cut = EndsLines-bytes text stands.lines stands.part more stands.cut is_line;
   give = stands.give;
-  kept = keeps stands.part stands.kept;
+  kept = kept;
   numbered = stands.numbered;
 }
 
--- a line feed, where the line is taken
-pub Stands-feed : (size size' : Option Size) (count count' : ℕ) (links links' : List Link) (partial fresh : Partial) (number : ℕ) (text : List ℕ)
-    → (stands : Stands size count links partial number text) → IsKeptAs fresh [] → Gives size' count' links' (stands.lines ++ stands.part ∷ [])
-    → Stands size' count' links' fresh (number + 1) (text ++ line_feed ∷ [])
-Stands-feed size size' count count' links links' partial fresh number text stands none gives = record {
-  lines = stands.lines ++ stands.part ∷ [];
+-- the rest of a line with its line feed, where the line is taken
+pub Stands-line : (size size' : Option Size) (count count' : ℕ) (links links' : List Link) (partial fresh : Partial) (number : ℕ) (text line : List ℕ)
+    → (stands : Stands size count links partial number text) → IsLine line → IsKeptAs fresh [] → Gives size' count' links' (stands.lines ++ (stands.part ++ line) ∷ [])
+    → Stands size' count' links' fresh (number + 1) (text ++ ended line)
+Stands-line size size' count count' links links' partial fresh number text line stands is_line none gives = record {
+  lines = stands.lines ++ (stands.part ++ line) ∷ [];
   part = [];
-  cut = EndsLines-feed text stands.lines stands.part stands.cut;
+  cut = EndsLines-line text stands.lines stands.part line stands.cut is_line;
   give = gives;
   kept = none;
-  numbered = omega (arith, length_push stands.lines stands.part, stands.numbered);
+  numbered = omega (arith, length_push stands.lines (stands.part ++ line), stands.numbered);
 }
 
--- a line feed, where the line has a fault: what follows doesn't matter
-pub StopsAt-feed : (e : ReadFault) (size : Option Size) (count : ℕ) (links : List Link) (partial : Partial) (number : ℕ) (text rest : List ℕ)
-    → (stands : Stands size count links partial number text) → IsLineFault e number stands.lines stands.part → StopsAt e ((text ++ line_feed ∷ []) ++ rest)
-StopsAt-feed e size count links partial number text rest stands fault =
+-- the same, where the line has a fault: what follows doesn't matter
+pub StopsAt-line : (e : ReadFault) (size : Option Size) (count : ℕ) (links : List Link) (partial : Partial) (number : ℕ) (text line rest : List ℕ)
+    → (stands : Stands size count links partial number text) → IsLine line → IsLineFault e number stands.lines (stands.part ++ line) → StopsAt e ((text ++ ended line) ++ rest)
+StopsAt-line e size count links partial number text line rest stands is_line fault =
     let (more, r, cut) = cut_of rest in
-    first_faulty stands.lines stands.part more e number (lawful_of size count links stands.lines stands.give) stands.numbered fault
-    ((text ++ line_feed ∷ []) ++ rest) r (EndsLines-append (text ++ line_feed ∷ []) rest (stands.lines ++ stands.part ∷ []) more r
-    (EndsLines-feed text stands.lines stands.part stands.cut) cut)
+    first_faulty stands.lines (stands.part ++ line) more e number (lawful_of size count links stands.lines stands.give) stands.numbered fault
+    ((text ++ ended line) ++ rest) r (EndsLines-append (text ++ ended line) rest (stands.lines ++ (stands.part ++ line) ∷ []) more r
+    (EndsLines-line text stands.lines stands.part line stands.cut is_line) cut)
 
--- a text and a piece of which all but the rest has come
-pub piece_with : (text piece : List ℕ) (i b : ℕ) → i < length piece → get_or piece i 0 ≡ b → (text ++ take i piece) ++ b ∷ [] ≡ text ++ take (i + 1) piece
-piece_with text piece i b within is = append_assoc text (take i piece) (b ∷ []) ∙ ap (λ (xs : List ℕ). text ++ xs) (ap (λ (x : ℕ). take i piece ++ x ∷ []) (sym is) ∙ sym (take_more piece i 0 within))
-
-pub piece_whole : (text piece : List ℕ) (i b : ℕ) → i < length piece → get_or piece i 0 ≡ b → ((text ++ take i piece) ++ b ∷ []) ++ drop (i + 1) piece ≡ text ++ piece
-piece_whole text piece i b within is = ap (λ (xs : List ℕ). xs ++ drop (i + 1) piece) (piece_with text piece i b within is) ∙ append_assoc text (take (i + 1) piece) (drop (i + 1) piece)
-    ∙ ap (λ (xs : List ℕ). text ++ xs) (take-append-drop (i + 1) piece)
+-- a text and a piece of which a line and what is behind it is left
+pub piece_line : (text piece done rest line after : List ℕ) → piece ≡ done ++ rest → rest ≡ ended line ++ after → ((text ++ done) ++ ended line) ++ after ≡ text ++ piece
+piece_line text piece done rest line after is ends =
+    append_assoc (text ++ done) (ended line) after ∙ append_assoc text done (ended line ++ after)
+    ∙ ap (λ (xs : List ℕ). text ++ xs) (ap (λ (xs : List ℕ). done ++ xs) (sym ends) ∙ sym is)

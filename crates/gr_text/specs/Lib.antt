@@ -7,6 +7,7 @@ pub mod Fault
 pub mod Word
 pub mod Reading
 pub mod Partial
+pub mod PlainArc
 pub mod Reader
 pub mod Sourced
 pub mod Written

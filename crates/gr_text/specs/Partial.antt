@@ -1,6 +1,7 @@
 -- A line of which a part has come.
 use Rattle.std.specs.Prelude.{◌≡◌, ℕ, Bool, true, false, List, [], ◌∷◌, ◌++◌}
 use Rattle.std.specs.List.{AllByRecursion}
+use Rattle.gr_text.specs.Lines.{IsLine, ended}
 use Rattle.gr_text.specs.Fields.{IsFieldByte, BeginsBlank, AreFields}
 use Rattle.gr_text.specs.Word.{WordMeans, LineMeans}
 use Rattle.gr_text.specs.declared.partial.Partial.{Partial}
@@ -29,10 +30,10 @@ abbrev pub IsKeptAs : Partial → List ℕ → Type 0
 IsKeptAs partial part = (partial.begun ≡ is_begun part)
     × ((fields : List (List ℕ)) × (last : List ℕ) × AreParts part fields last × LineMeans partial.on fields × WordMeans partial.word last)
 
--- the same line, where this is kept of the field that is coming
-abbrev pub with_word : Partial → Word → Partial
-with_word partial word = record { on = partial.on; word = word; begun = partial.begun }
-
 -- what is kept of a whole line
 abbrev pub IsWhole : Line → List ℕ → Type 0
 IsWhole line bytes = (fields : List (List ℕ)) × AreFields bytes fields × LineMeans line fields
+
+-- the bytes are a line's end, its line feed and what is left; the line, of which this part came before, is kept so
+abbrev pub EndsLine : Line → List ℕ → List ℕ → List ℕ → Type 0
+EndsLine kept part bytes rest = (line : List ℕ) × IsLine line × (bytes ≡ ended line ++ rest) × IsWhole kept (part ++ line)

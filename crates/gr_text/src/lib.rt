@@ -7,10 +7,11 @@
 //! that these words leave nothing open: a text means one graph or has one first fault, and never both.
 //!
 //! **How it is built.** A byte goes into [`words`] (the field that is coming), a field into a `Line` (the
-//! line so far), a line into [`so_far`] (what the whole lines say) after a verdict of [`verdicts`]:
+//! line so far), a line into [`so_far`] (what the whole lines say) after a verdict of [`verdicts`]. An arc
+//! line in its usual form that lies whole in a piece is read at once instead, by [`plain`]:
 //!
 //! ```text
-//! source --sourced--> pieces --reader--> bytes --reading/partial--> words, lines --verdicts/so_far--> graph
+//! source --sourced--> pieces --reader--> bytes --partial/words or plain--> lines --verdicts/so_far--> graph
 //! forest --spelled--> lines --piece--> 8 KiB --writer--> sink
 //! ```
 //!
@@ -29,6 +30,7 @@ pub mod laws;
 pub mod parsing;
 pub mod partial;
 mod piece;
+pub mod plain;
 pub mod reader;
 pub mod reading;
 pub mod sizes;

@@ -1,8 +1,9 @@
-ghost use Rattle.std.specs.Prelude.{◌≡◌, ◌≢◌, ℕ, List, [], ◌∷◌, ◌++◌};
-ghost use Rattle.gr_text.specs.Fields.{IsBlank, IsFieldByte};
-ghost use Rattle.gr_text.specs.Partial.{IsKeptAs, IsWhole, with_field, with_word};
+ghost use Rattle.std.specs.Prelude.{◌≡◌, ◌≢◌, ◌<◌, ℕ, List, [], ◌∷◌, ◌++◌, length, IfSome, MatchOption};
+ghost use Rattle.gr_text.specs.Lines.{IsLine};
+ghost use Rattle.gr_text.specs.Partial.{EndsLine, IsKeptAs, IsWhole, with_field};
 ghost use Rattle.gr_text.specs.Word.{LineMeans, WordMeans};
 
+use crate::plain::plain_arc;
 use crate::words::{Line, Word};
 
 /// What is kept of a line of which a part has come: its whole fields, the field that is coming, and whether
@@ -45,27 +46,58 @@ impl Partial {
         }
     }
 
-    /// Takes one more byte of the field that is coming, and answers what is kept of the field then. `word` is
-    /// what was kept of it before, in place of its own. In constant time.
+    /// Takes the bytes up to the next line feed. It answers the whole line and the bytes behind its line feed, of which
+    /// nothing is kept then; where no line ends among the bytes, it keeps them all. A plain arc line is read at once,
+    /// any other byte by byte; a byte takes constant time.
     #[inline]
-    pub fn take_field_byte(&mut self, word: Word, byte: u8) -> Word
-        requires { IsFieldByte byte }
-        ensures { (part : List ℕ) → IsKeptAs (with_word self.old word) part
-            → IsKeptAs (with_word self.new result) (part ++ byte ∷ []) }
+    pub fn next_line<'a>(&mut self, bytes: &'a [u8]) -> Option<(Line, &'a [u8])>
+        ensures shorter { IfSome result (λ next. length next.1.now < length bytes.now) }
+        ensures told { (part : List ℕ) → IsKeptAs self.old part
+            → MatchOption result (IsLine bytes.now × IsKeptAs self.new (part ++ bytes.now))
+            (λ next. IsKeptAs self.new [] × EndsLine next.0 part bytes.now next.1.now) }
     {
-        self.begun = true;
-        word.with(byte)
+        if !self.begun {
+            if let Some((line, rest)) = plain_arc(bytes) {
+                return Some((line, rest));
+            }
+        }
+        self.next_by_bytes(bytes)
     }
 
-    /// Takes a blank, which ends the field that was coming, if one has begun. `word` is what was kept of it, in
-    /// place of its own; of the next field nothing has come. In constant time.
-    #[inline]
-    pub fn take_blank(&mut self, word: Word)
-        ensures { (part : List ℕ) (blank : ℕ) → IsBlank blank → IsKeptAs (with_word self.old word) part
-            → IsKeptAs (with_word self.new Word.Empty) (part ++ blank ∷ []) }
+    // The same, byte by byte.
+    fn next_by_bytes<'a>(&mut self, bytes: &'a [u8]) -> Option<(Line, &'a [u8])>
+        ensures shorter { IfSome result (λ next. length next.1.now < length bytes.now) }
+        ensures told { (part : List ℕ) → IsKeptAs self.old part
+            → MatchOption result (IsLine bytes.now × IsKeptAs self.new (part ++ bytes.now))
+            (λ next. IsKeptAs self.new [] × EndsLine next.0 part bytes.now next.1.now) }
     {
-        self.on = self.on.closed(word);
-        self.begun = true;
+        // In a local, so that it stays in registers: nearly every byte changes it.
+        let mut partial = *self;
+        for (place, &byte) in bytes.iter().enumerate() {
+            if byte == b'\n' {
+                *self = Partial::new();
+                return Some((partial.whole(), &bytes[place + 1..]));
+            }
+            partial = partial.with(byte);
+        }
+        *self = partial;
+        None
+    }
+
+    // With one more byte of the line.
+    #[inline]
+    fn with(self, byte: u8) -> Partial
+        ensures { (part : List ℕ) → IsKeptAs self part → IsKeptAs result (part ++ byte ∷ []) }
+    {
+        let (on, word) = match byte {
+            b' ' | b'\t' | b'\r' => (self.on.closed(self.word), Word::Empty),
+            _ => (self.on, self.word.with(byte)),
+        };
+        Partial {
+            on,
+            word,
+            begun: true,
+        }
     }
 
     /// The whole line, where no more bytes come.

@@ -1,6 +1,4 @@
-ghost use Rattle.std.specs.Prelude.{◌≡◌, ℕ, ◌+◌, ◌<◌, ◌≤◌, ◌^◌, List, [], ◌∷◌, ◌++◌, length, MatchResult};
-ghost use Rattle.gr_text.specs.Lines.{line_feed};
-ghost use Rattle.gr_text.specs.Partial.{with_word};
+ghost use Rattle.std.specs.Prelude.{◌≡◌, ℕ, ◌+◌, ◌<◌, ◌≤◌, ◌^◌, List, [], ◌++◌, length, MatchResult};
 ghost use Rattle.gr_text.specs.Reading.{IsWithinSize};
 ghost use Rattle.gr_text.specs.Reader.{Stands, StopsAt, IsReadWhole};
 
@@ -8,7 +6,6 @@ use crate::faults::ReadFault;
 use crate::graphs::Graph;
 use crate::partial::Partial;
 use crate::so_far::SoFar;
-use crate::words::Word;
 use std::alloc::Allocator;
 
 /// What was read of a text: whole lines, and a part of the next one.
@@ -50,19 +47,14 @@ impl<A: Allocator> Reading<A> {
             (λ _. Stands self.new.so_far.size self.new.so_far.count self.new.so_far.links.items self.new.partial self.new.number (text ++ piece.now))
             (λ e. StopsAt e (text ++ piece.now)) }
     {
-        // What is kept of the field that is coming stays in registers, since nearly every byte changes it.
-        let mut word = self.partial.word;
-        for &byte in piece {
-            if byte > b' ' {
-                word = self.partial.take_field_byte(word, byte);
-            } else {
-                match self.take_low_byte(word, byte) {
-                    Ok(next) => word = next,
-                    Err(fault) => return Err(fault),
-                }
+        let mut rest = piece;
+        while let Some((line, after)) = self.partial.next_line(rest) {
+            if let Err(fault) = self.so_far.take_line(self.number, line) {
+                return Err(fault);
             }
+            self.number += 1;
+            rest = after;
         }
-        self.partial.word = word;
         Ok(())
     }
 
@@ -81,55 +73,5 @@ impl<A: Allocator> Reading<A> {
             return Err(fault);
         }
         self.so_far.graph(self.number + 1)
-    }
-}
-
-impl<A: Allocator> Reading<A> {
-    // Takes a byte up to the space: what ends a field or the line, or a rare byte of the field. `word` is what
-    // was kept of that field, in place of the word of `partial`; it answers what is kept then.
-    fn take_low_byte(&mut self, word: Word, byte: u8) -> Result<Word, ReadFault>
-        requires sound { IsWithinSize self.old.so_far.size self.old.so_far.count self.old.so_far.links.items }
-        requires few_lines { self.old.number + 1 < 2 ^ 64 }
-        ensures sound { IsWithinSize self.new.so_far.size self.new.so_far.count self.new.so_far.links.items }
-        ensures few_lines { self.new.number ≤ self.old.number + 1 }
-        ensures told { (text rest : List ℕ)
-            → Stands self.old.so_far.size self.old.so_far.count self.old.so_far.links.items (with_word self.old.partial word) self.old.number text
-            → MatchResult result
-            (λ next. Stands self.new.so_far.size self.new.so_far.count self.new.so_far.links.items (with_word self.new.partial next) self.new.number (text ++ byte ∷ []))
-            (λ e. StopsAt e ((text ++ byte ∷ []) ++ rest)) }
-    {
-        match byte {
-            b'\n' => self.take_line_feed(word),
-            b' ' | b'\t' | b'\r' => {
-                self.partial.take_blank(word);
-                Ok(Word::Empty)
-            }
-            _ => Ok(self.partial.take_field_byte(word, byte)),
-        }
-    }
-
-    // Takes a line feed, which ends the line. `word` and the answer are as at `take_low_byte`.
-    #[inline]
-    fn take_line_feed(&mut self, word: Word) -> Result<Word, ReadFault>
-        requires sound { IsWithinSize self.old.so_far.size self.old.so_far.count self.old.so_far.links.items }
-        requires few_lines { self.old.number + 1 < 2 ^ 64 }
-        ensures sound { IsWithinSize self.new.so_far.size self.new.so_far.count self.new.so_far.links.items }
-        ensures few_lines { self.new.number ≤ self.old.number + 1 }
-        ensures told { (text rest : List ℕ)
-            → Stands self.old.so_far.size self.old.so_far.count self.old.so_far.links.items (with_word self.old.partial word) self.old.number text
-            → MatchResult result
-            (λ next. Stands self.new.so_far.size self.new.so_far.count self.new.so_far.links.items (with_word self.new.partial next) self.new.number (text ++ line_feed ∷ []))
-            (λ e. StopsAt e ((text ++ line_feed ∷ []) ++ rest)) }
-    {
-        let line = Partial {
-            word,
-            ..self.partial
-        };
-        if let Err(fault) = self.so_far.take_line(self.number, line.whole()) {
-            return Err(fault);
-        }
-        self.number += 1;
-        self.partial = Partial::new();
-        Ok(self.partial.word)
     }
 }

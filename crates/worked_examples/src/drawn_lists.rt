@@ -43,7 +43,7 @@ fn rename(labels: &mut [u32], from: u32, to: u32) {
 }
 
 // The next number below `bound` of a linear congruential generator.
-fn draw(state: &mut u64, bound: u32) -> u32
+pub(crate) fn draw(state: &mut u64, bound: u32) -> u32
     requires { 0 < bound }
     ensures { result < bound }
 {

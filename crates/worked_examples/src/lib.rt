@@ -8,6 +8,7 @@
 //! ```text
 //!   lists           links of arcs, labels, offers, forests; the forests of the worked graphs
 //!   drawn_lists     the solver beside a plain program, over drawn lists
+//!   drawn_texts     `.gr` texts in pieces and byte by byte, over drawn texts
 //!   reading         `.gr` texts, their faults, pieces and limits
 //!   writing         forest texts, and how much of one went out
 //!   plain_runs      a file to its forest text
@@ -21,6 +22,8 @@
 
 #[cfg(test)]
 mod drawn_lists;
+#[cfg(test)]
+mod drawn_texts;
 #[cfg(test)]
 mod fault_texts;
 #[cfg(test)]

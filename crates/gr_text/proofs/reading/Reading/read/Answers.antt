@@ -1,36 +1,40 @@
-use Rattle.std.proofs.Common.{◌+◌, ◌++◌, take, drop, refl, subst, arith}
-use Rattle.gr_text.specs.Partial.{with_word}
+use Rattle.std.proofs.Common.{ℕ, List, ◌+◌, ◌++◌, ap, sym, ◌∙◌, subst, append_assoc, arith}
+use Rattle.gr_text.specs.Lines.{ended}
 use Rattle.gr_text.specs.Reader.{Stands, StopsAt}
-use Rattle.gr_text.proofs.Standing.{piece_with, piece_whole, Stands-byte}
+use Rattle.gr_text.proofs.Standing.{Stands-part, Stands-line, StopsAt-line, piece_line}
 use Rattle.gr_text.proofs.reading.Reading.read.Goals as goal
-use Rattle.gr_text.proofs.reading.Reading.read.Goals.{then-byte-gt32, else-byte-gt32+in-Ok}
 
 pub returns-in-Err-clause-told : goal.returns-in-Err-clause-told
 returns-in-Err-clause-told g c = λ text stands.
-    let i = c.loop-byte.byte-index in
-    let piece = c.args.piece.now in
-    subst (StopsAt c.in-Err.fault) (piece_whole text piece i _ c.loop-byte-test.true refl)
-    (c.in-Err.ensures.told (text ++ take i piece) (drop (i + 1) piece) (c.loop-byte.invariant.told text stands))
+    let after = c.in-Some.after.now in
+    let (done, is, now) = c.loop-line.invariant.told text stands in
+    let (fresh, (line, is_line, ends, whole)) = c.in-Some.ensures.told now.part now.kept in
+    subst (StopsAt c.in-Err.fault) (piece_line text c.args.piece.now done c.loop-line.rest.now line after is ends)
+    (StopsAt-line c.in-Err.fault _ _ _ _ _ (text ++ done) line after now is_line (c.in-Err.ensures.taken now.lines (now.part ++ line) whole.0 now.give whole.1 whole.2))
 
-pub loop-byte-preserved : goal.loop-byte-preserved
-loop-byte-preserved g c =
-    let i = c.loop-byte.byte-index in
-    let piece = c.args.piece.now in
-    let so_far = c.loop-byte.self.so_far in
-    let number = c.loop-byte.self.number in
-    elim c.if-byte-gt32.branch [
-      | then-byte-gt32 w ↦ rw (w.self-is, w.word-is) (record {
-        sound = c.loop-byte.invariant.sound;
-        few_lines = omega arith;
-        told = λ text stands.
-            subst (Stands so_far.size so_far.count so_far.links.items (with_word w.take_field_byte-word.new.self w.take_field_byte-word.result) number) (piece_with text piece i _ c.loop-byte-test.true refl)
-            (Stands-byte so_far.size so_far.count so_far.links.items _ _ number (text ++ take i piece) _ (c.loop-byte.invariant.told text stands) (λ is. omega (arith, is)) w.take_field_byte-word.ensures);
-      })
-      | else-byte-gt32+in-Ok w ↦ (let after = w.take_low_byte.new.self in rw (w.self-is, w.word-is) (record {
-        sound = w.in-Ok.ensures.sound;
-        few_lines = omega (arith, w.in-Ok.ensures.few_lines);
-        told = λ text stands.
-            subst (Stands after.so_far.size after.so_far.count after.so_far.links.items (with_word after.partial w.in-Ok.next) after.number) (piece_with text piece i _ c.loop-byte-test.true refl)
-            (w.in-Ok.ensures.told (text ++ take i piece) (drop (i + 1) piece) (c.loop-byte.invariant.told text stands));
-      }))
-    ]
+pub loop-line-preserved : goal.loop-line-preserved
+loop-line-preserved g c = record {
+  sound = c.in_default-take_line.ensures.sound;
+  few_lines = omega (arith, c.in-Some.ensures.shorter);
+  told = λ text stands.
+      let after = c.in-Some.after.now in
+      let so_far = c.take_line.new.self in
+      let (done, is, now) = c.loop-line.invariant.told text stands in
+      let (fresh, (line, is_line, ends, whole)) = c.in-Some.ensures.told now.part now.kept in
+      let taken = c.in_default-take_line.ensures.taken now.lines (now.part ++ line) whole.0 now.give whole.1 whole.2 in (
+        done ++ ended line,
+        is ∙ ap (λ (xs : List ℕ). done ++ xs) ends ∙ sym (append_assoc done (ended line) after),
+        subst (Stands so_far.size so_far.count so_far.links.items c.next_line.new.self (c.loop-line.self.number + 1)) (append_assoc text done (ended line))
+            (Stands-line _ so_far.size _ so_far.count _ so_far.links.items _ c.next_line.new.self c.loop-line.self.number (text ++ done) line now is_line fresh taken),
+      );
+}
+
+pub returns-clause-told : goal.returns-clause-told
+returns-clause-told g c = λ text stands.
+    let so_far = c.loop-line.self.so_far in
+    let rest = c.loop-line.rest.now in
+    let (done, is, now) = c.loop-line.invariant.told text stands in
+    let (is_line, kept) = c.in_default.ensures.told now.part now.kept in
+    subst (Stands so_far.size so_far.count so_far.links.items c.next_line.new.self c.loop-line.self.number)
+    (append_assoc text done rest ∙ ap (λ (xs : List ℕ). text ++ xs) (sym is))
+    (Stands-part so_far.size so_far.count so_far.links.items _ c.next_line.new.self c.loop-line.self.number (text ++ done) rest now is_line kept)

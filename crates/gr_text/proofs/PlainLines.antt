@@ -1,0 +1,219 @@
+-- A plain arc line: its fields, its bytes, and that it is read whole.
+use Rattle.std.proofs.Common.{◌≡◌, ◌≢◌, ℕ, ℤ, ◌+◌, ◌*◌, ◌-◌, ◌<◌, ◌≤◌, ◌^◌, inl, inr, List, [], ◌∷◌, ◌++◌, refl, ap, sym, ◌∙◌, subst, arith, append_assoc, append-nil, codes, length, take, drop, get_or, length-append}
+use Rattle.std.specs.List.{AllByRecursion}
+use Rattle.std.proofs.lemmas.List.{take_more, take-append-drop, take_rest, length-take-le}
+use Rattle.std.proofs.lemmas.Grind.{pow_more}
+use Rattle.std.proofs.Math.Nat.{pow-le-pow_right}
+use Rattle.gr_text.specs.Lines.{line_feed, IsLine, ended}
+use Rattle.gr_text.specs.Fields.{IsBlank, IsFieldByte, BeginsBlank, AreFields, IsDigit, number_of}
+use Rattle.gr_text.specs.Word.{KeepsNumber, KeepsSigned}
+use Rattle.gr_text.specs.Partial.{IsWhole}
+use Rattle.gr_text.specs.PlainArc.{IsShort, IsShortSigned, IsPlainArc, BeginsWithShort}
+use Rattle.gr_text.specs.declared.words.Line.TheVariants.{ArcWhole}
+use Rattle.gr_text.proofs.Cuts.{All-both}
+use Rattle.gr_text.proofs.Unique.{prefix_unique}
+use Rattle.gr_text.proofs.Steps.{AllByRecursion-push}
+use Rattle.gr_text.proofs.FieldBytes.{fold-more}
+
+all_as : (P Q : ℕ → Type 0) → ((b : ℕ) → P b → Q b) → (xs : List ℕ) → AllByRecursion P xs → AllByRecursion Q xs
+all_as P Q weaker [] all = tt
+all_as P Q weaker (x ∷ xs) all = (weaker x all.0, all_as P Q weaker xs all.1)
+
+-- no blank and no line feed
+abbrev Inner : ℕ → Type 0
+Inner b = 32 < b
+
+inner_of_digit : (b : ℕ) → IsDigit b → Inner b
+inner_of_digit b digit = omega (arith, digit.0)
+
+field_of_inner : (b : ℕ) → Inner b → IsFieldByte b
+field_of_inner b inner blank = elim blank [ inl e ↦ omega arith | inr (inl e) ↦ omega arith | inr (inr e) ↦ omega arith ]
+
+no_feed_of_inner : (b : ℕ) → Inner b → b ≢ line_feed
+no_feed_of_inner b inner is = omega arith
+
+-- a number's bytes, without and with a sign
+pub record IsInner (field : List ℕ) : Type 0 where
+  pub some : field ≢ []
+  pub all : AllByRecursion Inner field
+
+inner_of_short : (field : List ℕ) → IsShort field → IsInner field
+inner_of_short field short = record { some = short.some; all = all_as IsDigit Inner inner_of_digit field short.digits }
+
+inner_of_signed : (field : List ℕ) → IsShortSigned field → IsInner field
+inner_of_signed field (inl short) = inner_of_short field short
+inner_of_signed field (inr (digits, is, short)) =
+    subst IsInner (sym is) (record { some = λ (e : 45 ∷ digits ≡ []). cc; all = (omega arith, all_as IsDigit Inner inner_of_digit digits short.digits) })
+
+-- a field behind a space
+behind_space : (field after : List ℕ) (others : List (List ℕ)) → IsInner field → BeginsBlank after → AreFields after others → AreFields (32 ∷ (field ++ after)) (field ∷ others)
+behind_space field after others inner begins are =
+    (32 ∷ [], after, (inl refl, tt), inner.some, all_as Inner IsFieldByte field_of_inner field inner.all, refl, begins, are)
+
+plain_fields : (line : List ℕ) → (plain : IsPlainArc line) → AreFields line (codes "a" ∷ plain.tail ∷ plain.head ∷ plain.weight ∷ [])
+plain_fields line plain =
+    let tail = plain.tail in
+    let head = plain.head in
+    let weight = plain.weight in
+    let last : AreFields (32 ∷ weight) (weight ∷ []) = subst (λ (xs : List ℕ). AreFields (32 ∷ xs) (weight ∷ [])) (append-nil weight)
+    (behind_space weight [] [] (inner_of_signed weight plain.short_weight) tt tt) in
+    let two = behind_space head (32 ∷ weight) (weight ∷ []) (inner_of_short head plain.short_head) (inl refl) last in
+    let three = behind_space tail (32 ∷ (head ++ 32 ∷ weight)) (head ∷ weight ∷ []) (inner_of_short tail plain.short_tail) (inl refl) two in
+    subst (λ (xs : List ℕ). AreFields xs (codes "a" ∷ tail ∷ head ∷ weight ∷ [])) (sym plain.spelled)
+    ([], 32 ∷ (tail ++ 32 ∷ (head ++ 32 ∷ weight)), tt, (λ (e : codes "a" ≡ []). cc), (field_of_inner 97 (omega arith), tt), refl, inl refl, three)
+
+-- it has no line feed
+pub plain_is_line : (line : List ℕ) → IsPlainArc line → IsLine line
+plain_is_line line plain =
+    let P : ℕ → Type 0 = λ b. b ≢ line_feed in
+    let no_feed : (field : List ℕ) → IsInner field → AllByRecursion P field = λ field inner. all_as Inner P no_feed_of_inner field inner.all in
+    let space : P 32 = λ e. omega arith in
+    let letter : P 97 = λ e. omega arith in
+    let last = no_feed plain.weight (inner_of_signed plain.weight plain.short_weight) in
+    let two = All-both P plain.head (32 ∷ plain.weight) (no_feed plain.head (inner_of_short plain.head plain.short_head)) (space, last) in
+    let three = All-both P plain.tail (32 ∷ (plain.head ++ 32 ∷ plain.weight)) (no_feed plain.tail (inner_of_short plain.tail plain.short_tail)) (space, two) in
+    subst (AllByRecursion P) (sym plain.spelled) (letter, (space, three))
+
+-- how it begins a text
+plain_spelled : (line rest tail head weight : List ℕ) → line ≡ codes "a " ++ (tail ++ 32 ∷ (head ++ 32 ∷ weight))
+    → ended line ++ rest ≡ codes "a " ++ (tail ++ 32 ∷ (head ++ 32 ∷ (weight ++ line_feed ∷ rest)))
+plain_spelled line rest tail head weight is =
+    append_assoc line (line_feed ∷ []) rest ∙ ap (λ (xs : List ℕ). xs ++ line_feed ∷ rest) is
+    ∙ ap (λ (xs : List ℕ). 97 ∷ 32 ∷ xs) (append_assoc tail (32 ∷ (head ++ 32 ∷ weight)) (line_feed ∷ rest)
+    ∙ ap (λ (xs : List ℕ). tail ++ 32 ∷ xs) (append_assoc head (32 ∷ weight) (line_feed ∷ rest)))
+
+-- What is read is such a line.
+pub plain_found : (bytes fields second third rest : List ℕ) (u v : ℕ) (w : ℤ) → bytes ≡ 97 ∷ 32 ∷ fields → BeginsWithShort u 32 fields second → BeginsWithShort v 32 second third
+    → ((field : List ℕ) × IsShortSigned field × KeepsSigned w field × (third ≡ field ++ line_feed ∷ rest))
+    → (line : List ℕ) × IsPlainArc line × IsWhole (ArcWhole u v w) line × (bytes ≡ ended line ++ rest)
+plain_found bytes fields second third rest u v w begins (tail, short_tail, keeps_tail, is_tail) (head, short_head, keeps_head, is_head) (weight, short_weight, keeps_weight, is_weight) =
+    let line : List ℕ = codes "a " ++ (tail ++ 32 ∷ (head ++ 32 ∷ weight)) in
+    let plain : IsPlainArc line = record {
+      tail = tail;
+      head = head;
+      weight = weight;
+      spelled = refl;
+      short_tail = short_tail;
+      short_head = short_head;
+      short_weight = short_weight;
+    } in (
+      line,
+      plain,
+      (codes "a" ∷ tail ∷ head ∷ weight ∷ [], plain_fields line plain, (tail, head, weight, refl, keeps_tail, keeps_head, keeps_weight)),
+      begins ∙ ap (λ (xs : List ℕ). 97 ∷ 32 ∷ xs) (is_tail ∙ ap (λ (xs : List ℕ). tail ++ 32 ∷ xs) (is_head ∙ ap (λ (xs : List ℕ). head ++ 32 ∷ xs) is_weight))
+          ∙ sym (plain_spelled line rest tail head weight refl),
+    )
+
+-- a short field before a byte that is no digit: it is one, and what follows too
+short_unique : (stop : ℕ) (field other rest more : List ℕ) → ¬ (IsDigit stop) → IsShort field → IsShort other → field ++ stop ∷ rest ≡ other ++ stop ∷ more
+    → (field ≡ other) × (rest ≡ more)
+short_unique stop field other rest more no_digit short short' e =
+    let both = prefix_unique IsDigit field other (stop ∷ rest) (stop ∷ more) short.digits short'.digits no_digit no_digit e in
+    let tails : stop ∷ rest ≡ stop ∷ more = both.1 in
+    (both.0, cc)
+
+space_no_digit : ¬ (IsDigit 32)
+space_no_digit digit = omega (arith, digit.0)
+
+-- behind a short number
+behind : (kept stop : ℕ) (bytes after field rest : List ℕ) → ¬ (IsDigit stop) → BeginsWithShort kept stop bytes after → IsShort field → bytes ≡ field ++ stop ∷ rest → after ≡ rest
+behind kept stop bytes after field rest no_digit (field', short', keeps, is') short is = (short_unique stop field' field after rest no_digit short' short (sym is' ∙ is)).1
+
+-- what follows the letter of a plain line
+behind_letter : (bytes fields line rest : List ℕ) → (plain : IsPlainArc line) → bytes ≡ 97 ∷ 32 ∷ fields → bytes ≡ ended line ++ rest
+    → fields ≡ plain.tail ++ 32 ∷ (plain.head ++ 32 ∷ (plain.weight ++ line_feed ∷ rest))
+behind_letter bytes fields line rest plain begins is =
+    let whole : 97 ∷ 32 ∷ fields ≡ 97 ∷ 32 ∷ (plain.tail ++ 32 ∷ (plain.head ++ 32 ∷ (plain.weight ++ line_feed ∷ rest))) =
+    sym begins ∙ is ∙ plain_spelled line rest plain.tail plain.head plain.weight plain.spelled in
+    cc
+
+-- No plain line begins bytes in which a field of it is missing.
+pub never_tail : (bytes fields : List ℕ) → bytes ≡ 97 ∷ 32 ∷ fields → ((field rest : List ℕ) → IsShort field → fields ≢ field ++ 32 ∷ rest)
+    → (line rest : List ℕ) → IsPlainArc line → bytes ≢ ended line ++ rest
+never_tail bytes fields begins never line rest plain is =
+    never plain.tail (plain.head ++ 32 ∷ (plain.weight ++ line_feed ∷ rest)) plain.short_tail (behind_letter bytes fields line rest plain begins is)
+
+pub never_head : (bytes fields second : List ℕ) (u : ℕ) → bytes ≡ 97 ∷ 32 ∷ fields → BeginsWithShort u 32 fields second
+    → ((field rest : List ℕ) → IsShort field → second ≢ field ++ 32 ∷ rest) → (line rest : List ℕ) → IsPlainArc line → bytes ≢ ended line ++ rest
+never_head bytes fields second u begins tail never line rest plain is =
+    never plain.head (plain.weight ++ line_feed ∷ rest) plain.short_head
+    (behind u 32 fields second plain.tail (plain.head ++ 32 ∷ (plain.weight ++ line_feed ∷ rest)) space_no_digit tail plain.short_tail
+    (behind_letter bytes fields line rest plain begins is))
+
+pub never_weight : (bytes fields second third : List ℕ) (u v : ℕ) → bytes ≡ 97 ∷ 32 ∷ fields → BeginsWithShort u 32 fields second → BeginsWithShort v 32 second third
+    → ((field rest : List ℕ) → IsShortSigned field → third ≢ field ++ line_feed ∷ rest) → (line rest : List ℕ) → IsPlainArc line → bytes ≢ ended line ++ rest
+never_weight bytes fields second third u v begins tail head never line rest plain is =
+    never plain.weight rest plain.short_weight
+    (behind v 32 second third plain.head (plain.weight ++ line_feed ∷ rest) space_no_digit head plain.short_head
+    (behind u 32 fields second plain.tail (plain.head ++ 32 ∷ (plain.weight ++ line_feed ∷ rest)) space_no_digit tail plain.short_tail
+    (behind_letter bytes fields line rest plain begins is)))
+
+-- A place in bytes.
+pub at_place : (xs : List ℕ) (i : ℕ) → i < length xs → xs ≡ take i xs ++ get_or xs i 0 ∷ drop (i + 1) xs
+at_place xs i within =
+    sym (take-append-drop (i + 1) xs) ∙ ap (λ (ys : List ℕ). ys ++ drop (i + 1) xs) (take_more xs i 0 within) ∙ append_assoc (take i xs) (get_or xs i 0 ∷ []) (drop (i + 1) xs)
+
+pub short_of : (xs : List ℕ) (i : ℕ) → 0 < i → i ≤ 10 → i < length xs → AllByRecursion IsDigit (take i xs) → IsShort (take i xs)
+short_of xs i some few within digits =
+    let long : length (take i xs) ≡ i = length-take-le i xs (omega arith) in record {
+      some = λ (e : take i xs ≡ []). let none : length (take i xs) ≡ 0 = ap length e in omega arith;
+      digits = digits;
+      few = omega arith;
+    }
+
+-- digits in front are no more than those before a byte that is none
+digits_within : (stop : ℕ) (xs r field rest : List ℕ) → ¬ (IsDigit stop) → AllByRecursion IsDigit xs → xs ++ r ≡ field ++ stop ∷ rest → length xs ≤ length field
+digits_within stop [] r field rest no_digit all e = omega arith
+digits_within stop (x ∷ xs) r [] rest no_digit all e = absurd (let same : x ≡ stop = cc in no_digit (subst IsDigit same all.0))
+digits_within stop (x ∷ xs) r (f ∷ field) rest no_digit all e =
+    let tails : xs ++ r ≡ field ++ stop ∷ rest = cc in
+    let less : length xs ≤ length field = digits_within stop xs r field rest no_digit all.1 tails in omega arith
+
+-- Eleven digits are in front.
+pub never_long : (stop : ℕ) (xs : List ℕ) → ¬ (IsDigit stop) → 10 < length xs → AllByRecursion IsDigit (take 11 xs) → (field rest : List ℕ) → IsShort field → xs ≢ field ++ stop ∷ rest
+never_long stop xs no_digit long all field rest short is =
+    let eleven : length (take 11 xs) ≡ 11 = length-take-le 11 xs (omega arith) in
+    let less : length (take 11 xs) ≤ length field = digits_within stop (take 11 xs) (drop 11 xs) field rest no_digit all (take-append-drop 11 xs ∙ is) in
+    omega (arith, short.few)
+
+-- All are digits.
+pub never_all : (stop : ℕ) (xs : List ℕ) → ¬ (IsDigit stop) → AllByRecursion IsDigit xs → (field rest : List ℕ) → IsShort field → xs ≢ field ++ stop ∷ rest
+never_all stop xs no_digit all field rest short is =
+    let less : length xs ≤ length field = digits_within stop xs [] field rest no_digit all (append-nil xs ∙ is) in
+    let more : length xs ≡ length field + length (stop ∷ rest) = ap length is ∙ length-append field (stop ∷ rest) in
+    omega arith
+
+-- The first byte that is no digit isn't `stop`, or there is no digit before it.
+pub never_other : (stop : ℕ) (xs : List ℕ) (i : ℕ) → ¬ (IsDigit stop) → i < length xs → AllByRecursion IsDigit (take i xs) → ¬ (IsDigit (get_or xs i 0)) → (get_or xs i 0 ≡ stop → i ≡ 0)
+    → (field rest : List ℕ) → IsShort field → xs ≢ field ++ stop ∷ rest
+never_other stop xs i no_digit within all other none field rest short is =
+    let both = prefix_unique IsDigit (take i xs) field (get_or xs i 0 ∷ drop (i + 1) xs) (stop ∷ rest) all short.digits other no_digit (sym (at_place xs i within) ∙ is) in
+    let tails : get_or xs i 0 ∷ drop (i + 1) xs ≡ stop ∷ rest = both.1 in
+    let same : get_or xs i 0 ≡ stop = cc in
+    let zero : i ≡ 0 = none same in
+    short.some (sym both.0 ∙ ap (λ (k : ℕ). take k xs) zero)
+
+-- One more digit.
+pub digits_more : (xs : List ℕ) (i : ℕ) → i < length xs → AllByRecursion IsDigit (take i xs) → IsDigit (get_or xs i 0) → AllByRecursion IsDigit (take (i + 1) xs)
+digits_more xs i within all digit = subst (AllByRecursion IsDigit) (sym (take_more xs i 0 within)) (AllByRecursion-push IsDigit (take i xs) (get_or xs i 0) all digit)
+
+pub number_more : (xs : List ℕ) (i : ℕ) → i < length xs → number_of (take (i + 1) xs) ≡ 10 * number_of (take i xs) + (get_or xs i 0 - 48)
+number_more xs i within = ap number_of (take_more xs i 0 within) ∙ fold-more (take i xs) 0 (get_or xs i 0)
+
+-- ten digits fit
+pub power_below : (i : ℕ) → i < 10 → 10 ^ i ≤ 1000000000
+power_below i below = let k : i ≤ 9 = omega arith in pow-le-pow_right {n = 10} (omega arith) k
+
+pub below_more : (number i digit : ℕ) → number < 10 ^ i → digit < 10 → number * 10 + digit < 10 ^ (i + 1)
+below_more number i digit below small = rw pow_more (omega arith)
+
+-- bytes by their first ones
+pub begins_one : (xs : List ℕ) (a : ℕ) → 1 ≤ length xs → get_or xs 0 0 ≡ a → xs ≡ a ∷ take (length xs - 1) (drop 1 xs)
+begins_one [] a some first = absurd (omega arith)
+begins_one (x ∷ xs) a some first = ap (λ (y : ℕ). y ∷ xs) first ∙ ap (λ (ys : List ℕ). a ∷ ys) (sym (take_rest (x ∷ xs) 1))
+
+pub begins_two : (xs : List ℕ) (a b : ℕ) → 2 ≤ length xs → get_or xs 0 0 ≡ a → get_or xs 1 0 ≡ b → xs ≡ a ∷ b ∷ take (length xs - 2) (drop 2 xs)
+begins_two [] a b some first second = absurd (omega arith)
+begins_two (x ∷ []) a b some first second = absurd (omega arith)
+begins_two (x ∷ y ∷ xs) a b some first second =
+    ap (λ (z : ℕ). z ∷ y ∷ xs) first ∙ ap (λ (z : ℕ). a ∷ z ∷ xs) second ∙ ap (λ (zs : List ℕ). a ∷ b ∷ zs) (sym (take_rest (x ∷ y ∷ xs) 2))

@@ -1,0 +1,76 @@
+//! The usual form of an arc line, `a U V W`, which is read at once.
+ghost use Rattle.std.specs.Prelude.{◌≡◌, ◌≢◌, ◌++◌, ◌∷◌, ◌≤◌, ◌^◌, ℕ, List, MatchOption, min};
+ghost use Rattle.gr_text.specs.Lines.{line_feed, ended};
+ghost use Rattle.gr_text.specs.Fields.{IsDigit};
+ghost use Rattle.gr_text.specs.Word.{IsCapped, KeepsSigned};
+ghost use Rattle.gr_text.specs.Partial.{IsWhole};
+ghost use Rattle.gr_text.specs.PlainArc.{BeginsWithShort, IsPlainArc, IsShort, IsShortSigned};
+
+use crate::words::Line;
+
+// The most digits of a number in such a line: ten, whose number fits 64 bits.
+const MOST_DIGITS: usize = 10;
+
+/// The line that the bytes begin with, where it is a plain arc line and its line feed is among them, and the bytes
+/// behind that: `a`, one space, one to ten digits, one space, one to ten digits, one space, a minus or none, and one
+/// to ten digits. The time is linear in that line.
+#[inline]
+pub fn plain_arc(bytes: &[u8]) -> Option<(Line, &[u8])>
+    ensures { MatchOption result ((line rest : List ℕ) → IsPlainArc line → bytes.now ≢ ended line ++ rest)
+        (λ found. (line : List ℕ) × IsPlainArc line × IsWhole found.0 line × (bytes.now ≡ ended line ++ found.1.now)) }
+{
+    let [b'a', b' ', fields @ ..] = bytes else {
+        return None;
+    };
+    let (tail, fields) = short_number(fields, b' ')?;
+    let (head, fields) = short_number(fields, b' ')?;
+    let (weight, rest) = short_weight(fields)?;
+    Some((Line::ArcWhole(tail, head, weight), rest))
+}
+
+// The weight that the bytes before the first line feed write, where they are one to ten digits or a minus and such;
+// and the bytes behind the line feed.
+#[inline]
+fn short_weight(bytes: &[u8]) -> Option<(i64, &[u8])>
+    ensures { MatchOption result ((field rest : List ℕ) → IsShortSigned field → bytes.now ≢ field ++ line_feed ∷ rest)
+        (λ found. (field : List ℕ) × IsShortSigned field × KeepsSigned found.0 field
+        × (bytes.now ≡ field ++ line_feed ∷ found.1.now)) }
+{
+    if let [b'-', digits @ ..] = bytes {
+        let (size, rest) = short_number(digits, b'\n')?;
+        return Some((-i64::from(size), rest));
+    }
+    let (size, rest) = short_number(bytes, b'\n')?;
+    Some((i64::from(size), rest))
+}
+
+// The number that the bytes before the first `stop` write, where they are one to ten digits; and the bytes behind
+// `stop`.
+#[inline]
+fn short_number(bytes: &[u8], stop: u8) -> Option<(u32, &[u8])>
+    requires { ¬ (IsDigit stop) }
+    ensures { MatchOption result ((field rest : List ℕ) → IsShort field → bytes.now ≢ field ++ stop ∷ rest)
+        (λ found. BeginsWithShort found.0 stop bytes.now found.1.now) }
+{
+    let mut number: u64 = 0;
+    for (place, &byte) in bytes.iter().enumerate() {
+        if byte.is_ascii_digit() {
+            if place == MOST_DIGITS {
+                return None;
+            }
+            number = number * 10 + u64::from(byte - b'0');
+        } else if byte == stop && place > 0 {
+            return Some((capped(number), &bytes[place + 1..]));
+        } else {
+            return None;
+        }
+    }
+    None
+}
+
+#[inline]
+fn capped(number: u64) -> u32
+    ensures { IsCapped result number }
+{
+    number.min(u64::from(u32::MAX)) as u32
+}
