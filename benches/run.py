@@ -109,4 +109,5 @@ def main():
         print(f"{kind}: time per arc grows {growth:.2f} times, C++ {growth_cpp:.2f} times, ratio {growth / growth_cpp:.2f}")
 
 
-main()
+if __name__ == "__main__":
+    main()

@@ -153,4 +153,5 @@ def main():
     tell_growth([graphs[CUT]], MORE_SHARDS)
 
 
-main()
+if __name__ == "__main__":
+    main()

@@ -1,0 +1,167 @@
+#!/usr/bin/env python3
+"""Measures `boruvka` against two marks on generated graphs, in turns, and prints tables in Markdown.
+
+    marks.py PROGRAM STEPS [PLAIN_TIMES [WORKERS_TIMES]]
+
+PROGRAM is `boruvka`; STEPS is `plain_bench`, which tells what the steps of a plain run took. The marks are tuned.cpp,
+a tuned program of one thread, for `--plain`; and floor.cpp, which only moves the bytes of a run over two workers, as
+turns.c noted them of one run, for runs over workers. Each time is the least of PLAIN_TIMES runs (none: 9), of those
+over workers and of the floor of WORKERS_TIMES (none: 7). All programs run in each turn. The answers must be equal, and
+no worker may have failed.
+
+It needs Python 3, a C++17 compiler (c++, or $CXX) and a C compiler (cc, or $CC). Times are in milliseconds.
+"""
+import os
+import subprocess
+import sys
+import tempfile
+
+# leaves no folder of compiled modules here
+sys.dont_write_bytecode = True
+
+from run import GRAPHS, HERE, bytes_of, least, parts_of, run
+from workers import counts_of, shown, tell_head, tell_row, words_of
+
+FEW, MANY = 2, 64
+# what a run over many shards is measured against
+FLOORS, PLAINS = 2.0, 1.3
+# whose ends have a buffer for a whole message, or a block that stays in the cache
+FLOOR_WORDS = {"floor": [], "floor in blocks": ["65536"]}
+
+
+def built(folder, name, source, *words):
+    """A program or library made of one of the sources beside this file."""
+    path, is_cpp = os.path.join(folder, name), source.endswith(".cpp")
+    compiler = os.environ.get("CXX", "c++") if is_cpp else os.environ.get("CC", "cc")
+    subprocess.run([compiler, "-O2", *words, "-o", path, os.path.join(HERE, source)], check=True)
+    return path
+
+
+class Programs:
+    def __init__(self, folder, program, steps):
+        self.program, self.steps = program, steps
+        self.tuned = built(folder, "tuned", "tuned.cpp", "-std=c++17", "-static")
+        self.floor = built(folder, "floor", "floor.cpp", "-std=c++17", "-pthread")
+        self.recorder = built(folder, "turns.so", "turns.c", "-shared", "-fPIC")
+
+
+class Measured:
+    """A graph, the answer to it, and the least times seen so far, in milliseconds."""
+
+    def __init__(self, folder, kind, n, programs):
+        self.name, self.programs = f"{kind}, {n:,}", programs
+        self.graph, self.answer, self.turns = (
+            os.path.join(folder, f"{kind}_{n}_{name}") for name in ("graph", "answer", "turns")
+        )
+        with open(self.graph, "wb") as out:
+            subprocess.run([sys.executable, os.path.join(HERE, "generate.py"), kind, str(n)], stdout=out, check=True)
+        with open(self.graph, "rb") as text:
+            self.arcs = int(text.readline().split()[3])
+        self.whole, self.parts = {}, {}
+        self.note_turns()
+
+    def note_turns(self):
+        """Notes what a run over many shards sends and gets, and the answer that all others have to give."""
+        around = dict(os.environ, LD_PRELOAD=self.programs.recorder, TURNS=self.turns)
+        with open(self.graph, "rb") as given, open(self.answer, "wb") as taken:
+            command = [self.programs.program, *words_of(MANY)]
+            subprocess.run(command, stdin=given, stdout=taken, env=around, check=True)
+        with open(self.turns, encoding="ascii") as lines:
+            moved = [[int(number) for number in line.split()] for line in lines]
+        self.rounds, self.bytes = max(turn[0] for turn in moved), sum(turn[2] + turn[3] for turn in moved)
+
+    def time(self, what, command):
+        """Runs a command on the graph, keeps its time where it is the least, and answers what it told."""
+        answer = self.answer + "_now"
+        took, told = run(command, self.graph, answer)
+        if bytes_of(answer) != bytes_of(self.answer):
+            sys.exit(f"{self.name}, {' '.join(command)}: the answers differ")
+        self.keep(what, took)
+        return told
+
+    def keep(self, what, took):
+        self.whole[what] = min(took, self.whole.get(what, took))
+
+    def keep_parts(self, what, parts):
+        self.parts[what] = least(parts, self.parts.get(what, parts))
+
+    def take_plain_turn(self):
+        self.time("plain", [self.programs.program, "--plain"])
+        told = self.time("steps", [self.programs.steps])
+        self.keep_parts("plain", [part / 1000 for part in parts_of(told)])
+        self.keep_parts("tuned", parts_of(self.time("tuned", [self.programs.tuned, "--times"])))
+
+    def take_workers_turn(self):
+        for shards in (FEW, MANY):
+            report = counts_of(self.time(shards, [self.programs.program, *words_of(shards), "--report"]))
+            if report["alone"] or report["closed"]:
+                sys.exit(f"{self.name}, {shards} shards: a worker failed")
+        seconds = self.answer + "_seconds"
+        for floor, words in FLOOR_WORDS.items():
+            run([self.programs.floor, *words], self.turns, seconds)
+            self.keep(floor, float(bytes_of(seconds)) * 1000)
+
+    def bound(self, floor):
+        return FLOORS * self.whole[floor] + PLAINS * self.whole["plain"]
+
+
+def beside(ours, mark):
+    """Two times and their ratio."""
+    return f"{shown(ours * 1000)}, {shown(mark * 1000)}: {ours / mark:.2f}"
+
+
+def tell_plain(graphs):
+    tell_head("Graph", "Whole: `--plain`, tuned, ratio", "Reading", "Solving", "Writing")
+    for graph in graphs:
+        parts = [beside(ours, mark) for ours, mark in zip(graph.parts["plain"], graph.parts["tuned"])]
+        tell_row(graph.name, beside(graph.whole["plain"], graph.whole["tuned"]), *parts)
+
+
+def tell_workers(graphs):
+    tell_head(
+        "Graph", f"{FEW} shards, `--plain`, ratio",
+        *(f"{MANY} shards, {FLOORS} {floor} + {PLAINS} `--plain`, ratio" for floor in FLOOR_WORDS),
+        "Floor, in blocks", "Rounds", "MB moved",
+    )
+    for graph in graphs:
+        bounds = [beside(graph.whole[MANY], graph.bound(floor)) for floor in FLOOR_WORDS]
+        floors = ", ".join(shown(graph.whole[floor] * 1000) for floor in FLOOR_WORDS)
+        few = beside(graph.whole[FEW], graph.whole["plain"])
+        tell_row(graph.name, few, *bounds, floors, str(graph.rounds), f"{graph.bytes / 1e6:,.1f}")
+
+
+def tell_growth(graphs):
+    settings = {"plain": "`--plain`", "tuned": "tuned", FEW: f"{FEW} shards", MANY: f"{MANY} shards"}
+    settings |= {floor: floor for floor in FLOOR_WORDS}
+    tell_head("Time per arc, from the graph of 10^5 to that of 10^6", *settings.values())
+    for kind in ("grid", "random"):
+        small, large = graphs[kind, 10**5], graphs[kind, 10**6]
+        growths = (large.whole[each] / large.arcs / (small.whole[each] / small.arcs) for each in settings)
+        tell_row(kind, *(f"{growth:.2f}" for growth in growths))
+
+
+def main():
+    program, steps = (os.path.abspath(path) for path in sys.argv[1:3])
+    plain_times = int(sys.argv[3]) if len(sys.argv) > 3 else 9
+    workers_times = int(sys.argv[4]) if len(sys.argv) > 4 else 7
+    before = os.getloadavg()[0]
+    with tempfile.TemporaryDirectory() as folder:
+        programs = Programs(folder, program, steps)
+        graphs = {(kind, n): Measured(folder, kind, n, programs) for kind, n in GRAPHS}
+        # All graphs in each turn, so that a slow minute of the machine falls on all of them.
+        for turn in range(max(plain_times, workers_times)):
+            for graph in graphs.values():
+                if turn < plain_times:
+                    graph.take_plain_turn()
+                if turn < workers_times:
+                    graph.take_workers_turn()
+    tell_plain(graphs.values())
+    print()
+    tell_workers(graphs.values())
+    print()
+    tell_growth(graphs)
+    print(f"\nLoad {before:.1f} before and {os.getloadavg()[0]:.1f} after, on {os.cpu_count()} processors.")
+
+
+if __name__ == "__main__":
+    main()
