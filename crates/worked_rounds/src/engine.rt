@@ -3,7 +3,7 @@ ghost use Rattle.std.specs.Prelude.{◌-◌, ◌<◌, ◌^◌, ◌↔◌, IsTrue
 ghost use Rattle.link_key.specs.Link.{EndsUpTo};
 
 use byte_streams::{FusedSink, FusedSource};
-use frames::{Answer, Frame, FrameFault, encode, encode_ask, encode_shard, read_frame};
+use frames::{Answer, Frame, FrameFault, Links, encode, encode_ask, encode_shard, read_frame};
 use link_key::{Labels, Link, Offers, Shard};
 use std::alloc::{AllocError, Global};
 use std::process::Abort;
@@ -398,4 +398,82 @@ fn a_session_over_ten_thousand_links(rt: HostRuntime) -> Result<(), Fail> {
     let parts: [&[u8]; 3] = [heard.as_slice(), ask.as_slice(), ask.as_slice()];
     let written: [&[u8]; 3] = [&HELLO, text.as_slice(), text.as_slice()];
     expect_session(&rt, alloc, &parts, served(3, 2, 0), &written)
+}
+
+// The offers that the engine answers to an ask of this shard under these labels.
+fn answered(
+    rt: &impl Abort,
+    engine: &mut Engine,
+    shard: u32,
+    labels: Labels,
+) -> Result<Offers, Fail> {
+    let ask = Frame::Ask {
+        round: 1,
+        shard,
+        labels,
+    };
+    assert!(rt; ask.is_lawful());
+    match engine.hear(ask)?.expect(rt, "a reply") {
+        Frame::Answer(answer) => Ok(answer.offers),
+        _ => panic!(rt; "no answer"),
+    }
+}
+
+#[test]
+fn links_laid_aside_are_live_again(rt: HostRuntime) -> Result<(), Fail> {
+    let alloc = rt.alloc();
+    let mut engine = Engine::new(alloc);
+    expect_reply(&rt, alloc, &mut engine, &SHARD, None)?;
+    let all: &[(u32, u32)] = &[(1, 0), (2, 0), (3, 2)];
+    let asked: [(&[u32], &[(u32, u32)]); 5] = [
+        (&[1, 2, 3], all),
+        (&[1, 1, 3], &[(1, 2), (3, 2)]),
+        (&[1, 1, 1], &[]),
+        (&[1, 2, 3], all),
+        (&[1, 2, 3, 4], all),
+    ];
+    for (labels, expected) in asked {
+        let labels = Labels::of_list(Vec::from_slice(alloc, labels)?).expect(&rt, "labels");
+        let offers = answered(&rt, &mut engine, 0, labels)?;
+        assert_eq!(rt; offers.pairs(), expected);
+    }
+    Ok(())
+}
+
+// Components of so many neighbours each, named by the first.
+fn neighbours(rt: &impl Abort, alloc: Global, size: u32) -> Result<Labels, Fail>
+    requires { 0 < size }
+{
+    let mut list = Vec::new(alloc);
+    for i in 0..MANY {
+        list.push(i.wrapping_sub(i % size).wrapping_add(1))?;
+    }
+    Ok(Labels::of_list(list).expect(rt, "labels"))
+}
+
+// Two shards of many links, asked in turn as components grow, and then under labels that don't coarsen the last.
+#[test]
+fn many_links_laid_aside(rt: HostRuntime) -> Result<(), Fail> {
+    let alloc = rt.alloc();
+    let mut engine = Engine::new(alloc);
+    let links = many_links(&rt, alloc)?;
+    for number in 0..2 {
+        let shard = Frame::Shard {
+            number,
+            links: Links::of_list(many_links(&rt, alloc)?),
+        };
+        assert!(rt; shard.is_lawful());
+        assert!(rt; engine.hear(shard)?.is_none());
+    }
+    for size in [1, 2, 10, 50, 50, 1000, 2, 10, 1] {
+        let labels = neighbours(&rt, alloc, size)?;
+        let expected = plain_offers(&rt, alloc, links.as_slice(), &labels)?;
+        let first = answered(&rt, &mut engine, 0, labels)?;
+        assert_eq!(rt; first.pairs(), expected.as_slice());
+        if size != 10 {
+            let second = answered(&rt, &mut engine, 1, neighbours(&rt, alloc, size)?)?;
+            assert_eq!(rt; second.pairs(), expected.as_slice());
+        }
+    }
+    Ok(())
 }

@@ -1,69 +1,17 @@
--- The best place for a label, as one more link of a list is seen.
-use Rattle.std.proofs.Common.{◌≡◌, ◌≢◌, ℕ, ◌+◌, ◌<◌, List, [], ◌∷◌, ◌++◌, length, get_or, take, Contains, true, false, Ordering, Less, Equal, Greater, is_le, Option, Some, None, refl, sym, ap, ◌∙◌, subst, inl, inr, arith}
+-- The best place for a label, as the links at more places of a list are seen.
+use Rattle.std.proofs.Common.{◌≡◌, ◌≢◌, ℕ, ◌+◌, ◌<◌, ◌≤◌, List, length, get_or, Contains, true, false, Ordering, Less, Equal, Greater, is_le, Option, Some, None, refl, sym, ap, ◌∙◌, subst, inl, inr, arith}
 use Rattle.std.specs.Ordering.{ordering_reverse}
-use Rattle.std.proofs.lemmas.List.{get_or_append_left, get_or_push, length_push, length-take, length-take-le, get_or_default, get_or-take, take_more}
-use Rattle.std.proofs.lemmas.List.Elements.{Contains-append_left, Contains-push, Contains-push_cases}
+use Rattle.std.proofs.lemmas.Bool.{cases_lt}
+use Rattle.std.proofs.lemmas.List.{get_or_default}
 use Rattle.link_key.specs.declared.links.Link.{Link}
 use Rattle.link_key.specs.Link.{IsBelow, key_cmp}
 use Rattle.link_key.proofs.Keys.{key_cmp_total, trichotomy, below_irrefl, below_asymm, below_trans}
-use Rattle.round_theory.specs.Offers.{Leaves, IsLeastLeaving, IsFirstPlace, IsLightOffer}
-use Rattle.worker_engine.specs.Scanning.{IsBest}
+use Rattle.round_theory.specs.Offers.{Leaves, IsLightOffer}
+use Rattle.worker_engine.specs.Scanning.{ComesFirst, IsBestPlace, NoneLeavesIn, IsBest}
 
--- a link that doesn't leave the label, or isn't below the least, changes nothing
-pub light_offer_kept : (seen : List Link) (labels : List ℕ) (c place : ℕ) (x : Link) (offer : IsLightOffer seen labels c place) → (Leaves labels x c → ¬ (IsBelow x offer.0)) → IsLightOffer (seen ++ x ∷ []) labels c place
-light_offer_kept seen labels c place x (l, least, at) not_less = (
-  l,
-  record {
-    member = Contains-append_left seen (x ∷ []) l least.member;
-    leaves = least.leaves;
-    least = λ m m_in leaves below. elim (Contains-push_cases seen x m m_in) [
-      | inl in_seen ↦ least.least m in_seen leaves below
-      | inr is ↦ not_less (subst (λ k. Leaves labels k c) (sym is) leaves) (subst (λ k. IsBelow k l) (sym is) below)
-    ];
-  },
-  record {
-    within = omega (arith, length_push seen x, at.within);
-    here = get_or_append_left seen (x ∷ []) l place at.within ∙ at.here;
-    first = λ k lt same. at.first k lt (sym (get_or_append_left seen (x ∷ []) l k (omega (arith, at.within))) ∙ same);
-  },
-)
-
--- a link that leaves the label and is below all seen that do is the least, and stands here first
-pub light_offer_new : (seen : List Link) (labels : List ℕ) (c : ℕ) (x : Link) → Leaves labels x c → ((m : Link) → Contains seen m → Leaves labels m c → IsBelow x m) → IsLightOffer (seen ++ x ∷ []) labels c (length seen)
-light_offer_new seen labels c x leaves less = (
-  x,
-  record {
-    member = Contains-push seen x;
-    leaves = leaves;
-    least = λ m m_in m_leaves below. elim (Contains-push_cases seen x m m_in) [
-      | inl in_seen ↦ below_asymm m x below (less m in_seen m_leaves)
-      | inr is ↦ below_irrefl x (subst (λ k. IsBelow k x) (sym is) below)
-    ];
-  },
-  record {
-    within = omega (arith, length_push seen x);
-    here = get_or_push seen x x (length seen) refl;
-    first = λ k lt same. below_irrefl x (less x (k, lt, sym (get_or_append_left seen (x ∷ []) x k lt) ∙ same) leaves);
-  },
-)
-
--- a link below the least of some is below each of them
-pub below_each : (labels : List ℕ) (seen : List Link) (c : ℕ) (l x : Link) → IsLeastLeaving labels (Contains seen) c l → IsBelow x l → (m : Link) → Contains seen m → Leaves labels m c → IsBelow x m
-below_each labels seen c l x least lower m m_in leaves = elim (trichotomy m l) [
-  | inl below ↦ absurd (least.least m m_in leaves below)
-  | inr rest ↦ elim rest [
-    | inl same ↦ subst (IsBelow x) (sym same) lower
-    | inr above ↦ below_trans x l m lower above
-  ]
-]
-
--- a link further on: none of those seen left the label, and this one doesn't either; or the least stays it
-pub best_kept : (seen : List Link) (labels : List ℕ) (c : ℕ) (x : Link) (best : Option ℕ) → IsBest seen labels c best → ((l : Link) (place : ℕ) → best ≡ Some place → IsFirstPlace seen l place → Leaves labels x c → ¬ (IsBelow x l)) → (best ≡ None → ¬ (Leaves labels x c)) → IsBest (seen ++ x ∷ []) labels c best
-best_kept seen labels c x None none some_not none_not = λ m m_in leaves. elim (Contains-push_cases seen x m m_in) [
-  | inl in_seen ↦ none m in_seen leaves
-  | inr is ↦ none_not refl (subst (λ k. Leaves labels k c) (sym is) leaves)
-]
-best_kept seen labels c x (Some place) offer some_not none_not = light_offer_kept seen labels c place x offer (some_not offer.0 place refl offer.2)
+-- two reads of one place of a list
+pub one_read : (links : List Link) (i : ℕ) (l m : Link) → i < length links → l ≡ get_or links i l → m ≡ get_or links i m → l ≡ m
+one_read links i l m within l_read m_read = l_read ∙ get_or_default links i l m within ∙ sym m_read
 
 le_true : (o : Ordering) → is_le o ≡ true → o ≢ Greater
 le_true Less is other = cc
@@ -82,48 +30,130 @@ not_below_from_le l x le below = le_true (key_cmp l x) le (key_cmp_total.antisym
 pub below_from_gt : (l x : Link) → is_le (key_cmp l x) ≡ false → IsBelow x l
 below_from_gt l x gt = key_cmp_total.antisymm x l ∙ ap ordering_reverse (le_false (key_cmp l x) gt)
 
--- the link that an offer names, read in the whole list
-offered_link : (links : List Link) (labels : List ℕ) (c i place : ℕ) (l : Link) (offer : IsLightOffer (take i links) labels c place) → l ≡ get_or links place l → l ≡ offer.0
-offered_link links labels c i place l offer read =
-    let within = offer.2.within in
-    let short = length-take i links in
-    let in_list : place < length links = omega (arith, within, short) in
-    let in_prefix : place < i = omega (arith, within, short) in
-    read ∙ get_or_default links place l offer.0 in_list ∙ sym (get_or-take i links place offer.0 in_prefix) ∙ offer.2.here
+-- a link that comes first before another, which comes first before a third
+below_then_first : (l x m : Link) (p q : ℕ) → IsBelow x l → ComesFirst l p m q → IsBelow x m
+below_then_first l x m p q below (inl lower) = below_trans x l m below lower
+below_then_first l x m p q below (inr (same, le)) = subst (IsBelow x) same below
 
-module _ (links : List Link) (labels : List ℕ) (c i : ℕ) (x : Link) (within : i < length links) (read : x ≡ get_or links i x) where
-  -- the list's prefix with one more link
-  prefix : take i links ++ x ∷ [] ≡ take (i + 1) links
-  prefix = sym (take_more links i x within ∙ ap (λ y. take i links ++ y ∷ []) (sym read))
+first_then_first : (l x m : Link) (p i q : ℕ) → ComesFirst l p x i → ComesFirst x i m q → ComesFirst l p m q
+first_then_first l x m p i q (inl below) (inl lower) = inl (below_trans l x m below lower)
+first_then_first l x m p i q (inl below) (inr (same, le)) = inl (subst (IsBelow l) same below)
+first_then_first l x m p i q (inr (same, le)) (inl lower) = inl (subst (λ k. IsBelow k m) (sym same) lower)
+first_then_first l x m p i q (inr (same, le)) (inr (same', le')) = inr (same ∙ same', omega (arith, le, le'))
 
-  long : length (take i links) ≡ i
-  long = length-take-le i links (omega arith)
+-- a link that isn't below an earlier one comes behind it
+first_from_le : (l x : Link) (p i : ℕ) → ¬ (IsBelow x l) → p ≤ i → ComesFirst l p x i
+first_from_le l x p i not_below le = elim (trichotomy l x) [
+  | inl below ↦ inl below
+  | inr rest ↦ elim rest [ inl same ↦ inr (same, le) | inr above ↦ absurd (not_below above) ]
+]
 
-  -- the link doesn't leave the label
-  pub best_out : (best : Option ℕ) → IsBest (take i links) labels c best → ¬ (Leaves labels x c) → IsBest (take (i + 1) links) labels c best
-  best_out best is out = subst (λ seen. IsBest seen labels c best) prefix (best_kept (take i links) labels c x best is (λ l place same at leaves. absurd (out leaves)) (λ _. out))
+-- the link at a place, alone
+pub best_alone : (links : List Link) (labels : List ℕ) (c i : ℕ) (x : Link) → i < length links → x ≡ get_or links i x → Leaves labels x c → IsBestPlace links labels i (i + 1) c i
+best_alone links labels c i x within read leaves = record {
+  link = x;
+  here = read;
+  from_start = omega arith;
+  before_end = omega arith;
+  in_list = within;
+  leaves = leaves;
+  first = λ q m from_start before_end in_list m_read m_leaves.
+      let same : q ≡ i = omega (arith, from_start, before_end) in
+      inr (one_read links i x m within read (subst (λ k. m ≡ get_or links k m) same m_read), omega (arith, from_start));
+}
 
-  -- it is the first that does
-  pub best_first : (best : Option ℕ) → best ≡ None → IsBest (take i links) labels c best → Leaves labels x c → IsBest (take (i + 1) links) labels c (Some i)
-  best_first best none is leaves =
-      let nothing = subst (IsBest (take i links) labels c) none is in
-      subst (λ seen. IsBest seen labels c (Some i)) prefix
-      (subst (λ place. IsBest (take i links ++ x ∷ []) labels c (Some place)) long
-      (light_offer_new (take i links) labels c x leaves (λ m m_in m_leaves. absurd (nothing m m_in m_leaves))))
+module _ (links : List Link) (labels : List ℕ) (c from at to : ℕ) where
+  -- no link at the later places leaves the label
+  pub best_goes_on : (best : Option ℕ) → at ≤ to → NoneLeavesIn links labels at to c → IsBest links labels from at c best → IsBest links labels from to c best
+  best_goes_on None le none is = λ q m from_start before_end in_list read leaves. elim (cases_lt q at) [
+    | inl lt ↦ is q m from_start lt in_list read leaves
+    | inr later ↦ none q m later before_end in_list read leaves
+  ]
+  best_goes_on (Some p) le none is = record {
+    link = is.link;
+    here = is.here;
+    from_start = is.from_start;
+    before_end = omega (arith, is.before_end, le);
+    in_list = is.in_list;
+    leaves = is.leaves;
+    first = λ q m from_start before_end in_list read leaves. elim (cases_lt q at) [
+      | inl lt ↦ is.first q m from_start lt in_list read leaves
+      | inr later ↦ absurd (none q m later before_end in_list read leaves)
+    ];
+  }
 
-  -- the least seen stays the least
-  pub best_stays : (best : Option ℕ) (place : ℕ) (l : Link) → best ≡ Some place → l ≡ get_or links place l → IsBest (take i links) labels c best → is_le (key_cmp l x) ≡ true → IsBest (take (i + 1) links) labels c (Some place)
-  best_stays best place l some l_read is le =
-      let offer = subst (IsBest (take i links) labels c) some is in
-      subst (λ seen. IsBest seen labels c (Some place)) prefix
-      (light_offer_kept (take i links) labels c place x offer
-      (λ _. subst (λ k. ¬ (IsBelow x k)) (offered_link links labels c i place l offer l_read) (not_below_from_le l x le)))
+  module _ (i : ℕ) (le : from ≤ at) (next : IsBestPlace links labels at to c i) where
+    -- no link at the earlier places leaves it
+    pub best_first : NoneLeavesIn links labels from at c → IsBestPlace links labels from to c i
+    best_first none = record {
+      link = next.link;
+      here = next.here;
+      from_start = omega (arith, le, next.from_start);
+      before_end = next.before_end;
+      in_list = next.in_list;
+      leaves = next.leaves;
+      first = λ q m from_start before_end in_list read leaves. elim (cases_lt q at) [
+        | inl lt ↦ absurd (none q m from_start lt in_list read leaves)
+        | inr later ↦ next.first q m later before_end in_list read leaves
+      ];
+    }
 
-  -- it is less
-  pub best_new : (best : Option ℕ) (place : ℕ) (l : Link) → best ≡ Some place → l ≡ get_or links place l → IsBest (take i links) labels c best → is_le (key_cmp l x) ≡ false → Leaves labels x c → IsBest (take (i + 1) links) labels c (Some i)
-  best_new best place l some l_read is gt leaves =
-      let offer = subst (IsBest (take i links) labels c) some is in
-      let lower = subst (IsBelow x) (offered_link links labels c i place l offer l_read) (below_from_gt l x gt) in
-      subst (λ seen. IsBest seen labels c (Some i)) prefix
-      (subst (λ p. IsBest (take i links ++ x ∷ []) labels c (Some p)) long
-      (light_offer_new (take i links) labels c x leaves (below_each labels (take i links) c offer.0 x offer.1 lower)))
+    module _ (p : ℕ) (is : IsBestPlace links labels from at c p) where
+      -- the earlier one stays
+      pub best_stays : ¬ (IsBelow next.link is.link) → IsBestPlace links labels from to c p
+      best_stays not_below = record {
+        link = is.link;
+        here = is.here;
+        from_start = is.from_start;
+        before_end = omega (arith, is.before_end, next.from_start, next.before_end);
+        in_list = is.in_list;
+        leaves = is.leaves;
+        first = λ q m from_start before_end in_list read leaves. elim (cases_lt q at) [
+          | inl lt ↦ is.first q m from_start lt in_list read leaves
+          | inr later ↦
+              first_then_first is.link next.link m p i q
+              (first_from_le is.link next.link p i not_below (omega (arith, is.before_end, next.from_start)))
+              (next.first q m later before_end in_list read leaves)
+        ];
+      }
+
+      -- the later one is less
+      pub best_new : IsBelow next.link is.link → IsBestPlace links labels from to c i
+      best_new below = record {
+        link = next.link;
+        here = next.here;
+        from_start = omega (arith, le, next.from_start);
+        before_end = next.before_end;
+        in_list = next.in_list;
+        leaves = next.leaves;
+        first = λ q m from_start before_end in_list read leaves. elim (cases_lt q at) [
+          | inl lt ↦ inl (below_then_first is.link next.link m p q below (is.first q m from_start lt in_list read leaves))
+          | inr later ↦ next.first q m later before_end in_list read leaves
+        ];
+      }
+
+-- the best place of the whole list is where the least link that leaves the label stands first
+pub best_is_light : (links : List Link) (labels : List ℕ) (c p : ℕ) → IsBestPlace links labels 0 (length links) c p → IsLightOffer links labels c p
+best_is_light links labels c p is = (
+  is.link,
+  record {
+    member = (p, is.in_list, sym is.here);
+    leaves = is.leaves;
+    least = λ m (q, within, read) leaves below. elim (is.first q m (omega arith) within within (sym read) leaves) [
+      | inl lower ↦ below_asymm m is.link below lower
+      | inr (same, le) ↦ below_irrefl m (subst (IsBelow m) same below)
+    ];
+  },
+  record {
+    within = is.in_list;
+    here = sym is.here;
+    first = λ k lt same. elim (is.first k is.link (omega arith) (omega (arith, lt, is.in_list)) (omega (arith, lt, is.in_list)) (sym same) is.leaves) [
+      | inl below ↦ below_irrefl is.link below
+      | inr (_, le) ↦ absurd (omega (arith, le, lt))
+    ];
+  },
+)
+
+-- none is where none leaves it
+pub none_leaves : (links : List Link) (labels : List ℕ) (c : ℕ) → NoneLeavesIn links labels 0 (length links) c → (l : Link) → Contains links l → ¬ (Leaves labels l c)
+none_leaves links labels c none l (q, within, read) leaves = none q l (omega arith) within within (sym read) leaves

@@ -1,5 +1,7 @@
 pub mod BestSoFar
 pub mod Scans
+pub mod Laid
+pub mod Shelves
 pub mod Offering
 pub mod Replying
 pub mod Sessions

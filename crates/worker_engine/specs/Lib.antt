@@ -1,5 +1,6 @@
 pub mod Scanning
 pub mod Serving
+pub mod Live
 pub mod Session
 pub mod Laws
 pub mod Served

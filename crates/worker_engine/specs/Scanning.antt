@@ -1,14 +1,33 @@
--- What is known of each label once some links of a shard are seen.
-use Rattle.std.specs.Prelude.{◌≡◌, ℕ, ◌+◌, ◌-◌, ◌<◌, List, length, take, slice_index_or, Option, None, Some, MatchOption, Contains}
+-- What is known of each label once the links at some places of a shard are seen.
+use Rattle.std.specs.Prelude.{◌≡◌, ℕ, ◌+◌, ◌-◌, ◌<◌, ◌≤◌, ◌⊎◌, List, length, slice_index_or, Option, None, Some, MatchOption}
 use Rattle.link_key.specs.declared.links.Link.{Link}
+use Rattle.link_key.specs.Link.{IsBelow}
 use Rattle.round_theory.specs.Labelling.{IsVertex}
-use Rattle.round_theory.specs.Offers.{Leaves, IsLightOffer}
+use Rattle.round_theory.specs.Offers.{Leaves}
 use Rattle.worker_engine.specs.declared.scanning.TheConstants.{NO_WEIGHT, NO_PLACE}
 use Rattle.worker_engine.specs.declared.scanning.Best.{Best}
 
--- the place where the least of the seen links that leave a label stands first; none where no seen link leaves it
-abbrev pub IsBest : List Link → List ℕ → ℕ → Option ℕ → Type 0
-IsBest seen labels c best = MatchOption best ((l : Link) → Contains seen l → ¬ (Leaves labels l c)) (λ place. IsLightOffer seen labels c place)
+-- the link l at place p comes before the link m at place q: it is below m, or it is m and stands no later
+abbrev pub ComesFirst : Link → ℕ → Link → ℕ → Type 0
+ComesFirst l p m q = IsBelow l m ⊎ ((l ≡ m) × (p ≤ q))
+
+-- of the links at the places from `from` on before `to` that leave a label, that at place p comes first
+pub record IsBestPlace (links : List Link) (labels : List ℕ) (from to c p : ℕ) : Type 0 where
+  pub link : Link
+  pub here : link ≡ slice_index_or links p link
+  pub from_start : from ≤ p
+  pub before_end : p < to
+  pub in_list : p < length links
+  pub leaves : Leaves labels link c
+  pub first : (q : ℕ) (m : Link) → from ≤ q → q < to → q < length links → m ≡ slice_index_or links q m → Leaves labels m c → ComesFirst link p m q
+
+-- none of these links leaves the label
+abbrev pub NoneLeavesIn : List Link → List ℕ → ℕ → ℕ → ℕ → Type 0
+NoneLeavesIn links labels from to c = (q : ℕ) (m : Link) → from ≤ q → q < to → q < length links → m ≡ slice_index_or links q m → ¬ (Leaves labels m c)
+
+-- the best place for a label; none where no link leaves it
+abbrev pub IsBest : List Link → List ℕ → ℕ → ℕ → ℕ → Option ℕ → Type 0
+IsBest links labels from to c best = MatchOption best (NoneLeavesIn links labels from to c) (λ place. IsBestPlace links labels from to c place)
 
 -- no link
 abbrev pub no_best : Best
@@ -20,21 +39,21 @@ Says links kept None = kept ≡ no_best
 Says links kept (Some place) = (kept.place ≡ place) × (place < length links) × ((l : Link) → l ≡ slice_index_or links place l → kept.weight ≡ l.weight)
 
 -- what is kept for a label says its best place
-pub record Keeps (links seen : List Link) (labels : List ℕ) (c : ℕ) (kept : Best) : Type 0 where
+pub record Keeps (links : List Link) (labels : List ℕ) (from to c : ℕ) (kept : Best) : Type 0 where
   pub best : Option ℕ
   pub says : Says links kept best
-  pub is : IsBest seen labels c best
+  pub is : IsBest links labels from to c best
 
--- what is kept before the link at a place, and with it: where that link leaves a label, what says the best of the links before it for the label becomes what says the best with it
-abbrev pub KeepsWithNext : List Link → ℕ → Best → Best → Type 0
-KeepsWithNext links place before after = (labels : List ℕ) (c : ℕ) (l : Link) → l ≡ slice_index_or links place l → Leaves labels l c
-    → Keeps links (take place links) labels c before → Keeps links (take (place + 1) links) labels c after
+-- of what is kept for the places before another and the best of the places from that on, what is kept for both together
+abbrev pub KeepsLesser : List Link → Best → Best → Best → Type 0
+KeepsLesser links next before after = (labels : List ℕ) (c from at to : ℕ) → from ≤ at → Keeps links labels from at c before
+    → IsBestPlace links labels at to c next.place → Keeps links labels from to c after
 
 -- what a table keeps for a label
 abbrev pub best_of : List Best → ℕ → Best
 best_of table c = slice_index_or table (c - 1) no_best
 
 -- a table keeps the best place for each label
-pub record AreBest (links seen : List Link) (labels : List ℕ) (table : List Best) : Type 0 where
+pub record AreBest (links : List Link) (labels : List ℕ) (from to : ℕ) (table : List Best) : Type 0 where
   pub each_vertex : length table ≡ length labels
-  pub best : (c : ℕ) → IsVertex (length labels) c → Keeps links seen labels c (best_of table c)
+  pub best : (c : ℕ) → IsVertex (length labels) c → Keeps links labels from to c (best_of table c)

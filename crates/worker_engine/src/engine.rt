@@ -1,14 +1,15 @@
 //! A worker's engine: it keeps shards and replies to asks.
-ghost use Rattle.std.specs.Prelude.{◌≡◌, ◌≤◌, ◌↔◌, [], length, Some, IsSome, IfOk, OnOk, OnErr, IsTrue};
+ghost use Rattle.std.specs.Prelude.{◌≡◌, ℕ, List, ◌≤◌, ◌↔◌, [], length, Some, IsSome, IfSome, IfOk, OnOk, OnErr, IsTrue, true};
 ghost use Rattle.link_key.specs.Link.{EndsUpTo};
-ghost use Rattle.frames.specs.FrameValue.{value_of, ShardFrame};
+ghost use Rattle.frames.specs.FrameValue.{value_of, ShardFrame, FaultFrame};
 ghost use Rattle.frames.specs.Lawful.{IsLawful, IsShard, IsAsk};
 ghost use Rattle.frames.specs.FrameStream.{AreLawful};
 ghost use Rattle.worker_engine.specs.Serving.{shelf_of, shelf_with, IsReply, MayWantMemory, AreReplyTo, replies_in};
+ghost use Rattle.worker_engine.specs.Live.{kept_in, AreLive, IsLive, IsAllLive, AreAllLive, AreAllUnder};
 
+use crate::held::Held;
 use crate::scanning::Scanner;
 use frames::{Answer, Frame, Links};
-use limits::MAX_SHARD_LINKS;
 use link_key::{Labels, Link};
 use std::alloc::{AllocError, Allocator, Global};
 use std::collections::BTreeMap;
@@ -25,20 +26,27 @@ pub const NO_LABEL: u8 = 3;
 
 /// What a worker keeps between frames: the last shard that it heard under each number, and the table of its last
 /// scan. Contracts see which links it keeps under which number.
+///
+/// Beside each shard it keeps which of its links are live, by 4 bytes a link: after an answer those whose ends have one
+/// label are laid aside, and a scan passes over the live ones alone. It keeps the labels of its last answer too. Where
+/// those of an ask don't coarsen them, all links are live again.
 #[derive(Drop)]
 pub struct Engine<A: Allocator = Global> {
-    shards: BTreeMap<u32, Links<A>, A>,
+    shards: BTreeMap<u32, Held<A>, A>,
+    // those of the last answer; at first of no vertices
+    labels: Labels<A>,
     scanner: Scanner<A>,
 }
 
 impl<A: Allocator> Model for Engine<A> {
-    ghost use Rattle.worker_engine.specs.Serving.{Kept, shelf_of, AreShort};
+    ghost use Rattle.worker_engine.specs.Serving.{Kept};
+    ghost use Rattle.worker_engine.specs.Live.{kept_in, AreAllUnder};
 
     ghost Value = { Kept };
 
-    ghost view = { λ e. e.shards.entries };
+    ghost view = { λ e. kept_in e.shards.entries };
 
-    ghost invariant = { λ e. AreShort (shelf_of e.shards.entries) };
+    ghost invariant = { λ e. AreAllUnder e.labels e.shards.entries };
 }
 
 impl<A: Allocator + Copy> Engine<A> {
@@ -48,6 +56,7 @@ impl<A: Allocator + Copy> Engine<A> {
     {
         Engine {
             shards: BTreeMap::new(alloc),
+            labels: Labels::of_known(Vec::new(alloc)),
             scanner: Scanner::new(alloc),
         }
     }
@@ -78,7 +87,7 @@ impl<A: Allocator + Copy> Engine<A> {
                 shard,
                 labels,
             } => {
-                let reply = self.reply(round, shard, &labels)?;
+                let reply = self.reply(round, shard, labels)?;
                 Ok(Some(reply))
             }
             Frame::Hello { .. } | Frame::Answer(_) | Frame::Fault { .. } => Ok(None),
@@ -91,55 +100,102 @@ impl<A: Allocator + Copy> Engine<A> {
         ensures kept { OnOk result (shelf_of self.new ≡ shelf_with (shelf_of self.old) (ShardFrame number links)) }
         ensures unchanged { OnErr result (self.new ≡ self.old) }
     {
-        self.shards.insert(number, links)?;
+        let held = Held::new(links)?;
+        self.shards.insert(number, held)?;
         Ok(())
     }
 
-    // The reply to an ask.
-    fn reply(&mut self, round: u32, shard: u32, labels: &Labels<A>) -> Result<Frame<A>, AllocError>
-        requires { IsAsk round shard labels.now }
-        ensures reply { IfOk result (λ reply. IsReply (shelf_of self.old shard) round shard labels.now (value_of reply)) }
+    // The reply to an ask. Links are laid aside once it is made.
+    fn reply(&mut self, round: u32, shard: u32, labels: Labels<A>) -> Result<Frame<A>, AllocError>
+        requires { IsAsk round shard labels }
+        ensures reply { IfOk result (λ reply. IsReply (shelf_of self.old shard) round shard labels (value_of reply)) }
         ensures lawful { IfOk result (λ reply. IsLawful (value_of reply)) }
-        ensures unchanged { self.new ≡ self.old }
+        ensures shelf { OnOk result (self.new ≡ self.old) }
+        ensures unchanged { OnErr result (self.new ≡ self.old) }
         ensures held { OnErr result (IsSome (shelf_of self.old shard)) }
     {
-        match self.shards.get(&shard) {
-            Some(links) => offer(&mut self.scanner, links.as_slice(), round, shard, labels),
-            None => Ok(Frame::Fault {
-                round,
-                shard,
-                code: NOT_HELD,
-            }),
+        let Some(held) = self.shards.get(&shard) else {
+            return Ok(fault(round, shard, NOT_HELD));
+        };
+        if !have_ends_up_to(held.links(), labels.n()) {
+            return Ok(fault(round, shard, NO_LABEL));
         }
+        let coarser = labels.coarsens(&self.labels);
+        let live = live_places(held, coarser);
+        let offers = self.scanner.scan_live(held.links(), live, &labels)?;
+        lay_aside(&mut self.shards, shard, &labels, coarser);
+        self.labels = labels;
+        Ok(Frame::Answer(Answer {
+            round,
+            shard,
+            offers,
+        }))
     }
 }
 
-// The reply to an ask of a shard that is kept.
-fn offer<A: Allocator + Copy>(
-    scanner: &mut Scanner<A>,
-    links: &[Link],
-    round: u32,
+fn fault<A: Allocator>(round: u32, shard: u32, code: u8) -> Frame<A>
+    ensures { value_of result ≡ FaultFrame round shard code }
+{
+    Frame::Fault { round, shard, code }
+}
+
+// Makes all links of all shards live.
+fn make_all_live<A: Allocator>(shards: &mut BTreeMap<u32, Held<A>, A>)
+    ensures kept { kept_in shards.new.entries ≡ kept_in shards.old.entries }
+    ensures live { AreAllLive shards.new.entries }
+{
+    shards.retain(
+        |_: &u32, held: &mut Held<A>| -> bool
+            ensures { (result ≡ true) × (held.exit.now.links ≡ held.entry.now.links) × IsAllLive held.exit.now }
+        {
+            held.make_all_live();
+            true
+        },
+    );
+}
+
+// The live places of a shard under labels that may coarsen those of the last answer; none where all links are live.
+fn live_places<A: Allocator>(held: &Held<A>, coarser: bool) -> Option<&[u32]>
+    ensures { (labels : List ℕ) → (IsTrue coarser → IsLive labels held.now)
+        → IfSome result (λ places. AreLive held.now.links labels 0 (length held.now.links) places.now) }
+{
+    if coarser { held.live() } else { None }
+}
+
+// Lays the links of a shard aside whose ends have one label. Where the labels don't coarsen those of the last answer,
+// all links of all shards are live before.
+fn lay_aside<A: Allocator>(
+    shards: &mut BTreeMap<u32, Held<A>, A>,
     shard: u32,
     labels: &Labels<A>,
-) -> Result<Frame<A>, AllocError>
-    requires few_links { length links.now ≤ MAX_SHARD_LINKS }
-    requires ask { IsAsk round shard labels.now }
-    ensures reply { IfOk result (λ reply. IsReply (Some links.now) round shard labels.now (value_of reply)) }
-    ensures lawful { IfOk result (λ reply. IsLawful (value_of reply)) }
+    coarser: bool,
+)
+    requires ends { IfSome (shelf_of (kept_in shards.old.entries) shard) (EndsUpTo (length labels.now)) }
+    requires live { IsTrue coarser → AreAllUnder labels.now shards.old.entries }
+    ensures kept { kept_in shards.new.entries ≡ kept_in shards.old.entries }
+    ensures live { AreAllUnder labels.now shards.new.entries }
 {
-    if !have_ends_up_to(links, labels.n()) {
-        return Ok(Frame::Fault {
-            round,
-            shard,
-            code: NO_LABEL,
-        });
+    if coarser {
+        lay_one_aside(shards, shard, labels);
+    } else {
+        make_all_live(shards);
+        lay_one_aside(shards, shard, labels);
     }
-    let offers = scanner.scan(links, labels)?;
-    Ok(Frame::Answer(Answer {
-        round,
-        shard,
-        offers,
-    }))
+}
+
+fn lay_one_aside<A: Allocator>(
+    shards: &mut BTreeMap<u32, Held<A>, A>,
+    shard: u32,
+    labels: &Labels<A>,
+)
+    requires ends { IfSome (shelf_of (kept_in shards.old.entries) shard) (EndsUpTo (length labels.now)) }
+    requires live { AreAllUnder labels.now shards.old.entries }
+    ensures kept { kept_in shards.new.entries ≡ kept_in shards.old.entries }
+    ensures live { AreAllUnder labels.now shards.new.entries }
+{
+    if let Some(held) = shards.get_mut(&shard) {
+        held.lay_aside(labels);
+    }
 }
 
 fn have_ends_up_to(links: &[Link], n: u32) -> bool

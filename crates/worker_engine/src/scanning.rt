@@ -1,9 +1,10 @@
 //! The light offers of a shard, in one pass over its links.
-ghost use Rattle.std.specs.Prelude.{◌≡◌, ◌<◌, ◌≤◌, length, replicate, IfOk, OnOk};
+ghost use Rattle.std.specs.Prelude.{◌≡◌, ℕ, ◌+◌, ◌<◌, ◌≤◌, length, replicate, Some, IfSome, IfOk, OnOk};
 ghost use Rattle.link_key.specs.Link.{EndsUpTo};
 ghost use Rattle.link_key.specs.Labels.{AreLabels};
 ghost use Rattle.round_theory.specs.Offers.{AreLightOffers};
-ghost use Rattle.worker_engine.specs.Scanning.{no_best, KeepsWithNext, AreBest};
+ghost use Rattle.worker_engine.specs.Scanning.{no_best, Says, KeepsLesser, AreBest};
+ghost use Rattle.worker_engine.specs.Live.{AreLive};
 
 use limits::MAX_SHARD_LINKS;
 use link_key::{Labels, Link, Offers};
@@ -80,65 +81,153 @@ impl<A: Allocator + Copy> Scanner<A> {
         ensures table { OnOk result (self.new ≡ length labels.now) }
     {
         let labels = labels.as_slice();
-        self.table.clear();
-        self.table.resize(
-            labels.len(),
-            Best {
-                weight: NO_WEIGHT,
-                place: NO_PLACE,
-            },
-        )?;
+        clear(&mut self.table, labels)?;
         find_best(links, labels, self.table.as_mut_slice());
         let alloc = *self.table.allocator();
-        let pairs = gather(alloc, links, labels, self.table.as_slice())?;
-        match Offers::of_pairs(pairs) {
-            Some(offers) => Ok(offers),
-            None => unreachable!(),
+        offers_of(alloc, links, labels, self.table.as_slice())
+    }
+
+    // The same offers, by the links at the live places alone; by all links where none are told.
+    pub(crate) fn scan_live<B: Allocator>(
+        &mut self,
+        links: &[Link],
+        live: Option<&[u32]>,
+        labels: &Labels<B>,
+    ) -> Result<Offers<A>, AllocError>
+        requires few_links { length links.now ≤ MAX_SHARD_LINKS }
+        requires ends { EndsUpTo (length labels.now) links.now }
+        requires live { IfSome live (λ places. AreLive links.now labels.now 0 (length links.now) places.now) }
+        ensures light { IfOk result (AreLightOffers links.now labels.now) }
+    {
+        match live {
+            Some(places) => self.scan_places(links, places, labels),
+            None => self.scan(links, labels),
         }
+    }
+
+    fn scan_places<B: Allocator>(
+        &mut self,
+        links: &[Link],
+        places: &[u32],
+        labels: &Labels<B>,
+    ) -> Result<Offers<A>, AllocError>
+        requires few_links { length links.now ≤ MAX_SHARD_LINKS }
+        requires ends { EndsUpTo (length labels.now) links.now }
+        requires live { AreLive links.now labels.now 0 (length links.now) places.now }
+        ensures light { IfOk result (AreLightOffers links.now labels.now) }
+    {
+        let labels = labels.as_slice();
+        clear(&mut self.table, labels)?;
+        find_best_live(links, places, labels, self.table.as_mut_slice());
+        let alloc = *self.table.allocator();
+        offers_of(alloc, links, labels, self.table.as_slice())
     }
 }
 
-// The pass over the links: a link whose ends have two labels leaves both, and no other.
+// A table that keeps nothing for each label.
+fn clear<A: Allocator + Copy>(table: &mut Vec<Best, A>, labels: &[u32]) -> Result<(), AllocError>
+    ensures none_yet { OnOk result (table.new.items ≡ replicate (length labels.now) no_best) }
+{
+    table.clear();
+    table.resize(
+        labels.len(),
+        Best {
+            weight: NO_WEIGHT,
+            place: NO_PLACE,
+        },
+    )
+}
+
+// The offers of a table.
+fn offers_of<A: Allocator + Copy>(
+    alloc: A,
+    links: &[Link],
+    labels: &[u32],
+    table: &[Best],
+) -> Result<Offers<A>, AllocError>
+    requires few_links { length links.now ≤ MAX_SHARD_LINKS }
+    requires ends { EndsUpTo (length labels.now) links.now }
+    requires labels { AreLabels labels.now }
+    requires best { AreBest links.now labels.now 0 (length links.now) table.now }
+    ensures light { IfOk result (AreLightOffers links.now labels.now) }
+{
+    let pairs = gather(alloc, links, labels, table)?;
+    match Offers::of_pairs(pairs) {
+        Some(offers) => Ok(offers),
+        None => unreachable!(),
+    }
+}
+
+// The pass over all links.
 fn find_best(links: &[Link], labels: &[u32], table: &mut [Best])
     requires few_links { length links.now ≤ MAX_SHARD_LINKS }
     requires ends { EndsUpTo (length labels.now) links.now }
     requires labels { AreLabels labels.now }
     requires none_yet { table.old ≡ replicate (length labels.now) no_best }
-    ensures best { AreBest links.now links.now labels.now table.new }
+    ensures best { AreBest links.now labels.now 0 (length links.now) table.new }
 {
-    for (place, link) in links.iter().enumerate() {
-        let low = labels[link.low as usize - 1];
-        let high = labels[link.high as usize - 1];
-        if low != high {
-            keep_lesser(&mut table[low as usize - 1], links, place as u32);
-            keep_lesser(&mut table[high as usize - 1], links, place as u32);
-        }
+    for place in 0..links.len() {
+        keep_link(links, labels, place as u32, table);
     }
 }
 
-// Keeps the link at the next place where it is less than the best one so far, or the first one. Mostly it is neither, and
-// then nothing is stored.
-#[inline]
-fn keep_lesser(best: &mut Best, links: &[Link], place: u32)
+// The pass over the links at the live places. The others leave no label.
+fn find_best_live(links: &[Link], places: &[u32], labels: &[u32], table: &mut [Best])
     requires few_links { length links.now ≤ MAX_SHARD_LINKS }
-    requires next { place < length links.now }
-    ensures lesser { KeepsWithNext links.now place best.old best.new }
+    requires ends { EndsUpTo (length labels.now) links.now }
+    requires labels { AreLabels labels.now }
+    requires live { AreLive links.now labels.now 0 (length links.now) places.now }
+    requires none_yet { table.old ≡ replicate (length labels.now) no_best }
+    ensures best { AreBest links.now labels.now 0 (length links.now) table.new }
 {
-    let next = links[place as usize];
-    let new = Best {
-        weight: next.weight,
-        place,
-    };
+    for place in places {
+        keep_link(links, labels, *place, table);
+    }
+}
+
+// Takes the link at the next place into the table: one whose ends have two labels leaves both, and no other.
+#[inline]
+fn keep_link(links: &[Link], labels: &[u32], place: u32, table: &mut [Best])
+    requires few_links { length links.now ≤ MAX_SHARD_LINKS }
+    requires ends { EndsUpTo (length labels.now) links.now }
+    requires labels { AreLabels labels.now }
+    requires next { place < length links.now }
+    requires each_vertex { length table.old ≡ length labels.now }
+    ensures best { (from : ℕ) → from ≤ place → AreBest links.now labels.now from place table.old
+        → AreBest links.now labels.now from (place + 1) table.new }
+{
+    let link = links[place as usize];
+    let low = labels[link.low as usize - 1];
+    let high = labels[link.high as usize - 1];
+    if low != high {
+        let next = Best {
+            weight: link.weight,
+            place,
+        };
+        keep_lesser(&mut table[low as usize - 1], links, next);
+        keep_lesser(&mut table[high as usize - 1], links, next);
+    }
+}
+
+// Keeps the next link where it is less than the best one so far, or the first one. Mostly it is neither, and then
+// nothing is stored.
+#[inline]
+fn keep_lesser(best: &mut Best, links: &[Link], next: Best)
+    requires few_links { length links.now ≤ MAX_SHARD_LINKS }
+    requires next { Says links.now next (Some next.place) }
+    ensures lesser { KeepsLesser links.now next best.old best.new }
+{
     if best.weight < next.weight {
         return;
     }
     if next.weight < best.weight {
-        *best = new;
+        *best = next;
         return;
     }
+    let link = links[next.place as usize];
     match links.get(best.place as usize) {
-        Some(earlier) if *earlier <= next => {}
-        _ => *best = new,
+        Some(earlier) if *earlier <= link => {}
+        _ => *best = next,
     }
 }
 
@@ -152,7 +241,7 @@ fn gather<A: Allocator + Copy>(
     requires few_links { length links.now ≤ MAX_SHARD_LINKS }
     requires ends { EndsUpTo (length labels.now) links.now }
     requires labels { AreLabels labels.now }
-    requires best { AreBest links.now links.now labels.now table.now }
+    requires best { AreBest links.now labels.now 0 (length links.now) table.now }
     ensures light { IfOk result (λ pairs. AreLightOffers links.now labels.now pairs.items) }
 {
     let mut pairs = Vec::new(alloc);

@@ -1,0 +1,98 @@
+-- Live places of a shard's links.
+use Rattle.std.proofs.Common.{◌≡◌, ℕ, zero, suc, ◌+◌, ◌<◌, ◌≤◌, List, [], ◌∷◌, ◌++◌, length, get_or, take, set, Bool, true, Option, Some, None, refl, sym, ap, ◌∙◌, subst, inl, inr, arith}
+use Rattle.std.proofs.lemmas.Bool.{cases_lt}
+use Rattle.std.proofs.lemmas.List.{get_or_default, take_more_set}
+use Rattle.link_key.specs.declared.links.Link.{Link}
+use Rattle.link_key.specs.Labels.{label_of, Coarsens}
+use Rattle.worker_engine.specs.Live.{IsQuiet, AreQuiet, AreLive, LeaveNoneOut}
+use Rattle.worker_engine.proofs.BestSoFar.{one_read}
+
+-- what is quiet stays so under labels that coarsen
+pub quiet_coarser : (labels finer : List ℕ) (l : Link) → Coarsens labels finer → IsQuiet finer l → IsQuiet labels l
+quiet_coarser labels finer l coarsens quiet = record {
+  labelled = omega (arith, coarsens.vertices, quiet.labelled);
+  one_label = coarsens.together l.low l.high (omega (arith, l.from_one)) (omega (arith, l.ascending, quiet.labelled)) (omega (arith, l.from_one, l.ascending)) quiet.labelled quiet.one_label;
+}
+
+pub live_coarser : (links : List Link) (labels finer : List ℕ) (from to : ℕ) (places : List ℕ) → Coarsens labels finer → AreLive links finer from to places → AreLive links labels from to places
+live_coarser links labels finer from to [] coarsens (le, quiet) = (le, λ q l from_start before_end read. quiet_coarser labels finer l coarsens (quiet q l from_start before_end read))
+live_coarser links labels finer from to (p ∷ places) coarsens (le, quiet, rest) =
+    (le, λ q l from_start before_end read. quiet_coarser labels finer l coarsens (quiet q l from_start before_end read), live_coarser links labels finer (p + 1) to places coarsens rest)
+
+module _ (links : List Link) (labels : List ℕ) where
+  -- the places lie in the range
+  pub live_range : (from to : ℕ) (places : List ℕ) → AreLive links labels from to places → from ≤ to
+  live_range from to [] (le, quiet) = le
+  live_range from to (p ∷ places) (le, quiet, rest) = omega (arith, le, live_range (p + 1) to places rest)
+
+  -- up to the first place all is quiet
+  pub live_first : (from to : ℕ) (places : List ℕ) → AreLive links labels from to places → (from ≤ get_or places 0 to) × AreQuiet links labels from (get_or places 0 to)
+  live_first from to [] live = live
+  live_first from to (p ∷ places) (le, quiet, rest) = (le, quiet)
+
+  -- and from each to the next
+  live_behind : (from to : ℕ) (places : List ℕ) (k d : ℕ) → AreLive links labels from to places → k < length places
+      → (get_or places k d + 1 ≤ get_or places (suc k) to) × AreQuiet links labels (get_or places k d + 1) (get_or places (suc k) to)
+  live_behind from to [] k d live lt = absurd (omega (arith, lt))
+  live_behind from to (p ∷ places) zero d (le, quiet, rest) lt = live_first (p + 1) to places rest
+  live_behind from to (p ∷ places) (suc k) d (le, quiet, rest) lt = live_behind (p + 1) to places k d rest (omega (arith, lt))
+
+  pub live_next : (from to : ℕ) (places : List ℕ) (k d : ℕ) → AreLive links labels from to places → k < length places
+      → (get_or places k d + 1 ≤ get_or places (k + 1) to) × AreQuiet links labels (get_or places k d + 1) (get_or places (k + 1) to)
+  live_next from to places k d live lt =
+      let next : suc k ≡ k + 1 = omega arith in
+      subst (λ j. (get_or places k d + 1 ≤ get_or places j to) × AreQuiet links labels (get_or places k d + 1) (get_or places j to)) next (live_behind from to places k d live lt)
+
+  -- a place lies in the range
+  pub live_within : (from to : ℕ) (places : List ℕ) (k d : ℕ) → AreLive links labels from to places → k < length places → (from ≤ get_or places k d) × (get_or places k d < to)
+  live_within from to [] k d live lt = absurd (omega (arith, lt))
+  live_within from to (p ∷ places) zero d (le, quiet, rest) lt = (le, omega (arith, live_range (p + 1) to places rest))
+  live_within from to (p ∷ places) (suc k) d (le, quiet, rest) lt = let (low, high) = live_within (p + 1) to places k d rest (omega (arith, lt)) in (omega (arith, low, le), high)
+
+  -- the range goes on over quiet links
+  pub live_goes_on : (from at to : ℕ) (places : List ℕ) → AreLive links labels from at places → at ≤ to → AreQuiet links labels at to → AreLive links labels from to places
+  live_goes_on from at to [] (le, quiet) more quiet' = (
+    omega (arith, le, more),
+    λ q l from_start before_end read. elim (cases_lt q at) [
+      | inl lt ↦ quiet q l from_start lt read
+      | inr later ↦ quiet' q l later before_end read
+    ],
+  )
+  live_goes_on from at to (p ∷ places) (le, quiet, rest) more quiet' = (le, quiet, live_goes_on (p + 1) at to places rest more quiet')
+
+  -- one more place
+  pub live_push : (from at : ℕ) (places : List ℕ) → AreLive links labels from at places → AreLive links labels from (at + 1) (places ++ at ∷ [])
+  live_push from at [] (le, quiet) = (le, quiet, (omega arith, λ q l from_start before_end read. absurd (omega (arith, from_start, before_end))))
+  live_push from at (p ∷ places) (le, quiet, rest) = (le, quiet, live_push (p + 1) at places rest)
+
+  module _ (to : ℕ) (old : List ℕ) (i : ℕ) (live : AreLive links labels 0 to old) (within : i < length old) (kept : ℕ) (places : List ℕ) (front : AreLive links labels 0 (get_or old i to) (take kept places)) where
+    -- the place that stands next
+    abbrev next : ℕ
+    next = get_or old i 0
+
+    -- up to it
+    up_to_next : AreLive links labels 0 next (take kept places)
+    up_to_next = subst (λ k. AreLive links labels 0 k (take kept places)) (get_or_default old i to 0 within) front
+
+    -- it is moved to the front
+    pub live_moved : kept < length places → AreLive links labels 0 (get_or old (i + 1) to) (take (kept + 1) (set places kept next))
+    live_moved room =
+        let (le, quiet) = live_next 0 to old i 0 live within in
+        subst (AreLive links labels 0 (get_or old (i + 1) to)) (sym (take_more_set places kept next room))
+        (live_goes_on 0 (next + 1) (get_or old (i + 1) to) (take kept places ++ next ∷ []) (live_push 0 next (take kept places) up_to_next) le quiet)
+
+    -- it is left out
+    pub live_left_out : AreQuiet links labels next (next + 1) → AreLive links labels 0 (get_or old (i + 1) to) (take kept places)
+    live_left_out alone =
+        let (le, quiet) = live_next 0 to old i 0 live within in
+        live_goes_on 0 (next + 1) (get_or old (i + 1) to) (take kept places) (live_goes_on 0 next (next + 1) (take kept places) up_to_next (omega arith) alone) le quiet
+
+  -- a link both of whose ends have one label is quiet
+  pub quiet_alone : (i : ℕ) (l : Link) → i < length links → l ≡ get_or links i l → l.high ≤ length labels → label_of labels l.low ≡ label_of labels l.high → AreQuiet links labels i (i + 1)
+  quiet_alone i l within read ends same q m from_start before_end m_read =
+      let at : q ≡ i = omega (arith, from_start, before_end) in
+      subst (IsQuiet labels) (one_read links i l m within read (subst (λ k. m ≡ get_or links k m) at m_read)) (record { labelled = ends; one_label = same })
+
+-- all places up to one more
+pub live_counted : (places : List ℕ) (i : ℕ) → LeaveNoneOut i (take i places) → i < length places → LeaveNoneOut (i + 1) (take (i + 1) (set places i i))
+live_counted places i none within links labels = subst (AreLive links labels 0 (i + 1)) (sym (take_more_set places i i within)) (live_push links labels 0 i (take i places) (none links labels))
