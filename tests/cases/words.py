@@ -80,6 +80,18 @@ def wrong_words(_room):
 
 
 @case
+def the_help_beside_other_words(_room):
+    for words in [["--help", "--wrong"], ["--report", "--help"], ["no/such/file", "-h", "--shards"]]:
+        status, output, errors = ran(words, SMALL_NET)
+        expect((status, b"", errors), 0, b"", b"")
+        if output != ran(["--help"], b"")[1]:
+            raise AssertionError(f"{words}: another help: {output!r:.300}")
+    status, output, errors = ran(["--wrong", "--help"], SMALL_NET)
+    if (status, output) != (2, b"") or not errors:
+        raise AssertionError(f"a wrong word before the help: {status} {output!r:.100} {errors!r:.100}")
+
+
+@case
 def a_word_that_is_not_utf_8(_room):
     expect(ran([b"--plain", b"\xff.gr"], SMALL_NET), 2, b"", b"boruvka: a word is not UTF-8\n")
 

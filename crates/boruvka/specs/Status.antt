@@ -1,22 +1,60 @@
 -- How the program ends.
-use Rattle.std.specs.Prelude.{◌≡◌, ◌≢◌, ◌≤◌, ℕ, ◌⊎◌, List, [], ◌∷◌, length, All, None, Some, Result, Ok, Err, codes}
+use Rattle.std.specs.Prelude.{◌≡◌, ◌≢◌, ◌≤◌, ℕ, ◌⊎◌, List, [], ◌∷◌, ◌++◌, length, All, Option, None, Some, Bool, true, false, Result, Ok, Err, codes, option_map}
 use Rattle.std.specs.Global.{Vec}
-use Rattle.byte_streams.specs.Streams.{SourceState, SinkState, tells_left, Took}
+use Rattle.std.specs.String.{string_bytes}
+use Rattle.byte_streams.specs.Streams.{SourceState, SinkState, tells_left, Took, WentOut, HadNoSetback}
+use Rattle.gr_text.specs.Graph.{GraphValue}
 use Rattle.gr_text.specs.declared.faults.ReadFault.TheVariants as read
 use Rattle.clap.specs.Words.{IsAmong}
 use Rattle.clap.specs.declared.error.kind.ErrorKind.{ErrorKind}
 use Rattle.clap.specs.declared.error.kind.ErrorKind.TheVariants.{DisplayHelp}
 use Rattle.link_key.specs.declared.cuts.CutFault.TheVariants as cut
+use Rattle.ports.specs.Lines.{LineState}
+use Rattle.forest_run.specs.Cuttings.{cut_refusal}
+use Rattle.forest_run.specs.Files.{HasFile, IsFileOf, MeansGraph, MeansNothing, IsFirstFaultOf, IsNoRefusal}
 use Rattle.forest_run.specs.Outcomes.{Streams, streams}
 use Rattle.forest_run.specs.PlainRun.{RanPlain}
-use Rattle.forest_run.specs.LinesRun.{RanLines, RanServed}
+use Rattle.forest_run.specs.LinesRun.{RanLines, RanServed, IsUnhindered}
+use Rattle.forest_run.specs.ReportText.{report_text}
+use Rattle.forest_run.specs.WiredLines.{AreServed}
 use Rattle.forest_run.specs.declared.cutting.Cutting.TheVariants.{Even}
 use Rattle.forest_run.specs.declared.report.Report.{Report}
 use Rattle.forest_run.specs.declared.fault.RunFault.{RunFault}
 use Rattle.forest_run.specs.declared.fault.RunFault.TheVariants as fault
 use Rattle.tcp_lines.specs.Lines.{TcpLineState, line_of, unused}
 use Rattle.tcp_lines.specs.declared.line.TcpLine.{TcpLine}
-use Rattle.boruvka.specs.Arguments.{refusals, given, IsNumberOf, IsMistake}
+use Rattle.boruvka.specs.Arguments.{refusals, given, file_named, IsNumberOf, IsMistake}
+use Rattle.boruvka.specs.declared.chosen.Options.{Options}
+
+-- ---- the program's streams
+
+-- the program's three streams, as each tells itself
+pub record Standard : Type 0 where
+  pub source : SourceState
+  pub sink : SinkState
+  pub errors : SinkState
+
+-- what an input, an output and errors tell
+abbrev pub told : {I O E : Type 0} → (I → SourceState) → (O → SinkState) → (E → SinkState) → I → O → E → Standard
+told source_of sink_of errors_of input output errors = record { source = source_of input; sink = sink_of output; errors = errors_of errors }
+
+-- the two that a run reads and writes
+abbrev pub of_run : Standard → Streams
+of_run all = streams all.source all.sink
+
+-- nothing was written, and the sink had no setback
+abbrev pub IsUntouched : SinkState → SinkState → Type 0
+IsUntouched before after = Took 0 [] before after
+
+-- all of a text was written, or a first part of it and then came a setback
+abbrev pub IsWritten : List ℕ → SinkState → SinkState → Type 0
+IsWritten text before after = Took 0 text before after ⊎ ((written : ℕ) × WentOut 0 written text before after)
+
+-- the same of some text
+abbrev pub TookText : SinkState → SinkState → Type 0
+TookText before after = (text : List ℕ) × IsWritten text before after
+
+-- ---- the status
 
 -- the status of a fault: 1 the file's, or that it can't be cut so, 3 a stream's, 4 want of memory, 5 the workers'
 abbrev pub status_for : RunFault → ℕ
@@ -36,52 +74,140 @@ abbrev pub status_of_run : {X : Type 0} → Result X RunFault → ℕ
 status_of_run (Ok report) = 0
 status_of_run (Err why) = status_for why
 
--- a run by one thread had this status, and did to its streams what it says
-abbrev pub EndsWith : ℕ → Streams → Streams → Type 0
-EndsWith status before after = (result : Result Report RunFault) × (status ≡ status_of_run result) × RanPlain result before after
+-- a status at which nothing was written: the file was refused or couldn't be cut, the words were wrong, memory was wanting, or what the workers answered made no forest
+abbrev pub LeavesOutput : ℕ → Type 0
+LeavesOutput status = (status ≡ 1) ⊎ (status ≡ 2) ⊎ (status ≡ 4) ⊎ (status ≡ 5)
 
--- a run over new lines to at most so many workers, of links cut into so many shards, had this status, and did to its streams what it says. Nothing is known of what comes over the lines; a run that had no line found the minimum spanning forest
-pub record EndsOver (workers shards status : ℕ) (before after : Streams) : Type 0 where
+-- ---- the report
+
+-- a report as a line
+abbrev pub report_line : Report → List ℕ
+report_line report = report_text report ++ 10 ∷ []
+
+-- what the errors got of a run that answered this: the line of its report where that is asked for, and else nothing; of a fault a text
+abbrev pub IsReported : Bool → Result Report RunFault → SinkState → SinkState → Type 0
+IsReported true (Ok report) = IsWritten (report_line report)
+IsReported false (Ok report) = IsUntouched
+IsReported wants (Err why) = TookText
+
+-- what a run over lines answered, but for the lines
+abbrev pub report_of : {X : Type 0} → Result (Report × X) RunFault → Result Report RunFault
+report_of (Ok went) = Ok went.0
+report_of (Err why) = Err why
+
+-- ---- how a run ends
+
+-- a run by one thread, whose report is wanted or not, had this status, and did to its streams what it says
+pub record EndsWith (wants : Bool) (status : ℕ) (before after : Standard) : Type 0 where
+  pub result : Result Report RunFault
+  pub status_is : status ≡ status_of_run result
+  pub ran : RanPlain result (of_run before) (of_run after)
+  pub reported : IsReported wants result before.errors after.errors
+  -- of a source that tells
+  pub malformed : (bytes : List ℕ) → HasFile bytes before.source after.source → MeansNothing bytes → IsFirstFaultOf bytes result
+  pub lawful : (bytes : List ℕ) → HasFile bytes before.source after.source → MeansGraph bytes → IsNoRefusal result
+
+-- the same of a run over these lines, of links cut into so many shards, whatever the workers answer
+pub record EndsOver {L : Type 0} (state : L → LineState) (faithful : L → ℕ → Type 0) (lines : List L) (shards : ℕ) (wants : Bool) (status : ℕ) (before after : Standard) : Type 0 where
+  pub result : Result (Report × Vec L) RunFault
+  pub status_is : status ≡ status_of_run result
+  pub ran : RanLines state faithful (Even shards) lines result (of_run before) (of_run after)
+  pub reported : IsReported wants (report_of result) before.errors after.errors
+  -- of a source that tells
+  pub malformed : (bytes : List ℕ) → HasFile bytes before.source after.source → MeansNothing bytes → IsFirstFaultOf bytes result
+  pub lawful : (bytes : List ℕ) → HasFile bytes before.source after.source → MeansGraph bytes → IsNoRefusal result
+  -- where each line is new and carries its worker's session
+  pub served : AreServed state faithful lines → RanServed (Even shards) result (of_run before) (of_run after)
+  pub ends_well : AreServed state faithful lines → (bytes : List ℕ) (graph : GraphValue) → HasFile bytes before.source after.source → IsFileOf bytes graph
+      → cut_refusal (Even shards) (length graph.links) ≡ None → IsUnhindered result before.sink after.sink
+
+-- a run over new lines to at most so many workers ended so. Nothing is known of what comes over the lines; a run that had no line found the minimum spanning forest
+pub record EndsOverWorkers (workers shards : ℕ) (wants : Bool) (status : ℕ) (before after : Standard) : Type 0 where
   pub lines : List TcpLineState
   pub few : length lines ≤ workers
   pub new : All (λ line. line ≡ unused) lines
-  pub result : Result (Report × Vec TcpLine) RunFault
-  pub status_is : status ≡ status_of_run result
-  pub ran : RanLines line_of (λ line worker. ⊥) (Even shards) lines result before after
-  pub alone : length lines ≡ 0 → RanServed (Even shards) result before after
+  pub ends : EndsOver line_of (λ line worker. ⊥) lines shards wants status before after
+  pub alone : length lines ≡ 0 → RanServed (Even shards) ends.result (of_run before) (of_run after)
+
+-- ---- what follows for the status, of a source that tells
+
+-- the source has a file whose graph can be cut into so many shards, and no read failed
+pub record HasGraph (shards : ℕ) (before after : SourceState) : Type 0 where
+  pub bytes : List ℕ
+  pub graph : GraphValue
+  pub has : HasFile bytes before after
+  pub file : IsFileOf bytes graph
+  pub allowed : cut_refusal (Even shards) (length graph.links) ≡ None
+
+-- the source has a file that means nothing, and no read failed
+abbrev pub HasNoGraph : SourceState → SourceState → Type 0
+HasNoGraph before after = (bytes : List ℕ) × HasFile bytes before after × MeansNothing bytes
+
+-- the run was done, or only want of memory or a setback of the sink hindered it
+abbrev pub IsDone : ℕ → SinkState → SinkState → Type 0
+IsDone status before after = (status ≡ 0) ⊎ ((status ≡ 4) ⊎ ((status ≡ 3) × ¬ HadNoSetback before after))
+
+-- ---- what is asked for
+
+-- what lawful words ask for: so many workers and shards, or one thread alone; with the report or without; on this file, or on the input
+pub record Asked : Type 0 where
+  pub workers : ℕ
+  pub shards : ℕ
+  pub plain : Bool
+  pub report : Bool
+  pub file : Option (List ℕ)
+
+abbrev pub asked_of : Options → Asked
+asked_of chosen = record {
+  workers = chosen.workers;
+  shards = chosen.shards;
+  plain = chosen.plain;
+  report = chosen.report;
+  file = option_map string_bytes chosen.file;
+}
 
 -- a source that tells nothing of itself
 abbrev pub untold : SourceState
 untold = tells_left None
 
--- nothing was written, and the sink had no setback
-abbrev pub IsUntouched : SinkState → SinkState → Type 0
-IsUntouched before after = Took 0 [] before after
+-- the streams with such a source
+abbrev pub from_file : Standard → Standard
+from_file all = record { source = untold; sink = all.sink; errors = all.errors }
 
--- what is done with a FILE: it can't be opened, and nothing is written, or it is run on, and tells nothing of itself
-abbrev pub EndsOnFile : ℕ → SinkState → SinkState → Type 0
-EndsOnFile status before after = ((status ≡ 3) × IsUntouched before after) ⊎ EndsWith status (streams untold before) (streams untold after)
+-- a run by one thread, or over workers
+abbrev pub EndsAs : Bool → Asked → ℕ → Standard → Standard → Type 0
+EndsAs true asked = EndsWith asked.report
+EndsAs false asked = EndsOverWorkers asked.workers asked.shards asked.report
 
--- the same of a run over workers
-abbrev pub EndsOverOnFile : ℕ → ℕ → ℕ → SinkState → SinkState → Type 0
-EndsOverOnFile workers shards status before after =
-    ((status ≡ 3) × IsUntouched before after) ⊎ EndsOver workers shards status (streams untold before) (streams untold after)
+-- what is done with a FILE: it can't be opened, and nothing is written, or it is run on, and tells nothing of itself; without a FILE the input is run on
+abbrev pub EndsOn : Option (List ℕ) → Asked → ℕ → Standard → Standard → Type 0
+EndsOn None asked status before after = EndsAs asked.plain asked status before after
+EndsOn (Some name) asked status before after =
+    ((status ≡ 3) × IsUntouched before.sink after.sink) ⊎ EndsAs asked.plain asked status (from_file before) (from_file after)
 
--- a status at which nothing was written: the file was refused or couldn't be cut, the words were wrong, memory was wanting, or what the workers answered made no forest
-abbrev pub LeavesOutput : ℕ → Type 0
-LeavesOutput status = (status ≡ 1) ⊎ (status ≡ 2) ⊎ (status ≡ 4) ⊎ (status ≡ 5)
+-- what is asked for was done
+abbrev pub Obeys : Asked → ℕ → Standard → Standard → Type 0
+Obeys asked = EndsOn asked.file asked
 
 -- ---- by what the words ask for, the program's name first
 
--- lawful words with `--plain`
-abbrev pub AskPlainly : List (List ℕ) → Type 0
-AskPlainly words = (refusals words ≡ []) × (given words (codes "plain") ≡ Some (codes "true"))
+-- what is given under a flag's name
+abbrev pub flag_text : Bool → List ℕ
+flag_text true = codes "true"
+flag_text false = codes "false"
 
--- lawful words without `--plain`, for so many workers and shards: without a word on them 2 and 64
-abbrev pub AskWorkers : ℕ → ℕ → List (List ℕ) → Type 0
-AskWorkers workers shards words =
-    (refusals words ≡ []) × (given words (codes "plain") ≡ Some (codes "false"))
-    × IsNumberOf (given words (codes "workers")) 2 workers × IsNumberOf (given words (codes "shards")) 64 shards
+-- lawful words that ask for this: without a word on them for 2 workers and 64 shards
+pub record Ask (asked : Asked) (words : List (List ℕ)) : Type 0 where
+  pub lawful : refusals words ≡ []
+  pub workers : IsNumberOf (given words (codes "workers")) 2 asked.workers
+  pub shards : IsNumberOf (given words (codes "shards")) 64 asked.shards
+  pub plain : given words (codes "plain") ≡ Some (flag_text asked.plain)
+  pub report : given words (codes "report") ≡ Some (flag_text asked.report)
+  pub file : file_named words ≡ asked.file
+
+-- what lawful words ask for was done
+abbrev pub ObeysWords : List (List ℕ) → ℕ → Standard → Standard → Type 0
+ObeysWords words status before after = (asked : Asked) → Ask asked words → Obeys asked status before after
 
 -- words that ask for the help alone
 abbrev pub AskForHelp : List (List ℕ) → Type 0

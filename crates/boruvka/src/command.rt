@@ -1,21 +1,22 @@
 //! What the program does.
-ghost use Rattle.std.specs.Prelude.{◌≡◌, ◌≢◌, ◌≤◌, ℕ, true, false, map, length, All, None, IsNone, IsSome, IfOk};
+ghost use Rattle.std.specs.Prelude.{◌≡◌, ◌≢◌, ◌≤◌, ◌⊎◌, [], map, length, All, IsSome, true, false, codes};
 ghost use Rattle.std.specs.IoError.{error_kind};
 ghost use Rattle.limits.specs.declared.TheConstants.{MAX_WORKERS};
 ghost use Rattle.clap.specs.Words.{kind_of};
-ghost use Rattle.tcp_lines.specs.Lines.{unused};
-ghost use Rattle.forest_run.specs.Outcomes.{streams};
-ghost use Rattle.boruvka.specs.Arguments.{IsMistake, file_named};
-ghost use Rattle.boruvka.specs.Status.{status_of_run, EndsWith, EndsOnFile, EndsOver, EndsOverOnFile, HelpEnds, RefusesWords, LeavesOutput, IsUntouched};
-ghost use Rattle.boruvka.specs.Status.{AskPlainly, AskWorkers, AskForHelp, AreWrong};
+ghost use Rattle.ports.specs.Lines.{HasRoom};
+ghost use Rattle.forest_run.specs.WiredLines.{AreServed};
+ghost use Rattle.boruvka.specs.Arguments.{IsMistake, file_named, given, refusals};
+ghost use Rattle.boruvka.specs.Status.{told, asked_of, status_of_run, report_of, IsReported, EndsOver, EndsAs, Obeys, ObeysWords};
+ghost use Rattle.boruvka.specs.Status.{HasGraph, HasNoGraph, IsDone, LeavesOutput, IsUntouched, AskForHelp, AreWrong, HelpEnds, RefusesWords};
 
 use crate::arguments::options;
 use crate::chosen::{Options, OptionsFault};
-use crate::messages::{tell, tell_line, tell_unopened};
-use crate::standard::{Held, hold_closed};
+use crate::messages::{tell, tell_report, tell_unopened, write_text};
+use crate::standard::workers_beside;
 use crate::statuses::{DEVICE, NO_MEMORY, USAGE, status_of};
 use byte_streams::{Sink, Source, Untold, put};
 use forest_run::{Cutting, Report, RunFault, run_lines, run_plain};
+use ports::Line;
 use std::alloc::{Alloc, AllocError, Global};
 use std::convert::AsStr;
 use std::fs::{File, Files};
@@ -23,17 +24,19 @@ use std::io::{self, ErrorKind};
 use std::net::{Net, TcpListener, TcpStream};
 use std::sync::Wait;
 use std::thread::Threads;
-use tcp_lines::{TcpLine, Workers};
+use tcp_lines::Workers;
 
-// Tells the report of a run that ended well, where it is asked for, or why it ended ill.
+// Tells the report of a run that ended well, where it is wanted, or why it ended ill.
 fn tell_end<E: Sink>(wants_report: bool, ended: &Result<Report, RunFault>, errors: &mut E) -> u8
     requires { E.can_write errors.old }
-    ensures { result ≡ status_of_run ended.now }
+    ensures status { result ≡ status_of_run ended.now }
+    ensures reported { IsReported wants_report ended.now (E.state errors.old) (E.state errors.new) }
+    ensures quiet { wants_report ≡ false → result ≡ 0 → errors.new ≡ errors.old }
 {
     match ended {
         Ok(report) => {
             if wants_report {
-                tell_line(errors, report);
+                tell_report(errors, report);
             }
             0
         }
@@ -44,31 +47,9 @@ fn tell_end<E: Sink>(wants_report: bool, ended: &Result<Report, RunFault>, error
     }
 }
 
-// Runs by one thread.
-fn run_plainly<I: Source, O: Sink, E: Sink>(
-    alloc: Global,
-    wants_report: bool,
-    input: &mut I,
-    output: &mut O,
-    errors: &mut E,
-) -> u8
-    requires input { I.can_read input.old }
-    requires output { O.can_write output.old }
-    requires errors { E.can_write errors.old }
-
-    // The status is that of the run.
-    ensures ends { EndsWith result (streams (I.state input.old) (O.state output.old))
-        (streams (I.state input.new) (O.state output.new)) }
-    ensures status { result ≤ 4 }
-    ensures silent { LeavesOutput result → IsUntouched (O.state output.old) (O.state output.new) }
-{
-    let ended = run_plain(alloc, input, output);
-    tell_end(wants_report, &ended, errors)
-}
-
 // What a run told, without its lines: they are closed.
-fn without_lines(ended: Result<(Report, Vec<TcpLine>), RunFault>) -> Result<Report, RunFault>
-    ensures { status_of_run result ≡ status_of_run ended }
+fn without_lines<L: Drop>(ended: Result<(Report, Vec<L>), RunFault>) -> Result<Report, RunFault>
+    ensures { result ≡ report_of ended }
 {
     match ended {
         Ok((report, _lines)) => Ok(report),
@@ -76,61 +57,56 @@ fn without_lines(ended: Result<(Report, Vec<TcpLine>), RunFault>) -> Result<Repo
     }
 }
 
-// How many of so many workers may be started: none where a socket could get the number of a standard stream.
-fn safe_count(held: &Option<Held>, workers: u32) -> u32
-    ensures { result ≤ workers }
-{
-    match held {
-        Some(_) => workers,
-        None => 0,
-    }
-}
-
-// Runs over so many workers in threads of this process. Each of them has ended when it answers.
-#[tactic(auto, using(crate::proofs::Endings::over_ends, crate::proofs::Endings::unused_room, crate::proofs::Endings::wants_memory_over, crate::proofs::Endings::bound_over))]
-fn run_over_workers<R, I, O, E>(
+/// Runs over these lines, cuts the links into so many shards, and answers the status.
+///
+/// The line at each place is to the worker of that number. The forest goes to `output`; to `errors` goes the report,
+/// where it is wanted and the run ended well, or why it ended ill. The lines are dropped.
+///
+/// It waits for the workers' answers. What it takes is said at [`run_lines`].
+pub fn run_over<
+    R: Alloc<A = Global> + Threads + Wait + Sync,
+    L: Line + Send + Drop,
+    I: Source,
+    O: Sink,
+    E: Sink,
+>(
     rt: &R,
-    chosen: &Options,
+    shards: u32,
+    wants_report: bool,
+    lines: Vec<L>,
     input: &mut I,
     output: &mut O,
     errors: &mut E,
 ) -> u8
-where
-    R: Files<File = File>
-        + Alloc<A = Global>
-        + Net<Listener = TcpListener, Stream = TcpStream>
-        + Threads
-        + Wait
-        + Sync,
-    I: Source,
-    O: Sink,
-    E: Sink,
-    requires workers { chosen.now.workers ≤ MAX_WORKERS }
+    requires few { length lines.items ≤ MAX_WORKERS }
+    requires room { All (λ line. HasRoom (L.state line)) lines.items }
     requires input { I.can_read input.old }
     requires output { O.can_write output.old }
     requires errors { E.can_write errors.old }
 
-    // The status is that of the run.
-    ensures ends { EndsOver chosen.now.workers chosen.now.shards result
-        (streams (I.state input.old) (O.state output.old))
-        (streams (I.state input.new) (O.state output.new)) }
+    // Whatever the workers answer, and more where each line is new and carries its worker's session.
+    ensures ends { EndsOver L.state L.faithful lines.items shards wants_report result
+        (told I.state O.state E.state input.old output.old errors.old)
+        (told I.state O.state E.state input.new output.new errors.new) }
     ensures status { result ≤ 5 }
     ensures silent { LeavesOutput result → IsUntouched (O.state output.old) (O.state output.new) }
+    ensures quiet { wants_report ≡ false → result ≡ 0 → errors.new ≡ errors.old }
+
+    // A file that means nothing is refused.
+    ensures malformed { HasNoGraph (I.state input.old) (I.state input.new) → (result ≡ 1) ⊎ (result ≡ 4) }
+
+    // Over such lines the workers are never blamed, and a file whose links can be cut so has its forest.
+    ensures blameless { AreServed L.state L.faithful lines.items → result ≢ 5 }
+    ensures done { AreServed L.state L.faithful lines.items
+        → HasGraph shards (I.state input.old) (I.state input.new)
+        → IsDone result (O.state output.old) (O.state output.new) }
 {
-    let alloc = rt.alloc();
-    let held = hold_closed(rt);
-    let count = safe_count(&held, chosen.workers);
-    let Ok((lines, workers)) = Workers::start(rt, alloc, count) else {
-        tell(errors, &"no memory");
-        return NO_MEMORY;
-    };
-    let cutting = Cutting::Even(chosen.shards);
-    let ended = without_lines(run_lines(rt, alloc, input, cutting, lines, output));
-    workers.join(rt);
-    tell_end(chosen.report, &ended, errors)
+    let cutting = Cutting::Even(shards);
+    let ended = without_lines(run_lines(rt, rt.alloc(), input, cutting, lines, output));
+    tell_end(wants_report, &ended, errors)
 }
 
-// Runs as the words ask for, on this input.
+// Runs as the words ask for, on this input. Where it runs over workers, each of them has ended when it answers.
 fn run_on<R, I, O, E>(rt: &R, chosen: &Options, input: &mut I, output: &mut O, errors: &mut E) -> u8
 where
     R: Files<File = File>
@@ -146,21 +122,28 @@ where
     requires input { I.can_read input.old }
     requires output { O.can_write output.old }
     requires errors { E.can_write errors.old }
-    ensures plain { chosen.now.plain ≡ true
-        → EndsWith result (streams (I.state input.old) (O.state output.old))
-        (streams (I.state input.new) (O.state output.new)) }
-    ensures over { chosen.now.plain ≡ false
-        → EndsOver chosen.now.workers chosen.now.shards result
-        (streams (I.state input.old) (O.state output.old))
-        (streams (I.state input.new) (O.state output.new)) }
+    ensures ends { EndsAs chosen.now.plain (asked_of chosen.now) result
+        (told I.state O.state E.state input.old output.old errors.old)
+        (told I.state O.state E.state input.new output.new errors.new) }
     ensures status { result ≤ 5 }
-    ensures few { chosen.now.plain ≡ true → result ≤ 4 }
+    ensures plain_status { chosen.now.plain ≡ true → result ≤ 4 }
     ensures silent { LeavesOutput result → IsUntouched (O.state output.old) (O.state output.new) }
+    ensures quiet { chosen.now.report ≡ false → result ≡ 0 → errors.new ≡ errors.old }
 {
+    let alloc = rt.alloc();
     if chosen.plain {
-        return run_plainly(rt.alloc(), chosen.report, input, output, errors);
+        let ended = run_plain(alloc, input, output);
+        return tell_end(chosen.report, &ended, errors);
     }
-    run_over_workers(rt, chosen, input, output, errors)
+    let (_held, count) = workers_beside(rt, chosen.workers);
+    let Ok((lines, workers)) = Workers::start(rt, alloc, count) else {
+        tell(errors, &"no memory");
+        return NO_MEMORY;
+    };
+    let (shards, wants_report) = (chosen.shards, chosen.report);
+    let status = run_over(rt, shards, wants_report, lines, input, output, errors);
+    workers.join(rt);
+    status
 }
 
 /// Does what lawful words ask for, and answers the status.
@@ -190,27 +173,18 @@ where
     requires output { O.can_write output.old }
     requires errors { E.can_write errors.old }
 
-    // A file that is refused or can't be cut, wrong words, want of memory and answers that make no forest write
-    // nothing to the output.
+    // What is asked for is done, on the input or on FILE, and then the input isn't read.
+    ensures obeys { Obeys (asked_of chosen.now) result
+        (told I.state O.state E.state input.old output.old errors.old)
+        (told I.state O.state E.state input.new output.new errors.new) }
+    ensures leaves_input { IsSome chosen.now.file → input.new ≡ input.old }
+
+    // A file that is refused or can't be cut, want of memory and answers that make no forest write nothing to the
+    // output. Where the run ends well the errors get the report alone.
     ensures status { result ≤ 5 }
     ensures plain_status { chosen.now.plain ≡ true → result ≤ 4 }
     ensures silent { LeavesOutput result → IsUntouched (O.state output.old) (O.state output.new) }
-
-    // Without a FILE, the input is what is run on.
-    ensures plain_input { chosen.now.plain ≡ true → IsNone chosen.now.file
-        → EndsWith result (streams (I.state input.old) (O.state output.old))
-        (streams (I.state input.new) (O.state output.new)) }
-    ensures reads_input { chosen.now.plain ≡ false → IsNone chosen.now.file
-        → EndsOver chosen.now.workers chosen.now.shards result
-        (streams (I.state input.old) (O.state output.old))
-        (streams (I.state input.new) (O.state output.new)) }
-
-    // With a FILE the input isn't read: FILE can't be opened, or is run on.
-    ensures leaves_input { IsSome chosen.now.file → input.new ≡ input.old }
-    ensures plain_file { chosen.now.plain ≡ true → IsSome chosen.now.file
-        → EndsOnFile result (O.state output.old) (O.state output.new) }
-    ensures reads_file { chosen.now.plain ≡ false → IsSome chosen.now.file
-        → EndsOverOnFile chosen.now.workers chosen.now.shards result (O.state output.old) (O.state output.new) }
+    ensures quiet { chosen.now.report ≡ false → result ≡ 0 → errors.new ≡ errors.old }
 {
     let Some(name) = &chosen.file else {
         return run_on(rt, chosen, input, output, errors);
@@ -235,19 +209,22 @@ fn print_usage<O: Sink, E: Sink>(
     requires errors { E.can_write errors.old }
     ensures status { result ≤ 4 }
     ensures silent { LeavesOutput result → IsUntouched (O.state output.old) (O.state output.new) }
+    ensures quiet { result ≡ 0 → errors.new ≡ errors.old }
 
     // Wrong words write nothing to the output, and only the help does.
     ensures wrong { IsMistake (kind_of error.now)
         → RefusesWords result × (output.new ≡ output.old) }
     ensures help { ¬ IsMistake (kind_of error.now)
         → HelpEnds result (O.state output.old) (O.state output.new) }
+    ensures refused { HelpEnds result (O.state output.old) (O.state output.new)
+        ⊎ (RefusesWords result × (output.new ≡ output.old)) }
 {
     let Ok(text) = format!(in alloc; "{error}") else {
         tell(errors, &"no memory");
         return NO_MEMORY;
     };
     if error.use_stderr() {
-        let _ = put(errors, 0, text.as_bytes());
+        write_text(errors, text.as_bytes());
         return USAGE;
     }
     match put(output, 0, text.as_bytes()) {
@@ -296,35 +273,27 @@ where
     requires output { O.can_write output.old }
     requires errors { E.can_write errors.old }
 
+    // What lawful words ask for is done: the input is run on, or FILE is, and then the input isn't touched.
+    ensures obeys { ObeysWords (map S.text words.now) result
+        (told I.state O.state E.state input.old output.old errors.old)
+        (told I.state O.state E.state input.new output.new errors.new) }
+    ensures leaves_input { IsSome (file_named (map S.text words.now)) → input.new ≡ input.old }
+
     // A file that is refused or can't be cut, wrong words, want of memory and answers that make no forest write
-    // nothing to the output.
+    // nothing to the output. Where all went well the errors get the report alone.
     ensures status { result ≤ 5 }
     ensures silent { LeavesOutput result → IsUntouched (O.state output.old) (O.state output.new) }
+    ensures quiet { given (map S.text words.now) (codes "report") ≡ Some (codes "false") → result ≡ 0
+        → errors.new ≡ errors.old }
 
-    // The input is what is run on, over as many workers and shards as the words ask for; or FILE is, and then the
-    // input isn't touched.
-    ensures reads_input { (workers shards : ℕ) → AskWorkers workers shards (map S.text words.now)
-        → file_named (map S.text words.now) ≡ None
-        → EndsOver workers shards result (streams (I.state input.old) (O.state output.old))
-        (streams (I.state input.new) (O.state output.new)) }
-    ensures reads_file { (workers shards : ℕ) → AskWorkers workers shards (map S.text words.now)
-        → IsSome (file_named (map S.text words.now))
-        → (input.new ≡ input.old) × EndsOverOnFile workers shards result (O.state output.old) (O.state output.new) }
-
-    // The same by one thread, with `--plain`.
-    ensures plain_input { AskPlainly (map S.text words.now)
-        → file_named (map S.text words.now) ≡ None
-        → EndsWith result (streams (I.state input.old) (O.state output.old))
-        (streams (I.state input.new) (O.state output.new)) }
-    ensures plain_file { AskPlainly (map S.text words.now)
-        → IsSome (file_named (map S.text words.now))
-        → (input.new ≡ input.old) × EndsOnFile result (O.state output.old) (O.state output.new) }
-
-    // The help goes to the output, and wrong words touch nothing.
+    // The help goes to the output, and wrong words touch nothing. Words that are refused and ask for the help too end
+    // as one or the other.
     ensures help { AskForHelp (map S.text words.now)
         → (input.new ≡ input.old) × HelpEnds result (O.state output.old) (O.state output.new) }
     ensures wrong { AreWrong (map S.text words.now)
         → RefusesWords result × (input.new ≡ input.old) × (output.new ≡ output.old) }
+    ensures refused { refusals (map S.text words.now) ≢ [] → (input.new ≡ input.old)
+        × (HelpEnds result (O.state output.old) (O.state output.new) ⊎ (RefusesWords result × (output.new ≡ output.old))) }
 {
     match options(rt.alloc(), words) {
         Ok(chosen) => obey(rt, &chosen, input, output, errors),

@@ -4,17 +4,18 @@
 //! graph, and then exactly its text; whatever goes wrong has one of five statuses, which tells what failed,
 //! and puts no other byte on the output than a prefix of that text ([`command::obey`]). By one thread, or
 //! without workers, it is the minimum spanning forest; over workers a spanning forest whatever they answer,
-//! and the minimum one where each answers as the worker's engine does, which no contract can see of a socket.
+//! and the minimum one where each answers as the worker's engine does, and then no status blames them
+//! ([`command::run_over`]; that the sockets carry such answers no contract can see).
+//! Where the run ends well standard error gets the line of its report, if that is asked for, and nothing else.
 //! The help goes to the output too, where the words ask for it ([`command::command`]). Tests alone show that
-//! standard error gets a line that says what went wrong, for wrong words the usage, and the report where it is
-//! asked for.
+//! standard error gets a line that says what went wrong, and for wrong words the usage.
 //!
 //! **How it is built.**
 //!
 //! ```text
 //! words --arguments::options--> Options --command::obey--> a run over FILE or standard input --> status
 //!                                               \--messages--> standard error
-//!   a run: tcp_lines::Workers::start, forest_run::run_lines, Workers::join; with --plain forest_run::run_plain
+//!   a run: tcp_lines::Workers::start, command::run_over, Workers::join; with --plain forest_run::run_plain
 //! ```
 //!
 //! **Where to start a change.** A new option: `arguments` and `chosen`, with the table in `specs/Arguments.antt`. A new fault: `statuses`, with the

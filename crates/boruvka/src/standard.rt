@@ -1,4 +1,6 @@
 //! The standard streams as the program finds them, some of them closed.
+ghost use Rattle.std.specs.Prelude.{◌≤◌};
+
 use std::fs::{File, Files};
 use std::os::fd::AsRawFd;
 
@@ -8,11 +10,8 @@ pub struct Held {
     _files: [Option<File>; 3],
 }
 
-/// Holds each of the three standard descriptors that isn't open, so that no file or socket opened later gets its
-/// number. A folder holds it, which can neither be read nor written: the stream fails as a closed one does.
-///
-/// `None` where a descriptor may still be free.
-pub fn hold_closed<R: Files<File = File>>(rt: &R) -> Option<Held> {
+// Holds each of the three standard descriptors that isn't open. `None` where one may still be free.
+fn hold_closed<R: Files<File = File>>(rt: &R) -> Option<Held> {
     let mut files = [None, None, None];
     for place in &mut files {
         let folder = File::open(rt, "/").ok()?;
@@ -22,4 +21,18 @@ pub fn hold_closed<R: Files<File = File>>(rt: &R) -> Option<Held> {
         *place = Some(folder);
     }
     Some(Held { _files: files })
+}
+
+/// How many of so many workers may be started, while what comes with the number is kept.
+///
+/// Each of the three standard descriptors that isn't open is held, so that no file or socket opened later gets its
+/// number. A folder holds it, which can neither be read nor written: the stream fails as a closed one does. Where one
+/// of them may still be free no worker may be started, and else all.
+pub fn workers_beside<R: Files<File = File>>(rt: &R, workers: u32) -> (Option<Held>, u32)
+    ensures { result.1 ≤ workers }
+{
+    match hold_closed(rt) {
+        Some(held) => (Some(held), workers),
+        None => (None, 0),
+    }
 }

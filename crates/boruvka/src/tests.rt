@@ -1,12 +1,20 @@
+ghost use Rattle.std.specs.Prelude.{◌≡◌, ◌≤◌, length, All, IfOk};
+ghost use Rattle.limits.specs.declared.TheConstants.{MAX_WORKERS};
+ghost use Rattle.ports.specs.EngineLines.{line_of};
+ghost use Rattle.ports.specs.Lines.{HasRoom};
+ghost use Rattle.ports.specs.Testing.{played};
+
 use crate::arguments::{all_words, options};
 use crate::chosen::OptionsFault;
-use crate::command::{command, without_words};
-use crate::messages::tell;
+use crate::command::{command, run_over, without_words};
+use crate::messages::{tell, tell_report, write_text};
+use crate::standard::workers_beside;
 use crate::statuses::status_of;
 use byte_streams::{FusedSink, FusedSource, Untold};
-use forest_run::RunFault;
+use forest_run::{Report, RunFault};
 use link_key::{CutFault, Link};
-use std::alloc::{Alloc, Global};
+use ports::{EngineLine, Line, ScriptLine};
+use std::alloc::{Alloc, AllocError, Global};
 use std::fs::{self, File, Files};
 use std::io::{self, ErrorKind, Write};
 use std::net::{Net, TcpListener, TcpStream};
@@ -525,5 +533,107 @@ fn tells_why_there_are_no_words(rt: HostRuntime) -> Result<(), Fail> {
         b"boruvka: a word is not UTF-8\n".as_slice()
     );
     assert!(rt; !all_words(&rt)?.is_empty());
+    Ok(())
+}
+
+// The help is for words before which nothing is wrong.
+#[test]
+fn refuses_words_that_are_wrong_before_they_ask_for_the_help(rt: HostRuntime) -> Result<(), Fail> {
+    let help = ["boruvka", "--report", "--help", "--wrong"];
+    expect(&rt, &help, SMALL_NET, 0, HELP.as_bytes(), b"");
+    expect_refused(&rt, &["boruvka", "--wrong", "--help"]);
+    Ok(())
+}
+
+// A run over these lines, with its report, answers this status, and writes just these texts.
+fn expect_over<L: Line + Send + Drop>(
+    rt: &(impl Abort + Alloc<A = Global> + Threads + Wait + Sync),
+    shards: u32,
+    lines: Vec<L>,
+    status: u8,
+    output: &[u8],
+    errors: &[u8],
+)
+    requires few { length lines.items ≤ MAX_WORKERS }
+    requires room { All (λ line. HasRoom (L.state line)) lines.items }
+{
+    let mut source = SMALL_NET.as_slice();
+    let mut out = Vec::new(rt.alloc());
+    let mut err = Vec::new(rt.alloc());
+    let ended = run_over(rt, shards, true, lines, &mut source, &mut out, &mut err);
+    assert_eq!(rt; ended, status);
+    assert_eq!(rt; out.as_slice(), output);
+    assert_eq!(rt; err.as_slice(), errors);
+}
+
+// Lines to two workers in memory.
+fn two_engines(alloc: Global) -> Result<Vec<EngineLine<Global>>, AllocError>
+    ensures two { IfOk result (λ lines. length lines.items ≡ 2) }
+    ensures room { IfOk result (λ lines. All (λ line. HasRoom (line_of line)) lines.items) }
+{
+    let mut lines = Vec::new(alloc);
+    lines.push(EngineLine::new(alloc, 0)?)?;
+    lines.push(EngineLine::new(alloc, 1)?)?;
+    Ok(lines)
+}
+
+// A line over which come the hello of worker 0, and then an answer to the first ask that offers no link.
+fn a_lie(alloc: Global) -> Result<Vec<ScriptLine>, AllocError>
+    ensures one { IfOk result (λ lines. length lines.items ≡ 1) }
+    ensures room { IfOk result (λ lines. All (λ line. HasRoom (played line)) lines.items) }
+{
+    let script = [
+        1, 0, 0, 0, 6, 0, 1, 0, 0, 0, 0, 4, 0, 0, 0, 12, 0, 0, 0, 1, 0, 0, 0, 0, 0, 0, 0, 0,
+    ];
+    let mut lines = Vec::new(alloc);
+    lines.push(ScriptLine::new(Vec::from_slice(alloc, &script)?))?;
+    Ok(lines)
+}
+
+// Over lines that tell their bytes the forest is the least, and a lie of a worker is told as such.
+#[test]
+fn runs_over_lines_in_memory(rt: HostRuntime) -> Result<(), Fail> {
+    let report =
+        b"vertices=6 links=8 rounds=2 shards=2 asked=6 answered=6 alone=0 closed=0\n".as_slice();
+    let lines = two_engines(rt.alloc())?;
+    expect_over(&rt, 2, lines, 0, SMALL_FOREST, report);
+    let missed = b"boruvka: link 1 2 17 was missed\n".as_slice();
+    let lines = a_lie(rt.alloc())?;
+    expect_over(&rt, 1, lines, 5, b"", missed);
+    Ok(())
+}
+
+// A line of the longest report, and one that is broken off.
+#[test]
+fn writes_a_report_of_the_largest_numbers(rt: HostRuntime) -> Result<(), Fail> {
+    let most = 18_446_744_073_709_551_615;
+    let report = Report {
+        vertices: 4_294_967_295,
+        links: most,
+        rounds: 4_294_967_295,
+        shards: 4_294_967_295,
+        asked: most,
+        answered: most,
+        alone: most,
+        closed: most,
+    };
+    let line =
+        b"vertices=4294967295 links=18446744073709551615 rounds=4294967295 shards=4294967295 asked=18446744073709551615 answered=18446744073709551615 alone=18446744073709551615 closed=18446744073709551615\n";
+    let mut errors = Vec::new(rt.alloc());
+    tell_report(&mut errors, &report);
+    assert_eq!(rt; errors.as_slice(), line.as_slice());
+    let mut short = FusedSink::new(rt.alloc(), 9, 7)?;
+    tell_report(&mut short, &report);
+    assert_eq!(rt; short.held(), b"vertices=".as_slice());
+    write_text(&mut errors, b"");
+    assert_eq!(rt; errors.len(), line.len());
+    Ok(())
+}
+
+#[test]
+fn starts_as_many_workers_as_are_asked_for(rt: HostRuntime) -> Result<(), Fail> {
+    let (held, count) = workers_beside(&rt, 3);
+    assert!(rt; held.is_some());
+    assert_eq!(rt; count, 3);
     Ok(())
 }

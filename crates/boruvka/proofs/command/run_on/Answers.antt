@@ -1,0 +1,27 @@
+use Rattle.std.proofs.Common.{arith}
+use Rattle.boruvka.proofs.Endings.{as_plain, as_over, over_workers, plain_bound, silent_plainly, wants_memory_over}
+use Rattle.boruvka.proofs.command.run_on.Goals as goal
+
+pub returns-then-chosen-clause-ends : goal.returns-then-chosen-clause-ends
+returns-then-chosen-clause-ends g c = as_plain _ _ _ _ _ c.if-chosen.true
+    (record {
+      result = c.run_plain-ended.result;
+      status_is = c.tell_end.ensures.status;
+      ran = c.run_plain-ended.ensures.ran;
+      reported = c.tell_end.ensures.reported;
+      malformed = c.run_plain-ended.ensures.malformed;
+      lawful = c.run_plain-ended.ensures.lawful;
+    })
+
+pub returns-then-chosen-clause-plain_status : goal.returns-then-chosen-clause-plain_status
+returns-then-chosen-clause-plain_status g c = λ plain. plain_bound c.run_plain-ended.result _ _ _ _ _ c.tell_end.ensures.status c.run_plain-ended.ensures.ran
+
+pub returns-then-chosen-clause-silent : goal.returns-then-chosen-clause-silent
+returns-then-chosen-clause-silent g c = λ silent. silent_plainly c.run_plain-ended.result _ _ _ _ _ c.tell_end.ensures.status c.run_plain-ended.ensures.ran silent
+
+pub returns-in_default-clause-ends : goal.returns-in_default-clause-ends
+returns-in_default-clause-ends g c = as_over _ _ _ _ _ c.if-chosen.false (wants_memory_over _ _ _ _ _ _ _ c.tell.ensures)
+
+pub returns-clause-ends : goal.returns-clause-ends
+returns-clause-ends g c = as_over _ _ _ _ _ c.if-chosen.false
+    (over_workers _ _ _ _ _ _ c.in-Ok.lines.items (omega (arith, c.in-Ok.ensures.few, c.workers_beside-held.ensures)) c.in-Ok.ensures.unused c.run_over-status.ensures.ends)
