@@ -4,7 +4,6 @@ pub mod Keys
 pub mod Walks
 pub mod Growing
 pub mod Tables
-pub mod Pieces
 pub mod OneForest
 pub mod Apart
 pub mod Coarser
@@ -12,3 +11,7 @@ pub mod Rings
 pub mod WideKeys
 pub mod Spans
 pub mod EvenSizes
+pub mod Greatest
+pub mod Spanning
+pub mod Touching
+pub mod Stages

@@ -7,3 +7,4 @@ pub mod Offers
 pub mod Components
 pub mod WideKey
 pub mod Cut
+pub mod Rounds

@@ -1,8 +1,6 @@
-ghost use Rattle.std.specs.Prelude.{◌≡◌, ◌≢◌, ℕ, ◌+◌, ◌<◌, ◌≤◌, ◌⊎◌, ◌==◌, if◌then◌else◌, length, slice_index, EachIndex, IfOk, IsTrue};
-ghost use Rattle.std.specs.List.{All};
-ghost use Rattle.link_key.specs.Components.{IsRelabelled, nth_after, IsLabelledAlong, HasOneLabel};
+ghost use Rattle.std.specs.Prelude.{◌≡◌, ◌≢◌, ℕ, ◌+◌, ◌<◌, ◌≤◌, ◌⊎◌, ◌==◌, if◌then◌else◌, length, slice_index, EachIndex, IfOk};
+ghost use Rattle.link_key.specs.Components.{IsRelabelled, nth_after, IsLabelledAlong};
 
-use crate::links::Link;
 use limits::MAX_VERTICES;
 use std::alloc::{AllocError, Allocator, Global};
 use std::marker::Model;
@@ -63,20 +61,6 @@ impl<A: Allocator> Components<A> {
         self.labels[v as usize]
     }
 
-    // Whether the ends of each of these links have one label. It looks at all of them, so that no look waits for what
-    // another one finds.
-    pub(crate) fn joins_all(&self, links: &[Link]) -> bool
-        requires { All (λ l. l.high < length self.now) links.now }
-        ensures { IsTrue result → All (HasOneLabel self.now) links.now }
-    {
-        let labels = self.labels.as_slice();
-        let mut joined = true;
-        for link in links {
-            joined &= labels[link.low as usize] == labels[link.high as usize];
-        }
-        joined
-    }
-
     /// Makes the components with the labels `a` and `b` one, under one of the two. It takes no memory, and costs time for
     /// the members of the smaller one.
     pub fn merge(&mut self, a: u32, b: u32)
@@ -115,7 +99,7 @@ impl<A: Allocator> Components<A> {
 }
 
 // The numbers 0 to n.
-fn own_numbers<A: Allocator + Copy>(alloc: A, n: u32) -> Result<Vec<u32, A>, AllocError>
+pub(crate) fn own_numbers<A: Allocator + Copy>(alloc: A, n: u32) -> Result<Vec<u32, A>, AllocError>
     requires { n ≤ MAX_VERTICES }
     ensures len { IfOk result (λ numbers. length numbers.items ≡ n + 1) }
     ensures own { IfOk result (λ numbers. EachIndex numbers.items (λ v. slice_index numbers.items v ≡ v)) }

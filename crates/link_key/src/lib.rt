@@ -6,7 +6,8 @@
 //! - `Link::of_arc` forgets an arc's direction, and gives no link for a loop;
 //! - links compare by their keys, so distinct links are never equal and a list has one forest;
 //! - a `Forest` is an ascending list of links, each once;
-//! - [`plain_forest`] gives exactly the forest: the links whose ends aren't joined by smaller ones;
+//! - [`forest_of`], and [`plain_forest`] on a copy, gives exactly the forest: the links whose ends aren't joined by
+//!   smaller ones;
 //! - `Labels` are from 1 to their vertices, and a label's label is itself; `Labels::apart` labels each vertex by itself;
 //! - [`Components`] are merged two at a time, and two numbers have one label just where merges made them one component;
 //! - `Offers` are pairs of a component and a place, in strictly ascending order of the components;
@@ -15,17 +16,18 @@
 //! - the shards of a [`Cut`], one behind the other, are the list that was cut; a cut that isn't allowed has its cause.
 //!
 //! ```text
-//!   arc (u, v, w)  --Link::of_arc-->  Link  --sort-->  ascending  --take where labels differ-->  Forest
+//!   arc (u, v, w)  --Link::of_arc-->  Link  --sort-->  ascending  --rounds of first touches-->  Forest
 //!   labels of the vertices 1 to n  --Labels::of_list, or Labels::apart-->  Labels
 //!   pairs (component, place)  --Offers::of_pairs-->  Offers
 //!   list of links  --Cut::even, Cut::at-->  Cut  --shard(number)-->  Shard
 //! ```
 //!
-//! Where to start a change: what is meant stands in `specs/` (`Link`, `Walk`, `Forest`, `Labels`, `Offers`, `Cut`), and
-//! the laws that show it to be right in `laws`. `labellings` and `offered` say which lists are labels and offers, `cuts`
-//! where a list is cut. `plain` is the solver, which keeps labels in [`Components`], seen as the list of the labels. Its
-//! proof follows `proofs/Growing`, which knows nothing of tables, and `proofs/Tables`, which knows that list alone:
-//! another way to merge components needs only another `proofs/Rings`.
+//! Where to start a change: what is meant stands in `specs/` (`Link`, `Walk`, `Forest`, `Rounds`, `Labels`, `Offers`,
+//! `Cut`), and the laws that show it to be right in `laws`. `labellings` and `offered` say which lists are labels and
+//! offers, `cuts` where a list is cut. `plain` is the solver, in `rounds` over a table of labels. What a round means stands in
+//! `specs/Rounds`; `proofs/Touching` follows one link of a round, `proofs/Stages` a round and the whole, and
+//! `proofs/Spanning` shows that a part of the forest that spans the list is all of it. `components` merges components
+//! for the rounds that workers scan; another way to merge them needs only another `proofs/Rings`.
 #![tactic(auto)]
 
 pub mod components;
@@ -36,6 +38,7 @@ pub mod laws;
 pub mod links;
 pub mod offered;
 pub mod plain;
+mod rounds;
 pub mod shards;
 
 pub use components::Components;
@@ -44,5 +47,5 @@ pub use forests::Forest;
 pub use labellings::Labels;
 pub use links::Link;
 pub use offered::Offers;
-pub use plain::plain_forest;
+pub use plain::{forest_of, plain_forest};
 pub use shards::Shard;

@@ -1,0 +1,255 @@
+-- The forest found round by round: what is taken is in it, and what is left is still to be joined.
+use Rattle.std.proofs.Common.{◌≡◌, ◌≢◌, ℕ, ◌+◌, ◌<◌, ◌≤◌, ◌⊎◌, ◌↔◌, ◌==◌, if◌then◌else◌, Bool, true, false, not, cond, eqb, List, [], ◌∷◌, ◌++◌, Contains, length, get_or, zero, suc, refl, sym, ap, ◌∙◌, subst, inl, inr, arith}
+use Rattle.std.specs.List.{AllByRecursion, filter, All}
+use Rattle.std.specs.List.Sorted.{IsSorted}
+use Rattle.std.proofs.lemmas.List.Elements.{All-contains, Contains-get_or}
+use Rattle.std.proofs.lemmas.List.Filters.{length-filter_both}
+use Rattle.std.proofs.lemmas.Bool.{cases_eq, cases_lt}
+use Rattle.std.proofs.lemmas.Bool.Decides.{nat_tests}
+use mathlib.Core.Bool.{false≢true}
+use Rattle.link_key.specs.declared.links.Link.{Link}
+use Rattle.link_key.specs.Link.{IsBelow, EndsUpTo}
+use Rattle.link_key.specs.Walk.{IsWalk, Joins}
+use Rattle.link_key.specs.Forest.{LinksBelow, IsForestLink}
+use Rattle.link_key.specs.Components.{HasOneLabel}
+use Rattle.link_key.specs.Rounds.{is_apart, LeavesLabel, IsLeastOut, AreJoinedWhereOne, AreVertexLabels, AreNumbers, AreTouched, AreRenamed, IsStage, number_of}
+use Rattle.link_key.proofs.Members.{contains_cases, contains_head, contains_tail, contains_none}
+use Rattle.link_key.proofs.Walks.{joins_same, joins_symm, joins_replace, joins_more}
+use Rattle.link_key.proofs.Spanning.{spanning_part}
+
+-- what a test keeps of a list
+pub kept_in : {X : Type 0} (p : X → Bool) (xs : List X) (x : X) → Contains (filter p xs) x → Contains xs x × (p x ≡ true)
+kept_in p [] x x_in = absurd (contains_none x x_in)
+kept_in {X} p (y ∷ xs) x x_in = by_test (p y) refl (kept_in p xs x)
+  where
+    by_test : (b : Bool) → p y ≡ b → (Contains (filter p xs) x → Contains xs x × (p x ≡ true)) → Contains (y ∷ xs) x × (p x ≡ true)
+    by_test true passes later = elim (contains_cases y x (filter p xs) (subst (λ b. Contains (cond b (y ∷ filter p xs) (filter p xs)) x) passes x_in)) [
+      | inl is ↦ (subst (Contains (y ∷ xs)) (sym is) (contains_head y xs), ap p is ∙ passes)
+      | inr x_in' ↦ let rest = later x_in' in (contains_tail y x xs rest.0, rest.1)
+    ]
+    by_test false fails later = let rest = later (subst (λ b. Contains (cond b (y ∷ filter p xs) (filter p xs)) x) fails x_in) in (contains_tail y x xs rest.0, rest.1)
+
+pub kept_if : {X : Type 0} (p : X → Bool) (xs : List X) (x : X) → Contains xs x → p x ≡ true → Contains (filter p xs) x
+kept_if p [] x x_in passes = absurd (contains_none x x_in)
+kept_if {X} p (y ∷ xs) x x_in passes = by_test (p y) refl (λ later. kept_if p xs x later passes)
+  where
+    by_test : (b : Bool) → p y ≡ b → (Contains xs x → Contains (filter p xs) x) → Contains (filter p (y ∷ xs)) x
+    by_test true is later = subst (λ b. Contains (cond b (y ∷ filter p xs) (filter p xs)) x) (sym is) (elim (contains_cases y x xs x_in) [
+      | inl same ↦ subst (Contains (y ∷ filter p xs)) (sym same) (contains_head y (filter p xs))
+      | inr x_in' ↦ contains_tail y x (filter p xs) (later x_in')
+    ])
+    by_test false is later = subst (λ b. Contains (cond b (y ∷ filter p xs) (filter p xs)) x) (sym is) (elim (contains_cases y x xs x_in) [
+      | inl same ↦ absurd (false≢true (sym is ∙ sym (ap p same) ∙ passes))
+      | inr x_in' ↦ later x_in'
+    ])
+
+-- a test keeps fewer where the first fails
+pub kept_fewer : {X : Type 0} (p : X → Bool) (xs : List X) → ((d : X) → p (get_or xs 0 d) ≡ false) → 0 < length xs → length (filter p xs) < length xs
+kept_fewer p [] fails some = absurd (omega (arith, some))
+kept_fewer p (y ∷ xs) fails some =
+    let few = length-filter_both p (λ x. not (p x)) (λ x. refl) xs in
+    subst (λ b. length (cond b (y ∷ filter p xs) (filter p xs)) < length (y ∷ xs)) (sym (fails y)) (omega (arith, few))
+
+-- the test for ends of different labels
+pub apart_from : (labels : List ℕ) (l : Link) → is_apart labels l ≡ true → ¬ (HasOneLabel labels l)
+apart_from labels l passes same = grind (arith, nat_tests)
+
+pub apart_test : (labels : List ℕ) (l : Link) → ¬ (HasOneLabel labels l) → is_apart labels l ≡ true
+apart_test labels l apart = grind (arith, nat_tests)
+
+pub joined_test : (labels : List ℕ) (l : Link) → HasOneLabel labels l → is_apart labels l ≡ false
+joined_test labels l same = grind (arith, nat_tests)
+
+-- A walk from a vertex with label c to one without takes a link that leaves c: the first that ends outside.
+crossing : (labels : List ℕ) (S : Link → Type 0) (c u v : ℕ) → Joins S u v → get_or labels u 0 ≡ c → get_or labels v 0 ≢ c → (m : Link) × S m × LeavesLabel labels m c
+crossing labels S c u v (walk, all, leads) inside outside = along u walk all leads inside
+  where
+    along : (u : ℕ) (walk : List Link) → AllByRecursion S walk → IsWalk u walk v → get_or labels u 0 ≡ c → (m : Link) × S m × LeavesLabel labels m c
+    along u [] all is inside = absurd (outside (ap (λ k. get_or labels k 0) (sym is) ∙ inside))
+    along u (l ∷ walk) (is_in, all) (inl (at, leads)) inside = elim (cases_eq (get_or labels l.high 0) c) [
+      | inl still ↦ along l.high walk all leads still
+      | inr out ↦ (l, is_in, inl (ap (λ k. get_or labels k 0) (sym at) ∙ inside, out))
+    ]
+    along u (l ∷ walk) (is_in, all) (inr (at, leads)) inside = elim (cases_eq (get_or labels l.low 0) c) [
+      | inl still ↦ along l.low walk all leads still
+      | inr out ↦ (l, is_in, inr (out, ap (λ k. get_or labels k 0) (sym at) ∙ inside))
+    ]
+
+crossing_ends : (labels : List ℕ) (S : Link → Type 0) (c : ℕ) (l : Link) → LeavesLabel labels l c → Joins S l.low l.high → (m : Link) × S m × LeavesLabel labels m c
+crossing_ends labels S c l (inl (inside, outside)) joined = crossing labels S c l.low l.high joined inside outside
+crossing_ends labels S c l (inr (outside, inside)) joined = crossing labels S c l.high l.low (joins_symm S l.low l.high joined) inside outside
+
+leaves_apart : (labels : List ℕ) (m : Link) (c : ℕ) → LeavesLabel labels m c → ¬ (HasOneLabel labels m)
+leaves_apart labels m c (inl (inside, outside)) same = outside (sym same ∙ inside)
+leaves_apart labels m c (inr (outside, inside)) same = outside (same ∙ inside)
+
+-- The cut property. Were the ends of the least link left joined by smaller links of the list, one of those would leave
+-- the label too; it would be left, and so no smaller.
+pub least_is_forest_link : {links rest later : List Link} {labels : List ℕ} {taken : List Link} → IsStage links rest later labels taken → (c : ℕ) (l : Link) → IsLeastOut labels rest c l → IsForestLink links l
+least_is_forest_link {links} {rest} {later} {labels} stage c l is = (stage.among l is.member, around)
+  where
+    around : Joins (LinksBelow links l) l.low l.high → ⊥
+    around joined =
+        let (m, below, leaves) = crossing_ends labels (LinksBelow links l) c l is.leaves joined in
+        elim (stage.left m below.0) [
+          | inl same ↦ leaves_apart labels m c leaves same
+          | inr other ↦ elim other [
+            | inl m_in ↦ is.least m m_in leaves below.1
+            | inr put_off ↦ stage.above l m is.member put_off below.1
+          ]
+        ]
+
+module _ {labels labels' numbers : List ℕ} (renamed : AreRenamed numbers labels labels') where
+  renamed_to : (v : ℕ) → v < length labels → 0 < number_of labels numbers v → get_or labels' v 0 ≡ number_of labels numbers v
+  renamed_to v v_in some = let is = renamed.is v v_in in grind (arith, nat_tests)
+
+  not_renamed : (v : ℕ) → v < length labels → number_of labels numbers v ≡ 0 → get_or labels' v 0 ≡ get_or labels v 0
+  not_renamed v v_in none = let is = renamed.is v v_in in grind (arith, nat_tests)
+
+  -- labels that were one are one
+  pub renamed_same : (u v : ℕ) → u < length labels → v < length labels → get_or labels u 0 ≡ get_or labels v 0 → get_or labels' u 0 ≡ get_or labels' v 0
+  renamed_same u v u_in v_in same = renamed.is u u_in ∙ ap (λ k. if get_or numbers k 0 == 0 then k else get_or numbers k 0) same ∙ sym (renamed.is v v_in)
+
+  -- and labels of one number become one
+  renamed_numbers : (u v : ℕ) → u < length labels → v < length labels → 0 < number_of labels numbers u → 0 < number_of labels numbers v → number_of labels numbers u ≡ number_of labels numbers v → get_or labels' u 0 ≡ get_or labels' v 0
+  renamed_numbers u v u_in v_in some some' same = renamed_to u u_in some ∙ same ∙ sym (renamed_to v v_in some')
+
+  pub renamed_labels : AreVertexLabels labels → AreNumbers numbers → length numbers ≡ length labels → AreVertexLabels labels'
+  renamed_labels are numbers_are len = record {
+    in_range = λ v v_in. subst (λ k. get_or labels' v 0 < k) (sym renamed.len) (inside v (subst (λ k. v < k) renamed.len v_in));
+    some = λ v from_one v_in. some v from_one (subst (λ k. v < k) renamed.len v_in);
+  }
+    where
+      inside : (v : ℕ) → v < length labels → get_or labels' v 0 < length labels
+      inside v v_in = elim (cases_lt 0 (number_of labels numbers v)) [
+        | inl had ↦ subst (λ k. k < length labels) (sym (renamed_to v v_in had)) (subst (λ k. number_of labels numbers v < k) len (numbers_are.in_range (get_or labels v 0) (subst (λ k. get_or labels v 0 < k) (sym len) (are.in_range v v_in))))
+        | inr none ↦ subst (λ k. k < length labels) (sym (not_renamed v v_in (omega (arith, none)))) (are.in_range v v_in)
+      ]
+
+      some : (v : ℕ) → 0 < v → v < length labels → 0 < get_or labels' v 0
+      some v from_one v_in = elim (cases_lt 0 (number_of labels numbers v)) [
+        | inl had ↦ subst (λ k. 0 < k) (sym (renamed_to v v_in had)) had
+        | inr none ↦ subst (λ k. 0 < k) (sym (not_renamed v v_in (omega (arith, none)))) (are.some v from_one v_in)
+      ]
+
+  module _ {rest : List Link} {before after : List Link} (touched : AreTouched labels rest rest numbers before after) where
+    -- the first of the links is joined, so fewer are left
+    pub round_fewer : All (λ (l : Link). l.high < length labels) rest → 0 < length rest → length (filter (is_apart labels') rest) < length rest
+    round_fewer ends some = kept_fewer (is_apart labels') rest (λ d. joined_test labels' (get_or rest 0 d) (one d (get_or rest 0 d) refl)) some
+      where
+        here_again : (xs : List Link) (d : Link) → 0 < length xs → get_or xs 0 (get_or xs 0 d) ≡ get_or xs 0 d
+        here_again [] d some = absurd (omega (arith, some))
+        here_again (x ∷ xs) d some = refl
+
+        one : (d l : Link) → get_or rest 0 d ≡ l → HasOneLabel labels' (get_or rest 0 d)
+        one d l is =
+            let here = get_or rest 0 d in
+            let had = touched.touched here (0, some, here_again rest d some) in
+            let high_in = ends 0 d some in
+            let low_in : here.low < length labels = let ascending = here.ascending in omega (arith, ascending, high_in) in
+            renamed_numbers here.low here.high low_in high_in had.0 had.1 (touched.first d some)
+
+    pub round_stage : {links later : List Link} → IsStage links rest later labels before → IsStage links (filter (is_apart labels') rest) later labels' after
+    round_stage {links} {later} stage = record {
+      ends = λ l l_in. subst (λ k. l.high < k) (sym renamed.len) (stage.ends l l_in);
+      joined = λ u v u_in v_in same. joined u v (subst (λ k. u < k) renamed.len u_in) (subst (λ k. v < k) renamed.len v_in) same;
+      forest = forest;
+      among = λ l l_in. stage.among l (kept_in (is_apart labels') rest l l_in).0;
+      apart = λ l l_in. apart_from labels' l (kept_in (is_apart labels') rest l l_in).1;
+      left = left;
+      above = λ l m l_in m_in. stage.above l m (kept_in (is_apart labels') rest l l_in).0 m_in;
+    }
+      where
+        forest : (l : Link) → Contains after l → IsForestLink links l
+        forest l l_in = elim (touched.least l l_in) [
+          | inl old ↦ stage.forest l old
+          | inr new ↦ let (c, is) = new.1 (stage.apart l new.0) in least_is_forest_link stage c l is
+        ]
+
+        left : (l : Link) → Contains links l → HasOneLabel labels' l ⊎ Contains (filter (is_apart labels') rest) l ⊎ Contains later l
+        left l l_in = elim (stage.left l l_in) [
+          | inl same ↦
+              let high_in = stage.ends l l_in in
+              let low_in : l.low < length labels = let ascending = l.ascending in omega (arith, ascending, high_in) in
+              inl (renamed_same l.low l.high low_in high_in same)
+          | inr other ↦ elim other [
+            | inl l_in_rest ↦ elim (cases_eq (get_or labels' l.low 0) (get_or labels' l.high 0)) [
+              | inl same ↦ inl same
+              | inr apart ↦ inr (inl (kept_if (is_apart labels') rest l l_in_rest (apart_test labels' l apart)))
+            ]
+            | inr put_off ↦ inr (inr put_off)
+          ]
+        ]
+
+        old_joined : (u v : ℕ) → u < length labels → v < length labels → get_or labels u 0 ≡ get_or labels v 0 → Joins (Contains after) u v
+        old_joined u v u_in v_in same = joins_more (Contains before) (Contains after) touched.kept u v (stage.joined u v u_in v_in same)
+
+        -- a label without a number isn't a number
+        not_number : (u v : ℕ) → u < length labels → v < length labels → number_of labels numbers u ≡ 0 → 0 < number_of labels numbers v → get_or labels' u 0 ≡ get_or labels' v 0 → ⊥
+        not_number u v u_in v_in none had same =
+            let is : get_or labels u 0 ≡ number_of labels numbers v = sym (not_renamed u u_in none) ∙ same ∙ renamed_to v v_in had in
+            let some = touched.numbers_are.own (get_or labels v 0) had in
+            let at : 0 < number_of labels numbers u = subst (λ k. 0 < get_or numbers k 0) (sym is) some in
+            omega (arith, at, none)
+
+        joined : (u v : ℕ) → u < length labels → v < length labels → get_or labels' u 0 ≡ get_or labels' v 0 → Joins (Contains after) u v
+        joined u v u_in v_in same = elim (cases_lt 0 (number_of labels numbers u)) [
+          | inl had ↦ elim (cases_lt 0 (number_of labels numbers v)) [
+            | inl had' ↦ touched.joined stage.joined u v u_in v_in had (sym (renamed_to u u_in had) ∙ same ∙ renamed_to v v_in had')
+            | inr none' ↦ absurd (not_number v u v_in u_in (omega (arith, none')) had (sym same))
+          ]
+          | inr none ↦ elim (cases_lt 0 (number_of labels numbers v)) [
+            | inl had' ↦ absurd (not_number u v u_in v_in (omega (arith, none)) had' same)
+            | inr none' ↦ old_joined u v u_in v_in (sym (not_renamed u u_in (omega (arith, none))) ∙ same ∙ not_renamed v v_in (omega (arith, none')))
+          ]
+        ]
+
+-- each vertex by itself, nothing taken and all links left
+pub stage_start : (n : ℕ) (links rest : List Link) (labels : List ℕ) → ((l : Link) → Contains rest l ↔ Contains links l) → EndsUpTo n links → length labels ≡ n + 1 → ((v : ℕ) → v < length labels → get_or labels v 0 ≡ v) → IsStage links rest [] labels []
+stage_start n links rest labels same ends len own = record {
+  ends = in_table;
+  joined = λ u v u_in v_in same. joins_same (Contains []) u v (sym (own u u_in) ∙ same ∙ own v v_in);
+  forest = λ l l_in. absurd (contains_none l l_in);
+  among = λ l l_in. (same l).0 l_in;
+  apart = λ l l_in. apart l ((same l).0 l_in);
+  left = λ l l_in. inr (inl ((same l).1 l_in));
+  above = λ l m l_in m_in. absurd (contains_none m m_in);
+}
+  where
+    in_table : (l : Link) → Contains links l → l.high < length labels
+    in_table l l_in = let in_graph : l.high ≤ n = All-contains (λ (m : Link). m.high ≤ n) links l ends l_in in omega (arith, in_graph, len)
+
+    apart : (l : Link) → Contains links l → ¬ (HasOneLabel labels l)
+    apart l l_in one =
+        let ascending = l.ascending in
+        let high_in = in_table l l_in in
+        let low_is = own l.low (omega (arith, ascending, high_in)) in
+        let high_is = own l.high high_in in
+        let e : l.low ≡ l.high = sym low_is ∙ one ∙ high_is in
+        omega (arith, ascending, e)
+
+pub own_labels : (n : ℕ) (labels : List ℕ) → ((v : ℕ) → v < length labels → get_or labels v 0 ≡ v) → AreVertexLabels labels
+own_labels n labels own = record {
+  in_range = λ v v_in. subst (λ k. k < length labels) (sym (own v v_in)) v_in;
+  some = λ v from_one v_in. subst (λ k. 0 < k) (sym (own v v_in)) from_one;
+}
+
+-- where nothing is left, what is taken is the forest
+pub stage_end : {links : List Link} {labels : List ℕ} {taken : List Link} → IsStage links [] [] labels taken → (l : Link) → Contains taken l ↔ IsForestLink links l
+stage_end {links} {labels} {taken} stage = spanning_part links (Contains taken) stage.forest (joins_replace (Contains links) (Contains taken) ends)
+  where
+    ends : (l : Link) → Contains links l → Joins (Contains taken) l.low l.high
+    ends l l_in = elim (stage.left l l_in) [
+      | inl same ↦
+          let high_in = stage.ends l l_in in
+          let low_in : l.low < length labels = let ascending = l.ascending in omega (arith, ascending, high_in) in
+          stage.joined l.low l.high low_in high_in same
+      | inr other ↦ elim other [ inl l_in' ↦ absurd (contains_none l l_in') | inr l_in' ↦ absurd (contains_none l l_in') ]
+    ]
+
+-- links of the list have their ends in the table
+pub all_in_table : (n : ℕ) (links rest : List Link) → ((l : Link) → Contains rest l → Contains links l) → EndsUpTo n links → All (λ (l : Link). l.high < n + 1) rest
+all_in_table n links rest among ends k d lt =
+    let l = get_or rest k d in
+    let in_graph : l.high ≤ n = All-contains (λ (m : Link). m.high ≤ n) links l ends (among l (Contains-get_or rest k d lt)) in
+    omega (arith, in_graph)
