@@ -1,19 +1,16 @@
 -- The end of a text: its last line, and what lacks.
-use Rattle.std.proofs.Common.{◌≡◌, ℕ, ◌+◌, ◌≤◌, inl, inr, List, [], ◌∷◌, ◌++◌, refl, sym, ◌∙◌, subst, arith, append-nil, length, true, false, Result, Ok, Err, MatchResult, Option}
+use Rattle.std.proofs.Common.{◌≡◌, ℕ, ◌+◌, ◌≤◌, inl, inr, List, [], ◌∷◌, ◌++◌, refl, sym, ◌∙◌, subst, arith, append-nil, length, true, false, Result, Ok, Err, MatchResult}
 use Rattle.std.proofs.lemmas.List.{length_push}
 use Rattle.std.proofs.lemmas.Bool.Decides.{leb_tells}
-use Rattle.link_key.specs.declared.links.Link.{Link}
 use Rattle.gr_text.specs.Lines.{with_last, AreLines}
 use Rattle.gr_text.specs.Graph.{GraphValue}
 use Rattle.gr_text.specs.Fault.{IsFirstFaulty, IsFirstFault, IsEndedFault}
 use Rattle.gr_text.specs.Reading.{IsLineFault, IsGraphOfLines, IsLack}
 use Rattle.gr_text.specs.Partial.{is_begun}
-use Rattle.gr_text.specs.Reader.{Stands, StopsBy, FailsBy, IsRead, IsReadWhole}
+use Rattle.gr_text.specs.Reader.{ReadingValue, Stands, StopsBy, FailsBy, IsRead, IsReadWhole}
 use Rattle.gr_text.specs.declared.faults.GrKind.{GrKind}
 use Rattle.gr_text.specs.declared.faults.ReadFault.{ReadFault}
 use Rattle.gr_text.specs.declared.faults.ReadFault.TheVariants as fault
-use Rattle.gr_text.specs.declared.partial.Partial.{Partial}
-use Rattle.gr_text.specs.declared.sizes.Size.{Size}
 use Rattle.gr_text.proofs.Faulty.{fault_is_faulty}
 use Rattle.gr_text.proofs.Feeding.{IsFirstFaulty-more, take_all}
 use Rattle.gr_text.proofs.Standing.{lawful_of}
@@ -41,11 +38,10 @@ first_of_ended text number kind (lines, rest, cut, first) =
     )
 
 -- the last line has a fault
-pub last_fault : (e : ReadFault) (size : Option Size) (count : ℕ) (links : List Link) (partial : Partial) (number : ℕ) (text : List ℕ)
-    → (stands : Stands size count links partial number text) → is_begun stands.part ≡ true → IsLineFault e number stands.lines stands.part
+pub last_fault : (e : ReadFault) (r : ReadingValue) (text : List ℕ) → (stands : Stands r text) → is_begun stands.part ≡ true → IsLineFault e r.number stands.lines stands.part
     → IsReadWhole text (Err e)
-last_fault (fault.Gr f) size count links partial number text stands begun (line_is, fits) =
-    let lawful = lawful_of size count links stands.lines stands.give in (
+last_fault (fault.Gr f) r text stands begun (line_is, fits) =
+    let lawful = lawful_of r.so_far stands.lines stands.give in (
       with_last stands.lines stands.part,
       (stands.lines, stands.part, stands.cut, refl),
       inl (subst (λ (xs : List (List ℕ)). IsFirstFaulty xs f.line f.kind) (sym (with_last-begun stands.lines stands.part begun)) (record {
@@ -59,9 +55,9 @@ last_fault (fault.Gr f) size count links partial number text stands begun (line_
         kind_fits = fits;
       })),
     )
-last_fault (fault.Source k) size count links partial number text stands begun no_such = no_such
-last_fault fault.TooLong size count links partial number text stands begun no_such = no_such
-last_fault fault.Memory size count links partial number text stands begun any = tt
+last_fault (fault.Source k) r text stands begun no_such = no_such
+last_fault fault.TooLong r text stands begun no_such = no_such
+last_fault fault.Memory r text stands begun any = tt
 
 -- what the lines of the whole text give
 graph_of : (r : Result GraphValue ReadFault) (text : List ℕ) (lines : List (List ℕ)) (number : ℕ) → AreLines text lines → number ≡ length lines + 1
@@ -73,18 +69,17 @@ graph_of (Err fault.TooLong) text lines number are numbered no_such = no_such
 graph_of (Err fault.Memory) text lines number are numbered no_such = absurd no_such
 
 -- the text ends in a line feed, or is empty
-pub ends_whole : (r : Result GraphValue ReadFault) (size : Option Size) (count : ℕ) (links : List Link) (partial : Partial) (number : ℕ) (text : List ℕ)
-    → (stands : Stands size count links partial number text) → is_begun stands.part ≡ false
-    → MatchResult r (λ graph. IsGraphOfLines stands.lines graph) (λ e. IsLack e number stands.lines) → IsReadWhole text r
-ends_whole r size count links partial number text stands none gives =
-    graph_of r text stands.lines number (stands.lines, stands.part, stands.cut, sym (with_last-none stands.lines stands.part none)) stands.numbered gives
+pub ends_whole : (outcome : Result GraphValue ReadFault) (r : ReadingValue) (text : List ℕ) → (stands : Stands r text) → is_begun stands.part ≡ false
+    → MatchResult outcome (λ graph. IsGraphOfLines stands.lines graph) (λ e. IsLack e r.number stands.lines) → IsReadWhole text outcome
+ends_whole outcome r text stands none gives =
+    graph_of outcome text stands.lines r.number (stands.lines, stands.part, stands.cut, sym (with_last-none stands.lines stands.part none)) stands.numbered gives
 
 -- the last line lacks its line feed, and is taken
-pub ends_within : (r : Result GraphValue ReadFault) (size : Option Size) (count : ℕ) (links : List Link) (partial : Partial) (number : ℕ) (text : List ℕ)
-    → (stands : Stands size count links partial number text) → is_begun stands.part ≡ true
-    → MatchResult r (λ graph. IsGraphOfLines (stands.lines ++ stands.part ∷ []) graph) (λ e. IsLack e (number + 1) (stands.lines ++ stands.part ∷ [])) → IsReadWhole text r
-ends_within r size count links partial number text stands begun gives =
-    graph_of r text (stands.lines ++ stands.part ∷ []) (number + 1) (stands.lines, stands.part, stands.cut, sym (with_last-begun stands.lines stands.part begun))
+pub ends_within : (outcome : Result GraphValue ReadFault) (r : ReadingValue) (text : List ℕ) → (stands : Stands r text) → is_begun stands.part ≡ true
+    → MatchResult outcome (λ graph. IsGraphOfLines (stands.lines ++ stands.part ∷ []) graph) (λ e. IsLack e (r.number + 1) (stands.lines ++ stands.part ∷ []))
+    → IsReadWhole text outcome
+ends_within outcome r text stands begun gives =
+    graph_of outcome text (stands.lines ++ stands.part ∷ []) (r.number + 1) (stands.lines, stands.part, stands.cut, sym (with_last-begun stands.lines stands.part begun))
     (omega (arith, length_push stands.lines stands.part, stands.numbered)) gives
 
 -- what stopped the reader is why the whole text isn't read

@@ -5,15 +5,12 @@ use Rattle.std.proofs.lemmas.List.{take-append-le}
 use Rattle.std.proofs.Math.Seq.{take-append-add, take-nil}
 use Rattle.std.proofs.lemmas.List.Sums.{sum_by-append}
 use Rattle.std.proofs.lemmas.Bool.Decides.{eqb_tells, leb_tells}
-use Rattle.link_key.specs.declared.links.Link.{Link}
 use Rattle.gr_text.specs.Lines.{line_feed, IsLine, ended, EndsLines}
 use Rattle.gr_text.specs.Fault.{IsFirstFaulty, IsEndedFault, HasLawfulLines}
-use Rattle.gr_text.specs.Reader.{ReaderValue, Stands, StopsAt, StopsBy, HasRead}
+use Rattle.gr_text.specs.Reader.{ReaderValue, ReadingValue, Stands, StopsAt, StopsBy, HasRead}
 use Rattle.gr_text.specs.declared.faults.GrKind.{GrKind}
 use Rattle.gr_text.specs.declared.faults.ReadFault.{ReadFault}
 use Rattle.gr_text.specs.declared.faults.ReadFault.TheVariants as fault
-use Rattle.gr_text.specs.declared.partial.Partial.{Partial}
-use Rattle.gr_text.specs.declared.sizes.Size.{Size}
 use Rattle.gr_text.proofs.Cuts.{cut_of, EndsLines-more}
 use Rattle.gr_text.proofs.Standing.{lawful_of}
 
@@ -64,19 +61,19 @@ StopsBy-more fault.Memory limit text more stops = tt
 
 -- what the reader has read, by whether it has a fault
 pub read_on : (reader : ReaderValue) (text : List ℕ) → reader.fault ≡ None → HasRead reader text
-    → (length text ≤ reader.limit) × (length text ≡ reader.fed) × Stands reader.size reader.count reader.links reader.partial reader.number text
+    → (length text ≤ reader.limit) × (length text ≡ reader.fed) × Stands reader.reading text
 read_on reader text is read =
-    let P : Option ReadFault → Type 0 = λ o. MatchOption o ((length text ≤ reader.limit) × (length text ≡ reader.fed) × Stands reader.size reader.count reader.links reader.partial reader.number text) (λ f. StopsBy f reader.limit text) in
+    let P : Option ReadFault → Type 0 = λ o. MatchOption o ((length text ≤ reader.limit) × (length text ≡ reader.fed) × Stands reader.reading text) (λ f. StopsBy f reader.limit text) in
     subst P is read.outcome
 
 pub stopped_by : (reader : ReaderValue) (e : ReadFault) (text : List ℕ) → reader.fault ≡ Some e → HasRead reader text → StopsBy e reader.limit text
 stopped_by reader e text is read =
-    let P : Option ReadFault → Type 0 = λ o. MatchOption o ((length text ≤ reader.limit) × (length text ≡ reader.fed) × Stands reader.size reader.count reader.links reader.partial reader.number text) (λ f. StopsBy f reader.limit text) in
+    let P : Option ReadFault → Type 0 = λ o. MatchOption o ((length text ≤ reader.limit) × (length text ≡ reader.fed) × Stands reader.reading text) (λ f. StopsBy f reader.limit text) in
     subst P is read.outcome
 
 pub has_stopped : (reader : ReaderValue) (e : ReadFault) (text : List ℕ) → reader.fault ≡ Some e → StopsBy e reader.limit text → HasRead reader text
 has_stopped reader e text is stops =
-    let P : Option ReadFault → Type 0 = λ o. MatchOption o ((length text ≤ reader.limit) × (length text ≡ reader.fed) × Stands reader.size reader.count reader.links reader.partial reader.number text) (λ f. StopsBy f reader.limit text) in
+    let P : Option ReadFault → Type 0 = λ o. MatchOption o ((length text ≤ reader.limit) × (length text ≡ reader.fed) × Stands reader.reading text) (λ f. StopsBy f reader.limit text) in
     record { outcome = subst P (sym is) stops }
 
 -- a reader that has stopped
@@ -106,8 +103,8 @@ pub too_long : (limit fed len : ℕ) (text piece : List ℕ) → length text ≡
 too_long limit fed len text piece counted within is short lawful =
     (omega (arith, length-append text piece), subst HasLawfulLines (sym (fitting limit fed len text piece counted within is)) lawful)
 
-pub lawful_lines : (size : Option Size) (count : ℕ) (links : List Link) (partial : Partial) (number : ℕ) (text : List ℕ) → Stands size count links partial number text → HasLawfulLines text
-lawful_lines size count links partial number text stands = (stands.lines, stands.part, stands.cut, lawful_of size count links stands.lines stands.give)
+pub lawful_lines : (r : ReadingValue) (text : List ℕ) → Stands r text → HasLawfulLines text
+lawful_lines r text stands = (stands.lines, stands.part, stands.cut, lawful_of r.so_far stands.lines stands.give)
 
 -- the line feeds of a text end its lines
 feeds-append : (xs ys : List ℕ) → count_by (λ b. b == line_feed) (xs ++ ys) ≡ count_by (λ b. b == line_feed) xs + count_by (λ b. b == line_feed) ys

@@ -3,7 +3,7 @@ use Rattle.std.proofs.Common.{◌≡◌, ℕ, ◌+◌, ◌^◌, ◌<◌, List, [
 use Rattle.std.proofs.Math.Seq.{take-append-add}
 use Rattle.std.proofs.lemmas.List.{take-append-le}
 use Rattle.byte_streams.specs.Streams.{SinkState, Took, WentOut}
-use Rattle.byte_streams.proofs.Streaming.{took_nothing, took_then, took_more}
+use Rattle.byte_streams.proofs.Streaming.{took_nothing, took_more}
 use Rattle.gr_text.specs.Handing.{HandsOn, HandsPrefix}
 use Rattle.gr_text.specs.Written.{told_count, PrefixWentOut}
 

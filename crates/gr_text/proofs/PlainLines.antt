@@ -5,8 +5,8 @@ use Rattle.std.proofs.lemmas.List.{take_more, take-append-drop, take_rest, lengt
 use Rattle.std.proofs.lemmas.Grind.{pow_more}
 use Rattle.std.proofs.Math.Nat.{pow-le-pow_right}
 use Rattle.gr_text.specs.Lines.{line_feed, IsLine, ended}
-use Rattle.gr_text.specs.Fields.{IsBlank, IsFieldByte, BeginsBlank, AreFields, IsDigit, number_of}
-use Rattle.gr_text.specs.Word.{KeepsNumber, KeepsSigned}
+use Rattle.gr_text.specs.Fields.{IsFieldByte, BeginsBlank, AreFields, IsDigit, number_of}
+use Rattle.gr_text.specs.Word.{KeepsSigned}
 use Rattle.gr_text.specs.Partial.{IsWhole}
 use Rattle.gr_text.specs.PlainArc.{IsShort, IsShortSigned, IsPlainArc, BeginsWithShort}
 use Rattle.gr_text.specs.declared.words.Line.TheVariants.{ArcWhole}

@@ -15,9 +15,9 @@ use Rattle.gr_text.proofs.Feeding.{lawful_lines, stopped_by}
 -- a reader without a fault was fed no more than its limit, and nothing is wrong with the lines that have ended
 clean : (reader : ReaderValue) (text : List ℕ) → HasRead reader text → reader.fault ≡ None → (length text ≤ reader.limit) × HasLawfulLines text
 clean reader text read none =
-    let P : Option ReadFault → Type 0 = λ o. MatchOption o ((length text ≤ reader.limit) × (length text ≡ reader.fed) × Stands reader.size reader.count reader.links reader.partial reader.number text) (λ f. StopsBy f reader.limit text) in
+    let P : Option ReadFault → Type 0 = λ o. MatchOption o ((length text ≤ reader.limit) × (length text ≡ reader.fed) × Stands reader.reading text) (λ f. StopsBy f reader.limit text) in
     let whole = subst P none read.outcome in
-    (whole.0, lawful_lines _ _ _ _ _ _ whole.2)
+    (whole.0, lawful_lines reader.reading text whole.2)
 
 -- the source ended behind what the reader has read
 pub read_to_end : (limit : ℕ) (outcome : Result GraphValue ReadFault) (reader : ReaderValue) (text : List ℕ) (s t u : SourceState) → HasRead reader text

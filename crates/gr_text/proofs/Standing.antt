@@ -4,9 +4,9 @@ use Rattle.std.proofs.lemmas.List.{length_push}
 use Rattle.link_key.specs.declared.links.Link.{Link}
 use Rattle.gr_text.specs.Lines.{IsLine, ended, EndsLines}
 use Rattle.gr_text.specs.Graph.{AreLawfulSoFar}
-use Rattle.gr_text.specs.Reading.{Gives, IsLineFault}
+use Rattle.gr_text.specs.Reading.{SoFarValue, AreKept, Gives, IsLineFault}
 use Rattle.gr_text.specs.Partial.{IsKeptAs}
-use Rattle.gr_text.specs.Reader.{Stands, StopsAt}
+use Rattle.gr_text.specs.Reader.{ReadingValue, Stands, StopsAt}
 use Rattle.gr_text.specs.declared.faults.ReadFault.{ReadFault}
 use Rattle.gr_text.specs.declared.faults.ReadFault.TheVariants as fault
 use Rattle.gr_text.specs.declared.partial.Partial.{Partial}
@@ -14,9 +14,12 @@ use Rattle.gr_text.specs.declared.sizes.Size.{Size}
 use Rattle.gr_text.proofs.Cuts.{EndsLines-bytes, EndsLines-line, EndsLines-append, cut_of}
 use Rattle.gr_text.proofs.Faulty.{fault_is_faulty}
 
-pub lawful_of : (size : Option Size) (count : ℕ) (links : List Link) (lines : List (List ℕ)) → Gives size count links lines → AreLawfulSoFar lines
-lawful_of None count links lines (say, zero_count, none) = inl say
-lawful_of (Some size) count links lines (arcs, lawful, counted, are) = inr (size.vertices, size.arcs, arcs, lawful)
+pub lawful_of : (kept : SoFarValue) (lines : List (List ℕ)) → Gives kept lines → AreLawfulSoFar lines
+lawful_of kept lines = lawful_at kept.size kept.count kept.links lines
+  where
+    lawful_at : (size : Option Size) (count : ℕ) (links : List Link) (lines : List (List ℕ)) → AreKept size count links lines → AreLawfulSoFar lines
+    lawful_at None count links lines (say, zero_count, none) = inl say
+    lawful_at (Some size) count links lines (arcs, lawful, counted, are) = inr (size.vertices, size.arcs, arcs, lawful)
 
 pub first_faulty : (lines : List (List ℕ)) (part : List ℕ) (more : List (List ℕ)) (f : ReadFault) (number : ℕ) → AreLawfulSoFar lines → number ≡ length lines + 1 → IsLineFault f number lines part
     → (text : List ℕ) (r : List ℕ) → EndsLines text (lines ++ part ∷ [] ++ more) r → StopsAt f text
@@ -40,9 +43,9 @@ first_faulty lines part more fault.TooLong number lawful numbered no_such text r
 first_faulty lines part more fault.Memory number lawful numbered any text r cut = tt
 
 -- more bytes of a line
-pub Stands-part : (size : Option Size) (count : ℕ) (links : List Link) (partial partial' : Partial) (number : ℕ) (text more : List ℕ)
-    → (stands : Stands size count links partial number text) → IsLine more → IsKeptAs partial' (stands.part ++ more) → Stands size count links partial' number (text ++ more)
-Stands-part size count links partial partial' number text more stands is_line kept = record {
+pub Stands-part : (r : ReadingValue) (partial : Partial) (text more : List ℕ) → (stands : Stands r text) → IsLine more → IsKeptAs partial (stands.part ++ more)
+    → Stands (record r { partial = partial }) (text ++ more)
+Stands-part r partial text more stands is_line kept = record {
   lines = stands.lines;
   part = stands.part ++ more;
   cut = EndsLines-bytes text stands.lines stands.part more stands.cut is_line;
@@ -52,10 +55,9 @@ Stands-part size count links partial partial' number text more stands is_line ke
 }
 
 -- the rest of a line with its line feed, where the line is taken
-pub Stands-line : (size size' : Option Size) (count count' : ℕ) (links links' : List Link) (partial fresh : Partial) (number : ℕ) (text line : List ℕ)
-    → (stands : Stands size count links partial number text) → IsLine line → IsKeptAs fresh [] → Gives size' count' links' (stands.lines ++ (stands.part ++ line) ∷ [])
-    → Stands size' count' links' fresh (number + 1) (text ++ ended line)
-Stands-line size size' count count' links links' partial fresh number text line stands is_line none gives = record {
+pub Stands-line : (r : ReadingValue) (fresh : Partial) (so_far : SoFarValue) (text line : List ℕ) → (stands : Stands r text) → IsLine line → IsKeptAs fresh []
+    → Gives so_far (stands.lines ++ (stands.part ++ line) ∷ []) → Stands (record { number = r.number + 1; partial = fresh; so_far = so_far }) (text ++ ended line)
+Stands-line r fresh so_far text line stands is_line none gives = record {
   lines = stands.lines ++ (stands.part ++ line) ∷ [];
   part = [];
   cut = EndsLines-line text stands.lines stands.part line stands.cut is_line;
@@ -65,12 +67,12 @@ Stands-line size size' count count' links links' partial fresh number text line 
 }
 
 -- the same, where the line has a fault: what follows doesn't matter
-pub StopsAt-line : (e : ReadFault) (size : Option Size) (count : ℕ) (links : List Link) (partial : Partial) (number : ℕ) (text line rest : List ℕ)
-    → (stands : Stands size count links partial number text) → IsLine line → IsLineFault e number stands.lines (stands.part ++ line) → StopsAt e ((text ++ ended line) ++ rest)
-StopsAt-line e size count links partial number text line rest stands is_line fault =
-    let (more, r, cut) = cut_of rest in
-    first_faulty stands.lines (stands.part ++ line) more e number (lawful_of size count links stands.lines stands.give) stands.numbered fault
-    ((text ++ ended line) ++ rest) r (EndsLines-append (text ++ ended line) rest (stands.lines ++ (stands.part ++ line) ∷ []) more r
+pub StopsAt-line : (e : ReadFault) (r : ReadingValue) (text line rest : List ℕ) → (stands : Stands r text) → IsLine line
+    → IsLineFault e r.number stands.lines (stands.part ++ line) → StopsAt e ((text ++ ended line) ++ rest)
+StopsAt-line e r text line rest stands is_line fault =
+    let (more, last, cut) = cut_of rest in
+    first_faulty stands.lines (stands.part ++ line) more e r.number (lawful_of r.so_far stands.lines stands.give) stands.numbered fault
+    ((text ++ ended line) ++ rest) last (EndsLines-append (text ++ ended line) rest (stands.lines ++ (stands.part ++ line) ∷ []) more last
     (EndsLines-line text stands.lines stands.part line stands.cut is_line) cut)
 
 -- a text and a piece of which a line and what is behind it is left

@@ -10,7 +10,7 @@ use Rattle.link_key.specs.Link.{Key, key_of, arc_key, is_no_loop, AreLinksOf}
 use Rattle.link_key.specs.declared.links.Link.{Link}
 use Rattle.gr_text.specs.Statement.{Statement, Problem, ArcLine, IsSilent, Says, Say}
 use Rattle.gr_text.specs.Graph.{IsArcOf, AreLawfulLines}
-use Rattle.gr_text.specs.Reading.{Counts, Gives, Judges, AddsLink, IsLineFault}
+use Rattle.gr_text.specs.Reading.{SoFarValue, Counts, AreKept, Gives, Judges, AddsLink, AddsArc, IsLineFault}
 use Rattle.gr_text.specs.declared.sizes.Size.{Size}
 use Rattle.gr_text.specs.declared.faults.ReadFault.{ReadFault}
 use Rattle.gr_text.specs.declared.faults.ReadFault.TheVariants as fault
@@ -78,17 +78,17 @@ AreLinksOf-link arcs links arc link are no_loop key =
     ∙ sym (map-append arc_key (filter is_no_loop arcs) (arc ∷ []))
     ∙ ap (map arc_key) (ap (λ (b : Bool). filter is_no_loop arcs ++ cond b (arc ∷ []) []) (sym no_loop) ∙ sym (filter-append is_no_loop arcs (arc ∷ [])))
 
-pub counts_of : (size : Option Size) (count : ℕ) (links : List Link) (lines : List (List ℕ)) → Gives size count links lines → Counts size count lines
+pub counts_of : (size : Option Size) (count : ℕ) (links : List Link) (lines : List (List ℕ)) → AreKept size count links lines → Counts size count lines
 counts_of None count links lines (say, zero_count, none) = (say, zero_count)
 counts_of (Some size) count links lines (arcs, lawful, counted, are) = (arcs, lawful, counted)
 
-pub Gives-silent : (size : Option Size) (count : ℕ) (links : List Link) (lines : List (List ℕ)) (line : List ℕ) → Gives size count links lines → IsSilent line → Gives size count links (lines ++ line ∷ [])
+pub Gives-silent : (size : Option Size) (count : ℕ) (links : List Link) (lines : List (List ℕ)) (line : List ℕ) → AreKept size count links lines → IsSilent line → AreKept size count links (lines ++ line ∷ [])
 Gives-silent None count links lines line (say, zero_count, none) silent = (Say-silent lines line [] say silent, zero_count, none)
 Gives-silent (Some size) count links lines line (arcs, lawful, counted, are) silent =
     (arcs, AreLawfulLines-silent lines line size.vertices size.arcs arcs lawful silent, counted, are)
 
-pub Gives-problem : (size : Option Size) (new : Size) (count : ℕ) (links : List Link) (lines : List (List ℕ)) (line : List ℕ) → Gives size count links lines → Judges (verdict.Begins new) size count lines line
-    → Gives (Some new) count links (lines ++ line ∷ [])
+pub Gives-problem : (size : Option Size) (new : Size) (count : ℕ) (links : List Link) (lines : List (List ℕ)) (line : List ℕ) → AreKept size count links lines → Judges (verdict.Begins new) size count lines line
+    → AreKept (Some new) count links (lines ++ line ∷ [])
 Gives-problem None new count links lines line (say, zero_count, none) (is, says, vertices, arcs) =
     ([], AreLawfulLines-problem lines line new.vertices new.arcs say says vertices arcs, sym zero_count, ap (map key_of) none)
 Gives-problem (Some size) new count links lines line gives (is, says, vertices, arcs) = absurd (cc)
@@ -100,22 +100,22 @@ links_with arcs old new arc are (inr (differ, (link, key, is))) =
     rw is (AreLinksOf-link arcs old arc link are (grind (arith, nat_tests)) key)
 
 pub Gives-arc : (size size' : Option Size) (count count' : ℕ) (old new : List Link) (lines : List (List ℕ)) (line : List ℕ) (u v : ℕ) (w : ℤ)
-    → Gives size count old lines → Judges (verdict.Adds u v w) size count lines line → size' ≡ size → count' ≡ count + 1
-    → AddsLink old new (record { tail = u; head = v; weight = w }) → Gives size' count' new (lines ++ line ∷ [])
+    → AreKept size count old lines → Judges (verdict.Adds u v w) size count lines line → size' ≡ size → count' ≡ count + 1
+    → AddsLink old new (record { tail = u; head = v; weight = w }) → AreKept size' count' new (lines ++ line ∷ [])
 Gives-arc None size' count count' old new lines line u v w gives judged same more adds = absurd judged
 Gives-arc (Some size) size' count count' old new lines line u v w (arcs, lawful, counted, are) (says, is_arc, room) same more adds =
     let arc : Arc = record { tail = u; head = v; weight = w } in
-    subst (λ (s : Option Size). Gives s count' new (lines ++ line ∷ [])) (sym same) (
+    subst (λ (s : Option Size). AreKept s count' new (lines ++ line ∷ [])) (sym same) (
       arcs ++ arc ∷ [],
       AreLawfulLines-arc lines line size.vertices size.arcs arcs arc lawful says is_arc (omega arith),
       omega (arith, length_push arcs arc),
       links_with arcs old new arc are adds,
     )
 
-pub arc_taken : {X : Type 0} (r : Result X ReadFault) (size size' : Option Size) (count count' : ℕ) (old new : List Link) (lines : List (List ℕ)) (line : List ℕ) (u v : ℕ) (w : ℤ) (number : ℕ)
-    → MatchResult r (λ _. (size' ≡ size) × (count' ≡ count + 1) × AddsLink old new (record { tail = u; head = v; weight = w })) (λ e. e ≡ fault.Memory)
-    → Gives size count old lines → Judges (verdict.Adds u v w) size count lines line
-    → MatchResult r (λ _. Gives size' count' new (lines ++ line ∷ [])) (λ e. IsLineFault e number lines line)
-arc_taken (Ok x) size size' count count' old new lines line u v w number (same, more, adds) gives judged =
-    Gives-arc size size' count count' old new lines line u v w gives judged same more adds
-arc_taken (Err e) size size' count count' old new lines line u v w number is gives judged = rw is tt
+pub arc_taken : {X : Type 0} (r : Result X ReadFault) (old new : SoFarValue) (lines : List (List ℕ)) (line : List ℕ) (u v : ℕ) (w : ℤ) (number : ℕ)
+    → MatchResult r (λ _. AddsArc old new (record { tail = u; head = v; weight = w })) (λ e. e ≡ fault.Memory)
+    → Gives old lines → Judges (verdict.Adds u v w) old.size old.count lines line
+    → MatchResult r (λ _. Gives new (lines ++ line ∷ [])) (λ e. IsLineFault e number lines line)
+arc_taken (Ok x) old new lines line u v w number (same, more, adds) gives judged =
+    Gives-arc old.size new.size old.count new.count old.links new.links lines line u v w gives judged same more adds
+arc_taken (Err e) old new lines line u v w number is gives judged = rw is tt

@@ -6,7 +6,6 @@ use Rattle.gr_text.specs.Fields.{IsFieldByte, BeginsBlank, AreFields}
 use Rattle.gr_text.specs.Word.{WordMeans, LineMeans}
 use Rattle.gr_text.specs.declared.partial.Partial.{Partial}
 use Rattle.gr_text.specs.declared.words.Line.{Line}
-use Rattle.gr_text.specs.declared.words.Word.{Word}
 
 -- the fields, and one more where it isn't empty
 abbrev pub with_field : List (List ℕ) → List ℕ → List (List ℕ)

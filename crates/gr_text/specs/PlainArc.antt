@@ -1,11 +1,8 @@
 -- The usual form of an arc line, which is read at once.
 use Rattle.std.specs.Prelude.{◌≡◌, ◌≢◌, ℕ, ◌≤◌, ◌⊎◌, List, [], ◌∷◌, ◌++◌, length, codes}
 use Rattle.std.specs.List.{AllByRecursion}
-use Rattle.gr_text.specs.Lines.{ended}
 use Rattle.gr_text.specs.Fields.{IsDigit}
-use Rattle.gr_text.specs.Word.{KeepsNumber, KeepsSigned}
-use Rattle.gr_text.specs.Partial.{IsWhole}
-use Rattle.gr_text.specs.declared.words.Line.{Line}
+use Rattle.gr_text.specs.Word.{KeepsNumber}
 
 -- one to ten digits
 pub record IsShort (field : List ℕ) : Type 0 where

@@ -1,24 +1,28 @@
 -- What a reader has read, and what it answers.
 use Rattle.std.specs.Prelude.{◌≡◌, ℕ, ◌+◌, ◌<◌, ◌≤◌, ◌⊎◌, List, length, take, Option, MatchOption, Result, Ok, Err}
-use Rattle.link_key.specs.declared.links.Link.{Link}
 use Rattle.gr_text.specs.Lines.{EndsLines}
 use Rattle.gr_text.specs.Graph.{GraphValue, IsGraphOf}
 use Rattle.gr_text.specs.Fault.{IsFirstFault, IsEndedFault, HasLawfulLines}
-use Rattle.gr_text.specs.Reading.{Gives}
+use Rattle.gr_text.specs.Reading.{SoFarValue, Gives}
 use Rattle.gr_text.specs.Partial.{IsKeptAs}
 use Rattle.gr_text.specs.declared.faults.ReadFault.{ReadFault}
 use Rattle.gr_text.specs.declared.faults.ReadFault.TheVariants as fault
-use Rattle.gr_text.specs.declared.sizes.Size.{Size}
 use Rattle.gr_text.specs.declared.partial.Partial.{Partial}
 
--- the text is whole lines that give these, and then a part of a line, which is kept so
-pub record Stands (size : Option Size) (count : ℕ) (links : List Link) (partial : Partial) (number : ℕ) (text : List ℕ) : Type 0 where
+-- what is kept of a text: the number of the line that is coming, its part that has come, and what the lines before say
+pub record ReadingValue : Type 0 where
+  pub number : ℕ
+  pub partial : Partial
+  pub so_far : SoFarValue
+
+-- the text is whole lines that give this, and then a part of a line, which is kept so
+pub record Stands (reading : ReadingValue) (text : List ℕ) : Type 0 where
   pub lines : List (List ℕ)
   pub part : List ℕ
   pub cut : EndsLines text lines part
-  pub give : Gives size count links lines
-  pub kept : IsKeptAs partial part
-  pub numbered : number ≡ length lines + 1
+  pub give : Gives reading.so_far lines
+  pub kept : IsKeptAs reading.partial part
+  pub numbered : reading.number ≡ length lines + 1
 
 -- why a text isn't read on: the first faulty line among those that a line feed ends; or memory
 abbrev pub StopsAt : ReadFault → List ℕ → Type 0
@@ -47,17 +51,13 @@ FailsBy fault.Memory limit text = Unit {0}
 pub record ReaderValue : Type 0 where
   pub limit : ℕ
   pub fed : ℕ
-  pub number : ℕ
-  pub partial : Partial
-  pub size : Option Size
-  pub count : ℕ
-  pub links : List Link
+  pub reading : ReadingValue
   pub fault : Option ReadFault
 
 -- the reader was fed this text, in whatever pieces: it has a fault, which is right, or it has read all of it
 pub record HasRead (reader : ReaderValue) (text : List ℕ) : Type 0 where
   pub outcome : MatchOption reader.fault
-      ((length text ≤ reader.limit) × (length text ≡ reader.fed) × Stands reader.size reader.count reader.links reader.partial reader.number text)
+      ((length text ≤ reader.limit) × (length text ≡ reader.fed) × Stands reader.reading text)
       (λ f. StopsBy f reader.limit text)
 
 -- what a reader answers for a whole text: the graph that it means, where it is within the limit, or why there is none

@@ -1,5 +1,5 @@
 -- What the lines that were read say, and what a further line does.
-use Rattle.std.specs.Prelude.{◌≡◌, ◌≢◌, ℕ, ◌<◌, ◌≤◌, ◌⊎◌, List, [], length, Option, Some, None, ◌++◌, ◌∷◌}
+use Rattle.std.specs.Prelude.{◌≡◌, ◌≢◌, ℕ, ◌+◌, ◌<◌, ◌≤◌, ◌⊎◌, List, [], length, Option, Some, None, ◌++◌, ◌∷◌}
 use Rattle.limits.specs.declared.TheConstants.{MAX_ARCS, MAX_VERTICES}
 use Rattle.link_key.specs.Arc.{Arc}
 use Rattle.link_key.specs.Link.{key_of, arc_key, AreLinksOf, EndsUpTo}
@@ -42,10 +42,21 @@ Judges (verdict.Adds u v w) (Some size) count lines line =
     × IsArcOf size.vertices (record { tail = u; head = v; weight = w }) × (count < size.arcs)
 Judges (verdict.Faulty kind) size count lines line = IsFaultAfter lines line kind
 
+-- what is kept of whole lines: what their problem line states, once it has come; how many arc lines they have; and the
+-- links of these
+pub record SoFarValue : Type 0 where
+  pub size : Option Size
+  pub count : ℕ
+  pub links : List Link
+
 -- the lines state this problem, if one, and arcs that give these links
-abbrev pub Gives : Option Size → ℕ → List Link → List (List ℕ) → Type 0
-Gives None count links lines = Say lines [] × (count ≡ 0) × (links ≡ [])
-Gives (Some size) count links lines = (arcs : List Arc) × AreLawfulLines lines size.vertices size.arcs arcs × (length arcs ≡ count) × AreLinksOf arcs links
+abbrev pub AreKept : Option Size → ℕ → List Link → List (List ℕ) → Type 0
+AreKept None count links lines = Say lines [] × (count ≡ 0) × (links ≡ [])
+AreKept (Some size) count links lines = (arcs : List Arc) × AreLawfulLines lines size.vertices size.arcs arcs × (length arcs ≡ count) × AreLinksOf arcs links
+
+-- this is what is kept of the lines
+abbrev pub Gives : SoFarValue → List (List ℕ) → Type 0
+Gives kept lines = AreKept kept.size kept.count kept.links lines
 
 -- why a line wasn't taken: its fault, or memory
 abbrev pub IsLineFault : ReadFault → ℕ → List (List ℕ) → List ℕ → Type 0
@@ -58,6 +69,10 @@ IsLineFault fault.Memory number lines line = Unit {0}
 abbrev pub AddsLink : List Link → List Link → Arc → Type 0
 AddsLink old new arc = ((arc.tail ≡ arc.head) × (new ≡ old))
     ⊎ ((arc.tail ≢ arc.head) × ((link : Link) × (key_of link ≡ arc_key arc) × (new ≡ old ++ link ∷ [])))
+
+-- one more arc is kept
+abbrev pub AddsArc : SoFarValue → SoFarValue → Arc → Type 0
+AddsArc old new arc = (new.size ≡ old.size) × (new.count ≡ old.count + 1) × AddsLink old.links new.links arc
 
 -- the graph of whole lines
 abbrev pub IsGraphOfLines : List (List ℕ) → GraphValue → Type 0

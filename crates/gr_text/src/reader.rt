@@ -26,23 +26,17 @@ impl<A: Allocator> Model for GrReader<A> {
     ghost use Rattle.std.specs.Prelude.{◌+◌, ◌≤◌};
     ghost use Rattle.limits.specs.declared.TheConstants.{MAX_BYTES};
     ghost use Rattle.gr_text.specs.Reader.{ReaderValue};
-    ghost use Rattle.gr_text.specs.Reading.{IsWithinSize};
 
     ghost Value = { ReaderValue };
 
     ghost view = { λ r. record {
       limit = r.limit;
       fed = r.fed;
-      number = r.reading.number;
-      partial = r.reading.partial;
-      size = r.reading.so_far.size;
-      count = r.reading.so_far.count;
-      links = r.reading.so_far.links.items;
+      reading = r.reading;
       fault = r.fault;
     } };
 
-    ghost invariant = { λ r. (r.limit ≤ MAX_BYTES) × (r.fed ≤ r.limit) × (r.reading.number ≤ r.fed + 1)
-        × IsWithinSize r.reading.so_far.size r.reading.so_far.count r.reading.so_far.links.items };
+    ghost invariant = { λ r. (r.limit ≤ MAX_BYTES) × (r.fed ≤ r.limit) × (r.reading.number ≤ r.fed + 1) };
 }
 
 impl<A: Allocator> GrReader<A> {
@@ -97,7 +91,7 @@ impl<A: Allocator> GrReader<A> {
     pub fn line(&self) -> u64
         ensures { (text : List ℕ) → HasRead self.now text → self.now.fault ≡ None → result ≡ 1 + count_by (λ b. b == line_feed) text }
     {
-        self.reading.number
+        self.reading.number()
     }
 
     /// Ends the text: judges its last line, where it lacks its line feed, and then what lacks.

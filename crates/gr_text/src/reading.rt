@@ -1,5 +1,4 @@
 ghost use Rattle.std.specs.Prelude.{◌≡◌, ℕ, ◌+◌, ◌<◌, ◌≤◌, ◌^◌, List, [], ◌++◌, length, MatchResult};
-ghost use Rattle.gr_text.specs.Reading.{IsWithinSize};
 ghost use Rattle.gr_text.specs.Reader.{Stands, StopsAt, IsReadWhole};
 
 use crate::faults::ReadFault;
@@ -7,24 +6,32 @@ use crate::graphs::Graph;
 use crate::partial::Partial;
 use crate::so_far::SoFar;
 use std::alloc::Allocator;
+use std::marker::Model;
 
 /// What was read of a text: whole lines, and a part of the next one.
 #[derive(Drop)]
 pub struct Reading<A: Allocator> {
     /// The number of the line that is being read.
-    pub number: u64,
+    number: u64,
     /// The part of it that has come.
-    pub partial: Partial,
+    partial: Partial,
     /// What the lines before it say.
-    pub so_far: SoFar<A>,
+    so_far: SoFar<A>,
+}
+
+impl<A: Allocator> Model for Reading<A> {
+    ghost use Rattle.gr_text.specs.Reader.{ReadingValue};
+
+    ghost Value = { ReadingValue };
+
+    ghost view = { λ r. record { number = r.number; partial = r.partial; so_far = r.so_far } };
 }
 
 impl<A: Allocator> Reading<A> {
     /// Nothing was read.
     pub fn new(alloc: A) -> Reading<A>
         ensures number { result.number ≡ 1 }
-        ensures sound { IsWithinSize result.so_far.size result.so_far.count result.so_far.links.items }
-        ensures nothing { Stands result.so_far.size result.so_far.count result.so_far.links.items result.partial result.number [] }
+        ensures nothing { Stands result [] }
     {
         Reading {
             number: 1,
@@ -33,19 +40,21 @@ impl<A: Allocator> Reading<A> {
         }
     }
 
+    /// The number of the line that is coming. In constant time.
+    pub fn number(&self) -> u64
+        ensures { result ≡ self.now.number }
+    {
+        self.number
+    }
+
     /// Reads a piece of the text. It fails at the first line that ends in it and is faulty, or at an arc
     /// whose link finds no memory; then it isn't to be read on. Each byte takes constant time, and one that
     /// goes on with a number only a few instructions.
     pub fn read(&mut self, piece: &[u8]) -> Result<(), ReadFault>
-        requires sound { IsWithinSize self.old.so_far.size self.old.so_far.count self.old.so_far.links.items }
-        requires few_lines { self.old.number + length piece.now < 2 ^ 64 }
-        ensures sound { IsWithinSize self.new.so_far.size self.new.so_far.count self.new.so_far.links.items }
+        requires { self.old.number + length piece.now < 2 ^ 64 }
         ensures few_lines { self.new.number ≤ self.old.number + length piece.now }
-        ensures told { (text : List ℕ)
-            → Stands self.old.so_far.size self.old.so_far.count self.old.so_far.links.items self.old.partial self.old.number text
-            → MatchResult result
-            (λ _. Stands self.new.so_far.size self.new.so_far.count self.new.so_far.links.items self.new.partial self.new.number (text ++ piece.now))
-            (λ e. StopsAt e (text ++ piece.now)) }
+        ensures told { (text : List ℕ) → Stands self.old text → MatchResult result
+            (λ _. Stands self.new (text ++ piece.now)) (λ e. StopsAt e (text ++ piece.now)) }
     {
         let mut rest = piece;
         while let Some((line, after)) = self.partial.next_line(rest) {
@@ -60,11 +69,8 @@ impl<A: Allocator> Reading<A> {
 
     /// The graph of the whole text, which ends here; a last line without its line feed is judged first.
     pub fn ended(mut self) -> Result<Graph<A>, ReadFault>
-        requires sound { IsWithinSize self.so_far.size self.so_far.count self.so_far.links.items }
-        requires few_lines { self.number + 1 < 2 ^ 64 }
-        ensures { (text : List ℕ)
-            → Stands self.so_far.size self.so_far.count self.so_far.links.items self.partial self.number text
-            → IsReadWhole text result }
+        requires { self.number + 1 < 2 ^ 64 }
+        ensures { (text : List ℕ) → Stands self text → IsReadWhole text result }
     {
         if !self.partial.begun {
             return self.so_far.graph(self.number);

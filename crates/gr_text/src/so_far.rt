@@ -1,7 +1,6 @@
-ghost use Rattle.std.specs.Prelude.{◌≡◌, ◌+◌, ℕ, List, [], ◌∷◌, ◌++◌, ◌<◌, ◌≤◌, ◌^◌, MatchResult};
-ghost use Rattle.gr_text.specs.Fields.{AreFields};
-ghost use Rattle.gr_text.specs.Word.{LineMeans};
-ghost use Rattle.gr_text.specs.Reading.{AddsLink, FitsAfter, Gives, IsGraphOfLines, IsLack, IsLineFault, IsWithinSize};
+ghost use Rattle.std.specs.Prelude.{◌≡◌, ℕ, List, [], ◌∷◌, ◌++◌, MatchResult};
+ghost use Rattle.gr_text.specs.Partial.{IsWhole};
+ghost use Rattle.gr_text.specs.Reading.{AddsArc, FitsAfter, Gives, IsGraphOfLines, IsLack, IsLineFault};
 
 use crate::faults::{GrFault, GrKind, ReadFault};
 use crate::graphs::Graph;
@@ -10,23 +9,33 @@ use crate::verdicts::{Verdict, judge};
 use crate::words::Line;
 use link_key::Link;
 use std::alloc::Allocator;
+use std::marker::Model;
 
 /// What the whole lines so far say.
 #[derive(Drop)]
 pub struct SoFar<A: Allocator> {
     /// What their problem line states, once it has come.
-    pub size: Option<Size>,
+    size: Option<Size>,
     /// How many arc lines have come.
-    pub count: u32,
+    count: u32,
     /// The links of these, in order; loops have none.
-    pub links: Vec<Link, A>,
+    links: Vec<Link, A>,
+}
+
+impl<A: Allocator> Model for SoFar<A> {
+    ghost use Rattle.gr_text.specs.Reading.{IsWithinSize, SoFarValue};
+
+    ghost Value = { SoFarValue };
+
+    ghost view = { λ s. record { size = s.size; count = s.count; links = s.links.items } };
+
+    ghost invariant = { λ s. IsWithinSize s.size s.count s.links.items };
 }
 
 impl<A: Allocator> SoFar<A> {
     /// What no lines say.
     pub fn new(alloc: A) -> SoFar<A>
-        ensures sound { IsWithinSize result.size result.count result.links.items }
-        ensures none { Gives result.size result.count result.links.items [] }
+        ensures { Gives result [] }
     {
         SoFar {
             size: None,
@@ -38,12 +47,8 @@ impl<A: Allocator> SoFar<A> {
     /// Takes one more line, of this number. It fails with the fault of the line, or with `Memory` where its
     /// link finds none; nothing is read behind it.
     pub fn take_line(&mut self, number: u64, line: Line) -> Result<(), ReadFault>
-        requires { IsWithinSize self.old.size self.old.count self.old.links.items }
-        ensures sound { IsWithinSize self.new.size self.new.count self.new.links.items }
-        ensures taken { (lines : List (List ℕ)) (bytes : List ℕ) (fields : List (List ℕ))
-            → Gives self.old.size self.old.count self.old.links.items lines → AreFields bytes fields → LineMeans line fields
-            → MatchResult result (λ _. Gives self.new.size self.new.count self.new.links.items (lines ++ bytes ∷ []))
-            (λ e. IsLineFault e number lines bytes) }
+        ensures { (lines : List (List ℕ)) (bytes : List ℕ) → Gives self.old lines → IsWhole line bytes
+            → MatchResult result (λ _. Gives self.new (lines ++ bytes ∷ [])) (λ e. IsLineFault e number lines bytes) }
     {
         match judge(self.size, self.count, line) {
             Verdict::Silent => Ok(()),
@@ -58,8 +63,7 @@ impl<A: Allocator> SoFar<A> {
 
     /// The graph of the lines so far, where nothing lacks. `number` is that of the line after them.
     pub fn graph(self, number: u64) -> Result<Graph<A>, ReadFault>
-        requires { IsWithinSize self.size self.count self.links.items }
-        ensures { (lines : List (List ℕ)) → Gives self.size self.count self.links.items lines
+        ensures { (lines : List (List ℕ)) → Gives self lines
             → MatchResult result (λ graph. IsGraphOfLines lines graph) (λ e. IsLack e number lines) }
     {
         match self.size {
@@ -82,12 +86,9 @@ impl<A: Allocator> SoFar<A> {
 
     // Adds an arc of the problem's vertices.
     fn add(&mut self, tail: u32, head: u32, weight: i32) -> Result<(), ReadFault>
-        requires sound { IsWithinSize self.old.size self.old.count self.old.links.items }
-        requires room { FitsAfter (Verdict.Adds tail head weight) self.old.size self.old.count }
-        ensures sound { IsWithinSize self.new.size self.new.count self.new.links.items }
-        ensures added { MatchResult result
-            (λ _. (self.new.size ≡ self.old.size) × (self.new.count ≡ self.old.count + 1)
-            × AddsLink self.old.links.items self.new.links.items (record { tail = tail; head = head; weight = weight }))
+        requires { FitsAfter (Verdict.Adds tail head weight) self.old.size self.old.count }
+        ensures { MatchResult result
+            (λ _. AddsArc self.old self.new (record { tail = tail; head = head; weight = weight }))
             (λ e. e ≡ ReadFault.Memory) }
     {
         let Some(link) = Link::of_arc(tail, head, weight) else {

@@ -1,7 +1,7 @@
 ghost use Rattle.std.specs.Prelude.{◌≡◌, ◌≤◌, ℕ, ℤ, List, codes, MatchOption};
-ghost use Rattle.gr_text.specs.Fields.{AreFields};
 ghost use Rattle.gr_text.specs.Statement.{Says, Problem, ArcLine};
-ghost use Rattle.gr_text.specs.Word.{IsCapped, IsCappedSigned, LineMeans};
+ghost use Rattle.gr_text.specs.Word.{IsCapped, IsCappedSigned};
+ghost use Rattle.gr_text.specs.Partial.{IsWhole};
 ghost use Rattle.gr_text.specs.Reading.{FitsAfter, Counts, Judges};
 ghost use Rattle.gr_text.specs.Fault.{BeginsWith};
 ghost use Rattle.gr_text.specs.Graph.{IsWeight};
@@ -29,8 +29,8 @@ pub enum Verdict {
 /// `count` how many arc lines they have. In constant time.
 pub fn judge(size: Option<Size>, count: u32, line: Line) -> Verdict
     ensures fits { FitsAfter result size count }
-    ensures told { (lines : List (List ℕ)) (bytes : List ℕ) (fields : List (List ℕ)) → Counts size count lines
-        → AreFields bytes fields → LineMeans line fields → Judges result size count lines bytes }
+    ensures told { (lines : List (List ℕ)) (bytes : List ℕ) → Counts size count lines → IsWhole line bytes
+        → Judges result size count lines bytes }
 {
     match line {
         Line::Nothing => Verdict::Silent,

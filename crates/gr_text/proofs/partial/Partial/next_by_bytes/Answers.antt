@@ -1,5 +1,4 @@
-use Rattle.std.proofs.Common.{◌≡◌, ◌≢◌, ℕ, List, ◌∷◌, [], ◌++◌, ◌+◌, take, drop, get_or, sym, subst, ap, ◌∙◌, append_assoc}
-use Rattle.std.specs.List.{AllByRecursion}
+use Rattle.std.proofs.Common.{◌≢◌, ℕ, List, ◌∷◌, [], ◌++◌, take, get_or, sym, subst, ap, ◌∙◌, append_assoc}
 use Rattle.std.proofs.lemmas.List.{take_more}
 use Rattle.gr_text.specs.Lines.{line_feed, IsLine}
 use Rattle.gr_text.specs.Partial.{IsKeptAs}

@@ -22,4 +22,4 @@ returns-then-len-piece-clause-fed g c = λ text read.
     let (short, counted, stands) = read_on _ text c.in_default.is (subst (λ (v : ReaderValue). HasRead v text) (sym c.self.view_is) read) in
     has_stopped _ fault.TooLong (text ++ c.args.piece.now) refl
     (too_long inside.limit inside.fed c.min-len.result text c.args.piece.now counted c.self.invariant.1 c.min-len.ensures c.if-len-piece.true
-    (lawful_lines _ _ _ _ _ _ (c.in_default-read.ensures.told text stands)))
+    (lawful_lines _ _ (c.in_default-read.ensures.told text stands)))

@@ -1,6 +1,6 @@
 use Rattle.std.proofs.Common.{ℕ, List, ◌+◌, ◌++◌, ap, sym, ◌∙◌, subst, append_assoc, arith}
 use Rattle.gr_text.specs.Lines.{ended}
-use Rattle.gr_text.specs.Reader.{Stands, StopsAt}
+use Rattle.gr_text.specs.Reader.{ReadingValue, Stands, StopsAt}
 use Rattle.gr_text.proofs.Standing.{Stands-part, Stands-line, StopsAt-line, piece_line}
 use Rattle.gr_text.proofs.reading.Reading.read.Goals as goal
 
@@ -10,31 +10,27 @@ returns-in-Err-clause-told g c = λ text stands.
     let (done, is, now) = c.loop-line.invariant.told text stands in
     let (fresh, (line, is_line, ends, whole)) = c.in-Some.ensures.told now.part now.kept in
     subst (StopsAt c.in-Err.fault) (piece_line text c.args.piece.now done c.loop-line.rest.now line after is ends)
-    (StopsAt-line c.in-Err.fault _ _ _ _ _ (text ++ done) line after now is_line (c.in-Err.ensures.taken now.lines (now.part ++ line) whole.0 now.give whole.1 whole.2))
+    (StopsAt-line c.in-Err.fault _ (text ++ done) line after now is_line (c.in-Err.ensures now.lines (now.part ++ line) now.give whole))
 
 pub loop-line-preserved : goal.loop-line-preserved
 loop-line-preserved g c = record {
-  sound = c.in_default-take_line.ensures.sound;
-  few_lines = omega (arith, c.in-Some.ensures.shorter);
+  few_lines = omega (arith, c.in-Some.ensures.shorter, c.loop-line.invariant.few_lines);
   told = λ text stands.
-      let after = c.in-Some.after.now in
-      let so_far = c.take_line.new.self in
+      let next : ReadingValue = record { number = c.loop-line.self-inside.number + 1; partial = c.next_line.new.self; so_far = c.take_line.new.self } in
       let (done, is, now) = c.loop-line.invariant.told text stands in
       let (fresh, (line, is_line, ends, whole)) = c.in-Some.ensures.told now.part now.kept in
-      let taken = c.in_default-take_line.ensures.taken now.lines (now.part ++ line) whole.0 now.give whole.1 whole.2 in (
+      let taken = c.in_default-take_line.ensures now.lines (now.part ++ line) now.give whole in (
         done ++ ended line,
-        is ∙ ap (λ (xs : List ℕ). done ++ xs) ends ∙ sym (append_assoc done (ended line) after),
-        subst (Stands so_far.size so_far.count so_far.links.items c.next_line.new.self (c.loop-line.self.number + 1)) (append_assoc text done (ended line))
-            (Stands-line _ so_far.size _ so_far.count _ so_far.links.items _ c.next_line.new.self c.loop-line.self.number (text ++ done) line now is_line fresh taken),
+        is ∙ ap (λ (xs : List ℕ). done ++ xs) ends ∙ sym (append_assoc done (ended line) c.in-Some.after.now),
+        subst (Stands next) (append_assoc text done (ended line)) (Stands-line _ next.partial next.so_far (text ++ done) line now is_line fresh taken),
       );
 }
 
 pub returns-clause-told : goal.returns-clause-told
 returns-clause-told g c = λ text stands.
-    let so_far = c.loop-line.self.so_far in
+    let inside = c.loop-line.self-inside in
+    let last : ReadingValue = record { number = inside.number; partial = c.next_line.new.self; so_far = inside.so_far } in
     let rest = c.loop-line.rest.now in
     let (done, is, now) = c.loop-line.invariant.told text stands in
     let (is_line, kept) = c.in_default.ensures.told now.part now.kept in
-    subst (Stands so_far.size so_far.count so_far.links.items c.next_line.new.self c.loop-line.self.number)
-    (append_assoc text done rest ∙ ap (λ (xs : List ℕ). text ++ xs) (sym is))
-    (Stands-part so_far.size so_far.count so_far.links.items _ c.next_line.new.self c.loop-line.self.number (text ++ done) rest now is_line kept)
+    subst (Stands last) (append_assoc text done rest ∙ ap (λ (xs : List ℕ). text ++ xs) (sym is)) (Stands-part _ last.partial (text ++ done) rest now is_line kept)

@@ -1,32 +1,41 @@
-use Rattle.std.proofs.Common.{refl, subst, sym, ℤ, w32, rules}
+use Rattle.std.proofs.Common.{◌∷◌, [], ◌++◌, refl, subst, sym, w32, rules}
 use Rattle.std.proofs.lemmas.Int.{to_z-of_z}
-use mir.Val.{SFits}
-use Rattle.gr_text.specs.Reading.{Judges}
+use mir.Val.{SFits, to_z, of_z}
+use Rattle.gr_text.specs.Reading.{SoFarValue, FitsAfter, Gives, Judges}
 use Rattle.gr_text.specs.declared.verdicts.Verdict.TheVariants as verdict
 use Rattle.gr_text.proofs.Steps.{counts_of, Gives-silent, Gives-problem, arc_taken}
 use Rattle.gr_text.proofs.so_far.SoFar.take_line.Goals as goal
 
-pub returns-in-Silent-clause-taken : goal.returns-in-Silent-clause-taken
-returns-in-Silent-clause-taken g c = λ lines bytes fields gives are means.
-    let self = c.args.self.now in
-    Gives-silent self.size self.count self.links.items lines bytes gives
-    (c.in-Silent.ensures.told lines bytes fields (counts_of self.size self.count self.links.items lines gives) are means)
+pub add-requires : goal.add-requires
+add-requires g c = subst (λ (v : SoFarValue). FitsAfter (verdict.Adds c.in-Adds.u c.in-Adds.v c.in-Adds.w) v.size v.count) c.self.view_is c.in-Adds.ensures.fits
 
-pub returns-in-Begins-clause-taken : goal.returns-in-Begins-clause-taken
-returns-in-Begins-clause-taken g c = λ lines bytes fields gives are means.
-    let self = c.args.self.now in
-    Gives-problem self.size c.in-Begins.size self.count self.links.items lines bytes gives
-    (c.in-Begins.ensures.told lines bytes fields (counts_of self.size self.count self.links.items lines gives) are means)
+pub returns-in-Silent : goal.returns-in-Silent
+returns-in-Silent g c = λ lines bytes gives whole.
+    let inside = c.self.inside in
+    let known = subst (λ (v : SoFarValue). Gives v lines) (sym c.self.view_is) gives in
+    subst (λ (v : SoFarValue). Gives v (lines ++ bytes ∷ [])) c.self.view_is (Gives-silent inside.size inside.count inside.links.items lines bytes known
+    (c.in-Silent.ensures.told lines bytes (counts_of inside.size inside.count inside.links.items lines known) whole))
 
-pub returns-in-Adds-clause-taken : goal.returns-in-Adds-clause-taken
-returns-in-Adds-clause-taken g c = λ lines bytes fields gives are means.
-    let self = c.args.self.now in
-    let judged = c.in-Adds.ensures.told lines bytes fields (counts_of self.size self.count self.links.items lines gives) are means in
+pub returns-in-Begins : goal.returns-in-Begins
+returns-in-Begins g c = λ lines bytes gives whole.
+    let inside = c.self.inside in
+    let known = subst (λ (v : SoFarValue). Gives v lines) (sym c.self.view_is) gives in
+    Gives-problem inside.size c.in-Begins.size inside.count inside.links.items lines bytes known
+    (c.in-Begins.ensures.told lines bytes (counts_of inside.size inside.count inside.links.items lines known) whole)
+
+pub returns-in-Adds : goal.returns-in-Adds
+returns-in-Adds g c = λ lines bytes gives whole.
+    let inside = c.self.inside in
+    let known = subst (λ (v : SoFarValue). Gives v lines) (sym c.self.view_is) gives in
+    let judged = c.in-Adds.ensures.told lines bytes (counts_of inside.size inside.count inside.links.items lines known) whole in
     let fits : SFits w32 c.in-Adds.w = search rules in
-    arc_taken c.add.result self.size _ self.count _ self.links.items _ lines bytes c.in-Adds.u c.in-Adds.v _ c.args.number c.add.ensures.added gives
-    (subst (λ (z : ℤ). Judges (verdict.Adds c.in-Adds.u c.in-Adds.v z) self.size self.count lines bytes) (sym (to_z-of_z w32 c.in-Adds.w fits)) judged)
+    let same = to_z-of_z w32 c.in-Adds.w fits in
+    arc_taken c.add.result c.args.self.now _ lines bytes c.in-Adds.u c.in-Adds.v _ c.args.number c.add.ensures gives
+    (subst (λ (v : SoFarValue). Judges (verdict.Adds c.in-Adds.u c.in-Adds.v (to_z w32 (of_z w32 c.in-Adds.w))) v.size v.count lines bytes) c.self.view_is
+    (subst (λ z. Judges (verdict.Adds c.in-Adds.u c.in-Adds.v z) inside.size inside.count lines bytes) (sym same) judged))
 
-pub returns-in-Faulty-clause-taken : goal.returns-in-Faulty-clause-taken
-returns-in-Faulty-clause-taken g c = λ lines bytes fields gives are means.
-    let self = c.args.self.now in
-    (refl, c.in-Faulty.ensures.told lines bytes fields (counts_of self.size self.count self.links.items lines gives) are means)
+pub returns-in-Faulty : goal.returns-in-Faulty
+returns-in-Faulty g c = λ lines bytes gives whole.
+    let inside = c.self.inside in
+    let known = subst (λ (v : SoFarValue). Gives v lines) (sym c.self.view_is) gives in
+    (refl, c.in-Faulty.ensures.told lines bytes (counts_of inside.size inside.count inside.links.items lines known) whole)
