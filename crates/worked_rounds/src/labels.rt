@@ -1,4 +1,5 @@
 // Labels that coarsen others.
+ghost use Rattle.std.specs.Prelude.{◌<◌};
 
 use link_key::Labels;
 use std::alloc::Global;
