@@ -8,14 +8,15 @@ use crate::fault::RunFault;
 use crate::report::Report;
 use byte_streams::{Sink, Source};
 use gr_text::{read_graph, write_forest};
-use link_key::plain_forest;
+use link_key::forest_of;
 use std::alloc::Allocator;
 
 /// Reads a graph of at most [`limits::MAX_BYTES`] bytes, finds its minimum spanning forest by one thread, and writes the
 /// forest's text.
 ///
 /// The forest is whole before the first byte is written. For b bytes, m links and n vertices it takes
-/// O(b + m log m + n log n) time, and memory for two lists of the links, 12 bytes a vertex and the forest.
+/// O(b + m log m + n log n) time, and memory for one list of the links and 24 bytes a vertex: the forest is found in
+/// the list that was read.
 pub fn run_plain<S: Source, W: Sink, A: Allocator + Copy>(
     alloc: A,
     source: &mut S,
@@ -41,13 +42,16 @@ pub fn run_plain<S: Source, W: Sink, A: Allocator + Copy>(
         Ok(graph) => graph,
         Err(fault) => return Err(RunFault::Read(fault)),
     };
-    let Ok(forest) = plain_forest(alloc, graph.n(), graph.links()) else {
+    let n = graph.n();
+    let links = graph.into_links();
+    let count = links.len() as u64;
+    let Ok(forest) = forest_of(alloc, n, links) else {
         return Err(RunFault::Memory);
     };
-    match write_forest(sink, graph.n(), &forest) {
+    match write_forest(sink, n, &forest) {
         Ok(_) => Ok(Report {
-            vertices: graph.n(),
-            links: graph.links().len() as u64,
+            vertices: n,
+            links: count,
             rounds: 0,
             shards: 0,
             asked: 0,

@@ -56,4 +56,14 @@ impl<A: Allocator> Graph<A> {
     {
         self.links.as_slice()
     }
+
+    /// The links, as [`Graph::links`] gives them, for who wants to own the list. In constant time; nothing is copied.
+    pub fn into_links(self) -> Vec<Link, A>
+        ensures links { result.items ≡ self.links }
+        ensures ends { EndsUpTo self.vertices self.links }
+        ensures few { length self.links ≤ MAX_ARCS }
+    {
+        let Graph { links, .. } = self;
+        links
+    }
 }

@@ -90,17 +90,14 @@ fn reads_weights_loops_and_repeats(rt: HostRuntime) {
     let text = b"p sp 2 5\na 1 2 -2147483648\na 1 1 5\na 2 1 2147483647\na 2 1 -0\na 1 2 0";
     let graph = parse(rt.alloc(), text).ok().expect(&rt, "a graph");
     assert_eq!(rt; graph.n(), 2);
-    assert!(rt;
-        are_links(
-            graph.links(),
-            &[
-                (1, 2, -2147483648),
-                (1, 2, 2147483647),
-                (1, 2, 0),
-                (1, 2, 0)
-            ]
-        )
-    );
+    let rows = [
+        (1, 2, -2147483648),
+        (1, 2, 2147483647),
+        (1, 2, 0),
+        (1, 2, 0),
+    ];
+    assert!(rt; are_links(graph.links(), &rows));
+    assert!(rt; are_links(graph.into_links().as_slice(), &rows));
 }
 
 #[test]

@@ -24,8 +24,8 @@ returns-in_default-clause-malformed g c = λ bytes file nothing.
 
 pub returns-in-Ok-write_forest-clause-ran : goal.returns-in-Ok-write_forest-clause-ran
 returns-in-Ok-write_forest-clause-ran g c =
-    let forest = c.in-Ok-plain_forest in
-    done IsLeast _ _ forest.forest _ _ _ _ _ c.in-Ok.ensures.outcome (rw c.links.ensures.links at forest.ensures.forest) c.n-2.ensures.vertices
+    let forest = c.in-Ok-forest_of in
+    done IsLeast _ _ forest.forest _ _ _ _ _ c.in-Ok.ensures.outcome (rw c.into_links-links.ensures.links at forest.ensures.forest) c.n-n.ensures.vertices
     c.in-Ok-write_forest.ensures.whole (search rules)
 
 pub returns-in-Ok-write_forest-clause-malformed : goal.returns-in-Ok-write_forest-clause-malformed
@@ -34,9 +34,9 @@ returns-in-Ok-write_forest-clause-malformed g c = λ bytes file nothing.
 
 pub returns-clause-ran : goal.returns-clause-ran
 returns-clause-ran g c =
-    let forest = c.in-Ok-plain_forest in
-    broken_off IsLeast _ _ forest.forest _ _ _ _ _ c.in-Ok.ensures.outcome (rw c.links.ensures.links at forest.ensures.forest)
-    (omega (arith, forest.ensures.few, c.links.ensures.few, ap length c.links.ensures.links)) c.n-2.ensures.vertices
+    let forest = c.in-Ok-forest_of in
+    broken_off IsLeast _ _ forest.forest _ _ _ _ _ c.in-Ok.ensures.outcome (rw c.into_links-links.ensures.links at forest.ensures.forest)
+    (omega (arith, forest.ensures.few, c.into_links-links.ensures.few, ap length c.into_links-links.ensures.links)) c.n-n.ensures.vertices
     c.in-Err-write_forest.ensures.part
 
 pub returns-clause-malformed : goal.returns-clause-malformed
