@@ -9,7 +9,8 @@
 //!
 //! Tests alone show that a call fails only where its stream did, that what one end writes the other reads, that
 //! [`pair`] tells a stranger, and that the worker at the far end of the line at a place has that place for its
-//! number.
+//! number. Of that number clauses say only that it is below [`limits::MAX_WORKERS`]: a session shows it to its stream
+//! alone, and a socket tells nothing of what it was given.
 //!
 //! ```text
 //!   Workers::start ── a listener on 127.0.0.1, and for each worker
