@@ -1,58 +1,28 @@
 -- What the program does, by what its words ask for.
-use Rattle.std.specs.Prelude.{Result, Bool, true, false, IsNone, IsSome, option_map}
+use Rattle.std.specs.Prelude.{Result, Bool, true, false}
 use Rattle.std.specs.Global.{Vec}
-use Rattle.std.proofs.Common.{◌≡◌, ◌≢◌, ◌≤◌, ℕ, ◌⊎◌, ◌∙◌, List, [], length, All, Option, None, Some, inl, inr, Ok, Err, refl, sym, subst, arith}
-use Rattle.limits.specs.declared.TheConstants.{MAX_BYTES}
-use Rattle.byte_streams.specs.Streams.{SourceState, SinkState, Gave}
+use Rattle.std.proofs.Common.{◌≡◌, ◌≢◌, ◌≤◌, ℕ, ◌⊎◌, ◌∙◌, List, [], length, All, Option, None, Some, inl, inr, Ok, Err, refl, subst, arith}
+use Rattle.byte_streams.specs.Streams.{SourceState, SinkState}
 use Rattle.byte_streams.proofs.Streaming.{gave_nothing, took_nothing}
 use Rattle.link_key.specs.declared.links.Link.{Link}
 use Rattle.link_key.specs.declared.cuts.CutFault.TheVariants as cut
 use Rattle.gr_text.specs.Graph.{GraphValue}
-use Rattle.gr_text.specs.Sourced.{IsReadOf}
-use Rattle.gr_text.specs.declared.faults.ReadFault.{ReadFault}
 use Rattle.gr_text.specs.declared.faults.ReadFault.TheVariants as read
-use Rattle.ports.specs.Lines.{LineState, HasRoom}
+use Rattle.ports.specs.Lines.{LineState}
 use Rattle.tcp_lines.specs.Lines.{TcpLineState, line_of, unused}
-use Rattle.tcp_lines.specs.declared.line.TcpLine.{TcpLine}
 use Rattle.forest_run.specs.Cuttings.{cut_refusal}
 use Rattle.forest_run.specs.Files.{HasFile, IsFileOf, MeansGraph, MeansNothing, IsFirstFaultOf, IsNoRefusal}
 use Rattle.forest_run.specs.Outcomes.{streams, Streams, Ran, IsUnread, IsLeast}
 use Rattle.forest_run.specs.PlainRun.{RanPlain, IsPlainReport, IsPlainFault}
 use Rattle.forest_run.specs.WiredLines.{AreServed}
-use Rattle.forest_run.specs.LinesRun.{RanLines, RanServed, IsSpanning, IsUnhindered, LinesWent, IsLinesFault, IsHonestReport, IsServedFault}
-use Rattle.forest_run.specs.declared.cutting.Cutting.{Cutting}
+use Rattle.forest_run.specs.LinesRun.{RanLines, RanServed, IsSpanning, IsUnhindered, LinesWent, IsLinesFault}
 use Rattle.forest_run.specs.declared.cutting.Cutting.TheVariants.{Even}
 use Rattle.forest_run.specs.declared.report.Report.{Report}
 use Rattle.forest_run.specs.declared.fault.RunFault.{RunFault}
 use Rattle.forest_run.specs.declared.fault.RunFault.TheVariants as fault
-use Rattle.boruvka.specs.Arguments.{IsNumberOf, IsFlagOf}
-use Rattle.boruvka.specs.Status.{Standard, of_run, Asked, Ask, EndsAs, EndsOn, Obeys, EndsWith, EndsOver, EndsOverWorkers, HasGraph, HasNoGraph, IsDone, IsReported, TookText, LeavesOutput, IsUntouched, flag_text, from_file, report_of, status_for, status_of_run, untold}
+use Rattle.boruvka.specs.Status.{Standard, of_run, Asked, EndsAs, EndsOn, Obeys, EndsWith, EndsOver, EndsOverWorkers, HasGraph, HasNoGraph, IsDone, IsReported, TookText, LeavesOutput, IsUntouched, report_of, status_for, status_of_run, untold}
 
--- ---- what the words ask for
-
--- a text writes one number
-pub same_number : (text : Option (List ℕ)) (default m n : ℕ) → IsNumberOf text default m → IsNumberOf text default n → m ≡ n
-same_number None default m n one other = cc
-same_number (Some text) default m n one other = cc
-
--- a flag is as its text says
-pub same_flag : (text : Option (List ℕ)) (flag asked : Bool) → IsFlagOf text flag → text ≡ Some (flag_text asked) → flag ≡ asked
-same_flag text flag true is given = is.set given
-same_flag text flag false is given = is.unset given
-
--- a file is named
-pub some_file : {X Y : Type 0} (f : X → Y) (o : Option X) (named : Option Y) → option_map f o ≡ named → IsSome named → IsSome o
-some_file f None named is some = rw (← is) at some
-some_file f (Some x) named is some = refl
-
--- what is asked for in the same words is the same
-pub same_asked : (P : Asked → Type 0) (a b : Asked) → a.workers ≡ b.workers → a.shards ≡ b.shards → a.plain ≡ b.plain → a.report ≡ b.report → a.file ≡ b.file → P a → P b
-same_asked P a b workers shards plain report file holds =
-    subst (λ (f : Option (List ℕ)). P (record { workers = b.workers; shards = b.shards; plain = b.plain; report = b.report; file = f })) file
-    (subst (λ (r : Bool). P (record { workers = b.workers; shards = b.shards; plain = b.plain; report = r; file = a.file })) report
-    (subst (λ (p : Bool). P (record { workers = b.workers; shards = b.shards; plain = p; report = a.report; file = a.file })) plain
-    (subst (λ (n : ℕ). P (record { workers = b.workers; shards = n; plain = a.plain; report = a.report; file = a.file })) shards
-    (subst (λ (n : ℕ). P (record { workers = n; shards = a.shards; plain = a.plain; report = a.report; file = a.file })) workers holds))))
+-- ---- how a run ends
 
 -- by one thread, or over workers
 pub as_plain : (plain : Bool) (asked : Asked) (status : ℕ) (before after : Standard) → plain ≡ true → EndsWith asked.report status before after → EndsAs plain asked status before after
@@ -63,20 +33,6 @@ pub as_over : (plain : Bool) (asked : Asked) (status : ℕ) (before after : Stan
     → EndsOverWorkers asked.workers asked.shards asked.report status before after → EndsAs plain asked status before after
 as_over true asked status before after is ends = absurd cc
 as_over false asked status before after is ends = ends
-
--- on the input, on a file that can't be opened, and on one that is
-pub on_input : (file : Option (List ℕ)) (asked : Asked) (status : ℕ) (before after : Standard) → file ≡ None → EndsAs asked.plain asked status before after → EndsOn file asked status before after
-on_input None asked status before after is ends = ends
-on_input (Some name) asked status before after is ends = absurd cc
-
-pub on_no_file : (file : Option (List ℕ)) (asked : Asked) (status : ℕ) (before after : Standard) → IsSome file → status ≡ 3 → IsUntouched before.sink after.sink → EndsOn file asked status before after
-on_no_file None asked status before after some is same = absurd cc
-on_no_file (Some name) asked status before after some is same = inl (is, same)
-
-pub on_file : (file : Option (List ℕ)) (asked : Asked) (status : ℕ) (before after : Standard) → IsSome file
-    → EndsAs asked.plain asked status (from_file before) (from_file after) → EndsOn file asked status before after
-on_file None asked status before after some ends = absurd cc
-on_file (Some name) asked status before after some ends = inr ends
 
 -- ---- want of memory before anything was read or written
 
@@ -128,10 +84,6 @@ pub wants_memory_obeys : (asked : Asked) (s : SourceState) (a e f : SinkState) �
 wants_memory_obeys asked = wants_memory_on asked.file asked
 
 -- ---- lines
-
--- lines before their first call have room for their counts
-pub unused_room : (lines : List TcpLineState) → All (λ line. line ≡ unused) lines → All (λ line. HasRoom (line_of line)) lines
-unused_room lines all = λ k d below. subst (λ (line : TcpLineState). HasRoom (line_of line)) (sym (all k d below)) (record { failures = omega arith; ends = omega arith })
 
 -- a run whose report is told ends as its answer says
 status_of_report : {X : Type 0} (result : Result (Report × X) RunFault) → status_of_run (report_of result) ≡ status_of_run result
@@ -247,22 +199,6 @@ silent_lines state faithful lines shards wants status before after ends =
     silent_run IsSpanning (λ graph forest r. LinesWent state faithful (Even shards) lines r.1.items graph forest r.0)
     (IsLinesFault state faithful (Even shards) lines) ends.result status _ _ _ _ ends.status_is ends.ran
 
--- a fault's status isn't 0
-pub status_above : (why : RunFault) → 1 ≤ status_for why
-status_above (fault.Read (read.Gr f)) = omega arith
-status_above (fault.Read (read.Source line)) = omega arith
-status_above (fault.Read read.TooLong) = omega arith
-status_above (fault.Read read.Memory) = omega arith
-status_above (fault.Cut cut.NoShards) = omega arith
-status_above (fault.Cut cut.TooManyShards) = omega arith
-status_above (fault.Cut cut.ShardTooLarge) = omega arith
-status_above (fault.Cut cut.BadPlaces) = omega arith
-status_above (fault.Cut cut.Memory) = omega arith
-status_above (fault.Rounds round) = omega arith
-status_above (fault.Missed link) = omega arith
-status_above fault.Memory = omega arith
-status_above (fault.Write written) = omega arith
-
 -- over lines that carry their workers' sessions no run ends by what the workers answered
 not_five : (n status : ℕ) → n ≤ 4 → status ≡ n → status ≢ 5
 not_five n status low is = λ five. absurd (omega arith)
@@ -328,86 +264,3 @@ pub refused_lines : {L : Type 0} (state : L → LineState) (faithful : L → ℕ
     → EndsOver state faithful lines shards wants status before after → HasNoGraph before.source after.source → (status ≡ 1) ⊎ (status ≡ 4)
 refused_lines state faithful lines shards wants status before after ends (bytes, has, nothing) =
     refused_status bytes ends.result status ends.status_is (ends.malformed bytes has nothing)
-
--- ---- the same, where nothing is told of the source
-
-gave_untold : (failed ended : ℕ) (bytes : List ℕ) → Gave failed ended bytes untold untold
-gave_untold failed ended bytes = record { left = tt; given = λ _. tt; failures = tt; ends = tt; at_end = λ _. tt }
-
-read_untold : (why : ReadFault) (s t : SourceState) → IsReadOf MAX_BYTES (Err why) s t → IsReadOf MAX_BYTES (Err why) untold untold
-read_untold why s t (inl whole) = inl (record { bytes = whole.bytes; gave = gave_untold 0 1 whole.bytes; within = whole.within; read = whole.read })
-read_untold why s t (inr (inl stopped)) = inr (inl (record { bytes = stopped.bytes; gave = gave_untold 0 0 stopped.bytes; stops = stopped.stops }))
-read_untold why s t (inr (inr (line, is, broke))) =
-    inr (inr (line, is, record { bytes = broke.bytes; gave = gave_untold 1 0 broke.bytes; within = broke.within; lawful = broke.lawful; next = broke.next }))
-
-ran_untold : {X : Type 0} (found : GraphValue → List Link → Type 0) (says : GraphValue → List Link → X → Type 0) (why : GraphValue → RunFault → Type 0)
-    (result : Result X RunFault) (s t : SourceState) (a b : SinkState) → Ran found says why result (streams s a) (streams t b)
-    → Ran found says why result (streams untold a) (streams untold b)
-ran_untold found says why (Ok x) s t a b ran = record {
-  bytes = ran.bytes;
-  graph = ran.graph;
-  forest = ran.forest;
-  read = gave_untold 0 1 ran.bytes;
-  file = ran.file;
-  found_is = ran.found_is;
-  written = ran.written;
-  said = ran.said;
-}
-ran_untold found says why (Err (fault.Read f)) s t a b ran = record { refused = read_untold f s t ran.refused; nothing = ran.nothing }
-ran_untold found says why (Err (fault.Cut f)) s t a b ran = record { bytes = ran.bytes; graph = ran.graph; read = gave_untold 0 1 ran.bytes; file = ran.file; cause = ran.cause; nothing = ran.nothing }
-ran_untold found says why (Err (fault.Rounds round)) s t a b ran = record { bytes = ran.bytes; graph = ran.graph; read = gave_untold 0 1 ran.bytes; file = ran.file; cause = ran.cause; nothing = ran.nothing }
-ran_untold found says why (Err (fault.Missed link)) s t a b ran = record { bytes = ran.bytes; graph = ran.graph; read = gave_untold 0 1 ran.bytes; file = ran.file; cause = ran.cause; nothing = ran.nothing }
-ran_untold found says why (Err fault.Memory) s t a b ran = record { bytes = ran.bytes; graph = ran.graph; read = gave_untold 0 1 ran.bytes; file = ran.file; cause = ran.cause; nothing = ran.nothing }
-ran_untold found says why (Err (fault.Write written)) s t a b ran = record {
-  bytes = ran.bytes;
-  graph = ran.graph;
-  forest = ran.forest;
-  read = gave_untold 0 1 ran.bytes;
-  file = ran.file;
-  found_is = ran.found_is;
-  part = ran.part;
-}
-
--- such a source has no file that it tells
-no_told_file : (bytes : List ℕ) → HasFile bytes untold untold → ⊥
-no_told_file bytes has = let none : None ≡ Some bytes = has.told in absurd cc
-
-ends_untold : (wants : Bool) (status : ℕ) (before after : Standard) → EndsWith wants status before after → EndsWith wants status (from_file before) (from_file after)
-ends_untold wants status before after ends = record {
-  result = ends.result;
-  status_is = ends.status_is;
-  ran = ran_untold IsLeast (λ graph forest. IsPlainReport graph) IsPlainFault ends.result before.source after.source before.sink after.sink ends.ran;
-  reported = ends.reported;
-  malformed = λ bytes has nothing. absurd (no_told_file bytes has);
-  lawful = λ bytes has means. absurd (no_told_file bytes has);
-}
-
-served_untold : (shards : ℕ) (result : Result (Report × Vec TcpLine) RunFault) (before after : Standard) → RanServed (Even shards) result (of_run before) (of_run after)
-    → RanServed (Even shards) result (of_run (from_file before)) (of_run (from_file after))
-served_untold shards result before after =
-    ran_untold IsLeast (λ graph forest r. IsHonestReport graph r.0) (IsServedFault (Even shards)) result before.source after.source before.sink after.sink
-
-ends_over_untold : (workers shards : ℕ) (wants : Bool) (status : ℕ) (before after : Standard) → EndsOverWorkers workers shards wants status before after
-    → EndsOverWorkers workers shards wants status (from_file before) (from_file after)
-ends_over_untold workers shards wants status before after over = record {
-  lines = over.lines;
-  few = over.few;
-  new = over.new;
-  ends = record {
-    result = over.ends.result;
-    status_is = over.ends.status_is;
-    ran = ran_untold IsSpanning (λ graph forest r. LinesWent line_of (λ line worker. ⊥) (Even shards) over.lines r.1.items graph forest r.0)
-        (IsLinesFault line_of (λ line worker. ⊥) (Even shards) over.lines) over.ends.result before.source after.source before.sink after.sink over.ends.ran;
-    reported = over.ends.reported;
-    malformed = λ bytes has nothing. absurd (no_told_file bytes has);
-    lawful = λ bytes has means. absurd (no_told_file bytes has);
-    served = λ served. served_untold shards over.ends.result before after (over.ends.served served);
-    ends_well = λ served bytes graph has file allowed. absurd (no_told_file bytes has);
-  };
-  alone = λ none. served_untold shards over.ends.result before after (over.alone none);
-}
-
-pub as_untold : (plain : Bool) (asked : Asked) (status : ℕ) (before after : Standard) → EndsAs plain asked status before after
-    → EndsAs plain asked status (from_file before) (from_file after)
-as_untold true asked status before after = ends_untold asked.report status before after
-as_untold false asked status before after = ends_over_untold asked.workers asked.shards asked.report status before after
