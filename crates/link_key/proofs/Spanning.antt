@@ -11,12 +11,12 @@ use Rattle.link_key.proofs.Greatest.{HasGreatest, greatest_of}
 use Rattle.link_key.proofs.Walks.{WithLink, JoinsThrough, joins_link, joins_symm, joins_trans, joins_more, joins_one_more}
 
 -- the links of a walk that joins two vertices
-record Walked (S : Link → Type 0) (u v : ℕ) : Type 0 where
-  walk : List Link
-  within : (m : Link) → Contains walk m → S m
-  joined : Joins (Contains walk) u v
+pub record Walked (S : Link → Type 0) (u v : ℕ) : Type 0 where
+  pub walk : List Link
+  pub within : (m : Link) → Contains walk m → S m
+  pub joined : Joins (Contains walk) u v
 
-walked : (S : Link → Type 0) (u v : ℕ) → Joins S u v → Walked S u v
+pub walked : (S : Link → Type 0) (u v : ℕ) → Joins S u v → Walked S u v
 walked S u v (walk, all, leads) = record {
   walk = walk;
   within = λ m m_in. All-contains S walk m (All-from_recursion S walk all) m_in;

@@ -93,7 +93,8 @@ fn rename(labels: &mut [u32], numbers: &[u32])
     }
 }
 
-// One round: each component that one of these links leaves becomes one with another, and what is left leaves a component still.
+// One round: each component that one of these links leaves becomes one with another. What is left leaves a component
+// still.
 fn round<A: Allocator + Copy>(
     rest: &mut Vec<Link, A>,
     labels: &mut [u32],

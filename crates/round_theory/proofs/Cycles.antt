@@ -1,6 +1,5 @@
 -- Sets of links without a cycle.
 use Rattle.std.proofs.Common.{◌≡◌, ◌≢◌, ℕ, zero, suc, ◌≤◌, ◌⊎◌, List, [], ◌∷◌, length, Contains, sym, ◌∙◌, subst, inl, inr, arith}
-use Rattle.std.proofs.lemmas.List.Elements.{All-from_recursion, recursion_from_All, All-contains, All-contains_itself}
 use Rattle.link_key.specs.declared.links.Link.{Link}
 use Rattle.link_key.specs.Link.{IsBelow}
 use Rattle.link_key.specs.Walk.{Joins}
@@ -8,20 +7,9 @@ use Rattle.link_key.proofs.Members.{contains_cases, contains_head, contains_tail
 use Rattle.link_key.proofs.Keys.{link_dec}
 use Rattle.link_key.proofs.Walks.{WithLink, joins_link, joins_symm, joins_trans, joins_more, joins_one_more}
 use Rattle.round_theory.specs.LinkSet.{LinkSet, Either, Without, IsPartOf, HasNoCycle}
-use Rattle.round_theory.proofs.Lists.{greatest_of, part_in}
-
--- the links of a walk that joins two vertices
-pub record Walked (S : LinkSet) (u v : ℕ) : Type 0 where
-  pub walk : List Link
-  pub within : (m : Link) → Contains walk m → S m
-  pub joined : Joins (Contains walk) u v
-
-pub walked : (S : LinkSet) (u v : ℕ) → Joins S u v → Walked S u v
-walked S u v (walk, all, leads) = record {
-  walk = walk;
-  within = λ m m_in. All-contains S walk m (All-from_recursion S walk all) m_in;
-  joined = (walk, recursion_from_All (Contains walk) walk (All-contains_itself walk), leads);
-}
+use Rattle.link_key.proofs.Greatest.{greatest_of}
+use Rattle.link_key.proofs.Spanning.{walked}
+use Rattle.round_theory.proofs.Lists.{part_in}
 
 -- a part of a set without a cycle has none
 pub no_cycle_part : (S T : LinkSet) → IsPartOf S T → HasNoCycle T → HasNoCycle S

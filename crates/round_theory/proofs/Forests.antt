@@ -4,12 +4,12 @@ use Rattle.link_key.specs.declared.links.Link.{Link}
 use Rattle.link_key.specs.Link.{IsBelow}
 use Rattle.link_key.specs.Walk.{Joins}
 use Rattle.link_key.specs.Forest.{LinksBelow, IsForestLink}
-use Rattle.link_key.proofs.Members.{contains_dec}
-use Rattle.link_key.proofs.Keys.{link_dec, below_dec, below_irrefl, below_trans}
+use Rattle.link_key.proofs.Keys.{below_dec, below_irrefl, below_trans}
+use Rattle.link_key.proofs.Spanning.{spanning_part}
 use Rattle.link_key.proofs.Walks.{joins_link, joins_more, joins_replace, joins_dec}
 use Rattle.round_theory.specs.LinkSet.{LinkSet, Either, Without, IsPartOf, SameLinks, HasNoCycle, Spans}
 use Rattle.round_theory.proofs.Lists.{without_one}
-use Rattle.round_theory.proofs.Cycles.{walked, no_cycle_part, no_cycle_either}
+use Rattle.round_theory.proofs.Cycles.{no_cycle_part, no_cycle_either}
 
 -- no link at all
 abbrev NoLink : LinkSet
@@ -46,16 +46,6 @@ ends_joined links (suc fuel) lower small l is_in has = elim (joins_dec (λ m. Is
 pub forest_spans : (links : List Link) → Spans (IsForestLink links) links
 forest_spans links = joins_replace (Contains links) (IsForestLink links) (λ l is_in. ends_joined links (length links) links (omega arith) l is_in (λ m below. below.0))
 
--- A part of the forest that spans the list is the forest: it joins the ends of each forest link by a walk, and as the
--- forest has no cycle, the walk takes the link itself.
+-- a part of the forest that spans the list is the forest
 pub spanning_part_is_forest : (links : List Link) (P : LinkSet) → IsPartOf P (IsForestLink links) → Spans P links → SameLinks P (IsForestLink links)
-spanning_part_is_forest links P part spans l = (part l, taken)
-  where
-    taken : IsForestLink links l → P l
-    taken is_forest =
-        let around = walked P l.low l.high (spans l.low l.high (joins_link (Contains links) l is_forest.0)) in
-        elim (contains_dec link_dec around.walk l) [
-          | inl in_walk ↦ around.within l in_walk
-          | inr not_in ↦ absurd (forest_no_cycle links l is_forest (joins_more (Contains around.walk) (Without (IsForestLink links) l)
-              (λ m m_in. (part m (around.within m m_in), λ same. not_in (subst (λ x. Contains around.walk x) same m_in))) l.low l.high around.joined))
-        ]
+spanning_part_is_forest = spanning_part
