@@ -15,3 +15,4 @@ pub mod Greatest
 pub mod Spanning
 pub mod Touching
 pub mod Stages
+pub mod Parts

@@ -1,18 +1,17 @@
 -- The forest found round by round: what is taken is in it, and what is left is still to be joined.
-use Rattle.std.proofs.Common.{◌≡◌, ◌≢◌, ℕ, ◌+◌, ◌<◌, ◌≤◌, ◌⊎◌, ◌↔◌, ◌==◌, if◌then◌else◌, Bool, true, false, not, cond, eqb, List, [], ◌∷◌, ◌++◌, Contains, length, get_or, zero, suc, refl, sym, ap, ◌∙◌, subst, inl, inr, arith}
+use Rattle.std.proofs.Common.{◌≡◌, ◌≢◌, ℕ, ◌+◌, ◌<◌, ◌≤◌, ◌⊎◌, ◌↔◌, ◌==◌, if◌then◌else◌, Bool, true, false, not, cond, List, [], ◌∷◌, Contains, length, get_or, refl, sym, ap, ◌∙◌, subst, inl, inr, arith}
 use Rattle.std.specs.List.{AllByRecursion, filter, All}
-use Rattle.std.specs.List.Sorted.{IsSorted}
 use Rattle.std.proofs.lemmas.List.Elements.{All-contains, Contains-get_or}
 use Rattle.std.proofs.lemmas.List.Filters.{length-filter_both}
 use Rattle.std.proofs.lemmas.Bool.{cases_eq, cases_lt}
 use Rattle.std.proofs.lemmas.Bool.Decides.{nat_tests}
 use mathlib.Core.Bool.{false≢true}
 use Rattle.link_key.specs.declared.links.Link.{Link}
-use Rattle.link_key.specs.Link.{IsBelow, EndsUpTo}
+use Rattle.link_key.specs.Link.{EndsUpTo}
 use Rattle.link_key.specs.Walk.{IsWalk, Joins}
 use Rattle.link_key.specs.Forest.{LinksBelow, IsForestLink}
 use Rattle.link_key.specs.Components.{HasOneLabel}
-use Rattle.link_key.specs.Rounds.{is_apart, LeavesLabel, IsLeastOut, AreJoinedWhereOne, AreVertexLabels, AreNumbers, AreTouched, AreRenamed, IsStage, number_of}
+use Rattle.link_key.specs.Rounds.{is_apart, LeavesLabel, IsLeastOut, AreVertexLabels, AreNumbers, AreTouched, AreRenamed, IsStage, IsLightPart, number_of}
 use Rattle.link_key.proofs.Members.{contains_cases, contains_head, contains_tail, contains_none}
 use Rattle.link_key.proofs.Walks.{joins_same, joins_symm, joins_replace, joins_more}
 use Rattle.link_key.proofs.Spanning.{spanning_part}
@@ -253,3 +252,57 @@ all_in_table n links rest among ends k d lt =
     let l = get_or rest k d in
     let in_graph : l.high ≤ n = All-contains (λ (m : Link). m.high ≤ n) links l ends (among l (Contains-get_or rest k d lt)) in
     omega (arith, in_graph)
+
+-- links in another order are at the same stage
+pub stage_moved : {links rest rest' later : List Link} {labels : List ℕ} {taken : List Link} → ((l : Link) → Contains rest' l ↔ Contains rest l) → IsStage links rest later labels taken → IsStage links rest' later labels taken
+stage_moved same stage = record {
+  ends = stage.ends;
+  joined = stage.joined;
+  forest = stage.forest;
+  among = λ l l_in. stage.among l ((same l).0 l_in);
+  apart = λ l l_in. stage.apart l ((same l).0 l_in);
+  left = λ l l_in. elim (stage.left l l_in) [
+    | inl one ↦ inl one
+    | inr other ↦ elim other [ inl is_left ↦ inr (inl ((same l).1 is_left)) | inr put_off ↦ inr (inr put_off) ]
+  ];
+  above = λ l m l_in m_in. stage.above l m ((same l).0 l_in) m_in;
+}
+
+-- the light part first, the others later
+pub stage_part : {links rest light : List Link} {labels : List ℕ} {taken : List Link} → (part : IsLightPart rest light) → IsStage links rest [] labels taken → IsStage links light part.later labels taken
+stage_part part stage = record {
+  ends = stage.ends;
+  joined = stage.joined;
+  forest = stage.forest;
+  among = λ l l_in. stage.among l (part.light_in l l_in);
+  apart = λ l l_in. stage.apart l (part.light_in l l_in);
+  left = λ l l_in. elim (stage.left l l_in) [
+    | inl one ↦ inl one
+    | inr other ↦ elim other [ inl is_left ↦ inr (part.all l is_left) | inr put_off ↦ absurd (contains_none l put_off) ]
+  ];
+  above = part.above;
+}
+
+-- then those of the others whose ends aren't joined
+pub stage_rest : {links rest light : List Link} {labels labels' : List ℕ} {taken taken' : List Link} → (part : IsLightPart rest light) → IsStage links rest [] labels taken → IsStage links [] part.later labels' taken' → IsStage links (filter (is_apart labels') rest) [] labels' taken'
+stage_rest {links} {rest} {light} {labels} {labels'} part before stage = record {
+  ends = stage.ends;
+  joined = stage.joined;
+  forest = stage.forest;
+  among = λ l l_in. before.among l (kept_in (is_apart labels') rest l l_in).0;
+  apart = λ l l_in. apart_from labels' l (kept_in (is_apart labels') rest l l_in).1;
+  left = left;
+  above = λ l m l_in m_in. absurd (contains_none m m_in);
+}
+  where
+    left : (l : Link) → Contains links l → HasOneLabel labels' l ⊎ Contains (filter (is_apart labels') rest) l ⊎ Contains [] l
+    left l l_in = elim (stage.left l l_in) [
+      | inl one ↦ inl one
+      | inr other ↦ elim other [
+        | inl none ↦ absurd (contains_none l none)
+        | inr put_off ↦ elim (cases_eq (get_or labels' l.low 0) (get_or labels' l.high 0)) [
+          | inl one ↦ inl one
+          | inr apart ↦ inr (inl (kept_if (is_apart labels') rest l (part.later_in l put_off) (apart_test labels' l apart)))
+        ]
+      ]
+    ]

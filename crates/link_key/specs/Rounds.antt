@@ -1,5 +1,5 @@
 -- Borůvka's rounds over links in the order of their keys, by labels of the vertices.
-use Rattle.std.specs.Prelude.{◌≡◌, ◌≢◌, ℕ, zero, suc, ◌<◌, ◌⊎◌, Bool, not, ◌==◌, if◌then◌else◌, List, length, slice_index, slice_index_or, EachIndex, Contains}
+use Rattle.std.specs.Prelude.{◌≡◌, ◌≢◌, ℕ, ◌<◌, ◌⊎◌, Bool, not, ◌==◌, if◌then◌else◌, List, length, slice_index, slice_index_or, EachIndex, Contains}
 use Rattle.link_key.specs.declared.links.Link.{Link}
 use Rattle.link_key.specs.Link.{IsBelow}
 use Rattle.link_key.specs.Walk.{Joins}
@@ -78,3 +78,11 @@ pub record IsStage (links rest later : List Link) (labels : List ℕ) (taken : L
   pub apart : (l : Link) → Contains rest l → ¬ (HasOneLabel labels l)
   pub left : (l : Link) → Contains links l → HasOneLabel labels l ⊎ Contains rest l ⊎ Contains later l
   pub above : (l m : Link) → Contains rest l → Contains later m → ¬ (IsBelow m l)
+
+-- a part of the links, none of which is above one of the others
+pub record IsLightPart (links light : List Link) : Type 0 where
+  pub later : List Link
+  pub light_in : (l : Link) → Contains light l → Contains links l
+  pub later_in : (l : Link) → Contains later l → Contains links l
+  pub all : (l : Link) → Contains links l → Contains light l ⊎ Contains later l
+  pub above : (l m : Link) → Contains light l → Contains later m → ¬ (IsBelow m l)

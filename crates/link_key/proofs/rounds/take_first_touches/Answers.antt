@@ -1,4 +1,4 @@
-use Rattle.std.proofs.Common.{take, sym, subst, rules}
+use Rattle.std.proofs.Common.{take, sym, subst}
 use Rattle.link_key.specs.Rounds.{AreTouched}
 use Rattle.link_key.proofs.Touching.{Next, next_of, seen_with, touched_passed, touched_taken}
 use Rattle.link_key.proofs.rounds.take_first_touches.Goals as goal
