@@ -51,7 +51,7 @@ last_fault (fault.Gr f) r text stands begun (line_is, fits) =
         parted = refl;
         counted = line_is ∙ stands.numbered;
         lawful = lawful;
-        faulty = fault_is_faulty stands.lines stands.part f.kind lawful fits;
+        faulty = fault_is_faulty stands.lines stands.part f.kind fits;
         kind_fits = fits;
       })),
     )

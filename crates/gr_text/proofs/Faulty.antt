@@ -1,16 +1,16 @@
 -- A line whose fault has a kind makes lawful lines unlawful.
-use Rattle.std.proofs.Common.{◌≡◌, ◌≢◌, ℕ, ◌+◌, ◌<◌, ◌≤◌, ◌⊎◌, inl, inr, List, [], ◌∷◌, ◌++◌, refl, ap, sym, ◌∙◌, subst, arith, codes, map, length}
+use Rattle.std.proofs.Common.{◌≡◌, ℕ, ◌+◌, ◌<◌, ◌≤◌, ◌⊎◌, inl, inr, List, [], ◌∷◌, ◌++◌, refl, ap, sym, ◌∙◌, subst, arith, map, length}
 use Rattle.std.specs.List.{AllByRecursion}
 use Rattle.std.proofs.lemmas.List.{map-append, length_push}
 use Rattle.limits.specs.declared.TheConstants.{MAX_ARCS, MAX_VERTICES}
 use Rattle.link_key.specs.Arc.{Arc}
-use Rattle.gr_text.specs.Statement.{Statement, Problem, ArcLine, AreSilent, IsSilent, Says, Say}
-use Rattle.gr_text.specs.Graph.{HasEnds, IsWeight, IsArcOf, AreLawfulLines, AreLawfulSoFar}
-use Rattle.gr_text.specs.Fault.{BeginsWith, IsUnknown, IsFaultAfter}
+use Rattle.gr_text.specs.Statement.{Statement, Problem, ArcLine, IsSilent, Says, Say}
+use Rattle.gr_text.specs.Sort.{LineSort, Nothing, Makes, IsOfSort}
+use Rattle.gr_text.specs.Graph.{IsArcOf, AreLawfulLines, AreLawfulSoFar}
+use Rattle.gr_text.specs.Fault.{Told, Unsaid, Stated, AreTold, IsWrong, IsFaultAfter}
 use Rattle.gr_text.specs.declared.faults.GrKind.{GrKind}
-use Rattle.gr_text.specs.declared.faults.GrKind.TheVariants.{UnknownLine, NoProblemYet, SecondProblem, BadProblem, TooLarge, BadArc, EndOutOfRange, WeightOutOfRange, TooManyArcs, MissingProblem, MissingArcs}
-use Rattle.gr_text.proofs.FieldBytes.{head_is}
-use Rattle.gr_text.proofs.Unique.{AreFields-unique, Says-unique, IsSilent-says, Say-unique}
+use Rattle.gr_text.proofs.Sorts.{IsOfSort-unique}
+use Rattle.gr_text.proofs.Unique.{Say-unique}
 
 -- what the last of some lines adds to what the others say
 pub Say-split : (lines : List (List ℕ)) (line : List ℕ) (ss : List Statement) → Say (lines ++ line ∷ []) ss
@@ -98,67 +98,18 @@ lawful_next before line n m arcs known speaks (inr (n', m', arcs', lawful)) =
     last_of P [] x all = all.0
     last_of P (y ∷ xs) x all = last_of P xs x all.1
 
--- lines of a problem or of an arc speak
-begins_not_silent : (line first : List ℕ) (b : ℕ) → first ≡ b ∷ [] → b ≢ 99 → BeginsWith line first → ¬ (IsSilent line)
-begins_not_silent line first b letter other (others, are) (fields, are', silent) =
-    let same : fields ≡ (b ∷ []) ∷ others = AreFields-unique line fields (first ∷ others) are' are ∙ ap (λ (x : List ℕ). x ∷ others) letter in
-    other (subst AreSilent same silent)
-
-begins_problem_says : (line : List ℕ) (s : Statement) → BeginsWith line (codes "p") → Says line s → (n m : ℕ) × (s ≡ Problem n m)
-begins_problem_says line (Problem n m) begins says = (n, m, refl)
-begins_problem_says line (ArcLine arc) (others, are) (fields, are', (f, g, h, e, wf, wg, wh)) =
-    absurd (let same : codes "p" ∷ others ≡ codes "a" ∷ f ∷ g ∷ h ∷ [] = AreFields-unique line (codes "p" ∷ others) fields are are' ∙ e in let letters : codes "p" ≡ codes "a" = cc in omega (arith, head_is 112 97 [] [] letters))
-
-begins_arc_says : (line : List ℕ) (s : Statement) → BeginsWith line (codes "a") → Says line s → (arc : Arc) × (s ≡ ArcLine arc)
-begins_arc_says line (ArcLine arc) begins says = (arc, refl)
-begins_arc_says line (Problem n m) (others, are) (fields, are', (f, g, e, wf, wg)) =
-    absurd (let same : codes "a" ∷ others ≡ codes "p" ∷ codes "sp" ∷ f ∷ g ∷ [] = AreFields-unique line (codes "a" ∷ others) fields are are' ∙ e in let letters : codes "a" ≡ codes "p" = cc in omega (arith, head_is 97 112 [] [] letters))
-
-unknown_not_silent : (line : List ℕ) → IsUnknown line → ¬ (IsSilent line)
-unknown_not_silent line (first, others, are, not_p, not_a, loud) (fields, are', silent) =
-    loud (subst AreSilent (AreFields-unique line fields (first ∷ others) are' are) silent)
-
-unknown_says_nothing : (line : List ℕ) (s : Statement) → IsUnknown line → ¬ (Says line s)
-unknown_says_nothing line (Problem n m) (first, others, are, not_p, not_a, loud) (fields, are', (f, g, e, wf, wg)) =
-    not_p (let same : first ∷ others ≡ codes "p" ∷ codes "sp" ∷ f ∷ g ∷ [] = AreFields-unique line (first ∷ others) fields are are' ∙ e in cc)
-unknown_says_nothing line (ArcLine arc) (first, others, are, not_p, not_a, loud) (fields, are', (f, g, h, e, wf, wg, wh)) =
-    not_a (let same : first ∷ others ≡ codes "a" ∷ f ∷ g ∷ h ∷ [] = AreFields-unique line (first ∷ others) fields are are' ∙ e in cc)
-
-ends_prop_of : (line : List ℕ) (a b : Arc) (P : Arc → Type 0) → Says line (ArcLine a) → Says line (ArcLine b) → P a → P b
-ends_prop_of line a b P says says' p = let same : a ≡ b = (let both : ArcLine a ≡ ArcLine b = Says-unique line (ArcLine a) (ArcLine b) says says' in cc) in subst P same p
-
--- Each kind says something of the line that no lawful line after those is.
-pub fault_is_faulty : (before : List (List ℕ)) (line : List ℕ) (kind : GrKind) → AreLawfulSoFar before → IsFaultAfter before line kind → ¬ (AreLawfulSoFar (before ++ line ∷ []))
-fault_is_faulty before line UnknownLine (inl none) unknown lawful =
-    let (n, m, says, small, few) = lawful_first before line none (unknown_not_silent line unknown) lawful in unknown_says_nothing line (Problem n m) unknown says
-fault_is_faulty before line UnknownLine (inr (n, m, arcs, known)) unknown lawful =
-    let (arc, says, is_arc, room) = lawful_next before line n m arcs known (unknown_not_silent line unknown) lawful in unknown_says_nothing line (ArcLine arc) unknown says
-fault_is_faulty before line NoProblemYet was (begins, none) lawful =
-    let (n, m, says, small, few) = lawful_first before line none (begins_not_silent line (codes "a") 97 refl (λ e. omega arith) begins) lawful in
-    let (arc, is) = begins_arc_says line (Problem n m) begins says in cc
-fault_is_faulty before line SecondProblem was (begins, (n, m, arcs, known, any)) lawful =
-    let (arc, says, is_arc, room) = lawful_next before line n m arcs known (begins_not_silent line (codes "p") 112 refl (λ e. omega arith) begins) lawful in
-    let (k, l, is) = begins_problem_says line (ArcLine arc) begins says in cc
-fault_is_faulty before line BadProblem was (begins, none, never) lawful =
-    let (n, m, says, small, few) = lawful_first before line none (begins_not_silent line (codes "p") 112 refl (λ e. omega arith) begins) lawful in
-    never n m says
-fault_is_faulty before line TooLarge was (none, (k, l, says, large)) lawful =
-    let (n, m, says', small, few) = lawful_first before line none (λ silent. IsSilent-says line (Problem k l) silent says) lawful in
-    let same : Problem k l ≡ Problem n m = Says-unique line (Problem k l) (Problem n m) says says' in
-    let sn : k ≡ n = cc in
-    let sm : l ≡ m = cc in
-    elim large [ inl more ↦ omega arith | inr more ↦ omega arith ]
-fault_is_faulty before line TooManyArcs was (begins, (n, m, arcs, known, full)) lawful =
-    let (arc, says, is_arc, room) = lawful_next before line n m arcs known (begins_not_silent line (codes "a") 97 refl (λ e. omega arith) begins) lawful in
-    omega arith
-fault_is_faulty before line BadArc was (begins, (n, m, arcs, known, (room, never))) lawful =
-    let (arc, says, is_arc, room') = lawful_next before line n m arcs known (begins_not_silent line (codes "a") 97 refl (λ e. omega arith) begins) lawful in
-    never arc says
-fault_is_faulty before line EndOutOfRange was (n, m, arcs, known, (room, (arc, says, out))) lawful =
-    let (arc', says', is_arc, room') = lawful_next before line n m arcs known (λ silent. IsSilent-says line (ArcLine arc) silent says) lawful in
-    out (ends_prop_of line arc' arc (HasEnds n) says' says is_arc.0)
-fault_is_faulty before line WeightOutOfRange was (n, m, arcs, known, (room, (arc, says, ends, out))) lawful =
-    let (arc', says', is_arc, room') = lawful_next before line n m arcs known (λ silent. IsSilent-says line (ArcLine arc) silent says) lawful in
-    out (ends_prop_of line arc' arc (λ a. IsWeight a.weight) says' says is_arc.1)
-fault_is_faulty before line MissingProblem was fits lawful = fits
-fault_is_faulty before line MissingArcs was fits lawful = fits
+-- The kind says something of the line that no lawful line after those is.
+pub fault_is_faulty : (before : List (List ℕ)) (line : List ℕ) (kind : GrKind) → IsFaultAfter before line kind → ¬ (AreLawfulSoFar (before ++ line ∷ []))
+fault_is_faulty before line kind fault lawful = by_told fault.told fault.sort fault.said fault.of_sort fault.wrong
+  where
+    by_told : (told : Told) (sort : LineSort) → AreTold before told → IsOfSort line sort → IsWrong sort told kind → ⊥
+    by_told Unsaid sort said of_sort wrong =
+        let loud : ¬ (IsSilent line) = λ silent. subst (λ (s : LineSort). IsWrong s Unsaid kind) (IsOfSort-unique line sort Nothing of_sort silent) wrong in
+        let (n, m, says, small, few) = lawful_first before line said loud lawful in
+        let large = subst (λ (s : LineSort). IsWrong s Unsaid kind) (IsOfSort-unique line sort (Makes (Problem n m)) of_sort says) wrong in
+        elim large.0 [ inl more ↦ omega arith | inr more ↦ omega arith ]
+    by_told (Stated n m arcs) sort said of_sort wrong =
+        let loud : ¬ (IsSilent line) = λ silent. subst (λ (s : LineSort). IsWrong s (Stated n m arcs) kind) (IsOfSort-unique line sort Nothing of_sort silent) wrong in
+        let (arc, says, is_arc, room) = lawful_next before line n m arcs said loud lawful in
+        let out = subst (λ (s : LineSort). IsWrong s (Stated n m arcs) kind) (IsOfSort-unique line sort (Makes (ArcLine arc)) of_sort says) wrong in
+        elim out [ inl full ↦ omega (arith, full.0) | inr (inl bad) ↦ bad.1 is_arc.0 | inr (inr bad) ↦ bad.2 is_arc.1 ]

@@ -1,19 +1,42 @@
 -- From what a line says and the lines before it to its verdict.
-use Rattle.std.proofs.Common.{◌≡◌, ℕ, ℤ, ◌≤◌, List, [], ◌∷◌, subst, sym, arith, codes, ap, ◌∙◌, append-nil}
+use Rattle.std.proofs.Common.{◌≡◌, ℕ, ℤ, ◌≤◌, ◌<◌, List, [], ◌∷◌, ◌++◌, subst, sym, arith, codes, ap, ◌∙◌, append-nil, length, Option, Some, None}
 use Rattle.limits.specs.declared.TheConstants.{MAX_VERTICES}
 use Rattle.link_key.specs.Arc.{Arc}
-use Rattle.gr_text.specs.Fields.{AreFields}
-use Rattle.gr_text.specs.Statement.{Statement, Problem, ArcLine, FieldsSay, Says}
+use Rattle.gr_text.specs.Statement.{Problem, ArcLine, AreSilent, FieldsSay}
+use Rattle.gr_text.specs.Sort.{NoProblem, NoArc, AreOfSort}
 use Rattle.gr_text.specs.Graph.{HasEnds}
-use Rattle.gr_text.specs.Word.{IsCapped, NeverSay}
-use Rattle.gr_text.proofs.Unique.{AreFields-unique}
-use Rattle.gr_text.specs.Fault.{BeginsWith}
+use Rattle.gr_text.specs.Fault.{Told, Unsaid, Stated, AreTold}
+use Rattle.gr_text.specs.Reading.{Counts}
+use Rattle.gr_text.specs.Word.{IsCapped, NeverSay, IsProblem, IsArcLine}
+use Rattle.gr_text.specs.declared.sizes.Size.{Size}
 
-pub begins_problem : (bytes : List ℕ) (n m : ℕ) → Says bytes (Problem n m) → BeginsWith bytes (codes "p")
-begins_problem bytes n m (fields, are, (f, g, is, wf, wg)) = (codes "sp" ∷ f ∷ g ∷ [], subst (AreFields bytes) is are)
+-- what lines say, by what is kept of them
+pub told_of : (size : Option Size) (count : ℕ) (lines : List (List ℕ)) → Counts size count lines → (told : Told) × AreTold lines told
+told_of None count lines (say, zero_count) = (Unsaid, say)
+told_of (Some size) count lines (arcs, lawful, counted) = (Stated size.vertices size.arcs arcs, lawful)
 
-pub begins_arc : (bytes : List ℕ) (arc : Arc) → Says bytes (ArcLine arc) → BeginsWith bytes (codes "a")
-begins_arc bytes arc (fields, are, (f, g, h, is, wf, wg, wh)) = (f ∷ g ∷ h ∷ [], subst (AreFields bytes) is are)
+-- a problem line or an arc line of too few fields
+pub short_problem : (fields others : List (List ℕ)) → fields ≡ codes "p" ∷ others → length others < 3 → AreOfSort fields NoProblem
+short_problem fields others is few =
+    ((others, is), λ n m (f, g, e, wf, wg). (let counted : length (codes "p" ∷ others) ≡ length (codes "p" ∷ codes "sp" ∷ f ∷ g ∷ []) = ap length (sym is ∙ e) in omega arith))
+
+pub short_arc : (fields others : List (List ℕ)) → fields ≡ codes "a" ∷ others → length others < 3 → AreOfSort fields NoArc
+short_arc fields others is few =
+    ((others, is), λ arc (f, g, h, e, wf, wg, wh). (let counted : length (codes "a" ∷ others) ≡ length (codes "a" ∷ f ∷ g ∷ h ∷ []) = ap length (sym is ∙ e) in omega arith))
+
+-- or of another field than it may have
+pub broken_problem : (fields : List (List ℕ)) → NeverSay (codes "p") fields IsProblem → AreOfSort fields NoProblem
+broken_problem fields (begins, never) =
+    (begins, λ n m says. never [] (Problem n m) tt (subst (λ (xs : List (List ℕ)). FieldsSay xs (Problem n m)) (sym (append-nil fields)) says))
+
+pub broken_arc : (fields : List (List ℕ)) → NeverSay (codes "a") fields IsArcLine → AreOfSort fields NoArc
+broken_arc fields (begins, never) =
+    (begins, λ arc says. never [] (ArcLine arc) tt (subst (λ (xs : List (List ℕ)). FieldsSay xs (ArcLine arc)) (sym (append-nil fields)) says))
+
+-- whether a line is silent stands in its first field
+pub silent_alone : (first : List ℕ) (others : List (List ℕ)) → AreSilent (first ∷ others) → AreSilent (first ∷ [])
+silent_alone [] others silent = silent
+silent_alone (b ∷ bytes) others silent = silent
 
 -- a kept number within a limit is the number itself
 pub kept_end : (kept k n : ℕ) → IsCapped kept k → kept ≤ n → n ≤ MAX_VERTICES → k ≡ kept
@@ -31,11 +54,3 @@ arc_same arc u v w e f g =
     let at_head : ℕ → Arc = λ h. record { tail = u; head = h; weight = arc.weight } in
     let at_weight : ℤ → Arc = λ z. record { tail = u; head = v; weight = z } in
     ap at_tail e ∙ ap at_head f ∙ ap at_weight (sym g)
-
--- a line of other fields doesn't say that
-pub says_not : (bytes : List ℕ) (fields : List (List ℕ)) (first : List ℕ) (P : Statement → Type 0) → AreFields bytes fields → NeverSay first fields P → (s : Statement) → P s → ¬ (Says bytes s)
-says_not bytes fields first P are never s p (others, others_are, says) =
-    never.1 [] s p (subst (λ (xs : List (List ℕ)). FieldsSay xs s) (AreFields-unique bytes others fields others_are are ∙ sym (append-nil fields)) says)
-
-pub begins_of : (bytes : List ℕ) (fields : List (List ℕ)) (first : List ℕ) (others : List (List ℕ)) → AreFields bytes fields → fields ≡ first ∷ others → BeginsWith bytes first
-begins_of bytes fields first others are is = (others, subst (AreFields bytes) is are)

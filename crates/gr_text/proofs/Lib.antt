@@ -3,10 +3,10 @@ pub mod LineFields
 pub mod Signed
 pub mod Judging
 pub mod Unique
-pub mod Broken
 pub mod Steps
 pub mod Parts
 pub mod PlainLines
+pub mod Sorts
 pub mod Faulty
 pub mod Cuts
 pub mod Standing

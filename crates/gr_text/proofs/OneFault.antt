@@ -1,18 +1,18 @@
 -- A text has one first fault at the most, and none where it means a graph.
-use Rattle.std.proofs.Common.{◌≡◌, ℕ, ◌+◌, ◌<◌, ◌⊎◌, inl, inr, List, [], ◌∷◌, ◌++◌, refl, ap, sym, ◌∙◌, subst, arith, append_assoc, append-nil, codes, map, length}
+use Rattle.std.proofs.Common.{◌≡◌, ℕ, ◌+◌, ◌<◌, ◌⊎◌, inl, inr, List, [], ◌∷◌, ◌++◌, refl, ap, sym, ◌∙◌, subst, arith, append_assoc, append-nil, map, length}
 use Rattle.std.specs.List.{AllByRecursion}
 use Rattle.std.proofs.lemmas.List.{length_push}
 use Rattle.link_key.specs.Arc.{Arc}
-use Rattle.gr_text.specs.Statement.{Statement, Problem, ArcLine, Says, Say}
-use Rattle.gr_text.specs.Graph.{HasEnds, IsArcOf, AreLawfulLines, AreLawfulSoFar}
-use Rattle.gr_text.specs.Fault.{BeginsWith, IsUnknown, AfterProblem, IsFaultAfter, IsFirstFaulty, Lacks}
+use Rattle.gr_text.specs.Statement.{Statement, Problem, ArcLine, Say}
+use Rattle.gr_text.specs.Sort.{LineSort, Nothing, Makes, NoProblem, NoArc, Unknown}
+use Rattle.gr_text.specs.Graph.{IsArcOf, AreLawfulLines, AreLawfulSoFar}
+use Rattle.gr_text.specs.Fault.{Told, Unsaid, Stated, AreTold, IsWrong, IsFaultAfter, IsFirstFaulty, Lacks}
 use Rattle.gr_text.specs.Laws.{NeverBoth, HasOneFault}
 use Rattle.gr_text.specs.declared.faults.GrKind.{GrKind}
-use Rattle.gr_text.specs.declared.faults.GrKind.TheVariants.{UnknownLine, NoProblemYet, SecondProblem, BadProblem, TooLarge, BadArc, EndOutOfRange, WeightOutOfRange, TooManyArcs, MissingProblem, MissingArcs}
-use Rattle.gr_text.proofs.FieldBytes.{head_is}
-use Rattle.gr_text.proofs.Unique.{AreFields-unique, AreLines-unique, Says-unique, Say-unique}
+use Rattle.gr_text.specs.declared.faults.GrKind.TheVariants.{MissingProblem, MissingArcs}
+use Rattle.gr_text.proofs.Unique.{AreLines-unique, Say-unique}
+use Rattle.gr_text.proofs.Sorts.{IsOfSort-unique}
 use Rattle.gr_text.proofs.Faulty.{Say-split}
-use Rattle.gr_text.proofs.Judging.{begins_problem, begins_arc}
 use Rattle.gr_text.proofs.Texts.{AreLawfulLines-unique}
 
 -- the last of the statements of arc lines is one of them
@@ -120,134 +120,62 @@ never_both text n arcs number kind (lines, are, lawful) (others, are', fault) =
       | inr (lacks, last) ↦ lack_no_graph others kind n arcs known lacks
     ]
 
--- A line has one kind of fault. The kinds form a tree, at whose forks the two ways shut each other out.
-abbrev Sole : (GrKind → Type 0) → Type 0
-Sole P = (k l : GrKind) → P k → P l → k ≡ l
+-- Lawful lines say one thing.
+told_unique : (lines : List (List ℕ)) (t u : Told) → AreTold lines t → AreTold lines u → t ≡ u
+told_unique lines Unsaid Unsaid a b = refl
+told_unique lines Unsaid (Stated n m arcs) a b = absurd (let same : [] ≡ Problem n m ∷ map ArcLine arcs = Say-unique lines _ _ a b.say in cc)
+told_unique lines (Stated n m arcs) Unsaid a b = absurd (let same : Problem n m ∷ map ArcLine arcs ≡ [] = Say-unique lines _ _ a.say b in cc)
+told_unique lines (Stated n m arcs) (Stated k l others) a b =
+    let (sn, sm, sa) = AreLawfulLines-unique lines n m k l arcs others a b in
+    ap (λ (x : ℕ). Stated x m arcs) sn ∙ ap (λ (x : ℕ). Stated k x arcs) sm ∙ ap (Stated k l) sa
 
-sole_leaf : (kind : GrKind) → Sole (λ k. k ≡ kind)
-sole_leaf kind k l e f = e ∙ sym f
-
-sole_fork : (A B : Type 0) (P Q : GrKind → Type 0) → (A → B → ⊥) → Sole P → Sole Q → Sole (λ k. (A × P k) ⊎ (B × Q k))
-sole_fork A B P Q apart p q k l (inl (a, x)) (inl (b, y)) = p k l x y
-sole_fork A B P Q apart p q k l (inl (a, x)) (inr (b, y)) = absurd (apart a b)
-sole_fork A B P Q apart p q k l (inr (a, x)) (inl (b, y)) = absurd (apart b a)
-sole_fork A B P Q apart p q k l (inr (a, x)) (inr (b, y)) = q k l x y
-
-abbrev Unsaid : List (List ℕ) → Type 0
-Unsaid before = Say before []
-
-abbrev Stated : List (List ℕ) → Type 0
-Stated before = AfterProblem before (λ n m arcs. Unit {0})
-
-abbrev IsProblemLine : List ℕ → Type 0
-IsProblemLine line = (n m : ℕ) × Says line (Problem n m)
-
-abbrev IsArcLine : List ℕ → Type 0
-IsArcLine line = (arc : Arc) × Says line (ArcLine arc)
-
-abbrev IsFull : List (List ℕ) → Type 0
-IsFull before = AfterProblem before (λ n m arcs. length arcs ≡ m)
-
-abbrev HasRoom : List (List ℕ) → Type 0
-HasRoom before = AfterProblem before (λ n m arcs. length arcs < m)
-
-abbrev EndsOut : List (List ℕ) → List ℕ → Type 0
-EndsOut before line = AfterProblem before (λ n m arcs. (arc : Arc) × Says line (ArcLine arc) × ¬ (HasEnds n arc))
-
-abbrev EndsIn : List (List ℕ) → List ℕ → Type 0
-EndsIn before line = AfterProblem before (λ n m arcs. (arc : Arc) × Says line (ArcLine arc) × HasEnds n arc)
-
-abbrev ProblemKind : List (List ℕ) → List ℕ → GrKind → Type 0
-ProblemKind before line kind = (Stated before × (kind ≡ SecondProblem))
-    ⊎ (Unsaid before × ((¬ (IsProblemLine line) × (kind ≡ BadProblem)) ⊎ (IsProblemLine line × (kind ≡ TooLarge))))
-
-abbrev ArcKind : List (List ℕ) → List ℕ → GrKind → Type 0
-ArcKind before line kind = (Unsaid before × (kind ≡ NoProblemYet))
-    ⊎ (Stated before × ((IsFull before × (kind ≡ TooManyArcs))
-    ⊎ (HasRoom before × ((¬ (IsArcLine line) × (kind ≡ BadArc))
-    ⊎ (IsArcLine line × ((EndsOut before line × (kind ≡ EndOutOfRange)) ⊎ (EndsIn before line × (kind ≡ WeightOutOfRange))))))))
-
-abbrev KindTree : List (List ℕ) → List ℕ → GrKind → Type 0
-KindTree before line kind = (IsUnknown line × (kind ≡ UnknownLine))
-    ⊎ ((BeginsWith line (codes "p") ⊎ BeginsWith line (codes "a"))
-    × ((BeginsWith line (codes "p") × ProblemKind before line kind) ⊎ (BeginsWith line (codes "a") × ArcKind before line kind)))
-
-unsaid_or_stated : (before : List (List ℕ)) → Stated before → Unsaid before → ⊥
-unsaid_or_stated before (n, m, arcs, known, any) none =
-    let same : Problem n m ∷ map ArcLine arcs ≡ [] = Say-unique before _ _ known.say none in cc
-
-full_or_room : (before : List (List ℕ)) → IsFull before → HasRoom before → ⊥
-full_or_room before (n, m, arcs, known, full) (k, l, others, known', room) =
-    let (sn, sm, sa) = AreLawfulLines-unique before n m k l arcs others known known' in
-    let counted : length arcs ≡ length others = ap length sa in omega arith
-
-out_or_in : (before : List (List ℕ)) (line : List ℕ) → EndsOut before line → EndsIn before line → ⊥
-out_or_in before line (n, m, arcs, known, (arc, says, out)) (k, l, others, known', (arc', says', ends)) =
-    let (sn, sm, sa) = AreLawfulLines-unique before n m k l arcs others known known' in
-    let both : ArcLine arc' ≡ ArcLine arc = Says-unique line (ArcLine arc') (ArcLine arc) says' says in
-    let same : arc' ≡ arc = cc in
-    out (subst (λ (x : ℕ). HasEnds x arc) (sym sn) (subst (HasEnds k) same ends))
-
-known_or_unknown : (line : List ℕ) → IsUnknown line → BeginsWith line (codes "p") ⊎ BeginsWith line (codes "a") → ⊥
-known_or_unknown line (first, others, are, not_p, not_a, loud) (inl (more, are')) =
-    not_p (let same : first ∷ others ≡ codes "p" ∷ more = AreFields-unique line (first ∷ others) (codes "p" ∷ more) are are' in cc)
-known_or_unknown line (first, others, are, not_p, not_a, loud) (inr (more, are')) =
-    not_a (let same : first ∷ others ≡ codes "a" ∷ more = AreFields-unique line (first ∷ others) (codes "a" ∷ more) are are' in cc)
-
-problem_or_arc : (line : List ℕ) → BeginsWith line (codes "p") → BeginsWith line (codes "a") → ⊥
-problem_or_arc line (others, are) (more, are') =
-    let same : codes "p" ∷ others ≡ codes "a" ∷ more = AreFields-unique line (codes "p" ∷ others) (codes "a" ∷ more) are are' in
-    let letters : codes "p" ≡ codes "a" = cc in omega (arith, head_is 112 97 [] [] letters)
-
-sole_problem : (before : List (List ℕ)) (line : List ℕ) → Sole (ProblemKind before line)
-sole_problem before line =
-    sole_fork _ _ _ _ (unsaid_or_stated before) (sole_leaf SecondProblem)
-    (sole_fork _ _ _ _ (λ never is. never is) (sole_leaf BadProblem) (sole_leaf TooLarge))
-
-sole_arc : (before : List (List ℕ)) (line : List ℕ) → Sole (ArcKind before line)
-sole_arc before line =
-    sole_fork _ _ _ _ (λ none stated. unsaid_or_stated before stated none) (sole_leaf NoProblemYet)
-    (sole_fork _ _ _ _ (full_or_room before) (sole_leaf TooManyArcs)
-    (sole_fork _ _ _ _ (λ never is. never is) (sole_leaf BadArc)
-    (sole_fork _ _ _ _ (out_or_in before line) (sole_leaf EndOutOfRange) (sole_leaf WeightOutOfRange))))
-
-sole_kind : (before : List (List ℕ)) (line : List ℕ) → Sole (KindTree before line)
-sole_kind before line =
-    sole_fork _ _ _ _ (known_or_unknown line) (sole_leaf UnknownLine)
-    (sole_fork _ _ _ _ (problem_or_arc line) (sole_problem before line) (sole_arc before line))
-
--- each fault's place in the tree
-place_of : (before : List (List ℕ)) (line : List ℕ) (kind : GrKind) → IsFaultAfter before line kind → KindTree before line kind
-place_of before line UnknownLine unknown = inl (unknown, refl)
-place_of before line NoProblemYet (begins, none) = inr (inr begins, inr (begins, inl (none, refl)))
-place_of before line SecondProblem (begins, stated) = inr (inl begins, inl (begins, inl (stated, refl)))
-place_of before line BadProblem (begins, none, never) = inr (inl begins, inl (begins, inr (none, inl ((λ (n, m, says). never n m says), refl))))
-place_of before line TooLarge (none, (n, m, says, large)) =
-    let begins = begins_problem line n m says in inr (inl begins, inl (begins, inr (none, inr ((n, m, says), refl))))
-place_of before line TooManyArcs (begins, (n, m, arcs, known, full)) =
-    inr (inr begins, inr (begins, inr ((n, m, arcs, known, tt), inl ((n, m, arcs, known, full), refl))))
-place_of before line BadArc (begins, (n, m, arcs, known, (room, never))) =
-    inr (inr begins, inr (begins, inr ((n, m, arcs, known, tt), inr ((n, m, arcs, known, room), inl ((λ (arc, says). never arc says), refl)))))
-place_of before line EndOutOfRange (n, m, arcs, known, (room, (arc, says, out))) =
-    let begins = begins_arc line arc says in
-    inr (inr begins, inr (begins, inr ((n, m, arcs, known, tt), inr ((n, m, arcs, known, room), inr ((arc, says), inl ((n, m, arcs, known, (arc, says, out)), refl))))))
-place_of before line WeightOutOfRange (n, m, arcs, known, (room, (arc, says, ends, out))) =
-    let begins = begins_arc line arc says in
-    inr (inr begins, inr (begins, inr ((n, m, arcs, known, tt), inr ((n, m, arcs, known, room), inr ((arc, says), inr ((n, m, arcs, known, (arc, says, ends)), refl))))))
-place_of before line MissingProblem fits = absurd fits
-place_of before line MissingArcs fits = absurd fits
+-- A line of a sort has one kind of fault.
+wrong_unique : (sort : LineSort) (told : Told) (k l : GrKind) → IsWrong sort told k → IsWrong sort told l → k ≡ l
+wrong_unique Nothing told k l a b = absurd a
+wrong_unique Unknown told k l a b = a ∙ sym b
+wrong_unique NoProblem Unsaid k l a b = a ∙ sym b
+wrong_unique NoProblem (Stated n m arcs) k l a b = a ∙ sym b
+wrong_unique NoArc Unsaid k l a b = a ∙ sym b
+wrong_unique NoArc (Stated n m arcs) k l (inl a) (inl b) = a.1 ∙ sym b.1
+wrong_unique NoArc (Stated n m arcs) k l (inl a) (inr b) = absurd (omega (arith, a.0, b.0))
+wrong_unique NoArc (Stated n m arcs) k l (inr a) (inl b) = absurd (omega (arith, a.0, b.0))
+wrong_unique NoArc (Stated n m arcs) k l (inr a) (inr b) = a.1 ∙ sym b.1
+wrong_unique (Makes (Problem x y)) Unsaid k l a b = a.1 ∙ sym b.1
+wrong_unique (Makes (Problem x y)) (Stated n m arcs) k l a b = a ∙ sym b
+wrong_unique (Makes (ArcLine arc)) Unsaid k l a b = a ∙ sym b
+wrong_unique (Makes (ArcLine arc)) (Stated n m arcs) k l (inl a) (inl b) = a.1 ∙ sym b.1
+wrong_unique (Makes (ArcLine arc)) (Stated n m arcs) k l (inl a) (inr (inl b)) = absurd (omega (arith, a.0, b.0))
+wrong_unique (Makes (ArcLine arc)) (Stated n m arcs) k l (inl a) (inr (inr b)) = absurd (omega (arith, a.0, b.0))
+wrong_unique (Makes (ArcLine arc)) (Stated n m arcs) k l (inr (inl a)) (inl b) = absurd (omega (arith, a.0, b.0))
+wrong_unique (Makes (ArcLine arc)) (Stated n m arcs) k l (inr (inl a)) (inr (inl b)) = a.2 ∙ sym b.2
+wrong_unique (Makes (ArcLine arc)) (Stated n m arcs) k l (inr (inl a)) (inr (inr b)) = absurd (a.1 b.1)
+wrong_unique (Makes (ArcLine arc)) (Stated n m arcs) k l (inr (inr a)) (inl b) = absurd (omega (arith, a.0, b.0))
+wrong_unique (Makes (ArcLine arc)) (Stated n m arcs) k l (inr (inr a)) (inr (inl b)) = absurd (b.1 a.1)
+wrong_unique (Makes (ArcLine arc)) (Stated n m arcs) k l (inr (inr a)) (inr (inr b)) = a.3 ∙ sym b.3
 
 one_kind : (before : List (List ℕ)) (line : List ℕ) (kind another : GrKind) → IsFaultAfter before line kind → IsFaultAfter before line another → kind ≡ another
-one_kind before line kind another a b = sole_kind before line kind another (place_of before line kind a) (place_of before line another b)
+one_kind before line kind another a b =
+    let told = told_unique before a.told b.told a.said b.said in
+    let sort = IsOfSort-unique line a.sort b.sort a.of_sort b.of_sort in
+    wrong_unique b.sort b.told kind another (subst (λ (t : Told). IsWrong b.sort t kind) told (subst (λ (s : LineSort). IsWrong s a.told kind) sort a.wrong)) b.wrong
 
-lack_place : (lines : List (List ℕ)) (kind : GrKind) → Lacks lines kind → (Stated lines × (kind ≡ MissingArcs)) ⊎ (Unsaid lines × (kind ≡ MissingProblem))
+lack_place : (lines : List (List ℕ)) (kind : GrKind) → Lacks lines kind
+    → (((n m : ℕ) × (arcs : List Arc) × AreLawfulLines lines n m arcs) × (kind ≡ MissingArcs)) ⊎ (Say lines [] × (kind ≡ MissingProblem))
 lack_place lines MissingProblem none = inr (none, refl)
-lack_place lines MissingArcs (n, m, arcs, known, few) = inl ((n, m, arcs, known, tt), refl)
+lack_place lines MissingArcs (n, m, arcs, known, few) = inl ((n, m, arcs, known), refl)
 lack_place lines kind lacks = absurd lacks
 
 one_lack : (lines : List (List ℕ)) (kind another : GrKind) → Lacks lines kind → Lacks lines another → kind ≡ another
-one_lack lines kind another a b =
-    sole_fork _ _ _ _ (unsaid_or_stated lines) (sole_leaf MissingArcs) (sole_leaf MissingProblem) kind another (lack_place lines kind a) (lack_place lines another b)
+one_lack lines kind another a b = elim (lack_place lines kind a) [
+  | inl ((n, m, arcs, known), is) ↦ elim (lack_place lines another b) [
+    | inl (more, too) ↦ is ∙ sym too
+    | inr (none, too) ↦ absurd (let same : Stated n m arcs ≡ Unsaid = told_unique lines (Stated n m arcs) Unsaid known none in cc)
+  ]
+  | inr (none, is) ↦ elim (lack_place lines another b) [
+    | inl ((n, m, arcs, known), too) ↦ absurd (let same : Stated n m arcs ≡ Unsaid = told_unique lines (Stated n m arcs) Unsaid known none in cc)
+    | inr (more, too) ↦ is ∙ sym too
+  ]
+]
 
 -- Two places of one list are the same, or one stands before the other.
 abbrev Precedes : {X : Type 0} → List X → X → List X → Type 0

@@ -34,7 +34,7 @@ first_faulty lines part more (fault.Gr f) number lawful numbered (line_is, fits)
     parted = append_assoc lines (part ∷ []) more;
     counted = line_is ∙ numbered;
     lawful = lawful;
-    faulty = fault_is_faulty lines part f.kind lawful fits;
+    faulty = fault_is_faulty lines part f.kind fits;
     kind_fits = fits;
   },
 )

@@ -131,7 +131,7 @@ FieldsSay-unique fields (ArcLine a) (ArcLine b) (f, g, h, e, wf, wg, wh) (f', g'
     (writes_unique g' a.head b.head (subst (λ (x : List ℕ). Writes x a.head) sg wg) wg')
     (signed_unique h' a.weight b.weight (subst (λ (x : List ℕ). WritesSigned x a.weight) sh wh) wh'))
 
-silent_or_says : (fields : List (List ℕ)) (s : Statement) → AreSilent fields → FieldsSay fields s → ⊥
+pub silent_or_says : (fields : List (List ℕ)) (s : Statement) → AreSilent fields → FieldsSay fields s → ⊥
 silent_or_says [] (Problem n m) silent (f, g, e, wf, wg) = cc
 silent_or_says [] (ArcLine arc) silent (f, g, h, e, wf, wg, wh) = cc
 silent_or_says ([] ∷ fields) s silent says = silent

@@ -1,43 +1,45 @@
 -- The first fault of a text.
-use Rattle.std.specs.Prelude.{◌≡◌, ◌≢◌, ℕ, ◌+◌, ◌<◌, ◌⊎◌, List, [], ◌∷◌, ◌++◌, length, codes}
+use Rattle.std.specs.Prelude.{◌≡◌, ℕ, ◌+◌, ◌<◌, ◌⊎◌, List, [], ◌∷◌, ◌++◌, length}
 use Rattle.limits.specs.declared.TheConstants.{MAX_ARCS, MAX_VERTICES}
 use Rattle.link_key.specs.Arc.{Arc}
 use Rattle.gr_text.specs.Lines.{AreLines, EndsLines}
-use Rattle.gr_text.specs.Fields.{AreFields}
-use Rattle.gr_text.specs.Statement.{Problem, ArcLine, AreSilent, Says, Say}
+use Rattle.gr_text.specs.Statement.{Problem, ArcLine, Say}
+use Rattle.gr_text.specs.Sort.{LineSort, Nothing, Makes, NoProblem, NoArc, Unknown, IsOfSort}
 use Rattle.gr_text.specs.Graph.{HasEnds, IsWeight, AreLawfulLines, AreLawfulSoFar}
 use Rattle.gr_text.specs.declared.faults.GrKind.{GrKind}
 use Rattle.gr_text.specs.declared.faults.GrKind.TheVariants.{UnknownLine, NoProblemYet, SecondProblem, BadProblem, TooLarge, BadArc, EndOutOfRange, WeightOutOfRange, TooManyArcs, MissingProblem, MissingArcs}
 
--- the line has a first field, and it is this one
-abbrev pub BeginsWith : List ℕ → List ℕ → Type 0
-BeginsWith line field = (others : List (List ℕ)) × AreFields line (field ∷ others)
+-- what lawful lines say: nothing, or a problem of n and m and these arcs
+pub data Told : Type 0 where
+  Unsaid : Told
+  Stated : (n m : ℕ) → List Arc → Told
 
--- neither a problem line nor an arc line nor a comment
-abbrev pub IsUnknown : List ℕ → Type 0
-IsUnknown line = (first : List ℕ) × (others : List (List ℕ)) × AreFields line (first ∷ others)
-    × (first ≢ codes "p") × (first ≢ codes "a") × ¬ (AreSilent (first ∷ others))
+abbrev pub AreTold : List (List ℕ) → Told → Type 0
+AreTold lines Unsaid = Say lines []
+AreTold lines (Stated n m arcs) = AreLawfulLines lines n m arcs
 
--- the lines so far have a problem line of n and m and these arcs
-abbrev pub AfterProblem : List (List ℕ) → (ℕ → ℕ → List Arc → Type 0) → Type 0
-AfterProblem before P = (n m : ℕ) × (arcs : List Arc) × AreLawfulLines before n m arcs × P n m arcs
+-- what is wrong with a line of this sort behind lines that say this
+abbrev pub IsWrong : LineSort → Told → GrKind → Type 0
+IsWrong Nothing told kind = ⊥
+IsWrong Unknown told kind = kind ≡ UnknownLine
+IsWrong NoProblem Unsaid kind = kind ≡ BadProblem
+IsWrong NoProblem (Stated n m arcs) kind = kind ≡ SecondProblem
+IsWrong NoArc Unsaid kind = kind ≡ NoProblemYet
+IsWrong NoArc (Stated n m arcs) kind = ((length arcs ≡ m) × (kind ≡ TooManyArcs)) ⊎ ((length arcs < m) × (kind ≡ BadArc))
+IsWrong (Makes (Problem k l)) Unsaid kind = ((MAX_VERTICES < k) ⊎ (MAX_ARCS < l)) × (kind ≡ TooLarge)
+IsWrong (Makes (Problem k l)) (Stated n m arcs) kind = kind ≡ SecondProblem
+IsWrong (Makes (ArcLine arc)) Unsaid kind = kind ≡ NoProblemYet
+IsWrong (Makes (ArcLine arc)) (Stated n m arcs) kind = ((length arcs ≡ m) × (kind ≡ TooManyArcs))
+    ⊎ ((length arcs < m) × ¬ (HasEnds n arc) × (kind ≡ EndOutOfRange))
+    ⊎ ((length arcs < m) × HasEnds n arc × ¬ (IsWeight arc.weight) × (kind ≡ WeightOutOfRange))
 
--- the kind of a line's fault, by what the lines before it say
-abbrev pub IsFaultAfter : List (List ℕ) → List ℕ → GrKind → Type 0
-IsFaultAfter before line UnknownLine = IsUnknown line
-IsFaultAfter before line NoProblemYet = BeginsWith line (codes "a") × Say before []
-IsFaultAfter before line SecondProblem = BeginsWith line (codes "p") × AfterProblem before (λ n m arcs. Unit {0})
-IsFaultAfter before line BadProblem = BeginsWith line (codes "p") × Say before [] × ((n m : ℕ) → ¬ (Says line (Problem n m)))
-IsFaultAfter before line TooLarge = Say before [] × ((n m : ℕ) × Says line (Problem n m) × ((MAX_VERTICES < n) ⊎ (MAX_ARCS < m)))
-IsFaultAfter before line TooManyArcs = BeginsWith line (codes "a") × AfterProblem before (λ n m arcs. length arcs ≡ m)
-IsFaultAfter before line BadArc = BeginsWith line (codes "a")
-    × AfterProblem before (λ n m arcs. (length arcs < m) × ((arc : Arc) → ¬ (Says line (ArcLine arc))))
-IsFaultAfter before line EndOutOfRange =
-    AfterProblem before (λ n m arcs. (length arcs < m) × ((arc : Arc) × Says line (ArcLine arc) × ¬ (HasEnds n arc)))
-IsFaultAfter before line WeightOutOfRange =
-    AfterProblem before (λ n m arcs. (length arcs < m) × ((arc : Arc) × Says line (ArcLine arc) × HasEnds n arc × ¬ (IsWeight arc.weight)))
-IsFaultAfter before line MissingProblem = ⊥
-IsFaultAfter before line MissingArcs = ⊥
+-- the kind of a line's fault, by its sort and by what the lines before it say
+pub record IsFaultAfter (before : List (List ℕ)) (line : List ℕ) (kind : GrKind) : Type 0 where
+  pub told : Told
+  pub sort : LineSort
+  pub said : AreTold before told
+  pub of_sort : IsOfSort line sort
+  pub wrong : IsWrong sort told kind
 
 -- the first faulty line of these: the lines before it are lawful, and with it they aren't
 pub record IsFirstFaulty (lines : List (List ℕ)) (number : ℕ) (kind : GrKind) : Type 0 where
@@ -53,7 +55,7 @@ pub record IsFirstFaulty (lines : List (List ℕ)) (number : ℕ) (kind : GrKind
 -- what lacks at the end of lawful lines
 abbrev pub Lacks : List (List ℕ) → GrKind → Type 0
 Lacks lines MissingProblem = Say lines []
-Lacks lines MissingArcs = AfterProblem lines (λ n m arcs. length arcs < m)
+Lacks lines MissingArcs = (n m : ℕ) × (arcs : List Arc) × AreLawfulLines lines n m arcs × (length arcs < m)
 Lacks lines kind = ⊥
 
 -- the first fault of a text: that of its first faulty line, or at the end what lacks there

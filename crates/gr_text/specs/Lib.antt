@@ -3,6 +3,7 @@ pub mod Fields
 pub mod Statement
 pub mod Graph
 pub mod ForestText
+pub mod Sort
 pub mod Fault
 pub mod Word
 pub mod Reading

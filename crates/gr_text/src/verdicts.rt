@@ -1,9 +1,9 @@
-ghost use Rattle.std.specs.Prelude.{◌≡◌, ◌≤◌, ℕ, ℤ, List, codes, MatchOption};
+ghost use Rattle.std.specs.Prelude.{◌≡◌, ◌≤◌, ℕ, ℤ, List, MatchOption};
 ghost use Rattle.gr_text.specs.Statement.{Says, Problem, ArcLine};
 ghost use Rattle.gr_text.specs.Word.{IsCapped, IsCappedSigned};
 ghost use Rattle.gr_text.specs.Partial.{IsWhole};
 ghost use Rattle.gr_text.specs.Reading.{FitsAfter, Counts, Judges};
-ghost use Rattle.gr_text.specs.Fault.{BeginsWith};
+ghost use Rattle.gr_text.specs.Sort.{IsOfSort, NoArc, NoProblem};
 ghost use Rattle.gr_text.specs.Graph.{IsWeight};
 ghost use Rattle.link_key.specs.Arc.{Arc};
 
@@ -69,7 +69,7 @@ fn judge_problem(size: Option<Size>, n: u32, m: u32) -> Verdict
 fn bad_problem(size: Option<Size>) -> Verdict
     ensures fits { (count : ℕ) → FitsAfter result size count }
     ensures told { (count : ℕ) (lines : List (List ℕ)) (bytes : List ℕ) → Counts size count lines
-        → BeginsWith bytes (codes "p") → ((n m : ℕ) → ¬ (Says bytes (Problem n m))) → Judges result size count lines bytes }
+        → IsOfSort bytes NoProblem → Judges result size count lines bytes }
 {
     match size {
         Some(_) => Verdict::Faulty(GrKind::SecondProblem),
@@ -107,7 +107,7 @@ fn weight_of(w: i64) -> Option<i32>
 fn bad_arc(size: Option<Size>, count: u32) -> Verdict
     ensures fits { FitsAfter result size count }
     ensures told { (lines : List (List ℕ)) (bytes : List ℕ) → Counts size count lines
-        → BeginsWith bytes (codes "a") → ((arc : Arc) → ¬ (Says bytes (ArcLine arc))) → Judges result size count lines bytes }
+        → IsOfSort bytes NoArc → Judges result size count lines bytes }
 {
     match size {
         None => Verdict::Faulty(GrKind::NoProblemYet),

@@ -1,43 +1,45 @@
-use Rattle.std.proofs.Common.{◌≡◌, subst, sym, arith, ◌∙◌, rules}
+use Rattle.std.proofs.Common.{◌≡◌, subst, sym, arith, ◌∙◌, rules, inl, inr, refl}
 use Rattle.std.proofs.Common.{Option, ℤ, w64, w32}
 use Rattle.std.proofs.lemmas.Int.{to_z-of_z}
 use mir.Val.{to_z, of_z, SFits}
 use Rattle.gr_text.specs.Word.{IsCappedSigned}
 use Rattle.link_key.specs.Arc.{Arc}
 use Rattle.gr_text.specs.Statement.{Says, ArcLine}
-use Rattle.gr_text.specs.Graph.{IsArcOf}
+use Rattle.gr_text.specs.Sort.{Makes}
+use Rattle.gr_text.specs.Graph.{HasEnds, IsArcOf}
+use Rattle.gr_text.specs.Fault.{Unsaid, Stated}
 use Rattle.gr_text.specs.Reading.{Counts, Judges}
 use Rattle.gr_text.specs.declared.sizes.Size.{Size}
 use Rattle.gr_text.specs.declared.verdicts.Verdict.TheVariants as verdict
-use Rattle.gr_text.proofs.Judging.{begins_arc, kept_end, ends_of, arc_same}
+use Rattle.gr_text.proofs.Judging.{kept_end, ends_of, arc_same}
 use Rattle.gr_text.proofs.verdicts.judge_arc.Goals as goal
+use Rattle.gr_text.proofs.verdicts.judge_arc.Goals.{then-u-lt1-via-then-u-lt1, then-u-lt1-via-else-u-lt1+then-u-size, then-u-lt1-via-else-u-lt1+else-u-size+then-v-lt1, then-u-lt1-via-else-u-lt1+else-u-size+else-v-lt1+then-v-size}
 
 pub returns-in_default-clause-told : goal.returns-in_default-clause-told
 returns-in_default-clause-told c = λ lines bytes arc counts says tail head weight.
-    (begins_arc bytes arc says, (subst (λ (s : Option Size). Counts s c.args.count lines) c.in_default.is counts).0)
+    record { told = Unsaid; sort = Makes (ArcLine arc); said = (subst (λ (s : Option Size). Counts s c.args.count lines) c.in_default.is counts).0; of_sort = says; wrong = refl }
 
 pub returns-then-count-size-clause-told : goal.returns-then-count-size-clause-told
 returns-then-count-size-clause-told c = λ lines bytes arc counts says tail head weight.
     let (arcs, lawful, counted) = subst (λ (s : Option Size). Counts s c.args.count lines) c.in-Some.is counts in
-    (begins_arc bytes arc says, (c.in-Some.size.vertices, c.in-Some.size.arcs, arcs, lawful, omega (arith, lawful.no_more)))
+    record { told = Stated _ _ arcs; sort = Makes (ArcLine arc); said = lawful; of_sort = says; wrong = inl (omega (arith, lawful.no_more), refl) }
+
+pub returns-then-u-lt1-clause-told : goal.returns-then-u-lt1-clause-told
+returns-then-u-lt1-clause-told c = λ lines bytes arc counts says tail head weight.
+    let (arcs, lawful, counted) = subst (λ (s : Option Size). Counts s c.args.count lines) c.in-Some.is counts in
+    let out : ¬ (HasEnds c.in-Some.size.vertices arc) = λ ends. elim c.then-u-lt1.branch [
+      | then-u-lt1-via-then-u-lt1 w ↦ omega (arith, tail, w.if-u-lt1.true, ends.tail_from_one)
+      | then-u-lt1-via-else-u-lt1+then-u-size w ↦ omega (arith, tail, w.if-u-size.true, ends.tail_in_range)
+      | then-u-lt1-via-else-u-lt1+else-u-size+then-v-lt1 w ↦ omega (arith, head, w.if-v-lt1.true, ends.head_from_one)
+      | then-u-lt1-via-else-u-lt1+else-u-size+else-v-lt1+then-v-size w ↦ omega (arith, head, w.if-v-size.true, ends.head_in_range)
+    ] in record { told = Stated _ _ arcs; sort = Makes (ArcLine arc); said = lawful; of_sort = says; wrong = inr (inl (omega arith, out, refl)) }
 
 pub returns-in-None-clause-told : goal.returns-in-None-clause-told
 returns-in-None-clause-told c = λ lines bytes arc counts says tail head weight.
-    let (arcs, lawful, counted) = subst (λ (s : Option Size). Counts s c.args.count lines) c.in-Some.is counts in (
-      c.in-Some.size.vertices,
-      c.in-Some.size.arcs,
-      arcs,
-      lawful,
-      (
-        omega arith,
-        (
-          arc,
-          says,
-          ends_of c.in-Some.size.vertices c.args.u c.args.v arc lawful.vertices tail head c.if-u-lt1.false c.if-u-size.false c.if-v-lt1.false c.if-v-size.false,
-          c.in-None.ensures arc.weight (subst (λ (z : ℤ). IsCappedSigned z arc.weight) (sym (to_z-of_z w64 c.args.w c.ranges.w)) weight),
-        ),
-      ),
-    )
+    let (arcs, lawful, counted) = subst (λ (s : Option Size). Counts s c.args.count lines) c.in-Some.is counts in
+    let ends = ends_of c.in-Some.size.vertices c.args.u c.args.v arc lawful.vertices tail head c.if-u-lt1.false c.if-u-size.false c.if-v-lt1.false c.if-v-size.false in
+    let out = c.in-None.ensures arc.weight (subst (λ (z : ℤ). IsCappedSigned z arc.weight) (sym (to_z-of_z w64 c.args.w c.ranges.w)) weight) in
+    record { told = Stated _ _ arcs; sort = Makes (ArcLine arc); said = lawful; of_sort = says; wrong = inr (inr (omega arith, ends, out, refl)) }
 
 pub returns-in-Some-weight_of-clause-told : goal.returns-in-Some-weight_of-clause-told
 returns-in-Some-weight_of-clause-told c = λ lines bytes arc counts says tail head weight.
