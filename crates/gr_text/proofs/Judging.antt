@@ -1,5 +1,5 @@
 -- From what a line says and the lines before it to its verdict.
-use Rattle.std.proofs.Common.{◌≡◌, ℕ, ℤ, ◌≤◌, ◌<◌, List, [], ◌∷◌, ◌++◌, subst, sym, arith, codes, ap, ◌∙◌, append-nil, length, Option, Some, None}
+use Rattle.std.proofs.Common.{◌≡◌, ℕ, ℤ, ◌≤◌, ◌<◌, List, [], ◌∷◌, subst, sym, arith, codes, ap, ◌∙◌, append-nil, length, Option, Some, None}
 use Rattle.limits.specs.declared.TheConstants.{MAX_VERTICES}
 use Rattle.link_key.specs.Arc.{Arc}
 use Rattle.gr_text.specs.Statement.{Problem, ArcLine, AreSilent, FieldsSay}
