@@ -1,5 +1,5 @@
 -- What a field can still become when one more byte comes.
-use Rattle.std.proofs.Common.{◌≡◌, ◌≢◌, ℕ, ◌+◌, ◌*◌, ◌-◌, inl, inr, List, [], ◌∷◌, ◌++◌, refl, ap, sym, ◌∙◌, arith, append_assoc, codes, fold, subst}
+use Rattle.std.proofs.Common.{◌≡◌, ◌≢◌, ℕ, ◌+◌, ◌*◌, ◌-◌, ◌<◌, inl, inr, List, [], ◌∷◌, ◌++◌, refl, ap, sym, ◌∙◌, arith, append_assoc, codes, fold, subst}
 use Rattle.std.specs.List.{AllByRecursion}
 use Rattle.gr_text.specs.Fields.{IsDigit, Writes}
 use Rattle.std.proofs.Common.{append-nil}
@@ -38,11 +38,6 @@ Writes-one b d = (λ (e : b ∷ [] ≡ []). cc, (d, tt), omega arith)
 abbrev pub NeverToken : List ℕ → Type 0
 NeverToken bytes = (bytes ≢ []) × ((more : List ℕ) → ¬ (IsToken (bytes ++ more)))
 
-pub NeverToken-more : (bytes : List ℕ) (b : ℕ) → NeverToken bytes → NeverToken (bytes ++ b ∷ [])
-NeverToken-more [] b never = absurd (never.0 refl)
-NeverToken-more (x ∷ xs) b never =
-    (λ (e : (x ∷ xs) ++ b ∷ [] ≡ []). cc, λ more token. never.1 (b ∷ more) (subst IsToken (append_assoc (x ∷ xs) (b ∷ []) more) token))
-
 -- digits and then another byte
 pub number_broken : (digits : List ℕ) (b n : ℕ) → Writes digits n → ¬ (IsDigit b) → NeverToken (digits ++ b ∷ [])
 number_broken [] b n w other = absurd (w.0 refl)
@@ -78,88 +73,72 @@ negative_broken (x ∷ xs) digits b n is w other =
       ],
     )
 
--- a field that writes a number is kept as one
-pub kept_as_number : (w : Word) (field : List ℕ) (n : ℕ) → WordMeans w field → Writes field n → (kept : ℕ) × (w ≡ word.Number kept)
-kept_as_number word.Empty field n means writes = absurd (writes.0 means)
-kept_as_number word.LetterP field n means writes = absurd (let all : AllByRecursion IsDigit (112 ∷ []) = subst (AllByRecursion IsDigit) means writes.1 in omega (arith, all.0))
-kept_as_number word.LetterA field n means writes = absurd (let all : AllByRecursion IsDigit (97 ∷ []) = subst (AllByRecursion IsDigit) means writes.1 in omega (arith, all.0))
-kept_as_number word.LetterS field n means writes = absurd (let all : AllByRecursion IsDigit (115 ∷ []) = subst (AllByRecursion IsDigit) means writes.1 in omega (arith, all.0))
-kept_as_number word.Sp field n means writes = absurd (let all : AllByRecursion IsDigit (115 ∷ 112 ∷ []) = subst (AllByRecursion IsDigit) means writes.1 in omega (arith, all.0))
-kept_as_number word.Comment field n means writes = absurd (let all : AllByRecursion IsDigit (99 ∷ means.0) = subst (AllByRecursion IsDigit) means.1 writes.1 in omega (arith, all.0))
-kept_as_number (word.Number kept) field n means writes = (kept, refl)
-kept_as_number word.Minus field n means writes = absurd (let all : AllByRecursion IsDigit (45 ∷ []) = subst (AllByRecursion IsDigit) means writes.1 in omega (arith, all.0))
-kept_as_number (word.Negative kept) field n means writes = absurd (let all : AllByRecursion IsDigit (45 ∷ means.0) = subst (AllByRecursion IsDigit) means.2 writes.1 in omega (arith, all.0))
-kept_as_number word.Other field n means writes =
-    absurd (means.1 [] (subst IsToken (sym (append-nil field)) (inr (inr (inr (inr (_, inl (n, writes, refl))))))))
-
 -- equal lists have equal heads
 pub head_is : (a b : ℕ) (xs ys : List ℕ) → a ∷ xs ≡ b ∷ ys → a ≡ b
 head_is a b xs ys e = cc
 
+-- the byte that a field which is kept so begins with
+abbrev Head : Word → ℕ → Type 0
+Head word.Empty b = b < 0
+Head word.LetterP b = b ≡ 112
+Head word.LetterA b = b ≡ 97
+Head word.LetterS b = b ≡ 115
+Head word.Sp b = b ≡ 115
+Head word.Comment b = b ≡ 99
+Head (word.Number kept) b = IsDigit b
+Head word.Minus b = b ≡ 45
+Head (word.Negative kept) b = b ≡ 45
+Head word.Other b = Unit {0}
+
+head_of : (w : Word) (b : ℕ) (rest : List ℕ) → WordMeans w (b ∷ rest) → Head w b
+head_of word.Empty b rest means = absurd (cc)
+head_of word.LetterP b rest means = head_is b 112 rest [] means
+head_of word.LetterA b rest means = head_is b 97 rest [] means
+head_of word.LetterS b rest means = head_is b 115 rest [] means
+head_of word.Sp b rest means = head_is b 115 rest (112 ∷ []) means
+head_of word.Comment b rest (others, is) = head_is b 99 rest others is
+head_of (word.Number kept) b rest means = means.1.1.0
+head_of word.Minus b rest means = head_is b 45 rest [] means
+head_of (word.Negative kept) b rest means = head_is b 45 rest means.0 means.2
+head_of word.Other b rest means = tt
+
+-- a field that writes a number is kept as one
+pub kept_as_number : (w : Word) (field : List ℕ) (n : ℕ) → WordMeans w field → Writes field n → (kept : ℕ) × (w ≡ word.Number kept)
+kept_as_number (word.Number kept) field n means writes = (kept, refl)
+kept_as_number word.Other field n means writes = absurd (means.1 [] (subst IsToken (sym (append-nil field)) (inr (inr (inr (inr (_, inl (n, writes, refl))))))))
+kept_as_number w [] n means writes = absurd (writes.0 refl)
+kept_as_number w (b ∷ rest) n means writes = absurd (let head : Head w b = head_of w b rest means in omega (arith, head, writes.1.0.0, writes.1.0.1))
+
 -- a field with a minus that writes a number is kept as one
 pub kept_as_negative : (w : Word) (field digits : List ℕ) (n : ℕ) → WordMeans w field → field ≡ 45 ∷ digits → Writes digits n → (kept : ℕ) × (w ≡ word.Negative kept)
-kept_as_negative word.Empty field digits n means is writes = absurd (let e : [] ≡ 45 ∷ digits = sym means ∙ is in cc)
-kept_as_negative word.LetterP field digits n means is writes = absurd (let e : codes "p" ≡ 45 ∷ digits = sym means ∙ is in omega (arith, head_is 112 45 [] digits e))
-kept_as_negative word.LetterA field digits n means is writes = absurd (let e : codes "a" ≡ 45 ∷ digits = sym means ∙ is in omega (arith, head_is 97 45 [] digits e))
-kept_as_negative word.LetterS field digits n means is writes = absurd (let e : codes "s" ≡ 45 ∷ digits = sym means ∙ is in omega (arith, head_is 115 45 [] digits e))
-kept_as_negative word.Sp field digits n means is writes = absurd (let e : codes "sp" ≡ 45 ∷ digits = sym means ∙ is in omega (arith, head_is 115 45 (112 ∷ []) digits e))
-kept_as_negative word.Comment field digits n means is writes = absurd (let e : 99 ∷ means.0 ≡ 45 ∷ digits = sym means.1 ∙ is in omega (arith, head_is 99 45 means.0 digits e))
-kept_as_negative (word.Number kept) field digits n means is writes =
-    absurd (let all : AllByRecursion IsDigit (45 ∷ digits) = subst (AllByRecursion IsDigit) is means.1.1 in omega (arith, all.0))
-kept_as_negative word.Minus field digits n means is writes = absurd (writes.0 (let e : codes "-" ≡ 45 ∷ digits = sym means ∙ is in cc))
 kept_as_negative (word.Negative kept) field digits n means is writes = (kept, refl)
-kept_as_negative word.Other field digits n means is writes =
-    absurd (means.1 [] (subst IsToken (sym (append-nil field)) (inr (inr (inr (inr (_, inr (digits, n, is, writes, refl))))))))
+kept_as_negative word.Minus field digits n means is writes = absurd (writes.0 (let e : codes "-" ≡ 45 ∷ digits = sym means ∙ is in cc))
+kept_as_negative (word.Number kept) field digits n means is writes = absurd (let digit : IsDigit 45 = head_of (word.Number kept) 45 digits (subst (WordMeans (word.Number kept)) is means) in omega (arith, digit.0))
+kept_as_negative word.Other field digits n means is writes = absurd (means.1 [] (subst IsToken (sym (append-nil field)) (inr (inr (inr (inr (_, inr (digits, n, is, writes, refl))))))))
+kept_as_negative w field digits n means is writes = absurd (let head : Head w 45 = head_of w 45 digits (subst (WordMeans w) is means) in omega (arith, head))
 
 -- the words of single fields
 pub kept_as_sp : (w : Word) (field : List ℕ) → WordMeans w field → field ≡ codes "sp" → w ≡ word.Sp
-kept_as_sp word.Empty field means is = absurd (let e : [] ≡ codes "sp" = sym means ∙ is in cc)
-kept_as_sp word.LetterP field means is = absurd (let e : codes "p" ≡ codes "sp" = sym means ∙ is in omega (arith, head_is 112 115 [] (112 ∷ []) e))
-kept_as_sp word.LetterA field means is = absurd (let e : codes "a" ≡ codes "sp" = sym means ∙ is in omega (arith, head_is 97 115 [] (112 ∷ []) e))
-kept_as_sp word.LetterS field means is = absurd (let e : codes "s" ≡ codes "sp" = sym means ∙ is in cc)
 kept_as_sp word.Sp field means is = refl
-kept_as_sp word.Comment field means is = absurd (let e : 99 ∷ means.0 ≡ codes "sp" = sym means.1 ∙ is in omega (arith, head_is 99 115 means.0 (112 ∷ []) e))
-kept_as_sp (word.Number kept) field means is =
-    absurd (let all : AllByRecursion IsDigit (115 ∷ 112 ∷ []) = subst (AllByRecursion IsDigit) is means.1.1 in omega (arith, all.0))
-kept_as_sp word.Minus field means is = absurd (let e : codes "-" ≡ codes "sp" = sym means ∙ is in omega (arith, head_is 45 115 [] (112 ∷ []) e))
-kept_as_sp (word.Negative kept) field means is = absurd (let e : 45 ∷ means.0 ≡ codes "sp" = sym means.2 ∙ is in omega (arith, head_is 45 115 means.0 (112 ∷ []) e))
+kept_as_sp word.LetterS field means is = absurd (let e : codes "s" ≡ codes "sp" = sym means ∙ is in cc)
+kept_as_sp (word.Number kept) field means is = absurd (let digit : IsDigit 115 = head_of (word.Number kept) 115 (112 ∷ []) (subst (WordMeans (word.Number kept)) is means) in omega (arith, digit.1))
 kept_as_sp word.Other field means is = absurd (means.1 [] (subst IsToken (sym (append-nil field)) (inr (inr (inl is)))))
+kept_as_sp w field means is = absurd (let head : Head w 115 = head_of w 115 (112 ∷ []) (subst (WordMeans w) is means) in omega (arith, head))
 
 pub kept_as_p : (w : Word) (field : List ℕ) → WordMeans w field → field ≡ codes "p" → w ≡ word.LetterP
-kept_as_p word.Empty field means is = absurd (let e : [] ≡ codes "p" = sym means ∙ is in cc)
 kept_as_p word.LetterP field means is = refl
-kept_as_p word.LetterA field means is = absurd (let e : codes "a" ≡ codes "p" = sym means ∙ is in omega (arith, head_is 97 112 [] [] e))
-kept_as_p word.LetterS field means is = absurd (let e : codes "s" ≡ codes "p" = sym means ∙ is in omega (arith, head_is 115 112 [] [] e))
-kept_as_p word.Sp field means is = absurd (let e : codes "sp" ≡ codes "p" = sym means ∙ is in omega (arith, head_is 115 112 (112 ∷ []) [] e))
-kept_as_p word.Comment field means is = absurd (let e : 99 ∷ means.0 ≡ codes "p" = sym means.1 ∙ is in omega (arith, head_is 99 112 means.0 [] e))
-kept_as_p (word.Number kept) field means is =
-    absurd (let all : AllByRecursion IsDigit (112 ∷ []) = subst (AllByRecursion IsDigit) is means.1.1 in omega (arith, all.0))
-kept_as_p word.Minus field means is = absurd (let e : codes "-" ≡ codes "p" = sym means ∙ is in omega (arith, head_is 45 112 [] [] e))
-kept_as_p (word.Negative kept) field means is = absurd (let e : 45 ∷ means.0 ≡ codes "p" = sym means.2 ∙ is in omega (arith, head_is 45 112 means.0 [] e))
+kept_as_p (word.Number kept) field means is = absurd (let digit : IsDigit 112 = head_of (word.Number kept) 112 [] (subst (WordMeans (word.Number kept)) is means) in omega (arith, digit.1))
 kept_as_p word.Other field means is = absurd (means.1 [] (subst IsToken (sym (append-nil field)) (inl is)))
+kept_as_p w field means is = absurd (let head : Head w 112 = head_of w 112 [] (subst (WordMeans w) is means) in omega (arith, head))
 
 pub kept_as_a : (w : Word) (field : List ℕ) → WordMeans w field → field ≡ codes "a" → w ≡ word.LetterA
-kept_as_a word.Empty field means is = absurd (let e : [] ≡ codes "a" = sym means ∙ is in cc)
-kept_as_a word.LetterP field means is = absurd (let e : codes "p" ≡ codes "a" = sym means ∙ is in omega (arith, head_is 112 97 [] [] e))
 kept_as_a word.LetterA field means is = refl
-kept_as_a word.LetterS field means is = absurd (let e : codes "s" ≡ codes "a" = sym means ∙ is in omega (arith, head_is 115 97 [] [] e))
-kept_as_a word.Sp field means is = absurd (let e : codes "sp" ≡ codes "a" = sym means ∙ is in omega (arith, head_is 115 97 (112 ∷ []) [] e))
-kept_as_a word.Comment field means is = absurd (let e : 99 ∷ means.0 ≡ codes "a" = sym means.1 ∙ is in omega (arith, head_is 99 97 means.0 [] e))
-kept_as_a (word.Number kept) field means is =
-    absurd (let all : AllByRecursion IsDigit (97 ∷ []) = subst (AllByRecursion IsDigit) is means.1.1 in omega (arith, all.0))
-kept_as_a word.Minus field means is = absurd (let e : codes "-" ≡ codes "a" = sym means ∙ is in omega (arith, head_is 45 97 [] [] e))
-kept_as_a (word.Negative kept) field means is = absurd (let e : 45 ∷ means.0 ≡ codes "a" = sym means.2 ∙ is in omega (arith, head_is 45 97 means.0 [] e))
+kept_as_a (word.Number kept) field means is = absurd (let digit : IsDigit 97 = head_of (word.Number kept) 97 [] (subst (WordMeans (word.Number kept)) is means) in omega (arith, digit.1))
 kept_as_a word.Other field means is = absurd (means.1 [] (subst IsToken (sym (append-nil field)) (inr (inl is))))
+kept_as_a w field means is = absurd (let head : Head w 97 = head_of w 97 [] (subst (WordMeans w) is means) in omega (arith, head))
 
 pub kept_as_comment : (w : Word) (field : List ℕ) → WordMeans w field → BeginsComment field → w ≡ word.Comment
-kept_as_comment word.Empty field means (others, is) = absurd (let e : [] ≡ 99 ∷ others = sym means ∙ is in cc)
-kept_as_comment word.LetterP field means (others, is) = absurd (let e : codes "p" ≡ 99 ∷ others = sym means ∙ is in omega (arith, head_is 112 99 [] others e))
-kept_as_comment word.LetterA field means (others, is) = absurd (let e : codes "a" ≡ 99 ∷ others = sym means ∙ is in omega (arith, head_is 97 99 [] others e))
-kept_as_comment word.LetterS field means (others, is) = absurd (let e : codes "s" ≡ 99 ∷ others = sym means ∙ is in omega (arith, head_is 115 99 [] others e))
-kept_as_comment word.Sp field means (others, is) = absurd (let e : codes "sp" ≡ 99 ∷ others = sym means ∙ is in omega (arith, head_is 115 99 (112 ∷ []) others e))
-kept_as_comment word.Comment field means (others, is) = refl
-kept_as_comment (word.Number kept) field means (others, is) =
-    absurd (let all : AllByRecursion IsDigit (99 ∷ others) = subst (AllByRecursion IsDigit) is means.1.1 in omega (arith, all.0))
-kept_as_comment word.Minus field means (others, is) = absurd (let e : codes "-" ≡ 99 ∷ others = sym means ∙ is in omega (arith, head_is 45 99 [] others e))
-kept_as_comment (word.Negative kept) field means (others, is) = absurd (let e : 45 ∷ means.0 ≡ 99 ∷ others = sym means.2 ∙ is in omega (arith, head_is 45 99 means.0 others e))
-kept_as_comment word.Other field means (others, is) = absurd (means.1 [] (subst IsToken (sym (append-nil field)) (inr (inr (inr (inl (others, is)))))))
+kept_as_comment word.Comment field means begins = refl
+kept_as_comment (word.Number kept) field means (others, is) = absurd (let digit : IsDigit 99 = head_of (word.Number kept) 99 others (subst (WordMeans (word.Number kept)) is means) in omega (arith, digit.1))
+kept_as_comment word.Other field means begins = absurd (means.1 [] (subst IsToken (sym (append-nil field)) (inr (inr (inr (inl begins))))))
+kept_as_comment w field means (others, is) = absurd (let head : Head w 99 = head_of w 99 others (subst (WordMeans w) is means) in omega (arith, head))

@@ -128,11 +128,6 @@ behind_letter bytes fields line rest plain begins is =
     cc
 
 -- No plain line begins bytes in which a field of it is missing.
-pub never_tail : (bytes fields : List ℕ) → bytes ≡ 97 ∷ 32 ∷ fields → ((field rest : List ℕ) → IsShort field → fields ≢ field ++ 32 ∷ rest)
-    → (line rest : List ℕ) → IsPlainArc line → bytes ≢ ended line ++ rest
-never_tail bytes fields begins never line rest plain is =
-    never plain.tail (plain.head ++ 32 ∷ (plain.weight ++ line_feed ∷ rest)) plain.short_tail (behind_letter bytes fields line rest plain begins is)
-
 pub never_head : (bytes fields second : List ℕ) (u : ℕ) → bytes ≡ 97 ∷ 32 ∷ fields → BeginsWithShort u 32 fields second
     → ((field rest : List ℕ) → IsShort field → second ≢ field ++ 32 ∷ rest) → (line rest : List ℕ) → IsPlainArc line → bytes ≢ ended line ++ rest
 never_head bytes fields second u begins tail never line rest plain is =
@@ -152,14 +147,6 @@ never_weight bytes fields second third u v begins tail head never line rest plai
 pub at_place : (xs : List ℕ) (i : ℕ) → i < length xs → xs ≡ take i xs ++ get_or xs i 0 ∷ drop (i + 1) xs
 at_place xs i within =
     sym (take-append-drop (i + 1) xs) ∙ ap (λ (ys : List ℕ). ys ++ drop (i + 1) xs) (take_more xs i 0 within) ∙ append_assoc (take i xs) (get_or xs i 0 ∷ []) (drop (i + 1) xs)
-
-pub short_of : (xs : List ℕ) (i : ℕ) → 0 < i → i ≤ 10 → i < length xs → AllByRecursion IsDigit (take i xs) → IsShort (take i xs)
-short_of xs i some few within digits =
-    let long : length (take i xs) ≡ i = length-take-le i xs (omega arith) in record {
-      some = λ (e : take i xs ≡ []). let none : length (take i xs) ≡ 0 = ap length e in omega arith;
-      digits = digits;
-      few = omega arith;
-    }
 
 -- digits in front are no more than those before a byte that is none
 digits_within : (stop : ℕ) (xs r field rest : List ℕ) → ¬ (IsDigit stop) → AllByRecursion IsDigit xs → xs ++ r ≡ field ++ stop ∷ rest → length xs ≤ length field
@@ -196,16 +183,6 @@ never_other stop xs i no_digit within all other none field rest short is =
 -- One more digit.
 pub digits_more : (xs : List ℕ) (i : ℕ) → i < length xs → AllByRecursion IsDigit (take i xs) → IsDigit (get_or xs i 0) → AllByRecursion IsDigit (take (i + 1) xs)
 digits_more xs i within all digit = subst (AllByRecursion IsDigit) (sym (take_more xs i 0 within)) (AllByRecursion-push IsDigit (take i xs) (get_or xs i 0) all digit)
-
-pub number_more : (xs : List ℕ) (i : ℕ) → i < length xs → number_of (take (i + 1) xs) ≡ 10 * number_of (take i xs) + (get_or xs i 0 - 48)
-number_more xs i within = ap number_of (take_more xs i 0 within) ∙ fold-more (take i xs) 0 (get_or xs i 0)
-
--- ten digits fit
-pub power_below : (i : ℕ) → i < 10 → 10 ^ i ≤ 1000000000
-power_below i below = let k : i ≤ 9 = omega arith in pow-le-pow_right {n = 10} (omega arith) k
-
-pub below_more : (number i digit : ℕ) → number < 10 ^ i → digit < 10 → number * 10 + digit < 10 ^ (i + 1)
-below_more number i digit below small = rw pow_more (omega arith)
 
 -- bytes by their first ones
 pub begins_one : (xs : List ℕ) (a : ℕ) → 1 ≤ length xs → get_or xs 0 0 ≡ a → xs ≡ a ∷ take (length xs - 1) (drop 1 xs)

@@ -33,6 +33,12 @@ IsKeptAs partial part = (partial.begun ≡ is_begun part)
 abbrev pub IsWhole : Line → List ℕ → Type 0
 IsWhole line bytes = (fields : List (List ℕ)) × AreFields bytes fields × LineMeans line fields
 
--- the bytes are a line's end, its line feed and what is left; the line, of which this part came before, is kept so
-abbrev pub EndsLine : Line → List ℕ → List ℕ → List ℕ → Type 0
-EndsLine kept part bytes rest = (line : List ℕ) × IsLine line × (bytes ≡ ended line ++ rest) × IsWhole kept (part ++ line)
+-- behind this part of a line the bytes go on with it, and it is kept so
+abbrev pub GoesOn : Partial → List ℕ → List ℕ → Type 0
+GoesOn partial part bytes = IsLine bytes × IsKeptAs partial (part ++ bytes)
+
+-- behind this part of a line the bytes are its end, its line feed and what is left; the line is kept so, and of the next
+-- one nothing
+abbrev pub EndsLine : Partial → Line → List ℕ → List ℕ → List ℕ → Type 0
+EndsLine fresh kept part bytes rest = IsKeptAs fresh []
+    × ((line : List ℕ) × IsLine line × (bytes ≡ ended line ++ rest) × IsWhole kept (part ++ line))

@@ -1,8 +1,11 @@
 -- The usual form of an arc line, which is read at once.
-use Rattle.std.specs.Prelude.{◌≡◌, ◌≢◌, ℕ, ◌≤◌, ◌⊎◌, List, [], ◌∷◌, ◌++◌, length, codes}
+use Rattle.std.specs.Prelude.{◌≡◌, ◌≢◌, ℕ, ℤ, ◌≤◌, ◌⊎◌, List, [], ◌∷◌, ◌++◌, length, codes}
 use Rattle.std.specs.List.{AllByRecursion}
+use Rattle.gr_text.specs.Lines.{line_feed, ended}
 use Rattle.gr_text.specs.Fields.{IsDigit}
-use Rattle.gr_text.specs.Word.{KeepsNumber}
+use Rattle.gr_text.specs.Word.{KeepsNumber, KeepsSigned}
+use Rattle.gr_text.specs.Partial.{IsWhole}
+use Rattle.gr_text.specs.declared.words.Line.{Line}
 
 -- one to ten digits
 pub record IsShort (field : List ℕ) : Type 0 where
@@ -27,3 +30,21 @@ pub record IsPlainArc (line : List ℕ) : Type 0 where
 -- the bytes are a field of this form, which keeps this, then `stop` and what is left
 abbrev pub BeginsWithShort : ℕ → ℕ → List ℕ → List ℕ → Type 0
 BeginsWithShort kept stop bytes rest = (field : List ℕ) × IsShort field × KeepsNumber kept field × (bytes ≡ field ++ stop ∷ rest)
+
+-- the same of a number that may have a minus, then a line feed and what is left
+abbrev pub BeginsWithShortSigned : ℤ → List ℕ → List ℕ → Type 0
+BeginsWithShortSigned kept bytes rest = (field : List ℕ) × IsShortSigned field × KeepsSigned kept field × (bytes ≡ field ++ line_feed ∷ rest)
+
+-- the bytes are such a line, which is kept so, its line feed and what is left
+abbrev pub BeginsWithPlainArc : Line → List ℕ → List ℕ → Type 0
+BeginsWithPlainArc kept bytes rest = (line : List ℕ) × IsPlainArc line × IsWhole kept line × (bytes ≡ ended line ++ rest)
+
+-- the bytes begin with no such field before `stop`, with none before a line feed, and with no such line
+abbrev pub HasNoShort : ℕ → List ℕ → Type 0
+HasNoShort stop bytes = (field rest : List ℕ) → IsShort field → bytes ≢ field ++ stop ∷ rest
+
+abbrev pub HasNoShortSigned : List ℕ → Type 0
+HasNoShortSigned bytes = (field rest : List ℕ) → IsShortSigned field → bytes ≢ field ++ line_feed ∷ rest
+
+abbrev pub HasNoPlainArc : List ℕ → Type 0
+HasNoPlainArc bytes = (line rest : List ℕ) → IsPlainArc line → bytes ≢ ended line ++ rest

@@ -1,6 +1,5 @@
 ghost use Rattle.std.specs.Prelude.{◌≡◌, ◌≢◌, ◌<◌, ℕ, List, [], ◌∷◌, ◌++◌, length, IfSome, MatchOption};
-ghost use Rattle.gr_text.specs.Lines.{IsLine};
-ghost use Rattle.gr_text.specs.Partial.{EndsLine, IsKeptAs, IsWhole, with_field};
+ghost use Rattle.gr_text.specs.Partial.{EndsLine, GoesOn, IsKeptAs, IsWhole, with_field};
 ghost use Rattle.gr_text.specs.Word.{LineMeans, WordMeans};
 
 use crate::plain::plain_arc;
@@ -53,8 +52,8 @@ impl Partial {
     pub fn next_line<'a>(&mut self, bytes: &'a [u8]) -> Option<(Line, &'a [u8])>
         ensures shorter { IfSome result (λ next. length next.1.now < length bytes.now) }
         ensures told { (part : List ℕ) → IsKeptAs self.old part
-            → MatchOption result (IsLine bytes.now × IsKeptAs self.new (part ++ bytes.now))
-            (λ next. IsKeptAs self.new [] × EndsLine next.0 part bytes.now next.1.now) }
+            → MatchOption result (GoesOn self.new part bytes.now)
+            (λ next. EndsLine self.new next.0 part bytes.now next.1.now) }
     {
         if !self.begun {
             if let Some((line, rest)) = plain_arc(bytes) {
@@ -68,8 +67,8 @@ impl Partial {
     fn next_by_bytes<'a>(&mut self, bytes: &'a [u8]) -> Option<(Line, &'a [u8])>
         ensures shorter { IfSome result (λ next. length next.1.now < length bytes.now) }
         ensures told { (part : List ℕ) → IsKeptAs self.old part
-            → MatchOption result (IsLine bytes.now × IsKeptAs self.new (part ++ bytes.now))
-            (λ next. IsKeptAs self.new [] × EndsLine next.0 part bytes.now next.1.now) }
+            → MatchOption result (GoesOn self.new part bytes.now)
+            (λ next. EndsLine self.new next.0 part bytes.now next.1.now) }
     {
         // In a local, so that it stays in registers: nearly every byte changes it.
         let mut partial = *self;

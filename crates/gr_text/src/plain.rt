@@ -1,10 +1,8 @@
 //! The usual form of an arc line, `a U V W`, which is read at once.
-ghost use Rattle.std.specs.Prelude.{◌≡◌, ◌≢◌, ◌++◌, ◌∷◌, ◌≤◌, ◌^◌, ℕ, List, MatchOption, min};
-ghost use Rattle.gr_text.specs.Lines.{line_feed, ended};
+ghost use Rattle.std.specs.Prelude.{MatchOption};
 ghost use Rattle.gr_text.specs.Fields.{IsDigit};
-ghost use Rattle.gr_text.specs.Word.{IsCapped, KeepsSigned};
-ghost use Rattle.gr_text.specs.Partial.{IsWhole};
-ghost use Rattle.gr_text.specs.PlainArc.{BeginsWithShort, IsPlainArc, IsShort, IsShortSigned};
+ghost use Rattle.gr_text.specs.Word.{IsCapped};
+ghost use Rattle.gr_text.specs.PlainArc.{BeginsWithPlainArc, BeginsWithShort, BeginsWithShortSigned, HasNoPlainArc, HasNoShort, HasNoShortSigned};
 
 use crate::words::Line;
 
@@ -16,8 +14,7 @@ const MOST_DIGITS: usize = 10;
 /// to ten digits. The time is linear in that line.
 #[inline]
 pub fn plain_arc(bytes: &[u8]) -> Option<(Line, &[u8])>
-    ensures { MatchOption result ((line rest : List ℕ) → IsPlainArc line → bytes.now ≢ ended line ++ rest)
-        (λ found. (line : List ℕ) × IsPlainArc line × IsWhole found.0 line × (bytes.now ≡ ended line ++ found.1.now)) }
+    ensures { MatchOption result (HasNoPlainArc bytes.now) (λ found. BeginsWithPlainArc found.0 bytes.now found.1.now) }
 {
     let [b'a', b' ', fields @ ..] = bytes else {
         return None;
@@ -32,9 +29,8 @@ pub fn plain_arc(bytes: &[u8]) -> Option<(Line, &[u8])>
 // and the bytes behind the line feed.
 #[inline]
 fn short_weight(bytes: &[u8]) -> Option<(i64, &[u8])>
-    ensures { MatchOption result ((field rest : List ℕ) → IsShortSigned field → bytes.now ≢ field ++ line_feed ∷ rest)
-        (λ found. (field : List ℕ) × IsShortSigned field × KeepsSigned found.0 field
-        × (bytes.now ≡ field ++ line_feed ∷ found.1.now)) }
+    ensures { MatchOption result (HasNoShortSigned bytes.now)
+        (λ found. BeginsWithShortSigned found.0 bytes.now found.1.now) }
 {
     if let [b'-', digits @ ..] = bytes {
         let (size, rest) = short_number(digits, b'\n')?;
@@ -49,7 +45,7 @@ fn short_weight(bytes: &[u8]) -> Option<(i64, &[u8])>
 #[inline]
 fn short_number(bytes: &[u8], stop: u8) -> Option<(u32, &[u8])>
     requires { ¬ (IsDigit stop) }
-    ensures { MatchOption result ((field rest : List ℕ) → IsShort field → bytes.now ≢ field ++ stop ∷ rest)
+    ensures { MatchOption result (HasNoShort stop bytes.now)
         (λ found. BeginsWithShort found.0 stop bytes.now found.1.now) }
 {
     let mut number: u64 = 0;
