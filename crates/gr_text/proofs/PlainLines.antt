@@ -1,11 +1,9 @@
 -- A plain arc line: its fields, its bytes, and that it is read whole.
-use Rattle.std.proofs.Common.{◌≡◌, ◌≢◌, ℕ, ℤ, ◌+◌, ◌*◌, ◌-◌, ◌<◌, ◌≤◌, ◌^◌, inl, inr, List, [], ◌∷◌, ◌++◌, refl, ap, sym, ◌∙◌, subst, arith, append_assoc, append-nil, codes, length, take, drop, get_or, length-append}
+use Rattle.std.proofs.Common.{◌≡◌, ◌≢◌, ℕ, ℤ, ◌+◌, ◌-◌, ◌<◌, ◌≤◌, inl, inr, List, [], ◌∷◌, ◌++◌, refl, ap, sym, ◌∙◌, subst, arith, append_assoc, append-nil, codes, length, take, drop, get_or, length-append}
 use Rattle.std.specs.List.{AllByRecursion}
 use Rattle.std.proofs.lemmas.List.{take_more, take-append-drop, take_rest, length-take-le}
-use Rattle.std.proofs.lemmas.Grind.{pow_more}
-use Rattle.std.proofs.Math.Nat.{pow-le-pow_right}
 use Rattle.gr_text.specs.Lines.{line_feed, IsLine, ended}
-use Rattle.gr_text.specs.Fields.{IsFieldByte, BeginsBlank, AreFields, IsDigit, number_of}
+use Rattle.gr_text.specs.Fields.{IsFieldByte, BeginsBlank, AreFields, IsDigit}
 use Rattle.gr_text.specs.Word.{KeepsSigned}
 use Rattle.gr_text.specs.Partial.{IsWhole}
 use Rattle.gr_text.specs.PlainArc.{IsShort, IsShortSigned, IsPlainArc, BeginsWithShort}
@@ -13,7 +11,6 @@ use Rattle.gr_text.specs.declared.words.Line.TheVariants.{ArcWhole}
 use Rattle.gr_text.proofs.Cuts.{All-both}
 use Rattle.gr_text.proofs.Unique.{prefix_unique}
 use Rattle.gr_text.proofs.Steps.{AllByRecursion-push}
-use Rattle.gr_text.proofs.FieldBytes.{fold-more}
 
 all_as : (P Q : ℕ → Type 0) → ((b : ℕ) → P b → Q b) → (xs : List ℕ) → AllByRecursion P xs → AllByRecursion Q xs
 all_as P Q weaker [] all = tt
