@@ -1,7 +1,7 @@
 // The solver beside a plain program, over drawn lists of arcs.
 ghost use Rattle.std.specs.Prelude.{◌≤◌, ◌<◌, ◌^◌};
 
-use link_key::{Link, plain_forest};
+use link_key::{Link, forest_of, plain_forest};
 use std::alloc::{AllocError, Global};
 use std::process::Abort;
 use std::test::Fail;
@@ -53,14 +53,20 @@ pub(crate) fn draw(state: &mut u64, bound: u32) -> u32
     ((*state >> 33) % u64::from(bound)) as u32
 }
 
-// Sixty arcs between the vertices 1 to n, loops and repeats among them, each of one of these weights.
-fn drawn_arcs(alloc: Global, seed: u64, n: u32, weights: &[i32; 5]) -> Result<Vec<Row>, AllocError>
+// So many arcs between the vertices 1 to n, loops and repeats among them, each of one of these weights.
+fn drawn_arcs(
+    alloc: Global,
+    seed: u64,
+    n: u32,
+    count: u32,
+    weights: &[i32; 5],
+) -> Result<Vec<Row>, AllocError>
     requires some { 0 < n }
     requires few { n ≤ 2 ^ 26 }
 {
     let mut state = seed;
     let mut arcs = Vec::new(alloc);
-    for _ in 0..60 {
+    for _ in 0..count {
         let tail = draw(&mut state, n) + 1;
         let head = draw(&mut state, n) + 1;
         let place = draw(&mut state, 5) as usize;
@@ -69,29 +75,58 @@ fn drawn_arcs(alloc: Global, seed: u64, n: u32, weights: &[i32; 5]) -> Result<Ve
     Ok(arcs)
 }
 
-// The solver and the plain program give one forest of each of 300 drawn lists with these weights.
-fn expect_one_forest(rt: &impl Abort, alloc: Global, weights: &[i32; 5]) -> Result<(), Fail> {
+// The solver, on a copy and in the list itself, and the plain program give one forest of a drawn list.
+fn expect_one_forest(rt: &impl Abort, alloc: Global, n: u32, arcs: &[Row]) -> Result<(), Fail>
+    requires { n ≤ 2 ^ 26 }
+{
+    let links = links_of(alloc, n, arcs)?.expect(rt, "arcs");
+    let slow = slow_forest(rt, alloc, n, links.as_slice())?;
+    let forest = plain_forest(alloc, n, links.as_slice())?;
+    assert_eq!(rt; forest.links(), slow.as_slice());
+    let forest = forest_of(alloc, n, links)?;
+    assert_eq!(rt; forest.links(), slow.as_slice());
+    Ok(())
+}
+
+// The same of 300 drawn lists of sixty arcs with these weights.
+fn expect_forests(rt: &impl Abort, alloc: Global, weights: &[i32; 5]) -> Result<(), Fail> {
     for seed in 0..300u32 {
         let n = seed % 39 + 2;
-        let arcs = drawn_arcs(alloc, u64::from(seed), n, weights)?;
-        let links = links_of(alloc, n, arcs.as_slice())?.expect(rt, "arcs");
-        let forest = plain_forest(alloc, n, links.as_slice())?;
-        let slow = slow_forest(rt, alloc, n, links.as_slice())?;
-        assert_eq!(rt; forest.links(), slow.as_slice());
+        let arcs = drawn_arcs(alloc, u64::from(seed), n, 60, weights)?;
+        expect_one_forest(rt, alloc, n, arcs.as_slice())?;
     }
     Ok(())
 }
 
 #[test]
 fn drawn_lists(rt: HostRuntime) -> Result<(), Fail> {
-    expect_one_forest(&rt, rt.alloc(), &[-2, -1, 0, 1, 2])
+    expect_forests(&rt, rt.alloc(), &[-2, -1, 0, 1, 2])
 }
 
 #[test]
 fn drawn_lists_of_extreme_weights(rt: HostRuntime) -> Result<(), Fail> {
-    expect_one_forest(
+    expect_forests(
         &rt,
         rt.alloc(),
         &[i32::MIN, i32::MIN + 1, 0, i32::MAX - 1, i32::MAX],
     )
+}
+
+// Lists of many sizes: few vertices, so that most links close a cycle, and many, so that there are many components.
+// Each arc stands twice, one behind the other, as the two directions in a road file do.
+#[test]
+fn drawn_lists_of_many_sizes(rt: HostRuntime) -> Result<(), Fail> {
+    for count in [0u32, 1, 17, 1_000, 10_000] {
+        for n in [count / 40 + 2, count / 4 + 2, count.max(2)] {
+            assert!(&rt; 0 < n && n <= 1 << 26);
+            let drawn = drawn_arcs(rt.alloc(), u64::from(count), n, count, &[-7, 0, 3, 4, 50])?;
+            let mut arcs = Vec::new(rt.alloc());
+            for (tail, head, weight) in &drawn {
+                arcs.push((*tail, *head, *weight))?;
+                arcs.push((*head, *tail, *weight))?;
+            }
+            expect_one_forest(&rt, rt.alloc(), n, arcs.as_slice())?;
+        }
+    }
+    Ok(())
 }

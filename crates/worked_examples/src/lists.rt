@@ -1,6 +1,6 @@
 // Links of arcs, labels, offers and forests, and the forests of the worked graphs.
 use crate::drawn_lists::slow_forest;
-use link_key::{Forest, Labels, Link, Offers, plain_forest};
+use link_key::{Forest, Labels, Link, Offers, forest_of, plain_forest};
 use std::alloc::Global;
 use std::process::Abort;
 use std::test::Fail;
@@ -21,6 +21,8 @@ fn expect_forest(
     assert_eq!(rt; forest.links(), wanted.as_slice());
     let slow = slow_forest(rt, alloc, n, links.as_slice())?;
     assert_eq!(rt; slow.as_slice(), wanted.as_slice());
+    let forest = forest_of(alloc, n, links)?;
+    assert_eq!(rt; forest.links(), wanted.as_slice());
     Ok(())
 }
 

@@ -4,7 +4,7 @@
 use byte_streams::FusedSource;
 use forest_run::{plain_text, run_plain};
 use gr_text::{GrReader, Graph, MAX_BYTES, parse, read_graph, read_graph_upto, write_forest};
-use link_key::{Forest, Labels, Link, Offers, plain_forest};
+use link_key::{Forest, Labels, Link, Offers, forest_of, plain_forest};
 use std::alloc::{AllocError, Global};
 use std::process::Abort;
 use std::test::Fail;
@@ -72,6 +72,8 @@ fn a_forest_of_ten_thousand_links(rt: HostRuntime) -> Result<(), Fail> {
     arcs.as_mut_slice().reverse();
     let links = links_of(rt.alloc(), MANY + 1, arcs.as_slice())?.expect(&rt, "arcs");
     let forest = plain_forest(rt.alloc(), MANY + 1, links.as_slice())?;
+    assert_eq!(rt; forest.links(), wanted.as_slice());
+    let forest = forest_of(rt.alloc(), MANY + 1, links)?;
     assert_eq!(rt; forest.links(), wanted.as_slice());
     Ok(())
 }
