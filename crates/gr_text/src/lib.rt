@@ -6,9 +6,9 @@
 //! text of a forest goes out byte for byte, or it is told how many of its bytes did. [`laws`] says
 //! that these words leave nothing open: a text means one graph or has one first fault, and never both.
 //!
-//! **How it is built.** A byte goes into [`words`] (the field that is coming), a field into a `Line` (the
-//! line so far), a line into [`so_far`] (what the whole lines say) after a verdict of [`verdicts`]. An arc
-//! line in its usual form that lies whole in a piece is read at once instead, by [`plain`]:
+//! **How it is built.** A byte goes into `words` (the field that is coming), a field into a `Line` (the
+//! line so far), a line into `so_far` (what the whole lines say) after a verdict of `verdicts`. An arc
+//! line in its usual form that lies whole in a piece is read at once instead, by `plain`:
 //!
 //! ```text
 //! source --sourced--> pieces --reader--> bytes --partial/words or plain--> lines --verdicts/so_far--> graph
@@ -18,28 +18,28 @@
 //! Each layer's contract says what its state stands for, by relations over whole fields, lines and texts
 //! (`specs/`); no layer keeps the text.
 //!
-//! **Where to start a change.** What a line may say: `specs/Statement.antt`, then [`words`]. What is wrong
-//! with a line, and which fault comes first: `specs/Fault.antt`, then [`verdicts`]. The limits of vertices,
+//! **Where to start a change.** What a line may say: `specs/Statement.antt`, then `words`. What is wrong
+//! with a line, and which fault comes first: `specs/Fault.antt`, then `verdicts`. The limits of vertices,
 //! arc lines and bytes: the crate `limits`, whose names code, contracts and `specs/` cite. That of weights:
-//! `IsWeight` in `specs/Graph.antt`, then [`verdicts`].
+//! `IsWeight` in `specs/Graph.antt`, then `verdicts`.
 #![tactic(auto)]
 
-pub mod faults;
-pub mod graphs;
+mod faults;
+mod graphs;
 pub mod laws;
-pub mod parsing;
-pub mod partial;
+mod parsing;
+mod partial;
 mod piece;
-pub mod plain;
-pub mod reader;
-pub mod reading;
-pub mod sizes;
-pub mod so_far;
-pub mod sourced;
+mod plain;
+mod reader;
+mod reading;
+mod sizes;
+mod so_far;
+mod sourced;
 mod spelled;
-pub mod verdicts;
-pub mod words;
-pub mod writer;
+mod verdicts;
+mod words;
+mod writer;
 
 pub use faults::{GrFault, GrKind, ReadFault};
 pub use graphs::Graph;

@@ -8,7 +8,7 @@ use crate::words::{Line, Word};
 /// What is kept of a line of which a part has come: its whole fields, the field that is coming, and whether
 /// any byte has come, since a text may end with a line that has none.
 #[derive(Clone, Copy)]
-pub struct Partial {
+pub(crate) struct Partial {
     /// The whole fields.
     pub on: Line,
     /// The field that is coming; empty behind a blank.
@@ -35,7 +35,7 @@ impl Line {
 impl Partial {
     /// No byte has come.
     #[inline]
-    pub fn new() -> Partial
+    pub(crate) fn new() -> Partial
         ensures { IsKeptAs result [] }
     {
         Partial {
@@ -49,7 +49,7 @@ impl Partial {
     /// nothing is kept then; where no line ends among the bytes, it keeps them all. A plain arc line is read at once,
     /// any other byte by byte; a byte takes constant time.
     #[inline]
-    pub fn next_line<'a>(&mut self, bytes: &'a [u8]) -> Option<(Line, &'a [u8])>
+    pub(crate) fn next_line<'a>(&mut self, bytes: &'a [u8]) -> Option<(Line, &'a [u8])>
         ensures shorter { IfSome result (λ next. length next.1.now < length bytes.now) }
         ensures told { (part : List ℕ) → IsKeptAs self.old part
             → MatchOption result (GoesOn self.new part bytes.now)
@@ -101,7 +101,7 @@ impl Partial {
 
     /// The whole line, where no more bytes come.
     #[inline]
-    pub fn whole(self) -> Line
+    pub(crate) fn whole(self) -> Line
         ensures { (part : List ℕ) → IsKeptAs self part → IsWhole result part }
     {
         self.on.closed(self.word)

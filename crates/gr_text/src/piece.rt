@@ -5,11 +5,11 @@ use crate::spelled::LINE_ROOM;
 use std::marker::Model;
 
 /// How many bytes wait at most.
-pub const PIECE_ROOM: usize = 8192;
+pub(crate) const PIECE_ROOM: usize = 8192;
 
 /// The lines that wait.
 #[derive(Drop)]
-pub struct Piece {
+pub(crate) struct Piece {
     bytes: [u8; PIECE_ROOM],
     len: usize,
 }
@@ -23,7 +23,7 @@ impl Model for Piece {
 }
 
 impl Piece {
-    pub fn new() -> Self
+    pub(crate) fn new() -> Self
         ensures { result ≡ [] }
     {
         Piece {
@@ -33,13 +33,13 @@ impl Piece {
     }
 
     /// Whether any line still has room.
-    pub fn has_room(&self) -> bool
+    pub(crate) fn has_room(&self) -> bool
         ensures { IsTrue result ↔ (length self.now + 64 ≤ 8192) }
     {
         self.len + LINE_ROOM <= PIECE_ROOM
     }
 
-    pub fn push(&mut self, line: &[u8])
+    pub(crate) fn push(&mut self, line: &[u8])
         requires { length self.old + length line.now ≤ 8192 }
         ensures { self.new ≡ self.old ++ line.now }
     {
@@ -48,13 +48,13 @@ impl Piece {
         self.len = end;
     }
 
-    pub fn clear(&mut self)
+    pub(crate) fn clear(&mut self)
         ensures { self.new ≡ [] }
     {
         self.len = 0;
     }
 
-    pub fn as_slice(&self) -> &[u8]
+    pub(crate) fn as_slice(&self) -> &[u8]
         ensures { result.now ≡ self.now }
     {
         &self.bytes[..self.len]

@@ -13,7 +13,7 @@ const MOST_DIGITS: usize = 10;
 /// behind that: `a`, one space, one to ten digits, one space, one to ten digits, one space, a minus or none, and one
 /// to ten digits. The time is linear in that line.
 #[inline]
-pub fn plain_arc(bytes: &[u8]) -> Option<(Line, &[u8])>
+pub(crate) fn plain_arc(bytes: &[u8]) -> Option<(Line, &[u8])>
     ensures { MatchOption result (HasNoPlainArc bytes.now) (λ found. BeginsWithPlainArc found.0 bytes.now found.1.now) }
 {
     let [b'a', b' ', fields @ ..] = bytes else {

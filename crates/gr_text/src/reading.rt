@@ -10,7 +10,7 @@ use std::marker::Model;
 
 /// What was read of a text: whole lines, and a part of the next one.
 #[derive(Drop)]
-pub struct Reading<A: Allocator> {
+pub(crate) struct Reading<A: Allocator> {
     /// The number of the line that is being read.
     number: u64,
     /// The part of it that has come.
@@ -29,7 +29,7 @@ impl<A: Allocator> Model for Reading<A> {
 
 impl<A: Allocator> Reading<A> {
     /// Nothing was read.
-    pub fn new(alloc: A) -> Reading<A>
+    pub(crate) fn new(alloc: A) -> Reading<A>
         ensures number { result.number ≡ 1 }
         ensures nothing { Stands result [] }
     {
@@ -41,7 +41,7 @@ impl<A: Allocator> Reading<A> {
     }
 
     /// The number of the line that is coming. In constant time.
-    pub fn number(&self) -> u64
+    pub(crate) fn number(&self) -> u64
         ensures { result ≡ self.now.number }
     {
         self.number
@@ -50,7 +50,7 @@ impl<A: Allocator> Reading<A> {
     /// Reads a piece of the text. It fails at the first line that ends in it and is faulty, or at an arc
     /// whose link finds no memory; then it isn't to be read on. Each byte takes constant time, and one that
     /// goes on with a number only a few instructions.
-    pub fn read(&mut self, piece: &[u8]) -> Result<(), ReadFault>
+    pub(crate) fn read(&mut self, piece: &[u8]) -> Result<(), ReadFault>
         requires { self.old.number + length piece.now < 2 ^ 64 }
         ensures few_lines { self.new.number ≤ self.old.number + length piece.now }
         ensures told { (text : List ℕ) → Stands self.old text → MatchResult result
@@ -68,7 +68,7 @@ impl<A: Allocator> Reading<A> {
     }
 
     /// The graph of the whole text, which ends here; a last line without its line feed is judged first.
-    pub fn ended(mut self) -> Result<Graph<A>, ReadFault>
+    pub(crate) fn ended(mut self) -> Result<Graph<A>, ReadFault>
         requires { self.number + 1 < 2 ^ 64 }
         ensures { (text : List ℕ) → Stands self text → IsReadWhole text result }
     {

@@ -13,7 +13,7 @@ use std::marker::Model;
 
 /// What the whole lines so far say.
 #[derive(Drop)]
-pub struct SoFar<A: Allocator> {
+pub(crate) struct SoFar<A: Allocator> {
     /// What their problem line states, once it has come.
     size: Option<Size>,
     /// How many arc lines have come.
@@ -34,7 +34,7 @@ impl<A: Allocator> Model for SoFar<A> {
 
 impl<A: Allocator> SoFar<A> {
     /// What no lines say.
-    pub fn new(alloc: A) -> SoFar<A>
+    pub(crate) fn new(alloc: A) -> SoFar<A>
         ensures { Gives result [] }
     {
         SoFar {
@@ -46,7 +46,7 @@ impl<A: Allocator> SoFar<A> {
 
     /// Takes one more line, of this number. It fails with the fault of the line, or with `Memory` where its
     /// link finds none; nothing is read behind it.
-    pub fn take_line(&mut self, number: u64, line: Line) -> Result<(), ReadFault>
+    pub(crate) fn take_line(&mut self, number: u64, line: Line) -> Result<(), ReadFault>
         ensures { (lines : List (List ℕ)) (bytes : List ℕ) → Gives self.old lines → IsWhole line bytes
             → MatchResult result (λ _. Gives self.new (lines ++ bytes ∷ [])) (λ e. IsLineFault e number lines bytes) }
     {
@@ -62,7 +62,7 @@ impl<A: Allocator> SoFar<A> {
     }
 
     /// The graph of the lines so far, where nothing lacks. `number` is that of the line after them.
-    pub fn graph(self, number: u64) -> Result<Graph<A>, ReadFault>
+    pub(crate) fn graph(self, number: u64) -> Result<Graph<A>, ReadFault>
         ensures { (lines : List (List ℕ)) → Gives self lines
             → MatchResult result (λ graph. IsGraphOfLines lines graph) (λ e. IsLack e number lines) }
     {

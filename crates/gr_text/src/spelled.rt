@@ -10,11 +10,11 @@ use std::marker::Model;
 
 /// The room for a line: two numbers of at most 20 digits and one of at most 11 bytes, with the
 /// letters, spaces and the line feed, are shorter.
-pub const LINE_ROOM: usize = 64;
+pub(crate) const LINE_ROOM: usize = 64;
 
 /// The end of a line, as far as it is spelled.
 #[derive(Drop)]
-pub struct Spelled {
+pub(crate) struct Spelled {
     bytes: [u8; LINE_ROOM],
     start: usize,
 }
@@ -67,7 +67,7 @@ impl Spelled {
     }
 
     /// The first line of the text of a forest of `n` vertices and `k` links.
-    pub fn header(n: u32, k: usize) -> Self
+    pub(crate) fn header(n: u32, k: usize) -> Self
         ensures line { result ≡ header_of n k }
         ensures short { length result ≤ 64 }
     {
@@ -81,7 +81,7 @@ impl Spelled {
     }
 
     /// The line of a link.
-    pub fn of_link(link: &Link) -> Self
+    pub(crate) fn of_link(link: &Link) -> Self
         ensures line { result ≡ link_line link.now }
         ensures short { length result ≤ 64 }
     {
@@ -97,7 +97,7 @@ impl Spelled {
     }
 
     /// Its bytes.
-    pub fn as_slice(&self) -> &[u8]
+    pub(crate) fn as_slice(&self) -> &[u8]
         ensures { result.now ≡ self.now }
     {
         &self.bytes[self.start..]

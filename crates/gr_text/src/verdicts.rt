@@ -14,7 +14,7 @@ use limits::{MAX_ARCS, MAX_VERTICES};
 
 /// What a line does after those before it.
 #[derive(Clone, Copy)]
-pub enum Verdict {
+pub(crate) enum Verdict {
     /// It says nothing.
     Silent,
     /// It states the problem.
@@ -27,7 +27,7 @@ pub enum Verdict {
 
 /// Judges a line by the lines before it: `size` is what their problem line states, where there is one, and
 /// `count` how many arc lines they have. In constant time.
-pub fn judge(size: Option<Size>, count: u32, line: Line) -> Verdict
+pub(crate) fn judge(size: Option<Size>, count: u32, line: Line) -> Verdict
     ensures fits { FitsAfter result size count }
     ensures told { (lines : List (List ℕ)) (bytes : List ℕ) → Counts size count lines → IsWhole line bytes
         → Judges result size count lines bytes }

@@ -7,7 +7,7 @@ ghost use Rattle.gr_text.specs.Word.{WordMeans, LineMeans, IsCapped, KeepsNumber
 /// Numbers above `u32::MAX` are kept as that: any such number is past every limit, so its faults stay the
 /// same. `Other` is a field that no line may have at any place, whatever bytes follow.
 #[derive(Clone, Copy)]
-pub enum Word {
+pub(crate) enum Word {
     /// No byte has come.
     Empty,
     /// `p`.
@@ -34,7 +34,7 @@ pub enum Word {
 ///
 /// `Bad..` is a line whose first field is known, and which is unlawful whatever fields follow.
 #[derive(Clone, Copy)]
-pub enum Line {
+pub(crate) enum Line {
     Nothing,
     Comment,
     Unknown,
@@ -61,7 +61,7 @@ impl Word {
     /// The field with one more byte, which is no blank. In constant time. A digit that goes on with a number
     /// comes first, since most bytes of a text are such.
     #[inline]
-    pub fn with(self, byte: u8) -> Word
+    pub(crate) fn with(self, byte: u8) -> Word
         requires { IsFieldByte byte }
         ensures { (bytes : List ℕ) → WordMeans self bytes → WordMeans result (bytes ++ byte ∷ []) }
     {
@@ -141,7 +141,7 @@ impl Word {
 
     /// Whether no byte has come.
     #[inline]
-    pub fn is_empty(self) -> bool
+    pub(crate) fn is_empty(self) -> bool
         ensures { (field : List ℕ) → WordMeans self field → (IsTrue result ↔ (field ≡ [])) }
     {
         matches!(self, Word::Empty)
@@ -162,7 +162,7 @@ impl Line {
     }
 
     /// The line with one more whole field. In constant time.
-    pub fn then(self, word: Word) -> Line
+    pub(crate) fn then(self, word: Word) -> Line
         ensures { (fields : List (List ℕ)) (field : List ℕ) → field ≢ [] → LineMeans self fields → WordMeans word field
             → LineMeans result (fields ++ field ∷ []) }
     {
