@@ -37,7 +37,7 @@ impl Refusals {
     }
 
     /// Whether the allocation of this number is refused.
-    pub fn include(self, number: u64) -> bool
+    pub(crate) fn include(self, number: u64) -> bool
         ensures { IsTrue result ↔ IsRefused self number }
     {
         self.first <= number && number <= self.last
