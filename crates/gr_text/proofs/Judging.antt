@@ -1,37 +1,63 @@
 -- From what a line says and the lines before it to its verdict.
-use Rattle.std.proofs.Common.{◌≡◌, ℕ, ℤ, ◌≤◌, ◌<◌, List, [], ◌∷◌, subst, sym, arith, codes, ap, ◌∙◌, append-nil, length, Option, Some, None}
+use Rattle.std.proofs.Common.{◌≡◌, ℕ, ◌≤◌, ◌<◌, ◌⊎◌, List, [], ◌∷◌, subst, sym, arith, codes, ap, ◌∙◌, append-nil, length, Option, Some, None}
 use Rattle.limits.specs.declared.TheConstants.{MAX_VERTICES}
 use Rattle.link_key.specs.Arc.{Arc}
 use Rattle.gr_text.specs.Statement.{Problem, ArcLine, AreSilent, FieldsSay}
-use Rattle.gr_text.specs.Sort.{NoProblem, NoArc, AreOfSort}
-use Rattle.gr_text.specs.Graph.{HasEnds}
-use Rattle.gr_text.specs.Fault.{Told, Unsaid, Stated, AreTold}
+use Rattle.gr_text.specs.Sort.{LineSort, NoProblem, NoArc, AreOfSort, IsOfSort}
+use Rattle.gr_text.specs.Graph.{HasEnds, AreLawfulLines}
+use Rattle.gr_text.specs.Fault.{Told, Unsaid, Stated, AreTold, IsWrong, IsFaultAfter}
 use Rattle.gr_text.specs.Reading.{Counts}
-use Rattle.gr_text.specs.Word.{IsCapped, NeverSay, IsProblem, IsArcLine}
+use Rattle.gr_text.specs.Word.{IsCapped, LineMeans}
+use Rattle.gr_text.specs.declared.faults.GrKind.{GrKind}
 use Rattle.gr_text.specs.declared.sizes.Size.{Size}
+use Rattle.gr_text.specs.declared.words.Line.{Line}
+use Rattle.gr_text.specs.declared.words.Line.TheVariants as line
 
 -- what lines say, by what is kept of them
 pub told_of : (size : Option Size) (count : ℕ) (lines : List (List ℕ)) → Counts size count lines → (told : Told) × AreTold lines told
 told_of None count lines (say, zero_count) = (Unsaid, say)
 told_of (Some size) count lines (arcs, lawful, counted) = (Stated size.vertices size.arcs arcs, lawful)
 
--- a problem line or an arc line of too few fields
-pub short_problem : (fields others : List (List ℕ)) → fields ≡ codes "p" ∷ others → length others < 3 → AreOfSort fields NoProblem
+-- a line of this sort has this fault behind lines without a problem, and behind lines with one
+pub fault_alone : (sort : LineSort) (kind : GrKind) (size : Option Size) (count : ℕ) (lines : List (List ℕ)) (bytes : List ℕ) → size ≡ None
+    → Counts size count lines → IsOfSort bytes sort → IsWrong sort Unsaid kind → IsFaultAfter lines bytes kind
+fault_alone sort kind size count lines bytes none counts of_sort wrong =
+    record { told = Unsaid; sort = sort; said = (rw none at counts).0; of_sort = of_sort; wrong = wrong }
+
+pub fault_behind : (sort : LineSort) (kind : GrKind) (size : Option Size) (old : Size) (count : ℕ) (lines : List (List ℕ)) (bytes : List ℕ) → size ≡ Some old
+    → Counts size count lines → IsOfSort bytes sort
+    → ((arcs : List Arc) → AreLawfulLines lines old.vertices old.arcs arcs → length arcs ≡ count → IsWrong sort (Stated old.vertices old.arcs arcs) kind)
+    → IsFaultAfter lines bytes kind
+fault_behind sort kind size old count lines bytes some counts of_sort wrong =
+    let (arcs, lawful, counted) = rw some at counts in
+    record { told = Stated _ _ arcs; sort = sort; said = lawful; of_sort = of_sort; wrong = wrong arcs lawful counted }
+
+-- a problem line or an arc line of too few fields, or of another field than it may have
+short_problem : (fields others : List (List ℕ)) → fields ≡ codes "p" ∷ others → length others < 3 → AreOfSort fields NoProblem
 short_problem fields others is few =
     ((others, is), λ n m (f, g, e, wf, wg). (let counted : length (codes "p" ∷ others) ≡ length (codes "p" ∷ codes "sp" ∷ f ∷ g ∷ []) = ap length (sym is ∙ e) in omega arith))
 
-pub short_arc : (fields others : List (List ℕ)) → fields ≡ codes "a" ∷ others → length others < 3 → AreOfSort fields NoArc
+pub no_problem : (l : Line) (fields : List (List ℕ)) → LineMeans l fields
+    → (l ≡ line.Problem) ⊎ (l ≡ line.ProblemSp) ⊎ ((n : ℕ) × (l ≡ line.ProblemVertices n)) ⊎ (l ≡ line.BadProblem) → AreOfSort fields NoProblem
+no_problem line.Problem fields is which = short_problem fields [] is (omega arith)
+no_problem line.ProblemSp fields is which = short_problem fields (codes "sp" ∷ []) is (omega arith)
+no_problem (line.ProblemVertices n) fields (f, is, kept) which = short_problem fields (codes "sp" ∷ f ∷ []) is (omega arith)
+no_problem line.BadProblem fields (begins, never) which =
+    (begins, λ n m says. never [] (Problem n m) tt (subst (λ (xs : List (List ℕ)). FieldsSay xs (Problem n m)) (sym (append-nil fields)) says))
+no_problem l fields means which = absurd (grind arith)
+
+short_arc : (fields others : List (List ℕ)) → fields ≡ codes "a" ∷ others → length others < 3 → AreOfSort fields NoArc
 short_arc fields others is few =
     ((others, is), λ arc (f, g, h, e, wf, wg, wh). (let counted : length (codes "a" ∷ others) ≡ length (codes "a" ∷ f ∷ g ∷ h ∷ []) = ap length (sym is ∙ e) in omega arith))
 
--- or of another field than it may have
-pub broken_problem : (fields : List (List ℕ)) → NeverSay (codes "p") fields IsProblem → AreOfSort fields NoProblem
-broken_problem fields (begins, never) =
-    (begins, λ n m says. never [] (Problem n m) tt (subst (λ (xs : List (List ℕ)). FieldsSay xs (Problem n m)) (sym (append-nil fields)) says))
-
-pub broken_arc : (fields : List (List ℕ)) → NeverSay (codes "a") fields IsArcLine → AreOfSort fields NoArc
-broken_arc fields (begins, never) =
+pub no_arc : (l : Line) (fields : List (List ℕ)) → LineMeans l fields
+    → (l ≡ line.Arc) ⊎ ((u : ℕ) × (l ≡ line.ArcTail u)) ⊎ ((u v : ℕ) × (l ≡ line.ArcEnds u v)) ⊎ (l ≡ line.BadArc) → AreOfSort fields NoArc
+no_arc line.Arc fields is which = short_arc fields [] is (omega arith)
+no_arc (line.ArcTail u) fields (f, is, kept) which = short_arc fields (f ∷ []) is (omega arith)
+no_arc (line.ArcEnds u v) fields (f, g, is, kept_u, kept_v) which = short_arc fields (f ∷ g ∷ []) is (omega arith)
+no_arc line.BadArc fields (begins, never) which =
     (begins, λ arc says. never [] (ArcLine arc) tt (subst (λ (xs : List (List ℕ)). FieldsSay xs (ArcLine arc)) (sym (append-nil fields)) says))
+no_arc l fields means which = absurd (grind arith)
 
 -- whether a line is silent stands in its first field
 pub silent_alone : (first : List ℕ) (others : List (List ℕ)) → AreSilent (first ∷ others) → AreSilent (first ∷ [])
@@ -44,13 +70,4 @@ kept_end kept k n is in_range small = omega arith
 
 pub ends_of : (n u v : ℕ) (arc : Arc) → n ≤ MAX_VERTICES → IsCapped u arc.tail → IsCapped v arc.head → 1 ≤ u → u ≤ n → 1 ≤ v → v ≤ n → HasEnds n arc
 ends_of n u v arc small tail head u1 un v1 vn =
-    let e : arc.tail ≡ u = kept_end u arc.tail n tail un small in
-    let f : arc.head ≡ v = kept_end v arc.head n head vn small in
     record { tail_from_one = omega arith; tail_in_range = omega arith; head_from_one = omega arith; head_in_range = omega arith }
-
-pub arc_same : (arc : Arc) (u v : ℕ) (w : ℤ) → arc.tail ≡ u → arc.head ≡ v → w ≡ arc.weight → arc ≡ record { tail = u; head = v; weight = w }
-arc_same arc u v w e f g =
-    let at_tail : ℕ → Arc = λ t. record { tail = t; head = arc.head; weight = arc.weight } in
-    let at_head : ℕ → Arc = λ h. record { tail = u; head = h; weight = arc.weight } in
-    let at_weight : ℤ → Arc = λ z. record { tail = u; head = v; weight = z } in
-    ap at_tail e ∙ ap at_head f ∙ ap at_weight (sym g)

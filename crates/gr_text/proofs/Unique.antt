@@ -103,7 +103,7 @@ signed_unique field y z (inr (ds, n, is, w, e)) (inr (es, m, is', v, f)) =
     let same : ds ≡ es = (let both : 45 ∷ ds ≡ 45 ∷ es = sym is ∙ is' in cc) in
     e ∙ ap (λ (k : ℕ). neg_ℤ (pos k)) (writes_unique es n m (subst (λ (x : List ℕ). Writes x n) same w) v) ∙ sym f
 
-arc_unique : (a b : Arc) → a.tail ≡ b.tail → a.head ≡ b.head → a.weight ≡ b.weight → a ≡ b
+pub arc_unique : (a b : Arc) → a.tail ≡ b.tail → a.head ≡ b.head → a.weight ≡ b.weight → a ≡ b
 arc_unique a b e f g =
     let at_tail : ℕ → Arc = λ t. record { tail = t; head = a.head; weight = a.weight } in
     let at_head : ℕ → Arc = λ h. record { tail = b.tail; head = h; weight = a.weight } in

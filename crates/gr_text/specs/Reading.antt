@@ -1,5 +1,5 @@
 -- What the lines that were read say, and what a further line does.
-use Rattle.std.specs.Prelude.{◌≡◌, ◌≢◌, ℕ, ◌+◌, ◌<◌, ◌≤◌, ◌⊎◌, List, [], length, Option, Some, None, ◌++◌, ◌∷◌}
+use Rattle.std.specs.Prelude.{◌≡◌, ◌≢◌, ℕ, ◌+◌, ◌<◌, ◌≤◌, ◌⊎◌, List, [], length, Option, Some, None, ◌++◌, ◌∷◌, Result, MatchResult}
 use Rattle.limits.specs.declared.TheConstants.{MAX_ARCS, MAX_VERTICES}
 use Rattle.link_key.specs.Arc.{Arc}
 use Rattle.link_key.specs.Link.{key_of, arc_key, AreLinksOf, EndsUpTo}
@@ -42,6 +42,11 @@ Judges (verdict.Adds u v w) (Some size) count lines line =
     × IsArcOf size.vertices (record { tail = u; head = v; weight = w }) × (count < size.arcs)
 Judges (verdict.Faulty kind) size count lines line = IsFaultAfter lines line kind
 
+-- the same of each such line, after any lines that state this problem, if one, and as many arcs
+abbrev pub JudgesEach : Verdict → Option Size → ℕ → (List ℕ → Type 0) → Type 0
+JudgesEach verdict size count IsSuch =
+    (lines : List (List ℕ)) (line : List ℕ) → Counts size count lines → IsSuch line → Judges verdict size count lines line
+
 -- what is kept of whole lines: what their problem line states, once it has come; how many arc lines they have; and the
 -- links of these
 pub record SoFarValue : Type 0 where
@@ -64,6 +69,10 @@ IsLineFault (fault.Gr f) number lines line = (f.line ≡ number) × IsFaultAfter
 IsLineFault (fault.Source number') number lines line = ⊥
 IsLineFault fault.TooLong number lines line = ⊥
 IsLineFault fault.Memory number lines line = Unit {0}
+
+-- a line of this number behind these lines was taken, so that this is kept of all, or has this fault
+abbrev pub IsTaken : {X : Type 0} → Result X ReadFault → SoFarValue → ℕ → List (List ℕ) → List ℕ → Type 0
+IsTaken result kept number lines line = MatchResult result (λ _. Gives kept (lines ++ line ∷ [])) (λ e. IsLineFault e number lines line)
 
 -- the links with that of one more arc
 abbrev pub AddsLink : List Link → List Link → Arc → Type 0

@@ -1,7 +1,8 @@
 -- What is kept of a field while its bytes come, and of a line while its fields come.
 use Rattle.std.specs.Prelude.{◌≡◌, ◌≢◌, ℕ, ℤ, pos, neg_ℤ, ◌⊎◌, List, [], ◌∷◌, ◌++◌, codes, min}
+use Rattle.link_key.specs.Arc.{Arc}
 use Rattle.gr_text.specs.Fields.{Writes, WritesSigned}
-use Rattle.gr_text.specs.Statement.{Statement, Problem, ArcLine, AreSilent, FieldsSay}
+use Rattle.gr_text.specs.Statement.{Statement, Problem, ArcLine, AreSilent, FieldsSay, Says}
 use Rattle.gr_text.specs.declared.words.Word.{Word}
 use Rattle.gr_text.specs.declared.words.Word.TheVariants as word
 use Rattle.gr_text.specs.declared.words.Line.{Line}
@@ -46,6 +47,13 @@ KeepsNumber kept field = (n : ℕ) × Writes field n × IsCapped kept n
 
 abbrev pub KeepsSigned : ℤ → List ℕ → Type 0
 KeepsSigned kept field = (z : ℤ) × WritesSigned field z × IsCappedSigned kept z
+
+-- a line that states a problem, and one that gives an arc, of which these numbers are kept
+abbrev pub KeepsProblem : ℕ → ℕ → List ℕ → Type 0
+KeepsProblem n m line = (k l : ℕ) × Says line (Problem k l) × IsCapped n k × IsCapped m l
+
+abbrev pub KeepsArc : ℕ → ℕ → ℤ → List ℕ → Type 0
+KeepsArc u v w line = (arc : Arc) × Says line (ArcLine arc) × IsCapped u arc.tail × IsCapped v arc.head × IsCappedSigned w arc.weight
 
 -- fields that begin with this one and whatever follows make no such statement
 abbrev pub NeverSay : List ℕ → List (List ℕ) → (Statement → Type 0) → Type 0

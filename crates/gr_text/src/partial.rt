@@ -1,4 +1,4 @@
-ghost use Rattle.std.specs.Prelude.{◌≡◌, ◌≢◌, ◌<◌, ℕ, List, [], ◌∷◌, ◌++◌, length, IfSome, MatchOption};
+ghost use Rattle.std.specs.Prelude.{◌≡◌, ◌≢◌, ◌<◌, ℕ, List, [], ◌∷◌, ◌++◌, length, IfNone, IfSome};
 ghost use Rattle.gr_text.specs.Partial.{EndsLine, GoesOn, IsKeptAs, IsWhole, with_field};
 ghost use Rattle.gr_text.specs.Word.{LineMeans, WordMeans};
 
@@ -51,9 +51,9 @@ impl Partial {
     #[inline]
     pub(crate) fn next_line<'a>(&mut self, bytes: &'a [u8]) -> Option<(Line, &'a [u8])>
         ensures shorter { IfSome result (λ next. length next.1.now < length bytes.now) }
-        ensures told { (part : List ℕ) → IsKeptAs self.old part
-            → MatchOption result (GoesOn self.new part bytes.now)
-            (λ next. EndsLine self.new next.0 part bytes.now next.1.now) }
+        ensures ends { (part : List ℕ) → IsKeptAs self.old part
+            → IfSome result (λ next. EndsLine self.new next.0 part bytes.now next.1.now) }
+        ensures goes_on { (part : List ℕ) → IsKeptAs self.old part → IfNone result (GoesOn self.new part bytes.now) }
     {
         if !self.begun {
             if let Some((line, rest)) = plain_arc(bytes) {
@@ -66,9 +66,9 @@ impl Partial {
     // The same, byte by byte.
     fn next_by_bytes<'a>(&mut self, bytes: &'a [u8]) -> Option<(Line, &'a [u8])>
         ensures shorter { IfSome result (λ next. length next.1.now < length bytes.now) }
-        ensures told { (part : List ℕ) → IsKeptAs self.old part
-            → MatchOption result (GoesOn self.new part bytes.now)
-            (λ next. EndsLine self.new next.0 part bytes.now next.1.now) }
+        ensures ends { (part : List ℕ) → IsKeptAs self.old part
+            → IfSome result (λ next. EndsLine self.new next.0 part bytes.now next.1.now) }
+        ensures goes_on { (part : List ℕ) → IsKeptAs self.old part → IfNone result (GoesOn self.new part bytes.now) }
     {
         // In a local, so that it stays in registers: nearly every byte changes it.
         let mut partial = *self;

@@ -1,6 +1,6 @@
-ghost use Rattle.std.specs.Prelude.{◌≡◌, ℕ, List, [], ◌∷◌, ◌++◌, MatchResult};
+ghost use Rattle.std.specs.Prelude.{◌≡◌, ℕ, List, [], MatchResult};
 ghost use Rattle.gr_text.specs.Partial.{IsWhole};
-ghost use Rattle.gr_text.specs.Reading.{AddsArc, FitsAfter, Gives, IsGraphOfLines, IsLack, IsLineFault};
+ghost use Rattle.gr_text.specs.Reading.{AddsArc, FitsAfter, Gives, IsGraphOfLines, IsLack, IsTaken};
 
 use crate::faults::{GrFault, GrKind, ReadFault};
 use crate::graphs::Graph;
@@ -48,7 +48,7 @@ impl<A: Allocator> SoFar<A> {
     /// link finds none; nothing is read behind it.
     pub(crate) fn take_line(&mut self, number: u64, line: Line) -> Result<(), ReadFault>
         ensures { (lines : List (List ℕ)) (bytes : List ℕ) → Gives self.old lines → IsWhole line bytes
-            → MatchResult result (λ _. Gives self.new (lines ++ bytes ∷ [])) (λ e. IsLineFault e number lines bytes) }
+            → IsTaken result self.new number lines bytes }
     {
         match judge(self.size, self.count, line) {
             Verdict::Silent => Ok(()),

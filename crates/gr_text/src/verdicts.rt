@@ -1,11 +1,9 @@
-ghost use Rattle.std.specs.Prelude.{◌≡◌, ◌≤◌, ℕ, ℤ, List, MatchOption};
-ghost use Rattle.gr_text.specs.Statement.{Says, Problem, ArcLine};
-ghost use Rattle.gr_text.specs.Word.{IsCapped, IsCappedSigned};
+ghost use Rattle.std.specs.Prelude.{◌≡◌, ℕ, ℤ, MatchOption};
+ghost use Rattle.gr_text.specs.Word.{IsCappedSigned, KeepsArc, KeepsProblem};
 ghost use Rattle.gr_text.specs.Partial.{IsWhole};
-ghost use Rattle.gr_text.specs.Reading.{FitsAfter, Counts, Judges};
+ghost use Rattle.gr_text.specs.Reading.{FitsAfter, JudgesEach};
 ghost use Rattle.gr_text.specs.Sort.{IsOfSort, NoArc, NoProblem};
 ghost use Rattle.gr_text.specs.Graph.{IsWeight};
-ghost use Rattle.link_key.specs.Arc.{Arc};
 
 use crate::faults::GrKind;
 use crate::sizes::Size;
@@ -29,30 +27,22 @@ pub(crate) enum Verdict {
 /// `count` how many arc lines they have. In constant time.
 pub(crate) fn judge(size: Option<Size>, count: u32, line: Line) -> Verdict
     ensures fits { FitsAfter result size count }
-    ensures told { (lines : List (List ℕ)) (bytes : List ℕ) → Counts size count lines → IsWhole line bytes
-        → Judges result size count lines bytes }
+    ensures told { JudgesEach result size count (IsWhole line) }
 {
     match line {
-        Line::Nothing => Verdict::Silent,
-        Line::Comment => Verdict::Silent,
+        Line::Nothing | Line::Comment => Verdict::Silent,
         Line::Unknown => Verdict::Faulty(GrKind::UnknownLine),
         Line::ProblemWhole(n, m) => judge_problem(size, n, m),
-        Line::Problem => bad_problem(size),
-        Line::ProblemSp => bad_problem(size),
-        Line::ProblemVertices(_) => bad_problem(size),
-        Line::BadProblem => bad_problem(size),
+        Line::Problem | Line::ProblemSp | Line::ProblemVertices(_) | Line::BadProblem =>
+            bad_problem(size),
         Line::ArcWhole(u, v, w) => judge_arc(size, count, u, v, w),
-        Line::Arc => bad_arc(size, count),
-        Line::ArcTail(_) => bad_arc(size, count),
-        Line::ArcEnds(_, _) => bad_arc(size, count),
-        Line::BadArc => bad_arc(size, count),
+        Line::Arc | Line::ArcTail(_) | Line::ArcEnds(_, _) | Line::BadArc => bad_arc(size, count),
     }
 }
 
 fn judge_problem(size: Option<Size>, n: u32, m: u32) -> Verdict
     ensures fits { (count : ℕ) → FitsAfter result size count }
-    ensures told { (count : ℕ) (lines : List (List ℕ)) (bytes : List ℕ) (k l : ℕ) → Counts size count lines
-        → Says bytes (Problem k l) → IsCapped n k → IsCapped m l → Judges result size count lines bytes }
+    ensures told { (count : ℕ) → JudgesEach result size count (KeepsProblem n m) }
 {
     if let Some(_) = size {
         return Verdict::Faulty(GrKind::SecondProblem);
@@ -68,8 +58,7 @@ fn judge_problem(size: Option<Size>, n: u32, m: u32) -> Verdict
 
 fn bad_problem(size: Option<Size>) -> Verdict
     ensures fits { (count : ℕ) → FitsAfter result size count }
-    ensures told { (count : ℕ) (lines : List (List ℕ)) (bytes : List ℕ) → Counts size count lines
-        → IsOfSort bytes NoProblem → Judges result size count lines bytes }
+    ensures told { (count : ℕ) → JudgesEach result size count (λ bytes. IsOfSort bytes NoProblem) }
 {
     match size {
         Some(_) => Verdict::Faulty(GrKind::SecondProblem),
@@ -79,9 +68,7 @@ fn bad_problem(size: Option<Size>) -> Verdict
 
 fn judge_arc(size: Option<Size>, count: u32, u: u32, v: u32, w: i64) -> Verdict
     ensures fits { FitsAfter result size count }
-    ensures told { (lines : List (List ℕ)) (bytes : List ℕ) (arc : Arc) → Counts size count lines
-        → Says bytes (ArcLine arc) → IsCapped u arc.tail → IsCapped v arc.head → IsCappedSigned w arc.weight
-        → Judges result size count lines bytes }
+    ensures told { JudgesEach result size count (KeepsArc u v w) }
 {
     let Some(size) = size else {
         return Verdict::Faulty(GrKind::NoProblemYet);
@@ -106,8 +93,7 @@ fn weight_of(w: i64) -> Option<i32>
 
 fn bad_arc(size: Option<Size>, count: u32) -> Verdict
     ensures fits { FitsAfter result size count }
-    ensures told { (lines : List (List ℕ)) (bytes : List ℕ) → Counts size count lines
-        → IsOfSort bytes NoArc → Judges result size count lines bytes }
+    ensures told { JudgesEach result size count (λ bytes. IsOfSort bytes NoArc) }
 {
     match size {
         None => Verdict::Faulty(GrKind::NoProblemYet),

@@ -1,5 +1,4 @@
-use Rattle.std.proofs.Common.{◌≡◌, subst, sym, arith, ◌∙◌, rules, inl, inr, refl}
-use Rattle.std.proofs.Common.{Option, ℤ, w64, w32}
+use Rattle.std.proofs.Common.{◌≡◌, subst, sym, arith, ◌∙◌, rules, inl, inr, refl, Option, ℤ, w64, w32}
 use Rattle.std.proofs.lemmas.Int.{to_z-of_z}
 use mir.Val.{to_z, of_z, SFits}
 use Rattle.gr_text.specs.Word.{IsCappedSigned}
@@ -7,49 +6,47 @@ use Rattle.link_key.specs.Arc.{Arc}
 use Rattle.gr_text.specs.Statement.{Says, ArcLine}
 use Rattle.gr_text.specs.Sort.{Makes}
 use Rattle.gr_text.specs.Graph.{HasEnds, IsArcOf}
-use Rattle.gr_text.specs.Fault.{Unsaid, Stated}
-use Rattle.gr_text.specs.Reading.{Counts, Judges}
+use Rattle.gr_text.specs.Reading.{Judges}
 use Rattle.gr_text.specs.declared.sizes.Size.{Size}
 use Rattle.gr_text.specs.declared.verdicts.Verdict.TheVariants as verdict
-use Rattle.gr_text.proofs.Judging.{kept_end, ends_of, arc_same}
+use Rattle.gr_text.proofs.Judging.{fault_alone, fault_behind, kept_end, ends_of}
+use Rattle.gr_text.proofs.Unique.{arc_unique}
 use Rattle.gr_text.proofs.verdicts.judge_arc.Goals as goal
 use Rattle.gr_text.proofs.verdicts.judge_arc.Goals.{then-u-lt1-via-then-u-lt1, then-u-lt1-via-else-u-lt1+then-u-size, then-u-lt1-via-else-u-lt1+else-u-size+then-v-lt1, then-u-lt1-via-else-u-lt1+else-u-size+else-v-lt1+then-v-size}
 
 pub returns-in_default-clause-told : goal.returns-in_default-clause-told
-returns-in_default-clause-told c = λ lines bytes arc counts says tail head weight.
-    record { told = Unsaid; sort = Makes (ArcLine arc); said = (subst (λ (s : Option Size). Counts s c.args.count lines) c.in_default.is counts).0; of_sort = says; wrong = refl }
+returns-in_default-clause-told c = λ lines bytes counts (arc, says, tail, head, weight).
+    fault_alone (Makes (ArcLine arc)) _ _ _ lines bytes c.in_default.is counts says refl
 
 pub returns-then-count-size-clause-told : goal.returns-then-count-size-clause-told
-returns-then-count-size-clause-told c = λ lines bytes arc counts says tail head weight.
-    let (arcs, lawful, counted) = subst (λ (s : Option Size). Counts s c.args.count lines) c.in-Some.is counts in
-    record { told = Stated _ _ arcs; sort = Makes (ArcLine arc); said = lawful; of_sort = says; wrong = inl (omega (arith, lawful.no_more), refl) }
+returns-then-count-size-clause-told c = λ lines bytes counts (arc, says, tail, head, weight).
+    fault_behind (Makes (ArcLine arc)) _ _ _ _ lines bytes c.in-Some.is counts says (λ arcs lawful counted. inl (omega (arith, lawful.no_more), refl))
 
 pub returns-then-u-lt1-clause-told : goal.returns-then-u-lt1-clause-told
-returns-then-u-lt1-clause-told c = λ lines bytes arc counts says tail head weight.
-    let (arcs, lawful, counted) = subst (λ (s : Option Size). Counts s c.args.count lines) c.in-Some.is counts in
+returns-then-u-lt1-clause-told c = λ lines bytes counts (arc, says, tail, head, weight).
     let out : ¬ (HasEnds c.in-Some.size.vertices arc) = λ ends. elim c.then-u-lt1.branch [
       | then-u-lt1-via-then-u-lt1 w ↦ omega (arith, tail, w.if-u-lt1.true, ends.tail_from_one)
       | then-u-lt1-via-else-u-lt1+then-u-size w ↦ omega (arith, tail, w.if-u-size.true, ends.tail_in_range)
       | then-u-lt1-via-else-u-lt1+else-u-size+then-v-lt1 w ↦ omega (arith, head, w.if-v-lt1.true, ends.head_from_one)
       | then-u-lt1-via-else-u-lt1+else-u-size+else-v-lt1+then-v-size w ↦ omega (arith, head, w.if-v-size.true, ends.head_in_range)
-    ] in record { told = Stated _ _ arcs; sort = Makes (ArcLine arc); said = lawful; of_sort = says; wrong = inr (inl (omega arith, out, refl)) }
+    ] in fault_behind (Makes (ArcLine arc)) _ _ _ _ lines bytes c.in-Some.is counts says (λ arcs lawful counted. inr (inl (omega arith, out, refl)))
 
 pub returns-in-None-clause-told : goal.returns-in-None-clause-told
-returns-in-None-clause-told c = λ lines bytes arc counts says tail head weight.
-    let (arcs, lawful, counted) = subst (λ (s : Option Size). Counts s c.args.count lines) c.in-Some.is counts in
-    let ends = ends_of c.in-Some.size.vertices c.args.u c.args.v arc lawful.vertices tail head c.if-u-lt1.false c.if-u-size.false c.if-v-lt1.false c.if-v-size.false in
+returns-in-None-clause-told c = λ lines bytes counts (arc, says, tail, head, weight).
     let out = c.in-None.ensures arc.weight (subst (λ (z : ℤ). IsCappedSigned z arc.weight) (sym (to_z-of_z w64 c.args.w c.ranges.w)) weight) in
-    record { told = Stated _ _ arcs; sort = Makes (ArcLine arc); said = lawful; of_sort = says; wrong = inr (inr (omega arith, ends, out, refl)) }
+    fault_behind (Makes (ArcLine arc)) _ _ _ _ lines bytes c.in-Some.is counts says (λ arcs lawful counted.
+    let ends = ends_of c.in-Some.size.vertices c.args.u c.args.v arc lawful.vertices tail head c.if-u-lt1.false c.if-u-size.false c.if-v-lt1.false c.if-v-size.false in
+    inr (inr (omega arith, ends, out, refl)))
 
 pub returns-in-Some-weight_of-clause-told : goal.returns-in-Some-weight_of-clause-told
-returns-in-Some-weight_of-clause-told c = λ lines bytes arc counts says tail head weight.
-    let (arcs, lawful, counted) = subst (λ (s : Option Size). Counts s c.args.count lines) c.in-Some.is counts in
+returns-in-Some-weight_of-clause-told c = λ lines bytes counts (arc, says, tail, head, weight).
+    let (arcs, lawful, counted) = rw c.in-Some.is at counts in
     let n = c.in-Some.size.vertices in
     let told = c.in-Some-weight_of.ensures arc.weight (subst (λ (z : ℤ). IsCappedSigned z arc.weight) (sym (to_z-of_z w64 c.args.w c.ranges.w)) weight) in
     let ends = ends_of n c.args.u c.args.v arc lawful.vertices tail head c.if-u-lt1.false c.if-u-size.false c.if-v-lt1.false c.if-v-size.false in
     let fits : SFits w32 c.in-Some-weight_of.w = search rules in
     let weight_is : to_z w32 (of_z w32 c.in-Some-weight_of.w) ≡ arc.weight = to_z-of_z w32 c.in-Some-weight_of.w fits ∙ told.0 in
-    let same = arc_same arc c.args.u c.args.v (to_z w32 (of_z w32 c.in-Some-weight_of.w)) (kept_end c.args.u arc.tail n tail c.if-u-size.false lawful.vertices)
-    (kept_end c.args.v arc.head n head c.if-v-size.false lawful.vertices) weight_is in
-    subst (λ (s : Option Size). Judges (verdict.Adds c.args.u c.args.v (to_z w32 (of_z w32 c.in-Some-weight_of.w))) s c.args.count lines bytes) (sym c.in-Some.is)
+    let kept : Arc = record { tail = c.args.u; head = c.args.v; weight = to_z w32 (of_z w32 c.in-Some-weight_of.w) } in
+    let same = arc_unique arc kept (kept_end c.args.u arc.tail n tail c.if-u-size.false lawful.vertices) (kept_end c.args.v arc.head n head c.if-v-size.false lawful.vertices) (sym weight_is) in
+    subst (λ (s : Option Size). Judges (verdict.Adds kept.tail kept.head kept.weight) s c.args.count lines bytes) (sym c.in-Some.is)
     (subst (λ (a : Arc). Says bytes (ArcLine a)) same says, subst (IsArcOf n) same (ends, told.1), c.if-count-size.false)

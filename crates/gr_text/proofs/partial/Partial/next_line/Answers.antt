@@ -4,8 +4,8 @@ use Rattle.gr_text.proofs.Parts.{not_begun}
 use Rattle.gr_text.proofs.PlainLines.{plain_is_line}
 use Rattle.gr_text.proofs.partial.Partial.next_line.Goals as goal
 
-pub returns-in-Some-clause-told : goal.returns-in-Some-clause-told
-returns-in-Some-clause-told c = λ part kept.
+pub returns-in-Some-clause-ends : goal.returns-in-Some-clause-ends
+returns-in-Some-clause-ends c = λ part kept.
     let none : part ≡ [] = not_begun part (sym kept.0 ∙ c.if-not-self.true) in
     let (line, plain, whole, is) = c.in-Some.ensures in (
       subst (IsKeptAs c.args.self.now) none kept,

@@ -8,7 +8,7 @@ pub returns-in-Err-clause-told : goal.returns-in-Err-clause-told
 returns-in-Err-clause-told g c = λ text stands.
     let after = c.in-Some.after.now in
     let (done, is, now) = c.loop-line.invariant.told text stands in
-    let (fresh, (line, is_line, ends, whole)) = c.in-Some.ensures.told now.part now.kept in
+    let (fresh, (line, is_line, ends, whole)) = c.in-Some.ensures.ends now.part now.kept in
     subst (StopsAt c.in-Err.fault) (piece_line text c.args.piece.now done c.loop-line.rest.now line after is ends)
     (StopsAt-line c.in-Err.fault _ (text ++ done) line after now is_line (c.in-Err.ensures now.lines (now.part ++ line) now.give whole))
 
@@ -18,7 +18,7 @@ loop-line-preserved g c = record {
   told = λ text stands.
       let next : ReadingValue = record { number = c.loop-line.self-inside.number + 1; partial = c.next_line.new.self; so_far = c.take_line.new.self } in
       let (done, is, now) = c.loop-line.invariant.told text stands in
-      let (fresh, (line, is_line, ends, whole)) = c.in-Some.ensures.told now.part now.kept in
+      let (fresh, (line, is_line, ends, whole)) = c.in-Some.ensures.ends now.part now.kept in
       let taken = c.in_default-take_line.ensures now.lines (now.part ++ line) now.give whole in (
         done ++ ended line,
         is ∙ ap (λ (xs : List ℕ). done ++ xs) ends ∙ sym (append_assoc done (ended line) c.in-Some.after.now),
@@ -32,5 +32,5 @@ returns-clause-told g c = λ text stands.
     let last : ReadingValue = record { number = inside.number; partial = c.next_line.new.self; so_far = inside.so_far } in
     let rest = c.loop-line.rest.now in
     let (done, is, now) = c.loop-line.invariant.told text stands in
-    let (is_line, kept) = c.in_default.ensures.told now.part now.kept in
+    let (is_line, kept) = c.in_default.ensures.goes_on now.part now.kept in
     subst (Stands last) (append_assoc text done rest ∙ ap (λ (xs : List ℕ). text ++ xs) (sym is)) (Stands-part _ last.partial (text ++ done) rest now is_line kept)
