@@ -37,15 +37,6 @@ EndsLines-line text lines part line cut is_line =
     subst (λ (xs : List ℕ). EndsLines xs (lines ++ (part ++ line) ∷ []) []) (append_assoc text line (line_feed ∷ []))
     (EndsLines-feed (text ++ line) lines (part ++ line) (EndsLines-bytes text lines part line cut is_line))
 
--- whole lines, and then a text
-pub EndsLines-append : (s t : List ℕ) (ls ms : List (List ℕ)) (r : List ℕ) → EndsLines s ls [] → EndsLines t ms r → EndsLines (s ++ t) (ls ++ ms) r
-EndsLines-append s t ls ms r a b = record {
-  whole = ap (λ (xs : List ℕ). xs ++ t) (a.whole ∙ append-nil (flat_map ended ls)) ∙ ap (λ (xs : List ℕ). flat_map ended ls ++ xs) b.whole
-      ∙ sym (append_assoc (flat_map ended ls) (flat_map ended ms) r) ∙ ap (λ (xs : List ℕ). xs ++ r) (sym (flat_map-append ended ls ms));
-  each = All-both IsLine ls ms a.each b.each;
-  last = b.last;
-}
-
 cut_with : (b : ℕ) (text : List ℕ) → (b ≡ line_feed) ⊎ (b ≢ line_feed) → (lines : List (List ℕ)) (part : List ℕ) → EndsLines text lines part
     → (lines : List (List ℕ)) × (part : List ℕ) × EndsLines (b ∷ text) lines part
 cut_with b text (inl feeds) lines part cut =

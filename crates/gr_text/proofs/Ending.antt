@@ -1,5 +1,5 @@
 -- The end of a text: its last line, and what lacks.
-use Rattle.std.proofs.Common.{◌≡◌, ℕ, ◌+◌, ◌≤◌, inl, inr, List, [], ◌∷◌, ◌++◌, refl, sym, ◌∙◌, subst, arith, append-nil, length, true, false, Result, Ok, Err, MatchResult}
+use Rattle.std.proofs.Common.{◌≡◌, ℕ, ◌+◌, ◌≤◌, inl, inr, List, [], ◌∷◌, ◌++◌, refl, sym, ◌∙◌, subst, arith, append-nil, length, true, false, Result, Ok, Err, MatchResult, take_all}
 use Rattle.std.proofs.lemmas.List.{length_push}
 use Rattle.std.proofs.lemmas.Bool.Decides.{leb_tells}
 use Rattle.gr_text.specs.Lines.{with_last, AreLines}
@@ -12,7 +12,7 @@ use Rattle.gr_text.specs.declared.faults.GrKind.{GrKind}
 use Rattle.gr_text.specs.declared.faults.ReadFault.{ReadFault}
 use Rattle.gr_text.specs.declared.faults.ReadFault.TheVariants as fault
 use Rattle.gr_text.proofs.Faulty.{fault_is_faulty}
-use Rattle.gr_text.proofs.Feeding.{IsFirstFaulty-more, take_all}
+use Rattle.gr_text.proofs.Feeding.{IsFirstFaulty-more}
 use Rattle.gr_text.proofs.Standing.{lawful_of}
 
 -- the lines with a last one that has begun, and with none
@@ -85,7 +85,7 @@ ends_within outcome r text stands begun gives =
 -- what stopped the reader is why the whole text isn't read
 pub fails_of_stops : (e : ReadFault) (limit : ℕ) (text : List ℕ) → StopsBy e limit text → FailsBy e limit text
 fails_of_stops (fault.Gr f) limit text stops = elim (leb_tells (length text) limit) [
-  | inl (test, short) ↦ inl (short, first_of_ended text f.line f.kind (subst (λ (xs : List ℕ). IsEndedFault xs f.line f.kind) (take_all text limit short) stops))
+  | inl (test, short) ↦ inl (short, first_of_ended text f.line f.kind (subst (λ (xs : List ℕ). IsEndedFault xs f.line f.kind) (take_all limit text short) stops))
   | inr (test, long) ↦ inr (long, stops)
 ]
 fails_of_stops (fault.Source k) limit text stops = stops

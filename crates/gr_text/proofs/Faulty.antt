@@ -1,7 +1,7 @@
--- A line whose fault has a kind makes lawful lines unlawful.
+-- What the last of lawful lines is, and that a line whose fault has a kind isn't such.
 use Rattle.std.proofs.Common.{◌≡◌, ℕ, ◌+◌, ◌<◌, ◌≤◌, ◌⊎◌, inl, inr, List, [], ◌∷◌, ◌++◌, refl, ap, sym, ◌∙◌, subst, arith, map, length}
 use Rattle.std.specs.List.{AllByRecursion}
-use Rattle.std.proofs.lemmas.List.{map-append, length_push}
+use Rattle.std.proofs.lemmas.List.{length_push}
 use Rattle.limits.specs.declared.TheConstants.{MAX_ARCS, MAX_VERTICES}
 use Rattle.link_key.specs.Arc.{Arc}
 use Rattle.gr_text.specs.Statement.{Statement, Problem, ArcLine, IsSilent, Says, Say}
@@ -10,10 +10,10 @@ use Rattle.gr_text.specs.Graph.{IsArcOf, AreLawfulLines, AreLawfulSoFar}
 use Rattle.gr_text.specs.Fault.{Told, Unsaid, Stated, AreTold, IsWrong, IsFaultAfter}
 use Rattle.gr_text.specs.declared.faults.GrKind.{GrKind}
 use Rattle.gr_text.proofs.Sorts.{IsOfSort-unique}
-use Rattle.gr_text.proofs.Unique.{Say-unique}
+use Rattle.gr_text.proofs.Texts.{told_unique}
 
 -- what the last of some lines adds to what the others say
-pub Say-split : (lines : List (List ℕ)) (line : List ℕ) (ss : List Statement) → Say (lines ++ line ∷ []) ss
+Say-split : (lines : List (List ℕ)) (line : List ℕ) (ss : List Statement) → Say (lines ++ line ∷ []) ss
     → (before : List Statement) × Say lines before × ((IsSilent line × (ss ≡ before)) ⊎ ((s : Statement) × Says line s × (ss ≡ before ++ s ∷ [])))
 Say-split [] line ss (inl (quiet, none)) = ([], refl, inl (quiet, none))
 Say-split [] line ss (inr (s, others, says, none, is)) = ([], refl, inr (s, says, is ∙ ap (λ (xs : List Statement). s ∷ xs) none))
@@ -29,87 +29,78 @@ Say-split (first ∷ lines) line ss (inr (t, others, says, say, is)) =
       ],
     )
 
-pub ArcLine-injective : (xs ys : List Arc) → map ArcLine xs ≡ map ArcLine ys → xs ≡ ys
-ArcLine-injective [] [] e = refl
-ArcLine-injective [] (b ∷ ys) e = absurd (cc)
-ArcLine-injective (a ∷ xs) [] e = absurd (cc)
-ArcLine-injective (a ∷ xs) (b ∷ ys) e =
-    let heads : a ≡ b = cc in
-    let tails : map ArcLine xs ≡ map ArcLine ys = cc in
-    ap (λ (x : Arc). x ∷ xs) heads ∙ ap (λ (zs : List Arc). b ∷ zs) (ArcLine-injective xs ys tails)
+-- the last of the statements of arc lines is one of them
+arcs_split : (arcs : List Arc) (told : List Statement) (s : Statement) → map ArcLine arcs ≡ told ++ s ∷ []
+    → (front : List Arc) × (last : Arc) × (arcs ≡ front ++ last ∷ []) × (told ≡ map ArcLine front) × (s ≡ ArcLine last)
+arcs_split [] [] s e = absurd (cc)
+arcs_split [] (t ∷ told) s e = absurd (cc)
+arcs_split (a ∷ []) [] s e = ([], a, refl, refl, cc)
+arcs_split (a ∷ b ∷ arcs) [] s e = absurd (cc)
+arcs_split (a ∷ arcs) (t ∷ told) s e =
+    let tails : map ArcLine arcs ≡ told ++ s ∷ [] = cc in
+    let (front, last, whole, is, same) = arcs_split arcs told s tails in
+    (a ∷ front, last, cc, cc, same)
 
-no_problem_among : (xs ys : List Arc) (n m : ℕ) → map ArcLine xs ++ Problem n m ∷ [] ≡ map ArcLine ys → ⊥
-no_problem_among [] [] n m e = cc
-no_problem_among [] (b ∷ ys) n m e = cc
-no_problem_among (a ∷ xs) [] n m e = cc
-no_problem_among (a ∷ xs) (b ∷ ys) n m e = let tails : map ArcLine xs ++ Problem n m ∷ [] ≡ map ArcLine ys = cc in no_problem_among xs ys n m tails
+front_and_last : {X : Type 0} (P : X → Type 0) (xs : List X) (x : X) → AllByRecursion P (xs ++ x ∷ []) → AllByRecursion P xs × P x
+front_and_last P [] x all = (tt, all.0)
+front_and_last P (y ∷ xs) x all = let (front, last) = front_and_last P xs x all.1 in ((all.0, front), last)
 
--- a lawful line that says something, where nothing was said before: the problem
-lawful_first : (before : List (List ℕ)) (line : List ℕ) → Say before [] → ¬ (IsSilent line) → AreLawfulSoFar (before ++ line ∷ [])
-    → (n m : ℕ) × Says line (Problem n m) × (n ≤ MAX_VERTICES) × (m ≤ MAX_ARCS)
-lawful_first before line none speaks (inl say) =
-    let (told, says, last) = Say-split before line [] say in
-    elim last [
-      | inl (quiet, same) ↦ absurd (speaks quiet)
-      | inr (s, tells, same) ↦ absurd (let is : [] ≡ [] ++ s ∷ [] = same ∙ ap (λ (xs : List Statement). xs ++ s ∷ []) (Say-unique before told [] says none) in cc)
-    ]
-lawful_first before line none speaks (inr (n, m, arcs, lawful)) =
-    let (told, says, last) = Say-split before line (Problem n m ∷ map ArcLine arcs) lawful.say in
-    elim last [
-      | inl (quiet, same) ↦ absurd (speaks quiet)
-      | inr (s, tells, same) ↦
-          (let is : Problem n m ∷ map ArcLine arcs ≡ s ∷ [] = same ∙ ap (λ (xs : List Statement). xs ++ s ∷ []) (Say-unique before told [] says none) in
-          let first : s ≡ Problem n m = cc in
-          (n, m, subst (Says line) first tells, lawful.vertices, lawful.arc_lines))
-    ]
+-- what the last of lawful lines may be, by what the others say
+abbrev EndsLawfully : Told → List ℕ → Type 0
+EndsLawfully Unsaid line = IsSilent line ⊎ ((n m : ℕ) × Says line (Problem n m) × (n ≤ MAX_VERTICES) × (m ≤ MAX_ARCS))
+EndsLawfully (Stated n m arcs) line = IsSilent line ⊎ ((arc : Arc) × Says line (ArcLine arc) × IsArcOf n arc × (length arcs < m))
 
--- a lawful line that says something after the problem: an arc
-lawful_next : (before : List (List ℕ)) (line : List ℕ) (n m : ℕ) (arcs : List Arc) → AreLawfulLines before n m arcs → ¬ (IsSilent line) → AreLawfulSoFar (before ++ line ∷ [])
-    → (arc : Arc) × Says line (ArcLine arc) × IsArcOf n arc × (length arcs < m)
-lawful_next before line n m arcs known speaks (inl say) =
-    let (told, says, last) = Say-split before line [] say in
+speaks_last : (lines whole : List (List ℕ)) (line : List ℕ) (n m : ℕ) (arcs : List Arc) (told : List Statement) (s : Statement) → AreLawfulLines whole n m arcs
+    → Say lines told → Says line s → Problem n m ∷ map ArcLine arcs ≡ told ++ s ∷ [] → (t : Told) × AreTold lines t × EndsLawfully t line
+speaks_last lines whole line n m arcs [] s lawful says tells same =
+    let first : s ≡ Problem n m = cc in
+    (Unsaid, says, inr (n, m, subst (Says line) first tells, lawful.vertices, lawful.arc_lines))
+speaks_last lines whole line n m arcs (t ∷ told) s lawful says tells same =
+    let tails : map ArcLine arcs ≡ told ++ s ∷ [] = cc in
+    let (front, last, parted, is, adds) = arcs_split arcs told s tails in
+    let before : t ∷ told ≡ Problem n m ∷ map ArcLine front = cc in
+    let (each, is_arc) = front_and_last (IsArcOf n) front last (subst (AllByRecursion (IsArcOf n)) parted lawful.each) in
+    let room : length front < m = omega (arith, lawful.no_more, ap length parted, length_push front last) in (
+      Stated n m front,
+      record { say = subst (Say lines) before says; vertices = lawful.vertices; arc_lines = lawful.arc_lines; no_more = omega arith; each = each },
+      inr (last, subst (Says line) adds tells, is_arc, room),
+    )
+
+pub lawful_ends : (lines : List (List ℕ)) (line : List ℕ) → AreLawfulSoFar (lines ++ line ∷ []) → (told : Told) × AreTold lines told × EndsLawfully told line
+lawful_ends lines line (inl say) =
+    let (told, says, last) = Say-split lines line [] say in
     elim last [
-      | inl (quiet, same) ↦ absurd (speaks quiet)
-      | inr (s, tells, same) ↦ absurd (let is : [] ≡ (Problem n m ∷ map ArcLine arcs) ++ s ∷ [] = same ∙ ap (λ (xs : List Statement). xs ++ s ∷ []) (Say-unique before told _ says known.say) in cc)
-    ]
-lawful_next before line n m arcs known speaks (inr (n', m', arcs', lawful)) =
-    let (told, says, last) = Say-split before line (Problem n' m' ∷ map ArcLine arcs') lawful.say in
-    elim last [
-      | inl (quiet, same) ↦ absurd (speaks quiet)
-      | inr (Problem k l, tells, same) ↦
-          absurd (let is : Problem n' m' ∷ map ArcLine arcs' ≡ Problem n m ∷ (map ArcLine arcs ++ Problem k l ∷ []) = same ∙ ap (λ (xs : List Statement). xs ++ Problem k l ∷ []) (Say-unique before told _ says known.say) in
-          let tails : map ArcLine arcs' ≡ map ArcLine arcs ++ Problem k l ∷ [] = cc in
-          no_problem_among arcs arcs' k l (sym tails))
-      | inr (ArcLine arc, tells, same) ↦
-          (let is : Problem n' m' ∷ map ArcLine arcs' ≡ Problem n m ∷ (map ArcLine arcs ++ ArcLine arc ∷ []) = same ∙ ap (λ (xs : List Statement). xs ++ ArcLine arc ∷ []) (Say-unique before told _ says known.say) in
-          let sn : n' ≡ n = cc in
-          let sm : m' ≡ m = cc in
-          let tails : map ArcLine arcs' ≡ map ArcLine arcs ++ ArcLine arc ∷ [] = cc in
-          let all : arcs' ≡ arcs ++ arc ∷ [] = ArcLine-injective arcs' (arcs ++ arc ∷ []) (tails ∙ sym (map-append ArcLine arcs (arc ∷ []))) in
-          let counted : length arcs' ≡ length arcs + 1 = ap length all ∙ length_push arcs arc in (
-            arc,
-            tells,
-            last_of (IsArcOf n) arcs arc (subst (AllByRecursion (IsArcOf n)) all (subst (λ (k : ℕ). AllByRecursion (IsArcOf k) arcs') sn lawful.each)),
-            omega (arith, lawful.no_more),
-          ))
+      | inl (quiet, same) ↦ (Unsaid, subst (Say lines) (sym same) says, inl quiet)
+      | inr (s, tells, same) ↦ absurd (no_last told s same)
     ]
   where
-    last_of : (P : Arc → Type 0) (xs : List Arc) (x : Arc) → AllByRecursion P (xs ++ x ∷ []) → P x
-    last_of P [] x all = all.0
-    last_of P (y ∷ xs) x all = last_of P xs x all.1
+    no_last : (told : List Statement) (s : Statement) → [] ≡ told ++ s ∷ [] → ⊥
+    no_last [] s e = cc
+    no_last (t ∷ told) s e = cc
+lawful_ends lines line (inr (n, m, arcs, lawful)) =
+    let (told, says, last) = Say-split lines line (Problem n m ∷ map ArcLine arcs) lawful.say in
+    elim last [
+      | inl (quiet, same) ↦ (Stated n m arcs, record {
+        say = subst (Say lines) (sym same) says;
+        vertices = lawful.vertices;
+        arc_lines = lawful.arc_lines;
+        no_more = lawful.no_more;
+        each = lawful.each;
+      }, inl quiet)
+      | inr (s, tells, same) ↦ speaks_last lines (lines ++ line ∷ []) line n m arcs told s lawful says tells same
+    ]
 
 -- The kind says something of the line that no lawful line after those is.
 pub fault_is_faulty : (before : List (List ℕ)) (line : List ℕ) (kind : GrKind) → IsFaultAfter before line kind → ¬ (AreLawfulSoFar (before ++ line ∷ []))
-fault_is_faulty before line kind fault lawful = by_told fault.told fault.sort fault.said fault.of_sort fault.wrong
+fault_is_faulty before line kind fault lawful =
+    let (told, said, ends) = lawful_ends before line lawful in
+    no_such told (subst (λ (t : Told). IsWrong fault.sort t kind) (told_unique before fault.told told fault.said said) fault.wrong) ends
   where
-    by_told : (told : Told) (sort : LineSort) → AreTold before told → IsOfSort line sort → IsWrong sort told kind → ⊥
-    by_told Unsaid sort said of_sort wrong =
-        let loud : ¬ (IsSilent line) = λ silent. subst (λ (s : LineSort). IsWrong s Unsaid kind) (IsOfSort-unique line sort Nothing of_sort silent) wrong in
-        let (n, m, says, small, few) = lawful_first before line said loud lawful in
-        let large = subst (λ (s : LineSort). IsWrong s Unsaid kind) (IsOfSort-unique line sort (Makes (Problem n m)) of_sort says) wrong in
-        elim large.0 [ inl more ↦ omega arith | inr more ↦ omega arith ]
-    by_told (Stated n m arcs) sort said of_sort wrong =
-        let loud : ¬ (IsSilent line) = λ silent. subst (λ (s : LineSort). IsWrong s (Stated n m arcs) kind) (IsOfSort-unique line sort Nothing of_sort silent) wrong in
-        let (arc, says, is_arc, room) = lawful_next before line n m arcs said loud lawful in
-        let out = subst (λ (s : LineSort). IsWrong s (Stated n m arcs) kind) (IsOfSort-unique line sort (Makes (ArcLine arc)) of_sort says) wrong in
-        elim out [ inl full ↦ omega (arith, full.0) | inr (inl bad) ↦ bad.1 is_arc.0 | inr (inr bad) ↦ bad.2 is_arc.1 ]
+    as_sort : (told : Told) (sort : LineSort) → IsOfSort line sort → IsWrong fault.sort told kind → IsWrong sort told kind
+    as_sort told sort of_sort = subst (λ (s : LineSort). IsWrong s told kind) (IsOfSort-unique line fault.sort sort fault.of_sort of_sort)
+    no_such : (told : Told) → IsWrong fault.sort told kind → EndsLawfully told line → ⊥
+    no_such Unsaid wrong (inl silent) = as_sort Unsaid Nothing silent wrong
+    no_such (Stated n m arcs) wrong (inl silent) = as_sort (Stated n m arcs) Nothing silent wrong
+    no_such Unsaid wrong (inr (n, m, says, small, few)) = elim (as_sort Unsaid (Makes (Problem n m)) says wrong).0 [ inl more ↦ omega arith | inr more ↦ omega arith ]
+    no_such (Stated n m arcs) wrong (inr (arc, says, is_arc, room)) =
+        elim (as_sort (Stated n m arcs) (Makes (ArcLine arc)) says wrong) [ inl full ↦ omega (arith, full.0) | inr (inl bad) ↦ bad.1 is_arc.0 | inr (inr bad) ↦ bad.2 is_arc.1 ]

@@ -1,5 +1,5 @@
 -- What a reader has read when another piece is fed, and what stopped it stays.
-use Rattle.std.proofs.Common.{◌≡◌, ℕ, ◌+◌, ◌-◌, ◌<◌, ◌≤◌, min, inl, inr, List, [], ◌∷◌, ◌++◌, refl, ap, sym, ◌∙◌, subst, arith, append_assoc, length, take, Option, Some, None, length-append, append-nil, MatchOption, ◌==◌, ◌⊎◌, Bool, cond}
+use Rattle.std.proofs.Common.{◌≡◌, ℕ, ◌+◌, ◌-◌, ◌<◌, ◌≤◌, min, inl, inr, List, [], ◌∷◌, ◌++◌, refl, ap, sym, ◌∙◌, subst, arith, append_assoc, length, take, Option, Some, None, length-append, append-nil, MatchOption, ◌==◌, ◌⊎◌, Bool, cond, take_all}
 use Rattle.std.specs.List.{AllByRecursion, flat_map, count_by}
 use Rattle.std.proofs.lemmas.List.{take-append-le}
 use Rattle.std.proofs.Math.Seq.{take-append-add, take-nil}
@@ -35,19 +35,13 @@ IsEndedFault-more text more number kind (lines, rest, cut, first) =
 order_of : (a b : ℕ) → (a ≤ b) ⊎ (b ≤ a)
 order_of a b = elim (leb_tells a b) [ inl (test, less) ↦ inl (omega arith) | inr (test, more) ↦ inr (omega arith) ]
 
-pub take_all : (xs : List ℕ) (n : ℕ) → length xs ≤ n → take n xs ≡ xs
-take_all xs n long =
-    let whole : n ≡ length xs + (n - length xs) = omega arith in
-    ap (λ (k : ℕ). take k xs) whole ∙ ap (take (length xs + (n - length xs))) (sym (append-nil xs)) ∙ take-append-add xs [] (n - length xs)
-    ∙ ap (λ (ys : List ℕ). xs ++ ys) (take-nil (n - length xs)) ∙ append-nil xs
-
 -- a prefix of a longer text
 pub take_of_more : (limit : ℕ) (text more : List ℕ) → take limit (text ++ more) ≡ take limit text ++ take (limit - length text) more
 take_of_more limit text more = elim (order_of limit (length text)) [
   | inl short ↦ (let none : limit - length text ≡ 0 = omega arith in
       take-append-le limit text more short ∙ sym (append-nil (take limit text)) ∙ ap (λ (k : ℕ). take limit text ++ take k more) (sym none))
   | inr long ↦ (let whole : limit ≡ length text + (limit - length text) = omega arith in
-      ap (λ (k : ℕ). take k (text ++ more)) whole ∙ take-append-add text more (limit - length text) ∙ ap (λ (xs : List ℕ). xs ++ take (limit - length text) more) (sym (take_all text limit long)))
+      ap (λ (k : ℕ). take k (text ++ more)) whole ∙ take-append-add text more (limit - length text) ∙ ap (λ (xs : List ℕ). xs ++ take (limit - length text) more) (sym (take_all limit text long)))
 ]
 
 -- what stopped the reader is right of every longer text
@@ -83,10 +77,10 @@ HasRead-fault reader e text more is read = has_stopped reader e (text ++ more) i
 -- the part of a piece that fits the limit
 pub fitting : (limit fed len : ℕ) (text piece : List ℕ) → length text ≡ fed → fed ≤ limit → len ≡ min (limit - fed) (length piece) → take limit (text ++ piece) ≡ text ++ take len piece
 fitting limit fed len text piece counted within is =
-    take_of_more limit text piece ∙ ap (λ (xs : List ℕ). xs ++ take (limit - length text) piece) (take_all text limit (omega arith))
+    take_of_more limit text piece ∙ ap (λ (xs : List ℕ). xs ++ take (limit - length text) piece) (take_all limit text (omega arith))
     ∙ ap (λ (xs : List ℕ). text ++ xs) (elim (order_of (limit - length text) (length piece)) [
       | inl short ↦ (let same : limit - length text ≡ len = omega arith in ap (λ (k : ℕ). take k piece) same)
-      | inr long ↦ (let same : len ≡ length piece = omega arith in take_all piece (limit - length text) long ∙ sym (ap (λ (k : ℕ). take k piece) same ∙ take_all piece (length piece) (omega arith)))
+      | inr long ↦ (let same : len ≡ length piece = omega arith in take_all (limit - length text) piece long ∙ sym (ap (λ (k : ℕ). take k piece) same ∙ take_all (length piece) piece (omega arith)))
     ])
 
 -- the reader stops within a piece

@@ -107,38 +107,33 @@ pub kept_as_number : (w : Word) (field : List ℕ) (n : ℕ) → WordMeans w fie
 kept_as_number (word.Number kept) field n means writes = (kept, refl)
 kept_as_number word.Other field n means writes = absurd (means.1 [] (subst IsToken (sym (append-nil field)) (inr (inr (inr (inr (_, inl (n, writes, refl))))))))
 kept_as_number w [] n means writes = absurd (writes.0 refl)
-kept_as_number w (b ∷ rest) n means writes = absurd (let head : Head w b = head_of w b rest means in omega (arith, head, writes.1.0.0, writes.1.0.1))
+kept_as_number w (b ∷ rest) n means writes = absurd (let head : Head w b = head_of w b rest means in grind (arith, writes.1.0))
 
 -- a field with a minus that writes a number is kept as one
 pub kept_as_negative : (w : Word) (field digits : List ℕ) (n : ℕ) → WordMeans w field → field ≡ 45 ∷ digits → Writes digits n → (kept : ℕ) × (w ≡ word.Negative kept)
 kept_as_negative (word.Negative kept) field digits n means is writes = (kept, refl)
 kept_as_negative word.Minus field digits n means is writes = absurd (writes.0 (let e : codes "-" ≡ 45 ∷ digits = sym means ∙ is in cc))
-kept_as_negative (word.Number kept) field digits n means is writes = absurd (let digit : IsDigit 45 = head_of (word.Number kept) 45 digits (subst (WordMeans (word.Number kept)) is means) in omega (arith, digit.0))
 kept_as_negative word.Other field digits n means is writes = absurd (means.1 [] (subst IsToken (sym (append-nil field)) (inr (inr (inr (inr (_, inr (digits, n, is, writes, refl))))))))
-kept_as_negative w field digits n means is writes = absurd (let head : Head w 45 = head_of w 45 digits (subst (WordMeans w) is means) in omega (arith, head))
+kept_as_negative w field digits n means is writes = absurd (let head : Head w 45 = head_of w 45 digits (subst (WordMeans w) is means) in grind arith)
 
 -- the words of single fields
 pub kept_as_sp : (w : Word) (field : List ℕ) → WordMeans w field → field ≡ codes "sp" → w ≡ word.Sp
 kept_as_sp word.Sp field means is = refl
 kept_as_sp word.LetterS field means is = absurd (let e : codes "s" ≡ codes "sp" = sym means ∙ is in cc)
-kept_as_sp (word.Number kept) field means is = absurd (let digit : IsDigit 115 = head_of (word.Number kept) 115 (112 ∷ []) (subst (WordMeans (word.Number kept)) is means) in omega (arith, digit.1))
 kept_as_sp word.Other field means is = absurd (means.1 [] (subst IsToken (sym (append-nil field)) (inr (inr (inl is)))))
-kept_as_sp w field means is = absurd (let head : Head w 115 = head_of w 115 (112 ∷ []) (subst (WordMeans w) is means) in omega (arith, head))
+kept_as_sp w field means is = absurd (let head : Head w 115 = head_of w 115 (112 ∷ []) (subst (WordMeans w) is means) in grind arith)
 
 pub kept_as_p : (w : Word) (field : List ℕ) → WordMeans w field → field ≡ codes "p" → w ≡ word.LetterP
 kept_as_p word.LetterP field means is = refl
-kept_as_p (word.Number kept) field means is = absurd (let digit : IsDigit 112 = head_of (word.Number kept) 112 [] (subst (WordMeans (word.Number kept)) is means) in omega (arith, digit.1))
 kept_as_p word.Other field means is = absurd (means.1 [] (subst IsToken (sym (append-nil field)) (inl is)))
-kept_as_p w field means is = absurd (let head : Head w 112 = head_of w 112 [] (subst (WordMeans w) is means) in omega (arith, head))
+kept_as_p w field means is = absurd (let head : Head w 112 = head_of w 112 [] (subst (WordMeans w) is means) in grind arith)
 
 pub kept_as_a : (w : Word) (field : List ℕ) → WordMeans w field → field ≡ codes "a" → w ≡ word.LetterA
 kept_as_a word.LetterA field means is = refl
-kept_as_a (word.Number kept) field means is = absurd (let digit : IsDigit 97 = head_of (word.Number kept) 97 [] (subst (WordMeans (word.Number kept)) is means) in omega (arith, digit.1))
 kept_as_a word.Other field means is = absurd (means.1 [] (subst IsToken (sym (append-nil field)) (inr (inl is))))
-kept_as_a w field means is = absurd (let head : Head w 97 = head_of w 97 [] (subst (WordMeans w) is means) in omega (arith, head))
+kept_as_a w field means is = absurd (let head : Head w 97 = head_of w 97 [] (subst (WordMeans w) is means) in grind arith)
 
 pub kept_as_comment : (w : Word) (field : List ℕ) → WordMeans w field → BeginsComment field → w ≡ word.Comment
 kept_as_comment word.Comment field means begins = refl
-kept_as_comment (word.Number kept) field means (others, is) = absurd (let digit : IsDigit 99 = head_of (word.Number kept) 99 others (subst (WordMeans (word.Number kept)) is means) in omega (arith, digit.1))
 kept_as_comment word.Other field means begins = absurd (means.1 [] (subst IsToken (sym (append-nil field)) (inr (inr (inr (inl begins))))))
-kept_as_comment w field means (others, is) = absurd (let head : Head w 99 = head_of w 99 others (subst (WordMeans w) is means) in omega (arith, head))
+kept_as_comment w field means (others, is) = absurd (let head : Head w 99 = head_of w 99 others (subst (WordMeans w) is means) in grind arith)

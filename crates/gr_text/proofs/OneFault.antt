@@ -12,79 +12,16 @@ use Rattle.gr_text.specs.declared.faults.GrKind.{GrKind}
 use Rattle.gr_text.specs.declared.faults.GrKind.TheVariants.{MissingProblem, MissingArcs}
 use Rattle.gr_text.proofs.Unique.{AreLines-unique, Say-unique}
 use Rattle.gr_text.proofs.Sorts.{IsOfSort-unique}
-use Rattle.gr_text.proofs.Faulty.{Say-split}
-use Rattle.gr_text.proofs.Texts.{AreLawfulLines-unique}
-
--- the last of the statements of arc lines is one of them
-no_arcs : (arcs : List Arc) → map ArcLine arcs ≡ [] → arcs ≡ []
-no_arcs [] e = refl
-no_arcs (a ∷ arcs) e = absurd (cc)
-
-arcs_split : (arcs : List Arc) (told : List Statement) (s : Statement) → map ArcLine arcs ≡ told ++ s ∷ []
-    → (front : List Arc) × (last : Arc) × (arcs ≡ front ++ last ∷ []) × (told ≡ map ArcLine front)
-arcs_split [] [] s e = absurd (cc)
-arcs_split [] (t ∷ told) s e = absurd (cc)
-arcs_split (a ∷ arcs) [] s e =
-    let tails : map ArcLine arcs ≡ [] = cc in ([], a, ap (λ (xs : List Arc). a ∷ xs) (no_arcs arcs tails), refl)
-arcs_split (a ∷ arcs) (t ∷ told) s e =
-    let heads : t ≡ ArcLine a = cc in
-    let tails : map ArcLine arcs ≡ told ++ s ∷ [] = cc in
-    let (front, last, whole, is) = arcs_split arcs told s tails in
-    (a ∷ front, last, ap (λ (xs : List Arc). a ∷ xs) whole, ap (λ (x : Statement). x ∷ told) heads ∙ ap (λ (xs : List Statement). ArcLine a ∷ xs) is)
-
-no_last : (told : List Statement) (s : Statement) → [] ≡ told ++ s ∷ [] → ⊥
-no_last [] s e = cc
-no_last (t ∷ told) s e = cc
-
-front_of : {X : Type 0} (P : X → Type 0) (xs : List X) (x : X) → AllByRecursion P (xs ++ x ∷ []) → AllByRecursion P xs
-front_of P [] x all = tt
-front_of P (y ∷ xs) x all = (all.0, front_of P xs x all.1)
-
-lawful_told : (lines : List (List ℕ)) (whole : List (List ℕ)) (n m : ℕ) (arcs : List Arc) (told : List Statement) (s : Statement) → AreLawfulLines whole n m arcs → Say lines told
-    → Problem n m ∷ map ArcLine arcs ≡ told ++ s ∷ [] → AreLawfulSoFar lines
-lawful_told lines whole n m arcs [] s lawful says same = inl says
-lawful_told lines whole n m arcs (t ∷ told) s lawful says same =
-    let heads : t ≡ Problem n m = cc in
-    let tails : map ArcLine arcs ≡ told ++ s ∷ [] = cc in
-    let (front, last, parted, is) = arcs_split arcs told s tails in
-    inr (
-      n,
-      m,
-      front,
-      record {
-        say = subst (Say lines) (ap (λ (x : Statement). x ∷ told) heads ∙ ap (λ (xs : List Statement). Problem n m ∷ xs) is) says;
-        vertices = lawful.vertices;
-        arc_lines = lawful.arc_lines;
-        no_more = (let counted : length arcs ≡ length front + 1 = ap length parted ∙ length_push front last in omega (arith, lawful.no_more));
-        each = front_of (IsArcOf n) front last (subst (AllByRecursion (IsArcOf n)) parted lawful.each);
-      },
-    )
+use Rattle.gr_text.proofs.Faulty.{lawful_ends}
+use Rattle.gr_text.proofs.Texts.{AreLawfulLines-unique, told_unique}
 
 -- what stands before a line of lawful lines is lawful
 lawful_before : (lines : List (List ℕ)) (line : List ℕ) → AreLawfulSoFar (lines ++ line ∷ []) → AreLawfulSoFar lines
-lawful_before lines line (inl say) =
-    let (told, says, last) = Say-split lines line [] say in
-    elim last [
-      | inl (quiet, same) ↦ inl (subst (Say lines) (sym same) says)
-      | inr (s, tells, same) ↦ absurd (no_last told s same)
-    ]
-lawful_before lines line (inr (n, m, arcs, lawful)) =
-    let (told, says, last) = Say-split lines line (Problem n m ∷ map ArcLine arcs) lawful.say in
-    elim last [
-      | inl (quiet, same) ↦ inr (
-        n,
-        m,
-        arcs,
-        record {
-          say = subst (Say lines) (sym same) says;
-          vertices = lawful.vertices;
-          arc_lines = lawful.arc_lines;
-          no_more = lawful.no_more;
-          each = lawful.each;
-        },
-      )
-      | inr (s, tells, same) ↦ lawful_told lines (lines ++ line ∷ []) n m arcs told s lawful says same
-    ]
+lawful_before lines line lawful = let (told, said, ends) = lawful_ends lines line lawful in lawful_told told said
+  where
+    lawful_told : (told : Told) → AreTold lines told → AreLawfulSoFar lines
+    lawful_told Unsaid said = inl said
+    lawful_told (Stated n m arcs) said = inr (n, m, arcs, said)
 
 -- a prefix of lawful lines is lawful
 AreLawfulSoFar-prefix : (lines more : List (List ℕ)) → AreLawfulSoFar (lines ++ more) → AreLawfulSoFar lines
@@ -120,38 +57,17 @@ never_both text n arcs number kind (lines, are, lawful) (others, are', fault) =
       | inr (lacks, last) ↦ lack_no_graph others kind n arcs known lacks
     ]
 
--- Lawful lines say one thing.
-told_unique : (lines : List (List ℕ)) (t u : Told) → AreTold lines t → AreTold lines u → t ≡ u
-told_unique lines Unsaid Unsaid a b = refl
-told_unique lines Unsaid (Stated n m arcs) a b = absurd (let same : [] ≡ Problem n m ∷ map ArcLine arcs = Say-unique lines _ _ a b.say in cc)
-told_unique lines (Stated n m arcs) Unsaid a b = absurd (let same : Problem n m ∷ map ArcLine arcs ≡ [] = Say-unique lines _ _ a.say b in cc)
-told_unique lines (Stated n m arcs) (Stated k l others) a b =
-    let (sn, sm, sa) = AreLawfulLines-unique lines n m k l arcs others a b in
-    ap (λ (x : ℕ). Stated x m arcs) sn ∙ ap (λ (x : ℕ). Stated k x arcs) sm ∙ ap (Stated k l) sa
-
 -- A line of a sort has one kind of fault.
 wrong_unique : (sort : LineSort) (told : Told) (k l : GrKind) → IsWrong sort told k → IsWrong sort told l → k ≡ l
 wrong_unique Nothing told k l a b = absurd a
 wrong_unique Unknown told k l a b = a ∙ sym b
-wrong_unique NoProblem Unsaid k l a b = a ∙ sym b
-wrong_unique NoProblem (Stated n m arcs) k l a b = a ∙ sym b
-wrong_unique NoArc Unsaid k l a b = a ∙ sym b
-wrong_unique NoArc (Stated n m arcs) k l (inl a) (inl b) = a.1 ∙ sym b.1
-wrong_unique NoArc (Stated n m arcs) k l (inl a) (inr b) = absurd (omega (arith, a.0, b.0))
-wrong_unique NoArc (Stated n m arcs) k l (inr a) (inl b) = absurd (omega (arith, a.0, b.0))
-wrong_unique NoArc (Stated n m arcs) k l (inr a) (inr b) = a.1 ∙ sym b.1
-wrong_unique (Makes (Problem x y)) Unsaid k l a b = a.1 ∙ sym b.1
-wrong_unique (Makes (Problem x y)) (Stated n m arcs) k l a b = a ∙ sym b
-wrong_unique (Makes (ArcLine arc)) Unsaid k l a b = a ∙ sym b
+wrong_unique (Makes (Problem x y)) told k l a b = grind arith
 wrong_unique (Makes (ArcLine arc)) (Stated n m arcs) k l (inl a) (inl b) = a.1 ∙ sym b.1
-wrong_unique (Makes (ArcLine arc)) (Stated n m arcs) k l (inl a) (inr (inl b)) = absurd (omega (arith, a.0, b.0))
-wrong_unique (Makes (ArcLine arc)) (Stated n m arcs) k l (inl a) (inr (inr b)) = absurd (omega (arith, a.0, b.0))
-wrong_unique (Makes (ArcLine arc)) (Stated n m arcs) k l (inr (inl a)) (inl b) = absurd (omega (arith, a.0, b.0))
 wrong_unique (Makes (ArcLine arc)) (Stated n m arcs) k l (inr (inl a)) (inr (inl b)) = a.2 ∙ sym b.2
-wrong_unique (Makes (ArcLine arc)) (Stated n m arcs) k l (inr (inl a)) (inr (inr b)) = absurd (a.1 b.1)
-wrong_unique (Makes (ArcLine arc)) (Stated n m arcs) k l (inr (inr a)) (inl b) = absurd (omega (arith, a.0, b.0))
-wrong_unique (Makes (ArcLine arc)) (Stated n m arcs) k l (inr (inr a)) (inr (inl b)) = absurd (b.1 a.1)
 wrong_unique (Makes (ArcLine arc)) (Stated n m arcs) k l (inr (inr a)) (inr (inr b)) = a.3 ∙ sym b.3
+wrong_unique (Makes (ArcLine arc)) (Stated n m arcs) k l (inr (inl a)) (inr (inr b)) = absurd (a.1 b.1)
+wrong_unique (Makes (ArcLine arc)) (Stated n m arcs) k l (inr (inr a)) (inr (inl b)) = absurd (b.1 a.1)
+wrong_unique sort told k l a b = grind arith
 
 one_kind : (before : List (List ℕ)) (line : List ℕ) (kind another : GrKind) → IsFaultAfter before line kind → IsFaultAfter before line another → kind ≡ another
 one_kind before line kind another a b =

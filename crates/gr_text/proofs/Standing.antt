@@ -11,7 +11,7 @@ use Rattle.gr_text.specs.declared.faults.ReadFault.{ReadFault}
 use Rattle.gr_text.specs.declared.faults.ReadFault.TheVariants as fault
 use Rattle.gr_text.specs.declared.partial.Partial.{Partial}
 use Rattle.gr_text.specs.declared.sizes.Size.{Size}
-use Rattle.gr_text.proofs.Cuts.{EndsLines-bytes, EndsLines-line, EndsLines-append, cut_of}
+use Rattle.gr_text.proofs.Cuts.{EndsLines-bytes, EndsLines-line, EndsLines-more, cut_of}
 use Rattle.gr_text.proofs.Faulty.{fault_is_faulty}
 
 pub lawful_of : (kept : SoFarValue) (lines : List (List ℕ)) → Gives kept lines → AreLawfulSoFar lines
@@ -72,7 +72,7 @@ pub StopsAt-line : (e : ReadFault) (r : ReadingValue) (text line rest : List ℕ
 StopsAt-line e r text line rest stands is_line fault =
     let (more, last, cut) = cut_of rest in
     first_faulty stands.lines (stands.part ++ line) more e r.number (lawful_of r.so_far stands.lines stands.give) stands.numbered fault
-    ((text ++ ended line) ++ rest) last (EndsLines-append (text ++ ended line) rest (stands.lines ++ (stands.part ++ line) ∷ []) more last
+    ((text ++ ended line) ++ rest) last (EndsLines-more (text ++ ended line) rest (stands.lines ++ (stands.part ++ line) ∷ []) more [] last
     (EndsLines-line text stands.lines stands.part line stands.cut is_line) cut)
 
 -- a text and a piece of which a line and what is behind it is left

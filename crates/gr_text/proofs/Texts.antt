@@ -1,11 +1,20 @@
 -- The laws of texts.
-use Rattle.std.proofs.Common.{◌≡◌, ℕ, List, ◌∷◌, subst, length, map}
+use Rattle.std.proofs.Common.{◌≡◌, ℕ, List, [], ◌∷◌, refl, ap, ◌∙◌, subst, length, map}
 use Rattle.link_key.specs.Arc.{Arc}
 use Rattle.gr_text.specs.Statement.{Problem, ArcLine}
 use Rattle.gr_text.specs.Graph.{AreLawfulLines}
+use Rattle.gr_text.specs.Fault.{Told, Unsaid, Stated, AreTold}
 use Rattle.gr_text.specs.Laws.{MeansOneGraph}
 use Rattle.gr_text.proofs.Unique.{AreLines-unique, Say-unique}
-use Rattle.gr_text.proofs.Faulty.{ArcLine-injective}
+
+ArcLine-injective : (xs ys : List Arc) → map ArcLine xs ≡ map ArcLine ys → xs ≡ ys
+ArcLine-injective [] [] e = refl
+ArcLine-injective [] (b ∷ ys) e = absurd (cc)
+ArcLine-injective (a ∷ xs) [] e = absurd (cc)
+ArcLine-injective (a ∷ xs) (b ∷ ys) e =
+    let heads : a ≡ b = cc in
+    let tails : map ArcLine xs ≡ map ArcLine ys = cc in
+    ap (λ (x : Arc). x ∷ xs) heads ∙ ap (λ (zs : List Arc). b ∷ zs) (ArcLine-injective xs ys tails)
 
 -- lawful lines have one problem and one list of arcs
 pub AreLawfulLines-unique : (lines : List (List ℕ)) (n m k l : ℕ) (arcs others : List Arc) → AreLawfulLines lines n m arcs → AreLawfulLines lines k l others → (n ≡ k) × (m ≡ l) × (arcs ≡ others)
@@ -15,6 +24,15 @@ AreLawfulLines-unique lines n m k l arcs others a b =
     let sm : m ≡ l = cc in
     let tails : map ArcLine arcs ≡ map ArcLine others = cc in
     (sn, sm, ArcLine-injective arcs others tails)
+
+-- Lawful lines say one thing.
+pub told_unique : (lines : List (List ℕ)) (t u : Told) → AreTold lines t → AreTold lines u → t ≡ u
+told_unique lines Unsaid Unsaid a b = refl
+told_unique lines Unsaid (Stated n m arcs) a b = absurd (let same : [] ≡ Problem n m ∷ map ArcLine arcs = Say-unique lines _ _ a b.say in cc)
+told_unique lines (Stated n m arcs) Unsaid a b = absurd (let same : Problem n m ∷ map ArcLine arcs ≡ [] = Say-unique lines _ _ a.say b in cc)
+told_unique lines (Stated n m arcs) (Stated k l others) a b =
+    let (sn, sm, sa) = AreLawfulLines-unique lines n m k l arcs others a b in
+    ap (λ (x : ℕ). Stated x m arcs) sn ∙ ap (λ (x : ℕ). Stated k x arcs) sm ∙ ap (Stated k l) sa
 
 pub means_one_graph : MeansOneGraph
 means_one_graph text n m arcs others (lines, are, lawful) (lines', are', lawful') =

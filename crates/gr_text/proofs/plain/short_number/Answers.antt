@@ -1,7 +1,6 @@
-use Rattle.std.proofs.Common.{◌≡◌, ◌+◌, ℕ, take, get_or, subst, arith, rules}
+use Rattle.std.proofs.Common.{◌≡◌, ◌+◌, ℕ, take, get_or, subst, arith, rules, take_all}
 use Rattle.std.specs.List.{AllByRecursion}
 use Rattle.gr_text.specs.Fields.{IsDigit}
-use Rattle.gr_text.proofs.Feeding.{take_all}
 use Rattle.gr_text.proofs.PlainLines.{digits_more, never_long, never_other, never_all}
 use Rattle.gr_text.proofs.plain.short_number.Goals as goal
 use Rattle.gr_text.proofs.plain.short_number.Goals.{else-byte-stop-via-then-byte-stop+else-place-gt0, else-byte-stop-via-else-byte-stop}
@@ -29,4 +28,4 @@ pub returns : goal.returns
 returns c =
     let bytes = c.args.bytes.now in
     never_all c.args.stop bytes c.requires
-    (subst (AllByRecursion IsDigit) (take_all bytes c.loop-place.place (omega (arith, c.loop-place-test.false))) c.loop-place.invariant.digits)
+    (subst (AllByRecursion IsDigit) (take_all c.loop-place.place bytes (omega (arith, c.loop-place-test.false))) c.loop-place.invariant.digits)
