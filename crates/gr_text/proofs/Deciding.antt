@@ -12,28 +12,17 @@ use Rattle.gr_text.specs.Fault.{Told, Unsaid, Stated, AreTold, IsWrong, IsFaultA
 use Rattle.gr_text.specs.Laws.{MeansOrFails}
 use Rattle.gr_text.specs.declared.faults.GrKind.{GrKind}
 use Rattle.gr_text.specs.declared.faults.GrKind.TheVariants.{UnknownLine, NoProblemYet, SecondProblem, BadProblem, TooLarge, BadArc, EndOutOfRange, WeightOutOfRange, TooManyArcs, MissingProblem, MissingArcs}
+use Rattle.gr_text.proofs.OrNot.{both_or_not, within_or_not}
 use Rattle.gr_text.proofs.Steps.{Say-silent, AreLawfulLines-silent, AreLawfulLines-problem, AreLawfulLines-arc}
 use Rattle.gr_text.proofs.Cuts.{cut_of}
 use Rattle.gr_text.proofs.Sorts.{sort_of}
 use Rattle.gr_text.proofs.Faulty.{fault_is_faulty}
 
 -- whether an arc is one of the problem
-end_or_not : (n end : ℕ) → ((1 ≤ end) × (end ≤ n)) ⊎ ¬ ((1 ≤ end) × (end ≤ n))
-end_or_not n end = elim (leb_tells 1 end) [
-  | inl (test, from_one) ↦ elim (leb_tells end n) [
-    | inl (test', within) ↦ inl (from_one, within)
-    | inr (test', over) ↦ inr (λ both. omega (arith, both.1))
-  ]
-  | inr (test, under) ↦ inr (λ both. omega (arith, both.0))
-]
-
 ends_or_not : (n : ℕ) (arc : Arc) → HasEnds n arc ⊎ ¬ (HasEnds n arc)
-ends_or_not n arc = elim (end_or_not n arc.tail) [
-  | inr out ↦ inr (λ ends. out (ends.tail_from_one, ends.tail_in_range))
-  | inl tail ↦ elim (end_or_not n arc.head) [
-    | inr out ↦ inr (λ ends. out (ends.head_from_one, ends.head_in_range))
-    | inl head ↦ inl (record { tail_from_one = tail.0; tail_in_range = tail.1; head_from_one = head.0; head_in_range = head.1 })
-  ]
+ends_or_not n arc = elim (both_or_not (within_or_not 1 n arc.tail) (within_or_not 1 n arc.head)) [
+  | inl (tail, head) ↦ inl (record { tail_from_one = tail.0; tail_in_range = tail.1; head_from_one = head.0; head_in_range = head.1 })
+  | inr out ↦ inr (λ ends. out ((ends.tail_from_one, ends.tail_in_range), (ends.head_from_one, ends.head_in_range)))
 ]
 
 weight_or_not : (w : ℤ) → IsWeight w ⊎ ¬ (IsWeight w)

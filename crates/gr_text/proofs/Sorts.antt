@@ -1,32 +1,21 @@
 -- Each line is of one sort, and of no other.
 use Rattle.std.proofs.Common.{◌≡◌, ◌≢◌, ℕ, ℤ, pos, neg_ℤ, ◌⊎◌, inl, inr, List, [], ◌∷◌, ◌++◌, refl, ap, sym, ◌∙◌, subst, arith, append_assoc, append-nil, codes}
 use Rattle.std.specs.List.{AllByRecursion}
-use Rattle.std.proofs.lemmas.Bool.Decides.{eqb_tells, leb_tells}
+use Rattle.std.proofs.lemmas.Bool.{cases_eq}
 use Rattle.link_key.specs.Arc.{Arc}
 use Rattle.gr_text.specs.Fields.{IsBlank, IsFieldByte, AreFields, IsDigit, number_of, Writes, WritesSigned}
 use Rattle.gr_text.specs.Statement.{Statement, Problem, ArcLine, AreSilent, FieldsSay}
 use Rattle.gr_text.specs.Sort.{LineSort, Nothing, Makes, NoProblem, NoArc, Unknown, AreOfSort, IsOfSort}
 use Rattle.gr_text.specs.Partial.{with_field, AreParts}
-use Rattle.gr_text.proofs.FieldBytes.{head_is}
+use Rattle.gr_text.specs.Word.{BeginsComment}
+use Rattle.gr_text.proofs.OrNot.{both_or_not, either_or_not, within_or_not}
+use Rattle.gr_text.proofs.LineFields.{comment_of_silent}
 use Rattle.gr_text.proofs.Parts.{AreParts-none, AreParts-byte, AreParts-blank, AreParts-whole}
-use Rattle.gr_text.proofs.Unique.{AreFields-unique, FieldsSay-unique, silent_or_says}
+use Rattle.gr_text.proofs.Unique.{AreFields-unique, FieldsSay-unique}
 
 -- a byte is a blank or not
 blank_or_not : (b : ℕ) → IsBlank b ⊎ IsFieldByte b
-blank_or_not b = elim (eqb_tells b 32) [
-  | inl (test, is) ↦ inl (inl is)
-  | inr (test, no_space) ↦ elim (eqb_tells b 9) [
-    | inl (test', is) ↦ inl (inr (inl is))
-    | inr (test', no_tab) ↦ elim (eqb_tells b 13) [
-      | inl (test'', is) ↦ inl (inr (inr is))
-      | inr (test'', no_return) ↦ inr (λ blank. elim blank [
-        | inl is ↦ no_space is
-        | inr (inl is) ↦ no_tab is
-        | inr (inr is) ↦ no_return is
-      ])
-    ]
-  ]
-]
+blank_or_not b = either_or_not (cases_eq b 32) (either_or_not (cases_eq b 9) (cases_eq b 13))
 
 -- Each line has fields: byte by byte, the whole fields so far and the bytes of one more.
 parts_of : (rest part : List ℕ) (fields : List (List ℕ)) (last : List ℕ) → AreParts part fields last
@@ -45,122 +34,78 @@ fields_of line = let (fields, last, parts) = parts_of line [] [] [] AreParts-non
 -- what a field is
 same_or_not : (xs ys : List ℕ) → (xs ≡ ys) ⊎ (xs ≢ ys)
 same_or_not [] [] = inl refl
-same_or_not [] (y ∷ ys) = inr (λ (e : [] ≡ y ∷ ys). cc)
-same_or_not (x ∷ xs) [] = inr (λ (e : x ∷ xs ≡ []). cc)
-same_or_not (x ∷ xs) (y ∷ ys) = elim (eqb_tells x y) [
-  | inl (test, is) ↦ elim (same_or_not xs ys) [
-    | inl same ↦ inl (ap (λ (z : ℕ). z ∷ xs) is ∙ ap (λ (zs : List ℕ). y ∷ zs) same)
-    | inr differ ↦ inr (λ (e : x ∷ xs ≡ y ∷ ys). differ (cc))
-  ]
-  | inr (test, differ) ↦ inr (λ (e : x ∷ xs ≡ y ∷ ys). differ (head_is x y xs ys e))
+same_or_not (x ∷ xs) (y ∷ ys) = elim (both_or_not (cases_eq x y) (same_or_not xs ys)) [
+  | inl (head, tail) ↦ inl (cc)
+  | inr never ↦ inr (λ (e : x ∷ xs ≡ y ∷ ys). let head : x ≡ y = cc in let tail : xs ≡ ys = cc in never (head, tail))
 ]
+same_or_not xs ys = inr (λ (e : xs ≡ ys). cc)
 
 digits_or_not : (field : List ℕ) → AllByRecursion IsDigit field ⊎ ¬ (AllByRecursion IsDigit field)
 digits_or_not [] = inl tt
-digits_or_not (b ∷ field) = elim (leb_tells 48 b) [
-  | inl (test, low) ↦ elim (leb_tells b 57) [
-    | inl (test', high) ↦ elim (digits_or_not field) [
-      | inl all ↦ inl ((low, high), all)
-      | inr other ↦ inr (λ all. other all.1)
-    ]
-    | inr (test', over) ↦ inr (λ all. omega (arith, all.0))
-  ]
-  | inr (test, under) ↦ inr (λ all. omega (arith, all.0))
-]
+digits_or_not (b ∷ field) = both_or_not (within_or_not 48 57 b) (digits_or_not field)
 
-number_or_not : (field : List ℕ) → ((n : ℕ) × Writes field n) ⊎ ((n : ℕ) → ¬ (Writes field n))
-number_or_not [] = inr (λ n writes. writes.0 refl)
+number_or_not : (field : List ℕ) → ((n : ℕ) × Writes field n) ⊎ ¬ ((n : ℕ) × Writes field n)
+number_or_not [] = inr (λ (n, writes). writes.0 refl)
 number_or_not (b ∷ field) = elim (digits_or_not (b ∷ field)) [
   | inl all ↦ inl (number_of (b ∷ field), ((λ (e : b ∷ field ≡ []). cc), all, refl))
-  | inr other ↦ inr (λ n writes. other writes.1)
+  | inr other ↦ inr (λ (n, writes). other writes.1)
 ]
 
-signed_or_not : (field : List ℕ) → ((z : ℤ) × WritesSigned field z) ⊎ ((z : ℤ) → ¬ (WritesSigned field z))
-signed_or_not [] = inr (λ z writes. elim writes [
-  | inl (n, w, is) ↦ w.0 refl
-  | inr (digits, n, e, w, is) ↦ cc
-])
-signed_or_not (b ∷ field) = elim (eqb_tells b 45) [
-  | inl (test, minus) ↦ elim (number_or_not field) [
-    | inl (n, w) ↦ inl (neg_ℤ (pos n), inr (field, n, ap (λ (x : ℕ). x ∷ field) minus, w, refl))
-    | inr none ↦ inr (λ z writes. elim writes [
-      | inl (n, w, is) ↦ omega (arith, w.1.0)
-      | inr (digits, n, e, w, is) ↦ (let same : digits ≡ field = cc in none n (subst (λ (x : List ℕ). Writes x n) same w))
-    ])
-  ]
-  | inr (test, no_minus) ↦ elim (number_or_not (b ∷ field)) [
-    | inl (n, w) ↦ inl (pos n, inl (n, w, refl))
-    | inr none ↦ inr (λ z writes. elim writes [
-      | inl (n, w, is) ↦ none n w
-      | inr (digits, n, e, w, is) ↦ no_minus (head_is b 45 field digits e)
+signed_or_not : (field : List ℕ) → ((z : ℤ) × WritesSigned field z) ⊎ ¬ ((z : ℤ) × WritesSigned field z)
+signed_or_not [] = inr (λ (z, writes). elim writes [ inl (n, w, is) ↦ w.0 refl | inr (digits, n, e, w, is) ↦ cc ])
+signed_or_not (b ∷ field) = elim (number_or_not (b ∷ field)) [
+  | inl (n, w) ↦ inl (pos n, inl (n, w, refl))
+  | inr none ↦ elim (both_or_not (cases_eq b 45) (number_or_not field)) [
+    | inl (minus, (n, w)) ↦ inl (neg_ℤ (pos n), inr (field, n, ap (λ (x : ℕ). x ∷ field) minus, w, refl))
+    | inr never ↦ inr (λ (z, writes). elim writes [
+      | inl (n, w, is) ↦ none (n, w)
+      | inr (digits, n, e, w, is) ↦ (let head : b ≡ 45 = cc in let tail : digits ≡ field = cc in never (head, (n, subst (λ (x : List ℕ). Writes x n) tail w)))
     ])
   ]
 ]
 
--- whether fields state a problem
-problem_or_not : (fields : List (List ℕ)) → ((n m : ℕ) × FieldsSay fields (Problem n m)) ⊎ ((n m : ℕ) → ¬ (FieldsSay fields (Problem n m)))
-problem_or_not [] = inr (λ n m (f, g, e, wf, wg). cc)
-problem_or_not (a ∷ []) = inr (λ n m (f, g, e, wf, wg). cc)
-problem_or_not (a ∷ b ∷ []) = inr (λ n m (f, g, e, wf, wg). cc)
-problem_or_not (a ∷ b ∷ x ∷ []) = inr (λ n m (f, g, e, wf, wg). cc)
-problem_or_not (a ∷ b ∷ x ∷ y ∷ z ∷ more) = inr (λ n m (f, g, e, wf, wg). cc)
-problem_or_not (a ∷ b ∷ x ∷ y ∷ []) = elim (same_or_not a (codes "p")) [
-  | inr differ ↦ inr (λ n m (f, g, e, wf, wg). differ (cc))
-  | inl p ↦ elim (same_or_not b (codes "sp")) [
-    | inr differ ↦ inr (λ n m (f, g, e, wf, wg). differ (cc))
-    | inl sp ↦ elim (number_or_not x) [
-      | inr none ↦ inr (λ n m (f, g, e, wf, wg). let same : f ≡ x = cc in none n (subst (λ (s : List ℕ). Writes s n) same wf))
-      | inl (n, wx) ↦ elim (number_or_not y) [
-        | inr none ↦ inr (λ n m (f, g, e, wf, wg). let same : g ≡ y = cc in none m (subst (λ (s : List ℕ). Writes s m) same wg))
-        | inl (m, wy) ↦ inl (
-          n,
-          m,
-          (x, y, ap (λ (s : List ℕ). s ∷ b ∷ x ∷ y ∷ []) p ∙ ap (λ (s : List ℕ). codes "p" ∷ s ∷ x ∷ y ∷ []) sp, wx, wy),
-        )
-      ]
+-- whether fields state a problem, and whether they give an arc
+problem_or_not : (fields : List (List ℕ)) → ((n m : ℕ) × FieldsSay fields (Problem n m)) ⊎ ¬ ((n m : ℕ) × FieldsSay fields (Problem n m))
+problem_or_not (a ∷ b ∷ x ∷ y ∷ []) =
+    elim (both_or_not (same_or_not a (codes "p")) (both_or_not (same_or_not b (codes "sp")) (both_or_not (number_or_not x) (number_or_not y)))) [
+      | inl (p, (sp, ((n, wx), (m, wy)))) ↦ inl (n, m, (x, y, cc, wx, wy))
+      | inr never ↦ inr (λ (n, m, (f, g, e, wf, wg)).
+          let p : a ≡ codes "p" = cc in
+          let sp : b ≡ codes "sp" = cc in
+          let sf : f ≡ x = cc in
+          let sg : g ≡ y = cc in
+          never (p, (sp, ((n, subst (λ (s : List ℕ). Writes s n) sf wf), (m, subst (λ (s : List ℕ). Writes s m) sg wg)))))
     ]
-  ]
-]
+problem_or_not fields = inr (λ (n, m, (f, g, e, wf, wg)). cc)
 
--- whether fields state an arc
-arc_or_not : (fields : List (List ℕ)) → ((arc : Arc) × FieldsSay fields (ArcLine arc)) ⊎ ((arc : Arc) → ¬ (FieldsSay fields (ArcLine arc)))
-arc_or_not [] = inr (λ arc (f, g, h, e, wf, wg, wh). cc)
-arc_or_not (a ∷ []) = inr (λ arc (f, g, h, e, wf, wg, wh). cc)
-arc_or_not (a ∷ x ∷ []) = inr (λ arc (f, g, h, e, wf, wg, wh). cc)
-arc_or_not (a ∷ x ∷ y ∷ []) = inr (λ arc (f, g, h, e, wf, wg, wh). cc)
-arc_or_not (a ∷ x ∷ y ∷ z ∷ other ∷ more) = inr (λ arc (f, g, h, e, wf, wg, wh). cc)
-arc_or_not (a ∷ x ∷ y ∷ z ∷ []) = elim (same_or_not a (codes "a")) [
-  | inr differ ↦ inr (λ arc (f, g, h, e, wf, wg, wh). differ (cc))
-  | inl is ↦ elim (number_or_not x) [
-    | inr none ↦ inr (λ arc (f, g, h, e, wf, wg, wh). let same : f ≡ x = cc in none arc.tail (subst (λ (s : List ℕ). Writes s arc.tail) same wf))
-    | inl (u, wx) ↦ elim (number_or_not y) [
-      | inr none ↦ inr (λ arc (f, g, h, e, wf, wg, wh). let same : g ≡ y = cc in none arc.head (subst (λ (s : List ℕ). Writes s arc.head) same wg))
-      | inl (v, wy) ↦ elim (signed_or_not z) [
-        | inr none ↦ inr (λ arc (f, g, h, e, wf, wg, wh). let same : h ≡ z = cc in none arc.weight (subst (λ (s : List ℕ). WritesSigned s arc.weight) same wh))
-        | inl (w, wz) ↦ inl (
-          record { tail = u; head = v; weight = w },
-          (x, y, z, ap (λ (s : List ℕ). s ∷ x ∷ y ∷ z ∷ []) is, wx, wy, wz),
-        )
-      ]
+arc_or_not : (fields : List (List ℕ)) → ((arc : Arc) × FieldsSay fields (ArcLine arc)) ⊎ ¬ ((arc : Arc) × FieldsSay fields (ArcLine arc))
+arc_or_not (a ∷ x ∷ y ∷ z ∷ []) =
+    elim (both_or_not (same_or_not a (codes "a")) (both_or_not (number_or_not x) (both_or_not (number_or_not y) (signed_or_not z)))) [
+      | inl (is, ((u, wx), ((v, wy), (w, wz)))) ↦ inl (record { tail = u; head = v; weight = w }, (x, y, z, cc, wx, wy, wz))
+      | inr never ↦ inr (λ (arc, (f, g, h, e, wf, wg, wh)).
+          let is : a ≡ codes "a" = cc in
+          let sf : f ≡ x = cc in
+          let sg : g ≡ y = cc in
+          let sh : h ≡ z = cc in
+          never (is, ((arc.tail, subst (λ (s : List ℕ). Writes s arc.tail) sf wf), ((arc.head, subst (λ (s : List ℕ). Writes s arc.head) sg wg), (arc.weight, subst (λ (s : List ℕ). WritesSigned s arc.weight) sh wh)))))
     ]
-  ]
-]
+arc_or_not fields = inr (λ (arc, (f, g, h, e, wf, wg, wh)). cc)
 
 comment_or_not : (first : List ℕ) (others : List (List ℕ)) → AreSilent (first ∷ others) ⊎ ¬ (AreSilent (first ∷ others))
 comment_or_not [] others = inr (λ silent. silent)
-comment_or_not (b ∷ bytes) others = elim (eqb_tells b 99) [ inl (test, is) ↦ inl is | inr (test, other) ↦ inr other ]
+comment_or_not (b ∷ bytes) others = cases_eq b 99
 
 fields_sort : (fields : List (List ℕ)) → (sort : LineSort) × AreOfSort fields sort
 fields_sort [] = (Nothing, tt)
 fields_sort (first ∷ others) = elim (same_or_not first (codes "p")) [
   | inl p ↦ elim (problem_or_not (first ∷ others)) [
     | inl (n, m, says) ↦ (Makes (Problem n m), says)
-    | inr never ↦ (NoProblem, ((others, ap (λ (x : List ℕ). x ∷ others) p), never))
+    | inr never ↦ (NoProblem, ((others, ap (λ (x : List ℕ). x ∷ others) p), λ n m says. never (n, m, says)))
   ]
   | inr not_p ↦ elim (same_or_not first (codes "a")) [
     | inl a ↦ elim (arc_or_not (first ∷ others)) [
       | inl (arc, says) ↦ (Makes (ArcLine arc), says)
-      | inr never ↦ (NoArc, ((others, ap (λ (x : List ℕ). x ∷ others) a), never))
+      | inr never ↦ (NoArc, ((others, ap (λ (x : List ℕ). x ∷ others) a), λ arc says. never (arc, says)))
     ]
     | inr not_a ↦ elim (comment_or_not first others) [
       | inl silent ↦ (Nothing, silent)
@@ -175,59 +120,44 @@ sort_of line =
     let (sort, of_sort) = fields_sort fields in
     (sort, (fields, are, of_sort))
 
--- no first field is of two sorts
-letters_differ : (fields others more : List (List ℕ)) → fields ≡ codes "p" ∷ others → fields ≡ codes "a" ∷ more → ⊥
-letters_differ fields others more p a =
-    let same : codes "p" ∷ others ≡ codes "a" ∷ more = sym p ∙ a in
-    let letters : codes "p" ≡ codes "a" = cc in omega (arith, head_is 112 97 [] [] letters)
+-- the first field of a line of a sort, where it has one
+abbrev Begins : LineSort → List ℕ → Type 0
+Begins Nothing first = BeginsComment first
+Begins (Makes (Problem n m)) first = first ≡ codes "p"
+Begins (Makes (ArcLine arc)) first = first ≡ codes "a"
+Begins NoProblem first = first ≡ codes "p"
+Begins NoArc first = first ≡ codes "a"
+Begins Unknown first = (first ≢ codes "p") × (first ≢ codes "a")
 
-problem_makes : (fields : List (List ℕ)) (s : Statement) → AreOfSort fields NoProblem → FieldsSay fields s → ⊥
-problem_makes fields (Problem n m) (begins, never) says = never n m says
-problem_makes fields (ArcLine arc) ((others, is), never) (f, g, h, e, wf, wg, wh) = letters_differ fields others (f ∷ g ∷ h ∷ []) is e
+begins_of : (first : List ℕ) (others : List (List ℕ)) (s : LineSort) → AreOfSort (first ∷ others) s → Begins s first
+begins_of first others Nothing silent = comment_of_silent first others silent
+begins_of first others (Makes (Problem n m)) (f, g, is, wf, wg) = cc
+begins_of first others (Makes (ArcLine arc)) (f, g, h, is, wf, wg, wh) = cc
+begins_of first others NoProblem ((more, is), never) = cc
+begins_of first others NoArc ((more, is), never) = cc
+begins_of first others Unknown ((f, more, is, not_p, not_a), loud) = let same : f ≡ first = cc in (λ p. not_p (same ∙ p), λ a. not_a (same ∙ a))
 
-arc_makes : (fields : List (List ℕ)) (s : Statement) → AreOfSort fields NoArc → FieldsSay fields s → ⊥
-arc_makes fields (ArcLine arc) (begins, never) says = never arc says
-arc_makes fields (Problem n m) ((others, is), never) (f, g, e, wf, wg) = letters_differ fields (codes "sp" ∷ f ∷ g ∷ []) others e is
+none_is_silent : (s : LineSort) → AreOfSort [] s → s ≡ Nothing
+none_is_silent Nothing silent = refl
+none_is_silent (Makes (Problem n m)) (f, g, is, wf, wg) = absurd (cc)
+none_is_silent (Makes (ArcLine arc)) (f, g, h, is, wf, wg, wh) = absurd (cc)
+none_is_silent NoProblem ((more, is), never) = absurd (cc)
+none_is_silent NoArc ((more, is), never) = absurd (cc)
+none_is_silent Unknown ((f, more, is, not_p, not_a), loud) = absurd (cc)
 
-unknown_begins : (fields others : List (List ℕ)) (letter : List ℕ) → AreOfSort fields Unknown → (letter ≡ codes "p") ⊎ (letter ≡ codes "a") → fields ≡ letter ∷ others → ⊥
-unknown_begins fields others letter ((first, rest, is, not_p, not_a), loud) which e =
-    let same : first ∷ rest ≡ letter ∷ others = sym is ∙ e in
-    let heads : first ≡ letter = cc in
-    elim which [ inl p ↦ not_p (heads ∙ p) | inr a ↦ not_a (heads ∙ a) ]
-
-unknown_makes : (fields : List (List ℕ)) (s : Statement) → AreOfSort fields Unknown → FieldsSay fields s → ⊥
-unknown_makes fields (Problem n m) unknown (f, g, e, wf, wg) = unknown_begins fields _ (codes "p") unknown (inl refl) e
-unknown_makes fields (ArcLine arc) unknown (f, g, h, e, wf, wg, wh) = unknown_begins fields _ (codes "a") unknown (inr refl) e
-
-silent_begins : (fields others : List (List ℕ)) (letter : ℕ) → letter ≢ 99 → AreSilent fields → fields ≡ (letter ∷ []) ∷ others → ⊥
-silent_begins fields others letter other silent is = other (subst AreSilent is silent)
-
+-- No line is of two sorts: its first field tells them apart, or else what the fields say.
 sort_unique : (fields : List (List ℕ)) (s t : LineSort) → AreOfSort fields s → AreOfSort fields t → s ≡ t
-sort_unique fields Nothing Nothing a b = refl
-sort_unique fields Nothing (Makes t) a b = absurd (silent_or_says fields t a b)
-sort_unique fields Nothing NoProblem a b = absurd (silent_begins fields b.0.0 112 (λ e. omega arith) a b.0.1)
-sort_unique fields Nothing NoArc a b = absurd (silent_begins fields b.0.0 97 (λ e. omega arith) a b.0.1)
-sort_unique fields Nothing Unknown a b = absurd (b.1 a)
-sort_unique fields (Makes s) Nothing a b = absurd (silent_or_says fields s b a)
 sort_unique fields (Makes s) (Makes t) a b = ap Makes (FieldsSay-unique fields s t a b)
-sort_unique fields (Makes s) NoProblem a b = absurd (problem_makes fields s b a)
-sort_unique fields (Makes s) NoArc a b = absurd (arc_makes fields s b a)
-sort_unique fields (Makes s) Unknown a b = absurd (unknown_makes fields s b a)
-sort_unique fields NoProblem Nothing a b = absurd (silent_begins fields a.0.0 112 (λ e. omega arith) b a.0.1)
-sort_unique fields NoProblem (Makes t) a b = absurd (problem_makes fields t a b)
-sort_unique fields NoProblem NoProblem a b = refl
-sort_unique fields NoProblem NoArc a b = absurd (letters_differ fields a.0.0 b.0.0 a.0.1 b.0.1)
-sort_unique fields NoProblem Unknown a b = absurd (unknown_begins fields a.0.0 (codes "p") b (inl refl) a.0.1)
-sort_unique fields NoArc Nothing a b = absurd (silent_begins fields a.0.0 97 (λ e. omega arith) b a.0.1)
-sort_unique fields NoArc (Makes t) a b = absurd (arc_makes fields t a b)
-sort_unique fields NoArc NoProblem a b = absurd (letters_differ fields b.0.0 a.0.0 b.0.1 a.0.1)
-sort_unique fields NoArc NoArc a b = refl
-sort_unique fields NoArc Unknown a b = absurd (unknown_begins fields a.0.0 (codes "a") b (inr refl) a.0.1)
+sort_unique fields (Makes (Problem n m)) NoProblem a b = absurd (b.1 n m a)
+sort_unique fields NoProblem (Makes (Problem n m)) a b = absurd (a.1 n m b)
+sort_unique fields (Makes (ArcLine arc)) NoArc a b = absurd (b.1 arc a)
+sort_unique fields NoArc (Makes (ArcLine arc)) a b = absurd (a.1 arc b)
+sort_unique fields Nothing Unknown a b = absurd (b.1 a)
 sort_unique fields Unknown Nothing a b = absurd (a.1 b)
-sort_unique fields Unknown (Makes t) a b = absurd (unknown_makes fields t a b)
-sort_unique fields Unknown NoProblem a b = absurd (unknown_begins fields b.0.0 (codes "p") a (inl refl) b.0.1)
-sort_unique fields Unknown NoArc a b = absurd (unknown_begins fields b.0.0 (codes "a") a (inr refl) b.0.1)
-sort_unique fields Unknown Unknown a b = refl
+sort_unique [] s t a b = none_is_silent s a ∙ sym (none_is_silent t b)
+sort_unique (first ∷ others) s t a b =
+    let x : Begins s first = begins_of first others s a in
+    let y : Begins t first = begins_of first others t b in grind arith
 
 pub IsOfSort-unique : (line : List ℕ) (s t : LineSort) → IsOfSort line s → IsOfSort line t → s ≡ t
 IsOfSort-unique line s t (fs, are, a) (gs, are', b) =
