@@ -4,14 +4,10 @@ use Rattle.std.specs.List.{AllByRecursion, flat_map}
 use Rattle.std.proofs.lemmas.Grind.{flat_map-append}
 use Rattle.std.proofs.lemmas.Bool.Decides.{eqb_tells}
 use Rattle.gr_text.specs.Lines.{line_feed, IsLine, ended, EndsLines}
-use Rattle.gr_text.proofs.Steps.{AllByRecursion-push}
+use Rattle.gr_text.proofs.Alls.{All-both, All-push}
 
 pub EndsLines-none : EndsLines [] [] []
 EndsLines-none = record { whole = refl; each = tt; last = tt }
-
-pub All-both : {X : Type 0} (P : X → Type 0) (xs ys : List X) → AllByRecursion P xs → AllByRecursion P ys → AllByRecursion P (xs ++ ys)
-All-both P [] ys px py = py
-All-both P (x ∷ xs) ys px py = (px.0, All-both P xs ys px.1 py)
 
 -- more bytes of a line
 pub EndsLines-bytes : (text : List ℕ) (lines : List (List ℕ)) (part more : List ℕ) → EndsLines text lines part → IsLine more → EndsLines (text ++ more) lines (part ++ more)
@@ -27,7 +23,7 @@ EndsLines-feed text lines part cut = record {
   whole = ap (λ (xs : List ℕ). xs ++ line_feed ∷ []) cut.whole ∙ append_assoc (flat_map ended lines) part (line_feed ∷ [])
       ∙ ap (λ (xs : List ℕ). flat_map ended lines ++ xs) (sym (append-nil (ended part)))
       ∙ sym (flat_map-append ended lines (part ∷ [])) ∙ sym (append-nil (flat_map ended (lines ++ part ∷ [])));
-  each = AllByRecursion-push IsLine lines part cut.each cut.last;
+  each = All-push IsLine lines part cut.each cut.last;
   last = tt;
 }
 

@@ -16,7 +16,7 @@ use Rattle.gr_text.proofs.OrNot.{both_or_not, within_or_not}
 use Rattle.gr_text.proofs.Steps.{Say-silent, AreLawfulLines-silent, AreLawfulLines-problem, AreLawfulLines-arc}
 use Rattle.gr_text.proofs.Cuts.{cut_of}
 use Rattle.gr_text.proofs.Sorts.{sort_of}
-use Rattle.gr_text.proofs.Faulty.{fault_is_faulty}
+use Rattle.gr_text.proofs.Faulty.{first_faulty_at}
 
 -- whether an arc is one of the problem
 ends_or_not : (n : ℕ) (arc : Arc) → HasEnds n arc ⊎ ¬ (HasEnds n arc)
@@ -80,20 +80,7 @@ lines_go (line ∷ lines) before lawful = elim (line_goes before line lawful) [
     | inl all ↦ inl (subst AreLawfulSoFar (append_assoc before (line ∷ []) lines) all)
     | inr (number, kind, first) ↦ inr (number, kind, subst (λ (xs : List (List ℕ)). IsFirstFaulty xs number kind) (append_assoc before (line ∷ []) lines) first)
   ]
-  | inr (kind, fits) ↦ inr (
-    length before + 1,
-    kind,
-    record {
-      before = before;
-      line = line;
-      after = lines;
-      parted = refl;
-      counted = refl;
-      lawful = lawful;
-      faulty = fault_is_faulty before line kind fits;
-      kind_fits = fits;
-    },
-  )
+  | inr (kind, fits) ↦ inr (length before + 1, kind, first_faulty_at before line lines (length before + 1) kind lawful refl fits)
 ]
 
 pub means_or_fails : MeansOrFails

@@ -11,7 +11,7 @@ use Rattle.gr_text.specs.Reader.{ReadingValue, Stands, StopsBy, FailsBy, IsRead,
 use Rattle.gr_text.specs.declared.faults.GrKind.{GrKind}
 use Rattle.gr_text.specs.declared.faults.ReadFault.{ReadFault}
 use Rattle.gr_text.specs.declared.faults.ReadFault.TheVariants as fault
-use Rattle.gr_text.proofs.Faulty.{fault_is_faulty}
+use Rattle.gr_text.proofs.Faulty.{first_faulty_at}
 use Rattle.gr_text.proofs.Feeding.{IsFirstFaulty-more}
 use Rattle.gr_text.proofs.Standing.{lawful_of}
 
@@ -41,19 +41,10 @@ first_of_ended text number kind (lines, rest, cut, first) =
 pub last_fault : (e : ReadFault) (r : ReadingValue) (text : List ℕ) → (stands : Stands r text) → is_begun stands.part ≡ true → IsLineFault e r.number stands.lines stands.part
     → IsReadWhole text (Err e)
 last_fault (fault.Gr f) r text stands begun (line_is, fits) =
-    let lawful = lawful_of r.so_far stands.lines stands.give in (
+    let first = first_faulty_at stands.lines stands.part [] f.line f.kind (lawful_of r.so_far stands.lines stands.give) (line_is ∙ stands.numbered) fits in (
       with_last stands.lines stands.part,
       (stands.lines, stands.part, stands.cut, refl),
-      inl (subst (λ (xs : List (List ℕ)). IsFirstFaulty xs f.line f.kind) (sym (with_last-begun stands.lines stands.part begun)) (record {
-        before = stands.lines;
-        line = stands.part;
-        after = [];
-        parted = refl;
-        counted = line_is ∙ stands.numbered;
-        lawful = lawful;
-        faulty = fault_is_faulty stands.lines stands.part f.kind fits;
-        kind_fits = fits;
-      })),
+      inl (subst (λ (xs : List (List ℕ)). IsFirstFaulty xs f.line f.kind) (sym (with_last-begun stands.lines stands.part begun)) first),
     )
 last_fault (fault.Source k) r text stands begun no_such = no_such
 last_fault fault.TooLong r text stands begun no_such = no_such

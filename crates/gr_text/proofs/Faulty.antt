@@ -7,8 +7,10 @@ use Rattle.link_key.specs.Arc.{Arc}
 use Rattle.gr_text.specs.Statement.{Statement, Problem, ArcLine, IsSilent, Says, Say}
 use Rattle.gr_text.specs.Sort.{LineSort, Nothing, Makes, IsOfSort}
 use Rattle.gr_text.specs.Graph.{IsArcOf, AreLawfulLines, AreLawfulSoFar}
-use Rattle.gr_text.specs.Fault.{Told, Unsaid, Stated, AreTold, IsWrong, IsFaultAfter}
+use Rattle.gr_text.specs.Fault.{Told, Unsaid, Stated, AreTold, IsWrong, IsFaultAfter, IsFirstFaulty}
 use Rattle.gr_text.specs.declared.faults.GrKind.{GrKind}
+use Rattle.gr_text.proofs.Alls.{All-parts}
+use Rattle.gr_text.proofs.Steps.{AreLawfulLines-like}
 use Rattle.gr_text.proofs.Sorts.{IsOfSort-unique}
 use Rattle.gr_text.proofs.Texts.{told_unique}
 
@@ -41,10 +43,6 @@ arcs_split (a ∷ arcs) (t ∷ told) s e =
     let (front, last, whole, is, same) = arcs_split arcs told s tails in
     (a ∷ front, last, cc, cc, same)
 
-front_and_last : {X : Type 0} (P : X → Type 0) (xs : List X) (x : X) → AllByRecursion P (xs ++ x ∷ []) → AllByRecursion P xs × P x
-front_and_last P [] x all = (tt, all.0)
-front_and_last P (y ∷ xs) x all = let (front, last) = front_and_last P xs x all.1 in ((all.0, front), last)
-
 -- what the last of lawful lines may be, by what the others say
 abbrev EndsLawfully : Told → List ℕ → Type 0
 EndsLawfully Unsaid line = IsSilent line ⊎ ((n m : ℕ) × Says line (Problem n m) × (n ≤ MAX_VERTICES) × (m ≤ MAX_ARCS))
@@ -59,11 +57,11 @@ speaks_last lines whole line n m arcs (t ∷ told) s lawful says tells same =
     let tails : map ArcLine arcs ≡ told ++ s ∷ [] = cc in
     let (front, last, parted, is, adds) = arcs_split arcs told s tails in
     let before : t ∷ told ≡ Problem n m ∷ map ArcLine front = cc in
-    let (each, is_arc) = front_and_last (IsArcOf n) front last (subst (AllByRecursion (IsArcOf n)) parted lawful.each) in
+    let (each, is_arc) = All-parts (IsArcOf n) front (last ∷ []) (subst (AllByRecursion (IsArcOf n)) parted lawful.each) in
     let room : length front < m = omega (arith, lawful.no_more, ap length parted, length_push front last) in (
       Stated n m front,
       record { say = subst (Say lines) before says; vertices = lawful.vertices; arc_lines = lawful.arc_lines; no_more = omega arith; each = each },
-      inr (last, subst (Says line) adds tells, is_arc, room),
+      inr (last, subst (Says line) adds tells, is_arc.0, room),
     )
 
 pub lawful_ends : (lines : List (List ℕ)) (line : List ℕ) → AreLawfulSoFar (lines ++ line ∷ []) → (told : Told) × AreTold lines told × EndsLawfully told line
@@ -80,18 +78,12 @@ lawful_ends lines line (inl say) =
 lawful_ends lines line (inr (n, m, arcs, lawful)) =
     let (told, says, last) = Say-split lines line (Problem n m ∷ map ArcLine arcs) lawful.say in
     elim last [
-      | inl (quiet, same) ↦ (Stated n m arcs, record {
-        say = subst (Say lines) (sym same) says;
-        vertices = lawful.vertices;
-        arc_lines = lawful.arc_lines;
-        no_more = lawful.no_more;
-        each = lawful.each;
-      }, inl quiet)
+      | inl (quiet, same) ↦ (Stated n m arcs, AreLawfulLines-like (lines ++ line ∷ []) lines n m arcs lawful (subst (Say lines) (sym same) says), inl quiet)
       | inr (s, tells, same) ↦ speaks_last lines (lines ++ line ∷ []) line n m arcs told s lawful says tells same
     ]
 
 -- The kind says something of the line that no lawful line after those is.
-pub fault_is_faulty : (before : List (List ℕ)) (line : List ℕ) (kind : GrKind) → IsFaultAfter before line kind → ¬ (AreLawfulSoFar (before ++ line ∷ []))
+fault_is_faulty : (before : List (List ℕ)) (line : List ℕ) (kind : GrKind) → IsFaultAfter before line kind → ¬ (AreLawfulSoFar (before ++ line ∷ []))
 fault_is_faulty before line kind fault lawful =
     let (told, said, ends) = lawful_ends before line lawful in
     no_such told (subst (λ (t : Told). IsWrong fault.sort t kind) (told_unique before fault.told told fault.said said) fault.wrong) ends
@@ -104,3 +96,17 @@ fault_is_faulty before line kind fault lawful =
     no_such Unsaid wrong (inr (n, m, says, small, few)) = elim (as_sort Unsaid (Makes (Problem n m)) says wrong).0 [ inl more ↦ omega arith | inr more ↦ omega arith ]
     no_such (Stated n m arcs) wrong (inr (arc, says, is_arc, room)) =
         elim (as_sort (Stated n m arcs) (Makes (ArcLine arc)) says wrong) [ inl full ↦ omega (arith, full.0) | inr (inl bad) ↦ bad.1 is_arc.0 | inr (inr bad) ↦ bad.2 is_arc.1 ]
+
+-- a line with a fault behind lawful ones is the first faulty one
+pub first_faulty_at : (before : List (List ℕ)) (line : List ℕ) (after : List (List ℕ)) (number : ℕ) (kind : GrKind) → AreLawfulSoFar before → number ≡ length before + 1
+    → IsFaultAfter before line kind → IsFirstFaulty (before ++ line ∷ after) number kind
+first_faulty_at before line after number kind lawful counted fits = record {
+  before = before;
+  line = line;
+  after = after;
+  parted = refl;
+  counted = counted;
+  lawful = lawful;
+  faulty = fault_is_faulty before line kind fits;
+  kind_fits = fits;
+}

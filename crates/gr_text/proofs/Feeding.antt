@@ -4,7 +4,8 @@ use Rattle.std.specs.List.{AllByRecursion, flat_map, count_by}
 use Rattle.std.proofs.lemmas.List.{take-append-le}
 use Rattle.std.proofs.Math.Seq.{take-append-add, take-nil}
 use Rattle.std.proofs.lemmas.List.Sums.{sum_by-append}
-use Rattle.std.proofs.lemmas.Bool.Decides.{eqb_tells, leb_tells}
+use Rattle.std.proofs.lemmas.Bool.{cases_lt}
+use Rattle.std.proofs.lemmas.Bool.Decides.{eqb_tells}
 use Rattle.gr_text.specs.Lines.{line_feed, IsLine, ended, EndsLines}
 use Rattle.gr_text.specs.Fault.{IsFirstFaulty, IsEndedFault, HasLawfulLines}
 use Rattle.gr_text.specs.Reader.{ReaderValue, ReadingValue, Stands, StopsAt, StopsBy, HasRead}
@@ -32,14 +33,11 @@ IsEndedFault-more text more number kind (lines, rest, cut, first) =
     let (others, r, cut') = cut_of (rest ++ more) in
     (lines ++ others, r, EndsLines-more text more lines others rest r cut cut', IsFirstFaulty-more lines others number kind first)
 
-order_of : (a b : ℕ) → (a ≤ b) ⊎ (b ≤ a)
-order_of a b = elim (leb_tells a b) [ inl (test, less) ↦ inl (omega arith) | inr (test, more) ↦ inr (omega arith) ]
-
 -- a prefix of a longer text
 pub take_of_more : (limit : ℕ) (text more : List ℕ) → take limit (text ++ more) ≡ take limit text ++ take (limit - length text) more
-take_of_more limit text more = elim (order_of limit (length text)) [
+take_of_more limit text more = elim (cases_lt limit (length text)) [
   | inl short ↦ (let none : limit - length text ≡ 0 = omega arith in
-      take-append-le limit text more short ∙ sym (append-nil (take limit text)) ∙ ap (λ (k : ℕ). take limit text ++ take k more) (sym none))
+      take-append-le limit text more (omega arith) ∙ sym (append-nil (take limit text)) ∙ ap (λ (k : ℕ). take limit text ++ take k more) (sym none))
   | inr long ↦ (let whole : limit ≡ length text + (limit - length text) = omega arith in
       ap (λ (k : ℕ). take k (text ++ more)) whole ∙ take-append-add text more (limit - length text) ∙ ap (λ (xs : List ℕ). xs ++ take (limit - length text) more) (sym (take_all limit text long)))
 ]
@@ -56,19 +54,13 @@ StopsBy-more fault.Memory limit text more stops = tt
 -- what the reader has read, by whether it has a fault
 pub read_on : (reader : ReaderValue) (text : List ℕ) → reader.fault ≡ None → HasRead reader text
     → (length text ≤ reader.limit) × (length text ≡ reader.fed) × Stands reader.reading text
-read_on reader text is read =
-    let P : Option ReadFault → Type 0 = λ o. MatchOption o ((length text ≤ reader.limit) × (length text ≡ reader.fed) × Stands reader.reading text) (λ f. StopsBy f reader.limit text) in
-    subst P is read.outcome
+read_on reader text is read = rw is at read.outcome
 
 pub stopped_by : (reader : ReaderValue) (e : ReadFault) (text : List ℕ) → reader.fault ≡ Some e → HasRead reader text → StopsBy e reader.limit text
-stopped_by reader e text is read =
-    let P : Option ReadFault → Type 0 = λ o. MatchOption o ((length text ≤ reader.limit) × (length text ≡ reader.fed) × Stands reader.reading text) (λ f. StopsBy f reader.limit text) in
-    subst P is read.outcome
+stopped_by reader e text is read = rw is at read.outcome
 
 pub has_stopped : (reader : ReaderValue) (e : ReadFault) (text : List ℕ) → reader.fault ≡ Some e → StopsBy e reader.limit text → HasRead reader text
-has_stopped reader e text is stops =
-    let P : Option ReadFault → Type 0 = λ o. MatchOption o ((length text ≤ reader.limit) × (length text ≡ reader.fed) × Stands reader.reading text) (λ f. StopsBy f reader.limit text) in
-    record { outcome = subst P (sym is) stops }
+has_stopped reader e text is stops = record { outcome = rw is stops }
 
 -- a reader that has stopped
 pub HasRead-fault : (reader : ReaderValue) (e : ReadFault) (text more : List ℕ) → reader.fault ≡ Some e → HasRead reader text → HasRead reader (text ++ more)
@@ -78,7 +70,7 @@ HasRead-fault reader e text more is read = has_stopped reader e (text ++ more) i
 pub fitting : (limit fed len : ℕ) (text piece : List ℕ) → length text ≡ fed → fed ≤ limit → len ≡ min (limit - fed) (length piece) → take limit (text ++ piece) ≡ text ++ take len piece
 fitting limit fed len text piece counted within is =
     take_of_more limit text piece ∙ ap (λ (xs : List ℕ). xs ++ take (limit - length text) piece) (take_all limit text (omega arith))
-    ∙ ap (λ (xs : List ℕ). text ++ xs) (elim (order_of (limit - length text) (length piece)) [
+    ∙ ap (λ (xs : List ℕ). text ++ xs) (elim (cases_lt (limit - length text) (length piece)) [
       | inl short ↦ (let same : limit - length text ≡ len = omega arith in ap (λ (k : ℕ). take k piece) same)
       | inr long ↦ (let same : len ≡ length piece = omega arith in take_all (limit - length text) piece long ∙ sym (ap (λ (k : ℕ). take k piece) same ∙ take_all (length piece) piece (omega arith)))
     ])

@@ -3,6 +3,8 @@ use Rattle.std.proofs.Common.{◌≡◌, ◌≢◌, ℕ, ◌+◌, ◌*◌, ◌-�
 use Rattle.std.specs.List.{AllByRecursion}
 use Rattle.gr_text.specs.Fields.{IsDigit, Writes}
 use Rattle.std.proofs.Common.{append-nil}
+use Rattle.std.proofs.lemmas.List.Sums.{fold-append}
+use Rattle.gr_text.proofs.Alls.{All-push, All-parts}
 use Rattle.gr_text.specs.Word.{IsToken, BeginsComment, WordMeans}
 use Rattle.gr_text.specs.declared.words.Word.{Word}
 use Rattle.gr_text.specs.declared.words.Word.TheVariants as word
@@ -11,24 +13,14 @@ use Rattle.gr_text.specs.declared.words.Word.TheVariants as word
 pub BeginsComment-more : (bytes : List ℕ) (b : ℕ) → BeginsComment bytes → BeginsComment (bytes ++ b ∷ [])
 BeginsComment-more bytes b (others, e) = (others ++ b ∷ [], ap (λ (xs : List ℕ). xs ++ b ∷ []) e)
 
--- every byte of digits is a digit
-digit_inside : (xs : List ℕ) (b : ℕ) (ys : List ℕ) → AllByRecursion IsDigit (xs ++ b ∷ ys) → IsDigit b
-digit_inside [] b ys all = all.0
-digit_inside (x ∷ xs) b ys all = digit_inside xs b ys all.1
-
-digits-more : (xs : List ℕ) (b : ℕ) → AllByRecursion IsDigit xs → IsDigit b → AllByRecursion IsDigit (xs ++ b ∷ [])
-digits-more [] b all d = (d, tt)
-digits-more (x ∷ xs) b all d = (all.0, digits-more xs b all.1 d)
-
 pub fold-more : (xs : List ℕ) (a b : ℕ) → fold (λ n b. 10 * n + (b - 48)) a (xs ++ b ∷ []) ≡ 10 * fold (λ n b. 10 * n + (b - 48)) a xs + (b - 48)
-fold-more [] a b = refl
-fold-more (x ∷ xs) a b = fold-more xs (10 * a + (x - 48)) b
+fold-more xs a b = fold-append (λ n b. 10 * n + (b - 48)) a xs (b ∷ [])
 
 -- one more digit
 pub Writes-more : (digits : List ℕ) (b n : ℕ) → Writes digits n → IsDigit b → Writes (digits ++ b ∷ []) (10 * n + (b - 48))
 Writes-more [] b n w d = absurd (w.0 refl)
 Writes-more (x ∷ xs) b n w d =
-    (λ (e : (x ∷ xs) ++ b ∷ [] ≡ []). cc, digits-more (x ∷ xs) b w.1 d, fold-more (x ∷ xs) 0 b ∙ ap (λ (k : ℕ). 10 * k + (b - 48)) w.2)
+    (λ (e : (x ∷ xs) ++ b ∷ [] ≡ []). cc, All-push IsDigit (x ∷ xs) b w.1 d, fold-more (x ∷ xs) 0 b ∙ ap (λ (k : ℕ). 10 * k + (b - 48)) w.2)
 
 -- a first digit
 pub Writes-one : (b : ℕ) → IsDigit b → Writes (b ∷ []) (b - 48)
@@ -49,7 +41,7 @@ number_broken (x ∷ xs) b n w other = (
     | inr (inr (inl e)) ↦ (let h : x ≡ 115 = cc in omega (arith, w.1.0))
     | inr (inr (inr (inl (others, e)))) ↦ (let h : x ≡ 99 = cc in omega (arith, w.1.0))
     | inr (inr (inr (inr (z, inl (k, writes, e))))) ↦
-        other (digit_inside (x ∷ xs) b more (subst (AllByRecursion IsDigit) (append_assoc (x ∷ xs) (b ∷ []) more) writes.1))
+        other (All-parts IsDigit (x ∷ xs) (b ∷ more) (subst (AllByRecursion IsDigit) (append_assoc (x ∷ xs) (b ∷ []) more) writes.1)).1.0
     | inr (inr (inr (inr (z, inr (ds, k, e, writes, f))))) ↦ (let h : x ≡ 45 = cc in omega (arith, w.1.0))
   ],
 )
@@ -69,7 +61,7 @@ negative_broken (x ∷ xs) digits b n is w other =
         | inr (inr (inr (inr (z, inl (k, writes, e))))) ↦ omega (arith, writes.1.0)
         | inr (inr (inr (inr (z, inr (ds, k, e, writes, f))))) ↦
             (let tail : (xs ++ b ∷ []) ++ more ≡ ds = cc in
-            other (digit_inside xs b more (subst (AllByRecursion IsDigit) (sym tail ∙ append_assoc xs (b ∷ []) more) writes.1)))
+            other (All-parts IsDigit xs (b ∷ more) (subst (AllByRecursion IsDigit) (sym tail ∙ append_assoc xs (b ∷ []) more) writes.1)).1.0)
       ],
     )
 

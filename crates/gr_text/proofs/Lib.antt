@@ -6,6 +6,7 @@ pub mod Unique
 pub mod Steps
 pub mod Parts
 pub mod PlainLines
+pub mod Alls
 pub mod OrNot
 pub mod Sorts
 pub mod Faulty

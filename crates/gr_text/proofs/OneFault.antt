@@ -75,23 +75,20 @@ one_kind before line kind another a b =
     let sort = IsOfSort-unique line a.sort b.sort a.of_sort b.of_sort in
     wrong_unique b.sort b.told kind another (subst (λ (t : Told). IsWrong b.sort t kind) told (subst (λ (s : LineSort). IsWrong s a.told kind) sort a.wrong)) b.wrong
 
-lack_place : (lines : List (List ℕ)) (kind : GrKind) → Lacks lines kind
-    → (((n m : ℕ) × (arcs : List Arc) × AreLawfulLines lines n m arcs) × (kind ≡ MissingArcs)) ⊎ (Say lines [] × (kind ≡ MissingProblem))
-lack_place lines MissingProblem none = inr (none, refl)
-lack_place lines MissingArcs (n, m, arcs, known, few) = inl ((n, m, arcs, known), refl)
-lack_place lines kind lacks = absurd lacks
+abbrev lack : Told → GrKind
+lack Unsaid = MissingProblem
+lack (Stated n m arcs) = MissingArcs
+
+lack_told : (lines : List (List ℕ)) (kind : GrKind) → Lacks lines kind → (told : Told) × AreTold lines told × (kind ≡ lack told)
+lack_told lines MissingProblem none = (Unsaid, none, refl)
+lack_told lines MissingArcs (n, m, arcs, known, few) = (Stated n m arcs, known, refl)
+lack_told lines kind lacks = absurd lacks
 
 one_lack : (lines : List (List ℕ)) (kind another : GrKind) → Lacks lines kind → Lacks lines another → kind ≡ another
-one_lack lines kind another a b = elim (lack_place lines kind a) [
-  | inl ((n, m, arcs, known), is) ↦ elim (lack_place lines another b) [
-    | inl (more, too) ↦ is ∙ sym too
-    | inr (none, too) ↦ absurd (let same : Stated n m arcs ≡ Unsaid = told_unique lines (Stated n m arcs) Unsaid known none in cc)
-  ]
-  | inr (none, is) ↦ elim (lack_place lines another b) [
-    | inl ((n, m, arcs, known), too) ↦ absurd (let same : Stated n m arcs ≡ Unsaid = told_unique lines (Stated n m arcs) Unsaid known none in cc)
-    | inr (more, too) ↦ is ∙ sym too
-  ]
-]
+one_lack lines kind another a b =
+    let (told, said, is) = lack_told lines kind a in
+    let (told', said', is') = lack_told lines another b in
+    is ∙ ap lack (told_unique lines told told' said said') ∙ sym is'
 
 -- Two places of one list are the same, or one stands before the other.
 abbrev Precedes : {X : Type 0} → List X → X → List X → Type 0

@@ -8,9 +8,8 @@ use Rattle.gr_text.specs.Word.{KeepsSigned}
 use Rattle.gr_text.specs.Partial.{IsWhole}
 use Rattle.gr_text.specs.PlainArc.{IsShort, IsShortSigned, IsPlainArc, BeginsWithShort}
 use Rattle.gr_text.specs.declared.words.Line.TheVariants.{ArcWhole}
-use Rattle.gr_text.proofs.Cuts.{All-both}
+use Rattle.gr_text.proofs.Alls.{All-both, All-push}
 use Rattle.gr_text.proofs.Unique.{prefix_unique}
-use Rattle.gr_text.proofs.Steps.{AllByRecursion-push}
 
 all_as : (P Q : ℕ → Type 0) → ((b : ℕ) → P b → Q b) → (xs : List ℕ) → AllByRecursion P xs → AllByRecursion Q xs
 all_as P Q weaker [] all = tt
@@ -101,20 +100,14 @@ plain_found bytes fields second third rest u v w begins (tail, short_tail, keeps
           ∙ sym (plain_spelled line rest tail head weight refl),
     )
 
--- a short field before a byte that is no digit: it is one, and what follows too
-short_unique : (stop : ℕ) (field other rest more : List ℕ) → ¬ (IsDigit stop) → IsShort field → IsShort other → field ++ stop ∷ rest ≡ other ++ stop ∷ more
-    → (field ≡ other) × (rest ≡ more)
-short_unique stop field other rest more no_digit short short' e =
-    let both = prefix_unique IsDigit field other (stop ∷ rest) (stop ∷ more) short.digits short'.digits no_digit no_digit e in
-    let tails : stop ∷ rest ≡ stop ∷ more = both.1 in
-    (both.0, cc)
-
 space_no_digit : ¬ (IsDigit 32)
 space_no_digit digit = omega (arith, digit.0)
 
 -- behind a short number
 behind : (kept stop : ℕ) (bytes after field rest : List ℕ) → ¬ (IsDigit stop) → BeginsWithShort kept stop bytes after → IsShort field → bytes ≡ field ++ stop ∷ rest → after ≡ rest
-behind kept stop bytes after field rest no_digit (field', short', keeps, is') short is = (short_unique stop field' field after rest no_digit short' short (sym is' ∙ is)).1
+behind kept stop bytes after field rest no_digit (field', short', keeps, is') short is =
+    let both = prefix_unique IsDigit field' field (stop ∷ after) (stop ∷ rest) short'.digits short.digits no_digit no_digit (sym is' ∙ is) in
+    let tails : stop ∷ after ≡ stop ∷ rest = both.1 in cc
 
 -- what follows the letter of a plain line
 behind_letter : (bytes fields line rest : List ℕ) → (plain : IsPlainArc line) → bytes ≡ 97 ∷ 32 ∷ fields → bytes ≡ ended line ++ rest
@@ -179,7 +172,7 @@ never_other stop xs i no_digit within all other none field rest short is =
 
 -- One more digit.
 pub digits_more : (xs : List ℕ) (i : ℕ) → i < length xs → AllByRecursion IsDigit (take i xs) → IsDigit (get_or xs i 0) → AllByRecursion IsDigit (take (i + 1) xs)
-digits_more xs i within all digit = subst (AllByRecursion IsDigit) (sym (take_more xs i 0 within)) (AllByRecursion-push IsDigit (take i xs) (get_or xs i 0) all digit)
+digits_more xs i within all digit = subst (AllByRecursion IsDigit) (sym (take_more xs i 0 within)) (All-push IsDigit (take i xs) (get_or xs i 0) all digit)
 
 -- bytes by their first ones
 pub begins_one : (xs : List ℕ) (a : ℕ) → 1 ≤ length xs → get_or xs 0 0 ≡ a → xs ≡ a ∷ take (length xs - 1) (drop 1 xs)

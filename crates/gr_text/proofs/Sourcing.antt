@@ -1,5 +1,5 @@
 -- From what a reader answers to what was read of a source.
-use Rattle.std.proofs.Common.{◌≡◌, ℕ, ◌+◌, ◌≤◌, List, [], length, ◌++◌, Some, None, Option, MatchOption, Result, Err, inl, inr, refl, subst, append-nil}
+use Rattle.std.proofs.Common.{◌≡◌, ℕ, ◌+◌, ◌≤◌, List, [], length, ◌++◌, Some, None, Result, Err, inl, inr, refl, subst, append-nil}
 use Rattle.std.specs.Prelude.{◌==◌, count_by}
 use Rattle.byte_streams.specs.Streams.{SourceState, Gave}
 use Rattle.byte_streams.proofs.Streaming.{gave_more}
@@ -10,14 +10,12 @@ use Rattle.gr_text.specs.Reader.{ReaderValue, HasRead, IsRead, StopsBy, Stands}
 use Rattle.gr_text.specs.Sourced.{IsReadOf}
 use Rattle.gr_text.specs.declared.faults.ReadFault.{ReadFault}
 use Rattle.gr_text.specs.declared.faults.ReadFault.TheVariants as fault
-use Rattle.gr_text.proofs.Feeding.{lawful_lines, stopped_by}
+use Rattle.gr_text.proofs.Feeding.{lawful_lines, read_on, stopped_by}
 
 -- a reader without a fault was fed no more than its limit, and nothing is wrong with the lines that have ended
 clean : (reader : ReaderValue) (text : List ℕ) → HasRead reader text → reader.fault ≡ None → (length text ≤ reader.limit) × HasLawfulLines text
 clean reader text read none =
-    let P : Option ReadFault → Type 0 = λ o. MatchOption o ((length text ≤ reader.limit) × (length text ≡ reader.fed) × Stands reader.reading text) (λ f. StopsBy f reader.limit text) in
-    let whole = subst P none read.outcome in
-    (whole.0, lawful_lines reader.reading text whole.2)
+    let (short, counted, stands) = read_on reader text none read in (short, lawful_lines reader.reading text stands)
 
 -- the source ended behind what the reader has read
 pub read_to_end : (limit : ℕ) (outcome : Result GraphValue ReadFault) (reader : ReaderValue) (text : List ℕ) (s t u : SourceState) → HasRead reader text

@@ -1,9 +1,10 @@
 -- What was read of a text when more of it comes.
-use Rattle.std.proofs.Common.{◌≡◌, ℕ, ◌+◌, inl, inr, List, [], ◌∷◌, ◌++◌, ap, sym, ◌∙◌, arith, append_assoc, length, Option, Some, None}
+use Rattle.std.proofs.Common.{◌≡◌, ℕ, ◌+◌, inl, inr, List, [], ◌∷◌, ◌++◌, ap, sym, ◌∙◌, subst, arith, append_assoc, length, Option, Some, None}
 use Rattle.std.proofs.lemmas.List.{length_push}
 use Rattle.link_key.specs.declared.links.Link.{Link}
 use Rattle.gr_text.specs.Lines.{IsLine, ended, EndsLines}
 use Rattle.gr_text.specs.Graph.{AreLawfulSoFar}
+use Rattle.gr_text.specs.Fault.{IsFirstFaulty}
 use Rattle.gr_text.specs.Reading.{SoFarValue, AreKept, Gives, IsLineFault}
 use Rattle.gr_text.specs.Partial.{IsKeptAs}
 use Rattle.gr_text.specs.Reader.{ReadingValue, Stands, StopsAt}
@@ -12,7 +13,7 @@ use Rattle.gr_text.specs.declared.faults.ReadFault.TheVariants as fault
 use Rattle.gr_text.specs.declared.partial.Partial.{Partial}
 use Rattle.gr_text.specs.declared.sizes.Size.{Size}
 use Rattle.gr_text.proofs.Cuts.{EndsLines-bytes, EndsLines-line, EndsLines-more, cut_of}
-use Rattle.gr_text.proofs.Faulty.{fault_is_faulty}
+use Rattle.gr_text.proofs.Faulty.{first_faulty_at}
 
 pub lawful_of : (kept : SoFarValue) (lines : List (List ℕ)) → Gives kept lines → AreLawfulSoFar lines
 lawful_of kept lines = lawful_at kept.size kept.count kept.links lines
@@ -27,16 +28,8 @@ first_faulty lines part more (fault.Gr f) number lawful numbered (line_is, fits)
   lines ++ part ∷ [] ++ more,
   r,
   cut,
-  record {
-    before = lines;
-    line = part;
-    after = more;
-    parted = append_assoc lines (part ∷ []) more;
-    counted = line_is ∙ numbered;
-    lawful = lawful;
-    faulty = fault_is_faulty lines part f.kind fits;
-    kind_fits = fits;
-  },
+  subst (λ (xs : List (List ℕ)). IsFirstFaulty xs f.line f.kind) (sym (append_assoc lines (part ∷ []) more))
+      (first_faulty_at lines part more f.line f.kind lawful (line_is ∙ numbered) fits),
 )
 first_faulty lines part more (fault.Source k) number lawful numbered no_such text r cut = no_such
 first_faulty lines part more fault.TooLong number lawful numbered no_such text r cut = no_such

@@ -1,6 +1,6 @@
 -- What lines say when one more comes.
 use Rattle.std.proofs.Common.{◌≡◌, ℕ, ◌+◌, ◌<◌, ◌≤◌, inl, inr, List, [], ◌∷◌, ◌++◌, refl, ap, sym, ◌∙◌, subst, arith, append-nil, map, length, Option, Some, None, cond, true, false, Bool, ℤ, Result, Ok, Err, MatchResult}
-use Rattle.std.specs.List.{AllByRecursion, filter}
+use Rattle.std.specs.List.{filter}
 use Rattle.std.proofs.lemmas.List.{map-append, length_push}
 use Rattle.std.proofs.lemmas.List.Elements.{filter-append}
 use Rattle.std.proofs.lemmas.Bool.Decides.{nat_tests}
@@ -11,6 +11,7 @@ use Rattle.link_key.specs.declared.links.Link.{Link}
 use Rattle.gr_text.specs.Statement.{Statement, Problem, ArcLine, IsSilent, Says, Say}
 use Rattle.gr_text.specs.Graph.{IsArcOf, AreLawfulLines}
 use Rattle.gr_text.specs.Reading.{SoFarValue, Counts, AreKept, Gives, Judges, AddsLink, AddsArc, IsLineFault}
+use Rattle.gr_text.proofs.Alls.{All-push}
 use Rattle.gr_text.specs.declared.sizes.Size.{Size}
 use Rattle.gr_text.specs.declared.faults.ReadFault.{ReadFault}
 use Rattle.gr_text.specs.declared.faults.ReadFault.TheVariants as fault
@@ -29,19 +30,13 @@ Say-more (first ∷ lines) line ss s (inl (quiet, say)) says = inl (quiet, Say-m
 Say-more (first ∷ lines) line ss s (inr (t, others, told, say, is)) says =
     inr (t, others ++ s ∷ [], told, Say-more lines line others s say says, ap (λ (xs : List Statement). xs ++ s ∷ []) is)
 
-pub AllByRecursion-push : {X : Type 0} (P : X → Type 0) (xs : List X) (x : X) → AllByRecursion P xs → P x → AllByRecursion P (xs ++ x ∷ [])
-AllByRecursion-push P [] x all p = (p, tt)
-AllByRecursion-push P (y ∷ xs) x all p = (all.0, AllByRecursion-push P xs x all.1 p)
+-- lines that say the same as lawful ones, and a silent line after lawful ones
+pub AreLawfulLines-like : (lines others : List (List ℕ)) (n m : ℕ) (arcs : List Arc) → AreLawfulLines lines n m arcs → Say others (Problem n m ∷ map ArcLine arcs) → AreLawfulLines others n m arcs
+AreLawfulLines-like lines others n m arcs lawful say =
+    record { say = say; vertices = lawful.vertices; arc_lines = lawful.arc_lines; no_more = lawful.no_more; each = lawful.each }
 
--- a silent line after lawful ones
 pub AreLawfulLines-silent : (lines : List (List ℕ)) (line : List ℕ) (n m : ℕ) (arcs : List Arc) → AreLawfulLines lines n m arcs → IsSilent line → AreLawfulLines (lines ++ line ∷ []) n m arcs
-AreLawfulLines-silent lines line n m arcs lawful silent = record {
-  say = Say-silent lines line (Problem n m ∷ map ArcLine arcs) lawful.say silent;
-  vertices = lawful.vertices;
-  arc_lines = lawful.arc_lines;
-  no_more = lawful.no_more;
-  each = lawful.each;
-}
+AreLawfulLines-silent lines line n m arcs lawful silent = AreLawfulLines-like lines _ n m arcs lawful (Say-silent lines line _ lawful.say silent)
 
 -- the problem line
 pub AreLawfulLines-problem : (lines : List (List ℕ)) (line : List ℕ) (n m : ℕ) → Say lines [] → Says line (Problem n m) → n ≤ MAX_VERTICES → m ≤ MAX_ARCS → AreLawfulLines (lines ++ line ∷ []) n m []
@@ -61,7 +56,7 @@ AreLawfulLines-arc lines line n m arcs arc lawful says is_arc room = record {
   vertices = lawful.vertices;
   arc_lines = lawful.arc_lines;
   no_more = omega (arith, length_push arcs arc);
-  each = AllByRecursion-push (IsArcOf n) arcs arc lawful.each is_arc;
+  each = All-push (IsArcOf n) arcs arc lawful.each is_arc;
 }
 
 -- the links with that of one more arc

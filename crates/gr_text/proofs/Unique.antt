@@ -4,6 +4,7 @@ use Rattle.std.specs.List.{AllByRecursion, flat_map}
 use Rattle.link_key.specs.Arc.{Arc}
 use Rattle.gr_text.specs.Lines.{line_feed, IsLine, ended, EndsLines, with_last, AreLines}
 use Rattle.gr_text.specs.Fields.{IsBlank, IsFieldByte, BeginsBlank, AreFields, IsDigit, Writes, WritesSigned}
+use Rattle.gr_text.proofs.Alls.{All-parts}
 use Rattle.gr_text.proofs.FieldBytes.{head_is}
 use Rattle.gr_text.specs.Statement.{Statement, Problem, ArcLine, AreSilent, FieldsSay, IsSilent, Says, Say}
 
@@ -34,12 +35,8 @@ stops_at_blank [] begins = tt
 stops_at_blank (b ∷ after) begins = λ other. other begins
 
 blanks_hold_no_field : (line blanks field after : List ℕ) → AllByRecursion IsBlank line → line ≡ blanks ++ field ++ after → field ≢ [] → AllByRecursion IsFieldByte field → ⊥
-blanks_hold_no_field [] [] [] after all e some fs = some refl
-blanks_hold_no_field [] [] (f ∷ field) after all e some fs = cc
-blanks_hold_no_field [] (b ∷ blanks) field after all e some fs = cc
-blanks_hold_no_field (x ∷ line) [] [] after all e some fs = some refl
-blanks_hold_no_field (x ∷ line) [] (f ∷ field) after all e some fs = let same : x ≡ f = cc in fs.0 (subst IsBlank same all.0)
-blanks_hold_no_field (x ∷ line) (b ∷ blanks) field after all e some fs = let tails : line ≡ blanks ++ field ++ after = cc in blanks_hold_no_field line blanks field after all.1 tails some fs
+blanks_hold_no_field line blanks [] after all e some fs = some refl
+blanks_hold_no_field line blanks (f ∷ field) after all e some fs = fs.0 (All-parts IsBlank blanks (f ∷ field) (All-parts IsBlank (blanks ++ f ∷ field) after (subst (AllByRecursion IsBlank) e all)).0).1.0
 
 pub AreFields-unique : (line : List ℕ) (fs gs : List (List ℕ)) → AreFields line fs → AreFields line gs → fs ≡ gs
 AreFields-unique line [] [] a b = refl
@@ -60,10 +57,7 @@ cut_first line other rest more is_line is_other e =
     (both.0, cc)
 
 no_feed_inside : (part line rest : List ℕ) → IsLine part → part ≡ line ++ line_feed ∷ rest → ⊥
-no_feed_inside [] [] rest is_line e = cc
-no_feed_inside [] (x ∷ line) rest is_line e = cc
-no_feed_inside (b ∷ part) [] rest is_line e = let same : b ≡ line_feed = cc in is_line.0 same
-no_feed_inside (b ∷ part) (x ∷ line) rest is_line e = let tails : part ≡ line ++ line_feed ∷ rest = cc in no_feed_inside part line rest is_line.1 tails
+no_feed_inside part line rest is_line e = (All-parts (λ b. b ≢ line_feed) line (line_feed ∷ rest) (subst IsLine e is_line)).1.0 refl
 
 cut_unique : (ls ms : List (List ℕ)) (r s : List ℕ) → AllByRecursion IsLine ls → AllByRecursion IsLine ms → IsLine r → IsLine s
     → flat_map ended ls ++ r ≡ flat_map ended ms ++ s → (ls ≡ ms) × (r ≡ s)
