@@ -35,13 +35,12 @@ Say-split (first ∷ lines) line ss (inr (t, others, says, say, is)) =
 arcs_split : (arcs : List Arc) (told : List Statement) (s : Statement) → map ArcLine arcs ≡ told ++ s ∷ []
     → (front : List Arc) × (last : Arc) × (arcs ≡ front ++ last ∷ []) × (told ≡ map ArcLine front) × (s ≡ ArcLine last)
 arcs_split [] [] s e = absurd (cc)
-arcs_split [] (t ∷ told) s e = absurd (cc)
 arcs_split (a ∷ []) [] s e = ([], a, refl, refl, cc)
-arcs_split (a ∷ b ∷ arcs) [] s e = absurd (cc)
 arcs_split (a ∷ arcs) (t ∷ told) s e =
     let tails : map ArcLine arcs ≡ told ++ s ∷ [] = cc in
     let (front, last, whole, is, same) = arcs_split arcs told s tails in
     (a ∷ front, last, cc, cc, same)
+arcs_split arcs told s e = absurd (cc)
 
 -- what the last of lawful lines may be, by what the others say
 abbrev EndsLawfully : Told → List ℕ → Type 0
@@ -90,6 +89,7 @@ fault_is_faulty before line kind fault lawful =
   where
     as_sort : (told : Told) (sort : LineSort) → IsOfSort line sort → IsWrong fault.sort told kind → IsWrong sort told kind
     as_sort told sort of_sort = subst (λ (s : LineSort). IsWrong s told kind) (IsOfSort-unique line fault.sort sort fault.of_sort of_sort)
+
     no_such : (told : Told) → IsWrong fault.sort told kind → EndsLawfully told line → ⊥
     no_such Unsaid wrong (inl silent) = as_sort Unsaid Nothing silent wrong
     no_such (Stated n m arcs) wrong (inl silent) = as_sort (Stated n m arcs) Nothing silent wrong

@@ -1,8 +1,7 @@
 -- What a field can still become when one more byte comes.
-use Rattle.std.proofs.Common.{◌≡◌, ◌≢◌, ℕ, ◌+◌, ◌*◌, ◌-◌, ◌<◌, inl, inr, List, [], ◌∷◌, ◌++◌, refl, ap, sym, ◌∙◌, arith, append_assoc, codes, fold, subst}
+use Rattle.std.proofs.Common.{◌≡◌, ◌≢◌, ℕ, ◌+◌, ◌*◌, ◌-◌, ◌<◌, inl, inr, List, [], ◌∷◌, ◌++◌, refl, ap, sym, ◌∙◌, arith, append_assoc, append-nil, codes, fold, subst}
 use Rattle.std.specs.List.{AllByRecursion}
 use Rattle.gr_text.specs.Fields.{IsDigit, Writes}
-use Rattle.std.proofs.Common.{append-nil}
 use Rattle.std.proofs.lemmas.List.Sums.{fold-append}
 use Rattle.gr_text.proofs.Alls.{All-push, All-parts}
 use Rattle.gr_text.specs.Word.{IsToken, BeginsComment, WordMeans}

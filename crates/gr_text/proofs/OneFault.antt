@@ -1,11 +1,9 @@
 -- A text has one first fault at the most, and none where it means a graph.
 use Rattle.std.proofs.Common.{◌≡◌, ℕ, ◌+◌, ◌⊎◌, inl, inr, List, [], ◌∷◌, ◌++◌, refl, ap, sym, ◌∙◌, subst, arith, append_assoc, append-nil, map, length}
-use Rattle.std.specs.List.{AllByRecursion}
-use Rattle.std.proofs.lemmas.List.{length_push}
 use Rattle.link_key.specs.Arc.{Arc}
-use Rattle.gr_text.specs.Statement.{Statement, Problem, ArcLine, Say}
-use Rattle.gr_text.specs.Sort.{LineSort, Nothing, Makes, NoProblem, NoArc, Unknown}
-use Rattle.gr_text.specs.Graph.{IsArcOf, AreLawfulLines, AreLawfulSoFar}
+use Rattle.gr_text.specs.Statement.{Problem, ArcLine}
+use Rattle.gr_text.specs.Sort.{LineSort, Nothing, Makes, Unknown}
+use Rattle.gr_text.specs.Graph.{AreLawfulLines, AreLawfulSoFar}
 use Rattle.gr_text.specs.Fault.{Told, Unsaid, Stated, AreTold, IsWrong, IsFaultAfter, IsFirstFaulty, Lacks}
 use Rattle.gr_text.specs.Laws.{NeverBoth, HasOneFault}
 use Rattle.gr_text.specs.declared.faults.GrKind.{GrKind}
@@ -15,13 +13,13 @@ use Rattle.gr_text.proofs.Sorts.{IsOfSort-unique}
 use Rattle.gr_text.proofs.Faulty.{lawful_ends}
 use Rattle.gr_text.proofs.Texts.{AreLawfulLines-unique, told_unique}
 
+lawful_told : (lines : List (List ℕ)) (told : Told) → AreTold lines told → AreLawfulSoFar lines
+lawful_told lines Unsaid said = inl said
+lawful_told lines (Stated n m arcs) said = inr (n, m, arcs, said)
+
 -- what stands before a line of lawful lines is lawful
 lawful_before : (lines : List (List ℕ)) (line : List ℕ) → AreLawfulSoFar (lines ++ line ∷ []) → AreLawfulSoFar lines
-lawful_before lines line lawful = let (told, said, ends) = lawful_ends lines line lawful in lawful_told told said
-  where
-    lawful_told : (told : Told) → AreTold lines told → AreLawfulSoFar lines
-    lawful_told Unsaid said = inl said
-    lawful_told (Stated n m arcs) said = inr (n, m, arcs, said)
+lawful_before lines line lawful = let (told, said, ends) = lawful_ends lines line lawful in lawful_told lines told said
 
 -- a prefix of lawful lines is lawful
 AreLawfulSoFar-prefix : (lines more : List (List ℕ)) → AreLawfulSoFar (lines ++ more) → AreLawfulSoFar lines
@@ -35,10 +33,17 @@ lawful_no_fault lines number kind lawful first =
     (subst AreLawfulSoFar (first.parted ∙ sym (append_assoc first.before (first.line ∷ []) first.after)) lawful))
 
 -- where something lacks, the lines are lawful, and mean no graph
+abbrev lack : Told → GrKind
+lack Unsaid = MissingProblem
+lack (Stated n m arcs) = MissingArcs
+
+lack_told : (lines : List (List ℕ)) (kind : GrKind) → Lacks lines kind → (told : Told) × AreTold lines told × (kind ≡ lack told)
+lack_told lines MissingProblem none = (Unsaid, none, refl)
+lack_told lines MissingArcs (n, m, arcs, known, few) = (Stated n m arcs, known, refl)
+lack_told lines kind lacks = absurd lacks
+
 lack_lawful : (lines : List (List ℕ)) (kind : GrKind) → Lacks lines kind → AreLawfulSoFar lines
-lack_lawful lines MissingProblem lacks = inl lacks
-lack_lawful lines MissingArcs (n, m, arcs, lawful, few) = inr (n, m, arcs, lawful)
-lack_lawful lines kind lacks = absurd lacks
+lack_lawful lines kind lacks = let (told, said, is) = lack_told lines kind lacks in lawful_told lines told said
 
 lack_no_graph : (lines : List (List ℕ)) (kind : GrKind) (n : ℕ) (arcs : List Arc) → AreLawfulLines lines n (length arcs) arcs → Lacks lines kind → ⊥
 lack_no_graph lines MissingProblem n arcs lawful none =
@@ -60,7 +65,6 @@ never_both text n arcs number kind (lines, are, lawful) (others, are', fault) =
 -- A line of a sort has one kind of fault.
 wrong_unique : (sort : LineSort) (told : Told) (k l : GrKind) → IsWrong sort told k → IsWrong sort told l → k ≡ l
 wrong_unique Nothing told k l a b = absurd a
-wrong_unique Unknown told k l a b = a ∙ sym b
 wrong_unique (Makes (Problem x y)) told k l a b = grind arith
 wrong_unique (Makes (ArcLine arc)) (Stated n m arcs) k l (inl a) (inl b) = a.1 ∙ sym b.1
 wrong_unique (Makes (ArcLine arc)) (Stated n m arcs) k l (inr (inl a)) (inr (inl b)) = a.2 ∙ sym b.2
@@ -74,15 +78,6 @@ one_kind before line kind another a b =
     let told = told_unique before a.told b.told a.said b.said in
     let sort = IsOfSort-unique line a.sort b.sort a.of_sort b.of_sort in
     wrong_unique b.sort b.told kind another (subst (λ (t : Told). IsWrong b.sort t kind) told (subst (λ (s : LineSort). IsWrong s a.told kind) sort a.wrong)) b.wrong
-
-abbrev lack : Told → GrKind
-lack Unsaid = MissingProblem
-lack (Stated n m arcs) = MissingArcs
-
-lack_told : (lines : List (List ℕ)) (kind : GrKind) → Lacks lines kind → (told : Told) × AreTold lines told × (kind ≡ lack told)
-lack_told lines MissingProblem none = (Unsaid, none, refl)
-lack_told lines MissingArcs (n, m, arcs, known, few) = (Stated n m arcs, known, refl)
-lack_told lines kind lacks = absurd lacks
 
 one_lack : (lines : List (List ℕ)) (kind another : GrKind) → Lacks lines kind → Lacks lines another → kind ≡ another
 one_lack lines kind another a b =

@@ -4,7 +4,7 @@ use Rattle.std.specs.List.{AllByRecursion}
 use Rattle.std.proofs.lemmas.Bool.{cases_eq}
 use Rattle.link_key.specs.Arc.{Arc}
 use Rattle.gr_text.specs.Fields.{IsBlank, IsFieldByte, AreFields, IsDigit, number_of, Writes, WritesSigned}
-use Rattle.gr_text.specs.Statement.{Statement, Problem, ArcLine, AreSilent, FieldsSay}
+use Rattle.gr_text.specs.Statement.{Problem, ArcLine, AreSilent, FieldsSay}
 use Rattle.gr_text.specs.Sort.{LineSort, Nothing, Makes, NoProblem, NoArc, Unknown, AreOfSort, IsOfSort}
 use Rattle.gr_text.specs.Partial.{with_field, AreParts}
 use Rattle.gr_text.specs.Word.{BeginsComment}

@@ -6,7 +6,7 @@ use Rattle.byte_streams.proofs.Streaming.{gave_more}
 use Rattle.gr_text.specs.Lines.{line_feed}
 use Rattle.gr_text.specs.Graph.{GraphValue}
 use Rattle.gr_text.specs.Fault.{HasLawfulLines}
-use Rattle.gr_text.specs.Reader.{ReaderValue, HasRead, IsRead, StopsBy, Stands}
+use Rattle.gr_text.specs.Reader.{ReaderValue, HasRead, IsRead, StopsBy}
 use Rattle.gr_text.specs.Sourced.{IsReadOf}
 use Rattle.gr_text.specs.declared.faults.ReadFault.{ReadFault}
 use Rattle.gr_text.specs.declared.faults.ReadFault.TheVariants as fault

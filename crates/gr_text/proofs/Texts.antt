@@ -9,12 +9,10 @@ use Rattle.gr_text.proofs.Unique.{AreLines-unique, Say-unique}
 
 ArcLine-injective : (xs ys : List Arc) → map ArcLine xs ≡ map ArcLine ys → xs ≡ ys
 ArcLine-injective [] [] e = refl
-ArcLine-injective [] (b ∷ ys) e = absurd (cc)
-ArcLine-injective (a ∷ xs) [] e = absurd (cc)
 ArcLine-injective (a ∷ xs) (b ∷ ys) e =
-    let heads : a ≡ b = cc in
     let tails : map ArcLine xs ≡ map ArcLine ys = cc in
-    ap (λ (x : Arc). x ∷ xs) heads ∙ ap (λ (zs : List Arc). b ∷ zs) (ArcLine-injective xs ys tails)
+    let rest : xs ≡ ys = ArcLine-injective xs ys tails in cc
+ArcLine-injective xs ys e = absurd (cc)
 
 -- lawful lines have one problem and one list of arcs
 pub AreLawfulLines-unique : (lines : List (List ℕ)) (n m k l : ℕ) (arcs others : List Arc) → AreLawfulLines lines n m arcs → AreLawfulLines lines k l others → (n ≡ k) × (m ≡ l) × (arcs ≡ others)
