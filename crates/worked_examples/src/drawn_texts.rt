@@ -6,6 +6,36 @@ use gr_text::{GrReader, Graph, MAX_BYTES, ReadFault};
 use std::alloc::{AllocError, Global};
 use std::test::Fail;
 
+// What stands between two fields, mostly one space.
+const GAPS: [&[u8]; 6] = [b"  ", b"\t", b" \t", b"\r", b"\n", b""];
+
+// What begins a line, mostly the letter of an arc.
+const LETTERS: [&[u8]; 5] = [b"c", b"aa", b" a", b"p", b"x"];
+
+// What ends a line, mostly a line feed.
+const ENDINGS: [&[u8]; 6] = [b"\r\n", b" \n", b"\n\n", b" 1\n", b"\nc a 1 2 3\n", b""];
+
+// The problem line of a text, mostly of 5 vertices and 3 arc lines.
+const PROBLEMS: [&[u8]; 5] = [
+    b"",
+    b"p sp 5 2\n",
+    b"p sp 5 4\n",
+    b"p sp 67108865 3\n",
+    b"p\tsp 5 3\r\n",
+];
+
+// One of the rare ones, each with one chance in so many, or else the usual one.
+fn drawn<'a>(state: &mut u64, chances: u32, rare: &[&'a [u8]], usual: &'a [u8]) -> &'a [u8]
+    requires { 0 < chances }
+{
+    let place = draw(state, chances) as usize;
+    if place < rare.len() {
+        rare[place]
+    } else {
+        usual
+    }
+}
+
 // An end of an arc, mostly a vertex of 5.
 fn drawn_end(state: &mut u64) -> &'static [u8] {
     match draw(state, 240) {
@@ -55,74 +85,24 @@ fn drawn_weight(state: &mut u64) -> &'static [u8] {
     }
 }
 
-// What stands between two fields, mostly one space.
-fn drawn_gap(state: &mut u64) -> &'static [u8] {
-    match draw(state, 128) {
-        0 => b"  ",
-        1 => b"\t",
-        2 => b" \t",
-        3 => b"\r",
-        4 => b"\n",
-        5 => b"",
-        _ => b" ",
-    }
-}
-
-// What begins a line, mostly the letter of an arc.
-fn drawn_letter(state: &mut u64) -> &'static [u8] {
-    match draw(state, 128) {
-        0 => b"c",
-        1 => b"aa",
-        2 => b" a",
-        3 => b"p",
-        4 => b"x",
-        _ => b"a",
-    }
-}
-
-// What ends a line, mostly a line feed.
-fn drawn_ending(state: &mut u64) -> &'static [u8] {
-    match draw(state, 64) {
-        0 => b"\r\n",
-        1 => b" \n",
-        2 => b"\n\n",
-        3 => b" 1\n",
-        4 => b"\nc a 1 2 3\n",
-        5 => b"",
-        _ => b"\n",
-    }
-}
-
-// The problem line of a text, mostly of 5 vertices and 3 arc lines.
-fn drawn_problem(state: &mut u64) -> &'static [u8] {
-    match draw(state, 32) {
-        0 => b"",
-        1 => b"p sp 5 2\n",
-        2 => b"p sp 5 4\n",
-        3 => b"p sp 67108865 3\n",
-        4 => b"p\tsp 5 3\r\n",
-        _ => b"p sp 5 3\n",
-    }
-}
-
 // A problem line and mostly three arc lines.
 fn drawn_text(alloc: Global, state: &mut u64) -> Result<Vec<u8>, AllocError> {
     let mut text = Vec::new(alloc);
-    text.extend_from_slice(drawn_problem(state))?;
+    text.extend_from_slice(drawn(state, 32, &PROBLEMS, b"p sp 5 3\n"))?;
     let lines = match draw(state, 16) {
         0 => 2,
         1 => 4,
         _ => 3,
     };
     for _ in 0..lines {
-        text.extend_from_slice(drawn_letter(state))?;
-        text.extend_from_slice(drawn_gap(state))?;
+        text.extend_from_slice(drawn(state, 128, &LETTERS, b"a"))?;
+        text.extend_from_slice(drawn(state, 128, &GAPS, b" "))?;
         text.extend_from_slice(drawn_end(state))?;
-        text.extend_from_slice(drawn_gap(state))?;
+        text.extend_from_slice(drawn(state, 128, &GAPS, b" "))?;
         text.extend_from_slice(drawn_end(state))?;
-        text.extend_from_slice(drawn_gap(state))?;
+        text.extend_from_slice(drawn(state, 128, &GAPS, b" "))?;
         text.extend_from_slice(drawn_weight(state))?;
-        text.extend_from_slice(drawn_ending(state))?;
+        text.extend_from_slice(drawn(state, 64, &ENDINGS, b"\n"))?;
     }
     Ok(text)
 }
