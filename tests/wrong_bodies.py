@@ -9,7 +9,8 @@ body changes no contract, so each function is judged by itself. An edit that sta
 changes more than bodies, waits for a copy of its own. A function that is told as not proved counts only for a
 reason of its own: a clause, a condition or a bound that isn't proved where it stands or in its proof files. Where
 its proof files only name what the edit took away, the edit is tried alone, and if that is all that is said it is
-told as suspicious.
+told as suspicious. One that is told as proved, or not told at all, since the prover waits for another edit's function,
+is tried alone too before it counts as survived.
 
   --must-fail   the edits of must-fail/ too, in the same way (`rt must-fail` tries them one at a time)
   --self-test   puts one body that is right among the wrong ones of each crate, which has to be told as survived
@@ -384,7 +385,8 @@ def try_crate(crate, lines, folders, tests_itself):
                     unfit += 1
                     continue
                 how_it_ended, line = verdict(edit, copy["texts"], said) if last.startswith("logic=not-proved") else ("survived", "")
-                if how_it_ended == "named" and len(copy["edits"]) > 1:
+                if how_it_ended != "refused" and len(copy["edits"]) > 1:
+                    # alone: no other wrong body's proof is waited for then, and no other's names are missing
                     queue.append({"edits": [edit], "texts": applied(edit, room_texts), "touched": edit.touched, "whole": True})
                 elif how_it_ended == "survived":
                     survived.append(edit.name)
