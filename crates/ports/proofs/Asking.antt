@@ -21,11 +21,12 @@ use Rattle.worker_engine.proofs.Replying.{asks-append, shelf_after-append, last_
 use Rattle.ports.specs.declared.fault.PortFault.{PortFault}
 use Rattle.ports.specs.declared.fault.PortFault.TheVariants.{Down, Garbled, WrongHello, Gave, Memory, Closed}
 use Rattle.shard_set.specs.Shards.{has_shard}
-use Rattle.ports.specs.Lines.{ServesSoFar}
+use Rattle.ports.specs.Lines.{LineState, Went, ServesSoFar}
 use Rattle.ports.specs.Causes.{IsNoReply, Came, Cause, IsBlameless}
 use Rattle.ports.specs.Ports.{IsHonestAnswer}
 use Rattle.ports.specs.Exchanges.{Exchange, exchange_of, answers_of}
-use Rattle.ports.specs.Talking.{Talk, hello_once, shard_once, frames_put, AskBrought, Asked, frames_got, HasGiven, IsOfCut, times_sent, asks_among, IsInStep}
+use Rattle.ports.specs.Talking.{Talk, TalkState, told, hello_once, shard_once, frames_put, AskBrought, Asked, frames_got, HasGiven, IsOfCut, times_sent, asks_among, IsInStep}
+use Rattle.ports.proofs.Going.{then_came}
 use Rattle.ports.proofs.Refused.{bad_never}
 
 -- ---- what one ask puts
@@ -129,17 +130,25 @@ got_answer worker answers a =
     ∙ sym (texts-append (HelloFrame 1 worker ∷ map AnswerFrame answers) (AnswerFrame a ∷ []))
     ∙ ap (λ (fs : List FrameValue). texts_of (HelloFrame 1 worker ∷ fs)) (sym (answers_more answers a))
 
+-- what an ask brought, and what it put before that
+pub all_brought : {L : Type 0} (state : L → LineState) (round shard : ℕ) (labels bytes : List ℕ) (old new : TalkState L) → AskBrought state round shard labels bytes old new
+    → Went 0 0 (texts_of (frames_put (told state old) round shard labels)) (hello_once old.greeted old.worker ++ bytes) (state old.line) (state new.line)
+all_brought state round shard labels bytes old new brought = then_came (state old.line) (state brought.0) (state new.line) _ _ bytes brought.1 brought.2
+
 -- ---- an ask that was answered
 
-module _ (round shard : ℕ) (labels : List ℕ) (a : AnswerValue) (before after : Talk) (asked : Asked round shard labels a before after) where
+module _ {L : Type 0} (state : L → LineState) (round shard : ℕ) (labels : List ℕ) (a : AnswerValue) (old new : TalkState L) (asked : Asked state round shard labels a old new) where
+  brought : Went 0 0 (texts_of (frames_put (told state old) round shard labels)) (hello_once old.greeted old.worker ++ text_of (AnswerFrame a)) (state old.line) (state new.line)
+  brought = all_brought state round shard labels (text_of (AnswerFrame a)) old new asked.brought
+
   -- the answer is added at the end of those given
-  pub gave_more : (answers : List AnswerValue) → HasGiven before answers → HasGiven after (answers ++ a ∷ [])
+  pub gave_more : (answers : List AnswerValue) → HasGiven (told state old) answers → HasGiven (told state new) (answers ++ a ∷ [])
   gave_more answers given =
-      let got : after.line.got ≡ Some (texts_of (frames_got true before.worker (answers ++ a ∷ []))) =
-      appends-told before.line.got after.line.got _ _ given.got (asked.brought.got refl)
-      ∙ ap (λ t. Some t) (got_more before.greeted before.worker answers (text_of (AnswerFrame a)) given.silent ∙ got_answer before.worker answers a) in
+      let got : (state new.line).got ≡ Some (texts_of (frames_got true old.worker (answers ++ a ∷ []))) =
+      appends-told (state old.line).got (state new.line).got _ _ given.got (brought.got refl)
+      ∙ ap (λ t. Some t) (got_more old.greeted old.worker answers (text_of (AnswerFrame a)) given.silent ∙ got_answer old.worker answers a) in
       record {
-        got = got ∙ ap (λ w. Some (texts_of (frames_got true w (answers ++ a ∷ [])))) (sym asked.worker) ∙ ap (λ g. Some (texts_of (frames_got g after.worker (answers ++ a ∷ [])))) (sym asked.greeted);
+        got = got ∙ ap (λ w. Some (texts_of (frames_got true w (answers ++ a ∷ [])))) (sym asked.worker) ∙ ap (λ g. Some (texts_of (frames_got g new.worker (answers ++ a ∷ [])))) (sym asked.greeted);
         lawful = subst AreLawful (sym (answers_more answers a)) (lawful-append (map AnswerFrame answers) (AnswerFrame a ∷ []) given.lawful (asked.lawful, tt));
         silent = λ e. cc;
       }
@@ -148,70 +157,76 @@ module _ (round shard : ℕ) (labels : List ℕ) (a : AnswerValue) (before after
   answers_then exchanges = map-append (λ (e : Exchange). e.answer) exchanges (exchange_of round shard labels a ∷ [])
 
   -- and so with its ask behind the exchanges before
-  pub exchanged_more : (exchanges : List Exchange) → HasGiven before (answers_of exchanges) → HasGiven after (answers_of (exchanges ++ exchange_of round shard labels a ∷ []))
-  exchanged_more exchanges given = subst (HasGiven after) (sym (answers_then exchanges)) (gave_more (answers_of exchanges) given)
+  pub exchanged_more : (exchanges : List Exchange) → HasGiven (told state old) (answers_of exchanges) → HasGiven (told state new) (answers_of (exchanges ++ exchange_of round shard labels a ∷ []))
+  exchanged_more exchanges given = subst (HasGiven (told state new)) (sym (answers_then exchanges)) (gave_more (answers_of exchanges) given)
 
-  module _ (in_cut : shard < length before.cut) (is : IsShard shard (links_at before.cut shard)) (ask : IsAsk round shard labels) where
-    module _ (said : List FrameValue) (exchanges : List Exchange) (step : IsInStep before said exchanges) where
-      shelves_step : (s : ℕ) → s < length before.cut
-          → shelf_after empty_shelf (said ++ frames_put before round shard labels) s ≡ (if has_shard after.sent s then Some (links_at before.cut s) else None)
+  module _ (in_cut : shard < length old.cut) (is : IsShard shard (links_at old.cut shard)) (ask : IsAsk round shard labels) where
+    module _ (said : List FrameValue) (exchanges : List Exchange) (step : IsInStep (told state old) said exchanges) where
+      shelves_step : (s : ℕ) → s < length old.cut
+          → shelf_after empty_shelf (said ++ frames_put (told state old) round shard labels) s ≡ (if has_shard new.sent s then Some (links_at old.cut s) else None)
       shelves_step s within =
           let shelf : Shelf = shelf_after empty_shelf said in
-          let links : List Link = links_at before.cut shard in
-          let sent : Bool = has_shard before.sent shard in
-          let whole : shelf_after empty_shelf (said ++ frames_put before round shard labels) s ≡ shelf_after shelf (shard_once sent shard links) s =
-          ap (λ (f : Shelf). f s) (shelf_after-append empty_shelf said (frames_put before round shard labels)) ∙ shelf_put sent shelf shard s links round labels in
+          let links : List Link = links_at old.cut shard in
+          let sent : Bool = has_shard old.sent shard in
+          let whole : shelf_after empty_shelf (said ++ frames_put (told state old) round shard labels) s ≡ shelf_after shelf (shard_once sent shard links) s =
+          ap (λ (f : Shelf). f s) (shelf_after-append empty_shelf said (frames_put (told state old) round shard labels)) ∙ shelf_put sent shelf shard s links round labels in
           ⊎_elim
           (λ (e : s ≡ shard).
-          let now : has_shard after.sent s ≡ true = asked.sent s ∙ ap (λ b. b || has_shard before.sent s) (eq-eqb s shard e) in
+          let now : has_shard new.sent s ≡ true = asked.sent s ∙ ap (λ b. b || has_shard old.sent s) (eq-eqb s shard e) in
           let there : shelf_after shelf (shard_once sent shard links) s ≡ Some links =
           ap (shelf_after shelf (shard_once sent shard links)) e ∙ shelf_there sent shelf shard links (step.shelves shard in_cut) in
-          whole ∙ there ∙ ap (λ (k : ℕ). Some (links_at before.cut k)) (sym e) ∙ ap (λ b. if b then Some (links_at before.cut s) else None) (sym now))
+          whole ∙ there ∙ ap (λ (k : ℕ). Some (links_at old.cut k)) (sym e) ∙ ap (λ b. if b then Some (links_at old.cut s) else None) (sym now))
           (λ (apart : s ≢ shard).
-          let now : has_shard after.sent s ≡ has_shard before.sent s = asked.sent s ∙ ap (λ b. b || has_shard before.sent s) (ne_eqb s shard apart) in
-          whole ∙ shelf_elsewhere sent shelf shard s links apart ∙ step.shelves s within ∙ ap (λ b. if b then Some (links_at before.cut s) else None) (sym now))
+          let now : has_shard new.sent s ≡ has_shard old.sent s = asked.sent s ∙ ap (λ b. b || has_shard old.sent s) (ne_eqb s shard apart) in
+          whole ∙ shelf_elsewhere sent shelf shard s links apart ∙ step.shelves s within ∙ ap (λ b. if b then Some (links_at old.cut s) else None) (sym now))
           (cases_eq s shard)
 
-      once_step : (s : ℕ) → times_sent s (said ++ frames_put before round shard labels) ≡ (if has_shard after.sent s then 1 else 0)
+      once_step : (s : ℕ) → times_sent s (said ++ frames_put (told state old) round shard labels) ≡ (if has_shard new.sent s then 1 else 0)
       once_step s =
-          let links : List Link = links_at before.cut shard in
-          let sent : Bool = has_shard before.sent shard in
-          let whole = times-append s said (frames_put before round shard labels) in
+          let links : List Link = links_at old.cut shard in
+          let sent : Bool = has_shard old.sent shard in
+          let whole = times-append s said (frames_put (told state old) round shard labels) in
           ⊎_elim
           (λ (e : s ≡ shard).
-          let now : has_shard after.sent s ≡ true = asked.sent s ∙ ap (λ b. b || has_shard before.sent s) (eq-eqb s shard e) in
-          let count : times_sent s said + times_sent s (frames_put before round shard labels) ≡ 1 =
-          subst (λ (k : ℕ). times_sent k said + times_sent k (frames_put before round shard labels) ≡ 1) (sym e)
-          (ap (λ (n : ℕ). n + times_sent shard (frames_put before round shard labels)) (step.once shard) ∙ once_put sent shard links round labels) in
+          let now : has_shard new.sent s ≡ true = asked.sent s ∙ ap (λ b. b || has_shard old.sent s) (eq-eqb s shard e) in
+          let count : times_sent s said + times_sent s (frames_put (told state old) round shard labels) ≡ 1 =
+          subst (λ (k : ℕ). times_sent k said + times_sent k (frames_put (told state old) round shard labels) ≡ 1) (sym e)
+          (ap (λ (n : ℕ). n + times_sent shard (frames_put (told state old) round shard labels)) (step.once shard) ∙ once_put sent shard links round labels) in
           whole ∙ count ∙ ap (λ b. if b then 1 else 0) (sym now))
           (λ (apart : s ≢ shard).
-          let now : has_shard after.sent s ≡ has_shard before.sent s = asked.sent s ∙ ap (λ b. b || has_shard before.sent s) (ne_eqb s shard apart) in
-          let count : times_sent s said + times_sent s (frames_put before round shard labels) ≡ times_sent s said = omega (arith, none_put sent shard s links round labels apart) in
+          let now : has_shard new.sent s ≡ has_shard old.sent s = asked.sent s ∙ ap (λ b. b || has_shard old.sent s) (ne_eqb s shard apart) in
+          let count : times_sent s said + times_sent s (frames_put (told state old) round shard labels) ≡ times_sent s said = omega (arith, none_put sent shard s links round labels apart) in
           whole ∙ count ∙ step.once s ∙ ap (λ b. if b then 1 else 0) (sym now))
           (cases_eq s shard)
 
-      pub step_more : IsInStep after (said ++ frames_put before round shard labels) (exchanges ++ exchange_of round shard labels a ∷ [])
+      pub step_more : IsInStep (told state new) (said ++ frames_put (told state old) round shard labels) (exchanges ++ exchange_of round shard labels a ∷ [])
       step_more =
-          let more : List FrameValue = frames_put before round shard labels in
+          let more : List FrameValue = frames_put (told state old) round shard labels in
           record {
-            calm = omega (arith, asked.brought.failures, step.calm);
-            sent = appends-told before.line.sent after.line.sent (texts_of said) (texts_of more) step.sent (asked.brought.sent refl) ∙ ap (λ t. Some t) (sym (texts-append said more));
-            lawful = lawful-append said more step.lawful (put_lawful round shard labels before is ask);
-            only = subst (λ (k : List (List Link)). All (IsOfCut k) (said ++ more)) (sym asked.cut) (All-append (IsOfCut before.cut) said more step.only (of_cut_put (has_shard before.sent shard) before.cut round shard labels in_cut));
+            calm = omega (arith, brought.failures, step.calm);
+            sent = appends-told (state old.line).sent (state new.line).sent (texts_of said) (texts_of more) step.sent (brought.sent refl) ∙ ap (λ t. Some t) (sym (texts-append said more));
+            lawful = lawful-append said more step.lawful (put_lawful round shard labels (told state old) is ask);
+            only = subst (λ (k : List (List Link)). All (IsOfCut k) (said ++ more)) (sym asked.cut) (All-append (IsOfCut old.cut) said more step.only (of_cut_put (has_shard old.sent shard) old.cut round shard labels in_cut));
             once = once_step;
             asked =
                 among_append said more
-                ∙ (ap (λ (fs : List FrameValue). asks_among said ++ fs) (among_put (has_shard before.sent shard) shard (links_at before.cut shard) round labels)
+                ∙ (ap (λ (fs : List FrameValue). asks_among said ++ fs) (among_put (has_shard old.sent shard) shard (links_at old.cut shard) round labels)
                 ∙ (ap (λ (fs : List FrameValue). fs ++ AskFrame round shard labels ∷ []) step.asked
                 ∙ sym (map-append (λ (e : Exchange). AskFrame e.round e.shard e.labels) exchanges (exchange_of round shard labels a ∷ []))));
             gave = exchanged_more exchanges step.gave;
-            shelves = subst (λ (k : List (List Link)). (s : ℕ) → s < length k → shelf_after empty_shelf (said ++ more) s ≡ (if has_shard after.sent s then Some (links_at k s) else None)) (sym asked.cut) shelves_step;
+            shelves = subst (λ (k : List (List Link)). (s : ℕ) → s < length k → shelf_after empty_shelf (said ++ more) s ≡ (if has_shard new.sent s then Some (links_at k s) else None)) (sym asked.cut) shelves_step;
           }
 
 -- ---- what a faithful line answers
 
-module _ (round shard : ℕ) (labels : List ℕ) (before after : Talk) (said : List FrameValue) (exchanges : List Exchange) (step : IsInStep before said exchanges) (below : before.worker < MAX_WORKERS)
-    (faithful : ServesSoFar before.worker after.line) where
+module _ {L : Type 0} (state : L → LineState) (round shard : ℕ) (labels : List ℕ) (old new : TalkState L) (said : List FrameValue) (exchanges : List Exchange) (step : IsInStep (told state old) said exchanges) (below : old.worker < MAX_WORKERS)
+    (faithful : ServesSoFar old.worker (state new.line)) where
+  abbrev before : Talk
+  before = told state old
+
+  abbrev after : Talk
+  after = told state new
+
   version : IsLawful (HelloFrame 1 before.worker)
   version = record { version = refl; worker = below }
 
@@ -223,8 +238,9 @@ module _ (round shard : ℕ) (labels : List ℕ) (before after : Talk) (said : L
     pub lawful : AreLawful left
     pub replies : AreReplies empty_shelf (said ++ frames_put before round shard labels) (map AnswerFrame (answers_of exchanges) ++ left)
 
-  left_of : (bytes : List ℕ) → AreLawful (frames_put before round shard labels) → AskBrought round shard labels bytes before after → Left bytes
-  left_of bytes lawful brought =
+  left_of : (bytes : List ℕ) → AreLawful (frames_put before round shard labels) → AskBrought state round shard labels bytes old new → Left bytes
+  left_of bytes lawful asked =
+      let brought = all_brought state round shard labels bytes old new asked in
       let more : List FrameValue = frames_put before round shard labels in
       let hello : List FrameValue = HelloFrame 1 before.worker ∷ map AnswerFrame (answers_of exchanges) in
       let sent_is : after.line.sent ≡ Some (texts_of (said ++ more)) =
@@ -257,7 +273,7 @@ module _ (round shard : ℕ) (labels : List ℕ) (before after : Talk) (said : L
 
   module _ (in_cut : shard < length before.cut) (is : IsShard shard (links_at before.cut shard)) (ask : IsAsk round shard labels) where
     -- a frame that came in place of a reply is the worker's reply to this ask
-    reply_of : (v : FrameValue) → IsLawful v → AskBrought round shard labels (text_of v) before after → MayReply (Some (links_at before.cut shard)) round shard labels v
+    reply_of : (v : FrameValue) → IsLawful v → AskBrought state round shard labels (text_of v) old new → MayReply (Some (links_at before.cut shard)) round shard labels v
     reply_of v lawful brought =
         let links : List Link = links_at before.cut shard in
         let first : List FrameValue = shard_once (has_shard before.sent shard) shard links in
@@ -271,7 +287,7 @@ module _ (round shard : ℕ) (labels : List ℕ) (before after : Talk) (said : L
         ap (λ (f : Shelf). f shard) (shelf_after-append empty_shelf said first) ∙ shelf_there (has_shard before.sent shard) (shelf_after empty_shelf said) shard links (step.shelves shard in_cut) in
         subst (λ (o : Option (List Link)). MayReply o round shard labels v) shelf (last_reply empty_shelf (said ++ first) round shard labels (map AnswerFrame (answers_of exchanges)) v later are count)
 
-    pub honest_answer : (a : AnswerValue) → Asked round shard labels a before after → IsHonestAnswer before.cut round shard labels a
+    pub honest_answer : (a : AnswerValue) → Asked state round shard labels a old new → IsHonestAnswer before.cut round shard labels a
     honest_answer a asked = elim (reply_of (AnswerFrame a) asked.lawful asked.brought) [
       | inl reply ↦ record { round_is = reply.round_is; shard_is = reply.shard_is; light = reply.light }
       | inr want ↦ cc
@@ -289,7 +305,7 @@ module _ (round shard : ℕ) (labels : List ℕ) (before after : Talk) (said : L
     code_of r s r' s' c c' same = cc
 
     -- a fault is nobody's blame
-    pub blameless : (fault : PortFault) → EndsUpTo (length labels) (links_at before.cut shard) → Cause fault round shard labels before after → IsBlameless fault
+    pub blameless : (fault : PortFault) → EndsUpTo (length labels) (links_at before.cut shard) → Cause state fault round shard labels old new → IsBlameless fault
     blameless Down ends cause = tt
     blameless Memory ends cause = tt
     blameless Closed ends cause = tt
@@ -303,7 +319,7 @@ module _ (round shard : ℕ) (labels : List ℕ) (before after : Talk) (said : L
             let left = left_of later.0 (put_lawful round shard labels before is ask) later.2 in
             bad_never later.0 left.rest left.left bad left.lawful left.texts
         | inr other ↦
-            no_reply other.0 other.2 (reply_of other.0 other.1 (subst (λ (t : List ℕ). AskBrought round shard labels t before after) other.3 later.2))
+            no_reply other.0 other.2 (reply_of other.0 other.1 (subst (λ (t : List ℕ). AskBrought state round shard labels t old new) other.3 later.2))
       ]
     ]
     blameless WrongHello ends cause =

@@ -27,11 +27,6 @@ then_came a b c said came bytes first second =
 pub room_kept : (a b : LineState) (said came : List ℕ) → HasRoom a → Went 0 0 said came a b → HasRoom b
 room_kept a b said came room went = record { failures = omega (arith, room.failures, went.failures); ends = omega (arith, room.ends, went.ends) }
 
--- the same, and then the end
-pub then_ended : (a b c : LineState) (said came bytes : List ℕ) → Went 0 0 said came a b → Went 0 1 [] bytes b c → Went 0 1 said (came ++ bytes) a c
-then_ended a b c said came bytes first second =
-    subst (λ (t : List ℕ). Went 0 1 t (came ++ bytes) a c) (append-nil said) (went_then 0 0 0 1 said came [] bytes a b c first second)
-
 -- one failed call, whatever came before it
 pub failed_of : (a b : LineState) (said came : List ℕ) → Went 1 0 said came a b → LineFailed a b
 failed_of a b said came went = record { sent = λ calm. cc; got = λ calm. cc; failures = went.failures; ends = went.ends }

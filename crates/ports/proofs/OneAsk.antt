@@ -13,9 +13,9 @@ use Rattle.ports.specs.declared.fault.PortFault.{PortFault}
 use Rattle.ports.specs.declared.fault.PortFault.TheVariants.{Down, Garbled, WrongHello, Gave, Memory, Closed}
 use Rattle.shard_set.specs.Shards.{has_shard}
 use Rattle.ports.specs.Lines.{LineState, Went}
-use Rattle.ports.specs.Talking.{Talk, hello_once, shard_once, frames_put, Asked}
+use Rattle.ports.specs.Talking.{Talk, TalkState, hello_once, shard_once, frames_put, AskPut, Asked}
 use Rattle.ports.specs.Causes.{Came, AnswerFault, Cause, InReply}
-use Rattle.ports.proofs.Going.{went_then, then_came, then_ended, then_failed}
+use Rattle.ports.proofs.Going.{went_then, then_failed}
 
 module _ (round shard : ℕ) (labels : List ℕ) (before : Talk) where
   -- the hello came, the shard and the ask were sent
@@ -34,28 +34,29 @@ module _ (round shard : ℕ) (labels : List ℕ) (before : Talk) where
       let came : (hello ++ []) ++ [] ≡ hello = append-nil (hello ++ []) ∙ append-nil hello in
       subst (λ (t : List ℕ). Went 0 0 t hello before.line r3) said (subst (λ (t : List ℕ). Went 0 0 (texts_of shards ++ text_of (AskFrame round shard labels)) t before.line r3) came whole)
 
-  module _ (r : LineState) (so_far : Went 0 0 (texts_of (frames_put before round shard labels)) (hello_once before.greeted before.worker) before.line r) (after : Talk) where
-    pub asked_of : (result : Result AnswerValue PortFault) (number : ℕ) → number ≡ shard → ((s : ℕ) → has_shard after.sent s ≡ (s == number || has_shard before.sent s))
-        → after.greeted ≡ true → after.cut ≡ before.cut → after.worker ≡ before.worker → IfOk result (λ a. Came (text_of (AnswerFrame a)) r after.line) → IfOk result (λ a. IsAnswer a)
-        → IfOk result (λ a. Asked round shard labels a before after)
-    asked_of (Ok a) number same sent greeted cut worker came lawful = record {
-      brought = then_came before.line r after.line _ _ _ so_far came;
-      lawful = lawful;
-      sent = subst (λ (n : ℕ). (s : ℕ) → has_shard after.sent s ≡ (s == n || has_shard before.sent s)) same sent;
-      greeted = greeted;
-      cut = cut;
-      worker = worker;
-    }
-    asked_of (Err e) number same sent greeted cut worker came lawful = tt
+-- the line `r` was asked, and the reply, or what is at fault, came behind that
+module _ {L : Type 0} (state : L → LineState) (round shard : ℕ) (labels : List ℕ) (before : TalkState L) (r : L) (so_far : AskPut state round shard labels before r) (after : TalkState L) where
+  pub asked_of : (result : Result AnswerValue PortFault) (number : ℕ) → number ≡ shard → ((s : ℕ) → has_shard after.sent s ≡ (s == number || has_shard before.sent s))
+      → after.greeted ≡ true → after.cut ≡ before.cut → after.worker ≡ before.worker → IfOk result (λ a. Came (text_of (AnswerFrame a)) (state r) (state after.line)) → IfOk result (λ a. IsAnswer a)
+      → IfOk result (λ a. Asked state round shard labels a before after)
+  asked_of (Ok a) number same sent greeted cut worker came lawful = record {
+    brought = (r, so_far, came);
+    lawful = lawful;
+    sent = subst (λ (n : ℕ). (s : ℕ) → has_shard after.sent s ≡ (s == n || has_shard before.sent s)) same sent;
+    greeted = greeted;
+    cut = cut;
+    worker = worker;
+  }
+  asked_of (Err e) number same sent greeted cut worker came lawful = tt
 
-    pub cause_of : (result : Result AnswerValue PortFault) → IfErr result (λ e. AnswerFault e r after.line) → IfErr result (λ e. Cause e round shard labels before after)
-    cause_of (Ok a) fault = tt
-    cause_of (Err Down) fault = elim fault [
-      | inl failed ↦ inl (then_failed before.line r after.line _ _ so_far failed)
-      | inr ended ↦ inr (inr (ended.0, ended.1, then_ended before.line r after.line _ _ _ so_far ended.2))
-    ]
-    cause_of (Err Garbled) fault = inr (fault.0, fault.1, then_came before.line r after.line _ _ _ so_far fault.2)
-    cause_of (Err (Gave code)) fault = (fault.0, fault.1, fault.2, then_came before.line r after.line _ _ _ so_far fault.3)
-    cause_of (Err Memory) fault = InReply fault.0 fault.1 (then_came before.line r after.line _ _ _ so_far fault.2)
-    cause_of (Err WrongHello) fault = absurd fault
-    cause_of (Err Closed) fault = absurd fault
+  pub cause_of : (result : Result AnswerValue PortFault) → IfErr result (λ e. AnswerFault e (state r) (state after.line)) → IfErr result (λ e. Cause state e round shard labels before after)
+  cause_of (Ok a) fault = tt
+  cause_of (Err Down) fault = elim fault [
+    | inl failed ↦ inl (then_failed (state before.line) (state r) (state after.line) _ _ so_far failed)
+    | inr ended ↦ inr (inr (ended.0, ended.1, (r, so_far, ended.2)))
+  ]
+  cause_of (Err Garbled) fault = inr (fault.0, fault.1, (r, so_far, fault.2))
+  cause_of (Err (Gave code)) fault = (fault.0, fault.1, fault.2, (r, so_far, fault.3))
+  cause_of (Err Memory) fault = InReply fault.0 fault.1 (r, so_far, fault.2)
+  cause_of (Err WrongHello) fault = absurd fault
+  cause_of (Err Closed) fault = absurd fault

@@ -19,7 +19,7 @@ use Rattle.ports.specs.Causes.{Cause, IsBlameless}
 use Rattle.ports.specs.Exchanges.{Exchange, exchange_of}
 use Rattle.ports.specs.Talking.{Talk, TalkState, told, shard_once, frames_put, Asked, IsOfCut, IsInStep}
 use Rattle.ports.specs.Wires.{WireState, last_ask, IsCalm, WentOn, WireCause}
-use Rattle.ports.proofs.Asking.{step_more, honest_answer, blameless}
+use Rattle.ports.proofs.Asking.{all_brought, step_more, honest_answer, blameless}
 
 told_none : (told : Option (List ℕ)) → IsSome told → IfSome told (λ bytes. bytes ≡ []) → told ≡ Some []
 told_none None tells none = cc
@@ -48,8 +48,8 @@ last_put last (AnswerFrame a ∷ said) round shard labels = last_put last said r
 last_put last (FaultFrame r s c ∷ said) round shard labels = last_put last said round shard labels
 
 -- an ask that was open never ends with Closed
-pub not_closed : (round shard : ℕ) (labels : List ℕ) (before after : Talk) (fault : PortFault) → Cause fault round shard labels before after → fault ≢ Closed
-not_closed round shard labels before after fault cause same = subst (λ (f : PortFault). Cause f round shard labels before after) same cause
+pub not_closed : {L : Type 0} (state : L → LineState) (round shard : ℕ) (labels : List ℕ) (before after : TalkState L) (fault : PortFault) → Cause state fault round shard labels before after → fault ≢ Closed
+not_closed state round shard labels before after fault cause same = subst (λ (f : PortFault). Cause state f round shard labels before after) same cause
 
 module _ {L : Type 0} (state : L → LineState) where
   -- a wire that asked nothing yet, over a fresh line that tells its bytes
@@ -103,7 +103,7 @@ module _ {L : Type 0} (state : L → LineState) where
 
   module _ (round shard : ℕ) (labels : List ℕ) (old new : WireState L) (in_cut : shard < length old.talk.cut) (live : old.is_open ≡ true) (asks : new.asks ≡ old.asks + 1) (last : new.last ≡ (round, shard)) where
     -- it was answered
-    module _ (is : IsShard shard (links_at old.talk.cut shard)) (ask : IsAsk round shard labels) (a : AnswerValue) (asked : Asked round shard labels a (told state old.talk) (told state new.talk)) where
+    module _ (is : IsShard shard (links_at old.talk.cut shard)) (ask : IsAsk round shard labels) (a : AnswerValue) (asked : Asked state round shard labels a old.talk new.talk) where
       pub answered : (kind kind' : PortFault → Type 0) (ends : ℕ) (exchanges : List Exchange) → new.failures ≡ old.failures → new.wants ≡ old.wants → WentOn state kind old ends exchanges
           → WentOn state kind' new ends (exchanges ++ exchange_of round shard labels a ∷ [])
       answered kind kind' ends exchanges failures wants went =
@@ -112,8 +112,8 @@ module _ {L : Type 0} (state : L → LineState) where
           inl (
             said ++ frames_put (told state old.talk) round shard labels,
             record {
-              in_step = step_more round shard labels a (told state old.talk) (told state new.talk) asked in_cut is ask said exchanges calm.in_step;
-              ends_are = omega (arith, asked.brought.ends, calm.ends_are);
+              in_step = step_more state round shard labels a old.talk new.talk asked in_cut is ask said exchanges calm.in_step;
+              ends_are = omega (arith, (all_brought state round shard labels _ old.talk new.talk asked.brought).ends, calm.ends_are);
               asks = omega (arith, asks, calm.asks, length-append exchanges (exchange_of round shard labels a ∷ []));
               failures = failures ∙ calm.failures;
               wants = wants ∙ calm.wants;
@@ -154,22 +154,22 @@ module _ {L : Type 0} (state : L → LineState) where
   module _ (round shard : ℕ) (labels : List ℕ) (old : WireState L) (new : TalkState L) (in_cut : shard < length old.talk.cut) (live : old.is_open ≡ true) (is : IsShard shard (links_at old.talk.cut shard)) (ask : IsAsk round shard labels)
       (below : old.talk.worker < MAX_WORKERS) (kind : PortFault → Type 0) where
     -- what the line told by the end of the ask is enough
-    pub served_answer : (a : AnswerValue) → Asked round shard labels a (told state old.talk) (told state new) → (ends : ℕ) (exchanges : List Exchange) → WentOn state kind old ends exchanges → ServesSoFar old.talk.worker (state new.line)
+    pub served_answer : (a : AnswerValue) → Asked state round shard labels a old.talk new → (ends : ℕ) (exchanges : List Exchange) → WentOn state kind old ends exchanges → ServesSoFar old.talk.worker (state new.line)
         → IsHonestAnswer old.talk.cut round shard labels a
     served_answer a asked ends exchanges went serves =
         let (said, calm) = calm_open kind old ends exchanges live went in
-        honest_answer round shard labels (told state old.talk) (told state new) said exchanges calm.in_step below serves in_cut is ask a asked
+        honest_answer state round shard labels old.talk new said exchanges calm.in_step below serves in_cut is ask a asked
 
     module _ (line line' : ℕ → Type 0) (kept : (w : ℕ) → line w → line' w) (serves : (w : ℕ) → line' w → ServesSoFar w (state new.line)) (honest : line old.talk.worker × ((ends : ℕ) × (exchanges : List Exchange) × WentOn state kind old ends exchanges)) where
-      pub light_answer : (a : AnswerValue) → Asked round shard labels a (told state old.talk) (told state new) → IsHonestAnswer old.talk.cut round shard labels a
+      pub light_answer : (a : AnswerValue) → Asked state round shard labels a old.talk new → IsHonestAnswer old.talk.cut round shard labels a
       light_answer a asked =
           let (carries, some) = honest in
           let (ends, exchanges, went) = some in
           served_answer a asked ends exchanges went (serves old.talk.worker (kept old.talk.worker carries))
 
-      pub blameless_fault : (fault : PortFault) → EndsUpTo (length labels) (links_at old.talk.cut shard) → Cause fault round shard labels (told state old.talk) (told state new) → IsBlameless fault
+      pub blameless_fault : (fault : PortFault) → EndsUpTo (length labels) (links_at old.talk.cut shard) → Cause state fault round shard labels old.talk new → IsBlameless fault
       blameless_fault fault ends cause =
           let (carries, some) = honest in
           let (found, exchanges, went) = some in
           let (said, calm) = calm_open kind old found exchanges live went in
-          blameless round shard labels (told state old.talk) (told state new) said exchanges calm.in_step below (serves old.talk.worker (kept old.talk.worker carries)) in_cut is ask fault ends cause
+          blameless state round shard labels old.talk new said exchanges calm.in_step below (serves old.talk.worker (kept old.talk.worker carries)) in_cut is ask fault ends cause

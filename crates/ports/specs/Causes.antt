@@ -14,7 +14,7 @@ use Rattle.frames.specs.declared.fault.FrameFault.TheVariants.{Memory as NoMemor
 use Rattle.ports.specs.declared.fault.PortFault.{PortFault}
 use Rattle.ports.specs.declared.fault.PortFault.TheVariants.{Down, Garbled, WrongHello, Gave, Memory, Closed}
 use Rattle.ports.specs.Lines.{LineState, Went}
-use Rattle.ports.specs.Talking.{Talk, hello_once, shard_once, AskBrought, AskEnded}
+use Rattle.ports.specs.Talking.{Talk, TalkState, told, hello_once, shard_once, AskBrought, AskEnded}
 
 -- a fault that tells of bytes which no lawful frame begins with
 abbrev pub IsGarble : FrameFault → Type 0
@@ -93,23 +93,25 @@ abbrev pub HasPut : List FrameValue → Talk → Talk → Type 0
 HasPut frames before after = Went 0 0 (texts_of frames) (hello_once before.greeted before.worker) before.line after.line
 
 -- where memory was wanting in an ask: for the hello that came, for the frame of a shard that wasn't sent before, for the frame of the ask, or for the reply that came. In each case nothing failed and no end was found
-pub data IsWanting (round shard : ℕ) (labels : List ℕ) (before after : Talk) : Type 0 where
-  InHello : IsNoHello Memory before after → IsWanting round shard labels before after
-  InShard : has_shard before.sent shard ≡ false → HasPut [] before after → IsWanting round shard labels before after
-  InAsk : HasPut (shard_once (has_shard before.sent shard) shard (links_at before.cut shard)) before after → IsWanting round shard labels before after
-  InReply : (bytes : List ℕ) → StreamRefused NoMemory bytes → AskBrought round shard labels bytes before after → IsWanting round shard labels before after
+pub data IsWanting {L : Type 0} (state : L → LineState) (round shard : ℕ) (labels : List ℕ) (before after : TalkState L) : Type 0 where
+  InHello : IsNoHello Memory (told state before) (told state after) → IsWanting state round shard labels before after
+  InShard : has_shard before.sent shard ≡ false → HasPut [] (told state before) (told state after) → IsWanting state round shard labels before after
+  InAsk : HasPut (shard_once (has_shard before.sent shard) shard (links_at before.cut shard)) (told state before) (told state after) → IsWanting state round shard labels before after
+  InReply : (bytes : List ℕ) → StreamRefused NoMemory bytes → AskBrought state round shard labels bytes before after → IsWanting state round shard labels before after
 
--- why an ask that was open got no answer: by the bytes that came in it, and by what the line counted. It is down where it failed, or ended in place of the hello or of the reply
-abbrev pub Cause : PortFault → ℕ → ℕ → List ℕ → Talk → Talk → Type 0
-Cause Down round shard labels before after =
-    LineFailed before.line after.line ⊎ (IsNoHello Down before after ⊎ ((bytes : List ℕ) × IsCutOff bytes × AskEnded round shard labels bytes before after))
-Cause Garbled round shard labels before after =
-    IsNoHello Garbled before after ⊎ ((bytes : List ℕ) × IsGarbled bytes × AskBrought round shard labels bytes before after)
-Cause WrongHello round shard labels before after = IsNoHello WrongHello before after
-Cause (Gave code) round shard labels before after =
-    (r s : ℕ) × IsLawful (FaultFrame r s code) × AskBrought round shard labels (text_of (FaultFrame r s code)) before after
-Cause Memory round shard labels before after = IsWanting round shard labels before after
-Cause Closed round shard labels before after = ⊥
+-- why an ask that was open got no answer: by the bytes that came in it, and by what the line counted. It is down where it failed, or ended in place of the hello, or of the reply once it was asked
+abbrev pub Cause : {L : Type 0} → (L → LineState) → PortFault → ℕ → ℕ → List ℕ → TalkState L → TalkState L → Type 0
+Cause state Down round shard labels before after =
+    LineFailed (state before.line) (state after.line)
+    ⊎ (IsNoHello Down (told state before) (told state after) ⊎ ((bytes : List ℕ) × IsCutOff bytes × AskEnded state round shard labels bytes before after))
+Cause state Garbled round shard labels before after =
+    IsNoHello Garbled (told state before) (told state after)
+    ⊎ ((bytes : List ℕ) × IsGarbled bytes × AskBrought state round shard labels bytes before after)
+Cause state WrongHello round shard labels before after = IsNoHello WrongHello (told state before) (told state after)
+Cause state (Gave code) round shard labels before after =
+    (r s : ℕ) × IsLawful (FaultFrame r s code) × AskBrought state round shard labels (text_of (FaultFrame r s code)) before after
+Cause state Memory round shard labels before after = IsWanting state round shard labels before after
+Cause state Closed round shard labels before after = ⊥
 
 -- a fault that a wire over a faithful line may answer
 abbrev pub IsBlameless : PortFault → Type 0

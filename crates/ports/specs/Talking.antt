@@ -44,17 +44,21 @@ shard_once false shard links = ShardFrame shard links ∷ []
 abbrev pub frames_put : Talk → ℕ → ℕ → List ℕ → List FrameValue
 frames_put talk round shard labels = shard_once (has_shard talk.sent shard) shard (links_at talk.cut shard) ++ AskFrame round shard labels ∷ []
 
--- in one ask its frames were put, and behind a first hello these bytes came
-abbrev pub AskBrought : ℕ → ℕ → List ℕ → List ℕ → Talk → Talk → Type 0
-AskBrought round shard labels bytes before after = Went 0 0 (texts_of (frames_put before round shard labels)) (hello_once before.greeted before.worker ++ bytes) before.line after.line
+-- up to this state of the line a first hello came and the frames of an ask were put, and no end was found
+abbrev pub AskPut : {L : Type 0} → (L → LineState) → ℕ → ℕ → List ℕ → TalkState L → L → Type 0
+AskPut state round shard labels before asked = Went 0 0 (texts_of (frames_put (told state before) round shard labels)) (hello_once before.greeted before.worker) (state before.line) (state asked)
+
+-- an ask was put, and behind that these bytes came
+abbrev pub AskBrought : {L : Type 0} → (L → LineState) → ℕ → ℕ → List ℕ → List ℕ → TalkState L → TalkState L → Type 0
+AskBrought state round shard labels bytes before after = (asked : _) × AskPut state round shard labels before asked × Went 0 0 [] bytes (state asked) (state after.line)
 
 -- the same, and then the line ended
-abbrev pub AskEnded : ℕ → ℕ → List ℕ → List ℕ → Talk → Talk → Type 0
-AskEnded round shard labels bytes before after = Went 0 1 (texts_of (frames_put before round shard labels)) (hello_once before.greeted before.worker ++ bytes) before.line after.line
+abbrev pub AskEnded : {L : Type 0} → (L → LineState) → ℕ → ℕ → List ℕ → List ℕ → TalkState L → TalkState L → Type 0
+AskEnded state round shard labels bytes before after = (asked : _) × AskPut state round shard labels before asked × Went 0 1 [] bytes (state asked) (state after.line)
 
--- an ask that was answered: its frames went out and no others, the hello came by now, the shard was sent by now, and the rest of the talk stands
-pub record Asked (round shard : ℕ) (labels : List ℕ) (answer : AnswerValue) (before after : Talk) : Type 0 where
-  pub brought : AskBrought round shard labels (text_of (AnswerFrame answer)) before after
+-- an ask that was answered: its frames went out and no others, and then the answer came; the hello came by now, the shard was sent by now, and the rest of the talk stands
+pub record Asked {L : Type 0} (state : L → LineState) (round shard : ℕ) (labels : List ℕ) (answer : AnswerValue) (before after : TalkState L) : Type 0 where
+  pub brought : AskBrought state round shard labels (text_of (AnswerFrame answer)) before after
   pub lawful : IsAnswer answer
   pub sent : (s : ℕ) → has_shard after.sent s ≡ (s == shard || has_shard before.sent s)
   pub greeted : after.greeted ≡ true

@@ -52,7 +52,7 @@ WireExchanged state wire exchanges = HasGiven (told state wire.talk) (answers_of
 
 -- why one of its asks gave no answer
 abbrev pub WireCause : {L : Type 0} → (L → LineState) → PortFault → (round shard : ℕ) → List ℕ → WireState L → WireState L → Type 0
-WireCause state fault round shard labels before after = Cause fault round shard labels (told state before.talk) (told state after.talk)
+WireCause state fault round shard labels before after = Cause state fault round shard labels before.talk after.talk
 
 -- the round and the shard of the last ask among these frames, or of `last` where there is none
 abbrev pub last_ask : ℕ × ℕ → List FrameValue → ℕ × ℕ

@@ -8,9 +8,11 @@
 //!   only want of memory.
 //! - Over any line each fault closes the wire for good, and has its cause in the bytes that went out and came
 //!   in that ask, or in what the line counted. A wire is down where its line failed, or ended before or inside
-//!   the frame that it waited for. In an ask that found no memory the line neither failed nor ended, and the
+//!   the frame that it waited for: the hello, or a reply, and then all of the ask had been sent before the end
+//!   was found. In an ask that found no memory the line neither failed nor ended, and the
 //!   bytes are those up to the frame that memory was wanting for.
-//! - An ask that is answered sent the ask alone, and before it the shard where no ask sent it before.
+//! - An ask that is answered sent the ask alone, and before it the shard where no ask sent it before; its answer
+//!   came once all that was sent.
 //! - An open wire over a line that was fresh, and tells its bytes, sent shards of its cut, none twice, and the
 //!   asks of its exchanges, in their order, and nothing else; it got the worker's hello and the answers of the
 //!   exchanges, and nothing else, and found no end.

@@ -6,7 +6,7 @@ ghost use Rattle.ports.specs.Lines.{HasRoom, IsFresh, Tells, ServesSoFar};
 ghost use Rattle.ports.specs.Exchanges.{Exchange, exchange_of};
 ghost use Rattle.ports.specs.Ports.{PortWent, AskWent, IsHonestAnswer, failure_of, want_of};
 ghost use Rattle.ports.specs.Causes.{IsBlameless};
-ghost use Rattle.ports.specs.Talking.{told, Asked};
+ghost use Rattle.ports.specs.Talking.{Asked};
 ghost use Rattle.ports.specs.Wires.{port_of, IsNewWire, IsSoundWire, IsHonestWire, WireExchanged, WireCause};
 
 use crate::fault::PortFault;
@@ -117,9 +117,8 @@ impl<'a, L: Line, A: Allocator + Copy> Port<A> for Wire<'a, L, A> {
         ensures sound_fault { OnErr result ((ends : ℕ) (exchanges : List Exchange)
             → IsSoundWire L.state self.old ends exchanges → IsSoundWire L.state self.new ends exchanges) }
 
-        // An answer: which frames were sent for it, which bytes came, and which shards are sent by now.
-        ensures asked { IfOk result (λ a. Asked round shard labels.now a
-            (told L.state self.old.talk) (told L.state self.new.talk)) }
+        // An answer: which frames were sent for it, which bytes came behind them, and which shards are sent by now.
+        ensures asked { IfOk result (λ a. Asked L.state round shard labels.now a self.old.talk self.new.talk) }
 
         // Over a line that tells its bytes, known to be faithful or not: where what came by now begins what the
         // worker may write, the answer is honest.

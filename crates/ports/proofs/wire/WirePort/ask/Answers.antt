@@ -7,7 +7,7 @@ use Rattle.ports.proofs.wire.WirePort.ask.Goals as goal
 
 pub returns-in-Ok-clause-exchanged : goal.returns-in-Ok-clause-exchanged
 returns-in-Ok-clause-exchanged g c =
-    rw (sym c.self.view_is) (exchanged_more c.args.round c.args.shard c.args.labels.now c.in-Ok.answer _ _ c.in-Ok.ensures.asked)
+    rw (sym c.self.view_is) (exchanged_more g.L.Line.state c.args.round c.args.shard c.args.labels.now c.in-Ok.answer _ _ c.in-Ok.ensures.asked)
 
 pub returns-in-Ok-clause-sound : goal.returns-in-Ok-clause-sound
 returns-in-Ok-clause-sound g c =
@@ -44,7 +44,7 @@ returns-in-Err-clause-sound_fault g c =
     let live : c.self.inside.is_open ≡ true = search rules in
     let in_cut : c.args.shard < length c.self.inside.talk.cut = rw (sym c.self.view_is) at c.requires.shard in
     rw (sym c.self.view_is)
-    (λ ends exchanges. failed g.L.Line.state c.args.round c.args.shard c.args.labels.now _ _ in_cut live refl refl c.in-Err.fault c.in-Err.ensures.cause _ _ ends exchanges (not_closed c.args.round c.args.shard c.args.labels.now _ _ c.in-Err.fault c.in-Err.ensures.cause) refl c.ask.ensures.cut c.ask.ensures.worker (ap (λ n. c.self.inside.failures + n) c.failure_of.ensures) (ap (λ n. c.self.inside.wants + n) c.want_of.ensures))
+    (λ ends exchanges. failed g.L.Line.state c.args.round c.args.shard c.args.labels.now _ _ in_cut live refl refl c.in-Err.fault c.in-Err.ensures.cause _ _ ends exchanges (not_closed g.L.Line.state c.args.round c.args.shard c.args.labels.now _ _ c.in-Err.fault c.in-Err.ensures.cause) refl c.ask.ensures.cut c.ask.ensures.worker (ap (λ n. c.self.inside.failures + n) c.failure_of.ensures) (ap (λ n. c.self.inside.wants + n) c.want_of.ensures))
 
 pub returns-in-Err-clause-blameless : goal.returns-in-Err-clause-blameless
 returns-in-Err-clause-blameless g c =
