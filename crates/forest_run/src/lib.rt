@@ -11,8 +11,9 @@
 //! - A line that was new and tells its bytes is given up only for a fault that fits them and its counts, or for an
 //!   answer that the round's book refuses, whatever the other lines are. Over lines that carry the sessions of their
 //!   workers no line is blamed: one is given up only where it is down, or for want of memory here or at its worker.
-//! - Where no port was closed and nothing scanned alone, the bytes of new lines that tell them are just the shards, once
-//!   each, the asks, each of the worker of its line, and their answers, which name each link of the forest.
+//! - Where no port was closed and nothing scanned alone, the bytes of new lines that tell them are just the shards that
+//!   were asked for there, once each, the asks, each of the worker of its line, and their answers, which name each link
+//!   of the forest.
 //! - Where all ports are honest, want of memory is the only fault, and a run that ends well has the minimum spanning
 //!   forest of the cut's links and the number of merging rounds.
 //! - Whatever was answered, the forest closes no cycle and spans the links, and the report's counts are equations. Where

@@ -3,7 +3,7 @@ use Rattle.std.proofs.Common.{◌≡◌, ◌≢◌, ℕ, ◌<◌, List, [], ◌�
 use Rattle.std.specs.Prelude.{◌+◌, Option, None, Bool, true, false, ◌||◌, if◌then◌else◌, map}
 use Rattle.std.proofs.lemmas.Bool.{cases_eq}
 use Rattle.std.proofs.lemmas.List.{map-append, length-map}
-use Rattle.std.proofs.lemmas.List.Elements.{All-nil, All-cons, All-append}
+use Rattle.std.proofs.lemmas.List.Elements.{All-nil, All-cons, All-append, Contains-append_left, Contains-append_right}
 use Rattle.std.specs.List.{All}
 use Rattle.byte_streams.proofs.Streaming.{appends-told}
 use Rattle.limits.specs.declared.TheConstants.{MAX_WORKERS}
@@ -24,7 +24,7 @@ use Rattle.shard_set.specs.Shards.{has_shard}
 use Rattle.ports.specs.Lines.{LineState, Went, ServesSoFar}
 use Rattle.ports.specs.Causes.{IsNoReply, Came, Cause, IsBlameless}
 use Rattle.ports.specs.Ports.{IsHonestAnswer}
-use Rattle.ports.specs.Exchanges.{Exchange, exchange_of, answers_of}
+use Rattle.ports.specs.Exchanges.{Exchange, exchange_of, IsAskedIn, answers_of}
 use Rattle.ports.specs.Talking.{Talk, TalkState, told, hello_once, shard_once, frames_put, AskBrought, Asked, frames_got, HasGiven, IsOfCut, times_sent, asks_among, IsInStep}
 use Rattle.ports.proofs.Going.{then_came}
 use Rattle.ports.proofs.Refused.{bad_never}
@@ -199,6 +199,18 @@ module _ {L : Type 0} (state : L → LineState) (round shard : ℕ) (labels : Li
           whole ∙ count ∙ step.once s ∙ ap (λ b. if b then 1 else 0) (sym now))
           (cases_eq s shard)
 
+      -- a shard that was sent by now is the one that is asked, or was sent before
+      needed_step : (s : ℕ) → has_shard new.sent s ≡ true → IsAskedIn (exchanges ++ exchange_of round shard labels a ∷ []) s
+      needed_step s there =
+          let exchange : Exchange = exchange_of round shard labels a in
+          ⊎_elim
+          (λ (e : s ≡ shard). (exchange, Contains-append_right exchanges (exchange ∷ []) exchange (0, omega arith, refl), sym e))
+          (λ (apart : s ≢ shard).
+          let before : has_shard old.sent s ≡ true = sym (asked.sent s ∙ ap (λ b. b || has_shard old.sent s) (ne_eqb s shard apart)) ∙ there in
+          let (other, is_in, is) = step.needed s before in
+          (other, Contains-append_left exchanges (exchange ∷ []) other is_in, is))
+          (cases_eq s shard)
+
       pub step_more : IsInStep (told state new) (said ++ frames_put (told state old) round shard labels) (exchanges ++ exchange_of round shard labels a ∷ [])
       step_more =
           let more : List FrameValue = frames_put (told state old) round shard labels in
@@ -208,6 +220,7 @@ module _ {L : Type 0} (state : L → LineState) (round shard : ℕ) (labels : Li
             lawful = lawful-append said more step.lawful (put_lawful round shard labels (told state old) is ask);
             only = subst (λ (k : List (List Link)). All (IsOfCut k) (said ++ more)) (sym asked.cut) (All-append (IsOfCut old.cut) said more step.only (of_cut_put (has_shard old.sent shard) old.cut round shard labels in_cut));
             once = once_step;
+            needed = needed_step;
             asked =
                 among_append said more
                 ∙ (ap (λ (fs : List FrameValue). asks_among said ++ fs) (among_put (has_shard old.sent shard) shard (links_at old.cut shard) round labels)

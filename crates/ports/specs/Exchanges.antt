@@ -1,5 +1,5 @@
 -- What a port was asked, and what it answered.
-use Rattle.std.specs.Prelude.{ℕ, List, map}
+use Rattle.std.specs.Prelude.{◌≡◌, ℕ, List, map, Contains}
 use Rattle.frames.specs.AnswerValue.{AnswerValue}
 use Rattle.frames.specs.FrameValue.{FrameValue, AskFrame}
 
@@ -17,6 +17,10 @@ exchange_of round shard labels answer = record { round = round; shard = shard; l
 -- the answers, in the order of their exchanges
 abbrev pub answers_of : List Exchange → List AnswerValue
 answers_of exchanges = map (λ exchange. exchange.answer) exchanges
+
+-- one of the exchanges asks for the shard
+abbrev pub IsAskedIn : List Exchange → ℕ → Type 0
+IsAskedIn exchanges shard = (exchange : Exchange) × Contains exchanges exchange × (exchange.shard ≡ shard)
 
 -- the frames that ask, in the order of their exchanges
 abbrev pub ask_frames : List Exchange → List FrameValue

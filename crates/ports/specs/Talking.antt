@@ -11,7 +11,7 @@ use Rattle.frames.specs.FrameStream.{texts_of, AreLawful}
 use Rattle.worker_engine.specs.Serving.{empty_shelf, shelf_after}
 use Rattle.shard_set.specs.Shards.{has_shard}
 use Rattle.ports.specs.Lines.{LineState, Went}
-use Rattle.ports.specs.Exchanges.{Exchange, answers_of, ask_frames}
+use Rattle.ports.specs.Exchanges.{Exchange, IsAskedIn, answers_of, ask_frames}
 
 -- a talk: the line, the cut whose shards are asked, the number of the worker, whether its hello came, and the shards that were sent
 pub record TalkState (L : Type 0) : Type 0 where
@@ -96,13 +96,14 @@ asks_among [] = []
 asks_among (AskFrame round shard labels ∷ frames) = AskFrame round shard labels ∷ asks_among frames
 asks_among (v ∷ frames) = asks_among frames
 
--- nothing failed; just these frames were sent: shards of the cut, those of the set once each and no others, and asks for such shards, just those of the exchanges, in their order; and the hello and just the answers of the exchanges were got
+-- nothing failed; just these frames were sent: shards of the cut, those of the set once each and no others, each of which was asked for, and asks for such shards, just those of the exchanges, in their order; and the hello and just the answers of the exchanges were got
 pub record IsInStep (talk : Talk) (said : List FrameValue) (exchanges : List Exchange) : Type 0 where
   pub calm : talk.line.failures ≡ 0
   pub sent : talk.line.sent ≡ Some (texts_of said)
   pub lawful : AreLawful said
   pub only : All (IsOfCut talk.cut) said
   pub once : (s : ℕ) → times_sent s said ≡ (if has_shard talk.sent s then 1 else 0)
+  pub needed : (s : ℕ) → has_shard talk.sent s ≡ true → IsAskedIn exchanges s
   pub asked : asks_among said ≡ ask_frames exchanges
   pub gave : HasGiven talk (answers_of exchanges)
   pub shelves : (s : ℕ) → s < length talk.cut → shelf_after empty_shelf said s ≡ (if has_shard talk.sent s then Some (links_at talk.cut s) else None)

@@ -12,9 +12,9 @@
 //!   was found. In an ask that found no memory the line neither failed nor ended, and the
 //!   bytes are those up to the frame that memory was wanting for.
 //! - An ask that is answered sent the ask alone, and before it the shard where no ask sent it before; its answer
-//!   came once all that was sent.
-//! - An open wire over a line that was fresh, and tells its bytes, sent shards of its cut, none twice, and the
-//!   asks of its exchanges, in their order, and nothing else; it got the worker's hello and the answers of the
+//!   came behind that.
+//! - An open wire over a line that was fresh, and tells its bytes, sent shards of its cut that were asked for,
+//!   none twice, and the asks of its exchanges, in their order, and nothing else; it got the worker's hello and the answers of the
 //!   exchanges, and nothing else, and found no end.
 //! - Closed, such a wire was shut, and stands as it did; or its last ask failed, and the wire tells why, by the
 //!   open wire before that ask, which had the same exchanges: its counts rose by that ask and that fault alone.
