@@ -1,6 +1,6 @@
 -- What a run over lines did, by what its steps say.
 use Rattle.std.proofs.Common.{◌≡◌, ℕ, zero, suc, ◌+◌, ◌<◌, ◌≤◌, ◌^◌, ◌⊎◌, inl, inr, true, List, [], ◌∷◌, length, get_or, take, map, None, Ok, Err, refl, sym, ap, subst, ◌∙◌, arith}
-use Rattle.std.specs.Prelude.{All, Contains, max, filter}
+use Rattle.std.specs.Prelude.{All, Contains, Vec, max, filter}
 use Rattle.std.proofs.lemmas.List.{length-append, length-map, get_or_append_left, get_or-append-add}
 use Rattle.std.proofs.lemmas.List.Elements.{All-head, All-tail}
 use Rattle.std.proofs.lemmas.List.Sorted.{IsPermutation-remove, length_permutation, Contains-permutation}
@@ -18,6 +18,7 @@ use Rattle.link_key.specs.Cut.{joined, IsCutFault}
 use Rattle.link_key.specs.Link.{IsBelow, IsAscending, EndsUpTo, key_of, arc_key, is_no_loop}
 use Rattle.link_key.specs.Forest.{IsForestOf}
 use Rattle.link_key.proofs.Keys.{below_irrefl}
+use Rattle.gr_text.specs.ForestText.{forest_text}
 use Rattle.gr_text.specs.Graph.{GraphValue, IsGraphOf}
 use Rattle.round_theory.specs.Rounds.{IsMergingRounds}
 use Rattle.gr_text.specs.Sourced.{IsReadOf}
@@ -31,10 +32,10 @@ use Rattle.forest_run.specs.declared.fault.RunFault.TheVariants as fault
 use Rattle.forest_run.specs.declared.report.Report.{Report}
 use Rattle.forest_run.specs.Lanes.{LaneState, one_if, open_of}
 use Rattle.forest_run.specs.Cuttings.{cut_refusal, IsCutOf}
-use Rattle.forest_run.specs.Outcomes.{streams, IsUnsolved}
+use Rattle.forest_run.specs.Outcomes.{streams, IsUnsolved, IsLeast}
 use Rattle.forest_run.specs.WiredLines.{AreServed, LinesSolved, LinesRefused}
-use Rattle.forest_run.specs.LinesRun.{IsSpanningForest, IsLinesReport, LinesWent, IsLinesFault, told_fault, RanLines, IsHonestReport, IsServedFault, RanServed}
-use Rattle.forest_run.proofs.PlainRunning.{unsolved}
+use Rattle.forest_run.specs.LinesRun.{IsSpanningForest, IsSpanning, IsLinesReport, LinesWent, IsLinesFault, told_fault, RanLines, IsHonestReport, IsServedReport, IsServedFault, RanServed}
+use Rattle.forest_run.proofs.PlainRunning.{unsolved, broken_off}
 use Rattle.forest_run.proofs.NewWires.{served_honest}
 use Rattle.forest_run.proofs.TalkedLines.{have_talked}
 
@@ -120,12 +121,15 @@ module _ {L : Type 0} (state : L → LineState) (faithful : L → ℕ → Type 0
 -- what a run says of a graph that it found a forest of
 module _ {L : Type 0} (state : L → LineState) (faithful : L → ℕ → Type 0) (cutting : Cutting) (graph : GraphValue) (shards : List (List Link)) (is : IsCutOf cutting graph.links shards) (before after : List L) (forest : List Link) (report : Report)
     (solved : LinesSolved state faithful graph.vertices shards before after forest report) where
-  pub honest_report : AreServed state faithful before → IsHonestReport graph report
+  honest_report : AreServed state faithful before → IsHonestReport graph report
   honest_report served = record {
     rounds_are =
         subst (λ (ls : List Link). IsMergingRounds graph.vertices ls report.rounds) is.whole (solved.went.honest_rounds (served_honest state faithful before shards solved.lanes solved.new served));
     in_time = solved.went.in_time;
   }
+
+  pub served_report : AreServed state faithful before → IsServedReport cutting graph report
+  served_report served = record { allowed = is.allowed; honest = honest_report served }
 
   pub lines_went : LinesWent state faithful cutting before after graph forest report
   lines_went = record {
@@ -178,3 +182,19 @@ cut_unhindered cutting links others why refused same allowed =
 -- a sink that took a part of the text and then had a setback isn't one that had none
 pub had_setback : (written : ℕ) (text : List ℕ) (a b : SinkState) → PrefixWentOut written text a b → ¬ HadNoSetback a b
 had_setback written text a b part calm = absurd (omega (arith, took_unhindered 1 (take part.count text) a b calm part.took))
+
+-- ---- a forest whose text went out in part
+
+pub lines_broken_off : {L A : Type 0} (state : L → LineState) (faithful : L → ℕ → Type 0) (cutting : Cutting) (graph : GraphValue) (before : List L) (forest : List Link) (report : Report) (after : Vec L A)
+    (written n : ℕ) (s t : SourceState) (a b : SinkState) → IsReadOf MAX_BYTES (Ok graph) s t → IsSpanning graph forest → length forest ≤ 2 ^ 55 → n ≡ graph.vertices
+    → PrefixWentOut written (forest_text n forest) a b → LinesWent state faithful cutting before after.items graph forest report
+    → RanLines {A = A} state faithful cutting before (Err (fault.Write written)) (streams s a) (streams t b)
+lines_broken_off {L = L} {A = A} state faithful cutting graph before forest report after written n s t a b read found few same part said =
+    broken_off {X = Report × Vec L A} IsSpanning (λ g f r. LinesWent state faithful cutting before r.1.items g f r.0) (report, after) written graph forest n s t a b read found few same part said
+
+pub served_broken_off : {X : Type 0} (cutting : Cutting) (graph : GraphValue) (forest : List Link) (report : Report) (after : X)
+    (written n : ℕ) (s t : SourceState) (a b : SinkState) → IsReadOf MAX_BYTES (Ok graph) s t → IsLeast graph forest → length forest ≤ 2 ^ 55 → n ≡ graph.vertices
+    → PrefixWentOut written (forest_text n forest) a b → IsServedReport cutting graph report
+    → RanServed {X = X} cutting (Err (fault.Write written)) (streams s a) (streams t b)
+served_broken_off {X = X} cutting graph forest report after written n s t a b read found few same part said =
+    broken_off {X = Report × X} IsLeast (λ g f r. IsServedReport cutting g r.0) (report, after) written graph forest n s t a b read found few same part said

@@ -50,10 +50,10 @@ done found says graph forest n s t a b read found_is same took said =
     }
 
 -- a file has at most 2^30 arc lines, so what a failed write tells is the number of bytes itself
-pub broken_off : (found : GraphValue → List Link → Type 0) (written : ℕ) (graph : GraphValue) (forest : List Link) (n : ℕ) (s t : SourceState) (a b : SinkState)
+pub broken_off : {X : Type 0} (found : GraphValue → List Link → Type 0) (says : GraphValue → List Link → X → Type 0) (answer : X) (written : ℕ) (graph : GraphValue) (forest : List Link) (n : ℕ) (s t : SourceState) (a b : SinkState)
     → IsReadOf MAX_BYTES (Ok graph) s t → found graph forest → length forest ≤ 2 ^ 55 → n ≡ graph.vertices
-    → PrefixWentOut written (forest_text n forest) a b → IsBrokenOff found written (streams s a) (streams t b)
-broken_off found written graph forest n s t a b read found_is few same part =
+    → PrefixWentOut written (forest_text n forest) a b → says graph forest answer → IsBrokenOff found says written (streams s a) (streams t b)
+broken_off found says answer written graph forest n s t a b read found_is few same part said =
     let (bytes, gave, file) = whole_file graph s t read in
     record {
       bytes = bytes;
@@ -63,6 +63,8 @@ broken_off found written graph forest n s t a b read found_is few same part =
       file = file;
       found_is = found_is;
       part = few_are_told written graph.vertices forest a b few (subst (λ (m : ℕ). PrefixWentOut written (forest_text m forest) a b) same part);
+      answer = answer;
+      said = said;
     }
 
 -- ---- bytes in memory: a source that tells them and no failure

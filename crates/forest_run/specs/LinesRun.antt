@@ -87,15 +87,20 @@ RanLines state faithful cutting lines = Ran IsSpanning (λ graph forest r. Lines
 
 -- ---- a run whose lines are all served by the worker's engine
 
+-- what such a run says of a graph: its list can be cut so, and the report has the number of its merging rounds
+pub record IsServedReport (cutting : Cutting) (graph : GraphValue) (report : Report) : Type 0 where
+  pub allowed : cut_refusal cutting (length graph.links) ≡ None
+  pub honest : IsHonestReport graph report
+
 -- why such a run has no forest of a graph: its list can't be cut so, or want of memory
 abbrev pub IsServedFault : Cutting → GraphValue → RunFault → Type 0
 IsServedFault cutting graph (fault.Cut why) = IsCutFault (cut_refusal cutting (length graph.links)) why
 IsServedFault cutting graph fault.Memory = cut_refusal cutting (length graph.links) ≡ None
 IsServedFault cutting graph other = ⊥
 
--- what such a run did: it found the minimum spanning forest, after just its merging rounds
+-- what such a run did: it cut the list as it was asked for, and found the minimum spanning forest, after just its merging rounds
 abbrev pub RanServed : {X : Type 0} → Cutting → Result (Report × X) RunFault → Streams → Streams → Type 0
-RanServed cutting = Ran IsLeast (λ graph forest r. IsHonestReport graph r.0) (IsServedFault cutting)
+RanServed cutting = Ran IsLeast (λ graph forest r. IsServedReport cutting graph r.0) (IsServedFault cutting)
 
 -- ---- what follows for a source that tells
 

@@ -45,8 +45,8 @@ pub record IsUnsolved (why : GraphValue → Type 0) (before after : Streams) : T
   pub cause : why graph
   pub nothing : Took 0 [] before.sink after.sink
 
--- the source was read to its end, a forest of its graph was found, and so many bytes of its text went out before a setback
-pub record IsBrokenOff (found : GraphValue → List Link → Type 0) (written : ℕ) (before after : Streams) : Type 0 where
+-- the source was read to its end, a forest of its graph was found, and so many bytes of its text went out before a setback; of the graph and the forest is said what some answer of a good end says of both
+pub record IsBrokenOff {X : Type 0} (found : GraphValue → List Link → Type 0) (says : GraphValue → List Link → X → Type 0) (written : ℕ) (before after : Streams) : Type 0 where
   pub bytes : List ℕ
   pub graph : GraphValue
   pub forest : List Link
@@ -54,12 +54,14 @@ pub record IsBrokenOff (found : GraphValue → List Link → Type 0) (written : 
   pub file : IsFileOf bytes graph
   pub found_is : found graph forest
   pub part : WentOut 0 written (forest_text graph.vertices forest) before.sink after.sink
+  pub answer : X
+  pub said : says graph forest answer
 
 -- what a run did that answered this: which links it may have found as a graph's forest, what its answer says of both, and why it may have found none
 abbrev pub Ran : {X : Type 0} → (GraphValue → List Link → Type 0) → (GraphValue → List Link → X → Type 0) → (GraphValue → RunFault → Type 0) → Result X RunFault → Streams → Streams → Type 0
 Ran found says why (Ok x) = IsDone found (λ graph forest. says graph forest x)
 Ran found says why (Err (fault.Read fault)) = IsUnread fault
-Ran found says why (Err (fault.Write written)) = IsBrokenOff found written
+Ran found says why (Err (fault.Write written)) = IsBrokenOff found says written
 Ran found says why (Err other) = IsUnsolved (λ graph. why graph other)
 
 -- the links are the graph's minimum spanning forest

@@ -152,8 +152,8 @@ pub fn run_lines<
     requires room { All (λ line. HasRoom (L.state line)) lines.items }
 
     // Whatever the workers answer: the source was read to its end, and exactly the text of a spanning forest went out, or
-    // the fault says what was done. At the end, and where what came over the lines makes no forest, each line was asked
-    // as its worker, and where it was given up it tells why.
+    // the fault says what was done. At the end, where a write failed, and where what came over the lines makes no forest,
+    // each line was asked as its worker, and where it was given up it tells why.
     ensures ran { RanLines L.state L.faithful cutting.entry lines.items result (streams (S.state source.old) (W.state sink.old))
         (streams (S.state source.new) (W.state sink.new)) }
 

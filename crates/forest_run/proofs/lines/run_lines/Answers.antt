@@ -6,8 +6,8 @@ use Rattle.forest_run.specs.WiredLines.{LinesSolved}
 use Rattle.forest_run.specs.Outcomes.{IsLeast}
 use Rattle.forest_run.specs.LinesRun.{IsSpanning}
 use Rattle.forest_run.proofs.Telling.{reads_the_file, first_of_failed, no_fault_of_lawful}
-use Rattle.forest_run.proofs.PlainRunning.{done, broken_off}
-use Rattle.forest_run.proofs.LinesRunning.{had_setback, shards_ends, few_enough, same_length, spanning, few_links, least, lines_went, honest_report, cut_unsolved, cut_served, solve_unsolved, solve_served, cut_unhindered}
+use Rattle.forest_run.proofs.PlainRunning.{done}
+use Rattle.forest_run.proofs.LinesRunning.{had_setback, shards_ends, few_enough, same_length, spanning, few_links, least, lines_went, served_report, cut_unsolved, cut_served, solve_unsolved, solve_served, cut_unhindered, lines_broken_off, served_broken_off}
 use Rattle.forest_run.proofs.lines.run_lines.Goals as goal
 
 -- ---- the file isn't read
@@ -89,7 +89,7 @@ returns-in-Ok-write_forest-clause-served g c = λ served.
     done IsLeast _ c.in-Ok.graph solved.0 c.n-2.result _ _ _ _ c.in-Ok.ensures.outcome
     (least g.L.Line.state g.L.Line.faithful c.in-Ok.graph.vertices c.in-Ok-cut_links.cut c.in-Ok.graph.links cut.whole c.args.lines.items solved.2.items solved.0 solved.1 went served) c.n-2.ensures.vertices
     (c.in-Ok-write_forest.ensures.whole)
-    (honest_report g.L.Line.state g.L.Line.faithful c.args.cutting c.in-Ok.graph c.in-Ok-cut_links.cut cut c.args.lines.items solved.2.items solved.0 solved.1 went served)
+    (served_report g.L.Line.state g.L.Line.faithful c.args.cutting c.in-Ok.graph c.in-Ok-cut_links.cut cut c.args.lines.items solved.2.items solved.0 solved.1 went served)
 
 pub returns-in-Ok-write_forest-clause-malformed : goal.returns-in-Ok-write_forest-clause-malformed
 returns-in-Ok-write_forest-clause-malformed g c = λ bytes file nothing.
@@ -103,9 +103,10 @@ returns-clause-ran g c =
     let cut : IsCutOf c.args.cutting c.in-Ok.graph.links c.in-Ok-cut_links.cut = rw c.links.ensures.links at c.in-Ok-cut_links.ensures.cut in
     let went : LinesSolved g.L.Line.state g.L.Line.faithful c.in-Ok.graph.vertices c.in-Ok-cut_links.cut c.args.lines.items solved.2.items solved.0 solved.1 = rw c.n.ensures.vertices at c.in-Ok-solve_lines.ensures.went in
     let few = few_links g.L.Line.state g.L.Line.faithful c.in-Ok.graph.vertices c.in-Ok-cut_links.cut c.in-Ok.graph.links cut.whole c.args.lines.items solved.2.items solved.0 solved.1 went in
-    broken_off IsSpanning _ c.in-Ok.graph solved.0 c.n-2.result _ _ _ _ c.in-Ok.ensures.outcome
+    lines_broken_off g.L.Line.state g.L.Line.faithful c.args.cutting c.in-Ok.graph c.args.lines.items solved.0 solved.1 solved.2 _ c.n-2.result _ _ _ _ c.in-Ok.ensures.outcome
     (spanning g.L.Line.state g.L.Line.faithful c.in-Ok.graph.vertices c.in-Ok-cut_links.cut c.in-Ok.graph.links cut.whole c.args.lines.items solved.2.items solved.0 solved.1 went) (few_enough (length solved.0) (length c.in-Ok.graph.links) few c.links.ensures.few)
     c.n-2.ensures.vertices c.in-Err-write_forest.ensures.part
+    (lines_went g.L.Line.state g.L.Line.faithful c.args.cutting c.in-Ok.graph c.in-Ok-cut_links.cut cut c.args.lines.items solved.2.items solved.0 solved.1 went)
 
 pub returns-clause-served : goal.returns-clause-served
 returns-clause-served g c = λ served.
@@ -113,9 +114,10 @@ returns-clause-served g c = λ served.
     let cut : IsCutOf c.args.cutting c.in-Ok.graph.links c.in-Ok-cut_links.cut = rw c.links.ensures.links at c.in-Ok-cut_links.ensures.cut in
     let went : LinesSolved g.L.Line.state g.L.Line.faithful c.in-Ok.graph.vertices c.in-Ok-cut_links.cut c.args.lines.items solved.2.items solved.0 solved.1 = rw c.n.ensures.vertices at c.in-Ok-solve_lines.ensures.went in
     let few = few_links g.L.Line.state g.L.Line.faithful c.in-Ok.graph.vertices c.in-Ok-cut_links.cut c.in-Ok.graph.links cut.whole c.args.lines.items solved.2.items solved.0 solved.1 went in
-    broken_off IsLeast _ c.in-Ok.graph solved.0 c.n-2.result _ _ _ _ c.in-Ok.ensures.outcome
+    served_broken_off c.args.cutting c.in-Ok.graph solved.0 solved.1 solved.2 _ c.n-2.result _ _ _ _ c.in-Ok.ensures.outcome
     (least g.L.Line.state g.L.Line.faithful c.in-Ok.graph.vertices c.in-Ok-cut_links.cut c.in-Ok.graph.links cut.whole c.args.lines.items solved.2.items solved.0 solved.1 went served) (few_enough (length solved.0) (length c.in-Ok.graph.links) few c.links.ensures.few)
     c.n-2.ensures.vertices c.in-Err-write_forest.ensures.part
+    (served_report g.L.Line.state g.L.Line.faithful c.args.cutting c.in-Ok.graph c.in-Ok-cut_links.cut cut c.args.lines.items solved.2.items solved.0 solved.1 went served)
 
 pub returns-clause-malformed : goal.returns-clause-malformed
 returns-clause-malformed g c = λ bytes file nothing.
