@@ -1,17 +1,39 @@
 -- Asks, and more asks after them.
-use Rattle.std.proofs.Common.{◌≡◌, ℕ, ◌⊎◌, inl, inr, Bool, true, false, List, [], ◌++◌, refl, ap, sym, subst, ◌∙◌, arith, append_assoc, length-append, rules}
-use Rattle.std.specs.Prelude.{Option, Some, None, option_to_list}
+use Rattle.std.proofs.Common.{◌≡◌, ℕ, zero, suc, ◌≤◌, ◌⊎◌, inl, inr, Bool, true, false, List, [], ◌∷◌, ◌++◌, refl, ap, sym, subst, ◌∙◌, arith, append_assoc, length-append, rules}
+use Rattle.std.specs.Prelude.{All, Option, Some, None, option_to_list}
 use Rattle.std.proofs.lemmas.List.{append-nil, map-append}
-use Rattle.std.proofs.lemmas.List.Elements.{All-nil, All-append}
+use Rattle.std.proofs.lemmas.List.Elements.{All-nil, All-append, All-head, All-tail}
 use Rattle.frames.specs.AnswerValue.{AnswerValue}
 use Rattle.ports.specs.Ports.{PortState}
 use Rattle.ports.specs.Exchanges.{Exchange, answers_of}
 use Rattle.forest_run.specs.Lanes.{one_if}
-use Rattle.forest_run.specs.Asks.{AsksWent, StoodStill, answered}
+use Rattle.round_core.specs.Page.{Page}
+use Rattle.forest_run.specs.Asks.{AsksWent, IsKept, AreInRounds, StoodStill, answered}
 
 pub either : (v : Bool) → (v ≡ true) ⊎ (v ≡ false)
 either true = inl refl
 either false = inr refl
+
+-- exchanges of no later rounds than others
+abbrev pub ComeFirst : List Exchange → List Exchange → Type 0
+ComeFirst xs ys = All (λ (x : Exchange). All (λ (y : Exchange). x.round ≤ y.round) ys) xs
+
+-- those of one book come in any order
+pub one_round : (page : Page) (xs ys : List Exchange) → All (IsKept page) xs → All (IsKept page) ys → ComeFirst xs ys
+one_round page xs ys first second i d b j e c = omega (arith, (first i d b).asked.ask.round, (second j e c).asked.ask.round)
+
+first_of_all : (x : Exchange) (zs : List Exchange) → All (λ (y : Exchange). x.round ≤ y.round) zs → AreInRounds zs → AreInRounds (x ∷ zs)
+first_of_all x zs h p zero zero d l b = absurd (omega arith)
+first_of_all x zs h p zero (suc j) d l b = h j d (omega arith)
+first_of_all x zs h p (suc i) zero d l b = absurd (omega arith)
+first_of_all x zs h p (suc i) (suc j) d l b = p i j d (omega arith) (omega arith)
+
+in_rounds_then : (xs ys : List Exchange) → AreInRounds xs → AreInRounds ys → ComeFirst xs ys → AreInRounds (xs ++ ys)
+in_rounds_then [] ys p q first = q
+in_rounds_then (x ∷ xs) ys p q first =
+    let Later : Exchange → Type 0 = λ (y : Exchange). x.round ≤ y.round in
+    first_of_all x (xs ++ ys) (All-append Later xs ys (λ j d b. p 0 (suc j) d (omega arith) (omega arith)) (All-head (λ (z : Exchange). All (λ (y : Exchange). z.round ≤ y.round) ys) x xs first))
+    (in_rounds_then xs ys (λ i j d l b. p (suc i) (suc j) d (omega arith) (omega arith)) q (All-tail (λ (z : Exchange). All (λ (y : Exchange). z.round ≤ y.round) ys) x xs first))
 
 -- exchanges of two parts, in the first of which no answer was refused
 both_parts : (others xs ys : List Exchange) (last last' : Option Exchange) → last ≡ None → (others ++ answered xs last) ++ answered ys last' ≡ others ++ answered (xs ++ ys) last'
@@ -40,6 +62,7 @@ module _ {P : Type 0} (state : P → PortState) (honest : P → Type 0) (sound :
     exchanges = [];
     kept_are = refl;
     keeps = All-nil keeping;
+    ordered = λ i j d l b. absurd (omega arith);
     refused = None;
     opened = λ t. (t, record { failures = refl; wants = refl }, refl);
     still = λ f. (refl, refl, refl);
@@ -63,8 +86,8 @@ module _ {P : Type 0} (state : P → PortState) (honest : P → Type 0) (sound :
     )
 
     -- the second part begins with an open port
-    then_open : (state b).is_open ≡ true → AsksWent state honest sound exchanged keeping closing a c (xs ++ ys)
-    then_open e =
+    then_open : ComeFirst p.exchanges q.exchanges → (state b).is_open ≡ true → AsksWent state honest sound exchanged keeping closing a c (xs ++ ys)
+    then_open first e =
         let s = p.opened e in
         let joined = λ (others : List Exchange). both_parts others p.exchanges q.exchanges p.refused q.refused s.2 in
         record {
@@ -77,6 +100,7 @@ module _ {P : Type 0} (state : P → PortState) (honest : P → Type 0) (sound :
           exchanges = p.exchanges ++ q.exchanges;
           kept_are = ap (λ zs. zs ++ ys) p.kept_are ∙ (ap (λ zs. answers_of p.exchanges ++ zs) q.kept_are ∙ sym (map-append (λ (x : Exchange). x.answer) p.exchanges q.exchanges));
           keeps = All-append keeping p.exchanges q.exchanges p.keeps q.keeps;
+          ordered = in_rounds_then p.exchanges q.exchanges p.ordered q.ordered first;
           refused = q.refused;
           opened = λ t. (
               let r = q.opened t in
@@ -112,6 +136,7 @@ module _ {P : Type 0} (state : P → PortState) (honest : P → Type 0) (sound :
           exchanges = p.exchanges;
           kept_are = ap (λ zs. xs ++ zs) nothing ∙ (append-nil xs ∙ p.kept_are);
           keeps = p.keeps;
+          ordered = p.ordered;
           refused = p.refused;
           opened = λ t. absurd (let r = (q.opened t).0 in cc);
           still = λ f. (let r = p.still f in (r.0, r.1, s.2 ∙ r.2));
@@ -130,5 +155,5 @@ module _ {P : Type 0} (state : P → PortState) (honest : P → Type 0) (sound :
           why_honest = λ x t f. (let r = p.why_honest x t e in omega (arith, r, q.failures, q.wants));
         }
 
-    pub asks_then : AsksWent state honest sound exchanged keeping closing a c (xs ++ ys)
-    asks_then = elim (either (state b).is_open) [ inl e ↦ then_open e | inr e ↦ then_closed e ]
+    pub asks_then : ComeFirst p.exchanges q.exchanges → AsksWent state honest sound exchanged keeping closing a c (xs ++ ys)
+    asks_then first = elim (either (state b).is_open) [ inl e ↦ then_open first e | inr e ↦ then_closed e ]

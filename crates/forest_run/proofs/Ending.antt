@@ -39,7 +39,7 @@ use Rattle.forest_run.proofs.AsksThen.{stayed, asks_then}
 use Rattle.forest_run.proofs.Once.{page_of}
 use Rattle.forest_run.proofs.Passing.{SameRound, asks_more}
 use Rattle.forest_run.proofs.Scanning.{scanned_none}
-use Rattle.forest_run.proofs.Running.{one, heard_same, closing_still, kept_still, same_still, whole_pages, kept_none, kept_in, kept_then, rounds_none, rounds_then}
+use Rattle.forest_run.proofs.Running.{one, heard_same, closing_still, kept_still, same_still, whole_pages, kept_none, kept_in, kept_then, just_new, books_first, rounds_none, rounds_then}
 use Rattle.forest_run.proofs.Chained.{merged_then, light_picks}
 use Rattle.forest_run.proofs.Solving.{named_more, named_given, from_cut, wide_still}
 
@@ -123,7 +123,9 @@ module _ {P : Type 0} (state : P → PortState) (honest : P → Type 0) (sound :
               (asks_more state honest sound exchanged (IsKeptIn u.books) (IsKeptIn books) (IsClosingIn u.books) (IsClosingIn books)
               (λ x q. (q.0, Contains-append_left u.books last q.0 q.1, q.2)) (λ w t q. (q.0, Contains-append_left u.books last q.0 q.1, q.2)) _ _ (u.rounds.answers_at i) (p.each i d b))
               (asks_more state honest sound exchanged (IsKeptIn last) (IsKeptIn books) (IsClosingIn last) (IsClosingIn books)
-              (λ x q. (q.0, Contains-append_right u.books last q.0 q.1, q.2)) (λ w t q. (q.0, Contains-append_right u.books last q.0 q.1, q.2)) _ _ (v.answers_at i) (v.ports.each i d within)));
+              (λ x q. (q.0, Contains-append_right u.books last q.0 q.1, q.2)) (λ w t q. (q.0, Contains-append_right u.books last q.0 q.1, q.2)) _ _ (v.answers_at i) (v.ports.each i d within))
+              (books_first u.books (solver.rounds + 1) (p.each i d b).exchanges (v.ports.each i d within).exchanges u.earlier (p.each i d b).keeps
+              (λ j e c. let (book, is_in, is) = (v.ports.each i d within).keeps j e c in is.asked.ask.round ∙ (ap (λ (o : Page). o.round) (just_new v.book book is_in) ∙ v.next.round))));
         };
         kept =
             kept_then honest xs ys u.books v.book u.rounds.answers_at v.answers_at p.same_lanes (λ i d b. (p.each i d b).honest_is) (whole_pages cut u.books u.rounds.whole) v.next.page

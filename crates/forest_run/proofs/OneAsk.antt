@@ -82,6 +82,7 @@ module _ {P : Type 0} (state : P → PortState) (honest : P → Type 0) (sound :
     exchanges = exchange_of round shard labels t ∷ [];
     kept_are = refl;
     keeps = one_kept (exchange_of round shard labels t) (record { asked = exchange_is t; taken = taken });
+    ordered = λ i j d l b. absurd (omega arith);
     refused = None;
     opened = λ e. (live, record { failures = omega (arith, went.failures); wants = omega (arith, went.wants) }, refl);
     still = λ f. absurd (cc);
@@ -109,6 +110,7 @@ module _ {P : Type 0} (state : P → PortState) (honest : P → Type 0) (sound :
     exchanges = [];
     kept_are = refl;
     keeps = λ i d b. absurd (omega arith);
+    ordered = λ i j d l b. absurd (omega arith);
     refused = Some (exchange_of round shard labels t);
     opened = λ e. absurd (cc);
     still = λ f. absurd (cc);
@@ -136,6 +138,7 @@ module _ {P : Type 0} (state : P → PortState) (honest : P → Type 0) (sound :
     exchanges = [];
     kept_are = refl;
     keeps = λ i d b. absurd (omega arith);
+    ordered = λ i j d l b. absurd (omega arith);
     refused = None;
     opened = λ e. absurd (cc);
     still = λ f. absurd (cc);

@@ -17,7 +17,7 @@ use Rattle.forest_run.specs.Passes.{AreOnce, PassWent}
 use Rattle.forest_run.specs.Taking.{heard_all, AreTaken}
 use Rattle.forest_run.proofs.Takes.{Distinct, taken_all, taken_both, taken_before, heard_append, kept_at, kept_to}
 use Rattle.forest_run.proofs.Once.{was_free, is_taken_now, once_of, once_then}
-use Rattle.forest_run.proofs.AsksThen.{stayed, asks_then}
+use Rattle.forest_run.proofs.AsksThen.{stayed, asks_then, one_round}
 use Rattle.forest_run.proofs.Eaches.{each_at, each_length}
 use Rattle.forest_run.proofs.Seated.{counted}
 
@@ -178,7 +178,7 @@ kept_before p ts x r = record { asked = exchange_before p ts x r.asked; taken = 
 pub light_before : (p : Page) (ts : List AnswerValue) (t : AnswerValue) → IsLight (heard_all p ts) t → IsLight p t
 light_before p ts t r = (let s = same_round p ts in rw (s.cut, s.round, s.labels) at r)
 
-pub asks_more : {P : Type 0} (state : P → PortState) (honest : P → Type 0) (sound : P → ℕ → List Exchange → Type 0) (exchanged : P → List Exchange → Type 0) (keeping keeping' : Exchange → Type 0) (R Q : ℕ × ℕ → Option Exchange → Type 0)
+abbrev pub asks_more : {P : Type 0} (state : P → PortState) (honest : P → Type 0) (sound : P → ℕ → List Exchange → Type 0) (exchanged : P → List Exchange → Type 0) (keeping keeping' : Exchange → Type 0) (R Q : ℕ × ℕ → Option Exchange → Type 0)
     → ((x : Exchange) → keeping x → keeping' x) → ((w : ℕ × ℕ) (o : Option Exchange) → R w o → Q w o) → (a b : P) (kept : List AnswerValue)
     → AsksWent state honest sound exchanged keeping R a b kept → AsksWent state honest sound exchanged keeping' Q a b kept
 asks_more state honest sound exchanged keeping keeping' R Q k h a b kept v = record {
@@ -191,6 +191,7 @@ asks_more state honest sound exchanged keeping keeping' R Q k h a b kept v = rec
   exchanges = v.exchanges;
   kept_are = v.kept_are;
   keeps = λ i d below. k (get_or v.exchanges i d) (v.keeps i d below);
+  ordered = v.ordered;
   refused = v.refused;
   opened = v.opened;
   still = v.still;
@@ -212,7 +213,9 @@ module _ {P : Type 0} (state : P → PortState) (honest : P → Type 0) (sound :
         let w = v.each i d (let e = u.same_lanes in omega arith) in
         asks_then state honest sound exchanged (IsKept p) (IsClosing p) _ _ _ (u.answers_at i) (v.answers_at i) (u.each i d b)
         (asks_more state honest sound exchanged (IsKept q) (IsKept p) (IsClosing q) (IsClosing p) (λ x k. kept_before p u.answers x (subst (λ page. IsKept page x) u.page k))
-        (λ w o k. closing_before p u.answers w o (subst (λ page. IsClosing page w o) u.page k)) _ _ (v.answers_at i) w));
+        (λ w o k. closing_before p u.answers w o (subst (λ page. IsClosing page w o) u.page k)) _ _ (v.answers_at i) w)
+        (one_round p (u.each i d b).exchanges w.exchanges (u.each i d b).keeps
+        (λ j e c. kept_before p u.answers (get_or w.exchanges j e) (subst (λ page. IsKept page (get_or w.exchanges j e)) u.page (w.keeps j e c)))));
     given = λ t h. elim (Contains-append_cases u.answers v.answers t h) [
       | inl a ↦ (let k = u.given t a in (k.0, k.1, Contains-append_left (u.answers_at k.0) (v.answers_at k.0) t k.2))
       | inr a ↦ (let k = v.given t a in (k.0, (let e = u.same_lanes in let l = k.1 in omega arith), Contains-append_right (u.answers_at k.0) (v.answers_at k.0) t k.2))

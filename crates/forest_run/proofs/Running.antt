@@ -18,7 +18,7 @@ use Rattle.forest_run.specs.Passes.{AreOnce, PassWent}
 use Rattle.forest_run.specs.Scanned.{Scanned}
 use Rattle.forest_run.specs.Rounds.{RoundWent}
 use Rattle.forest_run.specs.Runs.{unanswered, IsClosingIn, IsKeptIn, IsGivenBy, IsLightIn, IsFullBook, AreKept, RoundsWent}
-use Rattle.forest_run.proofs.AsksThen.{stayed, asks_then}
+use Rattle.forest_run.proofs.AsksThen.{ComeFirst, stayed, asks_then}
 use Rattle.forest_run.proofs.Once.{once_then}
 use Rattle.forest_run.proofs.Passing.{SameRound, same_round, asks_more}
 
@@ -94,12 +94,18 @@ filled old middle new ts us first second none =
     ap (λ o. o.answers) second
     ∙ (heard_answers middle us ∙ ap (λ zs. zs ++ us) (ap (λ o. o.answers) first ∙ (heard_answers old ts ∙ ap (λ zs. zs ++ ts) none)))
 
-just_new : (new book : Page) → Contains (new ∷ []) book → book ≡ new
+pub just_new : (new book : Page) → Contains (new ∷ []) book → book ≡ new
 just_new new book (zero, b, e) = sym e
 just_new new book (suc k, b, e) = absurd (omega (arith, b))
 
 pub whole_pages : (cut : List (List Link)) (books : List Page) → All (IsFullBook cut) books → All IsPage books
 whole_pages cut books whole = each_more (IsFullBook cut) IsPage books (λ book w. w.page) whole
+
+-- exchanges of books of earlier rounds come before those of a round
+pub books_first : (books : List Page) (round : ℕ) (xs ys : List Exchange) → All (λ (book : Page). book.round < round) books → All (IsKeptIn books) xs → All (λ (y : Exchange). y.round ≡ round) ys → ComeFirst xs ys
+books_first books round xs ys earlier kept now i d b j e c =
+    let (book, is_in, is) = kept i d b in
+    omega (arith, is.asked.ask.round, All-contains (λ (book : Page). book.round < round) books book earlier is_in, now j e c)
 
 -- nothing was kept
 pub kept_none : {P : Type 0} (honest : P → Type 0) (xs : List (LaneState P)) → AreKept honest xs [] (λ i. [])
@@ -223,7 +229,8 @@ module _ {P : Type 0} (state : P → PortState) (honest : P → Type 0) (sound :
               (asks_more state honest sound exchanged (IsKeptIn books) (IsKeptIn (books ++ new ∷ [])) (IsClosingIn books) (IsClosingIn (books ++ new ∷ []))
               (λ x q. (q.0, Contains-append_left books (new ∷ []) q.0 q.1, q.2)) (λ w t q. (q.0, Contains-append_left books (new ∷ []) q.0 q.1, q.2)) _ _ (u.answers_at i) (u.ports.each i d b))
               (asks_more state honest sound exchanged (IsKept old) (IsKeptIn (books ++ new ∷ [])) (IsClosing old) (IsClosingIn (books ++ new ∷ []))
-              (λ x q. (new, here, kept_still old new same x q)) (λ w t q. (new, here, closing_still old new same w t q)) _ _ (v.answers_at i) (v.each i d within)));
+              (λ x q. (new, here, kept_still old new same x q)) (λ w t q. (new, here, closing_still old new same w t q)) _ _ (v.answers_at i) (v.each i d within))
+              (books_first books round (u.ports.each i d b).exchanges (v.each i d within).exchanges earlier (u.ports.each i d b).keeps (λ j e c. ((v.each i d within).keeps j e c).asked.ask.round)));
         };
         kept =
             kept_then honest xs ys books new u.answers_at v.answers_at u.ports.same_lanes (λ i d b. (u.ports.each i d b).honest_is) (whole_pages cut books u.whole) page

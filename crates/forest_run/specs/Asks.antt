@@ -1,5 +1,5 @@
 -- What some asks did to a port.
-use Rattle.std.specs.Prelude.{◌≡◌, ℕ, ◌+◌, ◌<◌, ◌≤◌, ◌⊎◌, true, false, List, [], ◌++◌, length, map, All, IsSome, Option, Some, None, option_to_list}
+use Rattle.std.specs.Prelude.{◌≡◌, ℕ, ◌+◌, ◌<◌, ◌≤◌, ◌⊎◌, true, false, List, [], ◌++◌, length, map, All, AllPairs, IsSome, Option, Some, None, option_to_list}
 use Rattle.frames.specs.AnswerValue.{AnswerValue}
 use Rattle.round_core.specs.Page.{Page, refusal, is_taken}
 use Rattle.ports.specs.Ports.{PortState, IsHonestAnswer}
@@ -59,6 +59,10 @@ pub record StoodStill (before after : PortState) : Type 0 where
   pub failures : after.failures ≡ before.failures
   pub wants : after.wants ≡ before.wants
 
+-- no exchange is of an earlier round than one before it
+abbrev pub AreInRounds : List Exchange → Type 0
+AreInRounds exchanges = AllPairs (λ earlier later. earlier.round ≤ later.round) exchanges
+
 -- all asks that were answered: those whose answers were kept, and the one whose answer is refused, if there is one
 abbrev pub answered : List Exchange → Option Exchange → List Exchange
 answered exchanges refused = exchanges ++ option_to_list refused
@@ -73,10 +77,11 @@ pub record AsksWent {P : Type 0} (state : P → PortState) (honest : P → Type 
   pub wants : (state before).wants ≤ (state after).wants
   -- at most one of the asks failed or found no memory, and none of a port that was closed
   pub one_fault : (state after).failures + (state after).wants ≤ (state before).failures + (state before).wants + one_if (state before).is_open
-  -- the asks whose answers were kept, in their order: the book takes each for the shard that was asked
+  -- the asks whose answers were kept, in their order, which is that of their rounds: the book takes each for the shard that was asked
   pub exchanges : List Exchange
   pub kept_are : kept ≡ answers_of exchanges
   pub keeps : All keeping exchanges
+  pub ordered : AreInRounds exchanges
   -- the ask whose answer is refused, if there is one
   pub refused : Option Exchange
   -- while it is open both counts stand still, and no answer was refused

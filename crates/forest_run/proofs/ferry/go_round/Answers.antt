@@ -5,7 +5,7 @@ use Rattle.std.proofs.lemmas.Grind.{common_steps}
 use Rattle.std.specs.Prelude.{All, vec_len, vec_capacity}
 use Rattle.frames.specs.AnswerValue.{AnswerValue}
 use Rattle.forest_run.specs.Asks.{IsTaken, IsLight, shards_of}
-use Rattle.forest_run.proofs.AsksThen.{asks_then}
+use Rattle.forest_run.proofs.AsksThen.{asks_then, one_round}
 use Rattle.forest_run.proofs.ferry.go_round.Goals as goal
 use Rattle.forest_run.proofs.ferry.go_round.Goals.{in-Some, in-None+else-not-is_open}
 
@@ -17,7 +17,7 @@ pub returns-then-not-is_open : goal.returns-then-not-is_open
 returns-then-not-is_open g c =
     let i = c.loop-step.invariant in
     let v = c.in-None.ensures in
-    let both = asks_then _ _ _ _ _ _ _ _ _ _ _ i.asked v.asked in
+    let both = asks_then _ _ _ _ _ _ _ _ _ _ _ i.asked v.asked (one_round _ _ _ i.asked.keeps v.asked.keeps) in
     record {
       asked = rw append-nil at both;
       seat = (v.seat.0 ∙ i.board, v.seat.1 ∙ i.number, v.held ∙ (append-nil _ ∙ i.held));
@@ -34,7 +34,7 @@ loop-step-preserved g c = elim c.match-visit.branch [
       let items : c.match-visit.kept.items ≡ c.loop-step.kept.items ++ a ∷ [] = ap (λ v. v.items) w.kept-is ∙ w.push_reserved.ensures.items in
       let held : shards_of c.loop-step.kept.items ++ a.shard ∷ [] ≡ shards_of (c.loop-step.kept.items ++ a ∷ []) = sym (map-append (λ t. t.shard) c.loop-step.kept.items (a ∷ [])) in
       rw items (record {
-        asked = asks_then _ _ _ _ _ _ _ _ _ _ _ i.asked v.asked;
+        asked = asks_then _ _ _ _ _ _ _ _ _ _ _ i.asked v.asked (one_round _ _ _ i.asked.keeps v.asked.keeps);
         opened = v.opened;
         board = v.seat.0 ∙ i.board;
         number = v.seat.1 ∙ i.number;
@@ -48,7 +48,7 @@ loop-step-preserved g c = elim c.match-visit.branch [
       let i = c.loop-step.invariant in
       let v = w.in-None.ensures in
       let items : c.match-visit.kept.items ≡ c.loop-step.kept.items = ap (λ v. v.items) w.kept-is in
-      let both = asks_then _ _ _ _ _ _ _ _ _ _ _ i.asked v.asked in
+      let both = asks_then _ _ _ _ _ _ _ _ _ _ _ i.asked v.asked (one_round _ _ _ i.asked.keeps v.asked.keeps) in
       rw items (record {
         asked = rw append-nil at both;
         opened = search rules;
