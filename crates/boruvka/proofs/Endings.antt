@@ -1,7 +1,8 @@
 -- What the program does, by what its words ask for.
-use Rattle.std.specs.Prelude.{Result, Bool, true, false}
+use Rattle.std.specs.Prelude.{Result, Bool, true, false, option_map}
+use Rattle.std.specs.String.{string_bytes}
 use Rattle.std.specs.Global.{Vec}
-use Rattle.std.proofs.Common.{◌≡◌, ◌≢◌, ◌≤◌, ℕ, ◌⊎◌, ◌∙◌, List, [], length, All, Option, None, Some, inl, inr, Ok, Err, refl, subst, arith}
+use Rattle.std.proofs.Common.{◌≡◌, ◌≢◌, ◌≤◌, ℕ, ◌⊎◌, ◌∙◌, List, [], length, All, Option, None, Some, inl, inr, Ok, Err, refl, sym, subst, arith}
 use Rattle.byte_streams.specs.Streams.{SourceState, SinkState}
 use Rattle.byte_streams.proofs.Streaming.{gave_nothing, took_nothing}
 use Rattle.link_key.specs.declared.links.Link.{Link}
@@ -20,7 +21,9 @@ use Rattle.forest_run.specs.declared.cutting.Cutting.TheVariants.{Even}
 use Rattle.forest_run.specs.declared.report.Report.{Report}
 use Rattle.forest_run.specs.declared.fault.RunFault.{RunFault}
 use Rattle.forest_run.specs.declared.fault.RunFault.TheVariants as fault
-use Rattle.boruvka.specs.Status.{Standard, of_run, Asked, EndsAs, EndsOn, Obeys, EndsWith, EndsOver, EndsOverWorkers, HasGraph, HasNoGraph, IsDone, IsReported, TookText, LeavesOutput, IsUntouched, report_of, status_for, status_of_run, untold}
+use Rattle.boruvka.specs.Messages.{fault_line, unopened_line}
+use Rattle.boruvka.specs.declared.chosen.Options.{Options}
+use Rattle.boruvka.specs.Status.{Standard, of_run, Asked, asked_of, EndsAs, EndsOn, Obeys, EndsWith, EndsOver, EndsOverWorkers, HasGraph, HasNoGraph, IsDone, IsReported, IsWritten, LeavesOutput, IsUntouched, report_of, status_for, status_of_run, untold}
 
 -- ---- how a run ends
 
@@ -36,10 +39,14 @@ as_over false asked status before after is ends = ends
 
 -- ---- want of memory before anything was read or written
 
+-- the line that tells it
+abbrev no_memory : List ℕ
+no_memory = fault_line (fault.Read read.Memory)
+
 unread : (s : SourceState) (a : SinkState) → IsUnread read.Memory (streams s a) (streams s a)
 unread s a = record { refused = inr (inl (record { bytes = []; gave = gave_nothing s; stops = tt })); nothing = took_nothing a }
 
-wants_memory : (wants : Bool) (s : SourceState) (a e f : SinkState) → TookText e f
+wants_memory : (wants : Bool) (s : SourceState) (a e f : SinkState) → IsWritten no_memory e f
     → EndsWith wants 4 (record { source = s; sink = a; errors = e }) (record { source = s; sink = a; errors = f })
 wants_memory wants s a e f text = record {
   result = Err (fault.Read read.Memory);
@@ -50,7 +57,7 @@ wants_memory wants s a e f text = record {
   lawful = λ bytes has means. refl;
 }
 
-pub wants_memory_over : (workers shards : ℕ) (wants : Bool) (s : SourceState) (a e f : SinkState) → TookText e f
+pub wants_memory_over : (workers shards : ℕ) (wants : Bool) (s : SourceState) (a e f : SinkState) → IsWritten no_memory e f
     → EndsOverWorkers workers shards wants 4 (record { source = s; sink = a; errors = e }) (record { source = s; sink = a; errors = f })
 wants_memory_over workers shards wants s a e f text = record {
   lines = [];
@@ -66,22 +73,27 @@ wants_memory_over workers shards wants s a e f text = record {
     served = λ served. unread s a;
     ends_well = λ served bytes graph has file allowed. refl;
   };
-  alone = λ none. unread s a;
 }
 
-wants_memory_as : (plain : Bool) (asked : Asked) (s : SourceState) (a e f : SinkState) → TookText e f
+wants_memory_as : (plain : Bool) (asked : Asked) (s : SourceState) (a e f : SinkState) → IsWritten no_memory e f
     → EndsAs plain asked 4 (record { source = s; sink = a; errors = e }) (record { source = s; sink = a; errors = f })
 wants_memory_as true asked s a e f text = wants_memory asked.report s a e f text
 wants_memory_as false asked s a e f text = wants_memory_over asked.workers asked.shards asked.report s a e f text
 
-wants_memory_on : (file : Option (List ℕ)) (asked : Asked) (s : SourceState) (a e f : SinkState) → TookText e f
+wants_memory_on : (file : Option (List ℕ)) (asked : Asked) (s : SourceState) (a e f : SinkState) → IsWritten no_memory e f
     → EndsOn file asked 4 (record { source = s; sink = a; errors = e }) (record { source = s; sink = a; errors = f })
 wants_memory_on None asked s a e f text = wants_memory_as asked.plain asked s a e f text
 wants_memory_on (Some name) asked s a e f text = inr (wants_memory_as asked.plain asked untold a e f text)
 
-pub wants_memory_obeys : (asked : Asked) (s : SourceState) (a e f : SinkState) → TookText e f
+pub wants_memory_obeys : (asked : Asked) (s : SourceState) (a e f : SinkState) → IsWritten no_memory e f
     → Obeys asked 4 (record { source = s; sink = a; errors = e }) (record { source = s; sink = a; errors = f })
 wants_memory_obeys asked = wants_memory_on asked.file asked
+
+-- a FILE that can't be opened is told, and nothing else is done
+pub unopened_obeys : (chosen : Options) (name : _) (s : SourceState) (a e f : SinkState) → chosen.file ≡ Some name → IsWritten (unopened_line (string_bytes name)) e f
+    → Obeys (asked_of chosen) 3 (record { source = s; sink = a; errors = e }) (record { source = s; sink = a; errors = f })
+unopened_obeys chosen name s a e f is told =
+    subst (λ o. EndsOn (option_map string_bytes o) (asked_of chosen) 3 (record { source = s; sink = a; errors = e }) (record { source = s; sink = a; errors = f })) (sym is) (inl (refl, took_nothing a, told))
 
 -- ---- lines
 
@@ -114,7 +126,6 @@ over_lines state faithful lines shards wants status before after ended result to
   ends_well = ends_well;
 }
 
--- without lines each of them is served
 pub over_workers : (workers shards : ℕ) (wants : Bool) (status : ℕ) (before after : Standard) (lines : List TcpLineState) → length lines ≤ workers → All (λ line. line ≡ unused) lines
     → EndsOver line_of (λ line worker. ⊥) lines shards wants status before after → EndsOverWorkers workers shards wants status before after
 over_workers workers shards wants status before after lines few new ends = record {
@@ -122,7 +133,6 @@ over_workers workers shards wants status before after lines few new ends = recor
   few = few;
   new = new;
   ends = ends;
-  alone = λ none. ends.served (λ k d below. absurd (omega arith), λ worker d below. absurd (omega arith));
 }
 
 -- ---- the status

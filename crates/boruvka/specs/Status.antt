@@ -25,6 +25,7 @@ use Rattle.tcp_lines.specs.Lines.{TcpLineState, line_of, unused}
 use Rattle.tcp_lines.specs.declared.line.TcpLine.{TcpLine}
 use Rattle.boruvka.specs.Arguments.{refusals, given, file_named, IsNumberOf, IsMistake}
 use Rattle.boruvka.specs.declared.chosen.Options.{Options}
+use Rattle.boruvka.specs.Messages.{fault_line, unopened_line}
 
 -- ---- the program's streams
 
@@ -49,10 +50,6 @@ IsUntouched before after = Took 0 [] before after
 -- all of a text was written, or a first part of it and then came a setback
 abbrev pub IsWritten : List ℕ → SinkState → SinkState → Type 0
 IsWritten text before after = Took 0 text before after ⊎ ((written : ℕ) × WentOut 0 written text before after)
-
--- the same of some text
-abbrev pub TookText : SinkState → SinkState → Type 0
-TookText before after = (text : List ℕ) × IsWritten text before after
 
 -- ---- the status
 
@@ -84,11 +81,11 @@ LeavesOutput status = (status ≡ 1) ⊎ (status ≡ 2) ⊎ (status ≡ 4) ⊎ (
 abbrev pub report_line : Report → List ℕ
 report_line report = report_text report ++ 10 ∷ []
 
--- what the errors got of a run that answered this: the line of its report where that is asked for, and else nothing; of a fault a text
+-- what the errors got of a run that answered this: the line of its report where that is asked for, and else nothing; the line of its fault
 abbrev pub IsReported : Bool → Result Report RunFault → SinkState → SinkState → Type 0
 IsReported true (Ok report) = IsWritten (report_line report)
 IsReported false (Ok report) = IsUntouched
-IsReported wants (Err why) = TookText
+IsReported wants (Err why) = IsWritten (fault_line why)
 
 -- what a run over lines answered, but for the lines
 abbrev pub report_of : {X : Type 0} → Result (Report × X) RunFault → Result Report RunFault
@@ -121,13 +118,12 @@ pub record EndsOver {L : Type 0} (state : L → LineState) (faithful : L → ℕ
   pub ends_well : AreServed state faithful lines → (bytes : List ℕ) (graph : GraphValue) → HasFile bytes before.source after.source → IsFileOf bytes graph
       → cut_refusal (Even shards) (length graph.links) ≡ None → IsUnhindered result before.sink after.sink
 
--- a run over new lines to at most so many workers ended so. Nothing is known of what comes over the lines; a run that had no line found the minimum spanning forest
+-- a run over new lines to at most so many workers ended so. Nothing is known of what comes over the lines; a run that had no line has each of them served, and found the minimum spanning forest
 pub record EndsOverWorkers (workers shards : ℕ) (wants : Bool) (status : ℕ) (before after : Standard) : Type 0 where
   pub lines : List TcpLineState
   pub few : length lines ≤ workers
   pub new : All (λ line. line ≡ unused) lines
   pub ends : EndsOver line_of (λ line worker. ⊥) lines shards wants status before after
-  pub alone : length lines ≡ 0 → RanServed (Even shards) ends.result (of_run before) (of_run after)
 
 -- ---- what follows for the status, of a source that tells
 
@@ -179,11 +175,12 @@ abbrev pub EndsAs : Bool → Asked → ℕ → Standard → Standard → Type 0
 EndsAs true asked = EndsWith asked.report
 EndsAs false asked = EndsOverWorkers asked.workers asked.shards asked.report
 
--- what is done with a FILE: it can't be opened, and nothing is written, or it is run on, and tells nothing of itself; without a FILE the input is run on
+-- what is done with a FILE: it can't be opened, which is told and nothing is written, or it is run on, and tells nothing of itself; without a FILE the input is run on
 abbrev pub EndsOn : Option (List ℕ) → Asked → ℕ → Standard → Standard → Type 0
 EndsOn None asked status before after = EndsAs asked.plain asked status before after
 EndsOn (Some name) asked status before after =
-    ((status ≡ 3) × IsUntouched before.sink after.sink) ⊎ EndsAs asked.plain asked status (from_file before) (from_file after)
+    ((status ≡ 3) × IsUntouched before.sink after.sink × IsWritten (unopened_line name) before.errors after.errors)
+    ⊎ EndsAs asked.plain asked status (from_file before) (from_file after)
 
 -- what is asked for was done
 abbrev pub Obeys : Asked → ℕ → Standard → Standard → Type 0

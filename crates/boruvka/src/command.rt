@@ -6,12 +6,13 @@ ghost use Rattle.clap.specs.Words.{kind_of};
 ghost use Rattle.ports.specs.Lines.{HasRoom};
 ghost use Rattle.forest_run.specs.WiredLines.{AreServed};
 ghost use Rattle.boruvka.specs.Arguments.{IsMistake, file_named, given, refusals};
+ghost use Rattle.boruvka.specs.Messages.{message_line};
 ghost use Rattle.boruvka.specs.Status.{told, asked_of, status_of_run, report_of, IsReported, EndsOver, EndsAs, Obeys, ObeysWords};
-ghost use Rattle.boruvka.specs.Status.{HasGraph, HasNoGraph, IsDone, LeavesOutput, IsUntouched, AskForHelp, AreWrong, HelpEnds, RefusesWords};
+ghost use Rattle.boruvka.specs.Status.{HasGraph, HasNoGraph, IsDone, LeavesOutput, IsUntouched, IsWritten, AskForHelp, AreWrong, HelpEnds, RefusesWords};
 
 use crate::arguments::options;
 use crate::chosen::{Options, OptionsFault};
-use crate::messages::{tell, tell_report, tell_unopened, write_text};
+use crate::messages::{tell, tell_no_text, tell_report, tell_unopened, write_text};
 use crate::standard::workers_beside;
 use crate::statuses::{DEVICE, NO_MEMORY, USAGE, status_of};
 use byte_streams::{Sink, Source, Untold, put};
@@ -137,7 +138,7 @@ where
     }
     let (_held, count) = workers_beside(rt, chosen.workers);
     let Ok((lines, workers)) = Workers::start(rt, alloc, count) else {
-        tell(errors, &"no memory");
+        tell(errors, &RunFault::Memory);
         return NO_MEMORY;
     };
     let (shards, wants_report) = (chosen.shards, chosen.report);
@@ -220,7 +221,7 @@ fn print_usage<O: Sink, E: Sink>(
         ⊎ (RefusesWords result × (output.new ≡ output.old)) }
 {
     let Ok(text) = format!(in alloc; "{error}") else {
-        tell(errors, &"no memory");
+        tell(errors, &RunFault::Memory);
         return NO_MEMORY;
     };
     if error.use_stderr() {
@@ -299,7 +300,7 @@ where
         Ok(chosen) => obey(rt, &chosen, input, output, errors),
         Err(OptionsFault::Usage(error)) => print_usage(rt.alloc(), &error, output, errors),
         Err(OptionsFault::Memory) => {
-            tell(errors, &"no memory");
+            tell(errors, &RunFault::Memory);
             NO_MEMORY
         }
     }
@@ -309,13 +310,15 @@ where
 /// else 2, for a word that isn't UTF-8.
 pub fn without_words<E: Sink>(error: &io::Error, errors: &mut E) -> u8
     requires { E.can_write errors.old }
-    ensures memory { error_kind error.now ≡ ErrorKind.OutOfMemory → result ≡ 4 }
-    ensures wrong { error_kind error.now ≢ ErrorKind.OutOfMemory → result ≡ 2 }
+    ensures memory { error_kind error.now ≡ ErrorKind.OutOfMemory
+        → (result ≡ 4) × IsWritten (message_line (codes "no memory")) (E.state errors.old) (E.state errors.new) }
+    ensures wrong { error_kind error.now ≢ ErrorKind.OutOfMemory
+        → (result ≡ 2) × IsWritten (message_line (codes "a word is not UTF-8")) (E.state errors.old) (E.state errors.new) }
 {
     if error.kind() == ErrorKind::OutOfMemory {
-        tell(errors, &"no memory");
+        tell(errors, &RunFault::Memory);
         return NO_MEMORY;
     }
-    tell(errors, &"a word is not UTF-8");
+    tell_no_text(errors);
     USAGE
 }

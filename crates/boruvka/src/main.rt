@@ -6,9 +6,10 @@
 //! without workers, it is the minimum spanning forest; over workers a spanning forest whatever they answer,
 //! and the minimum one where each answers as the worker's engine does, and then no status blames them
 //! ([`command::run_over`]; that the sockets carry such answers no contract can see).
-//! Where the run ends well standard error gets the line of its report, if that is asked for, and nothing else.
-//! The help goes to the output too, where the words ask for it ([`command::command`]). Tests alone show that
-//! standard error gets a line that says what went wrong, and for wrong words the usage.
+//! Where the run ends well standard error gets the line of its report, if that is asked for, and nothing else;
+//! where it ends ill, or FILE can't be opened, just the line that says why. The help goes to the output too,
+//! where the words ask for it ([`command::command`]). Tests alone show that standard error gets the usage for
+//! wrong words.
 //!
 //! **How it is built.**
 //!
@@ -18,8 +19,8 @@
 //!   a run: tcp_lines::Workers::start, command::run_over, Workers::join; with --plain forest_run::run_plain
 //! ```
 //!
-//! **Where to start a change.** A new option: `arguments` and `chosen`, with the table in `specs/Arguments.antt`. A new fault: `statuses`, with the
-//! table in `specs/`. What the program does, in order: `command`. What each status says of a run:
+//! **Where to start a change.** A new option: `arguments` and `chosen`, with the table in `specs/Arguments.antt`. A new fault: `statuses`
+//! and `messages`, with the tables in `specs/Status.antt` and `specs/Messages.antt`. What the program does, in order: `command`. What each status says of a run:
 //! `specs/Status.antt`. How the standard streams are kept apart from sockets: `standard`.
 #![tactic(auto)]
 

@@ -12,6 +12,7 @@ use crate::standard::workers_beside;
 use crate::statuses::status_of;
 use byte_streams::{FusedSink, FusedSource, Untold};
 use forest_run::{Report, RunFault};
+use gr_text::{GrFault, GrKind, ReadFault};
 use link_key::{CutFault, Link};
 use ports::{EngineLine, Line, ScriptLine};
 use std::alloc::{Alloc, AllocError, Global};
@@ -235,6 +236,54 @@ fn tells_what_the_cut_and_the_workers_made_impossible(rt: HostRuntime) -> Result
     Ok(())
 }
 
+// Each fault is told as the library shows it.
+#[test]
+fn tells_each_fault_in_its_own_text(rt: HostRuntime) -> Result<(), Fail> {
+    let kinds = [
+        GrKind::UnknownLine,
+        GrKind::NoProblemYet,
+        GrKind::SecondProblem,
+        GrKind::BadProblem,
+        GrKind::TooLarge,
+        GrKind::BadArc,
+        GrKind::EndOutOfRange,
+        GrKind::WeightOutOfRange,
+        GrKind::TooManyArcs,
+        GrKind::MissingProblem,
+        GrKind::MissingArcs,
+    ];
+    let most = 18_446_744_073_709_551_615;
+    let lowest = -2_147_483_648;
+    let link = Link::of_arc(1, 67_108_864, lowest).ok_or("a link")?;
+    let others = [
+        RunFault::Read(ReadFault::Source { line: most }),
+        RunFault::Read(ReadFault::TooLong),
+        RunFault::Read(ReadFault::Memory),
+        RunFault::Cut(CutFault::NoShards),
+        RunFault::Cut(CutFault::TooManyShards),
+        RunFault::Cut(CutFault::ShardTooLarge),
+        RunFault::Cut(CutFault::BadPlaces),
+        RunFault::Cut(CutFault::Memory),
+        RunFault::Rounds {
+            round: 4_294_967_295,
+        },
+        RunFault::Missed { link },
+        RunFault::Memory,
+        RunFault::Write { written: most },
+    ];
+    let mut faults = Vec::from_array(rt.alloc(), others)?;
+    for kind in kinds {
+        faults.push(RunFault::Read(ReadFault::Gr(GrFault { line: most, kind })))?;
+    }
+    for fault in &faults {
+        let mut errors = Vec::new(rt.alloc());
+        tell(&mut errors, fault);
+        let line = format!(in rt.alloc(); "boruvka: {fault}\n")?;
+        assert_eq!(rt; errors.as_slice(), line.as_str().as_bytes());
+    }
+    Ok(())
+}
+
 #[test]
 fn prints_the_help(rt: HostRuntime) -> Result<(), Fail> {
     let mut errors = Vec::new(rt.alloc());
@@ -390,7 +439,7 @@ fn expect_one_write(
 
 #[test]
 fn tells_a_long_name_in_one_write(rt: HostRuntime) -> Result<(), Fail> {
-    for length in [200, 300, 4095] {
+    for length in [200, 300, 4095, 4096] {
         let name = "n".repeat(rt.alloc(), length)?;
         let line = format!(in rt.alloc(); "boruvka: cannot open {name}\n")?;
         expect_one_write(&rt, name.as_str(), line.as_str());
