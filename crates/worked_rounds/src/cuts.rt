@@ -95,3 +95,22 @@ fn as_many_shards_as_there_may_be(rt: HostRuntime) -> Result<(), Fail> {
     assert!(rt; sizes_of_cut.iter().all(|size| *size == 2 || *size == 3));
     Ok(())
 }
+
+// The place numbered from 1 on is twice its number, and one more where that is odd.
+#[test]
+fn as_many_places_as_there_may_be(rt: HostRuntime) -> Result<(), Fail> {
+    let alloc = rt.alloc();
+    let links = path(&rt, alloc, 10000)?;
+    assert!(rt; links.len() <= 1 << 30);
+    let mut places = Vec::new(alloc);
+    let mut wanted: Vec<usize> = Vec::new(alloc);
+    for number in 1..4096usize {
+        places.push(2 * number + number % 2)?;
+        wanted.push(if number % 2 == 1 { 3 } else { 1 })?;
+    }
+    wanted.push(1809)?;
+    let cut = Cut::at(alloc, links.as_slice(), places.as_slice()).expect(&rt, "a cut");
+    let sizes_of_cut = sizes(&rt, alloc, &cut, links.as_slice())?;
+    assert_eq!(rt; sizes_of_cut.as_slice(), wanted.as_slice());
+    Ok(())
+}
