@@ -6,6 +6,7 @@
 //!   board, shard_sets            claims of shards, by one seat and by many; sets of shards
 //!   labels                       labels that coarsen others
 //!   engine                       a worker's scan, what it hears, and whole sessions
+//!   fault_texts                  what each fault of a session is told as
 //!   refusals                     work whose allocations are refused in turn
 //!   memory_counts, memory_of_lists      which blocks of memory live after a call
 //! ```
@@ -17,6 +18,8 @@ mod board;
 mod cuts;
 #[cfg(test)]
 mod engine;
+#[cfg(test)]
+mod fault_texts;
 #[cfg(test)]
 mod labels;
 #[cfg(test)]
