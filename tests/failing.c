@@ -5,6 +5,8 @@
  * recv or a send fails: "error" (none: this), "interrupted", or "end" (a recv gives 0 bytes, a send takes none).
  * A listen under the name "stranger" passes, but somebody else then connects first.
  * For each call that fails an 'x' goes to the descriptor TOLD. With SHORT each recv, read and send is of one byte.
+ * Where the program ends and a thread that it started wasn't joined, a 'J' goes there; with JOINED a 'j' too, for each
+ * that was.
  * Where words for the user (a forest, a report, a fault) are written to a socket, or a socket is read as a file, a
  * 'T' goes to TOLD. It takes no memory itself. */
 #define _GNU_SOURCE
@@ -21,7 +23,7 @@
 
 static const char *chosen = "", *how = "error";
 static unsigned long first, last;
-static atomic_ulong counted;
+static atomic_ulong counted, started, joined;
 static int told = -1, is_short;
 
 static unsigned long number(const char *name, unsigned long otherwise) {
@@ -42,7 +44,7 @@ __attribute__((constructor)) static void begin(void) {
 
 static void tell(const char *what) {
     if (told >= 0 && REAL(write)(told, what, 1) < 0) {
-        _exit(99);
+        REAL(_exit)(99);
     }
 }
 
@@ -93,7 +95,7 @@ static void visit(int listener) {
     int stranger = REAL(socket)(AF_INET, SOCK_STREAM | SOCK_CLOEXEC, 0);
     if (stranger < 0 || REAL(getsockname)(listener, (struct sockaddr *)&name, &size) ||
         REAL(connect)(stranger, (struct sockaddr *)&name, size)) {
-        _exit(98);
+        REAL(_exit)(98);
     }
 }
 
@@ -152,5 +154,29 @@ ssize_t write(int fd, const void *bytes, size_t count) {
 }
 
 int pthread_create(pthread_t *made, const pthread_attr_t *how_made, void *(*run)(void *), void *with) {
-    return fails("thread", EAGAIN) ? EAGAIN : REAL(pthread_create)(made, how_made, run, with);
+    int answer = fails("thread", EAGAIN) ? EAGAIN : REAL(pthread_create)(made, how_made, run, with);
+    started += !answer;
+    return answer;
+}
+
+int pthread_join(pthread_t which, void **answered) {
+    int answer = REAL(pthread_join)(which, answered);
+    joined += !answer;
+    return answer;
+}
+
+static void tell_threads(void) {
+    for (unsigned long at = 0; getenv("JOINED") && at < joined; at++) {
+        tell("j");
+    }
+    if (joined != started) {
+        tell("J");
+    }
+}
+
+/* the program ends so, and neither by exit nor by a return to the C library */
+void _exit(int status) {
+    tell_threads();
+    REAL(_exit)(status);
+    __builtin_unreachable();
 }

@@ -46,8 +46,8 @@ def ran(words, source=b"", output=subprocess.PIPE, **more):
 
 
 def told_by(room, words, source, environment, **more):
-    """What was run with tests/failing.c preloaded did, and what that library told: an `x` for each call that failed, and
-    a `T` for each text for the user that went to a socket."""
+    """What was run with tests/failing.c preloaded did, and what that library told: an `x` for each call that failed,
+    a `T` for each text for the user that went to a socket, and a `J` where a thread wasn't joined at the end."""
     reader, writer = os.pipe()
     env = {**os.environ, "LD_PRELOAD": built(room, "failing"), "TOLD": str(writer), **environment}
     try:

@@ -16,6 +16,8 @@ def failed_from(room, source, text, call, number, more):
         raise AssertionError(f"{what}: found {(status, output, errors)!r:.600}")
     if b"T" in told:
         raise AssertionError(f"{what}: a text for the user went to a socket")
+    if b"J" in told:
+        raise AssertionError(f"{what}: a thread was not joined")
     report = Report(errors)
     report.expect_equations(SHARDS, WORKERS)
     return report, len(told)
@@ -128,6 +130,19 @@ def each_call_fails_on_ten_thousand_arcs(room):
     no_pair_lost_but_one(room, file, text)
     no_line_lost_but_one(room, file, text, "error")
     all_lost_from_there(room, file, text, "error")
+
+
+@case
+def no_thread_outlives_the_program(room):
+    # a `j` is told for each thread that was joined: those of the workers, and more where they are asked
+    ends = [
+        (SMALL_NET, (0, SMALL_FOREST, b"")),
+        (b"p sp 2 2\na 1 2 5\n", (1, b"", b"boruvka: line 3: MissingArcs\n")),
+    ]
+    for source, wanted in ends:
+        found, told = told_by(room, [Program.path, *over(WORKERS, SHARDS)], source, {"JOINED": "1"}, seconds=20)
+        if found != wanted or told.strip(b"j") or len(told) < WORKERS:
+            raise AssertionError(f"wanted {wanted!r}, and each thread joined: found {found!r:.600}, told {told!r}")
 
 
 @case
