@@ -1,10 +1,30 @@
-"""Streams that fail or dribble: a full output, one that nobody reads, closed descriptors, an input byte by byte."""
+"""Streams that fail or dribble: a full output, one whose reader goes away, closed descriptors, an input byte by byte."""
+import fcntl
 import os
+import re
 import resource
+import select
 import subprocess
+import sys
+import termios
 import time
 
-from cases.running import NOTHING_WRITTEN, SECONDS, SMALL_FOREST, SMALL_NET, Program, case, expect, ran, told_by, written
+from cases.running import (
+    NOTHING_WRITTEN,
+    SECONDS,
+    SMALL_FOREST,
+    SMALL_NET,
+    Program,
+    case,
+    drawn_graph,
+    expect,
+    ran,
+    told_by,
+    written,
+)
+
+# asks for the room of a pipe, on Linux (`fcntl` names it from Python 3.10 on)
+PIPE_SIZE = 1032
 
 # by one thread, and over workers
 MODES = [["--plain"], ["--workers", "2", "--shards", "4"]]
@@ -28,6 +48,38 @@ def an_output_that_nobody_reads(_room):
         finally:
             os.close(writer)
         expect((status, b"", errors), 3, b"", NOTHING_WRITTEN)
+
+
+def left_by_its_reader(words, count):
+    """What the program does whose reader takes so many bytes, waits until the pipe is full, and goes away: status, the
+    bytes that were read and standard error; and the numbers of bytes that the pipe took at least and at most."""
+    reader, writer = os.pipe()
+    most = fcntl.fcntl(writer, PIPE_SIZE)
+    with subprocess.Popen([Program.path, *words], stdout=writer, stderr=subprocess.PIPE) as started:
+        try:
+            begun = os.read(reader, count) if select.select([reader], [], [], SECONDS)[0] else b""
+            while begun and started.poll() is None and select.select([], [writer], [], 0)[1]:
+                time.sleep(0.001)
+            waiting = int.from_bytes(fcntl.ioctl(reader, termios.FIONREAD, bytes(4)), sys.byteorder)
+        finally:
+            os.close(reader)
+            os.close(writer)
+        errors = started.communicate(timeout=SECONDS)[1]
+    return (started.returncode, begun, errors), (len(begun) + waiting, most)
+
+
+@case
+def an_output_whose_reader_takes_ten_bytes(room):
+    file, text = drawn_graph(12, 20_000, 60_000)
+    name = written(f"{room}/net.gr", file)
+    for words in MODES:
+        (status, begun, errors), (least, most) = left_by_its_reader([*words, name], 10)
+        if most >= len(text):
+            raise AssertionError(f"a pipe of {most} bytes holds the forest's {len(text)}")
+        expect((status, begun, b""), 3, text[:10], b"")
+        told = re.fullmatch(rb"boruvka: write failed after (\d+) bytes\n", errors)
+        if not told or not least <= int(told[1]) <= most:
+            raise AssertionError(f"wanted {least} to {most} bytes told, found {errors!r:.300}")
 
 
 @case
