@@ -6,16 +6,14 @@ use Rattle.byte_streams.proofs.Streaming.{gave_to_end, took_nothing, took_told}
 use Rattle.link_key.specs.declared.links.Link.{Link}
 use Rattle.gr_text.specs.ForestText.{forest_text}
 use Rattle.gr_text.specs.Graph.{GraphValue}
-use Rattle.gr_text.specs.Reader.{FailsBy}
 use Rattle.gr_text.specs.Sourced.{IsReadOf}
 use Rattle.gr_text.specs.Written.{PrefixWentOut}
 use Rattle.gr_text.specs.declared.faults.ReadFault.{ReadFault}
 use Rattle.gr_text.proofs.ForestSize.{few_are_told}
 use Rattle.forest_run.proofs.Telling.{reads_the_file}
-use Rattle.forest_run.specs.Files.{IsFileOf, HasForest, MeansGraph, IsForestTextOf, IsPartOfText, OnRead, OnWrite, OnNoMemory}
+use Rattle.forest_run.specs.Files.{IsFileOf, HasForest, IsForestTextOf, IsFaultInMemory}
 use Rattle.forest_run.specs.Outcomes.{streams, IsDone, IsUnread, IsUnsolved, IsBrokenOff, IsLeast}
 use Rattle.forest_run.specs.PlainRun.{RanPlain}
-use Rattle.forest_run.specs.declared.report.Report.{Report}
 use Rattle.forest_run.specs.declared.fault.RunFault.{RunFault}
 use Rattle.forest_run.specs.declared.fault.RunFault.TheVariants as fault
 
@@ -73,40 +71,21 @@ broken_off found says answer written graph forest n s t a b read found_is few sa
 given_file : (bytes got : List ℕ) (s t : SourceState) → s.left ≡ Some bytes → Gave 0 1 got s t → got ≡ bytes
 given_file bytes got s t told gave = sym (gave_to_end 0 1 bytes got s t told (omega arith) gave)
 
-pub refused_in_memory : (why : RunFault) (bytes : List ℕ) (s t : SourceState) (a b : SinkState)
-    → s.left ≡ Some bytes → HadNoFailure s t → RanPlain (Err why) (streams s a) (streams t b)
-    → OnRead {X = Report} (Err why) (λ f. FailsBy f MAX_BYTES bytes)
-refused_in_memory (fault.Read why) bytes s t a b told no_failure ran = reads_the_file bytes s t (Err why) told no_failure ran.refused
-refused_in_memory (fault.Cut why) bytes s t a b told no_failure ran = tt
-refused_in_memory (fault.Rounds round) bytes s t a b told no_failure ran = tt
-refused_in_memory (fault.Missed link) bytes s t a b told no_failure ran = tt
-refused_in_memory fault.Memory bytes s t a b told no_failure ran = tt
-refused_in_memory (fault.Write written) bytes s t a b told no_failure ran = tt
-
-pub graph_in_memory : (why : RunFault) (bytes : List ℕ) (s t : SourceState) (a b : SinkState)
-    → s.left ≡ Some bytes → RanPlain (Err why) (streams s a) (streams t b) → OnNoMemory {X = Report} (Err why) (MeansGraph bytes)
-graph_in_memory (fault.Read why) bytes s t a b told ran = tt
-graph_in_memory (fault.Cut why) bytes s t a b told ran = tt
-graph_in_memory (fault.Rounds round) bytes s t a b told ran = tt
-graph_in_memory (fault.Missed link) bytes s t a b told ran = tt
-graph_in_memory fault.Memory bytes s t a b told ran =
-    (ran.graph, subst (λ (xs : List ℕ). IsFileOf xs ran.graph) (given_file bytes ran.bytes s t told ran.read) ran.file)
-graph_in_memory (fault.Write written) bytes s t a b told ran = tt
-
 -- the forest of the file that was read is that of the bytes
 gives : (bytes got : List ℕ) (s t : SourceState) (graph : GraphValue) (forest : List Link) → s.left ≡ Some bytes → Gave 0 1 got s t → IsFileOf got graph → IsLeast graph forest
     → HasForest bytes graph forest
 gives bytes got s t graph forest told gave file least =
     record { file = subst (λ (xs : List ℕ). IsFileOf xs graph) (given_file bytes got s t told gave) file; least = least }
 
-pub part_in_memory : (why : RunFault) (bytes : List ℕ) (s t : SourceState) (a b : SinkState)
-    → s.left ≡ Some bytes → RanPlain (Err why) (streams s a) (streams t b) → OnWrite {X = Report} (Err why) (IsPartOfText bytes)
-part_in_memory (fault.Read why) bytes s t a b told ran = tt
-part_in_memory (fault.Cut why) bytes s t a b told ran = tt
-part_in_memory (fault.Rounds round) bytes s t a b told ran = tt
-part_in_memory (fault.Missed link) bytes s t a b told ran = tt
-part_in_memory fault.Memory bytes s t a b told ran = tt
-part_in_memory (fault.Write written) bytes s t a b told ran =
+pub fault_in_memory : (why : RunFault) (bytes : List ℕ) (s t : SourceState) (a b : SinkState)
+    → s.left ≡ Some bytes → HadNoFailure s t → RanPlain (Err why) (streams s a) (streams t b) → IsFaultInMemory bytes why
+fault_in_memory (fault.Read why) bytes s t a b told no_failure ran = reads_the_file bytes s t (Err why) told no_failure ran.refused
+fault_in_memory (fault.Cut why) bytes s t a b told no_failure ran = let cause = ran.cause in cc
+fault_in_memory (fault.Rounds round) bytes s t a b told no_failure ran = let cause = ran.cause in cc
+fault_in_memory (fault.Missed link) bytes s t a b told no_failure ran = let cause = ran.cause in cc
+fault_in_memory fault.Memory bytes s t a b told no_failure ran =
+    (ran.graph, subst (λ (xs : List ℕ). IsFileOf xs ran.graph) (given_file bytes ran.bytes s t told ran.read) ran.file)
+fault_in_memory (fault.Write written) bytes s t a b told no_failure ran =
     let given = gives bytes ran.bytes s t ran.graph ran.forest told ran.read ran.file ran.found_is in
     (forest_text ran.graph.vertices ran.forest, (ran.graph, ran.forest, given, refl), omega (arith, ran.part.within, ran.part.counted))
 

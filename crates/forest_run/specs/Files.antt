@@ -6,6 +6,7 @@ use Rattle.link_key.specs.Forest.{IsForestOf}
 use Rattle.link_key.specs.declared.links.Link.{Link}
 use Rattle.gr_text.specs.Graph.{GraphValue, IsGraphOf}
 use Rattle.gr_text.specs.Fault.{IsFirstFault}
+use Rattle.gr_text.specs.Reader.{FailsBy}
 use Rattle.gr_text.specs.ForestText.{forest_text}
 use Rattle.gr_text.specs.declared.faults.ReadFault.{ReadFault}
 use Rattle.gr_text.specs.declared.faults.ReadFault.TheVariants as read
@@ -40,6 +41,14 @@ IsForestTextOf bytes text = (graph : GraphValue) × (forest : List Link) × HasF
 abbrev pub IsPartOfText : List ℕ → ℕ → Type 0
 IsPartOfText bytes written = (text : List ℕ) × IsForestTextOf bytes text × (written ≤ length text)
 
+-- why a run by one thread has no text for these bytes, all of them in memory: what reading them meets; want of memory,
+-- for the forest of the graph that they mean; or a part of its text alone, since the text's growth was refused
+abbrev pub IsFaultInMemory : List ℕ → RunFault → Type 0
+IsFaultInMemory bytes (fault.Read why) = FailsBy why MAX_BYTES bytes
+IsFaultInMemory bytes fault.Memory = MeansGraph bytes
+IsFaultInMemory bytes (fault.Write written) = IsPartOfText bytes written
+IsFaultInMemory bytes other = ⊥
+
 -- ---- what follows for a source that tells
 
 -- the source tells that it has this file, within the limit, and that no read failed
@@ -52,16 +61,6 @@ pub record HasFile (bytes : List ℕ) (before after : SourceState) : Type 0 wher
 abbrev pub OnRead : {X : Type 0} → Result X RunFault → (ReadFault → Type 0) → Type 0
 OnRead (Err (fault.Read why)) P = P why
 OnRead other P = ⊤
-
--- P of the number of bytes that went out, where a write failed
-abbrev pub OnWrite : {X : Type 0} → Result X RunFault → (ℕ → Type 0) → Type 0
-OnWrite (Err (fault.Write written)) P = P written
-OnWrite other P = ⊤
-
--- P where memory was refused once the file was read
-abbrev pub OnNoMemory : {X : Type 0} → Result X RunFault → Type 0 → Type 0
-OnNoMemory (Err fault.Memory) P = P
-OnNoMemory other P = ⊤
 
 -- a fault of reading is this file's first, or want of memory
 abbrev pub IsFirstOf : List ℕ → ReadFault → Type 0

@@ -1,7 +1,6 @@
 //! A run by one thread over bytes in memory.
-ghost use Rattle.std.specs.Prelude.{◌≤◌, length, IfOk};
-ghost use Rattle.gr_text.specs.Reader.{FailsBy};
-ghost use Rattle.forest_run.specs.Files.{OnRead, OnWrite, OnNoMemory, IsForestTextOf, IsPartOfText, MeansGraph, MeansNothing, IsFirstFaultOf, IsNoRefusal};
+ghost use Rattle.std.specs.Prelude.{◌≤◌, length, IfOk, IfErr};
+ghost use Rattle.forest_run.specs.Files.{IsForestTextOf, IsFaultInMemory, MeansGraph, MeansNothing, IsFirstFaultOf, IsNoRefusal};
 
 use crate::fault::RunFault;
 use crate::plain::run_plain;
@@ -15,10 +14,8 @@ use std::alloc::Allocator;
 pub fn plain_text<A: Allocator + Copy>(alloc: A, bytes: &[u8]) -> Result<Vec<u8, A>, RunFault>
     ensures text { IfOk result (λ text. IsForestTextOf bytes.now text.items) }
 
-    // A file that isn't read has this fault; any other end is that of bytes that mean a graph.
-    ensures refused { OnRead result (λ fault. FailsBy fault MAX_BYTES bytes.now) }
-    ensures memory { OnNoMemory result (MeansGraph bytes.now) }
-    ensures write { OnWrite result (IsPartOfText bytes.now) }
+    // A fault is one that reading the bytes meets, or want of memory for a graph's forest or for its text, and no other.
+    ensures fault { IfErr result (IsFaultInMemory bytes.now) }
 
     ensures malformed { length bytes.now ≤ MAX_BYTES → MeansNothing bytes.now
         → IsFirstFaultOf bytes.now result }

@@ -2,23 +2,13 @@ use Rattle.std.proofs.Common.{rules, ap, ℕ, List, Some, refl}
 use Rattle.byte_streams.specs.Streams.{tells_held}
 use Rattle.forest_run.specs.PlainRun.{IsPlainReport}
 use Rattle.std.proofs.lemmas.Result.{err_from_is_err_and}
-use Rattle.forest_run.proofs.PlainRunning.{refused_in_memory, graph_in_memory, part_in_memory, text_in_memory}
+use Rattle.forest_run.proofs.PlainRunning.{fault_in_memory, text_in_memory}
 use Rattle.forest_run.proofs.in_memory.plain_text.Goals as goal
 
-pub returns-in_err-run_plain-clause-refused : goal.returns-in_err-run_plain-clause-refused
-returns-in_err-run_plain-clause-refused g c =
+pub returns-in_err-run_plain-clause-fault : goal.returns-in_err-run_plain-clause-fault
+returns-in_err-run_plain-clause-fault g c =
     let p = err_from_is_err_and c.from_residual.result c.from_residual.ensures.1 in
-    rw (p.1, p.2) (refused_in_memory c.in_err-run_plain.field-0.0 c.args.bytes.now _ _ _ _ refl (0, refl, refl) c.in_err-run_plain.ensures.ran)
-
-pub returns-in_err-run_plain-clause-memory : goal.returns-in_err-run_plain-clause-memory
-returns-in_err-run_plain-clause-memory g c =
-    let p = err_from_is_err_and c.from_residual.result c.from_residual.ensures.1 in
-    rw (p.1, p.2) (graph_in_memory c.in_err-run_plain.field-0.0 c.args.bytes.now _ _ _ _ refl c.in_err-run_plain.ensures.ran)
-
-pub returns-in_err-run_plain-clause-write : goal.returns-in_err-run_plain-clause-write
-returns-in_err-run_plain-clause-write g c =
-    let p = err_from_is_err_and c.from_residual.result c.from_residual.ensures.1 in
-    rw (p.1, p.2) (part_in_memory c.in_err-run_plain.field-0.0 c.args.bytes.now _ _ _ _ refl c.in_err-run_plain.ensures.ran)
+    rw (p.1, p.2) (fault_in_memory c.in_err-run_plain.field-0.0 c.args.bytes.now _ _ _ _ refl (0, refl, refl) c.in_err-run_plain.ensures.ran)
 
 pub returns-in_err-run_plain-clause-malformed : goal.returns-in_err-run_plain-clause-malformed
 returns-in_err-run_plain-clause-malformed g c =
