@@ -2,7 +2,7 @@
 use Rattle.std.specs.Prelude.{Result, Bool, true, false, option_map}
 use Rattle.std.specs.String.{string_bytes}
 use Rattle.std.specs.Global.{Vec}
-use Rattle.std.proofs.Common.{◌≡◌, ◌≢◌, ◌≤◌, ℕ, ◌⊎◌, ◌∙◌, List, [], length, All, Option, None, Some, inl, inr, Ok, Err, refl, sym, subst, arith}
+use Rattle.std.proofs.Common.{◌≡◌, ◌≢◌, ◌≤◌, ℕ, ◌⊎◌, ◌∙◌, List, [], length, All, Option, None, Some, inl, inr, Ok, Err, refl, sym, subst, arith, codes}
 use Rattle.byte_streams.specs.Streams.{SourceState, SinkState}
 use Rattle.byte_streams.proofs.Streaming.{gave_nothing, took_nothing}
 use Rattle.link_key.specs.declared.links.Link.{Link}
@@ -21,9 +21,10 @@ use Rattle.forest_run.specs.declared.cutting.Cutting.TheVariants.{Even}
 use Rattle.forest_run.specs.declared.report.Report.{Report}
 use Rattle.forest_run.specs.declared.fault.RunFault.{RunFault}
 use Rattle.forest_run.specs.declared.fault.RunFault.TheVariants as fault
+use Rattle.boruvka.specs.Arguments.{given, number_of, is_set, file_named}
 use Rattle.boruvka.specs.Messages.{fault_line, unopened_line}
 use Rattle.boruvka.specs.declared.chosen.Options.{Options}
-use Rattle.boruvka.specs.Status.{Standard, of_run, Asked, asked_of, EndsAs, EndsOn, Obeys, EndsWith, EndsOver, EndsOverWorkers, HasGraph, HasNoGraph, IsDone, IsReported, IsWritten, LeavesOutput, IsUntouched, report_of, status_for, status_of_run, untold}
+use Rattle.boruvka.specs.Status.{Standard, of_run, Asked, asked_of, asked_by, EndsAs, EndsOn, Obeys, EndsWith, EndsOver, EndsOverWorkers, HasGraph, HasNoGraph, IsDone, IsReported, IsWritten, LeavesOutput, IsUntouched, report_of, status_for, status_of_run, untold}
 
 -- ---- how a run ends
 
@@ -274,3 +275,17 @@ pub refused_lines : {L : Type 0} (state : L → LineState) (faithful : L → ℕ
     → EndsOver state faithful lines shards wants status before after → HasNoGraph before.source after.source → (status ≡ 1) ⊎ (status ≡ 4)
 refused_lines state faithful lines shards wants status before after ends (bytes, has, nothing) =
     refused_status bytes ends.result status ends.status_is (ends.malformed bytes has nothing)
+
+-- what was chosen is what the words ask for
+asked_is : (chosen : Options) (words : List (List ℕ)) → chosen.workers ≡ number_of (given words (codes "workers")) 2
+    → chosen.shards ≡ number_of (given words (codes "shards")) 64 → chosen.plain ≡ is_set words (codes "plain")
+    → chosen.report ≡ is_set words (codes "report") → option_map string_bytes chosen.file ≡ file_named words → asked_of chosen ≡ asked_by words
+asked_is chosen words workers shards plain report file = rw (workers, shards, plain, report, file) refl
+
+-- so where that was obeyed the words were
+pub obeys_words : (chosen : Options) (words : List (List ℕ)) (status : ℕ) (before after : Standard)
+    → chosen.workers ≡ number_of (given words (codes "workers")) 2 → chosen.shards ≡ number_of (given words (codes "shards")) 64
+    → chosen.plain ≡ is_set words (codes "plain") → chosen.report ≡ is_set words (codes "report")
+    → option_map string_bytes chosen.file ≡ file_named words → Obeys (asked_of chosen) status before after → Obeys (asked_by words) status before after
+obeys_words chosen words status before after workers shards plain report file obeyed =
+    subst (λ (asked : Asked). Obeys asked status before after) (asked_is chosen words workers shards plain report file) obeyed

@@ -25,7 +25,7 @@ use Rattle.clap.proofs.WalkLemmas.{first_value-rows, one_text-rows}
 use Rattle.clap.specs.declared.error.Error.{Error}
 use Rattle.clap.specs.declared.error.kind.ErrorKind.TheVariants.{OutOfMemory}
 use Rattle.limits.specs.declared.TheConstants.{MAX_SHARDS, MAX_WORKERS}
-use Rattle.boruvka.specs.Arguments.{TakesFrom, IsOwn, IsOwnArg, HoldsFrom, program, refusals, given, file_named, IsCauseOf, OnUsage}
+use Rattle.boruvka.specs.Arguments.{TakesFrom, IsOwn, IsOwnArg, HoldsFrom, program, refusals, given, said, IsCauseOf, OnUsage}
 use Rattle.boruvka.specs.declared.chosen.OptionsFault.{OptionsFault}
 use Rattle.boruvka.specs.declared.chosen.OptionsFault.TheVariants.{Usage, Memory}
 
@@ -150,9 +150,10 @@ pub given_is : (app : App) (words : List (List ℕ)) (m : ArgMatches) (name : Li
     → one_text (found_of m) name ≡ given words name
 given_is app words m name is has = one_text-rows (found_of m) name ∙ ap (one_of name) (rows_are app words m is has)
 
-pub file_is : (app : App) (words : List (List ℕ)) (m : ArgMatches) → app ≡ program → HasMatchesOf app words m
-    → first_value (found_of m) (codes "file") ≡ file_named words
-file_is app words m is has = first_value-rows (found_of m) (codes "file") ∙ ap (first_of (codes "file")) (rows_are app words m is has)
+-- the first text under a name is what the words say there
+pub said_is : (app : App) (words : List (List ℕ)) (m : ArgMatches) (name : List ℕ) → app ≡ program → HasMatchesOf app words m
+    → first_value (found_of m) name ≡ said words name
+said_is app words m name is has = first_value-rows (found_of m) name ∙ ap (first_of name) (rows_are app words m is has)
 
 -- a parse fails as the words say
 pub fails_by_words : {T : Type 0} (app : App) (words : List (List ℕ)) (r : Result T Error) → app ≡ program

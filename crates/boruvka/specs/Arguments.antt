@@ -1,6 +1,7 @@
 -- The words of the command line: what the program takes, and what each word sets.
 use Rattle.std.specs.Prelude.{◌≡◌, ◌≢◌, ◌⊎◌, ℕ, ⊤, pos, true, false, List, [], ◌∷◌, Option, Some, None, Bool, Result, Err, codes}
 use Rattle.std.specs.List.{All}
+use Rattle.std.specs.Str.{bytes_eq}
 use Rattle.std.specs.Str.Parse.{digits_value, without_leading_plus}
 use Rattle.limits.specs.declared.TheConstants.{MAX_SHARDS, MAX_WORKERS}
 use Rattle.clap.specs.Words.{App, Rule, IsPlain, IsPlainArg, IsSignedIn, Kinds, args_of, fault_of, first_of, found_of, kind_of, matches_of, new_app, new_rule, one_of, one_text, with_rule, without_minus}
@@ -58,19 +59,27 @@ refusals words = fault_of program words
 abbrev pub given : List (List ℕ) → List ℕ → Option (List ℕ)
 given words name = one_of name (matches_of program words)
 
+-- the first text under a name
+abbrev pub said : List (List ℕ) → List ℕ → Option (List ℕ)
+said words name = first_of name (matches_of program words)
+
 -- the file that the words name
 abbrev pub file_named : List (List ℕ) → Option (List ℕ)
-file_named words = first_of (codes "file") (matches_of program words)
+file_named words = said words (codes "file")
 
 -- the number that a text writes, or this one where there is no text
-abbrev pub IsNumberOf : Option (List ℕ) → ℕ → ℕ → Type 0
-IsNumberOf None default n = n ≡ default
-IsNumberOf (Some text) default n = n ≡ digits_value 10 (without_leading_plus text)
+abbrev pub number_of : Option (List ℕ) → ℕ → ℕ
+number_of None default = default
+number_of (Some text) default = digits_value 10 (without_leading_plus text)
 
--- a flag by what is given under its name
-pub record IsFlagOf (text : Option (List ℕ)) (flag : Bool) : Type 0 where
-  pub set : text ≡ Some (codes "true") → flag ≡ true
-  pub unset : text ≡ Some (codes "false") → flag ≡ false
+-- a text that sets a flag
+abbrev pub is_true : Option (List ℕ) → Bool
+is_true None = false
+is_true (Some text) = bytes_eq text (codes "true")
+
+-- whether the words set the flag of this name
+abbrev pub is_set : List (List ℕ) → List ℕ → Bool
+is_set words name = is_true (said words name)
 
 -- ---- why words ask for nothing
 

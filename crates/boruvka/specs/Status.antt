@@ -23,7 +23,7 @@ use Rattle.forest_run.specs.declared.fault.RunFault.{RunFault}
 use Rattle.forest_run.specs.declared.fault.RunFault.TheVariants as fault
 use Rattle.tcp_lines.specs.Lines.{TcpLineState, line_of, unused}
 use Rattle.tcp_lines.specs.declared.line.TcpLine.{TcpLine}
-use Rattle.boruvka.specs.Arguments.{refusals, given, file_named, IsNumberOf, IsMistake}
+use Rattle.boruvka.specs.Arguments.{refusals, given, file_named, number_of, is_set, IsMistake}
 use Rattle.boruvka.specs.declared.chosen.Options.{Options}
 use Rattle.boruvka.specs.Messages.{fault_line, unopened_line}
 
@@ -188,23 +188,19 @@ Obeys asked = EndsOn asked.file asked
 
 -- ---- by what the words ask for, the program's name first
 
--- what is given under a flag's name
-abbrev pub flag_text : Bool → List ℕ
-flag_text true = codes "true"
-flag_text false = codes "false"
-
--- lawful words that ask for this: without a word on them for 2 workers and 64 shards
-pub record Ask (asked : Asked) (words : List (List ℕ)) : Type 0 where
-  pub lawful : refusals words ≡ []
-  pub workers : IsNumberOf (given words (codes "workers")) 2 asked.workers
-  pub shards : IsNumberOf (given words (codes "shards")) 64 asked.shards
-  pub plain : given words (codes "plain") ≡ Some (flag_text asked.plain)
-  pub report : given words (codes "report") ≡ Some (flag_text asked.report)
-  pub file : file_named words ≡ asked.file
+-- what lawful words ask for: where they don't say them, 2 workers and 64 shards
+abbrev pub asked_by : List (List ℕ) → Asked
+asked_by words = record {
+  workers = number_of (given words (codes "workers")) 2;
+  shards = number_of (given words (codes "shards")) 64;
+  plain = is_set words (codes "plain");
+  report = is_set words (codes "report");
+  file = file_named words;
+}
 
 -- what lawful words ask for was done
 abbrev pub ObeysWords : List (List ℕ) → ℕ → Standard → Standard → Type 0
-ObeysWords words status before after = (asked : Asked) → Ask asked words → Obeys asked status before after
+ObeysWords words status before after = refusals words ≡ [] → Obeys (asked_by words) status before after
 
 -- words that ask for the help alone
 abbrev pub AskForHelp : List (List ℕ) → Type 0

@@ -1,9 +1,9 @@
 //! The words of the command line.
 ghost use Rattle.std.specs.Prelude.{◌≡◌, ◌≢◌, ◌<◌, ◌≤◌, ℕ, ◌^◌, [], map, option_map, IfOk, OnOk, codes};
 ghost use Rattle.std.specs.String.{string_bytes};
-ghost use Rattle.clap.specs.Words.{IsAmong, app_of, found_of, kind_of, one_text, rule_of, with_rule};
+ghost use Rattle.clap.specs.Words.{IsAmong, app_of, first_value, found_of, kind_of, one_text, rule_of, with_rule};
 ghost use Rattle.clap.specs.declared.error.kind.ErrorKind.TheVariants.{OutOfMemory};
-ghost use Rattle.boruvka.specs.Arguments.{program, number_rule, flag_rule, word_rule, refusals, given, file_named, IsNumberOf, IsFlagOf, OnUsage};
+ghost use Rattle.boruvka.specs.Arguments.{program, number_rule, flag_rule, word_rule, refusals, given, file_named, number_of, is_true, is_set, OnUsage};
 ghost use Rattle.boruvka.specs.Arguments.{IsOwn, IsOwnArg, IsOtherName, HoldsFrom};
 
 use crate::chosen::{Options, OptionsFault};
@@ -106,9 +106,19 @@ fn number<'a>(matches: &ArgMatches<'a>, name: &str, default: u32) -> u32
     ensures range { (low high : ℕ) → HoldsFrom matches.now name.now low high
         → low ≤ default → default ≤ high → high < 2 ^ 32 → (low ≤ result) × (result ≤ high) }
     ensures value { (low high : ℕ) → HoldsFrom matches.now name.now low high → high < 2 ^ 32
-        → IsNumberOf (one_text (found_of matches.now) name.now) default result }
+        → result ≡ number_of (one_text (found_of matches.now) name.now) default }
 {
     matches.get_one::<u32>(name).unwrap_or(default)
+}
+
+// Whether the flag of this name is set: clap keeps a flag as a text.
+fn is_set(matches: &ArgMatches<'_>, name: &str) -> bool
+    ensures { result ≡ is_true (first_value (found_of matches.now) name.now) }
+{
+    match matches.get_str(name) {
+        Some(text) => text == "true",
+        None => false,
+    }
 }
 
 /// All words of the command line, the program's name first.
@@ -128,13 +138,13 @@ pub fn options<'a, S: AsStr>(alloc: Global, words: &'a [S]) -> Result<Options, O
     // Words are taken only where nothing is wrong with them, and each sets what it names.
     ensures lawful { OnOk result (refusals (map S.text words.entry.now) ≡ []) }
     ensures workers { IfOk result (λ o.
-        IsNumberOf (given (map S.text words.entry.now) (codes "workers")) 2 o.workers) }
+        o.workers ≡ number_of (given (map S.text words.entry.now) (codes "workers")) 2) }
     ensures shards { IfOk result (λ o.
-        IsNumberOf (given (map S.text words.entry.now) (codes "shards")) 64 o.shards) }
+        o.shards ≡ number_of (given (map S.text words.entry.now) (codes "shards")) 64) }
     ensures plain { IfOk result (λ o.
-        IsFlagOf (given (map S.text words.entry.now) (codes "plain")) o.plain) }
+        o.plain ≡ is_set (map S.text words.entry.now) (codes "plain")) }
     ensures report { IfOk result (λ o.
-        IsFlagOf (given (map S.text words.entry.now) (codes "report")) o.report) }
+        o.report ≡ is_set (map S.text words.entry.now) (codes "report")) }
     ensures file { IfOk result (λ o.
         option_map string_bytes o.file ≡ file_named (map S.text words.entry.now)) }
 
@@ -159,8 +169,8 @@ pub fn options<'a, S: AsStr>(alloc: Global, words: &'a [S]) -> Result<Options, O
     Ok(Options {
         workers,
         shards,
-        plain: matches.get_flag("plain"),
-        report: matches.get_flag("report"),
+        plain: is_set(&matches, "plain"),
+        report: is_set(&matches, "report"),
         file,
     })
 }

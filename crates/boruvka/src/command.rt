@@ -5,7 +5,7 @@ ghost use Rattle.limits.specs.declared.TheConstants.{MAX_WORKERS};
 ghost use Rattle.clap.specs.Words.{kind_of};
 ghost use Rattle.ports.specs.Lines.{HasRoom};
 ghost use Rattle.forest_run.specs.WiredLines.{AreServed};
-ghost use Rattle.boruvka.specs.Arguments.{IsMistake, file_named, given, refusals};
+ghost use Rattle.boruvka.specs.Arguments.{IsMistake, file_named, is_set, refusals};
 ghost use Rattle.boruvka.specs.Messages.{message_line};
 ghost use Rattle.boruvka.specs.Status.{told, asked_of, status_of_run, report_of, IsReported, EndsOver, EndsAs, Obeys, ObeysWords};
 ghost use Rattle.boruvka.specs.Status.{HasGraph, HasNoGraph, IsDone, LeavesOutput, IsUntouched, IsWritten, AskForHelp, AreWrong, HelpEnds, RefusesWords};
@@ -284,7 +284,7 @@ where
     // nothing to the output. Where all went well the errors get the report alone.
     ensures status { result ≤ 5 }
     ensures silent { LeavesOutput result → IsUntouched (O.state output.old) (O.state output.new) }
-    ensures quiet { given (map S.text words.now) (codes "report") ≡ Some (codes "false") → result ≡ 0
+    ensures quiet { is_set (map S.text words.now) (codes "report") ≡ false → result ≡ 0
         → errors.new ≡ errors.old }
 
     // The help goes to the output, and wrong words touch nothing. Words that are refused and ask for the help too end

@@ -1,7 +1,7 @@
 use Rattle.std.specs.String.{string_bytes}
 use Rattle.std.proofs.Common.{rules, ap, option_map, Some, arith, subst, sym, ◌∙◌, ℕ, List, Option, Ok}
-use Rattle.boruvka.specs.Arguments.{IsNumberOf}
-use Rattle.boruvka.proofs.WordMeanings.{workers_hold, shards_hold, given_is, file_is, fails_by_words}
+use Rattle.boruvka.specs.Arguments.{number_of, is_true}
+use Rattle.boruvka.proofs.WordMeanings.{workers_hold, shards_hold, given_is, said_is, fails_by_words}
 use Rattle.boruvka.proofs.arguments.options.Goals as goal
 use Rattle.boruvka.proofs.arguments.options.Goals.{in-Some+in_ok-from_str-in-Some, in-None}
 
@@ -11,28 +11,26 @@ returns-clause-lawful g c = fails_by_words _ _ (Ok c.in_ok-matches.matches) c.in
 pub returns-clause-workers : goal.returns-clause-workers
 returns-clause-workers g c =
     let held = workers_hold _ _ c.in_ok-command.ensures.own c.in_ok-matches.ensures.parsed in
-    subst (λ (t : Option (List ℕ)). IsNumberOf t 2 c.number-workers.result) (given_is _ _ _ _ c.in_ok-command.ensures.app c.in_ok-matches.ensures.matches)
-    (c.number-workers.ensures.value 0 64 (search rules) (omega arith))
+    c.number-workers.ensures.value 0 64 (search rules) (omega arith)
+    ∙ ap (λ (t : Option (List ℕ)). number_of t 2) (given_is _ _ _ _ c.in_ok-command.ensures.app c.in_ok-matches.ensures.matches)
 
 pub returns-clause-shards : goal.returns-clause-shards
 returns-clause-shards g c =
     let held = shards_hold _ _ c.in_ok-command.ensures.own c.in_ok-matches.ensures.parsed in
-    subst (λ (t : Option (List ℕ)). IsNumberOf t 64 c.number-shards.result) (given_is _ _ _ _ c.in_ok-command.ensures.app c.in_ok-matches.ensures.matches)
-    (c.number-shards.ensures.value 1 4096 (search rules) (omega arith))
+    c.number-shards.ensures.value 1 4096 (search rules) (omega arith)
+    ∙ ap (λ (t : Option (List ℕ)). number_of t 64) (given_is _ _ _ _ c.in_ok-command.ensures.app c.in_ok-matches.ensures.matches)
 
 pub returns-clause-plain : goal.returns-clause-plain
 returns-clause-plain g c =
-    let is = given_is _ _ _ _ c.in_ok-command.ensures.app c.in_ok-matches.ensures.matches in
-    record { set = λ yes. c.get_flag.ensures.value (is ∙ yes); unset = λ no. c.get_flag.ensures.other (is ∙ no) }
+    c.is_set.ensures ∙ ap is_true (said_is _ _ _ _ c.in_ok-command.ensures.app c.in_ok-matches.ensures.matches)
 
 pub returns-clause-report : goal.returns-clause-report
 returns-clause-report g c =
-    let is = given_is _ _ _ _ c.in_ok-command.ensures.app c.in_ok-matches.ensures.matches in
-    record { set = λ yes. c.get_flag-2.ensures.value (is ∙ yes); unset = λ no. c.get_flag-2.ensures.other (is ∙ no) }
+    c.is_set-2.ensures ∙ ap is_true (said_is _ _ _ _ c.in_ok-command.ensures.app c.in_ok-matches.ensures.matches)
 
 pub returns-clause-file : goal.returns-clause-file
 returns-clause-file g c =
-    let read = c.get_str.ensures ∙ file_is _ _ _ c.in_ok-command.ensures.app c.in_ok-matches.ensures.matches in
+    let read = c.get_str.ensures ∙ said_is _ _ _ _ c.in_ok-command.ensures.app c.in_ok-matches.ensures.matches in
     elim c.match-get_str.branch [
       | in-Some+in_ok-from_str-in-Some w ↦
           ap (option_map string_bytes) w.file-is

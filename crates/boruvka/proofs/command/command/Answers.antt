@@ -1,6 +1,7 @@
+use Rattle.std.specs.Prelude.{map}
 use Rattle.std.proofs.Common.{refl}
 use Rattle.clap.specs.Words.{kind_of}
-use Rattle.boruvka.proofs.Endings.{wants_memory_obeys}
+use Rattle.boruvka.proofs.Endings.{wants_memory_obeys, obeys_words}
 use Rattle.boruvka.proofs.command.command.Goals as goal
 
 pub returns-in-Err-Usage-clause-wrong : goal.returns-in-Err-Usage-clause-wrong
@@ -8,5 +9,10 @@ returns-in-Err-Usage-clause-wrong g c = λ wrong.
     let (status, same) = c.print_usage.ensures.wrong (wrong.1 (kind_of c.in-Err-Usage.error) (rw c.in-Err-Usage.field-0-is at c.in-Err-Usage.ensures.refused)) in
     (status, refl, same)
 
+pub returns-in-Ok-clause-obeys : goal.returns-in-Ok-clause-obeys
+returns-in-Ok-clause-obeys g c = λ lawful.
+    let told = c.in-Ok.ensures in
+    obeys_words c.in-Ok.chosen (map g.S.AsStr.text c.args.words.now) _ _ _ told.workers told.shards told.plain told.report told.file c.obey.ensures.obeys
+
 pub returns-in-Err-Memory-clause-obeys : goal.returns-in-Err-Memory-clause-obeys
-returns-in-Err-Memory-clause-obeys g c = λ asked ask. wants_memory_obeys asked _ _ _ _ c.tell.ensures
+returns-in-Err-Memory-clause-obeys g c = λ lawful. wants_memory_obeys _ _ _ _ _ c.tell.ensures
