@@ -1,5 +1,5 @@
 -- Live places of a shard's links.
-use Rattle.std.proofs.Common.{◌≡◌, ℕ, zero, suc, ◌+◌, ◌<◌, ◌≤◌, List, [], ◌∷◌, ◌++◌, length, get_or, take, set, Bool, true, Option, Some, None, refl, sym, ap, ◌∙◌, subst, inl, inr, arith}
+use Rattle.std.proofs.Common.{◌≡◌, ℕ, zero, suc, ◌+◌, ◌<◌, ◌≤◌, List, [], ◌∷◌, ◌++◌, length, get_or, take, set, refl, sym, subst, inl, inr, arith}
 use Rattle.std.proofs.lemmas.Bool.{cases_lt}
 use Rattle.std.proofs.lemmas.List.{get_or_default, take_more_set}
 use Rattle.link_key.specs.declared.links.Link.{Link}
@@ -48,6 +48,24 @@ module _ (links : List Link) (labels : List ℕ) where
   live_within from to [] k d live lt = absurd (omega (arith, lt))
   live_within from to (p ∷ places) zero d (le, quiet, rest) lt = (le, omega (arith, live_range (p + 1) to places rest))
   live_within from to (p ∷ places) (suc k) d (le, quiet, rest) lt = let (low, high) = live_within (p + 1) to places k d rest (omega (arith, lt)) in (omega (arith, low, le), high)
+
+  -- live places ascend
+  live_low : (from to : ℕ) (places : List ℕ) (k : ℕ) → AreLive links labels from to places → from ≤ get_or places k to
+  live_low from to [] k (le, quiet) = le
+  live_low from to (p ∷ places) zero (le, quiet, rest) = le
+  live_low from to (p ∷ places) (suc k) (le, quiet, rest) = omega (arith, le, live_low (p + 1) to places k rest)
+
+  pub live_ascends : (from to : ℕ) (places : List ℕ) (i j : ℕ) → AreLive links labels from to places → i ≤ j → get_or places i to ≤ get_or places j to
+  live_ascends from to [] i j live le = omega arith
+  live_ascends from to (p ∷ places) zero zero live le = omega arith
+  live_ascends from to (p ∷ places) zero (suc j) (le, quiet, rest) more = omega (arith, live_low (p + 1) to places j rest)
+  live_ascends from to (p ∷ places) (suc i) zero live le = absurd (omega (arith, le))
+  live_ascends from to (p ∷ places) (suc i) (suc j) (le, quiet, rest) more = live_ascends (p + 1) to places i j rest (omega (arith, more))
+
+  -- behind the last stands the end of the range
+  pub live_end : (to : ℕ) (places : List ℕ) → get_or places (length places) to ≡ to
+  live_end to [] = refl
+  live_end to (p ∷ places) = live_end to places
 
   -- the range goes on over quiet links
   pub live_goes_on : (from at to : ℕ) (places : List ℕ) → AreLive links labels from at places → at ≤ to → AreQuiet links labels at to → AreLive links labels from to places

@@ -1,6 +1,7 @@
 pub mod BestSoFar
 pub mod Scans
 pub mod Laid
+pub mod Merging
 pub mod Shelves
 pub mod Offering
 pub mod Replying

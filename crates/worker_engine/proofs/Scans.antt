@@ -1,5 +1,5 @@
 -- A pass over a shard's links, with a table of the best place for each label.
-use Rattle.std.proofs.Common.{◌≡◌, ◌≢◌, ℕ, ◌+◌, ◌-◌, ◌<◌, ◌≤◌, ◌^◌, ℤ, w32, to_z, of_z, List, length, get_or, set, replicate, true, false, is_le, Option, Some, None, Ordering, Less, Greater, int_cmp, nat_cmp, refl, sym, ap, ◌∙◌, subst, inl, inr, arith}
+use Rattle.std.proofs.Common.{◌≡◌, ◌≢◌, ℕ, ◌+◌, ◌-◌, ◌<◌, ◌≤◌, ◌^◌, ℤ, w32, to_z, of_z, List, length, get_or, set, replicate, true, false, is_le, Option, Some, None, Ordering, Less, Greater, nat_cmp, refl, sym, ap, ◌∙◌, subst, inl, inr, arith}
 use Rattle.std.specs.Int.Signed.{◌<ℤ◌, lt_z}
 use Rattle.std.specs.Ordering.{ordering_then}
 use Rattle.std.specs.Cmp.{int_cmp_is}
@@ -134,7 +134,7 @@ module _ (links : List Link) (labels : List ℕ) (c from at to : ℕ) (le : from
             (below_from_gt is.link next_is.link (subst (λ k. is_le (key_cmp k next_is.link) ≡ false) (is_kept p is.link says.0 is.here) (subst (λ k. is_le (key_cmp e k) ≡ false) is_next gt)))
 
 -- links that leave no label change nothing
-keeps_out : (links : List Link) (labels : List ℕ) (from at to c : ℕ) (kept : Best) → at ≤ to → NoneLeavesIn links labels at to c → Keeps links labels from at c kept → Keeps links labels from to c kept
+pub keeps_out : (links : List Link) (labels : List ℕ) (from at to c : ℕ) (kept : Best) → at ≤ to → NoneLeavesIn links labels at to c → Keeps links labels from at c kept → Keeps links labels from to c kept
 keeps_out links labels from at to c kept le none keeps = record { best = keeps.best; says = keeps.says; is = best_goes_on links labels c from at to keeps.best le none keeps.is }
 
 -- links whose ends have one label leave none

@@ -7,6 +7,8 @@ ghost use Rattle.frames.specs.FrameStream.{AreLawful};
 ghost use Rattle.worker_engine.specs.Serving.{shelf_of, shelf_with, IsReply, MayWantMemory, AreReplyTo, replies_in};
 ghost use Rattle.worker_engine.specs.Live.{kept_in, AreLive, IsLive, IsAllLive, AreAllLive, AreAllUnder};
 
+mod threads;
+
 use crate::held::Held;
 use crate::scanning::Scanner;
 use frames::{Answer, Frame, Links};

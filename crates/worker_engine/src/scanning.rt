@@ -1,28 +1,30 @@
 //! The light offers of a shard, in one pass over its links.
-ghost use Rattle.std.specs.Prelude.{◌≡◌, ℕ, ◌+◌, ◌<◌, ◌≤◌, length, replicate, Some, IfSome, IfOk, OnOk};
+ghost use Rattle.std.specs.Prelude.{◌≡◌, ℕ, ◌+◌, ◌<◌, ◌≤◌, length, replicate, slice_index_or, Some, IfSome, IfOk, OnOk};
 ghost use Rattle.link_key.specs.Link.{EndsUpTo};
 ghost use Rattle.link_key.specs.Labels.{AreLabels};
 ghost use Rattle.round_theory.specs.Offers.{AreLightOffers};
 ghost use Rattle.worker_engine.specs.Scanning.{no_best, Says, KeepsLesser, AreBest};
 ghost use Rattle.worker_engine.specs.Live.{AreLive};
 
+use crate::parallel::{best_of_all, halvings_of, how_many};
 use limits::MAX_SHARD_LINKS;
 use link_key::{Labels, Link, Offers};
 use std::alloc::{AllocError, Allocator, Global};
 use std::marker::Model;
+use std::thread::Threads;
 
 // What a table keeps for a label: of the links so far that leave it, the least one's weight, and the first place where
 // that link stands. Most comparisons need the weight alone, and so no look at a link anywhere in the list.
 #[derive(Clone, Copy)]
 pub(crate) struct Best {
     weight: i32,
-    place: u32,
+    pub(crate) place: u32,
 }
 
 // The weight and the place of no link: no weight is greater, and no shard has so many links.
 const NO_WEIGHT: i32 = i32::MAX;
 
-const NO_PLACE: u32 = u32::MAX;
+pub(crate) const NO_PLACE: u32 = u32::MAX;
 
 /// The light offers of a shard's links under the labels: for each label that has a link with exactly one end under
 /// it, the least such link, told by the first place where it stands.
@@ -40,6 +42,25 @@ pub fn scan<A: Allocator + Copy, B: Allocator>(
     ensures light { IfOk result (AreLightOffers links.now labels.now) }
 {
     Scanner::new(alloc).scan(links, labels)
+}
+
+/// The same offers as [`scan`] gives, by threads: the links are halved, at most as often as there are processors for, each
+/// part is scanned over a table of its own, and the tables are taken together.
+///
+/// For m links of n vertices in p parts O(m / p + n p) time, and 8 bytes a vertex for each part's table. A part has at
+/// least as many links as there are vertices, and a list of few links, or one for which no thread can be made, is scanned
+/// by the caller's. The only error is want of memory.
+pub fn scan_par<R: Threads + Sync, A: Allocator + Copy + Send + Sync, B: Allocator>(
+    rt: &R,
+    alloc: A,
+    links: &[Link],
+    labels: &Labels<B>,
+) -> Result<Offers<A>, AllocError>
+    requires few_links { length links.now ≤ MAX_SHARD_LINKS }
+    requires ends { EndsUpTo (length labels.now) links.now }
+    ensures light { IfOk result (AreLightOffers links.now labels.now) }
+{
+    Scanner::new(alloc).scan_par(rt, links, labels)
 }
 
 /// Scans one shard after another, each over the table of the one before, so that only the first one, or one of more
@@ -82,7 +103,7 @@ impl<A: Allocator + Copy> Scanner<A> {
     {
         let labels = labels.as_slice();
         clear(&mut self.table, labels)?;
-        find_best(links, labels, self.table.as_mut_slice());
+        find_best(links, labels, 0, links.len(), self.table.as_mut_slice());
         let alloc = *self.table.allocator();
         offers_of(alloc, links, labels, self.table.as_slice())
     }
@@ -98,6 +119,7 @@ impl<A: Allocator + Copy> Scanner<A> {
         requires ends { EndsUpTo (length labels.now) links.now }
         requires live { IfSome live (λ places. AreLive links.now labels.now 0 (length links.now) places.now) }
         ensures light { IfOk result (AreLightOffers links.now labels.now) }
+        ensures table { OnOk result (self.new ≡ length labels.now) }
     {
         match live {
             Some(places) => self.scan_places(links, places, labels),
@@ -115,17 +137,63 @@ impl<A: Allocator + Copy> Scanner<A> {
         requires ends { EndsUpTo (length labels.now) links.now }
         requires live { AreLive links.now labels.now 0 (length links.now) places.now }
         ensures light { IfOk result (AreLightOffers links.now labels.now) }
+        ensures table { OnOk result (self.new ≡ length labels.now) }
     {
         let labels = labels.as_slice();
         clear(&mut self.table, labels)?;
-        find_best_live(links, places, labels, self.table.as_mut_slice());
+        find_all_live(links, places, labels, self.table.as_mut_slice());
         let alloc = *self.table.allocator();
         offers_of(alloc, links, labels, self.table.as_slice())
     }
 }
 
+impl<A: Allocator + Copy + Send + Sync> Scanner<A> {
+    /// The same offers as [`scan`](Scanner::scan) gives, by threads, as [`scan_par`] has it. The only error is want of
+    /// memory, and a scanner goes on after it as before.
+    pub fn scan_par<R: Threads + Sync, B: Allocator>(
+        &mut self,
+        rt: &R,
+        links: &[Link],
+        labels: &Labels<B>,
+    ) -> Result<Offers<A>, AllocError>
+        requires few_links { length links.now ≤ MAX_SHARD_LINKS }
+        requires ends { EndsUpTo (length labels.now) links.now }
+        ensures light { IfOk result (AreLightOffers links.now labels.now) }
+        ensures table { OnOk result (self.new ≡ length labels.now) }
+    {
+        self.scan_live_par(rt, links, None, labels)
+    }
+
+    // The same offers, by the links at the live places alone; by all links where none are told.
+    pub(crate) fn scan_live_par<R: Threads + Sync, B: Allocator>(
+        &mut self,
+        rt: &R,
+        links: &[Link],
+        live: Option<&[u32]>,
+        labels: &Labels<B>,
+    ) -> Result<Offers<A>, AllocError>
+        requires few_links { length links.now ≤ MAX_SHARD_LINKS }
+        requires ends { EndsUpTo (length labels.now) links.now }
+        requires live { IfSome live (λ places. AreLive links.now labels.now 0 (length links.now) places.now) }
+        ensures light { IfOk result (AreLightOffers links.now labels.now) }
+        ensures table { OnOk result (self.new ≡ length labels.now) }
+    {
+        let halvings = halvings_of(rt, how_many(links, live), labels.as_slice().len());
+        if halvings == 0 {
+            return self.scan_live(links, live, labels);
+        }
+        let labels = labels.as_slice();
+        let alloc = *self.table.allocator();
+        self.table = best_of_all(rt, alloc, links, live, labels, halvings)?;
+        offers_of(alloc, links, labels, self.table.as_slice())
+    }
+}
+
 // A table that keeps nothing for each label.
-fn clear<A: Allocator + Copy>(table: &mut Vec<Best, A>, labels: &[u32]) -> Result<(), AllocError>
+pub(crate) fn clear<A: Allocator + Copy>(
+    table: &mut Vec<Best, A>,
+    labels: &[u32],
+) -> Result<(), AllocError>
     ensures none_yet { OnOk result (table.new.items ≡ replicate (length labels.now) no_best) }
 {
     table.clear();
@@ -158,21 +226,23 @@ fn offers_of<A: Allocator + Copy>(
     }
 }
 
-// The pass over all links.
-fn find_best(links: &[Link], labels: &[u32], table: &mut [Best])
+// The pass over the links from a place on before another.
+pub(crate) fn find_best(links: &[Link], labels: &[u32], from: usize, to: usize, table: &mut [Best])
     requires few_links { length links.now ≤ MAX_SHARD_LINKS }
     requires ends { EndsUpTo (length labels.now) links.now }
     requires labels { AreLabels labels.now }
+    requires range { from ≤ to }
+    requires in_list { to ≤ length links.now }
     requires none_yet { table.old ≡ replicate (length labels.now) no_best }
-    ensures best { AreBest links.now labels.now 0 (length links.now) table.new }
+    ensures best { AreBest links.now labels.now from to table.new }
 {
-    for place in 0..links.len() {
+    for place in from..to {
         keep_link(links, labels, place as u32, table);
     }
 }
 
-// The pass over the links at the live places. The others leave no label.
-fn find_best_live(links: &[Link], places: &[u32], labels: &[u32], table: &mut [Best])
+// The pass over the links at all live places.
+fn find_all_live(links: &[Link], places: &[u32], labels: &[u32], table: &mut [Best])
     requires few_links { length links.now ≤ MAX_SHARD_LINKS }
     requires ends { EndsUpTo (length labels.now) links.now }
     requires labels { AreLabels labels.now }
@@ -180,8 +250,30 @@ fn find_best_live(links: &[Link], places: &[u32], labels: &[u32], table: &mut [B
     requires none_yet { table.old ≡ replicate (length labels.now) no_best }
     ensures best { AreBest links.now labels.now 0 (length links.now) table.new }
 {
-    for place in places {
-        keep_link(links, labels, *place, table);
+    find_best_live(links, places, labels, 0, places.len(), table);
+}
+
+// The pass over the links at the live places from one on before another. The others leave no label.
+pub(crate) fn find_best_live(
+    links: &[Link],
+    places: &[u32],
+    labels: &[u32],
+    from: usize,
+    to: usize,
+    table: &mut [Best],
+)
+    requires few_links { length links.now ≤ MAX_SHARD_LINKS }
+    requires ends { EndsUpTo (length labels.now) links.now }
+    requires labels { AreLabels labels.now }
+    requires live { AreLive links.now labels.now 0 (length links.now) places.now }
+    requires range { from ≤ to }
+    requires in_list { to ≤ length places.now }
+    requires none_yet { table.old ≡ replicate (length labels.now) no_best }
+    ensures best { AreBest links.now labels.now
+        (slice_index_or places.now from (length links.now)) (slice_index_or places.now to (length links.now)) table.new }
+{
+    for i in from..to {
+        keep_link(links, labels, places[i], table);
     }
 }
 
@@ -212,7 +304,7 @@ fn keep_link(links: &[Link], labels: &[u32], place: u32, table: &mut [Best])
 // Keeps the next link where it is less than the best one so far, or the first one. Mostly it is neither, and then
 // nothing is stored.
 #[inline]
-fn keep_lesser(best: &mut Best, links: &[Link], next: Best)
+pub(crate) fn keep_lesser(best: &mut Best, links: &[Link], next: Best)
     requires few_links { length links.now ≤ MAX_SHARD_LINKS }
     requires next { Says links.now next (Some next.place) }
     ensures lesser { KeepsLesser links.now next best.old best.new }

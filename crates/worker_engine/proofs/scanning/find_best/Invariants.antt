@@ -1,5 +1,6 @@
+use Rattle.std.proofs.Common.{◌≤◌}
 use Rattle.worker_engine.specs.Scanning.{AreBest}
 use Rattle.worker_engine.proofs.scanning.find_best.Given as goal
 
 abbrev pub invariant-loop-place : goal.invariant-loop-place
-invariant-loop-place l = AreBest l.links l.labels 0 l.place l.table
+invariant-loop-place l = (l.from ≤ l.place) × AreBest l.links l.labels l.from l.place l.table

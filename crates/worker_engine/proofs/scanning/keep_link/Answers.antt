@@ -1,10 +1,10 @@
-use Rattle.std.proofs.Common.{pos, ◌≡◌, ◌≢◌, ◌+◌, ◌-◌, get_or, set, refl, sym, subst, arith}
+use Rattle.std.proofs.Common.{pos, ◌≡◌, ◌≢◌, ◌+◌, ◌-◌, get_or, refl, sym, subst, arith}
 use Rattle.std.proofs.lemmas.List.{get_or-set_other}
 use Rattle.link_key.specs.Labels.{label_of}
 use Rattle.round_theory.proofs.Leaving.{leaves_low, leaves_high}
 use Rattle.round_theory.proofs.OfferSteps.{left_label_is_vertex}
 use Rattle.worker_engine.specs.declared.scanning.Best.{Best}
-use Rattle.worker_engine.specs.Scanning.{Keeps, AreBest}
+use Rattle.worker_engine.specs.Scanning.{Keeps}
 use Rattle.worker_engine.proofs.BestSoFar.{one_read, best_alone}
 use Rattle.worker_engine.proofs.Scans.{bests_stay, bests_change, kept_at, end_at}
 use Rattle.worker_engine.proofs.scanning.keep_link.Goals as goal
