@@ -8,8 +8,9 @@ use link_key::{Labels, Link, Offers, Shard};
 use std::alloc::{AllocError, Global};
 use std::process::Abort;
 use std::test::Fail;
+use std::thread::Threads;
 use worked_graphs::{have_labels, links_of};
-use worker_engine::{Engine, Scanner, ServeFault, Served, scan, serve, serve_upto};
+use worker_engine::{Engine, Scanner, ServeFault, Served, scan, scan_par, serve, serve_upto};
 
 const HELLO: [u8; 11] = [1, 0, 0, 0, 6, 0, 1, 0, 0, 0, 0];
 
@@ -147,6 +148,11 @@ fn a_scan_of_the_triangle(rt: HostRuntime) -> Result<(), Fail> {
     assert!(rt; links.len() <= 1 << 24);
     let offers = scan(rt.alloc(), links.as_slice(), &labels)?;
     assert_eq!(rt; offers.pairs(), [(1, 0), (2, 0), (3, 2)].as_slice());
+    let by_threads = scan_par(&rt, rt.alloc(), links.as_slice(), &labels)?;
+    assert_eq!(rt; by_threads.pairs(), offers.pairs());
+    let mut scanner = Scanner::new(rt.alloc());
+    let once_more = scanner.scan_par(&rt, links.as_slice(), &labels)?;
+    assert_eq!(rt; once_more.pairs(), offers.pairs());
     Ok(())
 }
 
@@ -440,12 +446,12 @@ fn links_laid_aside_are_live_again(rt: HostRuntime) -> Result<(), Fail> {
     Ok(())
 }
 
-// Components of so many neighbours each, named by the first.
-fn neighbours(rt: &impl Abort, alloc: Global, size: u32) -> Result<Labels, Fail>
+// Components of so many of n neighbours each, named by the first.
+fn neighbours(rt: &impl Abort, alloc: Global, n: u32, size: u32) -> Result<Labels, Fail>
     requires { 0 < size }
 {
     let mut list = Vec::new(alloc);
-    for i in 0..MANY {
+    for i in 0..n {
         list.push(i.wrapping_sub(i % size).wrapping_add(1))?;
     }
     Ok(Labels::of_list(list).expect(rt, "labels"))
@@ -466,14 +472,109 @@ fn many_links_laid_aside(rt: HostRuntime) -> Result<(), Fail> {
         assert!(rt; engine.hear(shard)?.is_none());
     }
     for size in [1, 2, 10, 50, 50, 1000, 2, 10, 1] {
-        let labels = neighbours(&rt, alloc, size)?;
+        let labels = neighbours(&rt, alloc, MANY, size)?;
         let expected = plain_offers(&rt, alloc, links.as_slice(), &labels)?;
         let first = answered(&rt, &mut engine, 0, labels)?;
         assert_eq!(rt; first.pairs(), expected.as_slice());
         if size != 10 {
-            let second = answered(&rt, &mut engine, 1, neighbours(&rt, alloc, size)?)?;
+            let second = answered(&rt, &mut engine, 1, neighbours(&rt, alloc, MANY, size)?)?;
             assert_eq!(rt; second.pairs(), expected.as_slice());
         }
     }
+    Ok(())
+}
+
+// Ten thousand links between 1,007 vertices, each near the next.
+fn near_links(rt: &impl Abort, alloc: Global) -> Result<Vec<Link>, AllocError> {
+    let mut arcs = Vec::new(alloc);
+    for i in 0..MANY {
+        let low = i % 1000 + 1;
+        let weight = i.wrapping_mul(7919) % 101;
+        arcs.push((low, low + i % 7 + 1, weight.cast_signed()))?;
+    }
+    Ok(links_of(alloc, NEAR, arcs.as_slice())?.expect(rt, "arcs"))
+}
+
+const NEAR: u32 = 1010;
+
+// The scan by threads of links that are few enough and whose ends all have labels.
+fn scanned_by_threads(
+    rt: &(impl Abort + Threads + Sync),
+    alloc: Global,
+    links: &[Link],
+    labels: &Labels,
+) -> Result<Offers, Fail> {
+    assert!(rt; links.len() <= 1 << 24);
+    assert!(rt; have_labels(links, labels.n()));
+    let offers = scan_par(rt, alloc, links, labels)?;
+    Ok(offers)
+}
+
+// Another program counted the offers, and told these of them.
+#[test]
+fn a_scan_by_threads_is_that_of_one(rt: HostRuntime) -> Result<(), Fail> {
+    let links = near_links(&rt, rt.alloc())?;
+    let labels = Labels::apart(rt.alloc(), NEAR)?;
+    let offers = scanned_by_threads(&rt, rt.alloc(), links.as_slice(), &labels)?;
+    let by_one = scanned(&rt, rt.alloc(), links.as_slice(), &labels)?;
+    assert_eq!(rt; offers.pairs(), by_one.pairs());
+    let pairs = offers.pairs();
+    assert_eq!(rt; pairs.len(), 1007);
+    assert_eq!(rt; &pairs[..3], [(1, 0), (2, 0), (3, 9002)].as_slice());
+    assert_eq!(rt; pairs[503], (504, 3503));
+    let last = [(1005, 8999), (1006, 7999), (1007, 6999)];
+    assert_eq!(rt; &pairs[1004..], last.as_slice());
+    Ok(())
+}
+
+// The offers that the engine answers to an ask of shard 0 under these labels, by threads.
+fn answered_by_threads(
+    rt: &(impl Abort + Threads + Sync),
+    engine: &mut Engine,
+    labels: Labels,
+) -> Result<Offers, Fail> {
+    let ask = Frame::Ask {
+        round: 1,
+        shard: 0,
+        labels,
+    };
+    assert!(rt; ask.is_lawful());
+    match engine.hear_par(rt, ask)?.expect(rt, "a reply") {
+        Frame::Answer(answer) => Ok(answer.offers),
+        _ => panic!(rt; "no answer"),
+    }
+}
+
+// Asks as components grow, and then under labels that don't coarsen the last: by live places, and by all.
+#[test]
+fn near_links_laid_aside_by_threads(rt: HostRuntime) -> Result<(), Fail> {
+    let alloc = rt.alloc();
+    let mut engine = Engine::new(alloc);
+    let links = near_links(&rt, alloc)?;
+    let shard = Frame::Shard {
+        number: 0,
+        links: Links::of_list(near_links(&rt, alloc)?),
+    };
+    assert!(rt; shard.is_lawful());
+    assert!(rt; engine.hear_par(&rt, shard)?.is_none());
+    for size in [1, 2, 2, 4, 4, 1000, 2, 10, 1] {
+        let labels = neighbours(&rt, alloc, NEAR, size)?;
+        let expected = plain_offers(&rt, alloc, links.as_slice(), &labels)?;
+        let offers = answered_by_threads(&rt, &mut engine, labels)?;
+        assert_eq!(rt; offers.pairs(), expected.as_slice());
+    }
+    Ok(())
+}
+
+#[test]
+fn a_triangle_by_threads(rt: HostRuntime) -> Result<(), Fail> {
+    let alloc = rt.alloc();
+    let mut engine = Engine::new(alloc);
+    let mut source = SHARD.as_slice();
+    let shard = read_frame(alloc, &mut source)?;
+    assert!(rt; engine.hear_par(&rt, shard)?.is_none());
+    let labels = Labels::apart(alloc, 3)?;
+    let offers = answered_by_threads(&rt, &mut engine, labels)?;
+    assert_eq!(rt; offers.pairs(), [(1, 0), (2, 0), (3, 2)].as_slice());
     Ok(())
 }
