@@ -1,8 +1,7 @@
 -- Light offers of a shard are such as an answer may say.
-use Rattle.std.proofs.Common.{◌≡◌, ◌≢◌, ℕ, ◌+◌, ◌*◌, ◌<◌, ◌≤◌, List, [], ◌∷◌, ◌++◌, length, map, get_or, Contains, true, false, refl, sym, ap, ◌∙◌, subst, inl, inr, arith, length-append}
+use Rattle.std.proofs.Common.{◌≡◌, ℕ, ◌*◌, ◌<◌, ◌≤◌, List, ◌++◌, length, map, get_or, Contains, refl, sym, ap, ◌∙◌, subst, inl, inr, arith, length-append}
 use Rattle.std.specs.Prelude.{All, ◌^◌}
-use Rattle.std.specs.List.{IsDistinct, list_any}
-use Rattle.std.specs.Set.{is_member}
+use Rattle.std.specs.List.{IsDistinct}
 use Rattle.std.proofs.Math.Dec.{eqb}
 use Rattle.std.proofs.lemmas.List.{get_or-map, length-map}
 use Rattle.std.proofs.lemmas.List.Elements.{Contains-get_or, Contains-append_left, Contains-append_right}
@@ -12,8 +11,7 @@ use Rattle.std.proofs.lemmas.Map.Made.{length-le_from_is_member}
 use Rattle.link_key.specs.declared.links.Link.{Link}
 use Rattle.link_key.specs.Link.{EndsUpTo}
 use Rattle.link_key.specs.Labels.{label_of, AreLabels}
-use Rattle.link_key.specs.Offers.{Offer, AreOffers}
-use Rattle.round_theory.specs.Labelling.{IsVertex}
+use Rattle.link_key.specs.Offers.{Offer}
 use Rattle.round_theory.specs.Offers.{IsLightOffer, AreLightOffers}
 use Rattle.round_theory.proofs.Lists.{set_ends}
 use Rattle.round_theory.proofs.Leaving.{leaves_end}

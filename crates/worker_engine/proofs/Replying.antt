@@ -1,7 +1,6 @@
 -- Replies to frames, one after the other.
-use Rattle.std.proofs.Common.{◌≡◌, ℕ, ◌+◌, ◌<◌, ◌≤◌, ◌^◌, Option, Some, None, List, [], ◌∷◌, ◌++◌, length, refl, sym, ap, subst, ◌∙◌, inl, inr, append_assoc, append-nil, arith}
-use Rattle.std.specs.Prelude.{◌↔◌, ◌⊎◌, IfSome, IsSome, ◌==◌, if◌then◌else◌}
-use Rattle.std.proofs.lemmas.Bool.{eq-eqb, ne_eqb}
+use Rattle.std.proofs.Common.{◌≡◌, ℕ, ◌+◌, ◌≤◌, Option, Some, None, List, [], ◌∷◌, ◌++◌, length, refl, sym, ap, subst, ◌∙◌, inl, inr, append_assoc, append-nil, arith}
+use Rattle.std.specs.Prelude.{◌↔◌, ◌⊎◌, IfSome, IsSome, if◌then◌else◌}
 use Rattle.std.proofs.lemmas.Bool.Decides.{eqb_tells}
 use Rattle.std.proofs.lemmas.List.{length-append}
 use Rattle.limits.specs.declared.TheConstants.{MAX_SHARD_LINKS}
@@ -12,11 +11,11 @@ use Rattle.round_theory.proofs.LightOffers.{light_offers_unique}
 use Rattle.frames.specs.AnswerValue.{AnswerValue}
 use Rattle.frames.specs.FrameValue.{FrameValue, HelloFrame, ShardFrame, AskFrame, AnswerFrame, FaultFrame}
 use Rattle.frames.specs.FrameText.{text_of}
-use Rattle.frames.specs.Lawful.{IsLawful, IsAsk, IsFault}
-use Rattle.frames.specs.FrameStream.{texts_of, AreLawful, AreFramesOf}
+use Rattle.frames.specs.Lawful.{IsLawful, IsAsk}
+use Rattle.frames.specs.FrameStream.{texts_of, AreLawful}
 use Rattle.frames.proofs.Texts.{parts_same}
-use Rattle.frames.proofs.FrameStreams.{texts-append, lawful-append, lawful_prefix, prefix_has_prefix_frames}
-use Rattle.worker_engine.specs.Serving.{Shelf, empty_shelf, shelf_with, shelf_after, AreShort, IsAnswerTo, IsReply, IsWantOfMemory, MayReply, AreReplyTo, MayFollow, AreReplies, Serves, ask_bit, asks_in}
+use Rattle.frames.proofs.FrameStreams.{texts-append, lawful-append, prefix_has_prefix_frames}
+use Rattle.worker_engine.specs.Serving.{Shelf, empty_shelf, shelf_with, shelf_after, AreShort, IsAnswerTo, IsReply, MayReply, AreReplyTo, MayFollow, AreReplies, Serves, ask_bit, asks_in}
 use Rattle.worker_engine.proofs.Offering.{light_answer_is_lawful}
 
 -- what is written for frames that stand behind others comes behind what is written for those

@@ -1,12 +1,12 @@
 -- A session, frame by frame.
-use Rattle.std.proofs.Common.{◌≡◌, ℕ, ◌+◌, List, [], ◌∷◌, ◌++◌, length, drop, refl, sym, ap, subst, ◌∙◌, append_assoc, append-nil, arith}
+use Rattle.std.proofs.Common.{◌≡◌, ℕ, ◌+◌, List, [], ◌∷◌, ◌++◌, length, drop, refl, sym, ap, subst, ◌∙◌, append_assoc, append-nil}
 use Rattle.std.proofs.lemmas.List.{length-append, drop_at}
 use Rattle.frames.specs.FrameValue.{FrameValue, HelloFrame}
 use Rattle.frames.specs.FrameText.{text_of}
 use Rattle.frames.specs.Lawful.{IsLawful}
-use Rattle.frames.specs.FrameStream.{texts_of, BeginsNone, AreFramesOf}
+use Rattle.frames.specs.FrameStream.{texts_of, BeginsNone}
 use Rattle.frames.proofs.FrameStreams.{texts-append, texts-one, lawful-append}
-use Rattle.worker_engine.specs.Serving.{Shelf, empty_shelf, shelf_with, shelf_after, MayFollow, AreReplies, Serves}
+use Rattle.worker_engine.specs.Serving.{Shelf, empty_shelf, shelf_with, MayFollow, Serves}
 use Rattle.worker_engine.specs.Session.{InSession}
 use Rattle.worker_engine.proofs.Replying.{replies_more, shelf_after-append}
 

@@ -1,5 +1,5 @@
 -- A session over a source and a sink, frame by frame.
-use Rattle.std.proofs.Common.{◌≡◌, ◌≢◌, ℕ, ◌+◌, ◌<◌, ◌≤◌, Option, Some, None, List, [], ◌∷◌, ◌++◌, length, take, refl, sym, ap, subst, ◌∙◌, inl, inr, append_assoc, append-nil, arith}
+use Rattle.std.proofs.Common.{◌≡◌, ◌≢◌, ℕ, ◌+◌, ◌<◌, Option, Some, None, List, [], ◌∷◌, ◌++◌, length, take, refl, sym, ap, subst, ◌∙◌, inl, inr, append_assoc, append-nil, arith}
 use Rattle.std.specs.Prelude.{IsSome, Result, Ok, Err, IfOk, IfErr, OnOk, OnErr}
 use Rattle.std.proofs.lemmas.List.{length-append}
 use Rattle.std.proofs.Math.Seq.{take-append-add}
@@ -19,8 +19,8 @@ use Rattle.worker_engine.specs.declared.session.ServeFault.{ServeFault}
 use Rattle.worker_engine.specs.declared.session.ServeFault.TheVariants.{Read, Write, Memory, TooMany}
 use Rattle.worker_engine.specs.declared.session.Written.{Written}
 use Rattle.worker_engine.specs.declared.session.Written.TheVariants.{AFault}
-use Rattle.worker_engine.specs.Serving.{Shelf, empty_shelf, shelf_with, shelf_after, IsReply, MayReply, IsWantOfMemory, AreReplyTo, MayFollow, AreReplies, Serves, MayWantMemory}
-use Rattle.worker_engine.specs.Served.{answer_bit, answers_in, fault_bit, faults_in, Heard, AreCounts, EndsWell, EndsAtRead, EndsAtWrite, EndsAtMemory, EndsAtLimit, EndsBy, IsTold, Stepped, ask_in, StandsFor, WroteFor, CutFor, CutOff, CutReply, Failed, Ungreeted}
+use Rattle.worker_engine.specs.Serving.{Shelf, empty_shelf, shelf_with, shelf_after, IsReply, MayReply, IsWantOfMemory, AreReplyTo, MayFollow, AreReplies, MayWantMemory}
+use Rattle.worker_engine.specs.Served.{answer_bit, answers_in, fault_bit, faults_in, Heard, EndsWell, EndsAtRead, EndsAtLimit, EndsBy, IsTold, Stepped, ask_in, StandsFor, WroteFor, CutFor, CutOff, CutReply, Failed, Ungreeted}
 use Rattle.worker_engine.proofs.Replying.{replies_more, shelf_after-append}
 
 hello_of : ℕ → List ℕ

@@ -8,7 +8,7 @@ use Rattle.round_theory.proofs.Worked.{first_light}
 use Rattle.frames.specs.FrameValue.{FrameValue, AskFrame, AnswerFrame, FaultFrame}
 use Rattle.worker_engine.specs.Serving.{empty_shelf, IsAnswerTo, MayReply, MayFollow}
 use Rattle.worker_engine.proofs.Replying.{one_answer, kept_reply}
-use Rattle.worker_engine.specs.Examples.{one_shard, the_answer, AnswerOrCodeOne, CodeThreeOrCodeOne, CodeTwoAlone, CodeTwoAtFirst}
+use Rattle.worker_engine.specs.Examples.{one_shard, the_answer, AnswerOrCodeOne, CodeThreeOrCodeOne}
 
 -- every end has a label
 part_ends : EndsUpTo 3 first_part.shard

@@ -1,4 +1,4 @@
-use Rattle.std.proofs.Common.{rules, ◌≡◌}
+use Rattle.std.proofs.Common.{rules}
 use Rattle.worker_engine.proofs.Shelves.{kept_by_retain}
 use Rattle.worker_engine.proofs.engine.make_all_live.Goals as goal
 

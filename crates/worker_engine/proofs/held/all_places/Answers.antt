@@ -1,4 +1,4 @@
-use Rattle.std.proofs.Common.{◌+◌, ◌++◌, ◌∷◌, [], subst, arith}
+use Rattle.std.proofs.Common.{arith}
 use Rattle.worker_engine.proofs.Laid.{live_push}
 use Rattle.worker_engine.proofs.held.all_places.Goals as goal
 

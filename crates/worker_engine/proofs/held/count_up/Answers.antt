@@ -1,4 +1,4 @@
-use Rattle.std.proofs.Common.{length, take, ◌≡◌, ◌∙◌, sym, subst, arith}
+use Rattle.std.proofs.Common.{length, ◌≡◌, subst, arith}
 use Rattle.std.proofs.lemmas.List.{take_all}
 use Rattle.worker_engine.specs.Live.{LeaveNoneOut}
 use Rattle.worker_engine.proofs.Laid.{live_counted}

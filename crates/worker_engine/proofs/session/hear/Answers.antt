@@ -1,6 +1,6 @@
-use Rattle.std.proofs.Common.{◌≡◌, List, [], ◌∷◌, Some, sym, ap, subst, ◌∙◌}
+use Rattle.std.proofs.Common.{[], ◌∷◌, sym, ap, subst, ◌∙◌}
 use Rattle.std.specs.Prelude.{IfOk}
-use Rattle.frames.specs.FrameValue.{FrameValue, value_of}
+use Rattle.frames.specs.FrameValue.{value_of}
 use Rattle.worker_engine.specs.Serving.{Kept, shelf_of, AreReplyTo, replies_in}
 use Rattle.worker_engine.proofs.Steps.{stepped_for, failed_for, stepped_at_want, failed_at_want}
 use Rattle.worker_engine.proofs.session.hear.Goals as goal

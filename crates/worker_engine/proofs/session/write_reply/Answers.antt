@@ -1,4 +1,4 @@
-use Rattle.std.proofs.Common.{◌≡◌, refl, sym, ap, subst, ◌∙◌, inr}
+use Rattle.std.proofs.Common.{refl, sym, ap, subst, inr}
 use Rattle.frames.specs.AnswerValue.{AnswerValue}
 use Rattle.frames.specs.FrameValue.{FrameValue, FaultFrame, value_of}
 use Rattle.worker_engine.specs.Served.{StandsFor}

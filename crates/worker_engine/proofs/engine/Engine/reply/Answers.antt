@@ -1,10 +1,10 @@
-use Rattle.std.proofs.Common.{◌≡◌, ℕ, List, Some, None, IsTrue, true, false, length, refl, sym, ap, ◌∙◌, subst, rules, arith}
-use Rattle.std.specs.Prelude.{IfSome, IsSome, ◌≤◌, ◌^◌}
+use Rattle.std.proofs.Common.{List, length, refl, sym, ap, ◌∙◌, subst, rules, arith}
+use Rattle.std.specs.Prelude.{IfSome, ◌≤◌, ◌^◌}
 use Rattle.link_key.specs.declared.links.Link.{Link}
 use Rattle.link_key.specs.Link.{EndsUpTo}
 use Rattle.round_theory.specs.Offers.{AreLightOffers}
 use Rattle.worker_engine.specs.Live.{AreLive}
-use Rattle.worker_engine.specs.Serving.{Kept, shelf_of, IsReply}
+use Rattle.worker_engine.specs.Serving.{Kept, shelf_of}
 use Rattle.worker_engine.proofs.Shelves.{shelf_some, shelf_none, under_coarser, live_there}
 use Rattle.worker_engine.proofs.Offering.{light_answer_is_lawful}
 use Rattle.worker_engine.proofs.engine.Engine.reply.Goals as goal
