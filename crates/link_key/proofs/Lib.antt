@@ -13,6 +13,8 @@ pub mod Spans
 pub mod EvenSizes
 pub mod Greatest
 pub mod Spanning
+pub mod Parts
 pub mod Touching
 pub mod Stages
-pub mod Parts
+pub mod Opened
+pub mod Filling

@@ -1,5 +1,5 @@
 -- The forest found round by round: what is taken is in it, and what is left is still to be joined.
-use Rattle.std.proofs.Common.{◌≡◌, ◌≢◌, ℕ, ◌+◌, ◌<◌, ◌≤◌, ◌⊎◌, ◌↔◌, ◌==◌, if◌then◌else◌, Bool, true, false, not, cond, List, [], ◌∷◌, Contains, length, get_or, refl, sym, ap, ◌∙◌, subst, inl, inr, arith}
+use Rattle.std.proofs.Common.{◌≡◌, ◌≢◌, ℕ, ◌+◌, ◌<◌, ◌≤◌, ◌⊎◌, ◌↔◌, Bool, true, false, not, cond, List, [], ◌∷◌, Contains, length, get_or, refl, sym, ap, ◌∙◌, subst, inl, inr, arith}
 use Rattle.std.specs.List.{AllByRecursion, filter, All}
 use Rattle.std.proofs.lemmas.List.Elements.{All-contains, Contains-get_or}
 use Rattle.std.proofs.lemmas.List.Filters.{length-filter_both}
@@ -11,7 +11,9 @@ use Rattle.link_key.specs.Link.{EndsUpTo}
 use Rattle.link_key.specs.Walk.{IsWalk, Joins}
 use Rattle.link_key.specs.Forest.{LinksBelow, IsForestLink}
 use Rattle.link_key.specs.Components.{HasOneLabel}
-use Rattle.link_key.specs.Rounds.{is_apart, LeavesLabel, IsLeastOut, AreVertexLabels, AreNumbers, AreTouched, AreRenamed, IsStage, IsLightPart, number_of}
+use Rattle.link_key.specs.Rounds.{is_apart, renamed, LeavesLabel, IsLeastOut, AreLabelsUpTo, IsStage, IsLightPart}
+use Rattle.link_key.specs.OpenLinks.{AreTouched, AreFilled, AreAllNumbers, number_of}
+use Rattle.std.proofs.lemmas.List.{get_or-map, length-map}
 use Rattle.link_key.proofs.Members.{contains_cases, contains_head, contains_tail, contains_none}
 use Rattle.link_key.proofs.Walks.{joins_same, joins_symm, joins_replace, joins_more}
 use Rattle.link_key.proofs.Spanning.{spanning_part}
@@ -98,110 +100,99 @@ least_is_forest_link {links} {rest} {later} {labels} stage c l is = (stage.among
           ]
         ]
 
-module _ {labels labels' numbers : List ℕ} (renamed : AreRenamed numbers labels labels') where
-  renamed_to : (v : ℕ) → v < length labels → 0 < number_of labels numbers v → get_or labels' v 0 ≡ number_of labels numbers v
-  renamed_to v v_in some = let is = renamed.is v v_in in grind (arith, nat_tests)
+-- a label's number is the new label
+pub renamed_to : (numbers labels : List ℕ) (v : ℕ) → v < length labels → get_or (renamed numbers labels) v 0 ≡ number_of labels numbers v
+renamed_to numbers labels v v_in = get_or-map (λ (c : ℕ). get_or numbers c 0) labels v 0 0 v_in
 
-  not_renamed : (v : ℕ) → v < length labels → number_of labels numbers v ≡ 0 → get_or labels' v 0 ≡ get_or labels v 0
-  not_renamed v v_in none = let is = renamed.is v v_in in grind (arith, nat_tests)
+pub renamed_len : (numbers labels : List ℕ) → length (renamed numbers labels) ≡ length labels
+renamed_len numbers labels = length-map labels (λ (c : ℕ). get_or numbers c 0)
 
-  -- labels that were one are one
-  pub renamed_same : (u v : ℕ) → u < length labels → v < length labels → get_or labels u 0 ≡ get_or labels v 0 → get_or labels' u 0 ≡ get_or labels' v 0
-  renamed_same u v u_in v_in same = renamed.is u u_in ∙ ap (λ k. if get_or numbers k 0 == 0 then k else get_or numbers k 0) same ∙ sym (renamed.is v v_in)
+-- labels that were one are one
+renamed_same : (numbers labels : List ℕ) (u v : ℕ) → u < length labels → v < length labels → get_or labels u 0 ≡ get_or labels v 0 → get_or (renamed numbers labels) u 0 ≡ get_or (renamed numbers labels) v 0
+renamed_same numbers labels u v u_in v_in same = renamed_to numbers labels u u_in ∙ ap (λ c. get_or numbers c 0) same ∙ sym (renamed_to numbers labels v v_in)
 
-  -- and labels of one number become one
-  renamed_numbers : (u v : ℕ) → u < length labels → v < length labels → 0 < number_of labels numbers u → 0 < number_of labels numbers v → number_of labels numbers u ≡ number_of labels numbers v → get_or labels' u 0 ≡ get_or labels' v 0
-  renamed_numbers u v u_in v_in some some' same = renamed_to u u_in some ∙ same ∙ sym (renamed_to v v_in some')
+-- each label gets a number, so the new labels are up to the last
+pub renamed_labels : {count last : ℕ} {numbers labels : List ℕ} → length numbers ≡ count + 1 → AreAllNumbers last numbers → AreLabelsUpTo count labels → AreLabelsUpTo last (renamed numbers labels)
+renamed_labels {count} {last} {numbers} {labels} len all are = record {
+  in_range = λ v v_in. subst (λ k. k ≤ last) (sym (renamed_to numbers labels v (inside v v_in))) (all.at_most (get_or labels v 0));
+  some = λ v from_one v_in.
+      let v_in' = inside v v_in in
+      let most = are.in_range v v_in' in
+      subst (λ k. 0 < k) (sym (renamed_to numbers labels v v_in')) (all.some (get_or labels v 0) (are.some v from_one v_in') (omega (arith, most, len)));
+}
+  where
+    inside : (v : ℕ) → v < length (renamed numbers labels) → v < length labels
+    inside v v_in = subst (λ k. v < k) (renamed_len numbers labels) v_in
 
-  pub renamed_labels : AreVertexLabels labels → AreNumbers numbers → length numbers ≡ length labels → AreVertexLabels labels'
-  renamed_labels are numbers_are len = record {
-    in_range = λ v v_in. subst (λ k. get_or labels' v 0 < k) (sym renamed.len) (inside v (subst (λ k. v < k) renamed.len v_in));
-    some = λ v from_one v_in. some v from_one (subst (λ k. v < k) renamed.len v_in);
-  }
-    where
-      inside : (v : ℕ) → v < length labels → get_or labels' v 0 < length labels
-      inside v v_in = elim (cases_lt 0 (number_of labels numbers v)) [
-        | inl had ↦ subst (λ k. k < length labels) (sym (renamed_to v v_in had)) (subst (λ k. number_of labels numbers v < k) len (numbers_are.in_range (get_or labels v 0) (subst (λ k. get_or labels v 0 < k) (sym len) (are.in_range v v_in))))
-        | inr none ↦ subst (λ k. k < length labels) (sym (not_renamed v v_in (omega (arith, none)))) (are.in_range v v_in)
+-- A round: what is left is what its new labels leave apart.
+pub round_stage : {count last : ℕ} {links later rest rest' before after : List Link} {labels numbers filled : List ℕ} → AreLabelsUpTo count labels → AreTouched labels rest rest numbers before after → AreFilled numbers filled → length filled ≡ count + 1 → AreAllNumbers last filled → ((l : Link) → Contains rest' l → Contains rest l × ¬ (HasOneLabel (renamed filled labels) l)) → ((l : Link) → Contains rest l → ¬ (HasOneLabel (renamed filled labels) l) → Contains rest' l) → IsStage links rest later labels before → IsStage links rest' later (renamed filled labels) after
+round_stage {count} {last} {links} {later} {rest} {rest'} {before} {after} {labels} {numbers} {filled} up_to touched are len all left_in left_if stage = record {
+  ends = λ l l_in. subst (λ k. l.high < k) (sym (renamed_len filled labels)) (stage.ends l l_in);
+  joined = λ u v u_in v_in same.
+      let u_in' = inside u u_in in
+      let v_in' = inside v v_in in
+      joined u v u_in' v_in' (sym (renamed_to filled labels u u_in') ∙ same ∙ renamed_to filled labels v v_in');
+  forest = forest;
+  among = λ l l_in. stage.among l (left_in l l_in).0;
+  apart = λ l l_in. (left_in l l_in).1;
+  left = left;
+  above = λ l m l_in m_in. stage.above l m (left_in l l_in).0 m_in;
+}
+  where
+    inside : (v : ℕ) → v < length (renamed filled labels) → v < length labels
+    inside v v_in = subst (λ k. v < k) (renamed_len filled labels) v_in
+
+    forest : (l : Link) → Contains after l → IsForestLink links l
+    forest l l_in = elim (touched.least l l_in) [
+      | inl old ↦ stage.forest l old
+      | inr new ↦ let (c, is) = new.1 (stage.apart l new.0) in least_is_forest_link stage c l is
+    ]
+
+    left : (l : Link) → Contains links l → HasOneLabel (renamed filled labels) l ⊎ Contains rest' l ⊎ Contains later l
+    left l l_in = elim (stage.left l l_in) [
+      | inl same ↦
+          let high_in = stage.ends l l_in in
+          let low_in : l.low < length labels = let ascending = l.ascending in omega (arith, ascending, high_in) in
+          inl (renamed_same filled labels l.low l.high low_in high_in same)
+      | inr other ↦ elim other [
+        | inl l_in_rest ↦ elim (cases_eq (get_or (renamed filled labels) l.low 0) (get_or (renamed filled labels) l.high 0)) [
+          | inl same ↦ inl same
+          | inr apart ↦ inr (inl (left_if l l_in_rest apart))
+        ]
+        | inr put_off ↦ inr (inr put_off)
       ]
+    ]
 
-      some : (v : ℕ) → 0 < v → v < length labels → 0 < get_or labels' v 0
-      some v from_one v_in = elim (cases_lt 0 (number_of labels numbers v)) [
-        | inl had ↦ subst (λ k. 0 < k) (sym (renamed_to v v_in had)) had
-        | inr none ↦ subst (λ k. 0 < k) (sym (not_renamed v v_in (omega (arith, none)))) (are.some v from_one v_in)
+    old_joined : (u v : ℕ) → u < length labels → v < length labels → get_or labels u 0 ≡ get_or labels v 0 → Joins (Contains after) u v
+    old_joined u v u_in v_in same = joins_more (Contains before) (Contains after) touched.kept u v (stage.joined u v u_in v_in same)
+
+    -- a label that nothing touched shares its number with no other
+    alone : (u v : ℕ) → u < length labels → v < length labels → number_of labels numbers u ≡ 0 → number_of labels filled u ≡ number_of labels filled v → get_or labels u 0 ≡ get_or labels v 0
+    alone u v u_in v_in none same = elim (cases_lt 0 (number_of labels filled u)) [
+      | inl had ↦ are.alone (get_or labels u 0) (get_or labels v 0) had none same
+      | inr zero_is ↦
+          let u_zero = is_zero u u_in (omega (arith, zero_is)) in
+          let v_zero = is_zero v v_in (omega (arith, zero_is, same)) in
+          u_zero ∙ sym v_zero
+    ]
+      where
+        is_zero : (w : ℕ) → w < length labels → number_of labels filled w ≡ 0 → get_or labels w 0 ≡ 0
+        is_zero w w_in none' = elim (cases_lt 0 (get_or labels w 0)) [
+          | inl some ↦
+              let most = up_to.in_range w w_in in
+              let had = all.some (get_or labels w 0) some (omega (arith, most, len)) in
+              absurd (omega (arith, none', had))
+          | inr is ↦ omega (arith, is)
+        ]
+
+    joined : (u v : ℕ) → u < length labels → v < length labels → number_of labels filled u ≡ number_of labels filled v → Joins (Contains after) u v
+    joined u v u_in v_in same = elim (cases_lt 0 (number_of labels numbers u)) [
+      | inl had ↦ elim (cases_lt 0 (number_of labels numbers v)) [
+        | inl had' ↦ touched.joined stage.joined u v u_in v_in had (sym (are.kept (get_or labels u 0) had) ∙ same ∙ are.kept (get_or labels v 0) had')
+        | inr none' ↦ old_joined u v u_in v_in (sym (alone v u v_in u_in (omega (arith, none')) (sym same)))
       ]
-
-  module _ {rest : List Link} {before after : List Link} (touched : AreTouched labels rest rest numbers before after) where
-    -- the first of the links is joined, so fewer are left
-    pub round_fewer : All (λ (l : Link). l.high < length labels) rest → 0 < length rest → length (filter (is_apart labels') rest) < length rest
-    round_fewer ends some = kept_fewer (is_apart labels') rest (λ d. joined_test labels' (get_or rest 0 d) (one d (get_or rest 0 d) refl)) some
-      where
-        here_again : (xs : List Link) (d : Link) → 0 < length xs → get_or xs 0 (get_or xs 0 d) ≡ get_or xs 0 d
-        here_again [] d some = absurd (omega (arith, some))
-        here_again (x ∷ xs) d some = refl
-
-        one : (d l : Link) → get_or rest 0 d ≡ l → HasOneLabel labels' (get_or rest 0 d)
-        one d l is =
-            let here = get_or rest 0 d in
-            let had = touched.touched here (0, some, here_again rest d some) in
-            let high_in = ends 0 d some in
-            let low_in : here.low < length labels = let ascending = here.ascending in omega (arith, ascending, high_in) in
-            renamed_numbers here.low here.high low_in high_in had.0 had.1 (touched.first d some)
-
-    pub round_stage : {links later : List Link} → IsStage links rest later labels before → IsStage links (filter (is_apart labels') rest) later labels' after
-    round_stage {links} {later} stage = record {
-      ends = λ l l_in. subst (λ k. l.high < k) (sym renamed.len) (stage.ends l l_in);
-      joined = λ u v u_in v_in same. joined u v (subst (λ k. u < k) renamed.len u_in) (subst (λ k. v < k) renamed.len v_in) same;
-      forest = forest;
-      among = λ l l_in. stage.among l (kept_in (is_apart labels') rest l l_in).0;
-      apart = λ l l_in. apart_from labels' l (kept_in (is_apart labels') rest l l_in).1;
-      left = left;
-      above = λ l m l_in m_in. stage.above l m (kept_in (is_apart labels') rest l l_in).0 m_in;
-    }
-      where
-        forest : (l : Link) → Contains after l → IsForestLink links l
-        forest l l_in = elim (touched.least l l_in) [
-          | inl old ↦ stage.forest l old
-          | inr new ↦ let (c, is) = new.1 (stage.apart l new.0) in least_is_forest_link stage c l is
-        ]
-
-        left : (l : Link) → Contains links l → HasOneLabel labels' l ⊎ Contains (filter (is_apart labels') rest) l ⊎ Contains later l
-        left l l_in = elim (stage.left l l_in) [
-          | inl same ↦
-              let high_in = stage.ends l l_in in
-              let low_in : l.low < length labels = let ascending = l.ascending in omega (arith, ascending, high_in) in
-              inl (renamed_same l.low l.high low_in high_in same)
-          | inr other ↦ elim other [
-            | inl l_in_rest ↦ elim (cases_eq (get_or labels' l.low 0) (get_or labels' l.high 0)) [
-              | inl same ↦ inl same
-              | inr apart ↦ inr (inl (kept_if (is_apart labels') rest l l_in_rest (apart_test labels' l apart)))
-            ]
-            | inr put_off ↦ inr (inr put_off)
-          ]
-        ]
-
-        old_joined : (u v : ℕ) → u < length labels → v < length labels → get_or labels u 0 ≡ get_or labels v 0 → Joins (Contains after) u v
-        old_joined u v u_in v_in same = joins_more (Contains before) (Contains after) touched.kept u v (stage.joined u v u_in v_in same)
-
-        -- a label without a number isn't a number
-        not_number : (u v : ℕ) → u < length labels → v < length labels → number_of labels numbers u ≡ 0 → 0 < number_of labels numbers v → get_or labels' u 0 ≡ get_or labels' v 0 → ⊥
-        not_number u v u_in v_in none had same =
-            let is : get_or labels u 0 ≡ number_of labels numbers v = sym (not_renamed u u_in none) ∙ same ∙ renamed_to v v_in had in
-            let some = touched.numbers_are.own (get_or labels v 0) had in
-            let at : 0 < number_of labels numbers u = subst (λ k. 0 < get_or numbers k 0) (sym is) some in
-            omega (arith, at, none)
-
-        joined : (u v : ℕ) → u < length labels → v < length labels → get_or labels' u 0 ≡ get_or labels' v 0 → Joins (Contains after) u v
-        joined u v u_in v_in same = elim (cases_lt 0 (number_of labels numbers u)) [
-          | inl had ↦ elim (cases_lt 0 (number_of labels numbers v)) [
-            | inl had' ↦ touched.joined stage.joined u v u_in v_in had (sym (renamed_to u u_in had) ∙ same ∙ renamed_to v v_in had')
-            | inr none' ↦ absurd (not_number v u v_in u_in (omega (arith, none')) had (sym same))
-          ]
-          | inr none ↦ elim (cases_lt 0 (number_of labels numbers v)) [
-            | inl had' ↦ absurd (not_number u v u_in v_in (omega (arith, none)) had' same)
-            | inr none' ↦ old_joined u v u_in v_in (sym (not_renamed u u_in (omega (arith, none))) ∙ same ∙ not_renamed v v_in (omega (arith, none')))
-          ]
-        ]
+      | inr none ↦ old_joined u v u_in v_in (alone u v u_in v_in (omega (arith, none)) same)
+    ]
 
 -- each vertex by itself, nothing taken and all links left
 pub stage_start : (n : ℕ) (links rest : List Link) (labels : List ℕ) → ((l : Link) → Contains rest l ↔ Contains links l) → EndsUpTo n links → length labels ≡ n + 1 → ((v : ℕ) → v < length labels → get_or labels v 0 ≡ v) → IsStage links rest [] labels []
@@ -227,9 +218,9 @@ stage_start n links rest labels same ends len own = record {
         let e : l.low ≡ l.high = sym low_is ∙ one ∙ high_is in
         omega (arith, ascending, e)
 
-pub own_labels : (n : ℕ) (labels : List ℕ) → ((v : ℕ) → v < length labels → get_or labels v 0 ≡ v) → AreVertexLabels labels
-own_labels n labels own = record {
-  in_range = λ v v_in. subst (λ k. k < length labels) (sym (own v v_in)) v_in;
+pub own_labels : (n : ℕ) (labels : List ℕ) → length labels ≡ n + 1 → ((v : ℕ) → v < length labels → get_or labels v 0 ≡ v) → AreLabelsUpTo n labels
+own_labels n labels len own = record {
+  in_range = λ v v_in. let is = own v v_in in omega (arith, is, v_in, len);
   some = λ v from_one v_in. subst (λ k. 0 < k) (sym (own v v_in)) from_one;
 }
 

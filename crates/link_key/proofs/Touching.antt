@@ -1,6 +1,6 @@
 -- A pass by first touch over links in the order of their keys, link by link.
-use Rattle.std.proofs.Common.{◌≡◌, ◌≢◌, ℕ, ◌+◌, ◌<◌, ◌⊎◌, List, [], ◌∷◌, ◌++◌, Contains, length, get_or, take, is_lt, get_or-take, length-take, refl, sym, ap, ◌∙◌, subst, inl, inr, arith}
-use Rattle.std.specs.List.{All}
+use Rattle.std.proofs.Common.{◌≡◌, ℕ, ◌+◌, ◌<◌, ◌≤◌, ◌⊎◌, ◌==◌, if◌then◌else◌, Bool, true, false, List, [], ◌∷◌, ◌++◌, Contains, length, get_or, take, is_lt, get_or-take, length-take, refl, sym, ap, ◌∙◌, subst, inl, inr, arith}
+use Rattle.std.proofs.lemmas.List.Sums.{sum_by-le}
 use Rattle.std.specs.List.Sorted.{IsSorted}
 use Rattle.std.proofs.lemmas.List.{get_or_past, get_or_default, take_more}
 use Rattle.std.proofs.lemmas.List.Sorted.{sorted_far, ranks_by}
@@ -11,10 +11,18 @@ use Rattle.link_key.specs.declared.links.Link.{Link}
 use Rattle.link_key.specs.Link.{IsBelow, key_cmp}
 use Rattle.link_key.specs.Walk.{Joins}
 use Rattle.link_key.specs.Components.{HasOneLabel}
-use Rattle.link_key.specs.Rounds.{LeavesLabel, IsLeastOut, AreJoinedWhereOne, AreVertexLabels, AreNumbers, ShareNumber, AreTouched, number_of}
+use Rattle.link_key.specs.declared.rounds.Open.{Open}
+use Rattle.link_key.specs.Rounds.{LeavesLabel, IsLeastOut, AreJoinedWhereOne}
+use Rattle.link_key.specs.OpenLinks.{AreNumbers, ShareNumber, AreTouched, number_of, zeros}
 use Rattle.link_key.proofs.Members.{contains_none}
 use Rattle.link_key.proofs.Keys.{key_cmp_total}
 use Rattle.link_key.proofs.Walks.{joins_link, joins_symm, joins_trans, joins_more}
+
+-- What the first touches of the first i links leave: nothing where there are none, else the first link's labels have one
+-- number.
+pub record AreFirst (i : ℕ) (numbers : List ℕ) (candidates : List Open) : Type 0 where
+  pub fresh : i ≡ 0 → (c : ℕ) → get_or numbers c 0 ≡ 0
+  pub first : (d : Open) → 0 < i → (0 < get_or numbers (get_or candidates 0 d).low 0) × (0 < get_or numbers (get_or candidates 0 d).high 0) × (get_or numbers (get_or candidates 0 d).low 0 ≡ get_or numbers (get_or candidates 0 d).high 0)
 
 -- a table without numbers has none past its end either
 none_anywhere : (numbers : List ℕ) → ((c : ℕ) → c < length numbers → get_or numbers c 0 ≡ 0) → (c : ℕ) → get_or numbers c 0 ≡ 0
@@ -23,26 +31,42 @@ none_anywhere numbers none c = elim (cases_lt c (length numbers)) [
   | inr past ↦ get_or_past numbers c 0 past
 ]
 
+-- the labels that have no number are at most all
+zeros_few : (numbers : List ℕ) → zeros numbers ≤ length numbers
+zeros_few numbers =
+    let few = sum_by-le (λ (k : ℕ). if k == 0 then 1 else 0) 1 numbers (λ k d lt. one (get_or numbers k d == 0)) in
+    omega (arith, few)
+  where
+    one : (b : Bool) → (if b then 1 else 0) ≤ 1
+    one true = omega arith
+    one false = omega arith
+
 -- before any link is seen
-pub touched_none : (labels : List ℕ) (rest : List Link) (numbers : List ℕ) (before : List Link) → length numbers ≡ length labels → ((c : ℕ) → c < length numbers → get_or numbers c 0 ≡ 0) → AreTouched labels rest [] numbers before before
-touched_none labels rest numbers before len none = record {
-  len = len;
-  numbers_are = record {
-    in_range = λ c c_in. let at = none c c_in in omega (arith, at, c_in);
-    own = λ c some. let at = zero c in absurd (omega (arith, at, some));
-  };
-  fresh = λ _. zero;
+pub numbers_none : (numbers : List ℕ) → ((c : ℕ) → c < length numbers → get_or numbers c 0 ≡ 0) → AreNumbers 0 numbers
+numbers_none numbers none = record {
+  at_most = λ c. let at = none_anywhere numbers none c in omega (arith, at);
+  none = none_anywhere numbers none 0;
+  few = let few = zeros_few numbers in omega (arith, few);
+}
+
+pub first_none : (numbers : List ℕ) (candidates : List Open) → ((c : ℕ) → c < length numbers → get_or numbers c 0 ≡ 0) → AreFirst 0 numbers candidates
+first_none numbers candidates none = record {
+  fresh = λ _. none_anywhere numbers none;
+  first = λ d some. absurd (omega (arith, some));
+}
+
+pub touched_none : (labels : List ℕ) (rest : List Link) (numbers : List ℕ) (before : List Link) → ((c : ℕ) → c < length numbers → get_or numbers c 0 ≡ 0) → AreTouched labels rest [] numbers before before
+touched_none labels rest numbers before none = record {
   touched = λ l l_in. absurd (contains_none l l_in);
   kept = λ l l_in. l_in;
   least = λ l l_in. inl l_in;
-  joined = λ one u v u_in v_in some same. let at = zero (get_or labels u 0) in absurd (omega (arith, at, some));
-  first = λ d some. absurd (omega arith);
+  joined = λ one u v u_in v_in some same. let at = none_anywhere numbers none (get_or labels u 0) in absurd (omega (arith, at, some));
 }
-  where
-    zero : (c : ℕ) → get_or numbers c 0 ≡ 0
-    zero = none_anywhere numbers none
 
-module _ {a b : ℕ} {numbers numbers' : List ℕ} (share : ShareNumber a b numbers numbers') where
+module _ {a b last last' : ℕ} {numbers numbers' : List ℕ} (share : ShareNumber a b last numbers last' numbers') where
+  abbrev Choice : Type 0
+  Choice = ((share.number ≡ get_or numbers a 0) × (0 < share.number) × (last' ≡ last)) ⊎ ((share.number ≡ get_or numbers b 0) × (0 < share.number) × (last' ≡ last)) ⊎ ((share.number ≡ last + 1) × (last' ≡ last + 1) × (get_or numbers a 0 ≡ 0) × (get_or numbers b 0 ≡ 0))
+
   -- a number that was given stays
   pub number_stays : (c : ℕ) → 0 < get_or numbers c 0 → get_or numbers' c 0 ≡ get_or numbers c 0
   number_stays c some = elim (cases_eq c a) [
@@ -53,68 +77,55 @@ module _ {a b : ℕ} {numbers numbers' : List ℕ} (share : ShareNumber a b numb
     ]
   ]
     where
-      of_a : ((share.number ≡ get_or numbers a 0) × (0 < share.number)) ⊎ ((share.number ≡ get_or numbers b 0) × (0 < share.number)) ⊎ ((share.number ≡ a) × (get_or numbers a 0 ≡ 0) × (get_or numbers b 0 ≡ 0)) → 0 < get_or numbers a 0 → share.number ≡ get_or numbers a 0
-      of_a (inl (is, _)) some = is
-      of_a (inr (inl (is, some'))) some = elim share.free [ inl none ↦ absurd (omega (arith, none, some)) | inr none ↦ absurd (omega (arith, none, is, some')) ]
-      of_a (inr (inr (_, none, _))) some = absurd (omega (arith, none, some))
+      of_a : Choice → 0 < get_or numbers a 0 → share.number ≡ get_or numbers a 0
+      of_a (inl (is, _, _)) some = is
+      of_a (inr (inl (is, some', _))) some = elim share.free [ inl none ↦ absurd (omega (arith, none, some)) | inr none ↦ absurd (omega (arith, none, is, some')) ]
+      of_a (inr (inr (_, _, none, _))) some = absurd (omega (arith, none, some))
 
-      of_b : ((share.number ≡ get_or numbers a 0) × (0 < share.number)) ⊎ ((share.number ≡ get_or numbers b 0) × (0 < share.number)) ⊎ ((share.number ≡ a) × (get_or numbers a 0 ≡ 0) × (get_or numbers b 0 ≡ 0)) → 0 < get_or numbers b 0 → share.number ≡ get_or numbers b 0
-      of_b (inl (is, some')) some = elim share.free [ inl none ↦ absurd (omega (arith, none, is, some')) | inr none ↦ absurd (omega (arith, none, some)) ]
-      of_b (inr (inl (is, _))) some = is
-      of_b (inr (inr (_, _, none))) some = absurd (omega (arith, none, some))
+      of_b : Choice → 0 < get_or numbers b 0 → share.number ≡ get_or numbers b 0
+      of_b (inl (is, some', _)) some = elim share.free [ inl none ↦ absurd (omega (arith, none, is, some')) | inr none ↦ absurd (omega (arith, none, some)) ]
+      of_b (inr (inl (is, _, _))) some = is
+      of_b (inr (inr (_, _, _, none))) some = absurd (omega (arith, none, some))
 
-  -- the shared number is one
-  pub shared_some : 0 < a → 0 < share.number
-  shared_some some = elim share.old [
+  -- the shared number is one, and at most the last
+  pub shared_some : 0 < share.number
+  shared_some = elim share.old [
     | inl given ↦ given.1
-    | inr rest ↦ elim rest [ inl given ↦ given.1 | inr new ↦ let is = new.0 in omega (arith, is, some) ]
+    | inr rest ↦ elim rest [ inl given ↦ given.1 | inr new ↦ let is = new.0 in omega (arith, is) ]
+  ]
+
+  shared_most : AreNumbers last numbers → share.number ≤ last'
+  shared_most are = elim share.old [
+    | inl given ↦ let is = given.0 in let same = given.2 in let most = are.at_most a in omega (arith, is, same, most)
+    | inr rest ↦ elim rest [
+      | inl given ↦ let is = given.0 in let same = given.2 in let most = are.at_most b in omega (arith, is, same, most)
+      | inr new ↦ let is = new.0 in let more = new.1 in omega (arith, is, more)
+    ]
+  ]
+
+  last_grows : last ≤ last'
+  last_grows = elim share.old [
+    | inl given ↦ let same = given.2 in omega (arith, same)
+    | inr rest ↦ elim rest [ inl given ↦ let same = given.2 in omega (arith, same) | inr new ↦ let more = new.1 in omega (arith, more) ]
   ]
 
   -- what had a number has one
   pub some_stays : (c : ℕ) → 0 < get_or numbers c 0 → 0 < get_or numbers' c 0
   some_stays c some = subst (λ k. 0 < k) (sym (number_stays c some)) some
 
-  pub shared_numbers : 0 < a → a < length numbers → b < length numbers → AreNumbers numbers → AreNumbers numbers'
-  shared_numbers some a_in b_in are = record { in_range = in_range; own = own }
+  pub shared_numbers : 0 < a → 0 < b → last' + zeros numbers' ≤ last + zeros numbers → AreNumbers last numbers → AreNumbers last' numbers'
+  shared_numbers a_some b_some fewer are = record {
+    at_most = at_most;
+    none = share.others 0 (λ is. omega (arith, is, a_some)) (λ is. omega (arith, is, b_some)) ∙ are.none;
+    few = let few = are.few in let len = share.len in omega (arith, few, fewer, len);
+  }
     where
-      number_in : share.number < length numbers
-      number_in = elim share.old [
-        | inl given ↦ subst (λ k. k < length numbers) (sym given.0) (are.in_range a a_in)
-        | inr rest ↦ elim rest [
-          | inl given ↦ subst (λ k. k < length numbers) (sym given.0) (are.in_range b b_in)
-          | inr new ↦ subst (λ k. k < length numbers) (sym new.0) a_in
-        ]
-      ]
-
-      here : (c : ℕ) → c < length numbers → get_or numbers' c 0 < length numbers
-      here c c_in = elim (cases_eq c a) [
-        | inl is_a ↦ subst (λ k. k < length numbers) (sym (ap (λ k. get_or numbers' k 0) is_a ∙ share.first)) number_in
+      at_most : (c : ℕ) → get_or numbers' c 0 ≤ last'
+      at_most c = elim (cases_eq c a) [
+        | inl is_a ↦ subst (λ k. k ≤ last') (sym (ap (λ k. get_or numbers' k 0) is_a ∙ share.first)) (shared_most are)
         | inr not_a ↦ elim (cases_eq c b) [
-          | inl is_b ↦ subst (λ k. k < length numbers) (sym (ap (λ k. get_or numbers' k 0) is_b ∙ share.second)) number_in
-          | inr not_b ↦ subst (λ k. k < length numbers) (sym (share.others c not_a not_b)) (are.in_range c c_in)
-        ]
-      ]
-
-      in_range : (c : ℕ) → c < length numbers' → get_or numbers' c 0 < length numbers'
-      in_range c c_in = subst (λ k. get_or numbers' c 0 < k) (sym share.len) (here c (subst (λ k. c < k) share.len c_in))
-
-      number_own : 0 < get_or numbers' share.number 0
-      number_own = elim share.old [
-        | inl given ↦ some_stays share.number (subst (λ k. 0 < get_or numbers k 0) (sym given.0) (are.own a (subst (λ k. 0 < k) given.0 given.1)))
-        | inr rest ↦ elim rest [
-          | inl given ↦ some_stays share.number (subst (λ k. 0 < get_or numbers k 0) (sym given.0) (are.own b (subst (λ k. 0 < k) given.0 given.1)))
-          | inr new ↦ subst (λ k. 0 < k) (sym (ap (λ k. get_or numbers' k 0) new.0 ∙ share.first)) (shared_some some)
-        ]
-      ]
-
-      own : (c : ℕ) → 0 < get_or numbers' c 0 → 0 < get_or numbers' (get_or numbers' c 0) 0
-      own c had = elim (cases_eq c a) [
-        | inl is_a ↦ subst (λ k. 0 < get_or numbers' k 0) (sym (ap (λ k. get_or numbers' k 0) is_a ∙ share.first)) number_own
-        | inr not_a ↦ elim (cases_eq c b) [
-          | inl is_b ↦ subst (λ k. 0 < get_or numbers' k 0) (sym (ap (λ k. get_or numbers' k 0) is_b ∙ share.second)) number_own
-          | inr not_b ↦
-              let same = share.others c not_a not_b in
-              subst (λ k. 0 < get_or numbers' k 0) (sym same) (some_stays (get_or numbers c 0) (are.own c (subst (λ k. 0 < k) same had)))
+          | inl is_b ↦ subst (λ k. k ≤ last') (sym (ap (λ k. get_or numbers' k 0) is_b ∙ share.second)) (shared_most are)
+          | inr not_b ↦ let same = share.others c not_a not_b in let most = are.at_most c in let grows = last_grows in omega (arith, same, most, grows)
         ]
       ]
 
@@ -123,10 +134,38 @@ leaves_end : (labels : List ℕ) (m : Link) (c : ℕ) → LeavesLabel labels m c
 leaves_end labels m c (inl (at, _)) = inl at
 leaves_end labels m c (inr (_, at)) = inr at
 
--- the first of the links seen, with one more behind them
-first_more : (seen : List Link) (x d : Link) → ((length seen ≡ 0) × (get_or (seen ++ x ∷ []) 0 d ≡ x)) ⊎ ((0 < length seen) × (get_or (seen ++ x ∷ []) 0 d ≡ get_or seen 0 d) × Contains seen (get_or seen 0 d))
-first_more [] x d = inl (refl, refl)
-first_more (y ∷ seen) x d = inr (omega arith, refl, (0, omega arith, refl))
+-- One more link: it was touched before, or its labels get one number.
+pub first_passed : {i : ℕ} {numbers : List ℕ} {candidates : List Open} (x : Open) → 0 < get_or numbers x.low 0 → AreFirst i numbers candidates → AreFirst (i + 1) numbers candidates
+first_passed {i} {numbers} x had so_far = record {
+  fresh = λ none. absurd (omega (arith, none));
+  first = λ d some. elim (cases_lt 0 i) [
+    | inl more ↦ so_far.first d more
+    | inr alone ↦ let none = so_far.fresh (omega (arith, alone)) x.low in absurd (omega (arith, none, had))
+  ];
+}
+
+pub first_taken : {i last last' : ℕ} {numbers numbers' : List ℕ} {candidates : List Open} (x : Open) → i < length candidates → x ≡ get_or candidates i x → ShareNumber x.low x.high last numbers last' numbers' → AreFirst i numbers candidates → AreFirst (i + 1) numbers' candidates
+first_taken {i} {last} {last'} {numbers} {numbers'} {candidates} x in_range is share so_far = record {
+  fresh = λ none. absurd (omega (arith, none));
+  first = λ d some. elim (cases_lt 0 i) [
+    | inl more ↦
+        let had = so_far.first d more in
+        let low = number_stays share (get_or candidates 0 d).low had.0 in
+        let high = number_stays share (get_or candidates 0 d).high had.1 in (
+          subst (λ k. 0 < k) (sym low) had.0,
+          subst (λ k. 0 < k) (sym high) had.1,
+          low ∙ had.2 ∙ sym high,
+        )
+    | inr alone ↦ subst (λ (o : Open). (0 < get_or numbers' o.low 0) × (0 < get_or numbers' o.high 0) × (get_or numbers' o.low 0 ≡ get_or numbers' o.high 0)) (at d (omega (arith, alone))) (
+      subst (λ k. 0 < k) (sym share.first) (shared_some share),
+      subst (λ k. 0 < k) (sym share.second) (shared_some share),
+      share.first ∙ sym share.second,
+    )
+  ];
+}
+  where
+    at : (d : Open) → i ≡ 0 → x ≡ get_or candidates 0 d
+    at d none = is ∙ get_or_default candidates i x d in_range ∙ ap (λ k. get_or candidates k d) none
 
 -- The link that is looked at next, and its ends' labels.
 pub record Next (labels : List ℕ) (rest seen : List Link) (x : Link) : Type 0 where
@@ -134,25 +173,16 @@ pub record Next (labels : List ℕ) (rest seen : List Link) (x : Link) : Type 0 
   pub before : (m : Link) → Contains rest m → IsBelow m x → Contains seen m
   pub low_in : x.low < length labels
   pub high_in : x.high < length labels
-  pub low_some : 0 < get_or labels x.low 0
-  pub low_range : get_or labels x.low 0 < length labels
-  pub high_range : get_or labels x.high 0 < length labels
 
 -- It is the link behind those seen.
-pub next_of : (labels : List ℕ) (rest : List Link) (i : ℕ) (x : Link) → IsSorted key_cmp rest → All (λ (l : Link). l.high < length labels) rest → AreVertexLabels labels → i < length rest → x ≡ get_or rest i x → Next labels rest (take i rest) x
-next_of labels rest i x order ends are in_range is = record {
+pub next_of : (labels : List ℕ) (rest : List Link) (i : ℕ) (x : Link) → IsSorted key_cmp rest → x.high < length labels → i < length rest → x ≡ get_or rest i x → Next labels rest (take i rest) x
+next_of labels rest i x order high_in in_range is = record {
   member = (i, in_range, sym is);
   before = before;
   low_in = low_in;
   high_in = high_in;
-  low_some = are.some x.low x.from_one low_in;
-  low_range = are.in_range x.low low_in;
-  high_range = are.in_range x.high high_in;
 }
   where
-    high_in : x.high < length labels
-    high_in = subst (λ (l : Link). l.high < length labels) (sym is) (ends i x in_range)
-
     low_in : x.low < length labels
     low_in = let ascending = x.ascending in omega (arith, ascending, high_in)
 
@@ -173,9 +203,6 @@ module _ {labels : List ℕ} {rest seen : List Link} {numbers : List ℕ} {befor
   -- Both components were touched: it is passed over.
   pub touched_passed : 0 < number_of labels numbers x.low → 0 < number_of labels numbers x.high → AreTouched labels rest (seen ++ x ∷ []) numbers before after
   touched_passed low_had high_had = record {
-    len = so_far.len;
-    numbers_are = so_far.numbers_are;
-    fresh = λ none. absurd (not_none seen none);
     touched = λ l l_in. elim (Contains-push_cases seen x l l_in) [
       | inl old ↦ so_far.touched l old
       | inr is ↦ subst (λ (k : Link). (0 < number_of labels numbers k.low) × (0 < number_of labels numbers k.high)) is (low_had, high_had)
@@ -183,22 +210,11 @@ module _ {labels : List ℕ} {rest seen : List Link} {numbers : List ℕ} {befor
     kept = so_far.kept;
     least = so_far.least;
     joined = so_far.joined;
-    first = λ d _. elim (first_more seen x d) [
-      | inl alone ↦ let none = so_far.fresh alone.0 (get_or labels x.low 0) in absurd (omega (arith, none, low_had))
-      | inr more ↦ subst (λ (k : Link). number_of labels numbers k.low ≡ number_of labels numbers k.high) (sym more.1) (so_far.first d more.0)
-    ];
   }
-    where
-      not_none : (seen : List Link) → length (seen ++ x ∷ []) ≡ 0 → ⊥
-      not_none [] e = omega (arith, e)
-      not_none (y ∷ ys) e = omega (arith, e)
 
   -- One of them wasn't: it is taken.
-  pub touched_taken : {numbers' : List ℕ} → ShareNumber (get_or labels x.low 0) (get_or labels x.high 0) numbers numbers' → AreTouched labels rest (seen ++ x ∷ []) numbers' before (after ++ x ∷ [])
-  touched_taken {numbers'} share = record {
-    len = share.len ∙ so_far.len;
-    numbers_are = shared_numbers share next.low_some (subst (λ k. a < k) (sym so_far.len) next.low_range) (subst (λ k. b < k) (sym so_far.len) next.high_range) so_far.numbers_are;
-    fresh = λ none. absurd (not_none seen none);
+  pub touched_taken : {last last' : ℕ} {numbers' : List ℕ} → AreNumbers last numbers → ShareNumber (get_or labels x.low 0) (get_or labels x.high 0) last numbers last' numbers' → AreTouched labels rest (seen ++ x ∷ []) numbers' before (after ++ x ∷ [])
+  touched_taken {last} {last'} {numbers'} are share = record {
     touched = λ l l_in. elim (Contains-push_cases seen x l l_in) [
       | inl old ↦ let had = so_far.touched l old in (some_stays share (get_or labels l.low 0) had.0, some_stays share (get_or labels l.high 0) had.1)
       | inr is ↦ subst (λ (k : Link). (0 < number_of labels numbers' k.low) × (0 < number_of labels numbers' k.high)) is (subst (λ k. 0 < k) (sym share.first) some, subst (λ k. 0 < k) (sym share.second) some)
@@ -206,10 +222,6 @@ module _ {labels : List ℕ} {rest seen : List Link} {numbers : List ℕ} {befor
     kept = λ l l_in. Contains-append_left after (x ∷ []) l (so_far.kept l l_in);
     least = least;
     joined = joined;
-    first = λ d _. elim (first_more seen x d) [
-      | inl alone ↦ subst (λ (k : Link). number_of labels numbers' k.low ≡ number_of labels numbers' k.high) (sym alone.1) (share.first ∙ sym share.second)
-      | inr more ↦ subst (λ (k : Link). number_of labels numbers' k.low ≡ number_of labels numbers' k.high) (sym more.1) (still (get_or seen 0 d) (so_far.touched (get_or seen 0 d) more.2) (so_far.first d more.0))
-    ];
   }
     where
       a : ℕ
@@ -222,14 +234,7 @@ module _ {labels : List ℕ} {rest seen : List Link} {numbers : List ℕ} {befor
       S = Contains (after ++ x ∷ [])
 
       some : 0 < share.number
-      some = shared_some share next.low_some
-
-      not_none : (seen : List Link) → length (seen ++ x ∷ []) ≡ 0 → ⊥
-      not_none [] e = omega (arith, e)
-      not_none (y ∷ ys) e = omega (arith, e)
-
-      still : (l : Link) → (0 < number_of labels numbers l.low) × (0 < number_of labels numbers l.high) → number_of labels numbers l.low ≡ number_of labels numbers l.high → number_of labels numbers' l.low ≡ number_of labels numbers' l.high
-      still l had same = number_stays share (get_or labels l.low 0) had.0 ∙ same ∙ sym (number_stays share (get_or labels l.high 0) had.1)
+      some = shared_some share
 
       -- no link before it touched what has no number
       untouched : (c : ℕ) → get_or numbers c 0 ≡ 0 → (m : Link) → Contains rest m → LeavesLabel labels m c → ¬ (IsBelow m x)
@@ -283,11 +288,7 @@ module _ {labels : List ℕ} {rest seen : List Link} {numbers : List ℕ} {befor
             | inl given ↦ old_joined w x.low w_in next.low_in (subst (λ k. 0 < k) (sym is) some) (is ∙ given.0)
             | inr rest ↦ elim rest [
               | inl given ↦ joins_trans S w x.high x.low (old_joined w x.high w_in next.high_in (subst (λ k. 0 < k) (sym is) some) (is ∙ given.0)) back
-              | inr new ↦
-                  let own = so_far.numbers_are.own (get_or labels w 0) (subst (λ k. 0 < k) (sym is) some) in
-                  let at : 0 < get_or numbers a 0 = subst (λ k. 0 < get_or numbers k 0) (is ∙ new.0) own in
-                  let none = new.1 in
-                  absurd (omega (arith, at, none))
+              | inr new ↦ let most = are.at_most (get_or labels w 0) in let next_one = new.0 in absurd (omega (arith, is, most, next_one))
             ]
           ]
 

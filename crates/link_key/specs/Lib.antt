@@ -8,3 +8,4 @@ pub mod Components
 pub mod WideKey
 pub mod Cut
 pub mod Rounds
+pub mod OpenLinks
