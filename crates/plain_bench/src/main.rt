@@ -5,7 +5,7 @@
 #![tactic(auto)]
 
 use gr_text::{read_graph, write_forest};
-use link_key::plain_forest;
+use link_key::forest_of;
 use std::time::Instant;
 
 fn main(rt: HostRuntime) -> anyhow::Result<()> {
@@ -13,12 +13,13 @@ fn main(rt: HostRuntime) -> anyhow::Result<()> {
     let graph = read_graph(rt.alloc(), &mut rt.stdin())?;
     let read = start.elapsed(&rt)?;
 
+    let n = graph.n();
     let start = Instant::now(&rt)?;
-    let forest = plain_forest(rt.alloc(), graph.n(), graph.links())?;
+    let forest = forest_of(rt.alloc(), n, graph.into_links())?;
     let solved = start.elapsed(&rt)?;
 
     let start = Instant::now(&rt)?;
-    write_forest(&mut rt.stdout(), graph.n(), &forest)?;
+    write_forest(&mut rt.stdout(), n, &forest)?;
     let written = start.elapsed(&rt)?;
 
     eprintln!(rt;
