@@ -3,7 +3,7 @@
 ghost use Rattle.ports.specs.Lines.{HasRoom};
 ghost use Rattle.tcp_lines.specs.Lines.{line_of};
 
-use ports::Line;
+use ports::{Line, LineFault};
 use std::io;
 use std::io::{Read, Write};
 use std::net::{Ipv4Addr, Net, TcpListener, TcpStream};
@@ -47,6 +47,21 @@ fn a_pair_carries_bytes_both_ways(rt: HostRuntime) -> Result<(), Fail> {
     Ok(())
 }
 
+// The far end is closed with a byte that it has got and not read, which breaks the connection.
+#[test]
+fn a_line_whose_connection_is_broken_fails(rt: HostRuntime) -> Result<(), Fail> {
+    let listener = listen(&rt)?;
+    let (mut line, mut far) = pair(&rt, &listener).map_err(|_| "a pair")?;
+    let mut heard = [0u8; 1];
+    line.put(b"it").map_err(|_| "bytes sent")?;
+    far.read_exact(&mut heard)?;
+    drop(far);
+    let mut got = [0u8; 1];
+    assert_eq!(rt; line.get(&mut got), Err(LineFault::Failed));
+    assert_eq!(rt; line.put(b"more"), Err(LineFault::Failed));
+    Ok(())
+}
+
 #[test]
 fn a_stranger_who_connected_before_is_told(rt: HostRuntime) -> Result<(), Fail> {
     let listener = listen(&rt)?;
@@ -56,5 +71,19 @@ fn a_stranger_who_connected_before_is_told(rt: HostRuntime) -> Result<(), Fail> 
     drop(stranger);
     let another = listen(&rt)?;
     assert!(rt; pair(&rt, &another).is_ok());
+    Ok(())
+}
+
+#[test]
+fn what_faults_are_told_as(rt: HostRuntime) -> Result<(), Fail> {
+    let texts = [
+        (PairFault::NoConnect, "cannot connect"),
+        (PairFault::NoAccept, "cannot accept"),
+        (PairFault::Stranger, "a stranger connected"),
+    ];
+    for (fault, text) in texts {
+        let told = format!(in rt.alloc(); "{fault}")?;
+        assert_eq!(rt; told.as_str(), text);
+    }
     Ok(())
 }
