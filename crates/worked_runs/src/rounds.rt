@@ -183,3 +183,18 @@ fn a_book_is_lent_to_threads(rt: HostRuntime) -> Result<(), Fail> {
     assert_eq!(rt; book.missing(), 2);
     Ok(())
 }
+
+#[test]
+fn what_refusals_are_told_as(rt: HostRuntime) -> Result<(), Fail> {
+    let texts = [
+        (Refusal::Stale, "answer of another round"),
+        (Refusal::Stranger, "answer for another shard"),
+        (Refusal::Double, "second answer for a shard"),
+        (Refusal::NotALink, "offer of no outgoing link"),
+    ];
+    for (refusal, text) in texts {
+        let told = format!(in rt.alloc(); "{refusal}")?;
+        assert_eq!(rt; told.as_str(), text);
+    }
+    Ok(())
+}

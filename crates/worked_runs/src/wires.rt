@@ -283,3 +283,23 @@ fn a_wire_at_ten_thousand_links(rt: HostRuntime) -> Result<(), Fail> {
     expect_ask(&rt, &mut wire, &cut, (2, 0), &labels, Ok(offers.as_slice()));
     Ok(())
 }
+
+#[test]
+fn what_faults_are_told_as(rt: HostRuntime) -> Result<(), Fail> {
+    let alloc = rt.alloc();
+    let texts = [
+        (PortFault::Down, "line is down"),
+        (PortFault::Garbled, "line is garbled"),
+        (PortFault::WrongHello, "hello of another worker"),
+        (PortFault::Gave(2), "worker gave code 2"),
+        (PortFault::Memory, "no memory"),
+        (PortFault::Closed, "port is closed"),
+    ];
+    for (fault, text) in texts {
+        let told = format!(in alloc; "{fault}")?;
+        assert_eq!(rt; told.as_str(), text);
+    }
+    let told = format!(in alloc; "{}", LineFault::Failed)?;
+    assert_eq!(rt; told.as_str(), "line failed");
+    Ok(())
+}
