@@ -15,8 +15,8 @@ use std::alloc::Allocator;
 /// forest's text.
 ///
 /// The forest is whole before the first byte is written. For b bytes, m links and n vertices it takes
-/// O(b + m log m + n log n) time, and memory for one list of the links and 24 bytes a vertex: the forest is found in
-/// the list that was read.
+/// O(b + m log m + n log n) time, and memory for one list of the links, in which the forest is found, and what
+/// [`forest_of`] takes beside it.
 pub fn run_plain<S: Source, W: Sink, A: Allocator + Copy>(
     alloc: A,
     source: &mut S,
