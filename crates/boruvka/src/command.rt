@@ -115,7 +115,10 @@ where
         + Net<Listener = TcpListener, Stream = TcpStream>
         + Threads
         + Wait
-        + Sync,
+        + Sync
+        + Copy
+        + Send
+        + 'static,
     I: Source,
     O: Sink,
     E: Sink,
@@ -165,7 +168,10 @@ where
         + Net<Listener = TcpListener, Stream = TcpStream>
         + Threads
         + Wait
-        + Sync,
+        + Sync
+        + Copy
+        + Send
+        + 'static,
     I: Source,
     O: Sink,
     E: Sink,
@@ -265,7 +271,10 @@ where
         + Net<Listener = TcpListener, Stream = TcpStream>
         + Threads
         + Wait
-        + Sync,
+        + Sync
+        + Copy
+        + Send
+        + 'static,
     S: AsStr,
     I: Source,
     O: Sink,

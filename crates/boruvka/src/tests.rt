@@ -63,7 +63,10 @@ fn expect(
         + Net<Listener = TcpListener, Stream = TcpStream>
         + Threads
         + Wait
-        + Sync),
+        + Sync
+        + Copy
+        + Send
+        + 'static),
     words: &[&str],
     input: &[u8],
     status: u8,
@@ -417,7 +420,10 @@ fn expect_one_write(
         + Net<Listener = TcpListener, Stream = TcpStream>
         + Threads
         + Wait
-        + Sync),
+        + Sync
+        + Copy
+        + Send
+        + 'static),
     name: &str,
     line: &str,
 ) {
@@ -541,7 +547,10 @@ fn expect_refused(
         + Net<Listener = TcpListener, Stream = TcpStream>
         + Threads
         + Wait
-        + Sync),
+        + Sync
+        + Copy
+        + Send
+        + 'static),
     words: &[&str],
 ) {
     let is_usage = matches!(options(rt.alloc(), words), Err(OptionsFault::Usage(_)));

@@ -77,7 +77,7 @@ pub(crate) fn whole_round<
     ensures idle { All IsIdle lanes.new }
 {
     ask_all(rt, alloc, book, labels, lanes)?;
-    scan_missing(alloc, cut, labels, book)
+    scan_missing(rt, alloc, cut, labels, book)
 }
 
 // A whole round of this number over a book of its own: the picks of the answers, and how many shards the coordinator

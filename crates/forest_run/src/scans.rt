@@ -8,10 +8,12 @@ use frames::Answer;
 use link_key::{Cut, Labels};
 use round_core::{RoundBook, laws};
 use std::alloc::{AllocError, Allocator};
+use std::thread::Threads;
 use worker_engine::Scanner;
 
 // Scans a shard that the book misses, and takes its light offers into the book.
-fn scan_one<A: Allocator + Copy>(
+fn scan_one<R: Threads + Sync, A: Allocator + Copy + Send + Sync>(
+    rt: &R,
     scanner: &mut Scanner<A>,
     cut: &Cut<A>,
     labels: &Labels<A>,
@@ -26,7 +28,7 @@ fn scan_one<A: Allocator + Copy>(
     ensures taken { OnOk result (is_taken book.new shard ≡ true) }
 {
     laws::light_offers_are_taken();
-    let offers = scanner.scan(cut.shard(shard).links, labels)?;
+    let offers = scanner.scan_par(rt, cut.shard(shard).links, labels)?;
     let answer = Answer {
         round: book.round(),
         shard,
@@ -37,7 +39,8 @@ fn scan_one<A: Allocator + Copy>(
 }
 
 // Scans each shard that the book misses, and says how many these were.
-pub(crate) fn scan_missing<A: Allocator + Copy>(
+pub(crate) fn scan_missing<R: Threads + Sync, A: Allocator + Copy + Send + Sync>(
+    rt: &R,
     alloc: A,
     cut: &Cut<A>,
     labels: &Labels<A>,
@@ -52,7 +55,7 @@ pub(crate) fn scan_missing<A: Allocator + Copy>(
     let mut alone = 0;
     for shard in 0..book.len() {
         if book.is_missing(shard) {
-            scan_one(&mut scanner, cut, labels, book, shard)?;
+            scan_one(rt, &mut scanner, cut, labels, book, shard)?;
             alone += 1;
         }
     }

@@ -15,7 +15,7 @@ use Rattle.frames.specs.FrameValue.{FrameValue, HelloFrame, ShardFrame, AskFrame
 use Rattle.frames.specs.FrameText.{text_of}
 use Rattle.frames.specs.Lawful.{IsLawful, IsShard, IsAsk}
 use Rattle.frames.specs.FrameStream.{texts_of, AreLawful}
-use Rattle.worker_engine.specs.Serving.{Shelf, empty_shelf, shelf_after, MayReply, AreReplies, asks_in}
+use Rattle.worker_engine.specs.Serving.{Shelf, empty_shelf, shelf_with, shelf_after, MayReply, AreReplies, asks_in}
 use Rattle.frames.proofs.FrameStreams.{texts-append, lawful-append, lawful_back, prefix_of_frames, only_frames_of_texts}
 use Rattle.worker_engine.proofs.Replying.{asks-append, shelf_after-append, last_reply, served_lawful}
 use Rattle.ports.specs.declared.fault.PortFault.{PortFault}
@@ -25,7 +25,7 @@ use Rattle.ports.specs.Lines.{LineState, Went, ServesSoFar}
 use Rattle.ports.specs.Causes.{IsNoReply, Came, Cause, IsBlameless}
 use Rattle.ports.specs.Ports.{IsHonestAnswer}
 use Rattle.ports.specs.Exchanges.{Exchange, exchange_of, IsAskedIn, answers_of}
-use Rattle.ports.specs.Talking.{Talk, TalkState, told, hello_once, shard_once, frames_put, AskBrought, Asked, frames_got, HasGiven, IsOfCut, times_sent, asks_among, IsInStep}
+use Rattle.ports.specs.Talking.{Talk, TalkState, told, hello_once, shard_once, frames_put, AskBrought, Asked, frames_got, HasGiven, IsOfCut, times_sent, asks_among, FollowTheirShards, IsInStep}
 use Rattle.ports.proofs.Going.{then_came}
 use Rattle.ports.proofs.Refused.{bad_never}
 
@@ -103,6 +103,20 @@ shelf_there false shelf shard links kept = rw (eq-eqb shard shard refl) refl
 shelf_elsewhere : (sent : Bool) (shelf : Shelf) (shard s : ℕ) (links : List Link) → s ≢ shard → shelf_after shelf (shard_once sent shard links) s ≡ shelf s
 shelf_elsewhere true shelf shard s links apart = refl
 shelf_elsewhere false shelf shard s links apart = rw (ne_eqb s shard apart) refl
+
+follows-append : (shelf : Shelf) (fs gs : List FrameValue) → FollowTheirShards shelf fs → FollowTheirShards (shelf_after shelf fs) gs → FollowTheirShards shelf (fs ++ gs)
+follows-append shelf [] gs before behind = behind
+follows-append shelf (AskFrame r k ls ∷ fs) gs before behind = (before.0, follows-append shelf fs gs before.1 behind)
+follows-append shelf (ShardFrame number links ∷ fs) gs before behind = follows-append (shelf_with shelf (ShardFrame number links)) fs gs before behind
+follows-append shelf (HelloFrame v w ∷ fs) gs before behind = follows-append shelf fs gs before behind
+follows-append shelf (AnswerFrame a ∷ fs) gs before behind = follows-append shelf fs gs before behind
+follows-append shelf (FaultFrame r k c ∷ fs) gs before behind = follows-append shelf fs gs before behind
+
+-- what an ask puts has its shard before it, unless that was on the shelf
+follows_put : (sent : Bool) (shelf : Shelf) (shard : ℕ) (links : List Link) (round : ℕ) (labels : List ℕ) → shelf shard ≡ (if sent then Some links else None)
+    → FollowTheirShards shelf (shard_once sent shard links ++ AskFrame round shard labels ∷ [])
+follows_put true shelf shard links round labels kept = (rw kept refl, tt)
+follows_put false shelf shard links round labels kept = (rw (eq-eqb shard shard refl) refl, tt)
 
 -- an ask changes no shelf
 shelf_put : (sent : Bool) (shelf : Shelf) (shard s : ℕ) (links : List Link) (round : ℕ) (labels : List ℕ)
@@ -226,6 +240,7 @@ module _ {L : Type 0} (state : L → LineState) (round shard : ℕ) (labels : Li
                 ∙ (ap (λ (fs : List FrameValue). asks_among said ++ fs) (among_put (has_shard old.sent shard) shard (links_at old.cut shard) round labels)
                 ∙ (ap (λ (fs : List FrameValue). fs ++ AskFrame round shard labels ∷ []) step.asked
                 ∙ sym (map-append (λ (e : Exchange). AskFrame e.round e.shard e.labels) exchanges (exchange_of round shard labels a ∷ []))));
+            first = follows-append empty_shelf said more step.first (follows_put (has_shard old.sent shard) (shelf_after empty_shelf said) shard (links_at old.cut shard) round labels (step.shelves shard in_cut));
             gave = exchanged_more exchanges step.gave;
             shelves = subst (λ (k : List (List Link)). (s : ℕ) → s < length k → shelf_after empty_shelf (said ++ more) s ≡ (if has_shard new.sent s then Some (links_at k s) else None)) (sym asked.cut) shelves_step;
           }

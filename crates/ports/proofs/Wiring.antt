@@ -35,6 +35,7 @@ fresh_step talk fresh tells quiet none = record {
   once = λ s. sym (ap (λ b. if b then 1 else 0) (none s));
   needed = λ s there. absurd (let nothing = none s in cc);
   asked = refl;
+  first = tt;
   gave = record { got = rw quiet (told_none talk.line.got tells.got fresh.got); lawful = tt; silent = λ e. refl };
   shelves = λ s within. sym (ap (λ b. if b then Some (links_at talk.cut s) else None) (none s));
 }

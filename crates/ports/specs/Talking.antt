@@ -1,5 +1,5 @@
 -- A talk with a worker over a line: what an ask says, and what was said and heard so far.
-use Rattle.std.specs.Prelude.{◌≡◌, ℕ, ◌+◌, ◌<◌, Bool, true, false, ◌||◌, ◌==◌, if◌then◌else◌, List, [], ◌∷◌, ◌++◌, length, map, Some, None}
+use Rattle.std.specs.Prelude.{◌≡◌, ℕ, ◌+◌, ◌<◌, ⊤, Bool, true, false, ◌||◌, ◌==◌, if◌then◌else◌, List, [], ◌∷◌, ◌++◌, length, map, Some, None, IsSome}
 use Rattle.std.specs.List.{All}
 use Rattle.link_key.specs.declared.links.Link.{Link}
 use Rattle.link_key.specs.Cut.{links_at}
@@ -8,7 +8,7 @@ use Rattle.frames.specs.FrameValue.{FrameValue, HelloFrame, ShardFrame, AskFrame
 use Rattle.frames.specs.FrameText.{text_of}
 use Rattle.frames.specs.Lawful.{IsAnswer}
 use Rattle.frames.specs.FrameStream.{texts_of, AreLawful}
-use Rattle.worker_engine.specs.Serving.{empty_shelf, shelf_after}
+use Rattle.worker_engine.specs.Serving.{Shelf, empty_shelf, shelf_with, shelf_after}
 use Rattle.shard_set.specs.Shards.{has_shard}
 use Rattle.ports.specs.Lines.{LineState, Went}
 use Rattle.ports.specs.Exchanges.{Exchange, IsAskedIn, answers_of, ask_frames}
@@ -96,7 +96,13 @@ asks_among [] = []
 asks_among (AskFrame round shard labels ∷ frames) = AskFrame round shard labels ∷ asks_among frames
 asks_among (v ∷ frames) = asks_among frames
 
--- nothing failed; just these frames were sent: shards of the cut, those of the set once each and no others, each of which was asked for, and asks for such shards, just those of the exchanges, in their order; and the hello and just the answers of the exchanges were got
+-- each ask is for a shard that the frames before it put on a shelf
+abbrev pub FollowTheirShards : Shelf → List FrameValue → Type 0
+FollowTheirShards shelf [] = ⊤
+FollowTheirShards shelf (AskFrame round shard labels ∷ frames) = IsSome (shelf shard) × FollowTheirShards shelf frames
+FollowTheirShards shelf (v ∷ frames) = FollowTheirShards (shelf_with shelf v) frames
+
+-- nothing failed; just these frames were sent: shards of the cut, those of the set once each and no others, each of which was asked for, and, behind their shards, asks for such shards, just those of the exchanges, in their order; and the hello and just the answers of the exchanges were got
 pub record IsInStep (talk : Talk) (said : List FrameValue) (exchanges : List Exchange) : Type 0 where
   pub calm : talk.line.failures ≡ 0
   pub sent : talk.line.sent ≡ Some (texts_of said)
@@ -105,5 +111,6 @@ pub record IsInStep (talk : Talk) (said : List FrameValue) (exchanges : List Exc
   pub once : (s : ℕ) → times_sent s said ≡ (if has_shard talk.sent s then 1 else 0)
   pub needed : (s : ℕ) → has_shard talk.sent s ≡ true → IsAskedIn exchanges s
   pub asked : asks_among said ≡ ask_frames exchanges
+  pub first : FollowTheirShards empty_shelf said
   pub gave : HasGiven talk (answers_of exchanges)
   pub shelves : (s : ℕ) → s < length talk.cut → shelf_after empty_shelf said s ≡ (if has_shard talk.sent s then Some (links_at talk.cut s) else None)

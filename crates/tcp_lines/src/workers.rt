@@ -36,11 +36,18 @@ impl Workers {
     /// whose connection can't be made, or whose thread can't be started, is left out, as all are where it can't
     /// listen. An error is want of memory for the two lists, and comes before anything is started. A worker's
     /// shards take memory of `Global`.
-    pub fn start<R: Threads + Net<Listener = TcpListener, Stream = TcpStream>>(
+    pub fn start<R>(
         rt: &R,
         alloc: Global,
         count: u32,
     ) -> Result<(Vec<TcpLine>, Workers), AllocError>
+    where
+        R: Threads
+            + Net<Listener = TcpListener, Stream = TcpStream>
+            + Sync
+            + Copy
+            + Send
+            + 'static,
         requires { count ≤ MAX_WORKERS }
 
         // As many lines as threads, and no more than were asked for. Nothing went over any of them.
@@ -86,7 +93,7 @@ fn listen<R: Net<Listener = TcpListener, Stream = TcpStream>>(rt: &R) -> io::Res
 }
 
 // A thread that serves the stream as the worker of this number, and closes it at the end.
-fn start_one<R: Threads>(
+fn start_one<R: Threads + Sync + Copy + Send + 'static>(
     rt: &R,
     alloc: Global,
     worker: u32,
@@ -94,10 +101,11 @@ fn start_one<R: Threads>(
 ) -> Option<JoinHandle<()>>
     requires { worker < MAX_WORKERS }
 {
+    let own = *rt;
     let serves = move ||
         requires { worker < MAX_WORKERS }
     {
-        let _served = serve(alloc, worker, &mut Untold(&stream), &mut Untold(&stream));
+        let _served = serve(&own, alloc, worker, &mut Untold(&stream), &mut Untold(&stream));
     };
     thread::spawn(rt, serves).ok()
 }

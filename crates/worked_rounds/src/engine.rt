@@ -1,6 +1,10 @@
 // A worker's engine over a triangle of equal weights: its scan, what it hears, and whole sessions.
-ghost use Rattle.std.specs.Prelude.{◌-◌, ◌<◌, ◌^◌, ◌↔◌, IsTrue};
+ghost use Rattle.std.specs.Prelude.{◌-◌, ◌<◌, ◌^◌, ◌↔◌, IsTrue, IfOk};
 ghost use Rattle.link_key.specs.Link.{EndsUpTo};
+ghost use Rattle.frames.specs.FrameValue.{value_of};
+ghost use Rattle.frames.specs.Lawful.{IsLawful};
+ghost use Rattle.frames.specs.FrameStream.{AreLawful};
+ghost use Rattle.worker_engine.specs.Serving.{replies_in};
 
 use byte_streams::{FusedSink, FusedSource};
 use frames::{Answer, Frame, FrameFault, Links, encode, encode_ask, encode_shard, read_frame};
@@ -55,7 +59,7 @@ fn joined(alloc: Global, parts: &[&[u8]]) -> Result<Vec<u8>, AllocError> {
 
 // A session of worker 0 over these bytes ends so, and has written this.
 fn expect_session(
-    rt: &impl Abort,
+    rt: &(impl Abort + Threads + Sync),
     alloc: Global,
     heard: &[&[u8]],
     ends: Result<Served, ServeFault>,
@@ -64,14 +68,14 @@ fn expect_session(
     let bytes = joined(alloc, heard)?;
     let mut source = bytes.as_slice();
     let mut sink = Vec::new(alloc);
-    let end = serve(alloc, 0, &mut source, &mut sink);
+    let end = serve(rt, alloc, 0, &mut source, &mut sink);
     assert_eq!(rt; end, ends);
     assert_eq!(rt; sink.as_slice(), joined(alloc, written)?.as_slice());
     Ok(())
 }
 
 fn expect_limited(
-    rt: &impl Abort,
+    rt: &(impl Abort + Threads + Sync),
     alloc: Global,
     limit: u64,
     ends: Result<Served, ServeFault>,
@@ -80,10 +84,16 @@ fn expect_limited(
     let bytes = joined(alloc, &[&SHARD, &ASK])?;
     let mut source = bytes.as_slice();
     let mut sink = Vec::new(alloc);
-    let end = serve_upto(alloc, 0, &mut source, &mut sink, limit);
+    let end = serve_upto(rt, alloc, 0, &mut source, &mut sink, limit);
     assert_eq!(rt; end, ends);
     assert_eq!(rt; sink.as_slice(), joined(alloc, written)?.as_slice());
     Ok(())
+}
+
+#[test]
+fn a_session_over_the_triangle(rt: HostRuntime) -> Result<(), Fail> {
+    let heard: [&[u8]; 2] = [&SHARD, &ASK];
+    expect_session(&rt, rt.alloc(), &heard, served(2, 1, 0), &[&HELLO, &ANSWER])
 }
 
 #[test]
@@ -156,17 +166,41 @@ fn a_scan_of_the_triangle(rt: HostRuntime) -> Result<(), Fail> {
     Ok(())
 }
 
+// How an engine scans.
+#[derive(Clone, Copy)]
+enum By {
+    OneThread,
+    Threads,
+}
+
+// The engine's reply to a lawful frame.
+fn reply_by(
+    rt: &(impl Threads + Sync),
+    by: By,
+    engine: &mut Engine,
+    frame: Frame,
+) -> Result<Option<Frame>, AllocError>
+    requires { IsLawful (value_of frame) }
+    ensures { IfOk result (λ reply. AreLawful (replies_in reply)) }
+{
+    match by {
+        By::OneThread => engine.hear(frame),
+        By::Threads => engine.hear_par(rt, frame),
+    }
+}
+
 // The engine hears the frame with these bytes, and replies so, if it replies.
 fn expect_reply(
-    rt: &impl Abort,
+    rt: &(impl Abort + Threads + Sync),
     alloc: Global,
+    by: By,
     engine: &mut Engine,
     heard: &[u8],
     reply: Option<&[u8]>,
 ) -> Result<(), Fail> {
     let mut source = heard;
     let frame = read_frame(alloc, &mut source)?;
-    match (engine.hear(frame)?, reply) {
+    match (reply_by(rt, by, engine, frame)?, reply) {
         (Some(told), Some(bytes)) => {
             assert!(rt; told.is_lawful());
             assert_eq!(rt; encode(alloc, &told)?.as_slice(), bytes);
@@ -178,16 +212,23 @@ fn expect_reply(
 
 #[test]
 fn an_engine_hears_each_kind_of_frame(rt: HostRuntime) -> Result<(), Fail> {
-    let alloc = rt.alloc();
-    let mut engine = Engine::new(alloc);
-    expect_reply(&rt, alloc, &mut engine, &ASK, Some(&NOT_HELD))?;
-    expect_reply(&rt, alloc, &mut engine, &SHARD, None)?;
-    expect_reply(&rt, alloc, &mut engine, &ASK, Some(&ANSWER))?;
-    expect_reply(&rt, alloc, &mut engine, &SHORT_ASK, Some(&NO_LABEL))?;
-    expect_reply(&rt, alloc, &mut engine, &HELLO, None)?;
-    expect_reply(&rt, alloc, &mut engine, &ANSWER, None)?;
-    expect_reply(&rt, alloc, &mut engine, &NOT_HELD, None)?;
-    expect_reply(&rt, alloc, &mut engine, &ASK, Some(&ANSWER))
+    let frames: [(&[u8], Option<&[u8]>); 8] = [
+        (&ASK, Some(&NOT_HELD)),
+        (&SHARD, None),
+        (&ASK, Some(&ANSWER)),
+        (&SHORT_ASK, Some(&NO_LABEL)),
+        (&HELLO, None),
+        (&ANSWER, None),
+        (&NOT_HELD, None),
+        (&ASK, Some(&ANSWER)),
+    ];
+    for by in [By::OneThread, By::Threads] {
+        let mut engine = Engine::new(rt.alloc());
+        for (heard, reply) in frames {
+            expect_reply(&rt, rt.alloc(), by, &mut engine, heard, reply)?;
+        }
+    }
+    Ok(())
 }
 
 #[test]
@@ -214,7 +255,7 @@ fn reads_that_fail_in_mid_session(rt: HostRuntime) -> Result<(), Fail> {
         let bytes = joined(rt.alloc(), &[&SHARD, &ASK, &ASK])?;
         let mut source = FusedSource::new(bytes, 78 + count, 5);
         let mut sink = Vec::new(rt.alloc());
-        let end = serve(rt.alloc(), 0, &mut source, &mut sink);
+        let end = serve(&rt, rt.alloc(), 0, &mut source, &mut sink);
         assert_eq!(rt; end, Err(ServeFault::Read(FrameFault::Device)));
         assert_eq!(rt;
             sink.as_slice(),
@@ -225,12 +266,17 @@ fn reads_that_fail_in_mid_session(rt: HostRuntime) -> Result<(), Fail> {
 }
 
 // A session ends at a write, and the sink has taken this.
-fn expect_cut(rt: &impl Abort, alloc: Global, mut sink: FusedSink, taken: &[u8]) -> Result<(), Fail>
+fn expect_cut(
+    rt: &(impl Abort + Threads + Sync),
+    alloc: Global,
+    mut sink: FusedSink,
+    taken: &[u8],
+) -> Result<(), Fail>
     requires { sink.setbacks < 2 ^ 64 - 1 }
 {
     let bytes = joined(alloc, &[&SHARD, &ASK])?;
     let mut source = bytes.as_slice();
-    let end = serve(alloc, 0, &mut source, &mut sink);
+    let end = serve(rt, alloc, 0, &mut source, &mut sink);
     assert_eq!(rt; end, Err(ServeFault::Write));
     assert_eq!(rt; sink.held(), taken);
     Ok(())
@@ -408,7 +454,8 @@ fn a_session_over_ten_thousand_links(rt: HostRuntime) -> Result<(), Fail> {
 
 // The offers that the engine answers to an ask of this shard under these labels.
 fn answered(
-    rt: &impl Abort,
+    rt: &(impl Abort + Threads + Sync),
+    by: By,
     engine: &mut Engine,
     shard: u32,
     labels: Labels,
@@ -419,7 +466,7 @@ fn answered(
         labels,
     };
     assert!(rt; ask.is_lawful());
-    match engine.hear(ask)?.expect(rt, "a reply") {
+    match reply_by(rt, by, engine, ask)?.expect(rt, "a reply") {
         Frame::Answer(answer) => Ok(answer.offers),
         _ => panic!(rt; "no answer"),
     }
@@ -428,8 +475,6 @@ fn answered(
 #[test]
 fn links_laid_aside_are_live_again(rt: HostRuntime) -> Result<(), Fail> {
     let alloc = rt.alloc();
-    let mut engine = Engine::new(alloc);
-    expect_reply(&rt, alloc, &mut engine, &SHARD, None)?;
     let all: &[(u32, u32)] = &[(1, 0), (2, 0), (3, 2)];
     let asked: [(&[u32], &[(u32, u32)]); 5] = [
         (&[1, 2, 3], all),
@@ -438,10 +483,14 @@ fn links_laid_aside_are_live_again(rt: HostRuntime) -> Result<(), Fail> {
         (&[1, 2, 3], all),
         (&[1, 2, 3, 4], all),
     ];
-    for (labels, expected) in asked {
-        let labels = Labels::of_list(Vec::from_slice(alloc, labels)?).expect(&rt, "labels");
-        let offers = answered(&rt, &mut engine, 0, labels)?;
-        assert_eq!(rt; offers.pairs(), expected);
+    for by in [By::OneThread, By::Threads] {
+        let mut engine = Engine::new(alloc);
+        expect_reply(&rt, alloc, by, &mut engine, &SHARD, None)?;
+        for (labels, expected) in asked {
+            let labels = Labels::of_list(Vec::from_slice(alloc, labels)?).expect(&rt, "labels");
+            let offers = answered(&rt, by, &mut engine, 0, labels)?;
+            assert_eq!(rt; offers.pairs(), expected);
+        }
     }
     Ok(())
 }
@@ -474,10 +523,11 @@ fn many_links_laid_aside(rt: HostRuntime) -> Result<(), Fail> {
     for size in [1, 2, 10, 50, 50, 1000, 2, 10, 1] {
         let labels = neighbours(&rt, alloc, MANY, size)?;
         let expected = plain_offers(&rt, alloc, links.as_slice(), &labels)?;
-        let first = answered(&rt, &mut engine, 0, labels)?;
+        let first = answered(&rt, By::OneThread, &mut engine, 0, labels)?;
         assert_eq!(rt; first.pairs(), expected.as_slice());
         if size != 10 {
-            let second = answered(&rt, &mut engine, 1, neighbours(&rt, alloc, MANY, size)?)?;
+            let again = neighbours(&rt, alloc, MANY, size)?;
+            let second = answered(&rt, By::OneThread, &mut engine, 1, again)?;
             assert_eq!(rt; second.pairs(), expected.as_slice());
         }
     }
@@ -527,24 +577,6 @@ fn a_scan_by_threads_is_that_of_one(rt: HostRuntime) -> Result<(), Fail> {
     Ok(())
 }
 
-// The offers that the engine answers to an ask of shard 0 under these labels, by threads.
-fn answered_by_threads(
-    rt: &(impl Abort + Threads + Sync),
-    engine: &mut Engine,
-    labels: Labels,
-) -> Result<Offers, Fail> {
-    let ask = Frame::Ask {
-        round: 1,
-        shard: 0,
-        labels,
-    };
-    assert!(rt; ask.is_lawful());
-    match engine.hear_par(rt, ask)?.expect(rt, "a reply") {
-        Frame::Answer(answer) => Ok(answer.offers),
-        _ => panic!(rt; "no answer"),
-    }
-}
-
 // Asks as components grow, and then under labels that don't coarsen the last: by live places, and by all.
 #[test]
 fn near_links_laid_aside_by_threads(rt: HostRuntime) -> Result<(), Fail> {
@@ -560,21 +592,8 @@ fn near_links_laid_aside_by_threads(rt: HostRuntime) -> Result<(), Fail> {
     for size in [1, 2, 2, 4, 4, 1000, 2, 10, 1] {
         let labels = neighbours(&rt, alloc, NEAR, size)?;
         let expected = plain_offers(&rt, alloc, links.as_slice(), &labels)?;
-        let offers = answered_by_threads(&rt, &mut engine, labels)?;
+        let offers = answered(&rt, By::Threads, &mut engine, 0, labels)?;
         assert_eq!(rt; offers.pairs(), expected.as_slice());
     }
-    Ok(())
-}
-
-#[test]
-fn a_triangle_by_threads(rt: HostRuntime) -> Result<(), Fail> {
-    let alloc = rt.alloc();
-    let mut engine = Engine::new(alloc);
-    let mut source = SHARD.as_slice();
-    let shard = read_frame(alloc, &mut source)?;
-    assert!(rt; engine.hear_par(&rt, shard)?.is_none());
-    let labels = Labels::apart(alloc, 3)?;
-    let offers = answered_by_threads(&rt, &mut engine, labels)?;
-    assert_eq!(rt; offers.pairs(), [(1, 0), (2, 0), (3, 2)].as_slice());
     Ok(())
 }

@@ -15,6 +15,7 @@ use byte_streams::{Sink, Source, put};
 use frames::{Frame, FrameFault, encode, fault_bytes, read_frame};
 use limits::MAX_WORKERS;
 use std::alloc::Allocator;
+use std::thread::Threads;
 use thiserror::Error;
 
 /// What a session heard and wrote.
@@ -61,13 +62,14 @@ pub(crate) enum Written {
 /// A worker's session that hears at most `frames` frames.
 ///
 /// It writes the hello of `worker`, and then hears frame after frame and writes one reply to each ask, until the
-/// source ends before a frame. An ask that finds no memory for its answer is replied to by a fault with the code
+/// source ends before a frame. It scans by threads, as [`scan_par`](crate::scan_par) does. An ask that finds no memory for its answer is replied to by a fault with the code
 /// [`NO_MEMORY`](crate::NO_MEMORY), which takes none, and the session goes on.
 ///
 /// `Read` where no whole lawful frame could be read, `Write` at the first write that fails or takes nothing,
 /// `Memory` where the hello couldn't be made or a shard not be kept, `TooMany` once `frames` frames were heard,
 /// without a further read. Nothing is flushed. It holds one frame and one reply at a time beside the shards.
-pub fn serve_upto<A: Allocator + Copy, S: Source, W: Sink>(
+pub fn serve_upto<R: Threads + Sync, A: Allocator + Copy + Send + Sync, S: Source, W: Sink>(
+    rt: &R,
     alloc: A,
     worker: u32,
     source: &mut S,
@@ -95,14 +97,15 @@ pub fn serve_upto<A: Allocator + Copy, S: Source, W: Sink>(
             Ok(frame) => frame,
             Err(fault) => return stopped(served, fault),
         };
-        let written = hear(alloc, &mut engine, frame, sink)?;
+        let written = hear(rt, alloc, &mut engine, frame, sink)?;
         served.count(written);
     }
     Err(ServeFault::TooMany)
 }
 
 /// A worker's session: [`serve_upto`] with at most 2^32 frames.
-pub fn serve<A: Allocator + Copy, S: Source, W: Sink>(
+pub fn serve<R: Threads + Sync, A: Allocator + Copy + Send + Sync, S: Source, W: Sink>(
+    rt: &R,
     alloc: A,
     worker: u32,
     source: &mut S,
@@ -117,7 +120,7 @@ pub fn serve<A: Allocator + Copy, S: Source, W: Sink>(
         (S.state source.old) (S.state source.new) (W.state sink.old) (W.state sink.new)) }
     ensures in_limit { IfOk result (λ served. served.frames < 2 ^ 32) }
 {
-    serve_upto(alloc, worker, source, sink, 1 << 32)
+    serve_upto(rt, alloc, worker, source, sink, 1 << 32)
 }
 
 // How a session ends where no frame was read: well where the stream ended before one.
@@ -185,7 +188,8 @@ fn write_whole<W: Sink>(sink: &mut W, text: &[u8]) -> Result<(), ServeFault>
 }
 
 // Hears a frame and writes what is owed for it. A fault needs no memory.
-fn hear<A: Allocator + Copy, W: Sink>(
+fn hear<R: Threads + Sync, A: Allocator + Copy + Send + Sync, W: Sink>(
+    rt: &R,
     alloc: A,
     engine: &mut Engine<A>,
     frame: Frame<A>,
@@ -199,7 +203,7 @@ fn hear<A: Allocator + Copy, W: Sink>(
     ensures again { OnOk result (W.can_write sink.new) }
 {
     let ask = asked(&frame);
-    match engine.hear(frame) {
+    match engine.hear_par(rt, frame) {
         Ok(None) => Ok(Written::Nothing),
         Ok(Some(reply)) => write_reply(alloc, &reply, sink),
         Err(_) => match ask {
