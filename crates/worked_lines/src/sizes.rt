@@ -1,4 +1,4 @@
-// A run past the size of every inner piece: 10,000 vertices and links.
+// Runs past the size of every inner piece: 10,000 vertices and links, and a list so long that it is scanned by threads.
 use crate::runs::{engines, run_of};
 use forest_run::Cutting;
 use std::alloc::Global;
@@ -29,11 +29,11 @@ fn ring(alloc: Global) -> Result<Vec<u8>, Fail> {
     Ok(file)
 }
 
-// The path, by weight and then by vertex.
-fn path_text(alloc: Global) -> Result<Vec<u8>, Fail> {
-    let mut text = Vec::from_slice(alloc, b"p sp 10000 9999\n")?;
+// The path of so many vertices, by weight and then by vertex, behind its problem line.
+fn path_text(alloc: Global, head: &[u8], count: u32) -> Result<Vec<u8>, Fail> {
+    let mut text = Vec::from_slice(alloc, head)?;
     for weight_of in 0..14u32 {
-        for vertex in 1..MANY {
+        for vertex in 1..count {
             if weight(vertex) == weight_of {
                 push_arc(alloc, &mut text, vertex)?;
             }
@@ -47,7 +47,7 @@ fn path_text(alloc: Global) -> Result<Vec<u8>, Fail> {
 fn a_ring_of_ten_thousand_over_three_workers(rt: HostRuntime) -> Result<(), Fail> {
     let alloc = rt.alloc();
     let file = ring(alloc)?;
-    let text = path_text(alloc)?;
+    let text = path_text(alloc, b"p sp 10000 9999\n", MANY)?;
     let lines = engines(alloc, 3)?;
     let size = (MANY, u64::from(MANY));
     let counts = run_of(
@@ -60,5 +60,40 @@ fn a_ring_of_ten_thousand_over_three_workers(rt: HostRuntime) -> Result<(), Fail
         size,
     );
     assert_eq!(rt; counts, [13, 7, 98, 98, 0, 0]);
+    Ok(())
+}
+
+const FEW: u32 = 100;
+
+// The path of a hundred vertices, and before it 9,000 heavier arcs to its end.
+fn fan(alloc: Global) -> Result<Vec<u8>, Fail> {
+    let mut file = Vec::from_slice(alloc, b"p sp 100 9099\n")?;
+    for place in 0..9000u32 {
+        let line = format!(in alloc; "a {} 100 {}\n", 1 + place % 99, 20 + place % 13)?;
+        file.extend_from_slice(line.as_bytes())?;
+    }
+    for vertex in 1..FEW {
+        push_arc(alloc, &mut file, vertex)?;
+    }
+    Ok(file)
+}
+
+// The coordinator scans the one shard itself, by threads. The components are 100, 50, 25, 12, 6, 3, 1.
+#[test]
+fn many_links_of_few_vertices_without_a_worker(rt: HostRuntime) -> Result<(), Fail> {
+    let alloc = rt.alloc();
+    let file = fan(alloc)?;
+    let text = path_text(alloc, b"p sp 100 99\n", FEW)?;
+    let lines = engines(alloc, 0)?;
+    let counts = run_of(
+        &rt,
+        alloc,
+        file.as_slice(),
+        Cutting::Even(1),
+        lines,
+        text.as_slice(),
+        (FEW, 9099),
+    );
+    assert_eq!(rt; counts, [6, 1, 0, 0, 7, 0]);
     Ok(())
 }

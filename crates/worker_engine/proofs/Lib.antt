@@ -2,6 +2,7 @@ pub mod BestSoFar
 pub mod Scans
 pub mod Laid
 pub mod Merging
+pub mod Tables
 pub mod Shelves
 pub mod Offering
 pub mod Replying

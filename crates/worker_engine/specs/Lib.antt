@@ -2,6 +2,7 @@ pub mod Scanning
 pub mod Serving
 pub mod Live
 pub mod Parts
+pub mod Tables
 pub mod Session
 pub mod Laws
 pub mod Served

@@ -35,6 +35,7 @@ pub mod laws;
 mod parallel;
 mod scanning;
 mod session;
+mod table;
 
 pub use engine::{Engine, NO_LABEL, NO_MEMORY, NOT_HELD};
 pub use scanning::{Scanner, scan, scan_par};

@@ -4,7 +4,8 @@ ghost use denote.Param.Send.{IsSync, IsSend, Frees};
 ghost use Rattle.worker_engine.specs.Scanning.{AreBest};
 ghost use Rattle.worker_engine.specs.Parts.{CanScan, count_of, place_at, SayPlaces};
 
-use crate::scanning::{Best, NO_PLACE, clear, find_best, find_best_live, keep_lesser};
+use crate::scanning::{Best, NO_PLACE, find_best, find_best_live};
+use crate::table::Table;
 use limits::MAX_SHARD_LINKS;
 use link_key::Link;
 use rayon::{current_num_threads, join};
@@ -17,10 +18,11 @@ pub(crate) const FEW_LINKS: usize = 4096;
 // How often the links to be scanned are halved: as often as there are processors for, while a part has as many links as a
 // table of its own has labels.
 pub(crate) fn halvings_of<R: Threads>(rt: &R, count: usize, labels: usize) -> usize {
-    if count < FEW_LINKS {
+    let most = count / labels.max(1);
+    if count < FEW_LINKS || most < 2 {
         return 0;
     }
-    let parts = current_num_threads(rt).min(count / labels.max(1)).max(1);
+    let parts = current_num_threads(rt).min(most).max(1);
     parts.ilog2() as usize
 }
 
@@ -42,9 +44,9 @@ pub(crate) fn best_of_all<R: Threads + Sync, A: Allocator + Copy + Send + Sync>(
     live: Option<&[u32]>,
     labels: &[u32],
     halvings: usize,
-) -> Result<Vec<Best, A>, AllocError>
+) -> Result<Table<A>, AllocError>
     requires can { CanScan links.now labels.now live }
-    ensures best { IfOk result (λ table. AreBest links.now labels.now 0 (length links.now) table.items) }
+    ensures best { IfOk result (λ table. AreBest links.now labels.now 0 (length links.now) table) }
 {
     let count = how_many(links, live);
     best_between(rt, alloc, links, live, labels, 0, count, halvings)
@@ -62,29 +64,29 @@ pub(crate) fn best_between<R: Threads + Sync, A: Allocator + Copy + Send + Sync>
     from: usize,
     to: usize,
     halvings: usize,
-) -> Result<Vec<Best, A>, AllocError>
+) -> Result<Table<A>, AllocError>
     requires can { CanScan links.now labels.now live }
     requires range { from ≤ to }
     requires in_list { to ≤ count_of links.now live }
     ensures best { IfOk result (λ table.
-        AreBest links.now labels.now (place_at links.now live.entry from) (place_at links.now live.entry to) table.items) }
+        AreBest links.now labels.now (place_at links.now live.entry from) (place_at links.now live.entry to) table) }
 {
     if halvings == 0 || to - from < FEW_LINKS {
         return best_alone(alloc, links, live, labels, from, to);
     }
     let middle = from + (to - from) / 2;
-    let front = move || -> Result<Vec<Best, A>, AllocError>
+    let front = move || -> Result<Table<A>, AllocError>
         requires { IsSync R.row × IsSend A.row × Frees A.Allocator A.dealloc_token × (0 < halvings) × CanScan links.now labels.now live × (from ≤ middle) × (middle ≤ count_of links.now live) }
-        ensures { IfOk result (λ table. AreBest links.entry.now labels.entry.now (place_at links.entry.now live.entry from) (place_at links.entry.now live.entry middle) table.items) }
+        ensures { IfOk result (λ table. AreBest links.entry.now labels.entry.now (place_at links.entry.now live.entry from) (place_at links.entry.now live.entry middle) table) }
     { best_between(rt, alloc, links, live, labels, from, middle, halvings - 1) };
-    let back = move || -> Result<Vec<Best, A>, AllocError>
+    let back = move || -> Result<Table<A>, AllocError>
         requires { IsSync R.row × IsSend A.row × Frees A.Allocator A.dealloc_token × (0 < halvings) × CanScan links.now labels.now live × (middle ≤ to) × (to ≤ count_of links.now live) }
-        ensures { IfOk result (λ table. AreBest links.entry.now labels.entry.now (place_at links.entry.now live.entry middle) (place_at links.entry.now live.entry to) table.items) }
+        ensures { IfOk result (λ table. AreBest links.entry.now labels.entry.now (place_at links.entry.now live.entry middle) (place_at links.entry.now live.entry to) table) }
     { best_between(rt, alloc, links, live, labels, middle, to, halvings - 1) };
     let (earlier, later) = join(rt, front, back);
     let mut table = earlier?;
     let rest = later?;
-    merge(links, &mut table, rest.as_slice());
+    merge(links, &mut table, rest.bests());
     Ok(table)
 }
 
@@ -96,34 +98,34 @@ fn best_alone<A: Allocator + Copy>(
     labels: &[u32],
     from: usize,
     to: usize,
-) -> Result<Vec<Best, A>, AllocError>
+) -> Result<Table<A>, AllocError>
     requires can { CanScan links.now labels.now live }
     requires range { from ≤ to }
     requires in_list { to ≤ count_of links.now live }
     ensures best { IfOk result (λ table.
-        AreBest links.now labels.now (place_at links.now live.entry from) (place_at links.now live.entry to) table.items) }
+        AreBest links.now labels.now (place_at links.now live.entry from) (place_at links.now live.entry to) table) }
 {
-    let mut table = Vec::new(alloc);
-    clear(&mut table, labels)?;
+    let mut table = Table::new(alloc);
+    table.clear(labels.len())?;
     match live {
-        Some(places) => find_best_live(links, places, labels, from, to, table.as_mut_slice()),
-        None => find_best(links, labels, from, to, table.as_mut_slice()),
+        Some(places) => find_best_live(links, places, labels, from, to, &mut table),
+        None => find_best(links, labels, from, to, &mut table),
     }
     Ok(table)
 }
 
 // Takes what was kept for later links into a table of the earlier ones. Of equal links the earlier one stays.
-fn merge<A: Allocator>(links: &[Link], table: &mut Vec<Best, A>, later: &[Best])
+fn merge<A: Allocator + Copy>(links: &[Link], table: &mut Table<A>, later: &[Best])
     requires few_links { length links.now ≤ MAX_SHARD_LINKS }
-    requires each_label { length table.old.items ≡ length later.now }
+    requires each_label { length table.old ≡ length later.now }
     requires later { SayPlaces links.now later.now }
-    ensures best { (labels : List ℕ) (from at to : ℕ) → from ≤ at → at ≤ to → AreBest links.now labels from at table.old.items
-        → AreBest links.now labels at to later.now → AreBest links.now labels from to table.new.items }
+    ensures best { (labels : List ℕ) (from at to : ℕ) → from ≤ at → at ≤ to → AreBest links.now labels from at table.old
+        → AreBest links.now labels at to later.now → AreBest links.now labels from to table.new }
 {
     for i in 0..later.len() {
         let next = later[i];
         if next.place != NO_PLACE {
-            keep_lesser(&mut table[i], links, next);
+            table.keep(i, links, next);
         }
     }
 }

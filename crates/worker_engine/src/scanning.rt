@@ -7,6 +7,7 @@ ghost use Rattle.worker_engine.specs.Scanning.{no_best, Says, KeepsLesser, AreBe
 ghost use Rattle.worker_engine.specs.Live.{AreLive};
 
 use crate::parallel::{best_of_all, halvings_of, how_many};
+use crate::table::Table;
 use limits::MAX_SHARD_LINKS;
 use link_key::{Labels, Link, Offers};
 use std::alloc::{AllocError, Allocator, Global};
@@ -17,12 +18,12 @@ use std::thread::Threads;
 // that link stands. Most comparisons need the weight alone, and so no look at a link anywhere in the list.
 #[derive(Clone, Copy)]
 pub(crate) struct Best {
-    weight: i32,
+    pub(crate) weight: i32,
     pub(crate) place: u32,
 }
 
 // The weight and the place of no link: no weight is greater, and no shard has so many links.
-const NO_WEIGHT: i32 = i32::MAX;
+pub(crate) const NO_WEIGHT: i32 = i32::MAX;
 
 pub(crate) const NO_PLACE: u32 = u32::MAX;
 
@@ -67,7 +68,7 @@ pub fn scan_par<R: Threads + Sync, A: Allocator + Copy + Send + Sync, B: Allocat
 /// labels, asks for memory for it. Contracts see how many labels the table has: those of the last scan.
 #[derive(Drop)]
 pub struct Scanner<A: Allocator = Global> {
-    table: Vec<Best, A>,
+    table: Table<A>,
 }
 
 impl<A: Allocator> Model for Scanner<A> {
@@ -75,7 +76,7 @@ impl<A: Allocator> Model for Scanner<A> {
 
     ghost Value = { ℕ };
 
-    ghost view = { λ s. length s.table.items };
+    ghost view = { λ s. length s.table };
 }
 
 impl<A: Allocator + Copy> Scanner<A> {
@@ -84,7 +85,7 @@ impl<A: Allocator + Copy> Scanner<A> {
         ensures no_labels { result ≡ 0 }
     {
         Scanner {
-            table: Vec::new(alloc),
+            table: Table::new(alloc),
         }
     }
 
@@ -102,10 +103,9 @@ impl<A: Allocator + Copy> Scanner<A> {
         ensures table { OnOk result (self.new ≡ length labels.now) }
     {
         let labels = labels.as_slice();
-        clear(&mut self.table, labels)?;
-        find_best(links, labels, 0, links.len(), self.table.as_mut_slice());
-        let alloc = *self.table.allocator();
-        offers_of(alloc, links, labels, self.table.as_slice())
+        self.table.clear(labels.len())?;
+        find_best(links, labels, 0, links.len(), &mut self.table);
+        offers_of(links, labels, &self.table)
     }
 
     // The same offers, by the links at the live places alone; by all links where none are told.
@@ -140,10 +140,9 @@ impl<A: Allocator + Copy> Scanner<A> {
         ensures table { OnOk result (self.new ≡ length labels.now) }
     {
         let labels = labels.as_slice();
-        clear(&mut self.table, labels)?;
-        find_all_live(links, places, labels, self.table.as_mut_slice());
-        let alloc = *self.table.allocator();
-        offers_of(alloc, links, labels, self.table.as_slice())
+        self.table.clear(labels.len())?;
+        find_all_live(links, places, labels, &mut self.table);
+        offers_of(links, labels, &self.table)
     }
 }
 
@@ -183,35 +182,17 @@ impl<A: Allocator + Copy + Send + Sync> Scanner<A> {
             return self.scan_live(links, live, labels);
         }
         let labels = labels.as_slice();
-        let alloc = *self.table.allocator();
+        let alloc = self.table.allocator();
         self.table = best_of_all(rt, alloc, links, live, labels, halvings)?;
-        offers_of(alloc, links, labels, self.table.as_slice())
+        offers_of(links, labels, &self.table)
     }
-}
-
-// A table that keeps nothing for each label.
-pub(crate) fn clear<A: Allocator + Copy>(
-    table: &mut Vec<Best, A>,
-    labels: &[u32],
-) -> Result<(), AllocError>
-    ensures none_yet { OnOk result (table.new.items ≡ replicate (length labels.now) no_best) }
-{
-    table.clear();
-    table.resize(
-        labels.len(),
-        Best {
-            weight: NO_WEIGHT,
-            place: NO_PLACE,
-        },
-    )
 }
 
 // The offers of a table.
 fn offers_of<A: Allocator + Copy>(
-    alloc: A,
     links: &[Link],
     labels: &[u32],
-    table: &[Best],
+    table: &Table<A>,
 ) -> Result<Offers<A>, AllocError>
     requires few_links { length links.now ≤ MAX_SHARD_LINKS }
     requires ends { EndsUpTo (length labels.now) links.now }
@@ -219,7 +200,7 @@ fn offers_of<A: Allocator + Copy>(
     requires best { AreBest links.now labels.now 0 (length links.now) table.now }
     ensures light { IfOk result (AreLightOffers links.now labels.now) }
 {
-    let pairs = gather(alloc, links, labels, table)?;
+    let pairs = table.gather(links, labels)?;
     match Offers::of_pairs(pairs) {
         Some(offers) => Ok(offers),
         None => unreachable!(),
@@ -227,7 +208,13 @@ fn offers_of<A: Allocator + Copy>(
 }
 
 // The pass over the links from a place on before another.
-pub(crate) fn find_best(links: &[Link], labels: &[u32], from: usize, to: usize, table: &mut [Best])
+pub(crate) fn find_best<A: Allocator + Copy>(
+    links: &[Link],
+    labels: &[u32],
+    from: usize,
+    to: usize,
+    table: &mut Table<A>,
+)
     requires few_links { length links.now ≤ MAX_SHARD_LINKS }
     requires ends { EndsUpTo (length labels.now) links.now }
     requires labels { AreLabels labels.now }
@@ -242,7 +229,12 @@ pub(crate) fn find_best(links: &[Link], labels: &[u32], from: usize, to: usize, 
 }
 
 // The pass over the links at all live places.
-fn find_all_live(links: &[Link], places: &[u32], labels: &[u32], table: &mut [Best])
+fn find_all_live<A: Allocator + Copy>(
+    links: &[Link],
+    places: &[u32],
+    labels: &[u32],
+    table: &mut Table<A>,
+)
     requires few_links { length links.now ≤ MAX_SHARD_LINKS }
     requires ends { EndsUpTo (length labels.now) links.now }
     requires labels { AreLabels labels.now }
@@ -254,13 +246,13 @@ fn find_all_live(links: &[Link], places: &[u32], labels: &[u32], table: &mut [Be
 }
 
 // The pass over the links at the live places from one on before another. The others leave no label.
-pub(crate) fn find_best_live(
+pub(crate) fn find_best_live<A: Allocator + Copy>(
     links: &[Link],
     places: &[u32],
     labels: &[u32],
     from: usize,
     to: usize,
-    table: &mut [Best],
+    table: &mut Table<A>,
 )
     requires few_links { length links.now ≤ MAX_SHARD_LINKS }
     requires ends { EndsUpTo (length labels.now) links.now }
@@ -279,7 +271,12 @@ pub(crate) fn find_best_live(
 
 // Takes the link at the next place into the table: one whose ends have two labels leaves both, and no other.
 #[inline]
-fn keep_link(links: &[Link], labels: &[u32], place: u32, table: &mut [Best])
+fn keep_link<A: Allocator + Copy>(
+    links: &[Link],
+    labels: &[u32],
+    place: u32,
+    table: &mut Table<A>,
+)
     requires few_links { length links.now ≤ MAX_SHARD_LINKS }
     requires ends { EndsUpTo (length labels.now) links.now }
     requires labels { AreLabels labels.now }
@@ -296,8 +293,8 @@ fn keep_link(links: &[Link], labels: &[u32], place: u32, table: &mut [Best])
             weight: link.weight,
             place,
         };
-        keep_lesser(&mut table[low as usize - 1], links, next);
-        keep_lesser(&mut table[high as usize - 1], links, next);
+        table.keep(low as usize - 1, links, next);
+        table.keep(high as usize - 1, links, next);
     }
 }
 
@@ -321,28 +318,4 @@ pub(crate) fn keep_lesser(best: &mut Best, links: &[Link], next: Best)
         Some(earlier) if *earlier <= link => {}
         _ => *best = next,
     }
-}
-
-// The offers of a table: the labels that have a best place, in ascending order.
-fn gather<A: Allocator + Copy>(
-    alloc: A,
-    links: &[Link],
-    labels: &[u32],
-    table: &[Best],
-) -> Result<Vec<(u32, u32), A>, AllocError>
-    requires few_links { length links.now ≤ MAX_SHARD_LINKS }
-    requires ends { EndsUpTo (length labels.now) links.now }
-    requires labels { AreLabels labels.now }
-    requires best { AreBest links.now labels.now 0 (length links.now) table.now }
-    ensures light { IfOk result (λ pairs. AreLightOffers links.now labels.now pairs.items) }
-{
-    let mut pairs = Vec::new(alloc);
-    let mut label = 0;
-    for best in table {
-        label += 1;
-        if best.place != NO_PLACE {
-            pairs.push((label, best.place))?;
-        }
-    }
-    Ok(pairs)
 }

@@ -12,16 +12,16 @@ is_missing-requires g c =
     rw e (omega arith)
 
 pub scan_one-requires-clause-shard : goal.scan_one-requires-clause-shard
-scan_one-requires-clause-shard g c =
+scan_one-requires-clause-shard g c κs within =
     let e = scanned_cut _ _ _ c.loop-shard.invariant.scanned in
     rw e (omega arith)
 
 pub scan_one-requires-clause-round : goal.scan_one-requires-clause-round
-scan_one-requires-clause-round g c =
+scan_one-requires-clause-round g c κs within =
     round_after _ _ c.args.labels.now _ c.loop-shard.invariant.scanned c.requires.round
 
 pub scan_one-requires-clause-cut : goal.scan_one-requires-clause-cut
-scan_one-requires-clause-cut g c =
+scan_one-requires-clause-cut g c κs within =
     scanned_cut _ _ _ c.loop-shard.invariant.scanned ∙ c.requires.cut
 
 pub loop-shard-preserved : goal.loop-shard-preserved

@@ -7,8 +7,8 @@ use Rattle.forest_run.proofs.OneAsk.{told_of, light_of, is_taken_of}
 use Rattle.forest_run.proofs.Scanning.{scanned_one, took_of, now_taken}
 use Rattle.forest_run.proofs.scans.scan_one.Goals as goal
 
-pub scan-requires-clause-ends : goal.scan-requires-clause-ends
-scan-requires-clause-ends g c =
+pub scan_par-requires-clause-ends : goal.scan_par-requires-clause-ends
+scan_par-requires-clause-ends g c κs within =
     rw (c.shard.ensures.links, ← c.requires.cut) (c.requires.round.ends c.args.shard [] c.requires.shard)
 
 pub returns : goal.returns

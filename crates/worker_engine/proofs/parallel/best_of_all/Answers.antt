@@ -12,5 +12,5 @@ returns g c =
     let live = c.args.live in
     record {
       best = IfOk-then c.best_between.result _ _ c.best_between.ensures.best (λ table are.
-          bests_whole links labels live table.items c.requires.can (subst (λ n. AreBest links labels (place_at links live 0) (place_at links live n) table.items) c.how_many-count.ensures are));
+          bests_whole links labels live table c.requires.can (subst (λ n. AreBest links labels (place_at links live 0) (place_at links live n) table) c.how_many-count.ensures are));
     }

@@ -1,10 +1,15 @@
-use Rattle.std.proofs.Common.{pos, ◌≡◌, get_or, sym, ◌∙◌, subst, arith}
-use Rattle.std.proofs.lemmas.List.{get_or_default}
+use Rattle.std.proofs.Common.{pos, ◌≡◌, List, length, refl, ◌∙◌, arith}
+use Rattle.std.proofs.lemmas.List.{length-set}
 use Rattle.worker_engine.specs.declared.scanning.Best.{Best}
-use Rattle.worker_engine.specs.Scanning.{KeepsLesser}
-use Rattle.worker_engine.proofs.Merging.{merged_next, merged_skip, merged_all}
+use Rattle.worker_engine.proofs.Merging.{merged_none, merged_next, merged_skip, merged_all}
 use Rattle.worker_engine.proofs.parallel.merge.Goals as goal
 use Rattle.worker_engine.proofs.parallel.merge.Goals.{then-next, else-next}
+
+pub loop-i-init : goal.loop-i-init
+loop-i-init g c = record { each_label = refl; merged = λ labels from at to le le' earlier later. merged_none c.args.links.now labels from at to c.args.table.now earlier }
+
+pub keep-requires-clause-label : goal.keep-requires-clause-label
+keep-requires-clause-label g c = omega (arith, c.loop-i-test.true, c.loop-i.invariant.each_label, c.requires.each_label)
 
 pub loop-i-preserved : goal.loop-i-preserved
 loop-i-preserved g c =
@@ -13,19 +18,24 @@ loop-i-preserved g c =
     let within = c.loop-i-test.true in
     let default : Best = record { weight = pos 0; place = 0 } in
     elim c.if-next.branch [
-      | then-next w ↦ λ labels from at to le le' earlier later.
-          let merged = c.loop-i.invariant labels from at to le le' earlier later in
-          let kept : get_or c.loop-i.table.items i default ≡ w.index_mut.result.now =
-          get_or_default c.loop-i.table.items i default _ (omega (arith, within, later.each_vertex, merged.each_vertex)) ∙ sym w.index_mut.ensures.value in
-          rw w.table-is (merged_next links labels from at to le' c.requires.few_links c.args.later.now later i within default c.loop-i.table.items merged le w.keep_lesser.new.best
-          (subst (λ b. KeepsLesser links (get_or c.args.later.now i default) b w.keep_lesser.new.best) (sym kept) w.keep_lesser.ensures.lesser) w.if-next.true)
-      | else-next w ↦ λ labels from at to le le' earlier later.
-          rw w.table-is (merged_skip links labels from at to le' c.requires.few_links c.args.later.now later i within default c.loop-i.table.items
-          (c.loop-i.invariant labels from at to le le' earlier later) w.if-next.false)
+      | then-next w ↦
+          let kept = w.keep.ensures.kept in
+          rw (w.table-is, kept.new_is) (record {
+            each_label = length-set c.loop-i.table i kept.after ∙ c.loop-i.invariant.each_label;
+            merged = λ labels from at to le le' earlier later.
+                let merged = c.loop-i.invariant.merged labels from at to le le' earlier later in
+                merged_next links labels from at to le' c.requires.few_links c.args.later.now later i within default c.loop-i.table merged le kept.after (kept.lesser default) w.if-next.true;
+          })
+      | else-next w ↦ rw w.table-is (record {
+          each_label = c.loop-i.invariant.each_label;
+          merged = λ labels from at to le le' earlier later.
+              merged_skip links labels from at to le' c.requires.few_links c.args.later.now later i within default c.loop-i.table
+              (c.loop-i.invariant.merged labels from at to le le' earlier later) w.if-next.false;
+        })
     ]
 
 pub returns : goal.returns
 returns g c = record {
   best = λ labels from at to le le' earlier later.
-      merged_all c.args.links.now labels from at to c.loop-i.table.items c.loop-i.i (omega (arith, c.loop-i-test.false, later.each_vertex)) (c.loop-i.invariant labels from at to le le' earlier later);
+      merged_all c.args.links.now labels from at to c.loop-i.table c.loop-i.i (omega (arith, c.loop-i-test.false, later.each_vertex)) (c.loop-i.invariant.merged labels from at to le le' earlier later);
 }

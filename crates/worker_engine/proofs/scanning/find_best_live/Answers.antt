@@ -6,13 +6,13 @@ use Rattle.worker_engine.proofs.Scans.{best_of_none, bests_stay}
 use Rattle.worker_engine.proofs.scanning.find_best_live.Goals as goal
 
 pub loop-i-init : goal.loop-i-init
-loop-i-init c = (omega arith, rw c.requires.none_yet (best_of_none c.args.links.now c.args.labels.now (get_or c.args.places.now c.args.from (length c.args.links.now))))
+loop-i-init g c = (omega arith, rw c.requires.none_yet (best_of_none c.args.links.now c.args.labels.now (get_or c.args.places.now c.args.from (length c.args.links.now))))
 
 pub keep_link-requires-clause-next : goal.keep_link-requires-clause-next
-keep_link-requires-clause-next c = (live_within c.args.links.now c.args.labels.now 0 (length c.args.links.now) c.args.places.now c.loop-i.i _ c.requires.live (omega (arith, c.loop-i-test.true, c.requires.in_list))).1
+keep_link-requires-clause-next g c = (live_within c.args.links.now c.args.labels.now 0 (length c.args.links.now) c.args.places.now c.loop-i.i _ c.requires.live (omega (arith, c.loop-i-test.true, c.requires.in_list))).1
 
 pub loop-i-preserved : goal.loop-i-preserved
-loop-i-preserved c =
+loop-i-preserved g c =
     let links = c.args.links.now in
     let labels = c.args.labels.now in
     let places = c.args.places.now in
