@@ -1,9 +1,10 @@
 //! A worker's engine: it keeps shards and replies to asks.
-ghost use Rattle.std.specs.Prelude.{◌≡◌, ℕ, List, ◌≤◌, ◌↔◌, [], length, Some, IsSome, IfSome, IfOk, OnOk, OnErr, IsTrue, true};
+ghost use Rattle.std.specs.Prelude.{◌≡◌, ℕ, List, ◌≤◌, ◌↔◌, [], length, Some, IsSome, IfSome, IfOk, IfErr, OnOk, OnErr, IsTrue, true};
 ghost use Rattle.link_key.specs.Link.{EndsUpTo};
 ghost use Rattle.frames.specs.FrameValue.{value_of, ShardFrame, FaultFrame};
 ghost use Rattle.frames.specs.Lawful.{IsLawful, IsShard, IsAsk};
 ghost use Rattle.frames.specs.FrameStream.{AreLawful};
+ghost use Rattle.worker_engine.specs.Parts.{CanScan};
 ghost use Rattle.worker_engine.specs.Serving.{shelf_of, shelf_with, IsReply, MayWantMemory, AreReplyTo, replies_in};
 ghost use Rattle.worker_engine.specs.Live.{kept_in, AreLive, IsLive, IsAllLive, AreAllLive, AreAllUnder};
 
@@ -116,15 +117,12 @@ impl<A: Allocator + Copy> Engine<A> {
         ensures unchanged { OnErr result (self.new ≡ self.old) }
         ensures held { OnErr result (IsSome (shelf_of self.old shard)) }
     {
-        let Some(held) = self.shards.get(&shard) else {
-            return Ok(fault(round, shard, NOT_HELD));
+        let asked = match look_up(&self.shards, &self.labels, round, shard, &labels) {
+            Ok(asked) => asked,
+            Err(fault) => return Ok(fault),
         };
-        if !have_ends_up_to(held.links(), labels.n()) {
-            return Ok(fault(round, shard, NO_LABEL));
-        }
-        let coarser = labels.coarsens(&self.labels);
-        let live = live_places(held, coarser);
-        let offers = self.scanner.scan_live(held.links(), live, &labels)?;
+        let coarser = asked.coarser;
+        let offers = self.scanner.scan_live(asked.links, asked.live, &labels)?;
         lay_aside(&mut self.shards, shard, &labels, coarser);
         self.labels = labels;
         Ok(Frame::Answer(Answer {
@@ -133,6 +131,47 @@ impl<A: Allocator + Copy> Engine<A> {
             offers,
         }))
     }
+}
+
+// What an ask scans: the links of its shard, the live places among them, none where all are live, and whether its labels
+// coarsen those of the last answer.
+#[derive(Drop)]
+struct Asked<'a> {
+    links: &'a [Link],
+    live: Option<&'a [u32]>,
+    coarser: bool,
+}
+
+// What an ask scans, or the fault that is owed for it.
+fn look_up<'a, A: Allocator>(
+    shards: &'a BTreeMap<u32, Held<A>, A>,
+    last_labels: &Labels<A>,
+    round: u32,
+    shard: u32,
+    labels: &Labels<A>,
+) -> Result<Asked<'a>, Frame<A>>
+    requires ask { IsAsk round shard labels.now }
+    requires live { AreAllUnder last_labels.now shards.now.entries }
+    ensures owed { IfErr result (λ fault. IsReply (shelf_of (kept_in shards.now.entries) shard) round shard labels.now (value_of fault)) }
+    ensures lawful { IfErr result (λ fault. IsLawful (value_of fault)) }
+    ensures found { IfOk result (λ asked. shelf_of (kept_in shards.now.entries) shard ≡ Some asked.links.now) }
+    ensures can { IfOk result (λ asked. CanScan asked.links.now labels.now asked.live) }
+    ensures live { IfOk result (λ asked. IsTrue asked.coarser → AreAllUnder labels.now shards.now.entries) }
+{
+    let Some(held) = shards.get(&shard) else {
+        return Err(fault(round, shard, NOT_HELD));
+    };
+    let links = held.links();
+    if !have_ends_up_to(links, labels.n()) {
+        return Err(fault(round, shard, NO_LABEL));
+    }
+    let coarser = labels.coarsens(last_labels);
+    let live = live_places(held, coarser);
+    Ok(Asked {
+        links,
+        live,
+        coarser,
+    })
 }
 
 fn fault<A: Allocator>(round: u32, shard: u32, code: u8) -> Frame<A>

@@ -5,7 +5,7 @@ ghost use Rattle.frames.specs.Lawful.{IsLawful, IsAsk};
 ghost use Rattle.frames.specs.FrameStream.{AreLawful};
 ghost use Rattle.worker_engine.specs.Serving.{shelf_of, shelf_with, IsReply, MayWantMemory, AreReplyTo, replies_in};
 
-use super::{Engine, NO_LABEL, NOT_HELD, fault, have_ends_up_to, lay_aside, live_places};
+use super::{Engine, lay_aside, look_up};
 use frames::{Answer, Frame};
 use link_key::Labels;
 use std::alloc::{AllocError, Allocator};
@@ -57,15 +57,14 @@ impl<A: Allocator + Copy + Send + Sync> Engine<A> {
         ensures unchanged { OnErr result (self.new ≡ self.old) }
         ensures held { OnErr result (IsSome (shelf_of self.old shard)) }
     {
-        let Some(held) = self.shards.get(&shard) else {
-            return Ok(fault(round, shard, NOT_HELD));
+        let asked = match look_up(&self.shards, &self.labels, round, shard, &labels) {
+            Ok(asked) => asked,
+            Err(fault) => return Ok(fault),
         };
-        if !have_ends_up_to(held.links(), labels.n()) {
-            return Ok(fault(round, shard, NO_LABEL));
-        }
-        let coarser = labels.coarsens(&self.labels);
-        let live = live_places(held, coarser);
-        let offers = self.scanner.scan_live_par(rt, held.links(), live, &labels)?;
+        let coarser = asked.coarser;
+        let offers = self
+            .scanner
+            .scan_live_par(rt, asked.links, asked.live, &labels)?;
         lay_aside(&mut self.shards, shard, &labels, coarser);
         self.labels = labels;
         Ok(Frame::Answer(Answer {
