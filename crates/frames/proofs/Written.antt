@@ -1,7 +1,7 @@
 -- A text is what was written: the head, and the fields one behind the other.
-use Rattle.std.proofs.Common.{◌≡◌, ℕ, ◌+◌, ◌*◌, List, ◌∷◌, ◌++◌, length, ap, subst, ◌∙◌, append_assoc, arith}
+use Rattle.std.proofs.Common.{◌≡◌, ℕ, ◌+◌, ◌*◌, ◌≤◌, List, ◌∷◌, ◌++◌, length, take, drop, ap, subst, ◌∙◌, append_assoc, arith}
 use Rattle.std.specs.List.{flat_map}
-use Rattle.std.proofs.lemmas.List.{length-append}
+use Rattle.std.proofs.lemmas.List.{length-append, length-drop, take-append-le, take_all}
 use Rattle.link_key.specs.declared.links.Link.{Link}
 use Rattle.frames.specs.AnswerValue.{AnswerValue}
 use Rattle.frames.specs.FrameValue.{HelloFrame, ShardFrame, AskFrame, AnswerFrame}
@@ -45,6 +45,12 @@ ask_written round shard count labels t0 t1 t2 t3 t4 counted e0 e1 e2 e3 e4 =
     four_fields 3 (12 + 4 * count) (u32_text round) (u32_text shard) (u32_text (length labels)) (flat_map u32_text labels) t0 t1 t2 t3 t4
     (omega (arith, length-append (u32_text round) (u32_text shard ++ (u32_text (length labels) ++ flat_map u32_text labels)), length-append (u32_text shard) (u32_text (length labels) ++ flat_map u32_text labels), length-append (u32_text (length labels)) (flat_map u32_text labels), u32_length round, u32_length shard, u32_length (length labels), items_length u32_text 4 u32_length labels))
     e0 e1 e2 (e3 ∙ ap (λ (n : ℕ). t2 ++ u32_text n) counted) e4
+
+-- a text over whose first bytes others are written is whole
+pub over_written : (new front old : List ℕ) (len : ℕ) → new ≡ front ++ drop (length front) old → length front ≤ length old → length old ≡ len → take len (new ++ drop (length new) old) ≡ front ++ drop (length front) old
+over_written new front old len is within long =
+    let whole : len ≡ length new = omega (arith, ap (λ (t : List ℕ). length t) is, length-append front (drop (length front) old), length-drop (length front) old, within, long) in
+    take-append-le len new (drop (length new) old) (omega (arith, whole)) ∙ take_all len new (omega (arith, whole)) ∙ is
 
 pub answer_written : (a : AnswerValue) (count : ℕ) (t0 t1 t2 t3 t4 : List ℕ) → count ≡ length a.offers → t0 ≡ 4 ∷ u32_text (12 + 8 * count)
     → t1 ≡ t0 ++ u32_text a.round → t2 ≡ t1 ++ u32_text a.shard → t3 ≡ t2 ++ u32_text count → t4 ≡ t3 ++ flat_map offer_text a.offers → t4 ≡ text_of (AnswerFrame a)

@@ -1,5 +1,5 @@
 //! Frames as bytes.
-ghost use Rattle.std.specs.Prelude.{◌≡◌, ◌+◌, ◌*◌, ◌<◌, ◌≤◌, ◌∷◌, ◌++◌, length, IfOk, OnOk};
+ghost use Rattle.std.specs.Prelude.{◌≡◌, ◌+◌, ◌*◌, ◌<◌, ◌≤◌, ◌∷◌, ◌++◌, [], length, drop, IfOk, OnOk};
 ghost use Rattle.std.specs.List.{flat_map};
 ghost use Rattle.frames.specs.FrameValue.{value_of, HelloFrame, ShardFrame, AskFrame, AnswerFrame, FaultFrame};
 ghost use Rattle.frames.specs.FrameText.{u32_text, link_text, offer_text, text_of};
@@ -7,8 +7,8 @@ ghost use Rattle.frames.specs.Lawful.{IsLawful};
 
 use crate::fields::{put_u16, put_u32};
 use crate::frame::{Answer, Frame};
-use crate::items::{put_links, put_numbers, put_offers};
-use limits::{MAX_SHARD_LINKS, MAX_SHARDS};
+use crate::items::{put_links, put_numbers, put_offers, spells};
+use limits::{MAX_SHARD_LINKS, MAX_SHARDS, MAX_VERTICES};
 use link_key::{Labels, Link, Shard};
 use std::alloc::{AllocError, Allocator};
 
@@ -83,13 +83,70 @@ pub fn encode_ask<A: Allocator, B: Allocator>(
     requires { shard < MAX_SHARDS }
     ensures { IfOk result (λ text. text.items ≡ text_of (AskFrame round shard labels.now)) }
 {
-    let count = labels.n();
-    let mut text = begin(alloc, 3, 12 + 4 * count)?;
-    put_u32(&mut text, round)?;
-    put_u32(&mut text, shard)?;
-    put_u32(&mut text, count)?;
-    put_numbers(&mut text, labels.as_slice())?;
+    let mut text = Vec::with_capacity(alloc, ASK_HEAD + 4 * labels.n() as usize)?;
+    put_ask(&mut text, round, shard, labels)?;
     Ok(text)
+}
+
+/// Puts the text of the frame that [`encode_ask`] encodes in place of another text, whose room it takes.
+///
+/// Where that text ends in the bytes of these labels, they stay, and the seventeen bytes before them alone are written:
+/// so the labels of a round are turned into bytes once for all its asks. That is seen by one look at those bytes. The
+/// only error is want of memory, where there is too little room; then the text is any.
+pub fn encode_ask_over<A: Allocator, B: Allocator>(
+    text: &mut Vec<u8, A>,
+    round: u32,
+    shard: u32,
+    labels: &Labels<B>,
+) -> Result<(), AllocError>
+    requires { shard < MAX_SHARDS }
+    ensures { OnOk result (text.new.items ≡ text_of (AskFrame round shard labels.now)) }
+{
+    if text.len() >= ASK_HEAD && spells(&text[ASK_HEAD..], labels.as_slice()) {
+        put_front(text.as_mut_slice(), &ask_head(round, shard, labels.n()));
+        return Ok(());
+    }
+    text.clear();
+    text.reserve(ASK_HEAD + 4 * labels.n() as usize)?;
+    put_ask(text, round, shard, labels)
+}
+
+// How many bytes stand before the labels of an ask.
+const ASK_HEAD: usize = 17;
+
+// The bytes of an ask before so many labels.
+#[tactic(auto, unfolding(crate::specs::FrameText::u32_text))]
+fn ask_head(round: u32, shard: u32, count: u32) -> [u8; 17]
+    requires { count ≤ MAX_VERTICES }
+    ensures { result ≡ (((3 ∷ u32_text (12 + 4 * count)) ++ u32_text round) ++ u32_text shard) ++ u32_text count }
+{
+    let [l0, l1, l2, l3] = (12 + 4 * count).to_be_bytes();
+    let [r0, r1, r2, r3] = round.to_be_bytes();
+    let [s0, s1, s2, s3] = shard.to_be_bytes();
+    let [c0, c1, c2, c3] = count.to_be_bytes();
+    [3, l0, l1, l2, l3, r0, r1, r2, r3, s0, s1, s2, s3, c0, c1, c2, c3]
+}
+
+// Writes these bytes over the first of a text.
+fn put_front(text: &mut [u8], bytes: &[u8])
+    requires { length bytes.now ≤ length text.old }
+    ensures { text.new ≡ bytes.now ++ drop (length bytes.now) text.old }
+{
+    text[..bytes.len()].copy_from_slice(bytes);
+}
+
+// Writes an ask into an empty text.
+fn put_ask<A: Allocator, B: Allocator>(
+    text: &mut Vec<u8, A>,
+    round: u32,
+    shard: u32,
+    labels: &Labels<B>,
+) -> Result<(), AllocError>
+    requires { text.old.items ≡ [] }
+    ensures { OnOk result (text.new.items ≡ text_of (AskFrame round shard labels.now)) }
+{
+    text.extend_from_slice(&ask_head(round, shard, labels.n()))?;
+    put_numbers(text, labels.as_slice())
 }
 
 fn encode_answer<A: Allocator, B: Allocator>(

@@ -1,12 +1,13 @@
 //! Frames from a stream of bytes.
 ghost use Rattle.std.specs.Prelude.{◌≡◌, ℕ, List, ◌+◌, ◌<◌, ◌≤◌, ◌^◌, ◌++◌, length, IfOk, IfErr, OnOk, vec_len};
 ghost use Rattle.byte_streams.specs.Streams.{Gave};
+ghost use Rattle.link_key.specs.Labels.{AreLabels};
 ghost use Rattle.frames.specs.FrameValue.{value_of};
 ghost use Rattle.frames.specs.FrameText.{text_of};
 ghost use Rattle.frames.specs.Lawful.{IsLawful};
 ghost use Rattle.frames.specs.ReadFault.{IsReadRefused, IsCutShort};
 
-use crate::decoding::decode_body;
+use crate::decoding::decode_body_after;
 use crate::fault::FrameFault;
 use crate::frame::Frame;
 use crate::head::decode_head;
@@ -43,10 +44,32 @@ pub fn read_frame<A: Allocator + Copy, S: Source>(
     ensures lasts { (fact : S.Fact) → S.lasts source.old fact → S.lasts source.new fact }
     ensures again { OnOk result (S.can_read source.new) }
 {
+    read_frame_after(alloc, source, &[])
+}
+
+/// The next frame of a stream, as [`read_frame`] has it, behind an ask under these labels.
+///
+/// Where it is another ask under them, they are seen to be the same by one look at their bytes, and copied: whether they
+/// are labels isn't judged again.
+pub fn read_frame_after<A: Allocator + Copy, S: Source>(
+    alloc: A,
+    source: &mut S,
+    last: &[u32],
+) -> Result<Frame<A>, FrameFault>
+    requires labels { AreLabels last.now }
+    requires can { S.can_read source.old }
+    ensures lawful { IfOk result (λ f. IsLawful (value_of f)) }
+    ensures text { IfOk result
+        (λ f. Gave 0 0 (text_of (value_of f)) (S.state source.old) (S.state source.new)) }
+    ensures refused { IfErr result
+        (λ fault. IsReadRefused fault (S.state source.old) (S.state source.new)) }
+    ensures lasts { (fact : S.Fact) → S.lasts source.old fact → S.lasts source.new fact }
+    ensures again { OnOk result (S.can_read source.new) }
+{
     let bytes = read_head(source)?;
     let head = decode_head(&bytes)?;
     let body = read_body(alloc, source, head.length)?;
-    decode_body(alloc, head, body.as_slice())
+    decode_body_after(alloc, head, body.as_slice(), last)
 }
 
 fn read_head<S: Source>(source: &mut S) -> Result<[u8; 5], FrameFault>

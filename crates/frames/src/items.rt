@@ -1,5 +1,5 @@
 //! Lists in bodies: texts of one length, one behind the other.
-ghost use Rattle.std.specs.Prelude.{◌≡◌, ◌++◌, ◌≤◌, ◌%◌, length, map, All, OnOk, IfOk, IfErr, IfSome, IfNone};
+ghost use Rattle.std.specs.Prelude.{◌≡◌, ◌++◌, ◌≤◌, ◌%◌, length, map, All, OnOk, IfOk, IfErr, IfSome, IfNone, IsTrue};
 ghost use Rattle.std.specs.Int.{w32, from_be_bytes};
 ghost use Rattle.std.specs.List.{flat_map};
 ghost use Rattle.frames.specs.FrameText.{u32_text, link_text, offer_text};
@@ -96,6 +96,28 @@ fn numbers_in<A: Allocator>(alloc: A, cells: &[[u8; 4]]) -> Result<Vec<u32, A>, 
         .iter()
         .map(|cell| u32::from_be_bytes(*cell))
         .collect(alloc)
+}
+
+// Whether these are the bytes of the numbers. It looks at all of them, so that they are compared many at a time.
+pub(crate) fn spells(bytes: &[u8], numbers: &[u32]) -> bool
+    ensures { IsTrue result → flat_map u32_text numbers.now ≡ bytes.now }
+{
+    if bytes.len() % 4 != 0 {
+        return false;
+    }
+    let (cells, _) = bytes.as_chunks::<4>();
+    cells.len() == numbers.len() && are_cells_of(cells, numbers)
+}
+
+fn are_cells_of(cells: &[[u8; 4]], numbers: &[u32]) -> bool
+    requires { length cells.now ≡ length numbers.now }
+    ensures { IsTrue result → numbers.now ≡ map (from_be_bytes w32) cells.now }
+{
+    let mut same = true;
+    for i in 0..cells.len() {
+        same &= u32::from_be_bytes(cells[i]) == numbers[i];
+    }
+    same
 }
 
 // The offers whose bytes these are.

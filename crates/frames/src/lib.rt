@@ -35,8 +35,8 @@ mod lawful;
 pub mod laws;
 
 pub use decoding::decode_body;
-pub use encoding::{encode, encode_ask, encode_shard, fault_bytes};
+pub use encoding::{encode, encode_ask, encode_ask_over, encode_shard, fault_bytes};
 pub use fault::FrameFault;
 pub use frame::{Answer, Frame, Links};
-pub use frame_reader::read_frame;
+pub use frame_reader::{read_frame, read_frame_after};
 pub use head::{Head, decode_head};

@@ -12,7 +12,7 @@ ghost use Rattle.ports.specs.Talking.{hello_once, shard_once};
 use crate::fault::PortFault;
 use crate::heard::Heard;
 use crate::line::Line;
-use frames::{Answer, Frame, FrameFault, encode_ask, encode_shard, read_frame};
+use frames::{Answer, Frame, FrameFault, encode_ask_over, encode_shard, read_frame};
 use limits::{MAX_SHARD_LINKS, MAX_SHARDS};
 use link_key::{Labels, Shard};
 use shard_set::ShardSet;
@@ -81,10 +81,10 @@ pub fn send_shard<L: Line, A: Allocator + Copy>(
     Ok(())
 }
 
-// Sends the ask.
+// Sends the ask. Its text takes the place of that of the last one.
 pub fn send_ask<L: Line, A: Allocator + Copy>(
-    alloc: A,
     heard: &mut Heard<L>,
+    text: &mut Vec<u8, A>,
     round: u32,
     shard: u32,
     labels: &Labels<A>,
@@ -97,7 +97,7 @@ pub fn send_ask<L: Line, A: Allocator + Copy>(
         (λ e. SendingFault e (L.state heard.old.line) (L.state heard.new.line)) }
     ensures faithful { (w : ℕ) → L.faithful heard.old.line w → L.faithful heard.new.line w }
 {
-    let text = encode_ask(alloc, round, shard, labels)?;
+    encode_ask_over(text, round, shard, labels)?;
     send(heard, text.as_slice())
 }
 

@@ -17,7 +17,7 @@ use std::alloc::Allocator;
 use std::marker::Model;
 
 /// A talk with a worker over a line that it owns: the cut whose shards are asked, whether the hello came,
-/// and which shards were sent, a bit each.
+/// which shards were sent, a bit each, and the text of the last ask, whose labels the next one may have too.
 #[derive(Drop)]
 pub struct Talk<'a, L, A: Allocator> {
     pub alloc: A,
@@ -26,6 +26,7 @@ pub struct Talk<'a, L, A: Allocator> {
     pub worker: u32,
     pub greeted: bool,
     pub sent: ShardSet,
+    pub text: Vec<u8, A>,
 }
 
 impl<'a, L, A: Allocator> Model for Talk<'a, L, A> {
@@ -64,7 +65,7 @@ impl<'a, L: Line, A: Allocator + Copy> Talk<'a, L, A> {
         greet(self.alloc, &mut self.heard, self.greeted, self.worker)?;
         self.greeted = true;
         send_shard(self.alloc, &mut self.heard, &mut self.sent, &part)?;
-        send_ask(self.alloc, &mut self.heard, round, shard, labels)?;
+        send_ask(&mut self.heard, &mut self.text, round, shard, labels)?;
         hear_answer(self.alloc, &mut self.heard)
     }
 }

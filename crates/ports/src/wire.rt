@@ -24,8 +24,9 @@ use std::marker::Model;
 /// A port that asks a worker over a line, which it owns.
 ///
 /// At its first ask it hears the worker's hello. It sends a shard before its first ask, and never again; it
-/// sends each frame whole, by one `put`, and copies labels into the frame alone. Every fault closes it for
-/// good, want of memory too. It keeps 512 bytes for the shards that were sent, whatever the cut.
+/// sends each frame whole, by one `put`, and turns the labels of a round into bytes at the first ask under them alone.
+/// Every fault closes it for good, want of memory too. It keeps 512 bytes for the shards that were sent, whatever the
+/// cut, and 4 bytes a vertex for the labels of its last ask.
 #[derive(Drop)]
 pub struct Wire<'a, L: Line, A: Allocator> {
     talk: Talk<'a, L, A>,
@@ -69,6 +70,7 @@ impl<'a, L: Line, A: Allocator + Copy> Wire<'a, L, A> {
                 worker,
                 greeted: false,
                 sent: ShardSet::empty(),
+                text: Vec::new(alloc),
             },
             is_open: true,
             asks: 0,

@@ -1,6 +1,7 @@
 //! A worker's engine: it keeps shards and replies to asks.
 ghost use Rattle.std.specs.Prelude.{◌≡◌, ℕ, List, ◌≤◌, ◌↔◌, [], length, Some, IsSome, IfSome, IfOk, IfErr, OnOk, OnErr, IsTrue, true};
 ghost use Rattle.link_key.specs.Link.{EndsUpTo};
+ghost use Rattle.link_key.specs.Labels.{AreLabels};
 ghost use Rattle.frames.specs.FrameValue.{value_of, ShardFrame, FaultFrame};
 ghost use Rattle.frames.specs.Lawful.{IsLawful, IsShard, IsAsk};
 ghost use Rattle.frames.specs.FrameStream.{AreLawful};
@@ -95,6 +96,13 @@ impl<A: Allocator + Copy> Engine<A> {
             }
             Frame::Hello { .. } | Frame::Answer(_) | Frame::Fault { .. } => Ok(None),
         }
+    }
+
+    // The labels of the last answer.
+    pub(crate) fn labels(&self) -> &[u32]
+        ensures { AreLabels result.now }
+    {
+        self.labels.as_slice()
     }
 
     // Keeps a shard's links under its number, in place of earlier ones.

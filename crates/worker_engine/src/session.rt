@@ -12,7 +12,7 @@ ghost use Rattle.worker_engine.specs.declared.session.Written.TheVariants.{AFaul
 
 use crate::engine::{Engine, NO_MEMORY};
 use byte_streams::{Sink, Source, put};
-use frames::{Frame, FrameFault, encode, fault_bytes, read_frame};
+use frames::{Frame, FrameFault, encode, fault_bytes, read_frame_after};
 use limits::MAX_WORKERS;
 use std::alloc::Allocator;
 use std::thread::Threads;
@@ -93,7 +93,7 @@ pub fn serve_upto<R: Threads + Sync, A: Allocator + Copy + Send + Sync, S: Sourc
         faults: 0,
     };
     while served.frames < frames {
-        let frame = match read_frame(alloc, source) {
+        let frame = match read_frame_after(alloc, source, engine.labels()) {
             Ok(frame) => frame,
             Err(fault) => return stopped(served, fault),
         };
