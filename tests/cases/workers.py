@@ -57,6 +57,13 @@ def small_graphs(_room):
 
 
 @case
+def lists_so_long_that_they_are_scanned_by_threads(_room):
+    file, text = drawn_graph(11, 700, 300_000)
+    for workers, shards in [(0, 1), (1, 2), (2, 1)]:
+        expect(ran(over(workers, shards), file), 0, text, b"")
+
+
+@case
 def forty_drawn_graphs_as_by_one_thread(_room):
     draw = random.Random(40)
     for seed in range(40):

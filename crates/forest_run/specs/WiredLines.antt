@@ -72,7 +72,7 @@ pub record LinesRefused {L : Type 0} (state : L → LineState) (faithful : L →
 abbrev pub Said : Type 0
 Said = List FrameValue × List Exchange
 
--- a new line's whole talk with this worker about shards of the cut: these frames were sent, shards that were asked for there, once each, and the asks of these exchanges, and nothing else; and the worker's hello and the answers of the exchanges got, and nothing else, or nothing where no hello came
+-- a new line's whole talk with this worker about shards of the cut: these frames were sent, shards that were asked for there, once each and before their first ask, and the asks of these exchanges, and nothing else; and the worker's hello and the answers of the exchanges got, and nothing else, or nothing where no hello came
 pub record HasTalked (cut : List (List Link)) (worker : ℕ) (line : LineState) (said : Said) : Type 0 where
   pub talk : Talk
   pub worker_is : talk.worker ≡ worker

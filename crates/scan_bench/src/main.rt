@@ -4,24 +4,36 @@
 //! The links and the labels are drawn by a fixed rule, which `benches/scan.cpp` follows too, so both programs print the
 //! same lines to standard output: how many offers there are, and the sum of their places. The times, the least of
 //! several runs in microseconds, go to standard error.
+//!
+//! It also measures scans of few links between few vertices by one thread and by threads, in turns, to see from how many
+//! links on threads are faster.
 #![tactic(auto)]
 
-ghost use Rattle.std.specs.Prelude.{◌≤◌, ◌↔◌, length, IsTrue};
+ghost use Rattle.std.specs.Prelude.{◌<◌, ◌≤◌, ◌^◌, ◌↔◌, length, IsTrue};
 ghost use Rattle.link_key.specs.Link.{EndsUpTo};
 
 use limits::MAX_SHARD_LINKS;
 use link_key::{Labels, Link};
 use std::alloc::{AllocError, Global};
-use std::time::{Duration, Instant};
-use worker_engine::scan;
+use std::thread::Threads;
+use std::time::{Clock, Duration, Instant};
+use worker_engine::{scan, scan_par};
 
 // How many vertices and links there are, and how often each scan is run.
 const SIZE: u32 = 1 << 20;
 
 const RUNS: usize = 9;
 
+// How many vertices the lists of few links are between, and how long they are.
+const FEW_VERTICES: u32 = 512;
+
+const FEW_LINKS: [u32; 7] = [1 << 14, 1 << 15, 1 << 16, 1 << 17, 1 << 18, 1 << 19, 1 << 20];
+
+// How often a list of few links is scanned.
+const MANY_RUNS: usize = 49;
+
 fn main(rt: HostRuntime) -> anyhow::Result<()> {
-    let links = drawn_links(rt.alloc())?;
+    let links = drawn_links(rt.alloc(), SIZE, SIZE)?;
     let apart = Labels::apart(rt.alloc(), SIZE)?;
     measure(&rt, "each vertex by itself", links.as_slice(), &apart)?;
     if let Some(scattered) = Labels::of_list(scattered_labels(rt.alloc())?) {
@@ -32,7 +44,45 @@ fn main(rt: HostRuntime) -> anyhow::Result<()> {
             &scattered,
         )?;
     }
+    for count in FEW_LINKS {
+        let few = drawn_links(rt.alloc(), count, FEW_VERTICES)?;
+        let labels = Labels::apart(rt.alloc(), FEW_VERTICES)?;
+        let (alone, by_threads) = compare(&rt, rt.alloc(), few.as_slice(), &labels)?;
+        eprintln!(
+            rt;
+            "{} links: scan {} ns, by threads {} ns",
+            few.len(),
+            alone.as_nanos(),
+            by_threads.as_nanos()
+        )?;
+    }
     Ok(())
+}
+
+// The least times of a scan by one thread and of one by threads, which give the same offers.
+fn compare(
+    rt: &(impl Clock + Threads + Sync),
+    alloc: Global,
+    links: &[Link],
+    labels: &Labels,
+) -> anyhow::Result<(Duration, Duration)> {
+    if links.len() > MAX_SHARD_LINKS || !have_labels(links, labels.n()) {
+        anyhow::bail!("links without labels");
+    }
+    let mut alone = Duration::MAX;
+    let mut by_threads = Duration::MAX;
+    for _ in 0..MANY_RUNS {
+        let start = Instant::now(rt)?;
+        let offers = scan(alloc, links, labels)?;
+        alone = alone.min(start.elapsed(rt)?);
+        let start = Instant::now(rt)?;
+        let others = scan_par(rt, alloc, links, labels)?;
+        by_threads = by_threads.min(start.elapsed(rt)?);
+        if offers.pairs() != others.pairs() {
+            anyhow::bail!("other offers by threads");
+        }
+    }
+    Ok((alone, by_threads))
 }
 
 // Prints what a scan offers, and the least time of several.
@@ -82,15 +132,18 @@ fn next(state: u64) -> u64 {
         .wrapping_add(1_442_695_040_888_963_407)
 }
 
-// Links between vertices drawn at random, with weights from 0 to 65,535; a draw of a loop gives none.
-fn drawn_links(alloc: Global) -> Result<Vec<Link>, AllocError> {
-    let mut links = Vec::with_capacity(alloc, SIZE as usize)?;
+// So many links between so many vertices drawn at random, with weights from 0 to 65,535; a draw of a loop gives none.
+fn drawn_links(alloc: Global, count: u32, vertices: u32) -> Result<Vec<Link>, AllocError>
+    requires some { 0 < vertices }
+    requires few { vertices ≤ 2 ^ 20 }
+{
+    let mut links = Vec::with_capacity(alloc, count as usize)?;
     let mut state: u64 = 1926;
-    for _ in 0..SIZE {
+    for _ in 0..count {
         state = next(state);
-        let tail = (state >> 33) as u32 % SIZE + 1;
+        let tail = (state >> 33) as u32 % vertices + 1;
         state = next(state);
-        let head = (state >> 33) as u32 % SIZE + 1;
+        let head = (state >> 33) as u32 % vertices + 1;
         state = next(state);
         let weight = (state >> 48) as u16;
         if let Some(link) = Link::of_arc(tail, head, weight as i32) {

@@ -1,4 +1,4 @@
-// Runs past the size of every inner piece: 10,000 vertices and links, and a list so long that it is scanned by threads.
+// Runs past the size of every inner piece: 10,000 vertices and links, and 9,000 links between few vertices.
 use crate::runs::{engines, run_of};
 use forest_run::Cutting;
 use std::alloc::Global;
@@ -78,7 +78,7 @@ fn fan(alloc: Global) -> Result<Vec<u8>, Fail> {
     Ok(file)
 }
 
-// The coordinator scans the one shard itself, by threads. The components are 100, 50, 25, 12, 6, 3, 1.
+// The coordinator scans the one shard itself. The components are 100, 50, 25, 12, 6, 3, 1.
 #[test]
 fn many_links_of_few_vertices_without_a_worker(rt: HostRuntime) -> Result<(), Fail> {
     let alloc = rt.alloc();

@@ -20,7 +20,8 @@
 //!
 //! Where to start a change: what may be written for a stream stands in `specs/Serving`, over whole streams, and
 //! how a session ends in `specs/Served`. `scanning` has the pass over the links, with its table in `specs/Scanning`;
-//! `parallel` has the passes over parts of them, which `specs/Parts` names; `held` lays links aside, as `specs/Live` says
+//! `table` has what is kept for each label, of which `specs/Tables` says what was touched; `parallel` has the passes over
+//! parts of the links, which `specs/Parts` names; `held` lays links aside, as `specs/Live` says
 //! of them; `engine` keeps and replies, `session` reads and writes. `proofs/Scans` follows the pass, by
 //! `proofs/BestSoFar`, `proofs/Merging` takes parts together, `proofs/Laid` follows the live places, `proofs/Shelves` what
 //! an engine keeps, `proofs/Offering` shows that light offers make a lawful answer, `proofs/Replying` and

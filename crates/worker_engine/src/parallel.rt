@@ -13,7 +13,7 @@ use std::alloc::{AllocError, Allocator};
 use std::thread::Threads;
 
 // So few links are worth no thread of their own.
-pub(crate) const FEW_LINKS: usize = 4096;
+pub(crate) const FEW_LINKS: usize = 1 << 17;
 
 // How often the links to be scanned are halved: as often as there are processors for, while a part has as many links as a
 // table of its own has labels.
