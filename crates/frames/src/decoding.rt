@@ -80,11 +80,7 @@ fn decode_shard<A: Allocator>(alloc: A, body: &[u8]) -> Result<Frame<A>, FrameFa
     Ok(Frame::Shard { number, links })
 }
 
-fn decode_ask<A: Allocator>(
-    alloc: A,
-    body: &[u8],
-    last: &[u32],
-) -> Result<Frame<A>, FrameFault>
+fn decode_ask<A: Allocator>(alloc: A, body: &[u8], last: &[u32]) -> Result<Frame<A>, FrameFault>
     requires labels { AreLabels last.now }
     requires length { IsWithItems 12 4 MAX_VERTICES (length body.now) }
     ensures frame { IfOk result (λ f. IsFrameOf (value_of f) 3 body.now) }

@@ -124,7 +124,9 @@ fn ask_head(round: u32, shard: u32, count: u32) -> [u8; 17]
     let [r0, r1, r2, r3] = round.to_be_bytes();
     let [s0, s1, s2, s3] = shard.to_be_bytes();
     let [c0, c1, c2, c3] = count.to_be_bytes();
-    [3, l0, l1, l2, l3, r0, r1, r2, r3, s0, s1, s2, s3, c0, c1, c2, c3]
+    [
+        3, l0, l1, l2, l3, r0, r1, r2, r3, s0, s1, s2, s3, c0, c1, c2, c3,
+    ]
 }
 
 // Writes these bytes over the first of a text.

@@ -27,7 +27,15 @@ const RUNS: usize = 9;
 // How many vertices the lists of few links are between, and how long they are.
 const FEW_VERTICES: u32 = 512;
 
-const FEW_LINKS: [u32; 7] = [1 << 14, 1 << 15, 1 << 16, 1 << 17, 1 << 18, 1 << 19, 1 << 20];
+const FEW_LINKS: [u32; 7] = [
+    1 << 14,
+    1 << 15,
+    1 << 16,
+    1 << 17,
+    1 << 18,
+    1 << 19,
+    1 << 20,
+];
 
 // How often a list of few links is scanned.
 const MANY_RUNS: usize = 49;
@@ -48,8 +56,7 @@ fn main(rt: HostRuntime) -> anyhow::Result<()> {
         let few = drawn_links(rt.alloc(), count, FEW_VERTICES)?;
         let labels = Labels::apart(rt.alloc(), FEW_VERTICES)?;
         let (alone, by_threads) = compare(&rt, rt.alloc(), few.as_slice(), &labels)?;
-        eprintln!(
-            rt;
+        eprintln!(rt;
             "{} links: scan {} ns, by threads {} ns",
             few.len(),
             alone.as_nanos(),

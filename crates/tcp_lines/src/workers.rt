@@ -42,12 +42,7 @@ impl Workers {
         count: u32,
     ) -> Result<(Vec<TcpLine>, Workers), AllocError>
     where
-        R: Threads
-            + Net<Listener = TcpListener, Stream = TcpStream>
-            + Sync
-            + Copy
-            + Send
-            + 'static,
+        R: Threads + Net<Listener = TcpListener, Stream = TcpStream> + Sync + Copy + Send + 'static,
         requires { count ≤ MAX_WORKERS }
 
         // As many lines as threads, and no more than were asked for. Nothing went over any of them.
@@ -105,7 +100,13 @@ fn start_one<R: Threads + Sync + Copy + Send + 'static>(
     let serves = move ||
         requires { worker < MAX_WORKERS }
     {
-        let _served = serve(&own, alloc, worker, &mut Untold(&stream), &mut Untold(&stream));
+        let _served = serve(
+            &own,
+            alloc,
+            worker,
+            &mut Untold(&stream),
+            &mut Untold(&stream),
+        );
     };
     thread::spawn(rt, serves).ok()
 }

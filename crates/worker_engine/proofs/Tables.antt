@@ -1,7 +1,7 @@
 -- A table by blocks of labels, some of which were touched.
-use Rattle.std.proofs.Common.{◌≡◌, ◌≢◌, ℕ, zero, suc, ◌+◌, ◌-◌, ◌*◌, ◌/◌, ◌<◌, ◌≤◌, ◌^◌, min, Bool, true, false, List, length, get_or, set, replicate, Contains, refl, sym, ap, ◌∙◌, subst, inl, inr, arith}
+use Rattle.std.proofs.Common.{◌≡◌, ℕ, zero, suc, ◌+◌, ◌-◌, ◌*◌, ◌/◌, ◌<◌, ◌≤◌, ◌^◌, min, Bool, true, false, List, length, get_or, set, replicate, Contains, refl, sym, ◌∙◌, subst, inl, inr, arith}
 use Rattle.std.proofs.lemmas.Bool.{cases_eq, cases_lt}
-use Rattle.std.proofs.lemmas.List.{ext_get_or, get_or-replicate, length-replicate, get_or_default, get_or-set_same, get_or-set_other, length-set}
+use Rattle.std.proofs.lemmas.List.{ext_get_or, get_or-replicate, length-replicate, get_or-set_same, get_or-set_other, length-set}
 use Rattle.link_key.specs.declared.links.Link.{Link}
 use Rattle.link_key.specs.Offers.{Offer}
 use Rattle.round_theory.specs.Offers.{Leaves}
@@ -67,9 +67,9 @@ pub untouched_next : (bests : List Best) (touched : List Bool) (block from step 
     → Untouched bests (set touched block false)
 untouched_next bests touched block from step untouched (within, at) is none before lt noted = elim (cases_eq (before / 8) block) [
   | inl same ↦ none before (elim (cases_lt from (length bests)) [
-      | inl some ↦ omega (arith, at some, same, is, lt, some)
-      | inr le ↦ omega (arith, le, lt)
-    ])
+    | inl some ↦ omega (arith, at some, same, is, lt, some)
+    | inr le ↦ omega (arith, le, lt)
+  ])
   | inr other ↦ untouched before lt (sym (get_or-set_other touched block (before / 8) false true other) ∙ noted)
 ]
 

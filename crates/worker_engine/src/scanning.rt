@@ -271,12 +271,7 @@ pub(crate) fn find_best_live<A: Allocator + Copy>(
 
 // Takes the link at the next place into the table: one whose ends have two labels leaves both, and no other.
 #[inline]
-fn keep_link<A: Allocator + Copy>(
-    links: &[Link],
-    labels: &[u32],
-    place: u32,
-    table: &mut Table<A>,
-)
+fn keep_link<A: Allocator + Copy>(links: &[Link], labels: &[u32], place: u32, table: &mut Table<A>)
     requires few_links { length links.now ≤ MAX_SHARD_LINKS }
     requires ends { EndsUpTo (length labels.now) links.now }
     requires labels { AreLabels labels.now }

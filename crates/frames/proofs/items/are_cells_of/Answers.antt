@@ -1,4 +1,4 @@
-use Rattle.std.proofs.Common.{ℕ, List, [], length, map, sym, ◌∙◌, arith}
+use Rattle.std.proofs.Common.{ℕ, List, [], map, sym, ◌∙◌, arith}
 use Rattle.std.specs.Int.{w32, from_be_bytes}
 use Rattle.std.proofs.lemmas.List.{ext_get_or, get_or-map, length-map}
 use Rattle.frames.proofs.items.are_cells_of.Goals as goal

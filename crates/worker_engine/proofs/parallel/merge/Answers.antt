@@ -1,4 +1,4 @@
-use Rattle.std.proofs.Common.{pos, ◌≡◌, List, length, refl, ◌∙◌, arith}
+use Rattle.std.proofs.Common.{pos, refl, ◌∙◌, arith}
 use Rattle.std.proofs.lemmas.List.{length-set}
 use Rattle.worker_engine.specs.declared.scanning.Best.{Best}
 use Rattle.worker_engine.proofs.Merging.{merged_none, merged_next, merged_skip, merged_all}
@@ -27,11 +27,11 @@ loop-i-preserved g c =
                 merged_next links labels from at to le' c.requires.few_links c.args.later.now later i within default c.loop-i.table merged le kept.after (kept.lesser default) w.if-next.true;
           })
       | else-next w ↦ rw w.table-is (record {
-          each_label = c.loop-i.invariant.each_label;
-          merged = λ labels from at to le le' earlier later.
-              merged_skip links labels from at to le' c.requires.few_links c.args.later.now later i within default c.loop-i.table
-              (c.loop-i.invariant.merged labels from at to le le' earlier later) w.if-next.false;
-        })
+        each_label = c.loop-i.invariant.each_label;
+        merged = λ labels from at to le le' earlier later.
+            merged_skip links labels from at to le' c.requires.few_links c.args.later.now later i within default c.loop-i.table
+            (c.loop-i.invariant.merged labels from at to le le' earlier later) w.if-next.false;
+      })
     ]
 
 pub returns : goal.returns

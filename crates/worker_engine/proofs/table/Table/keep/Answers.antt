@@ -1,4 +1,4 @@
-use Rattle.std.proofs.Common.{List, length, get_or, set, sym, ap, ◌∙◌, subst, arith}
+use Rattle.std.proofs.Common.{List, get_or, set, ap, ◌∙◌, subst}
 use Rattle.std.proofs.lemmas.List.{get_or_default}
 use Rattle.worker_engine.specs.declared.scanning.Best.{Best}
 use Rattle.worker_engine.specs.Scanning.{KeepsLesser}
