@@ -2,7 +2,7 @@
 use byte_streams::FusedSource;
 use frames::{
     Answer, Frame, FrameFault, Head, Links, decode_body, decode_head, encode, encode_ask,
-    encode_shard, fault_bytes, read_frame,
+    encode_ask_over, encode_shard, fault_bytes, read_frame, read_frame_after,
 };
 use link_key::{Labels, Link, Offers, Shard};
 use std::alloc::{AllocError, Global};
@@ -127,6 +127,87 @@ fn ask_with_each_vertex_apart(rt: HostRuntime) -> Result<(), Fail> {
             assert_eq!(rt; labels.as_slice(), [1, 2, 3].as_slice());
         }
         _ => assert!(rt; false),
+    }
+    Ok(())
+}
+
+fn labels_of(rt: &impl Abort, alloc: Global, list: &[u32]) -> Result<Labels, Fail> {
+    Ok(Labels::of_list(Vec::from_slice(alloc, list)?).expect(rt, "labels"))
+}
+
+// What stands in the text before, longer or shorter, of the same labels or of others, changes nothing.
+#[test]
+fn an_ask_in_place_of_another(rt: HostRuntime) -> Result<(), Fail> {
+    let rows: [(u32, u32, &[u32], &[u8]); 6] = [
+        (1, 0, &[1, 2, 3], &ASK),
+        (
+            2,
+            7,
+            &[1, 2, 3],
+            &[
+                3, 0, 0, 0, 24, 0, 0, 0, 2, 0, 0, 0, 7, 0, 0, 0, 3, 0, 0, 0, 1, 0, 0, 0, 2, 0, 0,
+                0, 3,
+            ],
+        ),
+        (
+            2,
+            8,
+            &[1, 1, 3],
+            &[
+                3, 0, 0, 0, 24, 0, 0, 0, 2, 0, 0, 0, 8, 0, 0, 0, 3, 0, 0, 0, 1, 0, 0, 0, 1, 0, 0,
+                0, 3,
+            ],
+        ),
+        (
+            3,
+            9,
+            &[],
+            &[3, 0, 0, 0, 12, 0, 0, 0, 3, 0, 0, 0, 9, 0, 0, 0, 0],
+        ),
+        (
+            3,
+            10,
+            &[],
+            &[3, 0, 0, 0, 12, 0, 0, 0, 3, 0, 0, 0, 10, 0, 0, 0, 0],
+        ),
+        (1, 0, &[1, 2, 3], &ASK),
+    ];
+    let mut text = Vec::new(rt.alloc());
+    for (round, shard, list, bytes) in rows {
+        let labels = labels_of(&rt, rt.alloc(), list)?;
+        assert!(rt; shard < 4096);
+        encode_ask_over(&mut text, round, shard, &labels)?;
+        assert_eq!(rt; text.as_slice(), bytes);
+    }
+    Ok(())
+}
+
+// Behind whatever labels an ask comes, its own are read; labels that are none are refused behind those that they differ
+// from in one number too.
+#[test]
+fn an_ask_behind_another(rt: HostRuntime) -> Result<(), Fail> {
+    let lasts: [&[u32]; 5] = [&[], &[1], &[1, 2, 3], &[1, 1, 3], &[1, 2, 3, 4]];
+    for list in lasts {
+        let last = labels_of(&rt, rt.alloc(), list)?;
+        let mut source = ASK.as_slice();
+        match read_frame_after(rt.alloc(), &mut source, last.as_slice())? {
+            Frame::Ask {
+                round,
+                shard,
+                labels,
+            } => {
+                assert_eq!(rt; (round, shard), (1, 0));
+                assert_eq!(rt; labels.as_slice(), [1, 2, 3].as_slice());
+            }
+            _ => assert!(rt; false),
+        }
+        assert!(rt; source.is_empty());
+        let mut wrong = ASK;
+        wrong[24] = 3;
+        match read_frame_after(rt.alloc(), &mut wrong.as_slice(), last.as_slice()) {
+            Ok(_) => assert!(rt; false),
+            Err(fault) => assert_eq!(rt; fault, FrameFault::BadField),
+        }
     }
     Ok(())
 }

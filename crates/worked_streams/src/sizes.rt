@@ -2,7 +2,8 @@
 // up past some size is proved as well as one that doesn't. What is expected is written by a formula, here.
 use byte_streams::FusedSource;
 use frames::{
-    Answer, Frame, Links, decode_body, decode_head, encode, encode_ask, encode_shard, read_frame,
+    Answer, Frame, Links, decode_body, decode_head, encode, encode_ask, encode_ask_over,
+    encode_shard, read_frame, read_frame_after,
 };
 use link_key::{Labels, Link, Offers, Shard};
 use std::alloc::{AllocError, Global};
@@ -118,6 +119,14 @@ fn an_ask_of_many_labels(rt: HostRuntime) -> Result<(), Fail> {
         encode_ask(rt.alloc(), 5, 4095, &labels)?.as_slice(),
         bytes.as_slice()
     );
+    let mut text = Vec::new(rt.alloc());
+    for shard in [4095, 7, 4095] {
+        encode_ask_over(&mut text, 5, shard, &labels)?;
+    }
+    assert_eq!(rt; text.as_slice(), bytes.as_slice());
+    let again = read_frame_after(rt.alloc(), &mut text.as_slice(), labels.as_slice())?;
+    assert!(rt; again.is_lawful());
+    assert_eq!(rt; encode(rt.alloc(), &again)?.as_slice(), bytes.as_slice());
     let frame = Frame::Ask {
         round: 5,
         shard: 4095,
