@@ -2,7 +2,7 @@
 use Rattle.std.proofs.Common.{◌≡◌, ℕ, ◌+◌, ◌⊎◌, inl, inr, List, [], ◌∷◌, ◌++◌, refl, ap, sym, ◌∙◌, subst, arith, append_assoc, append-nil, map, length}
 use Rattle.link_key.specs.Arc.{Arc}
 use Rattle.gr_text.specs.Statement.{Problem, ArcLine}
-use Rattle.gr_text.specs.Sort.{LineSort, Nothing, Makes, Unknown}
+use Rattle.gr_text.specs.Sort.{LineSort, Nothing, Makes}
 use Rattle.gr_text.specs.Graph.{AreLawfulLines, AreLawfulSoFar}
 use Rattle.gr_text.specs.Fault.{Told, Unsaid, Stated, AreTold, IsWrong, IsFaultAfter, IsFirstFaulty, Lacks}
 use Rattle.gr_text.specs.Laws.{NeverBoth, HasOneFault}
@@ -17,15 +17,12 @@ lawful_told : (lines : List (List ℕ)) (told : Told) → AreTold lines told →
 lawful_told lines Unsaid said = inl said
 lawful_told lines (Stated n m arcs) said = inr (n, m, arcs, said)
 
--- what stands before a line of lawful lines is lawful
-lawful_before : (lines : List (List ℕ)) (line : List ℕ) → AreLawfulSoFar (lines ++ line ∷ []) → AreLawfulSoFar lines
-lawful_before lines line lawful = let (told, said, ends) = lawful_ends lines line lawful in lawful_told lines told said
-
 -- a prefix of lawful lines is lawful
 AreLawfulSoFar-prefix : (lines more : List (List ℕ)) → AreLawfulSoFar (lines ++ more) → AreLawfulSoFar lines
 AreLawfulSoFar-prefix lines [] lawful = subst AreLawfulSoFar (append-nil lines) lawful
 AreLawfulSoFar-prefix lines (line ∷ more) lawful =
-    lawful_before lines line (AreLawfulSoFar-prefix (lines ++ line ∷ []) more (subst AreLawfulSoFar (sym (append_assoc lines (line ∷ []) more)) lawful))
+    let (told, said, ends) = lawful_ends lines line (AreLawfulSoFar-prefix (lines ++ line ∷ []) more (subst AreLawfulSoFar (sym (append_assoc lines (line ∷ []) more)) lawful)) in
+    lawful_told lines told said
 
 lawful_no_fault : (lines : List (List ℕ)) (number : ℕ) (kind : GrKind) → AreLawfulSoFar lines → IsFirstFaulty lines number kind → ⊥
 lawful_no_fault lines number kind lawful first =

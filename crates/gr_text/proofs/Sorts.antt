@@ -3,7 +3,7 @@ use Rattle.std.proofs.Common.{◌≡◌, ◌≢◌, ℕ, ℤ, pos, neg_ℤ, ◌�
 use Rattle.std.specs.List.{AllByRecursion}
 use Rattle.std.proofs.lemmas.Bool.{cases_eq}
 use Rattle.link_key.specs.Arc.{Arc}
-use Rattle.gr_text.specs.Fields.{IsBlank, IsFieldByte, AreFields, IsDigit, number_of, Writes, WritesSigned}
+use Rattle.gr_text.specs.Fields.{IsDigit, number_of, Writes, WritesSigned}
 use Rattle.gr_text.specs.Statement.{Problem, ArcLine, AreSilent, FieldsSay}
 use Rattle.gr_text.specs.Sort.{LineSort, Nothing, Makes, NoProblem, NoArc, Unknown, AreOfSort, IsOfSort}
 use Rattle.gr_text.specs.Partial.{with_field, AreParts}
@@ -13,23 +13,16 @@ use Rattle.gr_text.proofs.LineFields.{comment_of_silent}
 use Rattle.gr_text.proofs.Parts.{AreParts-none, AreParts-byte, AreParts-blank, AreParts-whole}
 use Rattle.gr_text.proofs.Unique.{AreFields-unique, FieldsSay-unique}
 
--- a byte is a blank or not
-blank_or_not : (b : ℕ) → IsBlank b ⊎ IsFieldByte b
-blank_or_not b = either_or_not (cases_eq b 32) (either_or_not (cases_eq b 9) (cases_eq b 13))
-
 -- Each line has fields: byte by byte, the whole fields so far and the bytes of one more.
 parts_of : (rest part : List ℕ) (fields : List (List ℕ)) (last : List ℕ) → AreParts part fields last
     → (others : List (List ℕ)) × (more : List ℕ) × AreParts (part ++ rest) others more
 parts_of [] part fields last parts = (fields, last, subst (λ (xs : List ℕ). AreParts xs fields last) (sym (append-nil part)) parts)
-parts_of (b ∷ rest) part fields last parts = elim (blank_or_not b) [
+parts_of (b ∷ rest) part fields last parts = elim (either_or_not (cases_eq b 32) (either_or_not (cases_eq b 9) (cases_eq b 13))) [
   | inl blank ↦ (let (others, more, all) = parts_of rest (part ++ b ∷ []) (with_field fields last) [] (AreParts-blank part fields last b parts blank) in
       (others, more, subst (λ (xs : List ℕ). AreParts xs others more) (append_assoc part (b ∷ []) rest) all))
   | inr other ↦ (let (others, more, all) = parts_of rest (part ++ b ∷ []) fields (last ++ b ∷ []) (AreParts-byte part fields last b parts other) in
       (others, more, subst (λ (xs : List ℕ). AreParts xs others more) (append_assoc part (b ∷ []) rest) all))
 ]
-
-fields_of : (line : List ℕ) → (fields : List (List ℕ)) × AreFields line fields
-fields_of line = let (fields, last, parts) = parts_of line [] [] [] AreParts-none in (with_field fields last, AreParts-whole line fields last parts)
 
 -- what a field is
 same_or_not : (xs ys : List ℕ) → (xs ≡ ys) ⊎ (xs ≢ ys)
@@ -116,9 +109,9 @@ fields_sort (first ∷ others) = elim (same_or_not first (codes "p")) [
 
 pub sort_of : (line : List ℕ) → (sort : LineSort) × IsOfSort line sort
 sort_of line =
-    let (fields, are) = fields_of line in
-    let (sort, of_sort) = fields_sort fields in
-    (sort, (fields, are, of_sort))
+    let (fields, last, parts) = parts_of line [] [] [] AreParts-none in
+    let (sort, of_sort) = fields_sort (with_field fields last) in
+    (sort, (with_field fields last, AreParts-whole line fields last parts, of_sort))
 
 -- the first field of a line of a sort, where it has one
 abbrev Begins : LineSort → List ℕ → Type 0
