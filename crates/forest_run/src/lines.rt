@@ -130,8 +130,8 @@ fn solve_lines<
 /// at its worker; whatever comes over them, the links close no cycle and span those of the file.
 ///
 /// It waits for the workers' answers. The forest is whole before the first byte is written; after a fault the lines are
-/// dropped. It takes a list of the links, the places of the cut, 600 bytes a line, and what [`solve`] takes; the time of
-/// a round is that of scanning the links once, shared by the workers.
+/// dropped. It takes a list of the links, the places of the cut, 600 bytes and 4 a vertex for each line, and what
+/// [`solve`] takes; the time of a round is that of scanning the links once, shared by the workers.
 pub fn run_lines<
     S: Source,
     W: Sink,
