@@ -90,7 +90,7 @@ pub fn encode_ask<A: Allocator, B: Allocator>(
 
 /// Puts the text of the frame that [`encode_ask`] encodes in place of another text, whose room it takes.
 ///
-/// Where that text ends in the bytes of these labels, they stay, and the seventeen bytes before them alone are written:
+/// Where the bytes behind its first seventeen are those of these labels, they stay, and the seventeen alone are written:
 /// so the labels of a round are turned into bytes once for all its asks. That is seen by one look at those bytes. The
 /// only error is want of memory, where there is too little room; then the text is any.
 pub fn encode_ask_over<A: Allocator, B: Allocator>(

@@ -98,7 +98,7 @@ fn numbers_in<A: Allocator>(alloc: A, cells: &[[u8; 4]]) -> Result<Vec<u32, A>, 
         .collect(alloc)
 }
 
-// Whether these are the bytes of the numbers. It looks at all of them, so that they are compared many at a time.
+// True only where these are the bytes of the numbers. It looks at all of them, so that they are compared many at a time.
 pub(crate) fn spells(bytes: &[u8], numbers: &[u32]) -> bool
     ensures { IsTrue result → flat_map u32_text numbers.now ≡ bytes.now }
 {

@@ -9,9 +9,9 @@
 //! - no frame's text begins another's, so a stream of frames reads in one way (`laws`).
 //!
 //! ```text
-//!   Frame, Shard, Labels --encode, encode_shard, encode_ask-->  bytes  <--fault_bytes-- round, shard, code
+//!   Frame, Shard, Labels --encode, encode_shard, encode_ask, encode_ask_over-->  bytes  <--fault_bytes-- round, shard, code
 //!                                                                 |
-//!                                                    read_frame (a Source of bytes)
+//!                                                    read_frame, read_frame_after (a Source of bytes)
 //!                                                   /                              \
 //!                       5 bytes --decode_head--> Head                body --decode_body--> Frame
 //! ```

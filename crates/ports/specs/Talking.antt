@@ -96,7 +96,7 @@ asks_among [] = []
 asks_among (AskFrame round shard labels ∷ frames) = AskFrame round shard labels ∷ asks_among frames
 asks_among (v ∷ frames) = asks_among frames
 
--- each ask is for a shard that the frames before it put on a shelf
+-- each ask is for a shard that is on this shelf, or that the frames before it put there
 abbrev pub FollowTheirShards : Shelf → List FrameValue → Type 0
 FollowTheirShards shelf [] = ⊤
 FollowTheirShards shelf (AskFrame round shard labels ∷ frames) = IsSome (shelf shard) × FollowTheirShards shelf frames

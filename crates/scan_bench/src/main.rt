@@ -3,7 +3,7 @@
 //!
 //! The links and the labels are drawn by a fixed rule, which `benches/scan.cpp` follows too, so both programs print the
 //! same lines to standard output: how many offers there are, and the sum of their places. The times, the least of
-//! several runs in microseconds, go to standard error.
+//! several runs, go to standard error.
 //!
 //! It also measures scans of few links between few vertices by one thread and by threads, in turns, to see from how many
 //! links on threads are faster.

@@ -9,7 +9,7 @@
 //!   refusals        cuts that aren't allowed, sinks that stop, files that aren't read
 //!   gates           lines that answer only once another was asked
 //!   drawn           drawn graphs, cuts and lines beside the run by one thread
-//!   sizes           a run past the size of every inner piece
+//!   sizes           a run past the size of every inner piece, and one of many links between few vertices
 //! ```
 #![tactic(auto)]
 

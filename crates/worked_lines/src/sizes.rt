@@ -1,4 +1,4 @@
-// Runs past the size of every inner piece: 10,000 vertices and links, and 9,000 links between few vertices.
+// A run past the size of every inner piece, of 10,000 vertices and links, and one of 9,000 links between few vertices.
 use crate::runs::{engines, run_of};
 use forest_run::Cutting;
 use std::alloc::Global;

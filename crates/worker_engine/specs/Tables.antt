@@ -10,7 +10,7 @@ pub record AreNoted (bests : List Best) (touched : List Bool) : Type 0 where
   pub room : length bests ≤ BLOCK * length touched
   pub untouched : (before : ℕ) → before < length bests → slice_index_or touched (before / BLOCK) true ≡ false → slice_index_or bests before no_best ≡ no_best
 
--- behind so many labels the lesser one is kept, and all else stands
+-- behind so many labels the lesser of the next one and of what was kept there is kept, and all else stands
 pub record KeepsAt (links : List Link) (next : Best) (before : ℕ) (old new : List Best) : Type 0 where
   pub after : Best
   pub new_is : new ≡ set old before after

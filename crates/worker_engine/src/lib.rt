@@ -13,17 +13,17 @@
 //! - what a session owes for a stream begins with what it owes for any prefix of the stream (`laws`).
 //!
 //! ```text
-//!   Source --read_frame--> Frame --Engine::hear--> reply --encode, fault_bytes, put--> Sink
-//!                                      |
-//!                           links, Labels --Scanner::scan--> Offers
+//!   Source --read_frame_after--> Frame --Engine::hear_par--> reply --encode, fault_bytes, put--> Sink
+//!                                            |
+//!                                 links, Labels --Scanner::scan_par--> Offers
 //! ```
 //!
 //! Where to start a change: what may be written for a stream stands in `specs/Serving`, over whole streams, and
 //! how a session ends in `specs/Served`. `scanning` has the pass over the links, with its table in `specs/Scanning`;
 //! `table` has what is kept for each label, of which `specs/Tables` says what was touched; `parallel` has the passes over
-//! parts of the links, which `specs/Parts` names; `held` lays links aside, as `specs/Live` says
-//! of them; `engine` keeps and replies, `session` reads and writes. `proofs/Scans` follows the pass, by
-//! `proofs/BestSoFar`, `proofs/Merging` takes parts together, `proofs/Laid` follows the live places, `proofs/Shelves` what
+//! parts of the links, which `specs/Parts` names; `held` lays links aside, as `specs/Live` says of them; `engine` keeps
+//! and replies, `session` reads and writes. `proofs/Scans` follows the pass, by `proofs/BestSoFar`, `proofs/Tables`
+//! what was touched, `proofs/Merging` takes parts together, `proofs/Laid` follows the live places, `proofs/Shelves` what
 //! an engine keeps, `proofs/Offering` shows that light offers make a lawful answer, `proofs/Replying` and
 //! `proofs/Sessions` take streams apart, and `proofs/Steps` follows a session frame by frame. `examples` shows which
 //! replies an ask may have.

@@ -30,9 +30,9 @@ pub(crate) const NO_PLACE: u32 = u32::MAX;
 /// The light offers of a shard's links under the labels: for each label that has a link with exactly one end under
 /// it, the least such link, told by the first place where it stands.
 ///
-/// One pass over the links, and one over a table of the labels: for m links of n vertices O(m + n) time, 8 bytes a
-/// vertex for the table and 8 bytes for each offer. For scan after scan a [`Scanner`] keeps the table. The only error is
-/// want of memory.
+/// One pass over the links, and one over a table of the labels: for m links of n vertices O(m + n) time, 8 bytes and
+/// a bit a vertex for the table and 8 bytes for each offer. For scan after scan a [`Scanner`] keeps the table. The only
+/// error is want of memory.
 pub fn scan<A: Allocator + Copy, B: Allocator>(
     alloc: A,
     links: &[Link],
@@ -48,9 +48,9 @@ pub fn scan<A: Allocator + Copy, B: Allocator>(
 /// The same offers as [`scan`] gives, by threads: the links are halved, at most as often as there are processors for, each
 /// part is scanned over a table of its own, and the tables are taken together.
 ///
-/// For m links of n vertices in p parts O(m / p + n p) time, and 8 bytes a vertex for each part's table. A part has at
-/// least as many links as there are vertices, and a list of few links, or one for which no thread can be made, is scanned
-/// by the caller's. The only error is want of memory.
+/// For m links of n vertices in p parts O(m / p + n p) time, and 8 bytes and a bit a vertex for each part's table. A part
+/// has at least as many links as there are vertices, and a list of few links, or one for which no thread can be made, is
+/// scanned by the caller's. The only error is want of memory.
 pub fn scan_par<R: Threads + Sync, A: Allocator + Copy + Send + Sync, B: Allocator>(
     rt: &R,
     alloc: A,
@@ -65,7 +65,7 @@ pub fn scan_par<R: Threads + Sync, A: Allocator + Copy + Send + Sync, B: Allocat
 }
 
 /// Scans one shard after another, each over the table of the one before, so that only the first one, or one of more
-/// labels, asks for memory for it. Contracts see how many labels the table has: those of the last scan.
+/// labels, asks for memory for it; a scan by threads makes a table for each part. Contracts see how many labels the table has: those of the last scan.
 #[derive(Drop)]
 pub struct Scanner<A: Allocator = Global> {
     table: Table<A>,

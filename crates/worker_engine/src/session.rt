@@ -62,12 +62,14 @@ pub(crate) enum Written {
 /// A worker's session that hears at most `frames` frames.
 ///
 /// It writes the hello of `worker`, and then hears frame after frame and writes one reply to each ask, until the
-/// source ends before a frame. It scans by threads, as [`scan_par`](crate::scan_par) does. An ask that finds no memory for its answer is replied to by a fault with the code
-/// [`NO_MEMORY`](crate::NO_MEMORY), which takes none, and the session goes on.
+/// source ends before a frame. It scans by threads, as [`scan_par`](crate::scan_par) does. An ask that finds no memory
+/// for its answer is replied to by a fault with the code [`NO_MEMORY`](crate::NO_MEMORY), which takes none, and the
+/// session goes on.
 ///
 /// `Read` where no whole lawful frame could be read, `Write` at the first write that fails or takes nothing,
 /// `Memory` where the hello couldn't be made or a shard not be kept, `TooMany` once `frames` frames were heard,
-/// without a further read. Nothing is flushed. It holds one frame and one reply at a time beside the shards.
+/// without a further read. Nothing is flushed. It holds one frame and one reply at a time beside what its
+/// [`Engine`] keeps.
 pub fn serve_upto<R: Threads + Sync, A: Allocator + Copy + Send + Sync, S: Source, W: Sink>(
     rt: &R,
     alloc: A,
