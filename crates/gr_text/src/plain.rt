@@ -42,7 +42,7 @@ fn short_weight(bytes: &[u8]) -> Option<(i64, &[u8])>
 
 // The number that the bytes before the first `stop` write, where they are one to ten digits; and the bytes behind
 // `stop`.
-#[inline]
+#[inline(always)]
 fn short_number(bytes: &[u8], stop: u8) -> Option<(u32, &[u8])>
     requires { ¬ (IsDigit stop) }
     ensures { MatchOption result (HasNoShort stop bytes.now)
