@@ -15,6 +15,10 @@ pub mod Greatest
 pub mod Spanning
 pub mod Parts
 pub mod Touching
+mod Keeping
+mod Owns
+mod Fronts
+mod Composing
 pub mod Stages
 pub mod Opened
 pub mod Filling

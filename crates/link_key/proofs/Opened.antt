@@ -1,8 +1,9 @@
 -- Links with the labels of their ends: what a new numbering of the labels leaves of them.
-use Rattle.std.proofs.Common.{◌≡◌, ℕ, ◌+◌, ◌<◌, ◌≤◌, ◌==◌, true, false, not, List, [], ◌∷◌, ◌++◌, map, take, drop, take_all, Contains, length, get_or, is_lt, refl, sym, ap, ap₂, ◌∙◌, subst, inl, inr, arith}
+use Rattle.std.proofs.Common.{◌≡◌, ℕ, ◌+◌, ◌<◌, ◌≤◌, ◌==◌, pos, true, false, not, List, [], ◌∷◌, ◌++◌, map, take, drop, take_all, Contains, length, get_or, is_lt, refl, sym, ap, ap₂, ◌∙◌, subst, inl, inr, arith}
 use Rattle.std.specs.List.{filter, All}
 use Rattle.std.specs.List.Sorted.{IsSorted}
-use Rattle.std.proofs.lemmas.List.{get_or-map, length-map, get_or_past, take-append-le}
+use Rattle.std.proofs.lemmas.Int.{ints}
+use Rattle.std.proofs.lemmas.List.{same_lists, get_or-map, get_or_default, length-map, get_or_past, take-append-le}
 use Rattle.std.proofs.lemmas.Bool.{cases_lt}
 use Rattle.std.proofs.lemmas.List.Elements.{All-contains, All-filter, All-map}
 use Rattle.std.proofs.lemmas.List.Filters.{length-filter_both}
@@ -13,8 +14,8 @@ use Rattle.link_key.specs.declared.links.Link.{Link}
 use Rattle.link_key.specs.declared.rounds.Open.{Open}
 use Rattle.link_key.specs.Link.{key_cmp}
 use Rattle.link_key.specs.Components.{HasOneLabel}
-use Rattle.link_key.specs.Rounds.{renamed, AreLabelsUpTo}
-use Rattle.link_key.specs.OpenLinks.{links_of, open_cmp, opened, renumbered, is_open, AreLabelled, AreBetween, AreAllNumbers, AreFilled, HaveFirst}
+use Rattle.link_key.specs.Rounds.{renamed, AreOwn}
+use Rattle.link_key.specs.OpenLinks.{link_of, links_of, open_cmp, renumbered, is_open, AreOpened, IsLabelled, AreLabelled, IsBetween, AreBetween, AreAllNumbers, AreFilled, HaveFirst}
 use Rattle.link_key.proofs.Members.{contains_cases, contains_head, contains_tail, contains_none}
 use Rattle.link_key.proofs.Keys.{key_cmp_total}
 use Rattle.link_key.proofs.Stages.{kept_in, kept_if, kept_fewer, renamed_to, renamed_len}
@@ -33,60 +34,82 @@ from_map f (y ∷ xs) z z_in = elim (contains_cases (f y) z (map f xs) z_in) [
   | inr later ↦ let found = from_map f xs z later in (found.0, contains_tail y found.0 xs found.1, found.2)
 ]
 
--- the links of links with their labels are those links
-pub links_opened : (labels : List ℕ) (links : List Link) → links_of (map (opened labels) links) ≡ links
-links_opened labels [] = refl
-links_opened labels (l ∷ links) = ap (λ (ls : List Link). l ∷ ls) (links_opened labels links)
+-- a link, for places past the end of a list
+pub some_link : Link
+some_link = record {
+  weight = pos 0;
+  low = 1;
+  high = 2;
+  from_one = omega arith;
+  ascending = omega arith;
+  in_limit = omega arith;
+  weight_fits = omega (arith, ints);
+}
 
--- what the labels of vertices give
-pub opened_labelled : (labels : List ℕ) (links : List Link) → All (λ (l : Link). l.high < length labels) links → AreLabelled labels (map (opened labels) links)
-opened_labelled labels links ends =
-    All-map (λ (o : Open). (o.link.high < length labels) × (get_or labels o.link.low 0 ≡ o.low) × (get_or labels o.link.high 0 ≡ o.high)) (opened labels) links (λ k d lt. (ends k d lt, refl, refl))
+no_link : Open
+no_link = record { low = 0; high = 0; rank = 0 }
 
--- labels up to the count are those of open links
-pub opened_between : {count : ℕ} (labels : List ℕ) (links : List Link) → AreLabelsUpTo count labels → All (λ (l : Link). l.high < length labels) links → AreBetween (count + 1) (map (opened labels) links)
-opened_between {count} labels links are ends =
-    All-map (λ (o : Open). (0 < o.low) × (o.low < count + 1) × (0 < o.high) × (o.high < count + 1)) (opened labels) links (λ k d lt. at (get_or links k d) (ends k d lt))
-  where
-    at : (l : Link) → l.high < length labels → (0 < get_or labels l.low 0) × (get_or labels l.low 0 < count + 1) × (0 < get_or labels l.high 0) × (get_or labels l.high 0 < count + 1)
-    at l high_in =
-        let ascending = l.ascending in
-        let low_in : l.low < length labels = omega (arith, ascending, high_in) in
-        let low = are.in_range l.low low_in in
-        let high = are.in_range l.high high_in in
-        (are.some l.low l.from_one low_in, omega (arith, low), are.some l.high (let from_one = l.from_one in omega (arith, from_one, ascending)) high_in, omega (arith, high))
+-- what the open one at a place is
+module _ {links : List Link} {candidates : List Open} (are : AreOpened links candidates) where
+  place : (k : ℕ) → k < length candidates → k < length links
+  place k lt = subst (λ n. k < n) are.len lt
 
-link_at : (candidates : List Open) (k : ℕ) (d : Link) → k < length candidates → get_or (links_of candidates) k d ≡ (get_or candidates k (record { low = 0; high = 0; link = d })).link
-link_at candidates k d lt = get_or-map (λ (o : Open). o.link) candidates k (record { low = 0; high = 0; link = d }) d lt
+  link_is : (d : Link) (o : Open) (k : ℕ) → k < length links → link_of d links (get_or candidates k o) ≡ get_or links k d
+  link_is d o k lt = ap (link_of d links) (are.each k o d lt)
+
+  pub links_opened : (d : Link) → links_of d links candidates ≡ links
+  links_opened d = same_lists (links_of d links candidates) links (length-map candidates (link_of d links) ∙ are.len) (λ k d' lt.
+      let k_in : k < length candidates = subst (λ n. k < n) (length-map candidates (link_of d links)) lt in
+      get_or-map (link_of d links) candidates k no_link d' k_in ∙ link_is d no_link k (place k k_in) ∙ get_or_default links k d d' (place k k_in))
+
+  pub opened_between : {n : ℕ} → All (λ (l : Link). l.high ≤ n) links → AreBetween (n + 1) (length links) candidates
+  opened_between {n} ends k o lt =
+      let lt' = place k lt in
+      let l = get_or links k some_link in
+      let ascending = l.ascending in
+      let from_one = l.from_one in
+      let most = ends k some_link lt' in
+      subst (IsBetween (n + 1) (length links)) (sym (are.each k o some_link lt')) (omega (arith, from_one), omega (arith, ascending, most), omega (arith, from_one, ascending), omega (arith, most), lt')
+
+  pub opened_labelled : {n : ℕ} (own : List ℕ) (d : Link) → AreOwn n own → All (λ (l : Link). l.high ≤ n) links → AreLabelled own d links candidates
+  opened_labelled {n} own d is ends k o lt =
+      let lt' = place k lt in
+      let l = get_or links k d in
+      let ascending = l.ascending in
+      let most = ends k d lt' in
+      let len = is.0 in
+      let high_in : l.high < length own = omega (arith, len, most) in
+      let low_in : l.low < length own = omega (arith, ascending, high_in) in
+      subst (λ (p : Open). IsLabelled own (link_of d links p) p) (sym (are.each k o d lt')) (high_in, is.1 l.low low_in, is.1 l.high high_in)
+
+  pub opened_sorted : IsSorted key_cmp links → (d : Link) → IsSorted (open_cmp d links) candidates
+  opened_sorted order d k o from to =
+      let to' = place (k + 1) to in
+      let here = link_is d o k (omega (arith, to')) in
+      let next = link_is d o (k + 1) to' in
+      rw (here, next) (order k d from to')
 
 -- they ascend as their links do
-pub sorted_links : (candidates : List Open) → IsSorted open_cmp candidates → IsSorted key_cmp (links_of candidates)
-sorted_links candidates order k d from to =
-    let to' : k + 1 < length candidates = subst (λ n. k + 1 < n) (length-map candidates (λ (o : Open). o.link)) to in
-    let here = link_at candidates k d (omega (arith, to')) in
-    let next = link_at candidates (k + 1) d to' in
-    rw (here, next) (order k (record { low = 0; high = 0; link = d }) from to')
-
-pub sorted_opened : (labels : List ℕ) (links : List Link) → IsSorted key_cmp links → IsSorted open_cmp (map (opened labels) links)
-sorted_opened labels links order k d from to =
-    let to' : k + 1 < length links = subst (λ n. k + 1 < n) (length-map links (opened labels)) to in
-    let here = get_or-map (opened labels) links k d.link d (omega (arith, to')) in
-    let next = get_or-map (opened labels) links (k + 1) d.link d to' in
-    rw (here, next) (order k d.link from to')
+pub sorted_links : (d : Link) (links : List Link) (candidates : List Open) → IsSorted (open_cmp d links) candidates → IsSorted key_cmp (links_of d links candidates)
+sorted_links d links candidates order k d' from to =
+    let to' : k + 1 < length candidates = subst (λ n. k + 1 < n) (length-map candidates (link_of d links)) to in
+    let here = get_or-map (link_of d links) candidates k no_link d' (omega (arith, to')) in
+    let next = get_or-map (link_of d links) candidates (k + 1) no_link d' to' in
+    rw (here, next) (order k no_link from to')
 
 module _ (numbers : List ℕ) (candidates : List Open) where
   left : List Open
   left = filter is_open (map (renumbered numbers) candidates)
 
-  pub left_sorted : IsSorted open_cmp candidates → IsSorted open_cmp (filter is_open (map (renumbered numbers) candidates))
-  left_sorted order = IsSortedBy-filter (λ o p. is_lt (open_cmp o p)) (ranks_by key_cmp_total (λ (o : Open). o.link)) is_open (map (renumbered numbers) candidates) moved
+  pub left_sorted : (d : Link) (links : List Link) → IsSorted (open_cmp d links) candidates → IsSorted (open_cmp d links) (filter is_open (map (renumbered numbers) candidates))
+  left_sorted d links order = IsSortedBy-filter (λ o p. is_lt (open_cmp d links o p)) (ranks_by key_cmp_total (link_of d links)) is_open (map (renumbered numbers) candidates) moved
     where
-      moved : IsSorted open_cmp (map (renumbered numbers) candidates)
-      moved k d from to =
+      moved : IsSorted (open_cmp d links) (map (renumbered numbers) candidates)
+      moved k o from to =
           let to' : k + 1 < length candidates = subst (λ n. k + 1 < n) (length-map candidates (renumbered numbers)) to in
-          let here = get_or-map (renumbered numbers) candidates k d d (omega (arith, to')) in
-          let next = get_or-map (renumbered numbers) candidates (k + 1) d d to' in
-          rw (here, next) (order k d from to')
+          let here = get_or-map (renumbered numbers) candidates k o o (omega (arith, to')) in
+          let next = get_or-map (renumbered numbers) candidates (k + 1) o o to' in
+          rw (here, next) (order k o from to')
 
   -- the first link's labels have one number, so it goes
   fewer : HaveFirst numbers candidates → 0 < length candidates → length (filter is_open (map (renumbered numbers) candidates)) < length candidates
@@ -107,68 +130,69 @@ module _ (numbers : List ℕ) (candidates : List Open) where
       fewer first (omega (arith, few, len, some))
 
   -- their labels are numbers
-  pub left_between : {bound last : ℕ} → AreBetween bound candidates → length numbers ≡ bound → AreAllNumbers last numbers → AreBetween (last + 1) (filter is_open (map (renumbered numbers) candidates))
-  left_between {bound} {last} ends len all =
-      All-filter is_open (λ (o : Open). (0 < o.low) × (o.low < last + 1) × (0 < o.high) × (o.high < last + 1)) (map (renumbered numbers) candidates)
-      (All-map (λ (o : Open). (0 < o.low) × (o.low < last + 1) × (0 < o.high) × (o.high < last + 1)) (renumbered numbers) candidates (λ k d lt. number (get_or candidates k d) (ends k d lt)))
+  pub left_between : {bound len last : ℕ} → AreBetween bound len candidates → length numbers ≡ bound → AreAllNumbers last numbers → AreBetween (last + 1) len (filter is_open (map (renumbered numbers) candidates))
+  left_between {bound} {len} {last} ends same all =
+      All-filter is_open (IsBetween (last + 1) len) (map (renumbered numbers) candidates)
+      (All-map (IsBetween (last + 1) len) (renumbered numbers) candidates (λ k o lt. number (get_or candidates k o) (ends k o lt)))
     where
-      number : (o : Open) → (0 < o.low) × (o.low < bound) × (0 < o.high) × (o.high < bound) → (0 < get_or numbers o.low 0) × (get_or numbers o.low 0 < last + 1) × (0 < get_or numbers o.high 0) × (get_or numbers o.high 0 < last + 1)
+      number : (o : Open) → IsBetween bound len o → IsBetween (last + 1) len (renumbered numbers o)
       number o at =
           let low = all.at_most o.low in
           let high = all.at_most o.high in
-          (all.some o.low at.0 (subst (λ k. o.low < k) (sym len) at.1), omega (arith, low), all.some o.high at.2 (subst (λ k. o.high < k) (sym len) at.3), omega (arith, high))
+          (all.some o.low at.0 (subst (λ k. o.low < k) (sym same) at.1), omega (arith, low), all.some o.high at.2 (subst (λ k. o.high < k) (sym same) at.3), omega (arith, high), at.4)
 
-  module _ (labels : List ℕ) (labelled : AreLabelled labels candidates) where
-    at_ends : (o : Open) → Contains candidates o → (o.link.high < length labels) × (get_or labels o.link.low 0 ≡ o.low) × (get_or labels o.link.high 0 ≡ o.high)
-    at_ends o o_in = All-contains (λ (o : Open). (o.link.high < length labels) × (get_or labels o.link.low 0 ≡ o.low) × (get_or labels o.link.high 0 ≡ o.high)) candidates o labelled o_in
+  module _ (labels : List ℕ) (d : Link) (links : List Link) (labelled : AreLabelled labels d links candidates) where
+    at_ends : (o : Open) → Contains candidates o → IsLabelled labels (link_of d links o) o
+    at_ends o o_in = All-contains (λ (p : Open). IsLabelled labels (link_of d links p) p) candidates o labelled o_in
 
-    new_ends : (o : Open) → (o.link.high < length labels) × (get_or labels o.link.low 0 ≡ o.low) × (get_or labels o.link.high 0 ≡ o.high) → (get_or (renamed numbers labels) o.link.low 0 ≡ get_or numbers o.low 0) × (get_or (renamed numbers labels) o.link.high 0 ≡ get_or numbers o.high 0)
+    new_ends : (o : Open) → IsLabelled labels (link_of d links o) o → (get_or (renamed numbers labels) (link_of d links o).low 0 ≡ get_or numbers o.low 0) × (get_or (renamed numbers labels) (link_of d links o).high 0 ≡ get_or numbers o.high 0)
     new_ends o at =
+        let l = link_of d links o in
         let high_in = at.0 in
-        let low_in : o.link.low < length labels = let ascending = o.link.ascending in omega (arith, ascending, high_in) in (
-          renamed_to numbers labels o.link.low low_in ∙ ap (λ c. get_or numbers c 0) at.1,
-          renamed_to numbers labels o.link.high high_in ∙ ap (λ c. get_or numbers c 0) at.2,
+        let low_in : l.low < length labels = let ascending = l.ascending in omega (arith, ascending, high_in) in (
+          renamed_to numbers labels l.low low_in ∙ ap (λ c. get_or numbers c 0) at.1,
+          renamed_to numbers labels l.high high_in ∙ ap (λ c. get_or numbers c 0) at.2,
         )
 
-    pub left_labelled : AreLabelled (renamed numbers labels) (filter is_open (map (renumbered numbers) candidates))
+    pub left_labelled : AreLabelled (renamed numbers labels) d links (filter is_open (map (renumbered numbers) candidates))
     left_labelled =
-        All-filter is_open P (map (renumbered numbers) candidates) (All-map P (renumbered numbers) candidates (λ k d lt. (
-          subst (λ n. (get_or candidates k d).link.high < n) (sym (renamed_len numbers labels)) (labelled k d lt).0,
-          (new_ends (get_or candidates k d) (labelled k d lt)).0,
-          (new_ends (get_or candidates k d) (labelled k d lt)).1,
+        All-filter is_open P (map (renumbered numbers) candidates) (All-map P (renumbered numbers) candidates (λ k o lt. (
+          subst (λ n. (link_of d links (get_or candidates k o)).high < n) (sym (renamed_len numbers labels)) (labelled k o lt).0,
+          (new_ends (get_or candidates k o) (labelled k o lt)).0,
+          (new_ends (get_or candidates k o) (labelled k o lt)).1,
         )))
       where
         P : Open → Type 0
-        P o = (o.link.high < length (renamed numbers labels)) × (get_or (renamed numbers labels) o.link.low 0 ≡ o.low) × (get_or (renamed numbers labels) o.link.high 0 ≡ o.high)
+        P o = IsLabelled (renamed numbers labels) (link_of d links o) o
 
     -- what is left is apart by the new labels, and no other is
-    pub left_in : (l : Link) → Contains (links_of (filter is_open (map (renumbered numbers) candidates))) l → Contains (links_of candidates) l × ¬ (HasOneLabel (renamed numbers labels) l)
+    pub left_in : (l : Link) → Contains (links_of d links (filter is_open (map (renumbered numbers) candidates))) l → Contains (links_of d links candidates) l × ¬ (HasOneLabel (renamed numbers labels) l)
     left_in l l_in =
-        let found = from_map (λ (o : Open). o.link) (filter is_open (map (renumbered numbers) candidates)) l l_in in
+        let found = from_map (link_of d links) (filter is_open (map (renumbered numbers) candidates)) l l_in in
         let o' = found.0 in
         let kept = kept_in is_open (map (renumbered numbers) candidates) o' found.1 in
         let old = from_map (renumbered numbers) candidates o' kept.0 in
         let o = old.0 in
-        let same : o.link ≡ l = ap (λ (p : Open). p.link) old.2 ∙ found.2 in
+        let same : link_of d links o ≡ l = ap (link_of d links) old.2 ∙ found.2 in
         let is = new_ends o (at_ends o old.1) in
         let passes : is_open (renumbered numbers o) ≡ true = ap is_open old.2 ∙ kept.1 in
-        subst (λ (m : Link). Contains (links_of candidates) m × ¬ (HasOneLabel (renamed numbers labels) m)) same (
-          in_map (λ (p : Open). p.link) candidates o old.1,
+        subst (λ (m : Link). Contains (links_of d links candidates) m × ¬ (HasOneLabel (renamed numbers labels) m)) same (
+          in_map (link_of d links) candidates o old.1,
           λ one. differ (get_or numbers o.low 0) (get_or numbers o.high 0) passes (sym is.0 ∙ one ∙ is.1),
         )
       where
         differ : (a b : ℕ) → not (a == b) ≡ true → a ≡ b → ⊥
         differ a b passes same = grind (arith, nat_tests)
 
-    pub left_if : (l : Link) → Contains (links_of candidates) l → ¬ (HasOneLabel (renamed numbers labels) l) → Contains (links_of (filter is_open (map (renumbered numbers) candidates))) l
+    pub left_if : (l : Link) → Contains (links_of d links candidates) l → ¬ (HasOneLabel (renamed numbers labels) l) → Contains (links_of d links (filter is_open (map (renumbered numbers) candidates))) l
     left_if l l_in apart =
-        let found = from_map (λ (o : Open). o.link) candidates l l_in in
+        let found = from_map (link_of d links) candidates l l_in in
         let o = found.0 in
         let is = new_ends o (at_ends o found.1) in
         let differ : get_or numbers o.low 0 ≡ get_or numbers o.high 0 → ⊥ = λ same. apart (subst (HasOneLabel (renamed numbers labels)) found.2 (is.0 ∙ same ∙ sym is.1)) in
         let passes = test (get_or numbers o.low 0) (get_or numbers o.high 0) differ in
-        subst (Contains (links_of (filter is_open (map (renumbered numbers) candidates)))) found.2
-        (in_map (λ (p : Open). p.link) (filter is_open (map (renumbered numbers) candidates)) (renumbered numbers o) (kept_if is_open (map (renumbered numbers) candidates) (renumbered numbers o) (in_map (renumbered numbers) candidates o found.1) passes))
+        subst (Contains (links_of d links (filter is_open (map (renumbered numbers) candidates)))) found.2
+        (in_map (link_of d links) (filter is_open (map (renumbered numbers) candidates)) (renumbered numbers o) (kept_if is_open (map (renumbered numbers) candidates) (renumbered numbers o) (in_map (renumbered numbers) candidates o found.1) passes))
       where
         test : (a b : ℕ) → (a ≡ b → ⊥) → not (a == b) ≡ true
         test a b apart' = grind (arith, nat_tests)
@@ -195,10 +219,10 @@ renamed_numbers {count} {last} {numbers} {further} are len few all = record {
   few = let many = are.few in let same = renamed_len further numbers in omega (arith, many, same, few);
 }
 
--- no link is left
-pub links_none : (candidates : List Open) → length candidates ≡ 0 → links_of candidates ≡ []
-links_none [] none = refl
-links_none (o ∷ candidates) none = absurd (omega (arith, none))
+-- nothing is left
+pub none_left : {X : Type 0} (xs : List X) → length xs ≡ 0 → xs ≡ []
+none_left [] none = refl
+none_left (x ∷ xs) none = absurd (omega (arith, none))
 
 -- the first link's labels have their one number when all have one
 pub filled_first : {numbers filled : List ℕ} (candidates : List Open) → AreFilled numbers filled → HaveFirst numbers candidates → HaveFirst filled candidates

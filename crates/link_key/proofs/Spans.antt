@@ -1,23 +1,21 @@
 -- Cuts: what a test of each span says of each shard, and that the shards joined together are the list.
-use Rattle.std.proofs.Common.{◌≡◌, refl, sym, ap, ap₂, ◌∙◌, subst, inl, inr, ℕ, zero, suc, ◌+◌, ◌-◌, ◌*◌, ◌/◌, ◌<◌, ◌≤◌, Bool, true, false, ◌&&◌, IsTrue, List, [], ◌∷◌, ◌++◌, length, map, take, drop, get_or, length-append, arith, rules}
+use Rattle.std.proofs.Common.{◌≡◌, refl, sym, ap, ap₂, ◌∙◌, subst, inl, inr, ℕ, zero, suc, ◌+◌, ◌-◌, ◌*◌, ◌/◌, ◌<◌, ◌≤◌, Bool, true, false, ◌&&◌, List, [], ◌∷◌, ◌++◌, length, map, drop, get_or, arith}
 use Rattle.std.specs.Prelude.{nat_le, eqb, ltb, leb, if◌then◌else◌, Some, None}
-use Rattle.std.specs.List.{zip, flat_map, slice_range, list_all}
-use Rattle.std.proofs.Math.Seq.{drop-cons, drop-nil}
+use Rattle.std.specs.List.{slice_range, list_all}
+use Rattle.std.proofs.Math.Seq.{drop-cons}
 use Rattle.std.proofs.Math.ListN.{drop_of_length-le}
 use Rattle.std.proofs.lemmas.List.{length-map, length-take}
 use Rattle.std.proofs.Math.Nat.{mul-div_cancel_left, div-mul-le_self, add-mul-div_left, zero-div, one-mul, mul_comm, add-mul}
 use Rattle.std.proofs.lemmas.Nat.{le-div}
 use Rattle.std.proofs.Math.ListN.{get_or-append}
 use Rattle.std.proofs.Math.Seq.{get_or-append_seam}
-use Rattle.std.proofs.lemmas.List.{get_or-map}
 use Rattle.std.proofs.lemmas.List.Folds.{drop_split}
-use Rattle.std.proofs.lemmas.Slice.Zip.{length-zip, get_or-zip}
 use Rattle.std.proofs.lemmas.Bool.{leb-true, le-leb, cases_lt}
 use Rattle.std.proofs.lemmas.Bool.Decides.{nat_tests}
 use Rattle.limits.specs.declared.TheConstants.{MAX_SHARDS, MAX_SHARD_LINKS}
 use Rattle.link_key.specs.declared.links.Link.{Link}
 use Rattle.link_key.specs.Cut.{joined, links_at, spans_from, links_in, shards_at, is_in_order, is_small, places_refusal, even_refusal, IsEvenCut}
-use Rattle.link_key.specs.declared.cuts.CutFault.TheVariants.{NoShards, TooManyShards, ShardTooLarge, BadPlaces, Memory}
+use Rattle.link_key.specs.declared.cuts.CutFault.TheVariants.{NoShards, TooManyShards, ShardTooLarge, BadPlaces}
 
 -- both tests hold where their conjunction does
 pub both_first : (a b : Bool) → (a && b) ≡ true → a ≡ true

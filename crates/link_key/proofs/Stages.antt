@@ -1,6 +1,6 @@
 -- The forest found round by round: what is taken is in it, and what is left is still to be joined.
 use Rattle.std.proofs.Common.{◌≡◌, ◌≢◌, ℕ, ◌+◌, ◌<◌, ◌≤◌, ◌⊎◌, ◌↔◌, Bool, true, false, not, cond, List, [], ◌∷◌, Contains, length, get_or, refl, sym, ap, ◌∙◌, subst, inl, inr, arith}
-use Rattle.std.specs.List.{AllByRecursion, filter, All}
+use Rattle.std.specs.List.{AllByRecursion, filter}
 use Rattle.std.proofs.lemmas.List.Elements.{All-contains, Contains-get_or}
 use Rattle.std.proofs.lemmas.List.Filters.{length-filter_both}
 use Rattle.std.proofs.lemmas.Bool.{cases_eq, cases_lt}
@@ -11,7 +11,7 @@ use Rattle.link_key.specs.Link.{EndsUpTo}
 use Rattle.link_key.specs.Walk.{IsWalk, Joins}
 use Rattle.link_key.specs.Forest.{LinksBelow, IsForestLink}
 use Rattle.link_key.specs.Components.{HasOneLabel}
-use Rattle.link_key.specs.Rounds.{is_apart, renamed, LeavesLabel, IsLeastOut, AreLabelsUpTo, IsStage, IsLightPart}
+use Rattle.link_key.specs.Rounds.{is_apart, renamed, LeavesLabel, IsLeastOut, AreLabelsUpTo, IsStage, AreParts}
 use Rattle.link_key.specs.OpenLinks.{AreTouched, AreFilled, AreAllNumbers, number_of}
 use Rattle.std.proofs.lemmas.List.{get_or-map, length-map}
 use Rattle.link_key.proofs.Members.{contains_cases, contains_head, contains_tail, contains_none}
@@ -237,12 +237,9 @@ stage_end {links} {labels} {taken} stage = spanning_part links (Contains taken) 
       | inr other ↦ elim other [ inl l_in' ↦ absurd (contains_none l l_in') | inr l_in' ↦ absurd (contains_none l l_in') ]
     ]
 
--- links of the list have their ends in the table
-pub all_in_table : (n : ℕ) (links rest : List Link) → ((l : Link) → Contains rest l → Contains links l) → EndsUpTo n links → All (λ (l : Link). l.high < n + 1) rest
-all_in_table n links rest among ends k d lt =
-    let l = get_or rest k d in
-    let in_graph : l.high ≤ n = All-contains (λ (m : Link). m.high ≤ n) links l ends (among l (Contains-get_or rest k d lt)) in
-    omega (arith, in_graph)
+-- links of the list have their ends among its vertices
+pub ends_within : (n : ℕ) (links rest : List Link) → ((l : Link) → Contains rest l → Contains links l) → EndsUpTo n links → EndsUpTo n rest
+ends_within n links rest among ends k d lt = All-contains (λ (m : Link). m.high ≤ n) links (get_or rest k d) ends (among (get_or rest k d) (Contains-get_or rest k d lt))
 
 -- links in another order are at the same stage
 pub stage_moved : {links rest rest' later : List Link} {labels : List ℕ} {taken : List Link} → ((l : Link) → Contains rest' l ↔ Contains rest l) → IsStage links rest later labels taken → IsStage links rest' later labels taken
@@ -260,40 +257,40 @@ stage_moved same stage = record {
 }
 
 -- the light part first, the others later
-pub stage_part : {links rest light : List Link} {labels : List ℕ} {taken : List Link} → (part : IsLightPart rest light) → IsStage links rest [] labels taken → IsStage links light part.later labels taken
-stage_part part stage = record {
+pub stage_part : {links rest light later : List Link} {labels : List ℕ} {taken : List Link} → AreParts rest light later → IsStage links rest [] labels taken → IsStage links light later labels taken
+stage_part parts stage = record {
   ends = stage.ends;
   joined = stage.joined;
   forest = stage.forest;
-  among = λ l l_in. stage.among l (part.light_in l l_in);
-  apart = λ l l_in. stage.apart l (part.light_in l l_in);
+  among = λ l l_in. stage.among l (parts.light_in l l_in);
+  apart = λ l l_in. stage.apart l (parts.light_in l l_in);
   left = λ l l_in. elim (stage.left l l_in) [
     | inl one ↦ inl one
-    | inr other ↦ elim other [ inl is_left ↦ inr (part.all l is_left) | inr put_off ↦ absurd (contains_none l put_off) ]
+    | inr other ↦ elim other [ inl is_left ↦ inr (parts.all l is_left) | inr put_off ↦ absurd (contains_none l put_off) ]
   ];
-  above = part.above;
+  above = parts.above;
 }
 
 -- then those of the others whose ends aren't joined
-pub stage_rest : {links rest light : List Link} {labels labels' : List ℕ} {taken taken' : List Link} → (part : IsLightPart rest light) → IsStage links rest [] labels taken → IsStage links [] part.later labels' taken' → IsStage links (filter (is_apart labels') rest) [] labels' taken'
-stage_rest {links} {rest} {light} {labels} {labels'} part before stage = record {
+pub stage_rest : {links rest light later : List Link} {labels labels' : List ℕ} {taken taken' : List Link} → AreParts rest light later → IsStage links rest [] labels taken → IsStage links [] later labels' taken' → IsStage links (filter (is_apart labels') later) [] labels' taken'
+stage_rest {links} {rest} {light} {later} {labels} {labels'} parts before stage = record {
   ends = stage.ends;
   joined = stage.joined;
   forest = stage.forest;
-  among = λ l l_in. before.among l (kept_in (is_apart labels') rest l l_in).0;
-  apart = λ l l_in. apart_from labels' l (kept_in (is_apart labels') rest l l_in).1;
+  among = λ l l_in. before.among l (parts.later_in l (kept_in (is_apart labels') later l l_in).0);
+  apart = λ l l_in. apart_from labels' l (kept_in (is_apart labels') later l l_in).1;
   left = left;
   above = λ l m l_in m_in. absurd (contains_none m m_in);
 }
   where
-    left : (l : Link) → Contains links l → HasOneLabel labels' l ⊎ Contains (filter (is_apart labels') rest) l ⊎ Contains [] l
+    left : (l : Link) → Contains links l → HasOneLabel labels' l ⊎ Contains (filter (is_apart labels') later) l ⊎ Contains [] l
     left l l_in = elim (stage.left l l_in) [
       | inl one ↦ inl one
       | inr other ↦ elim other [
         | inl none ↦ absurd (contains_none l none)
         | inr put_off ↦ elim (cases_eq (get_or labels' l.low 0) (get_or labels' l.high 0)) [
           | inl one ↦ inl one
-          | inr apart ↦ inr (inl (kept_if (is_apart labels') rest l (part.later_in l put_off) (apart_test labels' l apart)))
+          | inr apart ↦ inr (inl (kept_if (is_apart labels') later l put_off (apart_test labels' l apart)))
         ]
       ]
     ]

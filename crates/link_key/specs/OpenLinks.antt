@@ -7,36 +7,52 @@ use Rattle.link_key.specs.declared.rounds.Open.{Open}
 use Rattle.link_key.specs.Link.{key_cmp}
 use Rattle.link_key.specs.Walk.{Joins}
 use Rattle.link_key.specs.Components.{HasOneLabel}
-use Rattle.link_key.specs.Rounds.{IsLeastOut, AreJoinedWhereOne}
+use Rattle.link_key.specs.Rounds.{renamed, IsLeastOut, AreJoinedWhereOne, AreLabelsUpTo, IsStage}
+
+-- the link that has the rank of an open one; d where there is none
+abbrev pub link_of : Link → List Link → Open → Link
+link_of d links o = slice_index_or links o.rank d
 
 -- the links of the open ones
-abbrev pub links_of : List Open → List Link
-links_of candidates = map (λ (o : Open). o.link) candidates
+abbrev pub links_of : Link → List Link → List Open → List Link
+links_of d links candidates = map (link_of d links) candidates
 
--- they compare by their keys
-abbrev pub open_cmp : Open → Open → Ordering
-open_cmp o p = key_cmp o.link p.link
+-- they compare by the keys of their links
+abbrev pub open_cmp : Link → List Link → Open → Open → Ordering
+open_cmp d links o p = key_cmp (link_of d links o) (link_of d links p)
 
--- a link with the labels of its ends
-abbrev pub opened : List ℕ → Link → Open
-opened labels l = record { low = slice_index labels l.low; high = slice_index labels l.high; link = l }
+-- a link with the labels that its ends have where each vertex is labelled by itself
+abbrev pub opened : ℕ → Link → Open
+opened rank l = record { low = l.low; high = l.high; rank = rank }
+
+-- so are all links, in their order
+pub record AreOpened (links : List Link) (candidates : List Open) : Type 0 where
+  pub len : length candidates ≡ length links
+  pub each : (k : ℕ) (o : Open) (d : Link) → k < length links → slice_index_or candidates k o ≡ opened k (slice_index_or links k d)
 
 -- with new numbers of the labels
 abbrev pub renumbered : List ℕ → Open → Open
-renumbered numbers o = record { low = slice_index numbers o.low; high = slice_index numbers o.high; link = o.link }
+renumbered numbers o = record { low = slice_index numbers o.low; high = slice_index numbers o.high; rank = o.rank }
 
 -- its labels differ
 abbrev pub is_open : Open → Bool
 is_open o = not (o.low == o.high)
 
--- the open links have the labels of their ends
-abbrev pub AreLabelled : List ℕ → List Open → Type 0
-AreLabelled labels candidates =
-    All (λ (o : Open). (o.link.high < length labels) × (slice_index labels o.link.low ≡ o.low) × (slice_index labels o.link.high ≡ o.high)) candidates
+-- the open link has the labels of its link's ends
+abbrev pub IsLabelled : List ℕ → Link → Open → Type 0
+IsLabelled labels l o = (l.high < length labels) × (slice_index labels l.low ≡ o.low) × (slice_index labels l.high ≡ o.high)
 
--- their labels are from 1 on, below the bound
-abbrev pub AreBetween : ℕ → List Open → Type 0
-AreBetween bound candidates = All (λ (o : Open). (0 < o.low) × (o.low < bound) × (0 < o.high) × (o.high < bound)) candidates
+-- so have all of them
+abbrev pub AreLabelled : List ℕ → Link → List Link → List Open → Type 0
+AreLabelled labels d links candidates = All (λ (o : Open). IsLabelled labels (link_of d links o) o) candidates
+
+-- its labels are from 1 on, below the bound, and its rank is a place in a list so long
+abbrev pub IsBetween : ℕ → ℕ → Open → Type 0
+IsBetween bound len o = (0 < o.low) × (o.low < bound) × (0 < o.high) × (o.high < bound) × (o.rank < len)
+
+-- so are all of them
+abbrev pub AreBetween : ℕ → ℕ → List Open → Type 0
+AreBetween bound len candidates = All (IsBetween bound len) candidates
 
 -- how many labels have no number
 abbrev pub zeros : List ℕ → ℕ
@@ -84,8 +100,19 @@ HaveFirst numbers candidates =
     → (0 < slice_index numbers (slice_index_or candidates 0 d).low) × (0 < slice_index numbers (slice_index_or candidates 0 d).high)
     × (slice_index numbers (slice_index_or candidates 0 d).low ≡ slice_index numbers (slice_index_or candidates 0 d).high)
 
+-- the labels of all have numbers
+abbrev pub HaveNumbers : List ℕ → List Open → Type 0
+HaveNumbers numbers candidates = All (λ (o : Open). (0 < slice_index numbers o.low) × (0 < slice_index numbers o.high)) candidates
+
 -- numbers that were there stay, and each other label but 0 has one that no other has
 pub record AreFilled (numbers numbers' : List ℕ) : Type 0 where
   pub len : length numbers' ≡ length numbers
   pub kept : (c : ℕ) → 0 < slice_index numbers c → slice_index numbers' c ≡ slice_index numbers c
   pub alone : (c d : ℕ) → 0 < slice_index numbers' c → slice_index numbers c ≡ 0 → slice_index numbers' c ≡ slice_index numbers' d → c ≡ d
+
+-- From a stage of which these links are the rest, between the components 1 to `count`, to one of which those that are kept
+-- are the rest, between the components that the numbers give.
+abbrev pub LeadsOn : ℕ → List Link → List Open → List Link → List ℕ → List Open → List Link → Type 0
+LeadsOn count links candidates taken numbers kept taken' =
+    (d : Link) (all later : List Link) (labels : List ℕ) → AreLabelsUpTo count labels → AreLabelled labels d links candidates
+    → IsStage all (links_of d links candidates) later labels taken → IsStage all (links_of d links kept) later (renamed numbers labels) taken'

@@ -1,5 +1,5 @@
 -- Borůvka's rounds over links in the order of their keys, by labels of the vertices.
-use Rattle.std.specs.Prelude.{◌≡◌, ◌≢◌, ℕ, ◌<◌, ◌≤◌, ◌⊎◌, Bool, not, ◌==◌, List, map, length, slice_index, EachIndex, Contains}
+use Rattle.std.specs.Prelude.{◌≡◌, ◌≢◌, ℕ, ◌+◌, ◌<◌, ◌≤◌, ◌⊎◌, Bool, not, ◌==◌, List, map, length, slice_index, EachIndex, Contains}
 use Rattle.link_key.specs.declared.links.Link.{Link}
 use Rattle.link_key.specs.Link.{IsBelow}
 use Rattle.link_key.specs.Walk.{Joins}
@@ -32,6 +32,10 @@ pub record AreLabelsUpTo (count : ℕ) (labels : List ℕ) : Type 0 where
   pub in_range : EachIndex labels (λ v. slice_index labels v ≤ count)
   pub some : (v : ℕ) → 0 < v → v < length labels → 0 < slice_index labels v
 
+-- each vertex up to n by itself
+abbrev pub AreOwn : ℕ → List ℕ → Type 0
+AreOwn n labels = (length labels ≡ n + 1) × EachIndex labels (λ v. slice_index labels v ≡ v)
+
 -- its number in the place of each label
 abbrev pub renamed : List ℕ → List ℕ → List ℕ
 renamed numbers labels = map (λ (c : ℕ). slice_index numbers c) labels
@@ -47,9 +51,8 @@ pub record IsStage (links rest later : List Link) (labels : List ℕ) (taken : L
   pub left : (l : Link) → Contains links l → HasOneLabel labels l ⊎ Contains rest l ⊎ Contains later l
   pub above : (l m : Link) → Contains rest l → Contains later m → ¬ (IsBelow m l)
 
--- a part of the links, none of which is above one of the others
-pub record IsLightPart (links light : List Link) : Type 0 where
-  pub later : List Link
+-- two parts of the links, of which nothing in the first is above anything in the other
+pub record AreParts (links light later : List Link) : Type 0 where
   pub light_in : (l : Link) → Contains light l → Contains links l
   pub later_in : (l : Link) → Contains later l → Contains links l
   pub all : (l : Link) → Contains links l → Contains light l ⊎ Contains later l

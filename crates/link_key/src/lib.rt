@@ -26,8 +26,10 @@
 //! `Cut`), and the laws that show it to be right in `laws`. `labellings` and `offered` say which lists are labels and
 //! offers, `cuts` where a list is cut. `plain` is the solver, in `rounds` between numbered components. What a round
 //! means stands in `specs/Rounds`, what it keeps meanwhile in `specs/OpenLinks`; `proofs/Touching` follows one link of a
-//! round, `proofs/Filling` the numbers that are handed out, `proofs/Opened` what a round leaves, `proofs/Stages` a round
-//! and the whole, and `proofs/Spanning` shows that a part of the forest that spans the list is all of it. `components`
+//! round, `proofs/Filling` the numbers that are handed out, `proofs/Keeping` the links that are kept, `proofs/Opened` what
+//! a round leaves, `proofs/Composing` rounds one after the other, `proofs/Stages` a round and the whole. `proofs/Parts` and
+//! `proofs/Fronts` cut a list into the lightest links and the rest, `proofs/Owns` begins with each vertex by itself, and
+//! `proofs/Spanning` shows that a part of the forest that spans the list is all of it. `components`
 //! merges components for the rounds that workers scan; another way to merge them needs only another `proofs/Rings`.
 #![tactic(auto)]
 

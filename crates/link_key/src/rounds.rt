@@ -4,25 +4,28 @@
 //! the links once: it takes a link where the component at one of its ends wasn't touched before, and both components
 //! get one new number then. What nothing touched gets a new number of its own, so that the next round has a table of
 //! the components that are left, and no vertex is looked at before the rounds are over.
-ghost use Rattle.std.specs.Prelude.{◌≡◌, false, ℕ, ◌+◌, ◌<◌, ◌≤◌, List, [], map, length, slice_index, EachIndex, IfOk, OnOk, IsTrue};
+ghost use Rattle.std.specs.Prelude.{◌≡◌, false, ℕ, ◌+◌, ◌<◌, ◌≤◌, List, [], map, take, length, slice_index, EachIndex, IfOk, OnOk, IsTrue};
 ghost use Rattle.std.specs.List.{filter};
 ghost use Rattle.std.specs.List.Sorted.{IsSorted};
 ghost use Rattle.limits.specs.declared.TheConstants.{MAX_VERTICES};
 ghost use Rattle.link_key.specs.declared.links.Link.{Link};
 ghost use Rattle.link_key.specs.declared.rounds.Open.{Open};
-ghost use Rattle.link_key.specs.Rounds.{is_apart, renamed, AreLabelsUpTo, IsStage};
-ghost use Rattle.link_key.specs.OpenLinks.{links_of, open_cmp, opened, renumbered, is_open, AreLabelled, AreBetween, AreNumbers, AreAllNumbers, ShareNumber, AreTouched, AreFilled, HaveFirst, zeros};
+ghost use Rattle.link_key.specs.Rounds.{is_apart, renamed};
+ghost use Rattle.link_key.specs.OpenLinks.{links_of, open_cmp, renumbered, is_open, AreOpened, AreLabelled, AreBetween, AreNumbers, AreAllNumbers, ShareNumber, AreTouched, AreFilled, HaveFirst, HaveNumbers, LeadsOn, zeros};
 
 use crate::links::Link;
 use limits::MAX_VERTICES;
 use std::alloc::{AllocError, Allocator};
 
-// A link, and the labels of its ends.
+// The most links that have ranks.
+pub(crate) const MAX_RANKS: usize = u32::MAX as usize;
+
+// A link's place in a list that is in the order of keys, its rank, and the labels of its ends.
 #[derive(Clone, Copy)]
 pub(crate) struct Open {
     low: u32,
     high: u32,
-    link: Link,
+    rank: u32,
 }
 
 // New numbers of the labels 1 to some label: 1 to `count`.
@@ -44,25 +47,43 @@ fn entry(table: &[u32], c: u32) -> u32
 pub(crate) fn drop_joined<A: Allocator>(links: &mut Vec<Link, A>, labels: &[u32])
     ensures { links.new.items ≡ filter (is_apart labels.now) links.old.items }
 {
-    links.retain(|link| entry(labels, link.low) != entry(labels, link.high));
+    let kept = put_apart_first(links.as_mut_slice(), labels);
+    links.truncate(kept);
 }
 
-// The links with the labels of their ends.
+// Puts the links whose ends have different labels first, in their order, and returns how many they are. It takes no
+// branch on the labels, so that those of the next links are looked up meanwhile.
+fn put_apart_first(links: &mut [Link], labels: &[u32]) -> usize
+    ensures { take result links.new ≡ filter (is_apart labels.now) links.old }
+{
+    let mut kept = 0;
+    for i in 0..links.len() {
+        let link = links[i];
+        links[kept] = link;
+        kept += (entry(labels, link.low) != entry(labels, link.high)) as usize;
+    }
+    kept
+}
+
+// The links, each vertex labelled by itself.
 pub(crate) fn open_links<A: Allocator + Copy>(
     alloc: A,
     links: &[Link],
-    labels: &[u32],
 ) -> Result<Vec<Open, A>, AllocError>
-    ensures { IfOk result (λ candidates. candidates.items ≡ map (opened labels.now) links.now) }
+    requires few { length links.now ≤ MAX_RANKS }
+    ensures { IfOk result (λ candidates. AreOpened links.now candidates.items) }
 {
-    links
-        .iter()
-        .map(|link| Open {
-            low: entry(labels, link.low),
-            high: entry(labels, link.high),
-            link: *link,
-        })
-        .collect(alloc)
+    let mut candidates = Vec::with_capacity(alloc, links.len())?;
+    let mut rank = 0;
+    for link in links {
+        candidates.push(Open {
+            low: link.low,
+            high: link.high,
+            rank,
+        })?;
+        rank += 1;
+    }
+    Ok(candidates)
 }
 
 // Gives the labels a and b one number where one of them has none yet, and says whether it did; `last` is the last
@@ -97,29 +118,40 @@ fn touch(numbers: &mut [u32], last: &mut u32, a: u32, b: u32) -> bool
     true
 }
 
-// Takes each link that is the first to touch the component at one of its ends, where no label has a number yet, and
-// returns the last number that was given.
+// Takes each link that is the first to touch the component at one of its ends, where no label has a number yet. Puts the
+// others whose ends have different numbers first, with these in place of their labels. Returns the last number that was
+// given, and how many are first.
 fn take_first_touches<A: Allocator + Copy>(
-    candidates: &[Open],
+    links: &[Link],
+    candidates: &mut [Open],
     numbers: &mut [u32],
     taken: &mut Vec<Link, A>,
-) -> Result<u32, AllocError>
-    requires sorted { IsSorted open_cmp candidates.now }
+) -> Result<(u32, usize), AllocError>
+    requires sorted { (d : Link) → IsSorted (open_cmp d links.now) candidates.old }
     requires some { 0 < length numbers.old }
     requires few { length numbers.old ≤ MAX_VERTICES + 1 }
-    requires ends { AreBetween (length numbers.old) candidates.now }
+    requires ends { AreBetween (length numbers.old) (length links.now) candidates.old }
     requires fresh { EachIndex numbers.old (λ c. slice_index numbers.old c ≡ 0) }
-    ensures numbers { IfOk result (λ last. AreNumbers last numbers.new) }
-    ensures first { OnOk result (HaveFirst numbers.new candidates.now) }
-    ensures touched { OnOk result ((labels : List ℕ) → AreLabelled labels candidates.now → AreTouched labels (links_of candidates.now) (links_of candidates.now) numbers.new taken.old.items taken.new.items) }
+    ensures numbers { IfOk result (λ done. AreNumbers done.0 numbers.new) }
+    ensures first { OnOk result (HaveFirst numbers.new candidates.old) }
+    ensures given { OnOk result (HaveNumbers numbers.new candidates.old) }
+    ensures kept { IfOk result (λ done. take done.1 candidates.new ≡ filter is_open (map (renumbered numbers.new) candidates.old)) }
+    ensures touched { OnOk result ((d : Link) (labels : List ℕ) → AreLabelled labels d links.now candidates.old → AreTouched labels (links_of d links.now candidates.old) (links_of d links.now candidates.old) numbers.new taken.old.items taken.new.items) }
 {
     let mut last = 0;
-    for candidate in candidates {
-        if touch(numbers, &mut last, candidate.low, candidate.high) {
-            taken.push(candidate.link)?;
+    let mut kept = 0;
+    for i in 0..candidates.len() {
+        let Open { low, high, rank } = candidates[i];
+        if touch(numbers, &mut last, low, high) {
+            taken.push(links[rank as usize])?;
+        } else {
+            let low = entry(numbers, low);
+            let high = entry(numbers, high);
+            candidates[kept] = Open { low, high, rank };
+            kept += (low != high) as usize;
         }
     }
-    Ok(last)
+    Ok((last, kept))
 }
 
 // Gives each label but 0 that has no number a new one, and returns the last number.
@@ -150,7 +182,7 @@ pub(crate) fn rename(labels: &mut [u32], numbers: &[u32])
 }
 
 // Puts their numbers in the place of the labels of each link's ends, and drops the links whose ends have one number.
-fn renumber<A: Allocator>(candidates: &mut Vec<Open, A>, numbers: &[u32])
+pub(crate) fn renumber<A: Allocator>(candidates: &mut Vec<Open, A>, numbers: &[u32])
     ensures { candidates.new.items ≡ filter is_open (map (renumbered numbers.now) candidates.old.items) }
 {
     for candidate in candidates.as_mut_slice().iter_mut() {
@@ -165,52 +197,64 @@ fn renumber<A: Allocator>(candidates: &mut Vec<Open, A>, numbers: &[u32])
 fn round<A: Allocator + Copy>(
     alloc: A,
     count: u32,
+    links: &[Link],
     candidates: &mut Vec<Open, A>,
     taken: &mut Vec<Link, A>,
 ) -> Result<Renaming<A>, AllocError>
     requires few { count ≤ MAX_VERTICES }
-    requires sorted { IsSorted open_cmp candidates.old.items }
-    requires ends { AreBetween (count + 1) candidates.old.items }
+    requires sorted { (d : Link) → IsSorted (open_cmp d links.now) candidates.old.items }
+    requires ends { AreBetween (count + 1) (length links.now) candidates.old.items }
     ensures len { IfOk result (λ renaming. length renaming.numbers.items ≡ count + 1) }
     ensures few { IfOk result (λ renaming. renaming.count ≤ count) }
     ensures numbers { IfOk result (λ renaming. AreAllNumbers renaming.count renaming.numbers.items) }
-    ensures sorted { OnOk result (IsSorted open_cmp candidates.new.items) }
-    ensures ends { IfOk result (λ renaming. AreBetween (renaming.count + 1) candidates.new.items) }
+    ensures sorted { OnOk result ((d : Link) → IsSorted (open_cmp d links.now) candidates.new.items) }
+    ensures ends { IfOk result (λ renaming. AreBetween (renaming.count + 1) (length links.now) candidates.new.items) }
     ensures fewer { OnOk result (0 < length candidates.new.items → length candidates.new.items < length candidates.old.items) }
-    ensures labelled { IfOk result (λ renaming. (labels : List ℕ) → AreLabelled labels candidates.old.items → AreLabelled (renamed renaming.numbers.items labels) candidates.new.items) }
-    ensures stage { IfOk result (λ renaming. (links later : List Link) (labels : List ℕ) → AreLabelsUpTo count labels → AreLabelled labels candidates.old.items → IsStage links (links_of candidates.old.items) later labels taken.old.items → IsStage links (links_of candidates.new.items) later (renamed renaming.numbers.items labels) taken.new.items) }
+    ensures labelled { IfOk result (λ renaming. (d : Link) (labels : List ℕ) → AreLabelled labels d links.now candidates.old.items → AreLabelled (renamed renaming.numbers.items labels) d links.now candidates.new.items) }
+    ensures stage { IfOk result (λ renaming. LeadsOn count links.now candidates.old.items taken.old.items renaming.numbers.items candidates.new.items taken.new.items) }
 {
     let mut numbers = vec![in alloc; 0; count as usize + 1]?;
     let table = numbers.as_mut_slice();
-    let last = take_first_touches(candidates.as_slice(), table, taken)?;
+    let (last, kept) = take_first_touches(links, candidates.as_mut_slice(), table, taken)?;
+    candidates.truncate(kept);
     let count = number_rest(table, last);
-    renumber(candidates, numbers.as_slice());
     Ok(Renaming { numbers, count })
 }
 
-/// Takes the forest's links among these, which are in the order of their keys, between the components 1 to `count`, and
-/// returns the new numbers of the components.
+// Takes the forest's links among these, which are in the order of their keys, between the components 1 to `count`, and
+// returns the new numbers of the components. While more than half of them are left, the numbers that a round gives are
+// looked up at once, so that a further table has at most half as many entries: it takes at most 8 bytes a component.
 pub(crate) fn join<A: Allocator + Copy>(
     alloc: A,
     count: u32,
+    links: &[Link],
     candidates: Vec<Open, A>,
     taken: &mut Vec<Link, A>,
 ) -> Result<Renaming<A>, AllocError>
     requires few { count ≤ MAX_VERTICES }
-    requires sorted { IsSorted open_cmp candidates.items }
-    requires ends { AreBetween (count + 1) candidates.items }
+    requires sorted { (d : Link) → IsSorted (open_cmp d links.now) candidates.items }
+    requires ends { AreBetween (count + 1) (length links.now) candidates.items }
     ensures few { IfOk result (λ renaming. renaming.count ≤ count) }
     ensures len { IfOk result (λ renaming. length renaming.numbers.items ≡ count + 1) }
     ensures numbers { IfOk result (λ renaming. AreAllNumbers renaming.count renaming.numbers.items) }
-    ensures stage { IfOk result (λ renaming. (links later : List Link) (labels : List ℕ) → AreLabelsUpTo count labels → AreLabelled labels candidates.items → IsStage links (links_of candidates.items) later labels taken.old.items → IsStage links [] later (renamed renaming.numbers.items labels) taken.new.items) }
+    ensures stage { IfOk result (λ renaming. LeadsOn count links.now candidates.items taken.old.items renaming.numbers.items [] taken.new.items) }
 {
     let mut candidates = candidates;
-    let renaming = round(alloc, count, &mut candidates, taken)?;
-    if candidates.is_empty() {
-        return Ok(renaming);
+    let first = round(alloc, count, links, &mut candidates, taken)?;
+    let mut numbers = first.numbers;
+    let mut left = first.count;
+    while left > count / 2 && !candidates.is_empty() {
+        let further = round(alloc, left, links, &mut candidates, taken)?;
+        rename(numbers.as_mut_slice(), further.numbers.as_slice());
+        left = further.count;
     }
-    let mut numbers = renaming.numbers;
-    let further = join(alloc, renaming.count, candidates, taken)?;
+    if candidates.is_empty() {
+        return Ok(Renaming {
+            numbers,
+            count: left,
+        });
+    }
+    let further = join(alloc, left, links, candidates, taken)?;
     rename(numbers.as_mut_slice(), further.numbers.as_slice());
     Ok(Renaming {
         numbers,

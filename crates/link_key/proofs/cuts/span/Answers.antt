@@ -1,4 +1,4 @@
-use Rattle.std.proofs.Common.{◌≤◌, ◌+◌, ◌-◌, ◌∷◌, ◌++◌, [], get_or, subst₂, arith}
+use Rattle.std.proofs.Common.{◌≤◌, ◌-◌, ◌∷◌, ◌++◌, [], get_or}
 use Rattle.std.proofs.lemmas.Bool.{leb-true}
 use Rattle.limits.specs.declared.TheConstants.{MAX_SHARD_LINKS}
 use Rattle.link_key.specs.Cut.{is_in_order, is_small}

@@ -1,48 +1,108 @@
-use Rattle.std.proofs.Common.{◌≡◌, ℕ, ◌<◌, List, [], length, sym, ap, ap₂, ◌∙◌, subst, arith, rules}
+use Rattle.std.proofs.Common.{◌≡◌, ℕ, ◌<◌, List, [], length, sym, ap, ap₂, ◌∙◌, subst, inl, inr, arith, rules}
+use Rattle.std.proofs.lemmas.Bool.{cases_lt}
 use Rattle.std.proofs.lemmas.Bool.Decides.{nat_tests}
-use Rattle.link_key.specs.declared.links.Link.{Link}
-use Rattle.link_key.specs.Rounds.{renamed, IsStage}
-use Rattle.link_key.specs.OpenLinks.{AreAllNumbers}
-use Rattle.link_key.proofs.Opened.{written, links_none, renamed_twice, renamed_numbers}
-use Rattle.link_key.proofs.Stages.{renamed_labels}
+use Rattle.link_key.specs.declared.rounds.Open.{Open}
+use Rattle.link_key.specs.Rounds.{renamed}
+use Rattle.link_key.specs.OpenLinks.{LeadsOn, AreAllNumbers}
+use Rattle.link_key.proofs.Composing.{keep_labels, lead_on}
+use Rattle.link_key.proofs.Opened.{written, none_left, renamed_numbers}
 use Rattle.link_key.proofs.rounds.+join.Goals as goal
+
+-- nothing is left, or fewer are
+shorter : (now before : ℕ) → 0 < before → (0 < now → now < before) → now < before
+shorter now before some fewer = elim (cases_lt 0 now) [
+  | inl more ↦ fewer more
+  | inr none ↦ omega (arith, none, some)
+]
+
+pub loop-left-init : goal.loop-left-init
+loop-left-init g t c = record {
+  few = c.in_ok-first.ensures.few;
+  len = c.in_ok-first.ensures.len;
+  numbers = c.in_ok-first.ensures.numbers;
+  sorted = c.in_ok-first.ensures.sorted;
+  ends = c.in_ok-first.ensures.ends;
+  fewer = c.in_ok-first.ensures.fewer;
+  labelled = c.in_ok-first.ensures.labelled;
+  stage = c.in_ok-first.ensures.stage;
+}
+
+pub round-requires-in-loop-left-clause-few : goal.round-requires-in-loop-left-clause-few
+round-requires-in-loop-left-clause-few g t c = let few = c.loop-left.invariant.few in let most = c.requires.few in omega (arith, few, most)
+
+pub loop-left-smaller : goal.loop-left-smaller
+loop-left-smaller g t c =
+    let l = c.loop-left in
+    let empty = c.is_empty.ensures in
+    let is = c.if-not-is_empty.true in
+    let len = l.candidates.ok.0 in
+    let some : 0 < length l.candidates.items = grind (arith, nat_tests, empty, is, len) in
+    shorter (length c.round-in-loop-left.new.candidates.items) (length l.candidates.items) some c.in_ok-further.ensures.fewer
+
+pub loop-left-preserved : goal.loop-left-preserved
+loop-left-preserved g t c =
+    let l = c.loop-left in
+    let numbers = l.numbers in
+    let further = c.in_ok-further.further.numbers in
+    let value = c.as_mut_slice.ensures.value in
+    let whole = written numbers.len c.rename.new.labels numbers.items (c.rename.auto.labels ∙ ap length value) numbers.ok.0 in
+    let is : c.rename.new.labels ≡ renamed further.items numbers.items = c.rename.ensures ∙ ap₂ renamed c.as_slice.ensures.value value in
+    let done = c.in_ok-further.ensures in
+    rw (whole ∙ is) (record {
+      few = let few = l.invariant.few in let fewer = done.few in omega (arith, few, fewer);
+      len = sym (ap length is) ∙ c.rename.auto.labels ∙ ap length value ∙ l.invariant.len;
+      numbers = renamed_numbers l.invariant.numbers done.len done.few done.numbers;
+      sorted = done.sorted;
+      ends = done.ends;
+      fewer = λ some. let less = done.fewer some in let less' = l.invariant.fewer (omega (arith, less)) in omega (arith, less, less');
+      labelled = keep_labels c.args.links.now c.args.candidates.items l.candidates.items c.round-in-loop-left.new.candidates.items numbers.items done.numbers l.invariant.labelled done.labelled;
+      stage = lead_on c.args.links.now c.args.candidates.items l.candidates.items c.round-in-loop-left.new.candidates.items numbers.items done.numbers l.invariant.len l.invariant.numbers l.invariant.labelled l.invariant.stage done.stage;
+    })
+
+pub returns-then-is_empty-clause-stage : goal.returns-then-is_empty-clause-stage
+returns-then-is_empty-clause-stage g t c =
+    let l = c.loop-left in
+    let empty = c.is_empty-2.ensures in
+    let is = c.if-is_empty.true in
+    let len = l.candidates.ok.0 in
+    let none : length l.candidates.items ≡ 0 = grind (arith, nat_tests, empty, is, len) in
+    subst (λ (xs : List Open). LeadsOn c.args.count c.args.links.now c.args.candidates.items c.args.taken.now.items l.numbers.items xs l.taken.items) (none_left l.candidates.items none) l.invariant.stage
 
 pub join-requires : goal.join-requires
 join-requires g t c =
-    let empty = c.is_empty.ensures in
+    let l = c.loop-left in
+    let empty = c.is_empty-2.ensures in
     let is = c.if-is_empty.false in
-    let len = c.round.new.candidates.ok.0 in
-    let some : 0 < length c.round.new.candidates.items = grind (arith, nat_tests, empty, is, len) in
-    let smaller : length c.round.new.candidates.items < length c.args.candidates.items = c.in_ok-renaming.ensures.fewer some in
+    let len = l.candidates.ok.0 in
+    let some : 0 < length l.candidates.items = grind (arith, nat_tests, empty, is, len) in
+    let smaller : length l.candidates.items < length c.args.candidates.items = l.invariant.fewer some in
     search rules
+
+pub returns-clause-len : goal.returns-clause-len
+returns-clause-len g t c =
+    let numbers = c.loop-left.numbers in
+    let value = c.as_mut_slice-2.ensures.value in
+    let len = c.rename-2.auto.labels ∙ ap length value in
+    ap length (written numbers.len c.rename-2.new.labels numbers.items len numbers.ok.0) ∙ len ∙ c.loop-left.invariant.len
 
 pub returns-clause-numbers : goal.returns-clause-numbers
 returns-clause-numbers g t c =
-    let numbers = c.in_ok-renaming.renaming.numbers in
-    let further = c.in_ok-further.further.numbers in
-    let value = c.as_mut_slice.ensures.value in
-    let whole = written numbers.len c.rename.new.labels numbers.items (c.rename.auto.labels ∙ ap length value) numbers.ok.0 in
-    let is : c.rename.new.labels ≡ renamed further.items numbers.items = c.rename.ensures ∙ ap₂ renamed c.as_slice.ensures.value value in
-    subst (AreAllNumbers c.in_ok-further.further.count) (sym (whole ∙ is))
-    (renamed_numbers c.in_ok-renaming.ensures.numbers c.in_ok-further.ensures.len c.in_ok-further.ensures.few c.in_ok-further.ensures.numbers)
+    let numbers = c.loop-left.numbers in
+    let further = c.in_ok-further-2.further.numbers in
+    let value = c.as_mut_slice-2.ensures.value in
+    let whole = written numbers.len c.rename-2.new.labels numbers.items (c.rename-2.auto.labels ∙ ap length value) numbers.ok.0 in
+    let is : c.rename-2.new.labels ≡ renamed further.items numbers.items = c.rename-2.ensures ∙ ap₂ renamed c.as_slice-2.ensures.value value in
+    let done = c.in_ok-further-2.ensures in
+    subst (AreAllNumbers c.in_ok-further-2.further.count) (sym (whole ∙ is)) (renamed_numbers c.loop-left.invariant.numbers done.len done.few done.numbers)
 
 pub returns-clause-stage : goal.returns-clause-stage
-returns-clause-stage g t c links later labels up_to labelled stage =
-    let numbers = c.in_ok-renaming.renaming.numbers in
-    let further = c.in_ok-further.further.numbers in
-    let value = c.as_mut_slice.ensures.value in
-    let whole = written numbers.len c.rename.new.labels numbers.items (c.rename.auto.labels ∙ ap length value) numbers.ok.0 in
-    let is : c.rename.new.labels ≡ renamed further.items numbers.items = c.rename.ensures ∙ ap₂ renamed c.as_slice.ensures.value value in
-    let first = c.in_ok-renaming.ensures.stage links later labels up_to labelled stage in
-    let up_to' = renamed_labels c.in_ok-renaming.ensures.len c.in_ok-renaming.ensures.numbers up_to in
-    let then_on = c.in_ok-further.ensures.stage links later (renamed numbers.items labels) up_to' (c.in_ok-renaming.ensures.labelled labels labelled) first in
-    subst (λ (now : List ℕ). IsStage links [] later now c.join.new.taken.items)
-    (sym (ap (λ (table : List ℕ). renamed table labels) (whole ∙ is) ∙ renamed_twice numbers.items further.items labels c.in_ok-further.ensures.numbers.none)) then_on
-
-pub returns-then-is_empty-clause-stage : goal.returns-then-is_empty-clause-stage
-returns-then-is_empty-clause-stage g t c links later labels up_to labelled stage =
-    let empty = c.is_empty.ensures in
-    let is = c.if-is_empty.true in
-    let len = c.round.new.candidates.ok.0 in
-    let none : length c.round.new.candidates.items ≡ 0 = grind (arith, nat_tests, empty, is, len) in
-    subst (λ (xs : List Link). IsStage links xs later (renamed c.in_ok-renaming.renaming.numbers.items labels) c.round.new.taken.items) (links_none c.round.new.candidates.items none) (c.in_ok-renaming.ensures.stage links later labels up_to labelled stage)
+returns-clause-stage g t c =
+    let l = c.loop-left in
+    let numbers = l.numbers in
+    let further = c.in_ok-further-2.further.numbers in
+    let value = c.as_mut_slice-2.ensures.value in
+    let whole = written numbers.len c.rename-2.new.labels numbers.items (c.rename-2.auto.labels ∙ ap length value) numbers.ok.0 in
+    let is : c.rename-2.new.labels ≡ renamed further.items numbers.items = c.rename-2.ensures ∙ ap₂ renamed c.as_slice-2.ensures.value value in
+    let done = c.in_ok-further-2.ensures in
+    subst (λ (table : List ℕ). LeadsOn c.args.count c.args.links.now c.args.candidates.items c.args.taken.now.items table [] c.join.new.taken.items) (sym (whole ∙ is))
+    (lead_on c.args.links.now c.args.candidates.items l.candidates.items [] numbers.items done.numbers l.invariant.len l.invariant.numbers l.invariant.labelled l.invariant.stage done.stage)

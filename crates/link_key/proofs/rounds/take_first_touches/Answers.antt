@@ -1,61 +1,130 @@
-use Rattle.std.proofs.Common.{◌≡◌, ℕ, ◌<◌, ◌≤◌, List, length, get_or, take, take_all, sym, ap, ◌∙◌, subst, arith}
-use Rattle.std.proofs.lemmas.List.{length-map, get_or-map}
+use Rattle.std.proofs.Common.{rules, ◌≡◌, ℕ, ◌+◌, ◌<◌, ◌≤◌, List, ◌==◌, not, length, get_or, take, set, take_all, get_or-set_other, refl, sym, ap, ap₂, ◌∙◌, subst, inl, inr, arith}
+use mir.Val.{bool_byte}
+use Rattle.std.proofs.lemmas.List.{length-map, length-set, get_or-map, get_or_default}
 use Rattle.link_key.specs.declared.links.Link.{Link}
 use Rattle.link_key.specs.declared.rounds.Open.{Open}
-use Rattle.link_key.specs.OpenLinks.{links_of, AreLabelled, AreTouched, ShareNumber}
+use Rattle.link_key.specs.OpenLinks.{link_of, links_of, renumbered, IsLabelled, AreLabelled, IsBetween, AreBetween, AreTouched, HaveNumbers, ShareNumber}
+use Rattle.link_key.proofs.Keeping.{kept_of, kept_same, kept_closed, kept_passed, given_more, closed, counted}
 use Rattle.link_key.proofs.Opened.{sorted_links}
-use Rattle.link_key.proofs.Touching.{Next, next_of, seen_with, numbers_none, first_none, first_passed, first_taken, touched_none, touched_passed, touched_taken, shared_numbers}
+use Rattle.link_key.proofs.Touching.{Next, next_of, seen_with, numbers_none, first_none, first_passed, first_taken, touched_none, touched_passed, touched_taken, shared_numbers, shared_some, number_stays, some_stays}
 use Rattle.link_key.proofs.rounds.take_first_touches.Goals as goal
 use Rattle.link_key.proofs.rounds.take_first_touches.Goals.{then-touch+in_ok-push, else-touch}
 
-pub loop-candidate-init : goal.loop-candidate-init
-loop-candidate-init g c = record {
+abbrev no_link : Open
+no_link = record { low = 0; high = 0; rank = 0 }
+
+-- the open link that is looked at has its labels and its rank in range
+between : {bound len : ℕ} (start now : List Open) (i : ℕ) → AreBetween bound len start → i < length start → ((k : ℕ) (o : Open) → i ≤ k → get_or now k o ≡ get_or start k o) → IsBetween bound len (get_or now i no_link)
+between {bound} {len} start now i ends i_in ahead = subst (IsBetween bound len) (sym (ahead i no_link (omega arith))) (ends i no_link i_in)
+
+pub touch-requires-clause-a_in_range : goal.touch-requires-clause-a_in_range
+touch-requires-clause-a_in_range g c = let is = (between c.args.candidates.now c.loop-i.candidates c.loop-i.i c.requires.ends c.loop-i-test.true c.loop-i.invariant.ahead).1 in let len = c.loop-i.auto.numbers in omega (arith, is, len)
+
+pub touch-requires-clause-b_in_range : goal.touch-requires-clause-b_in_range
+touch-requires-clause-b_in_range g c = let is = (between c.args.candidates.now c.loop-i.candidates c.loop-i.i c.requires.ends c.loop-i-test.true c.loop-i.invariant.ahead).3 in let len = c.loop-i.auto.numbers in omega (arith, is, len)
+
+pub touch-requires-clause-few : goal.touch-requires-clause-few
+touch-requires-clause-few g c = let few = c.loop-i.invariant.numbers.few in let few' = c.requires.few in let len = c.loop-i.auto.numbers in omega (arith, few, few', len)
+
+pub bounds-links-rank : goal.bounds-links-rank
+bounds-links-rank g c = (between c.args.candidates.now c.loop-i.candidates c.loop-i.i c.requires.ends c.loop-i-test.true c.loop-i.invariant.ahead).4
+
+pub offset_bounds-candidates-kept : goal.offset_bounds-candidates-kept
+offset_bounds-candidates-kept g c =
+    let few = c.loop-i.invariant.few in
+    let len = c.loop-i.invariant.len in
+    let lt = c.loop-i-test.true in
+    let kept_in : c.loop-i.kept < length c.loop-i.candidates = omega (arith, few, len, lt) in
+    search rules
+
+pub bounds-candidates-kept : goal.bounds-candidates-kept
+bounds-candidates-kept g c = let few = c.loop-i.invariant.few in let len = c.loop-i.invariant.len in let lt = c.loop-i-test.true in omega (arith, few, len, lt)
+
+pub loop-i-init : goal.loop-i-init
+loop-i-init g c = record {
+  len = refl;
+  ahead = λ k o lt. refl;
+  few = omega arith;
+  kept = refl;
+  given = λ k o lt. absurd (omega (arith, lt));
   numbers = numbers_none c.args.numbers.now c.requires.fresh;
   first = first_none c.args.numbers.now c.args.candidates.now c.requires.fresh;
-  touched = λ labels labelled. touched_none labels (links_of c.args.candidates.now) c.args.numbers.now c.args.taken.now.items c.requires.fresh;
+  touched = λ d labels labelled. touched_none labels (links_of d c.args.links.now c.args.candidates.now) c.args.numbers.now c.args.taken.now.items c.requires.fresh;
 }
 
-pub loop-candidate-preserved : goal.loop-candidate-preserved
-loop-candidate-preserved g c =
-    let candidates = c.args.candidates.now in
-    let rest = links_of candidates in
-    let l = c.loop-candidate in
-    let i = l.candidate-index in
-    let x = c.candidate-item.result in
-    let i_in : i < length candidates = c.loop-candidate-test.true in
-    let i_in' : i < length rest = subst (λ n. i < n) (sym (length-map candidates (λ (o : Open). o.link))) i_in in
-    let is : x ≡ get_or candidates i x = c.candidate-item.is in
-    let link_is : x.link ≡ get_or rest i x.link = ap (λ (o : Open). o.link) is ∙ sym (get_or-map (λ (o : Open). o.link) candidates i x x.link i_in) in
-    let between : (0 < x.low) × (x.low < length c.args.numbers.now) × (0 < x.high) × (x.high < length c.args.numbers.now) = subst (λ (o : Open). (0 < o.low) × (o.low < length c.args.numbers.now) × (0 < o.high) × (o.high < length c.args.numbers.now)) (sym is) (c.requires.ends i x i_in) in
-    let at : (labels : List ℕ) → AreLabelled labels candidates → (x.link.high < length labels) × (get_or labels x.link.low 0 ≡ x.low) × (get_or labels x.link.high 0 ≡ x.high) = λ labels labelled. subst (λ (o : Open). (o.link.high < length labels) × (get_or labels o.link.low 0 ≡ o.low) × (get_or labels o.link.high 0 ≡ o.high)) (sym is) (labelled i x i_in) in
-    let next : (labels : List ℕ) → AreLabelled labels candidates → Next labels rest (take i rest) x.link = λ labels labelled. next_of labels rest i x.link (sorted_links candidates c.requires.sorted) (at labels labelled).0 i_in' link_is in
+pub loop-i-preserved : goal.loop-i-preserved
+loop-i-preserved g c =
+    let start = c.args.candidates.now in
+    let links = c.args.links.now in
+    let l = c.loop-i in
+    let i = l.i in
+    let numbers' = c.touch.new.numbers in
+    let x : Open = get_or l.candidates i no_link in
+    let i_in : i < length start = c.loop-i-test.true in
+    let is : x ≡ get_or start i x = l.invariant.ahead i no_link (omega arith) ∙ get_or_default start i no_link x i_in in
+    let ends = between start l.candidates i c.requires.ends i_in l.invariant.ahead in
+    let rest : Link → List Link = λ d. links_of d links start in
+    let i_in' : (d : Link) → i < length (rest d) = λ d. subst (λ n. i < n) (sym (length-map start (link_of d links))) i_in in
+    let link_is : (d : Link) → link_of d links x ≡ get_or (rest d) i (link_of d links x) = λ d. ap (link_of d links) is ∙ sym (get_or-map (link_of d links) start i x (link_of d links x) i_in) in
+    let at : (d : Link) (labels : List ℕ) → AreLabelled labels d links start → IsLabelled labels (link_of d links x) x = λ d labels labelled. subst (λ (o : Open). IsLabelled labels (link_of d links o) o) (sym is) (labelled i x i_in) in
+    let next : (d : Link) (labels : List ℕ) → AreLabelled labels d links start → Next labels (rest d) (take i (rest d)) (link_of d links x) = λ d labels labelled. next_of labels (rest d) i (link_of d links x) (sorted_links d links start (c.requires.sorted d)) (at d labels labelled).0 (i_in' d) (link_is d) in
     elim c.if-touch.branch [
       | then-touch+in_ok-push w ↦
           let share = c.touch.ensures.touched w.if-touch.true in
+          let some = shared_some share in
+          let shut = closed (get_or numbers' x.low 0) (get_or numbers' x.high 0) (share.first ∙ sym share.second) in
+          let kept : take l.kept l.candidates ≡ kept_of numbers' (take (i + 1) start) = l.invariant.kept ∙ sym (kept_same l.numbers numbers' (take i start) l.invariant.given (number_stays share)) ∙ sym (kept_closed numbers' start x i_in is shut) in
           record {
-            numbers = shared_numbers share between.0 between.2 (c.touch.ensures.fewer w.if-touch.true) l.invariant.numbers;
+            len = ap length w.candidates-is ∙ l.invariant.len;
+            ahead = λ k o lt. ap (λ (xs : List Open). get_or xs k o) w.candidates-is ∙ l.invariant.ahead k o (omega (arith, lt));
+            few = let same = w.kept-is in let few = l.invariant.few in omega (arith, same, few);
+            kept = rw (w.kept-is, w.candidates-is) kept;
+            given = given_more numbers' start x i_in is (subst (λ k. 0 < k) (sym share.first) some, subst (λ k. 0 < k) (sym share.second) some) (λ k o lt. let had = l.invariant.given k o lt in (some_stays share (get_or (take i start) k o).low had.0, some_stays share (get_or (take i start) k o).high had.1));
+            numbers = shared_numbers share ends.0 ends.2 (c.touch.ensures.fewer w.if-touch.true) l.invariant.numbers;
             first = first_taken x i_in is share l.invariant.first;
-            touched = λ labels labelled.
-                let share' : ShareNumber (get_or labels x.link.low 0) (get_or labels x.link.high 0) l.last l.numbers c.touch.new.last c.touch.new.numbers = rw ((at labels labelled).1, (at labels labelled).2) share in
-                subst (λ (seen : List Link). AreTouched labels rest seen c.touch.new.numbers c.args.taken.now.items c.if-touch.taken.items) (sym (seen_with rest i x.link i_in' link_is))
-                (rw (w.taken-is, w.in_ok-push.ensures.items) (touched_taken (next labels labelled) (l.invariant.touched labels labelled) l.invariant.numbers share'));
+            touched = λ d labels labelled.
+                let share' : ShareNumber (get_or labels (link_of d links x).low 0) (get_or labels (link_of d links x).high 0) l.last l.numbers c.touch.new.last numbers' = rw ((at d labels labelled).1, (at d labels labelled).2) share in
+                let value : w.index-links-rank.result ≡ link_of d links x = w.index-links-rank.is ∙ get_or_default links x.rank w.index-links-rank.result d ends.4 in
+                subst (λ (seen : List Link). AreTouched labels (rest d) seen numbers' c.args.taken.now.items c.if-touch.taken.items) (sym (seen_with (rest d) i (link_of d links x) (i_in' d) (link_is d)))
+                (rw (w.taken-is, w.in_ok-push.ensures.items, value) (touched_taken (next d labels labelled) (l.invariant.touched d labels labelled) l.invariant.numbers share'));
           }
       | else-touch w ↦
           let had_low = c.touch.ensures.had_a w.if-touch.false in
           let had_high = c.touch.ensures.had_b w.if-touch.false in
-          rw (w.taken-is, c.touch.ensures.same w.if-touch.false, c.touch.ensures.same_last w.if-touch.false) (record {
-            numbers = l.invariant.numbers;
-            first = first_passed x had_low l.invariant.first;
-            touched = λ labels labelled.
-                subst (λ (seen : List Link). AreTouched labels rest seen l.numbers c.args.taken.now.items l.taken.items) (sym (seen_with rest i x.link i_in' link_is))
-                (touched_passed (next labels labelled) (l.invariant.touched labels labelled) (subst (λ k. 0 < get_or l.numbers k 0) (sym (at labels labelled).1) had_low) (subst (λ k. 0 < get_or l.numbers k 0) (sym (at labels labelled).2) had_high));
+          let same = c.touch.ensures.same w.if-touch.false in
+          let kept_in : l.kept < length l.candidates = let few = l.invariant.few in let len = l.invariant.len in omega (arith, few, len, i_in) in
+          let low_is : w.entry-low.result ≡ get_or l.numbers x.low 0 = w.entry-low.ensures ∙ ap (λ (ks : List ℕ). get_or ks x.low 0) same in
+          let high_is : w.entry-high.result ≡ get_or l.numbers x.high 0 = w.entry-high.ensures ∙ ap (λ (ks : List ℕ). get_or ks x.high 0) same in
+          let now : c.if-touch.candidates ≡ set l.candidates l.kept (renumbered l.numbers x) = w.candidates-is ∙ ap₂ (λ (a b : ℕ). set l.candidates l.kept (record { low = a; high = b; rank = x.rank })) low_is high_is in
+          let count = counted (get_or l.numbers x.low 0) (get_or l.numbers x.high 0) l.kept c.if-touch.kept (w.kept-is ∙ ap₂ (λ (a b : ℕ). l.kept + bool_byte (not (a == b))) low_is high_is) in
+          rw (c.touch.ensures.same_last w.if-touch.false) (record {
+            len = ap length now ∙ length-set l.candidates l.kept (renumbered l.numbers x) ∙ l.invariant.len;
+            ahead = λ k o lt. ap (λ (xs : List Open). get_or xs k o) now ∙ get_or-set_other l.candidates l.kept k (renumbered l.numbers x) o (let few = l.invariant.few in λ is'. omega (arith, is', few, lt)) ∙ l.invariant.ahead k o (omega (arith, lt));
+            few = let few = l.invariant.few in elim count [ inl (is', _) ↦ omega (arith, is', few) | inr (is', _) ↦ omega (arith, is', few) ];
+            kept = rw (now, same) (kept_passed l.numbers start x i_in is l.candidates kept_in l.invariant.kept count);
+            given = rw same (given_more l.numbers start x i_in is (had_low, had_high) l.invariant.given);
+            numbers = rw same l.invariant.numbers;
+            first = rw same (first_passed x had_low l.invariant.first);
+            touched = λ d labels labelled.
+                rw (w.taken-is, same) (subst (λ (seen : List Link). AreTouched labels (rest d) seen l.numbers c.args.taken.now.items l.taken.items) (sym (seen_with (rest d) i (link_of d links x) (i_in' d) (link_is d)))
+                (touched_passed (next d labels labelled) (l.invariant.touched d labels labelled) (subst (λ k. 0 < get_or l.numbers k 0) (sym (at d labels labelled).1) had_low) (subst (λ k. 0 < get_or l.numbers k 0) (sym (at d labels labelled).2) had_high)));
           })
     ]
 
+pub returns-clause-first : goal.returns-clause-first
+returns-clause-first g c d some = c.loop-i.invariant.first.first d (let end = c.loop-i-test.false in omega (arith, end, some))
+
+pub returns-clause-given : goal.returns-clause-given
+returns-clause-given g c =
+    let end = c.loop-i-test.false in
+    subst (λ (xs : List Open). HaveNumbers c.loop-i.numbers xs) (take_all c.loop-i.i c.args.candidates.now end) c.loop-i.invariant.given
+
+pub returns-clause-kept : goal.returns-clause-kept
+returns-clause-kept g c = c.loop-i.invariant.kept ∙ ap (kept_of c.loop-i.numbers) (take_all c.loop-i.i c.args.candidates.now c.loop-i-test.false)
+
 pub returns-clause-touched : goal.returns-clause-touched
-returns-clause-touched g c labels labelled =
-    let candidates = c.args.candidates.now in
-    let rest = links_of candidates in
-    let i = c.loop-candidate.candidate-index in
-    let past : length rest ≤ i = let end = c.loop-candidate-test.false in let len = length-map candidates (λ (o : Open). o.link) in omega (arith, end, len) in
-    subst (λ (seen : List Link). AreTouched labels rest seen c.loop-candidate.numbers c.args.taken.now.items c.loop-candidate.taken.items) (take_all i rest past) (c.loop-candidate.invariant.touched labels labelled)
+returns-clause-touched g c d labels labelled =
+    let rest = links_of d c.args.links.now c.args.candidates.now in
+    let i = c.loop-i.i in
+    let past : length rest ≤ i = let end = c.loop-i-test.false in let len = length-map c.args.candidates.now (link_of d c.args.links.now) in omega (arith, end, len) in
+    subst (λ (seen : List Link). AreTouched labels rest seen c.loop-i.numbers c.args.taken.now.items c.loop-i.taken.items) (take_all i rest past) (c.loop-i.invariant.touched d labels labelled)

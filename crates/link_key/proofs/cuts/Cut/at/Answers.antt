@@ -1,5 +1,4 @@
 use Rattle.std.proofs.Common.{length}
-use Rattle.link_key.specs.Cut.{places_refusal}
 use Rattle.link_key.proofs.Spans.{allowed, shards_joined}
 use Rattle.link_key.proofs.cuts.Cut.at.Goals as goal
 

@@ -1,4 +1,4 @@
-use Rattle.std.proofs.Common.{length, arith}
+use Rattle.std.proofs.Common.{length}
 use Rattle.link_key.proofs.Spans.{AreEven, even_limits, even_allowed, even_cut, not_refused, shards_joined}
 use Rattle.link_key.proofs.cuts.Cut.even.Goals as goal
 

@@ -1,4 +1,4 @@
-use Rattle.std.proofs.Common.{ap, sym, ◌∙◌, ◌+◌, length, arith}
+use Rattle.std.proofs.Common.{arith}
 use Rattle.link_key.proofs.Spans.{shards_length}
 use Rattle.link_key.proofs.cuts.Cut.len.Goals as goal
 

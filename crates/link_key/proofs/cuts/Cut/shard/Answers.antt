@@ -1,4 +1,4 @@
-use Rattle.std.proofs.Common.{◌≡◌, ◌<◌, ◌≤◌, ◌+◌, ◌-◌, length, sym, ap, ◌∙◌, arith}
+use Rattle.std.proofs.Common.{◌≡◌, ◌<◌, ◌≤◌, ◌-◌, length, sym, ap, arith}
 use Rattle.link_key.specs.Cut.{shards_at, links_at}
 use Rattle.std.specs.List.{slice_range}
 use Rattle.link_key.proofs.Spans.{shards_length, shard_from, part_few}
