@@ -311,7 +311,8 @@ def verdict(edit, texts, said):
             if is_here and "it is not proved" in told[3]:
                 return "refused", line
         elif told and told[3].startswith("error"):
-            path = told[1].split("/")[1:-1]
+            # the folder of a function that calls itself begins with a plus sign
+            path = [it.removeprefix("+") for it in told[1].split("/")[1:-1]]
             if not edit.touched or any(it.is_told_as(path) for it in touched):
                 if not NAMES_ALONE.search(told[3]):
                     return "refused", line
