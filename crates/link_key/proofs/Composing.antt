@@ -1,22 +1,17 @@
 -- Rounds one after the other: new numbers of the components, then new numbers of these.
-use Rattle.std.proofs.Common.{◌≡◌, ℕ, ◌+◌, List, length, sym, subst}
-use Rattle.link_key.specs.declared.links.Link.{Link}
+use Rattle.std.proofs.Common.{◌≡◌, ℕ, ◌+◌, ◌++◌, Bool, List, length, sym, ◌∙◌, subst}
 use Rattle.link_key.specs.declared.rounds.Open.{Open}
 use Rattle.link_key.specs.Rounds.{renamed, IsStage}
-use Rattle.link_key.specs.OpenLinks.{links_of, AreLabelled, AreAllNumbers, LeadsOn}
+use Rattle.link_key.specs.OpenLinks.{links_of, marked, AreOpenOf, AreAllNumbers, StayOpen, LeadsOn}
 use Rattle.link_key.proofs.Opened.{renamed_twice}
 use Rattle.link_key.proofs.Stages.{renamed_labels}
 
--- the open links have the labels of their ends by the new numbers, whatever labels they had
-abbrev pub KeepLabels : List Link → List Open → List ℕ → List Open → Type 0
-KeepLabels links candidates numbers left = (d : Link) (labels : List ℕ) → AreLabelled labels d links candidates → AreLabelled (renamed numbers labels) d links left
+module _ (candidates left rest : List Open) {last : ℕ} (numbers : List ℕ) {further : List ℕ} (all' : AreAllNumbers last further) where
+  pub stay_open : StayOpen candidates numbers left → StayOpen left further rest → StayOpen candidates (renamed further numbers) rest
+  stay_open one two d links labels are =
+      subst (λ (now : List ℕ). AreOpenOf now d links rest) (sym (renamed_twice numbers further labels all'.none)) (two d links (renamed numbers labels) (one d links labels are))
 
-module _ (links : List Link) (candidates left rest : List Open) {last : ℕ} (numbers : List ℕ) {further : List ℕ} (all' : AreAllNumbers last further) where
-  pub keep_labels : KeepLabels links candidates numbers left → KeepLabels links left further rest → KeepLabels links candidates (renamed further numbers) rest
-  keep_labels one two d labels labelled =
-      subst (λ (now : List ℕ). AreLabelled now d links rest) (sym (renamed_twice numbers further labels all'.none)) (two d (renamed numbers labels) (one d labels labelled))
-
-  pub lead_on : {count mid : ℕ} {before between after : List Link} → length numbers ≡ count + 1 → AreAllNumbers mid numbers → KeepLabels links candidates numbers left → LeadsOn count links candidates before numbers left between → LeadsOn mid links left between further rest after → LeadsOn count links candidates before (renamed further numbers) rest after
-  lead_on {count} {mid} {before} {between} {after} len all keeps one two d whole later labels up_to labelled stage =
-      subst (λ (now : List ℕ). IsStage whole (links_of d links rest) later now after) (sym (renamed_twice numbers further labels all'.none))
-      (two d whole later (renamed numbers labels) (renamed_labels len all up_to) (keeps d labels labelled) (one d whole later labels up_to labelled stage))
+  pub lead_on : {count mid : ℕ} (marks between after : List Bool) → length between ≡ length marks → length numbers ≡ count + 1 → AreAllNumbers mid numbers → StayOpen candidates numbers left → LeadsOn count candidates marks numbers left between → LeadsOn mid left between further rest after → LeadsOn count candidates marks (renamed further numbers) rest after
+  lead_on {count} {mid} marks between after as_many len all stay one two d whole links later before labels fits up_to are stage =
+      subst (λ (now : List ℕ). IsStage whole (links_of d links rest) later now (before ++ marked links after)) (sym (renamed_twice numbers further labels all'.none))
+      (two d whole links later before (renamed numbers labels) (fits ∙ sym as_many) (renamed_labels len all up_to) (stay d links labels are) (one d whole links later before labels fits up_to are stage))

@@ -2,7 +2,7 @@
 -- different numbers.
 use Rattle.std.proofs.Common.{◌≡◌, ℕ, ◌+◌, ◌<◌, ◌⊎◌, ◌==◌, not, Bool, true, false, cond, List, [], ◌∷◌, ◌++◌, map, take, set, length, get_or, sym, ap, ap₂, ◌∙◌, subst, inl, inr, arith}
 use Rattle.std.specs.List.{filter}
-use Rattle.std.proofs.lemmas.List.{same_lists, length-map, get_or-map, map-append, append-nil, take_more, take_more_set, take-set}
+use Rattle.std.proofs.lemmas.List.{same_lists, length-map, get_or-map, map-append, append-nil, append_assoc, take_more, take_more_set, take-set}
 use mir.Val.{bool_byte}
 use Rattle.std.proofs.lemmas.Bool.{cases_eq}
 use Rattle.std.proofs.lemmas.Bool.Decides.{nat_tests}
@@ -25,11 +25,11 @@ counted a b n n' is = elim (cases_eq a b) [
 
 -- What passes a test is written behind what was kept before it, and counted; what doesn't pass is written there too, and
 -- not counted.
-pub written_behind : {X : Type 0} (p : X → Bool) (start now : List X) {i kept kept' : ℕ} (x : X) → i < length start → x ≡ get_or start i x → kept < length now → take kept now ≡ filter p (take i start) → ((kept' ≡ kept) × (p x ≡ false)) ⊎ ((kept' ≡ kept + 1) × (p x ≡ true)) → take kept' (set now kept x) ≡ filter p (take (i + 1) start)
-written_behind {X} p start now {i} {kept} {kept'} x i_in is kept_in so_far counted =
+pub written_behind : {X : Type 0} (p : X → Bool) (before start now : List X) {i kept kept' : ℕ} (x : X) → i < length start → x ≡ get_or start i x → kept < length now → take kept now ≡ before ++ filter p (take i start) → ((kept' ≡ kept) × (p x ≡ false)) ⊎ ((kept' ≡ kept + 1) × (p x ≡ true)) → take kept' (set now kept x) ≡ before ++ filter p (take (i + 1) start)
+written_behind {X} p before start now {i} {kept} {kept'} x i_in is kept_in so_far counted =
     elim counted [
-      | inl (same, fails) ↦ ap (λ n. take n (set now kept x)) same ∙ take-set now kept x ∙ so_far ∙ sym (one_more ∙ ap (λ b. filter p (take i start) ++ cond b (x ∷ []) []) fails ∙ append-nil (filter p (take i start)))
-      | inr (more, passes) ↦ ap (λ n. take n (set now kept x)) more ∙ take_more_set now kept x kept_in ∙ ap (λ xs. xs ++ x ∷ []) so_far ∙ sym (one_more ∙ ap (λ b. filter p (take i start) ++ cond b (x ∷ []) []) passes)
+      | inl (same, fails) ↦ ap (λ n. take n (set now kept x)) same ∙ take-set now kept x ∙ so_far ∙ ap (λ (xs : List X). before ++ xs) (sym (one_more ∙ ap (λ b. filter p (take i start) ++ cond b (x ∷ []) []) fails ∙ append-nil (filter p (take i start))))
+      | inr (more, passes) ↦ ap (λ n. take n (set now kept x)) more ∙ take_more_set now kept x kept_in ∙ ap (λ xs. xs ++ x ∷ []) so_far ∙ append_assoc before (filter p (take i start)) (x ∷ []) ∙ ap (λ (xs : List X). before ++ xs) (sym (one_more ∙ ap (λ b. filter p (take i start) ++ cond b (x ∷ []) []) passes))
     ]
   where
     one_more : filter p (take (i + 1) start) ≡ filter p (take i start) ++ filter p (x ∷ [])

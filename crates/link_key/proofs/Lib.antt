@@ -16,6 +16,7 @@ pub mod Spanning
 pub mod Parts
 pub mod Touching
 mod Keeping
+mod Marks
 mod Owns
 mod Fronts
 mod Composing

@@ -14,8 +14,8 @@ use Rattle.link_key.specs.declared.links.Link.{Link}
 use Rattle.link_key.specs.declared.rounds.Open.{Open}
 use Rattle.link_key.specs.Link.{key_cmp}
 use Rattle.link_key.specs.Components.{HasOneLabel}
-use Rattle.link_key.specs.Rounds.{renamed, AreOwn}
-use Rattle.link_key.specs.OpenLinks.{link_of, links_of, open_cmp, renumbered, is_open, AreOpened, IsLabelled, AreLabelled, IsBetween, AreBetween, AreAllNumbers, AreFilled, HaveFirst}
+use Rattle.link_key.specs.Rounds.{renamed}
+use Rattle.link_key.specs.OpenLinks.{link_of, links_of, open_cmp, renumbered, is_open, AreOpened, IsLabelled, AreLabelled, AreOpenOf, IsBetween, AreBetween, AreAllNumbers, AreFilled, HaveFirst}
 use Rattle.link_key.proofs.Members.{contains_cases, contains_head, contains_tail, contains_none}
 use Rattle.link_key.proofs.Keys.{key_cmp_total}
 use Rattle.link_key.proofs.Stages.{kept_in, kept_if, kept_fewer, renamed_to, renamed_len}
@@ -50,7 +50,7 @@ no_link : Open
 no_link = record { low = 0; high = 0; rank = 0 }
 
 -- what the open one at a place is
-module _ {links : List Link} {candidates : List Open} (are : AreOpened links candidates) where
+module _ {label : ℕ → ℕ} {links : List Link} {candidates : List Open} (are : AreOpened label links candidates) where
   place : (k : ℕ) → k < length candidates → k < length links
   place k lt = subst (λ n. k < n) are.len lt
 
@@ -62,32 +62,37 @@ module _ {links : List Link} {candidates : List Open} (are : AreOpened links can
       let k_in : k < length candidates = subst (λ n. k < n) (length-map candidates (link_of d links)) lt in
       get_or-map (link_of d links) candidates k no_link d' k_in ∙ link_is d no_link k (place k k_in) ∙ get_or_default links k d d' (place k k_in))
 
-  pub opened_between : {n : ℕ} → All (λ (l : Link). l.high ≤ n) links → AreBetween (n + 1) (length links) candidates
-  opened_between {n} ends k o lt =
+  pub opened_between : {n bound : ℕ} → All (λ (l : Link). l.high ≤ n) links → ((v : ℕ) → 0 < v → v ≤ n → (0 < label v) × (label v < bound)) → AreBetween bound (length links) candidates
+  opened_between {n} {bound} ends labels k o lt =
       let lt' = place k lt in
       let l = get_or links k some_link in
       let ascending = l.ascending in
       let from_one = l.from_one in
       let most = ends k some_link lt' in
-      subst (IsBetween (n + 1) (length links)) (sym (are.each k o some_link lt')) (omega (arith, from_one), omega (arith, ascending, most), omega (arith, from_one, ascending), omega (arith, most), lt')
+      let low = labels l.low (omega (arith, from_one)) (omega (arith, ascending, most)) in
+      let high = labels l.high (omega (arith, from_one, ascending)) most in
+      subst (IsBetween bound (length links)) (sym (are.each k o some_link lt')) (low.0, low.1, high.0, high.1, lt')
 
-  pub opened_labelled : {n : ℕ} (own : List ℕ) (d : Link) → AreOwn n own → All (λ (l : Link). l.high ≤ n) links → AreLabelled own d links candidates
-  opened_labelled {n} own d is ends k o lt =
-      let lt' = place k lt in
-      let l = get_or links k d in
-      let ascending = l.ascending in
-      let most = ends k d lt' in
-      let len = is.0 in
-      let high_in : l.high < length own = omega (arith, len, most) in
-      let low_in : l.low < length own = omega (arith, ascending, high_in) in
-      subst (λ (p : Open). IsLabelled own (link_of d links p) p) (sym (are.each k o d lt')) (high_in, is.1 l.low low_in, is.1 l.high high_in)
+  -- where they are the labels of the vertices
+  pub opened_of : {n : ℕ} (labels : List ℕ) → length labels ≡ n + 1 → ((v : ℕ) → v < length labels → get_or labels v 0 ≡ label v) → All (λ (l : Link). l.high ≤ n) links → IsSorted key_cmp links → (d : Link) → AreOpenOf labels d links candidates
+  opened_of {n} labels len same ends order d = (sorted, labelled)
+    where
+      sorted : IsSorted (open_cmp d links) candidates
+      sorted k o from to =
+          let to' = place (k + 1) to in
+          let here = link_is d o k (omega (arith, to')) in
+          let next = link_is d o (k + 1) to' in
+          rw (here, next) (order k d from to')
 
-  pub opened_sorted : IsSorted key_cmp links → (d : Link) → IsSorted (open_cmp d links) candidates
-  opened_sorted order d k o from to =
-      let to' = place (k + 1) to in
-      let here = link_is d o k (omega (arith, to')) in
-      let next = link_is d o (k + 1) to' in
-      rw (here, next) (order k d from to')
+      labelled : AreLabelled labels d links candidates
+      labelled k o lt =
+          let lt' = place k lt in
+          let l = get_or links k d in
+          let ascending = l.ascending in
+          let most = ends k d lt' in
+          let high_in : l.high < length labels = omega (arith, len, most) in
+          let low_in : l.low < length labels = omega (arith, ascending, high_in) in
+          subst (λ (p : Open). IsLabelled labels (link_of d links p) p) (sym (are.each k o d lt')) (high_in, same l.low low_in, same l.high high_in)
 
 -- they ascend as their links do
 pub sorted_links : (d : Link) (links : List Link) (candidates : List Open) → IsSorted (open_cmp d links) candidates → IsSorted key_cmp (links_of d links candidates)

@@ -1,5 +1,5 @@
 -- A pass by first touch over links in the order of their keys, link by link.
-use Rattle.std.proofs.Common.{◌≡◌, ℕ, ◌+◌, ◌<◌, ◌≤◌, ◌⊎◌, ◌==◌, if◌then◌else◌, Bool, true, false, List, [], ◌∷◌, ◌++◌, Contains, length, get_or, take, is_lt, get_or-take, length-take, refl, sym, ap, ◌∙◌, subst, inl, inr, arith}
+use Rattle.std.proofs.Common.{◌≡◌, ℕ, ◌+◌, ◌<◌, ◌≤◌, ◌⊎◌, ◌↔◌, ◌==◌, if◌then◌else◌, Bool, true, false, List, [], ◌∷◌, ◌++◌, Contains, length, get_or, take, is_lt, get_or-take, length-take, refl, sym, ap, ◌∙◌, subst, inl, inr, arith}
 use Rattle.std.proofs.lemmas.List.Sums.{sum_by-le}
 use Rattle.std.specs.List.Sorted.{IsSorted}
 use Rattle.std.proofs.lemmas.List.{get_or_past, get_or_default, take_more}
@@ -300,3 +300,12 @@ module _ {labels : List ℕ} {rest seen : List Link} {numbers : List ℕ} {befor
               | inr not_high ↦ old_near w w_in (sym (share.others (get_or labels w 0) not_low not_high) ∙ is)
             ]
           ]
+
+-- links that are taken in another order, or more than once, leave the same
+pub touched_same : {labels : List ℕ} {rest seen : List Link} {numbers : List ℕ} {before after after' : List Link} → ((l : Link) → Contains after l ↔ Contains after' l) → AreTouched labels rest seen numbers before after → AreTouched labels rest seen numbers before after'
+touched_same {labels} {rest} {seen} {numbers} {before} {after} {after'} same are = record {
+  touched = are.touched;
+  kept = λ l l_in. (same l).0 (are.kept l l_in);
+  least = λ l l_in. are.least l ((same l).1 l_in);
+  joined = λ one u v u_in v_in had is. joins_more (Contains after) (Contains after') (λ l. (same l).0) u v (are.joined one u v u_in v_in had is);
+}

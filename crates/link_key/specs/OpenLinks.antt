@@ -1,6 +1,7 @@
 -- The state of the plain solver's rounds: links with the labels of their ends, and new numbers of those labels.
-use Rattle.std.specs.Prelude.{◌≡◌, ◌≢◌, ℕ, ◌+◌, ◌<◌, ◌≤◌, ◌⊎◌, Bool, not, ◌==◌, if◌then◌else◌, List, map, length, slice_index, slice_index_or, Contains}
+use Rattle.std.specs.Prelude.{◌≡◌, ◌≢◌, ℕ, ◌+◌, ◌<◌, ◌≤◌, ◌⊎◌, Bool, not, ◌==◌, if◌then◌else◌, List, [], ◌∷◌, ◌++◌, map, length, slice_index, slice_index_or, Contains}
 use Rattle.std.specs.List.{All, sum_by}
+use Rattle.std.specs.List.Sorted.{IsSorted}
 use Rattle.std.specs.declared.cmp.Ordering.{Ordering}
 use Rattle.link_key.specs.declared.links.Link.{Link}
 use Rattle.link_key.specs.declared.rounds.Open.{Open}
@@ -21,14 +22,14 @@ links_of d links candidates = map (link_of d links) candidates
 abbrev pub open_cmp : Link → List Link → Open → Open → Ordering
 open_cmp d links o p = key_cmp (link_of d links o) (link_of d links p)
 
--- a link with the labels that its ends have where each vertex is labelled by itself
-abbrev pub opened : ℕ → Link → Open
-opened rank l = record { low = l.low; high = l.high; rank = rank }
+-- a link with the labels of its ends
+abbrev pub opened : (ℕ → ℕ) → ℕ → Link → Open
+opened label rank l = record { low = label l.low; high = label l.high; rank = rank }
 
 -- so are all links, in their order
-pub record AreOpened (links : List Link) (candidates : List Open) : Type 0 where
+pub record AreOpened (label : ℕ → ℕ) (links : List Link) (candidates : List Open) : Type 0 where
   pub len : length candidates ≡ length links
-  pub each : (k : ℕ) (o : Open) (d : Link) → k < length links → slice_index_or candidates k o ≡ opened k (slice_index_or links k d)
+  pub each : (k : ℕ) (o : Open) (d : Link) → k < length links → slice_index_or candidates k o ≡ opened label k (slice_index_or links k d)
 
 -- with new numbers of the labels
 abbrev pub renumbered : List ℕ → Open → Open
@@ -45,6 +46,10 @@ IsLabelled labels l o = (l.high < length labels) × (slice_index labels l.low �
 -- so have all of them
 abbrev pub AreLabelled : List ℕ → Link → List Link → List Open → Type 0
 AreLabelled labels d links candidates = All (λ (o : Open). IsLabelled labels (link_of d links o) o) candidates
+
+-- open links of these, in the order of their keys, with the labels of their ends
+abbrev pub AreOpenOf : List ℕ → Link → List Link → List Open → Type 0
+AreOpenOf labels d links candidates = IsSorted (open_cmp d links) candidates × AreLabelled labels d links candidates
 
 -- its labels are from 1 on, below the bound, and its rank is a place in a list so long
 abbrev pub IsBetween : ℕ → ℕ → Open → Type 0
@@ -110,9 +115,33 @@ pub record AreFilled (numbers numbers' : List ℕ) : Type 0 where
   pub kept : (c : ℕ) → 0 < slice_index numbers c → slice_index numbers' c ≡ slice_index numbers c
   pub alone : (c d : ℕ) → 0 < slice_index numbers' c → slice_index numbers c ≡ 0 → slice_index numbers' c ≡ slice_index numbers' d → c ≡ d
 
+-- the links that are marked, in their order
+abbrev pub marked : List Link → List Bool → List Link
+marked [] marks = []
+marked (l ∷ links) [] = []
+marked (l ∷ links) (b ∷ marks) = if b then l ∷ marked links marks else marked links marks
+
+-- What the first touches of open links mark is what they take, and these are the numbers that they give.
+abbrev pub MarkTouched : List Open → List Bool → List ℕ → List Bool → Type 0
+MarkTouched candidates marks numbers marks' =
+    (d : Link) (links before : List Link) (labels : List ℕ) → length links ≡ length marks → AreOpenOf labels d links candidates
+    → AreTouched labels (links_of d links candidates) (links_of d links candidates) numbers (before ++ marked links marks) (before ++ marked links marks')
+
+-- whatever links they are of and whatever labels they had, those that are kept are open links of these by the new numbers
+abbrev pub StayOpen : List Open → List ℕ → List Open → Type 0
+StayOpen candidates numbers kept =
+    (d : Link) (links : List Link) (labels : List ℕ) → AreOpenOf labels d links candidates → AreOpenOf (renamed numbers labels) d links kept
+
 -- From a stage of which these links are the rest, between the components 1 to `count`, to one of which those that are kept
--- are the rest, between the components that the numbers give.
-abbrev pub LeadsOn : ℕ → List Link → List Open → List Link → List ℕ → List Open → List Link → Type 0
-LeadsOn count links candidates taken numbers kept taken' =
-    (d : Link) (all later : List Link) (labels : List ℕ) → AreLabelsUpTo count labels → AreLabelled labels d links candidates
-    → IsStage all (links_of d links candidates) later labels taken → IsStage all (links_of d links kept) later (renamed numbers labels) taken'
+-- are the rest, between the components that the numbers give; what is marked is taken.
+abbrev pub LeadsOn : ℕ → List Open → List Bool → List ℕ → List Open → List Bool → Type 0
+LeadsOn count candidates marks numbers kept marks' =
+    (d : Link) (all links later before : List Link) (labels : List ℕ) → length links ≡ length marks → AreLabelsUpTo count labels → AreOpenOf labels d links candidates
+    → IsStage all (links_of d links candidates) later labels (before ++ marked links marks)
+    → IsStage all (links_of d links kept) later (renamed numbers labels) (before ++ marked links marks')
+
+-- the same to one of which nothing is the rest, with the links that are taken
+abbrev pub TakeOpen : ℕ → List Link → List Open → List ℕ → List Link → Type 0
+TakeOpen count links candidates numbers taken =
+    (d : Link) (all later before : List Link) (labels : List ℕ) → AreLabelsUpTo count labels → AreOpenOf labels d links candidates
+    → IsStage all (links_of d links candidates) later labels before → IsStage all [] later (renamed numbers labels) (before ++ taken)

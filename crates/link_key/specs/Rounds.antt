@@ -1,5 +1,5 @@
 -- Borůvka's rounds over links in the order of their keys, by labels of the vertices.
-use Rattle.std.specs.Prelude.{◌≡◌, ◌≢◌, ℕ, ◌+◌, ◌<◌, ◌≤◌, ◌⊎◌, Bool, not, ◌==◌, List, map, length, slice_index, EachIndex, Contains}
+use Rattle.std.specs.Prelude.{◌≡◌, ◌≢◌, ℕ, ◌+◌, ◌<◌, ◌≤◌, ◌⊎◌, Bool, not, ◌==◌, List, [], ◌++◌, map, take, drop, length, slice_index, EachIndex, Contains}
 use Rattle.link_key.specs.declared.links.Link.{Link}
 use Rattle.link_key.specs.Link.{IsBelow}
 use Rattle.link_key.specs.Walk.{Joins}
@@ -50,6 +50,10 @@ pub record IsStage (links rest later : List Link) (labels : List ℕ) (taken : L
   pub apart : (l : Link) → Contains rest l → ¬ (HasOneLabel labels l)
   pub left : (l : Link) → Contains links l → HasOneLabel labels l ⊎ Contains rest l ⊎ Contains later l
   pub above : (l m : Link) → Contains rest l → Contains later m → ¬ (IsBelow m l)
+
+-- the same, where the first links of a list are taken as well, and the others of the list are the rest
+abbrev pub IsStageOf : List Link → ℕ → List Link → List ℕ → List Link → Type 0
+IsStageOf links first list labels before = IsStage links (drop first list) [] labels (before ++ take first list)
 
 -- two parts of the links, of which nothing in the first is above anything in the other
 pub record AreParts (links light later : List Link) : Type 0 where

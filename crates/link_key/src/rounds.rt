@@ -1,17 +1,15 @@
 //! Borůvka's rounds over links in the order of their keys, by first touch, between components that are numbered.
 //!
 //! Of links in ascending order the first that touches a component is the least that leaves it. So a round goes over
-//! the links once: it takes a link where the component at one of its ends wasn't touched before, and both components
+//! the links once: it marks a link where the component at one of its ends wasn't touched before, and both components
 //! get one new number then. What nothing touched gets a new number of its own, so that the next round has a table of
-//! the components that are left, and no vertex is looked at before the rounds are over.
-ghost use Rattle.std.specs.Prelude.{◌≡◌, false, ℕ, ◌+◌, ◌<◌, ◌≤◌, List, [], map, take, length, slice_index, EachIndex, IfOk, OnOk, IsTrue};
+//! the components that are left, and no vertex is looked at before the rounds are over. What is marked in the end, in
+//! the order of keys, is taken.
+ghost use Rattle.std.specs.Prelude.{◌≡◌, false, ◌+◌, ◌<◌, ◌≤◌, [], ◌++◌, map, take, drop, length, slice_index, EachIndex, IfOk, OnOk, IsTrue};
 ghost use Rattle.std.specs.List.{filter};
-ghost use Rattle.std.specs.List.Sorted.{IsSorted};
 ghost use Rattle.limits.specs.declared.TheConstants.{MAX_VERTICES};
-ghost use Rattle.link_key.specs.declared.links.Link.{Link};
-ghost use Rattle.link_key.specs.declared.rounds.Open.{Open};
 ghost use Rattle.link_key.specs.Rounds.{is_apart, renamed};
-ghost use Rattle.link_key.specs.OpenLinks.{links_of, open_cmp, renumbered, is_open, AreOpened, AreLabelled, AreBetween, AreNumbers, AreAllNumbers, ShareNumber, AreTouched, AreFilled, HaveFirst, HaveNumbers, LeadsOn, zeros};
+ghost use Rattle.link_key.specs.OpenLinks.{renumbered, is_open, AreOpened, AreBetween, AreNumbers, AreAllNumbers, ShareNumber, AreFilled, HaveFirst, HaveNumbers, MarkTouched, StayOpen, LeadsOn, zeros};
 
 use crate::links::Link;
 use limits::MAX_VERTICES;
@@ -43,21 +41,21 @@ fn entry(table: &[u32], c: u32) -> u32
     table.get(c as usize).copied().unwrap_or(0)
 }
 
-// Drops the links whose ends have one label.
-pub(crate) fn drop_joined<A: Allocator>(links: &mut Vec<Link, A>, labels: &[u32])
-    ensures { links.new.items ≡ filter (is_apart labels.now) links.old.items }
+// Puts the links from a place on whose ends have different labels behind the first so many, in their order. Returns how
+// many they are with these. It takes no branch on the labels, so that those of the next links are looked up meanwhile.
+pub(crate) fn put_apart_behind(
+    links: &mut [Link],
+    first: usize,
+    from: usize,
+    labels: &[u32],
+) -> usize
+    requires before { first ≤ from }
+    requires in_range { from ≤ length links.old }
+    ensures in_range { (first ≤ result) × (result + from ≤ first + length links.new) }
+    ensures apart { take result links.new ≡ take first links.old ++ filter (is_apart labels.now) (drop from links.old) }
 {
-    let kept = put_apart_first(links.as_mut_slice(), labels);
-    links.truncate(kept);
-}
-
-// Puts the links whose ends have different labels first, in their order, and returns how many they are. It takes no
-// branch on the labels, so that those of the next links are looked up meanwhile.
-fn put_apart_first(links: &mut [Link], labels: &[u32]) -> usize
-    ensures { take result links.new ≡ filter (is_apart labels.now) links.old }
-{
-    let mut kept = 0;
-    for i in 0..links.len() {
+    let mut kept = first;
+    for i in from..links.len() {
         let link = links[i];
         links[kept] = link;
         kept += (entry(labels, link.low) != entry(labels, link.high)) as usize;
@@ -66,12 +64,12 @@ fn put_apart_first(links: &mut [Link], labels: &[u32]) -> usize
 }
 
 // The links, each vertex labelled by itself.
-pub(crate) fn open_links<A: Allocator + Copy>(
+pub(crate) fn open_vertices<A: Allocator + Copy>(
     alloc: A,
     links: &[Link],
 ) -> Result<Vec<Open, A>, AllocError>
     requires few { length links.now ≤ MAX_RANKS }
-    ensures { IfOk result (λ candidates. AreOpened links.now candidates.items) }
+    ensures { IfOk result (λ candidates. AreOpened (λ v. v) links.now candidates.items) }
 {
     let mut candidates = Vec::with_capacity(alloc, links.len())?;
     let mut rank = 0;
@@ -82,6 +80,28 @@ pub(crate) fn open_links<A: Allocator + Copy>(
             rank,
         })?;
         rank += 1;
+    }
+    Ok(candidates)
+}
+
+// The links, with the labels of their ends.
+pub(crate) fn open_components<A: Allocator + Copy>(
+    alloc: A,
+    links: &[Link],
+    labels: &[u32],
+) -> Result<Vec<Open, A>, AllocError>
+    requires few { length links.now ≤ MAX_RANKS }
+    ensures { IfOk result (λ candidates. AreOpened (λ v. slice_index labels.now v) links.now candidates.items) }
+{
+    let mut candidates = Vec::with_capacity(alloc, links.len())?;
+    let mut place = 0;
+    for link in links {
+        candidates.push(Open {
+            low: entry(labels, link.low),
+            high: entry(labels, link.high),
+            rank: place,
+        })?;
+        place += 1;
     }
     Ok(candidates)
 }
@@ -118,32 +138,30 @@ fn touch(numbers: &mut [u32], last: &mut u32, a: u32, b: u32) -> bool
     true
 }
 
-// Takes each link that is the first to touch the component at one of its ends, where no label has a number yet. Puts the
+// Marks each link that is the first to touch the component at one of its ends, where no label has a number yet. Puts the
 // others whose ends have different numbers first, with these in place of their labels. Returns the last number that was
 // given, and how many are first.
-fn take_first_touches<A: Allocator + Copy>(
-    links: &[Link],
+fn mark_first_touches(
     candidates: &mut [Open],
     numbers: &mut [u32],
-    taken: &mut Vec<Link, A>,
-) -> Result<(u32, usize), AllocError>
-    requires sorted { (d : Link) → IsSorted (open_cmp d links.now) candidates.old }
+    marks: &mut [bool],
+) -> (u32, usize)
     requires some { 0 < length numbers.old }
     requires few { length numbers.old ≤ MAX_VERTICES + 1 }
-    requires ends { AreBetween (length numbers.old) (length links.now) candidates.old }
+    requires ends { AreBetween (length numbers.old) (length marks.old) candidates.old }
     requires fresh { EachIndex numbers.old (λ c. slice_index numbers.old c ≡ 0) }
-    ensures numbers { IfOk result (λ done. AreNumbers done.0 numbers.new) }
-    ensures first { OnOk result (HaveFirst numbers.new candidates.old) }
-    ensures given { OnOk result (HaveNumbers numbers.new candidates.old) }
-    ensures kept { IfOk result (λ done. take done.1 candidates.new ≡ filter is_open (map (renumbered numbers.new) candidates.old)) }
-    ensures touched { OnOk result ((d : Link) (labels : List ℕ) → AreLabelled labels d links.now candidates.old → AreTouched labels (links_of d links.now candidates.old) (links_of d links.now candidates.old) numbers.new taken.old.items taken.new.items) }
+    ensures numbers { AreNumbers result.0 numbers.new }
+    ensures first { HaveFirst numbers.new candidates.old }
+    ensures given { HaveNumbers numbers.new candidates.old }
+    ensures kept { take result.1 candidates.new ≡ filter is_open (map (renumbered numbers.new) candidates.old) }
+    ensures touched { MarkTouched candidates.old marks.old numbers.new marks.new }
 {
     let mut last = 0;
     let mut kept = 0;
     for i in 0..candidates.len() {
         let Open { low, high, rank } = candidates[i];
         if touch(numbers, &mut last, low, high) {
-            taken.push(links[rank as usize])?;
+            marks[rank as usize] = true;
         } else {
             let low = entry(numbers, low);
             let high = entry(numbers, high);
@@ -151,7 +169,7 @@ fn take_first_touches<A: Allocator + Copy>(
             kept += (low != high) as usize;
         }
     }
-    Ok((last, kept))
+    (last, kept)
 }
 
 // Gives each label but 0 that has no number a new one, and returns the last number.
@@ -181,70 +199,54 @@ pub(crate) fn rename(labels: &mut [u32], numbers: &[u32])
     }
 }
 
-// Puts their numbers in the place of the labels of each link's ends, and drops the links whose ends have one number.
-pub(crate) fn renumber<A: Allocator>(candidates: &mut Vec<Open, A>, numbers: &[u32])
-    ensures { candidates.new.items ≡ filter is_open (map (renumbered numbers.now) candidates.old.items) }
-{
-    for candidate in candidates.as_mut_slice().iter_mut() {
-        candidate.low = entry(numbers, candidate.low);
-        candidate.high = entry(numbers, candidate.high);
-    }
-    candidates.retain(|candidate| candidate.low != candidate.high);
-}
-
 // One round between the components 1 to `count`: each that one of these links leaves becomes one with another. What is
 // left leaves a component still.
 fn round<A: Allocator + Copy>(
     alloc: A,
     count: u32,
-    links: &[Link],
     candidates: &mut Vec<Open, A>,
-    taken: &mut Vec<Link, A>,
+    marks: &mut [bool],
 ) -> Result<Renaming<A>, AllocError>
     requires few { count ≤ MAX_VERTICES }
-    requires sorted { (d : Link) → IsSorted (open_cmp d links.now) candidates.old.items }
-    requires ends { AreBetween (count + 1) (length links.now) candidates.old.items }
+    requires ends { AreBetween (count + 1) (length marks.old) candidates.old.items }
     ensures len { IfOk result (λ renaming. length renaming.numbers.items ≡ count + 1) }
     ensures few { IfOk result (λ renaming. renaming.count ≤ count) }
     ensures numbers { IfOk result (λ renaming. AreAllNumbers renaming.count renaming.numbers.items) }
-    ensures sorted { OnOk result ((d : Link) → IsSorted (open_cmp d links.now) candidates.new.items) }
-    ensures ends { IfOk result (λ renaming. AreBetween (renaming.count + 1) (length links.now) candidates.new.items) }
+    ensures ends { IfOk result (λ renaming. AreBetween (renaming.count + 1) (length marks.new) candidates.new.items) }
     ensures fewer { OnOk result (0 < length candidates.new.items → length candidates.new.items < length candidates.old.items) }
-    ensures labelled { IfOk result (λ renaming. (d : Link) (labels : List ℕ) → AreLabelled labels d links.now candidates.old.items → AreLabelled (renamed renaming.numbers.items labels) d links.now candidates.new.items) }
-    ensures stage { IfOk result (λ renaming. LeadsOn count links.now candidates.old.items taken.old.items renaming.numbers.items candidates.new.items taken.new.items) }
+    ensures labelled { IfOk result (λ renaming. StayOpen candidates.old.items renaming.numbers.items candidates.new.items) }
+    ensures stage { IfOk result (λ renaming. LeadsOn count candidates.old.items marks.old renaming.numbers.items candidates.new.items marks.new) }
 {
     let mut numbers = vec![in alloc; 0; count as usize + 1]?;
     let table = numbers.as_mut_slice();
-    let (last, kept) = take_first_touches(links, candidates.as_mut_slice(), table, taken)?;
+    let (last, kept) = mark_first_touches(candidates.as_mut_slice(), table, marks);
     candidates.truncate(kept);
     let count = number_rest(table, last);
     Ok(Renaming { numbers, count })
 }
 
-// Takes the forest's links among these, which are in the order of their keys, between the components 1 to `count`, and
-// returns the new numbers of the components. While more than half of them are left, the numbers that a round gives are
-// looked up at once, so that a further table has at most half as many entries: it takes at most 8 bytes a component.
+// Marks the forest's links among these, between the components 1 to `count`, and returns the new numbers of the
+// components. While more than half of them are left, the numbers that a round gives are looked up at once, so that a
+// further table has at most half as many entries: it takes at most 8 bytes a component.
 pub(crate) fn join<A: Allocator + Copy>(
     alloc: A,
     count: u32,
-    links: &[Link],
     candidates: Vec<Open, A>,
-    taken: &mut Vec<Link, A>,
+    marks: &mut [bool],
 ) -> Result<Renaming<A>, AllocError>
     requires few { count ≤ MAX_VERTICES }
-    requires sorted { (d : Link) → IsSorted (open_cmp d links.now) candidates.items }
-    requires ends { AreBetween (count + 1) (length links.now) candidates.items }
+    requires ends { AreBetween (count + 1) (length marks.old) candidates.items }
     ensures few { IfOk result (λ renaming. renaming.count ≤ count) }
     ensures len { IfOk result (λ renaming. length renaming.numbers.items ≡ count + 1) }
     ensures numbers { IfOk result (λ renaming. AreAllNumbers renaming.count renaming.numbers.items) }
-    ensures stage { IfOk result (λ renaming. LeadsOn count links.now candidates.items taken.old.items renaming.numbers.items [] taken.new.items) }
+    ensures stage { IfOk result (λ renaming. LeadsOn count candidates.items marks.old renaming.numbers.items [] marks.new) }
 {
     let mut candidates = candidates;
-    let first = round(alloc, count, links, &mut candidates, taken)?;
+    let first = round(alloc, count, &mut candidates, marks)?;
     let mut numbers = first.numbers;
     let mut left = first.count;
     while left > count / 2 && !candidates.is_empty() {
-        let further = round(alloc, left, links, &mut candidates, taken)?;
+        let further = round(alloc, left, &mut candidates, marks)?;
         rename(numbers.as_mut_slice(), further.numbers.as_slice());
         left = further.count;
     }
@@ -254,7 +256,7 @@ pub(crate) fn join<A: Allocator + Copy>(
             count: left,
         });
     }
-    let further = join(alloc, left, links, candidates, taken)?;
+    let further = join(alloc, left, candidates, marks)?;
     rename(numbers.as_mut_slice(), further.numbers.as_slice());
     Ok(Renaming {
         numbers,

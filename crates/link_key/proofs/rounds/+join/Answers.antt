@@ -4,7 +4,7 @@ use Rattle.std.proofs.lemmas.Bool.Decides.{nat_tests}
 use Rattle.link_key.specs.declared.rounds.Open.{Open}
 use Rattle.link_key.specs.Rounds.{renamed}
 use Rattle.link_key.specs.OpenLinks.{LeadsOn, AreAllNumbers}
-use Rattle.link_key.proofs.Composing.{keep_labels, lead_on}
+use Rattle.link_key.proofs.Composing.{stay_open, lead_on}
 use Rattle.link_key.proofs.Opened.{written, none_left, renamed_numbers}
 use Rattle.link_key.proofs.rounds.+join.Goals as goal
 
@@ -20,9 +20,9 @@ loop-left-init g t c = record {
   few = c.in_ok-first.ensures.few;
   len = c.in_ok-first.ensures.len;
   numbers = c.in_ok-first.ensures.numbers;
-  sorted = c.in_ok-first.ensures.sorted;
   ends = c.in_ok-first.ensures.ends;
   fewer = c.in_ok-first.ensures.fewer;
+  marks = c.round.auto.marks;
   labelled = c.in_ok-first.ensures.labelled;
   stage = c.in_ok-first.ensures.stage;
 }
@@ -52,11 +52,11 @@ loop-left-preserved g t c =
       few = let few = l.invariant.few in let fewer = done.few in omega (arith, few, fewer);
       len = sym (ap length is) ∙ c.rename.auto.labels ∙ ap length value ∙ l.invariant.len;
       numbers = renamed_numbers l.invariant.numbers done.len done.few done.numbers;
-      sorted = done.sorted;
       ends = done.ends;
       fewer = λ some. let less = done.fewer some in let less' = l.invariant.fewer (omega (arith, less)) in omega (arith, less, less');
-      labelled = keep_labels c.args.links.now c.args.candidates.items l.candidates.items c.round-in-loop-left.new.candidates.items numbers.items done.numbers l.invariant.labelled done.labelled;
-      stage = lead_on c.args.links.now c.args.candidates.items l.candidates.items c.round-in-loop-left.new.candidates.items numbers.items done.numbers l.invariant.len l.invariant.numbers l.invariant.labelled l.invariant.stage done.stage;
+      marks = c.round-in-loop-left.auto.marks ∙ l.invariant.marks;
+      labelled = stay_open c.args.candidates.items l.candidates.items c.round-in-loop-left.new.candidates.items numbers.items done.numbers l.invariant.labelled done.labelled;
+      stage = lead_on c.args.candidates.items l.candidates.items c.round-in-loop-left.new.candidates.items numbers.items done.numbers c.args.marks.now l.marks c.round-in-loop-left.new.marks l.invariant.marks l.invariant.len l.invariant.numbers l.invariant.labelled l.invariant.stage done.stage;
     })
 
 pub returns-then-is_empty-clause-stage : goal.returns-then-is_empty-clause-stage
@@ -66,7 +66,7 @@ returns-then-is_empty-clause-stage g t c =
     let is = c.if-is_empty.true in
     let len = l.candidates.ok.0 in
     let none : length l.candidates.items ≡ 0 = grind (arith, nat_tests, empty, is, len) in
-    subst (λ (xs : List Open). LeadsOn c.args.count c.args.links.now c.args.candidates.items c.args.taken.now.items l.numbers.items xs l.taken.items) (none_left l.candidates.items none) l.invariant.stage
+    subst (λ (xs : List Open). LeadsOn c.args.count c.args.candidates.items c.args.marks.now l.numbers.items xs l.marks) (none_left l.candidates.items none) l.invariant.stage
 
 pub join-requires : goal.join-requires
 join-requires g t c =
@@ -104,5 +104,5 @@ returns-clause-stage g t c =
     let whole = written numbers.len c.rename-2.new.labels numbers.items (c.rename-2.auto.labels ∙ ap length value) numbers.ok.0 in
     let is : c.rename-2.new.labels ≡ renamed further.items numbers.items = c.rename-2.ensures ∙ ap₂ renamed c.as_slice-2.ensures.value value in
     let done = c.in_ok-further-2.ensures in
-    subst (λ (table : List ℕ). LeadsOn c.args.count c.args.links.now c.args.candidates.items c.args.taken.now.items table [] c.join.new.taken.items) (sym (whole ∙ is))
-    (lead_on c.args.links.now c.args.candidates.items l.candidates.items [] numbers.items done.numbers l.invariant.len l.invariant.numbers l.invariant.labelled l.invariant.stage done.stage)
+    subst (λ (table : List ℕ). LeadsOn c.args.count c.args.candidates.items c.args.marks.now table [] c.join.new.marks) (sym (whole ∙ is))
+    (lead_on c.args.candidates.items l.candidates.items [] numbers.items done.numbers c.args.marks.now l.marks c.join.new.marks l.invariant.marks l.invariant.len l.invariant.numbers l.invariant.labelled l.invariant.stage done.stage)

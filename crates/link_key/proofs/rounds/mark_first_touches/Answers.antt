@@ -1,14 +1,15 @@
-use Rattle.std.proofs.Common.{rules, ◌≡◌, ℕ, ◌+◌, ◌<◌, ◌≤◌, List, ◌==◌, not, length, get_or, take, set, take_all, get_or-set_other, refl, sym, ap, ap₂, ◌∙◌, subst, inl, inr, arith}
+use Rattle.std.proofs.Common.{rules, ◌≡◌, ℕ, ◌+◌, ◌<◌, ◌≤◌, List, ◌++◌, ◌==◌, not, length, get_or, take, set, take_all, get_or-set_other, refl, sym, ap, ap₂, ◌∙◌, subst, inl, inr, arith}
 use mir.Val.{bool_byte}
 use Rattle.std.proofs.lemmas.List.{length-map, length-set, get_or-map, get_or_default}
 use Rattle.link_key.specs.declared.links.Link.{Link}
 use Rattle.link_key.specs.declared.rounds.Open.{Open}
-use Rattle.link_key.specs.OpenLinks.{link_of, links_of, renumbered, IsLabelled, AreLabelled, IsBetween, AreBetween, AreTouched, HaveNumbers, ShareNumber}
+use Rattle.link_key.specs.OpenLinks.{link_of, links_of, marked, renumbered, IsLabelled, AreOpenOf, IsBetween, AreBetween, AreTouched, HaveNumbers, ShareNumber}
 use Rattle.link_key.proofs.Keeping.{kept_of, kept_same, kept_closed, kept_passed, given_more, closed, counted}
+use Rattle.link_key.proofs.Marks.{mark_one}
 use Rattle.link_key.proofs.Opened.{sorted_links}
-use Rattle.link_key.proofs.Touching.{Next, next_of, seen_with, numbers_none, first_none, first_passed, first_taken, touched_none, touched_passed, touched_taken, shared_numbers, shared_some, number_stays, some_stays}
-use Rattle.link_key.proofs.rounds.take_first_touches.Goals as goal
-use Rattle.link_key.proofs.rounds.take_first_touches.Goals.{then-touch+in_ok-push, else-touch}
+use Rattle.link_key.proofs.Touching.{Next, next_of, seen_with, numbers_none, first_none, first_passed, first_taken, touched_none, touched_passed, touched_taken, touched_same, shared_numbers, shared_some, number_stays, some_stays}
+use Rattle.link_key.proofs.rounds.mark_first_touches.Goals as goal
+use Rattle.link_key.proofs.rounds.mark_first_touches.Goals.{then-touch, else-touch}
 
 abbrev no_link : Open
 no_link = record { low = 0; high = 0; rank = 0 }
@@ -18,19 +19,19 @@ between : {bound len : ℕ} (start now : List Open) (i : ℕ) → AreBetween bou
 between {bound} {len} start now i ends i_in ahead = subst (IsBetween bound len) (sym (ahead i no_link (omega arith))) (ends i no_link i_in)
 
 pub touch-requires-clause-a_in_range : goal.touch-requires-clause-a_in_range
-touch-requires-clause-a_in_range g c = let is = (between c.args.candidates.now c.loop-i.candidates c.loop-i.i c.requires.ends c.loop-i-test.true c.loop-i.invariant.ahead).1 in let len = c.loop-i.auto.numbers in omega (arith, is, len)
+touch-requires-clause-a_in_range c = let is = (between c.args.candidates.now c.loop-i.candidates c.loop-i.i c.requires.ends c.loop-i-test.true c.loop-i.invariant.ahead).1 in let len = c.loop-i.auto.numbers in omega (arith, is, len)
 
 pub touch-requires-clause-b_in_range : goal.touch-requires-clause-b_in_range
-touch-requires-clause-b_in_range g c = let is = (between c.args.candidates.now c.loop-i.candidates c.loop-i.i c.requires.ends c.loop-i-test.true c.loop-i.invariant.ahead).3 in let len = c.loop-i.auto.numbers in omega (arith, is, len)
+touch-requires-clause-b_in_range c = let is = (between c.args.candidates.now c.loop-i.candidates c.loop-i.i c.requires.ends c.loop-i-test.true c.loop-i.invariant.ahead).3 in let len = c.loop-i.auto.numbers in omega (arith, is, len)
 
 pub touch-requires-clause-few : goal.touch-requires-clause-few
-touch-requires-clause-few g c = let few = c.loop-i.invariant.numbers.few in let few' = c.requires.few in let len = c.loop-i.auto.numbers in omega (arith, few, few', len)
+touch-requires-clause-few c = let few = c.loop-i.invariant.numbers.few in let few' = c.requires.few in let len = c.loop-i.auto.numbers in omega (arith, few, few', len)
 
-pub bounds-links-rank : goal.bounds-links-rank
-bounds-links-rank g c = (between c.args.candidates.now c.loop-i.candidates c.loop-i.i c.requires.ends c.loop-i-test.true c.loop-i.invariant.ahead).4
+pub bounds-marks-rank : goal.bounds-marks-rank
+bounds-marks-rank c = let is = (between c.args.candidates.now c.loop-i.candidates c.loop-i.i c.requires.ends c.loop-i-test.true c.loop-i.invariant.ahead).4 in let len = c.loop-i.auto.marks in omega (arith, is, len)
 
 pub offset_bounds-candidates-kept : goal.offset_bounds-candidates-kept
-offset_bounds-candidates-kept g c =
+offset_bounds-candidates-kept c =
     let few = c.loop-i.invariant.few in
     let len = c.loop-i.invariant.len in
     let lt = c.loop-i-test.true in
@@ -38,10 +39,10 @@ offset_bounds-candidates-kept g c =
     search rules
 
 pub bounds-candidates-kept : goal.bounds-candidates-kept
-bounds-candidates-kept g c = let few = c.loop-i.invariant.few in let len = c.loop-i.invariant.len in let lt = c.loop-i-test.true in omega (arith, few, len, lt)
+bounds-candidates-kept c = let few = c.loop-i.invariant.few in let len = c.loop-i.invariant.len in let lt = c.loop-i-test.true in omega (arith, few, len, lt)
 
 pub loop-i-init : goal.loop-i-init
-loop-i-init g c = record {
+loop-i-init c = record {
   len = refl;
   ahead = λ k o lt. refl;
   few = omega arith;
@@ -49,13 +50,12 @@ loop-i-init g c = record {
   given = λ k o lt. absurd (omega (arith, lt));
   numbers = numbers_none c.args.numbers.now c.requires.fresh;
   first = first_none c.args.numbers.now c.args.candidates.now c.requires.fresh;
-  touched = λ d labels labelled. touched_none labels (links_of d c.args.links.now c.args.candidates.now) c.args.numbers.now c.args.taken.now.items c.requires.fresh;
+  touched = λ d links before labels fits are. touched_none labels (links_of d links c.args.candidates.now) c.args.numbers.now (before ++ marked links c.args.marks.now) c.requires.fresh;
 }
 
 pub loop-i-preserved : goal.loop-i-preserved
-loop-i-preserved g c =
+loop-i-preserved c =
     let start = c.args.candidates.now in
-    let links = c.args.links.now in
     let l = c.loop-i in
     let i = l.i in
     let numbers' = c.touch.new.numbers in
@@ -63,13 +63,12 @@ loop-i-preserved g c =
     let i_in : i < length start = c.loop-i-test.true in
     let is : x ≡ get_or start i x = l.invariant.ahead i no_link (omega arith) ∙ get_or_default start i no_link x i_in in
     let ends = between start l.candidates i c.requires.ends i_in l.invariant.ahead in
-    let rest : Link → List Link = λ d. links_of d links start in
-    let i_in' : (d : Link) → i < length (rest d) = λ d. subst (λ n. i < n) (sym (length-map start (link_of d links))) i_in in
-    let link_is : (d : Link) → link_of d links x ≡ get_or (rest d) i (link_of d links x) = λ d. ap (link_of d links) is ∙ sym (get_or-map (link_of d links) start i x (link_of d links x) i_in) in
-    let at : (d : Link) (labels : List ℕ) → AreLabelled labels d links start → IsLabelled labels (link_of d links x) x = λ d labels labelled. subst (λ (o : Open). IsLabelled labels (link_of d links o) o) (sym is) (labelled i x i_in) in
-    let next : (d : Link) (labels : List ℕ) → AreLabelled labels d links start → Next labels (rest d) (take i (rest d)) (link_of d links x) = λ d labels labelled. next_of labels (rest d) i (link_of d links x) (sorted_links d links start (c.requires.sorted d)) (at d labels labelled).0 (i_in' d) (link_is d) in
+    let i_in' : (d : Link) (links : List Link) → i < length (links_of d links start) = λ d links. subst (λ n. i < n) (sym (length-map start (link_of d links))) i_in in
+    let link_is : (d : Link) (links : List Link) → link_of d links x ≡ get_or (links_of d links start) i (link_of d links x) = λ d links. ap (link_of d links) is ∙ sym (get_or-map (link_of d links) start i x (link_of d links x) i_in) in
+    let at : (d : Link) (links : List Link) (labels : List ℕ) → AreOpenOf labels d links start → IsLabelled labels (link_of d links x) x = λ d links labels are. subst (λ (o : Open). IsLabelled labels (link_of d links o) o) (sym is) (are.1 i x i_in) in
+    let next : (d : Link) (links : List Link) (labels : List ℕ) → AreOpenOf labels d links start → Next labels (links_of d links start) (take i (links_of d links start)) (link_of d links x) = λ d links labels are. next_of labels (links_of d links start) i (link_of d links x) (sorted_links d links start are.0) (at d links labels are).0 (i_in' d links) (link_is d links) in
     elim c.if-touch.branch [
-      | then-touch+in_ok-push w ↦
+      | then-touch w ↦
           let share = c.touch.ensures.touched w.if-touch.true in
           let some = shared_some share in
           let shut = closed (get_or numbers' x.low 0) (get_or numbers' x.high 0) (share.first ∙ sym share.second) in
@@ -82,11 +81,12 @@ loop-i-preserved g c =
             given = given_more numbers' start x i_in is (subst (λ k. 0 < k) (sym share.first) some, subst (λ k. 0 < k) (sym share.second) some) (λ k o lt. let had = l.invariant.given k o lt in (some_stays share (get_or (take i start) k o).low had.0, some_stays share (get_or (take i start) k o).high had.1));
             numbers = shared_numbers share ends.0 ends.2 (c.touch.ensures.fewer w.if-touch.true) l.invariant.numbers;
             first = first_taken x i_in is share l.invariant.first;
-            touched = λ d labels labelled.
-                let share' : ShareNumber (get_or labels (link_of d links x).low 0) (get_or labels (link_of d links x).high 0) l.last l.numbers c.touch.new.last numbers' = rw ((at d labels labelled).1, (at d labels labelled).2) share in
-                let value : w.index-links-rank.result ≡ link_of d links x = w.index-links-rank.is ∙ get_or_default links x.rank w.index-links-rank.result d ends.4 in
-                subst (λ (seen : List Link). AreTouched labels (rest d) seen numbers' c.args.taken.now.items c.if-touch.taken.items) (sym (seen_with (rest d) i (link_of d links x) (i_in' d) (link_is d)))
-                (rw (w.taken-is, w.in_ok-push.ensures.items, value) (touched_taken (next d labels labelled) (l.invariant.touched d labels labelled) l.invariant.numbers share'));
+            touched = λ d links before labels fits are.
+                let share' : ShareNumber (get_or labels (link_of d links x).low 0) (get_or labels (link_of d links x).high 0) l.last l.numbers c.touch.new.last numbers' = rw ((at d links labels are).1, (at d links labels are).2) share in
+                let r_in : x.rank < length links = let last = ends.4 in omega (arith, last, fits) in
+                let len : length links ≡ length l.marks = let same = l.auto.marks in omega (arith, fits, same) in
+                subst (λ (seen : List Link). AreTouched labels (links_of d links start) seen numbers' (before ++ marked links c.args.marks.now) (before ++ marked links c.if-touch.marks)) (sym (seen_with (links_of d links start) i (link_of d links x) (i_in' d links) (link_is d links)))
+                (rw w.marks-is (touched_same (mark_one links l.marks x.rank (link_of d links x) r_in len (get_or_default links x.rank (link_of d links x) d r_in) before) (touched_taken (next d links labels are) (l.invariant.touched d links before labels fits are) l.invariant.numbers share')));
           }
       | else-touch w ↦
           let had_low = c.touch.ensures.had_a w.if-touch.false in
@@ -105,26 +105,26 @@ loop-i-preserved g c =
             given = rw same (given_more l.numbers start x i_in is (had_low, had_high) l.invariant.given);
             numbers = rw same l.invariant.numbers;
             first = rw same (first_passed x had_low l.invariant.first);
-            touched = λ d labels labelled.
-                rw (w.taken-is, same) (subst (λ (seen : List Link). AreTouched labels (rest d) seen l.numbers c.args.taken.now.items l.taken.items) (sym (seen_with (rest d) i (link_of d links x) (i_in' d) (link_is d)))
-                (touched_passed (next d labels labelled) (l.invariant.touched d labels labelled) (subst (λ k. 0 < get_or l.numbers k 0) (sym (at d labels labelled).1) had_low) (subst (λ k. 0 < get_or l.numbers k 0) (sym (at d labels labelled).2) had_high)));
+            touched = λ d links before labels fits are.
+                rw (w.marks-is, same) (subst (λ (seen : List Link). AreTouched labels (links_of d links start) seen l.numbers (before ++ marked links c.args.marks.now) (before ++ marked links l.marks)) (sym (seen_with (links_of d links start) i (link_of d links x) (i_in' d links) (link_is d links)))
+                (touched_passed (next d links labels are) (l.invariant.touched d links before labels fits are) (subst (λ k. 0 < get_or l.numbers k 0) (sym (at d links labels are).1) had_low) (subst (λ k. 0 < get_or l.numbers k 0) (sym (at d links labels are).2) had_high)));
           })
     ]
 
 pub returns-clause-first : goal.returns-clause-first
-returns-clause-first g c d some = c.loop-i.invariant.first.first d (let end = c.loop-i-test.false in omega (arith, end, some))
+returns-clause-first c d some = c.loop-i.invariant.first.first d (let end = c.loop-i-test.false in omega (arith, end, some))
 
 pub returns-clause-given : goal.returns-clause-given
-returns-clause-given g c =
+returns-clause-given c =
     let end = c.loop-i-test.false in
     subst (λ (xs : List Open). HaveNumbers c.loop-i.numbers xs) (take_all c.loop-i.i c.args.candidates.now end) c.loop-i.invariant.given
 
 pub returns-clause-kept : goal.returns-clause-kept
-returns-clause-kept g c = c.loop-i.invariant.kept ∙ ap (kept_of c.loop-i.numbers) (take_all c.loop-i.i c.args.candidates.now c.loop-i-test.false)
+returns-clause-kept c = c.loop-i.invariant.kept ∙ ap (kept_of c.loop-i.numbers) (take_all c.loop-i.i c.args.candidates.now c.loop-i-test.false)
 
 pub returns-clause-touched : goal.returns-clause-touched
-returns-clause-touched g c d labels labelled =
-    let rest = links_of d c.args.links.now c.args.candidates.now in
+returns-clause-touched c d links before labels fits are =
+    let rest = links_of d links c.args.candidates.now in
     let i = c.loop-i.i in
-    let past : length rest ≤ i = let end = c.loop-i-test.false in let len = length-map c.args.candidates.now (link_of d c.args.links.now) in omega (arith, end, len) in
-    subst (λ (seen : List Link). AreTouched labels rest seen c.loop-i.numbers c.args.taken.now.items c.loop-i.taken.items) (take_all i rest past) (c.loop-i.invariant.touched d labels labelled)
+    let past : length rest ≤ i = let end = c.loop-i-test.false in let len = length-map c.args.candidates.now (link_of d links) in omega (arith, end, len) in
+    subst (λ (seen : List Link). AreTouched labels rest seen c.loop-i.numbers (before ++ marked links c.args.marks.now) (before ++ marked links c.loop-i.marks)) (take_all i rest past) (c.loop-i.invariant.touched d links before labels fits are)
