@@ -1,7 +1,8 @@
 -- The order of keys is total, and links with equal keys are one link; so an ascending list is its members.
-use Rattle.std.proofs.Common.{◌≡◌, suc, ◌<◌, ◌≤◌, ◌^◌, Bool, true, IsTrue, is_lt, ◌⊎◌, ◌↔◌, List, [], ◌∷◌, Contains, Ordering, Less, Equal, Greater, int_cmp, nat_cmp, refl, sym, ap, ap₂, ◌∙◌, subst, inl, inr, arith}
+use Rattle.std.proofs.Common.{◌≡◌, suc, ◌+◌, ◌<◌, ◌≤◌, ◌^◌, Bool, true, false, IsTrue, is_lt, ◌⊎◌, ◌↔◌, List, [], ◌∷◌, Contains, get_or, Ordering, Less, Equal, Greater, int_cmp, nat_cmp, refl, sym, ap, ap₂, ◌∙◌, subst, inl, inr, arith}
 use Rattle.std.specs.Ordering.{ordering_then, ordering_reverse}
 use Rattle.std.specs.List.{IsAllAdjacentAnswer}
+use Rattle.std.specs.List.Sorted.{IsSorted}
 use Rattle.std.specs.Prelude.{FitsSigned}
 use Rattle.std.specs.Int.{w32}
 use Rattle.std.specs.Cmp.{IsTotalOrder}
@@ -134,3 +135,15 @@ is_below_true Greater is = absurd (cc)
 -- what a look at each pair of neighbours answers
 pub ascending_by_neighbours : (links : List Link) (r : Bool) → IsAllAdjacentAnswer (λ l m b. b ≡ is_below l m) links r → IsTrue r ↔ IsAscending links
 ascending_by_neighbours links r answer = all_pairs_by_neighbours IsBelow below_trans is_below (λ l m. (is_below_true (key_cmp l m), λ below. ap is_lt below)) links r answer
+
+-- A list that ascends is sorted.
+pub ascending_sorted : (links : List Link) → IsAscending links → IsSorted key_cmp links
+ascending_sorted links up k d _ lt =
+    let l = get_or links k d in
+    let m = get_or links (k + 1) d in
+    not_less (key_cmp m l) (λ below. below_asymm l m (up k (k + 1) d (omega arith) lt) below)
+  where
+    not_less : (o : Ordering) → (o ≡ Less → ⊥) → is_lt o ≡ false
+    not_less Less less = absurd (less refl)
+    not_less Equal less = refl
+    not_less Greater less = refl

@@ -11,6 +11,7 @@ pub mod Rings
 pub mod WideKeys
 pub mod Spans
 pub mod EvenSizes
+pub mod Fetched
 pub mod Greatest
 pub mod Spanning
 pub mod Parts

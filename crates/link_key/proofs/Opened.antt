@@ -224,6 +224,26 @@ renamed_numbers {count} {last} {numbers} {further} are len few all = record {
   few = let many = are.few in let same = renamed_len further numbers in omega (arith, many, same, few);
 }
 
+-- where one component is left, each label but 0 gets the number 1
+pub renamed_to_one : {left : ℕ} {numbers further now : List ℕ} → AreAllNumbers left numbers → length further ≡ left + 1 → AreAllNumbers 1 further → length now ≡ length numbers → get_or now 0 0 ≡ 0 → ((k : ℕ) → 0 < k → k < length now → get_or now k 0 ≡ 1) → now ≡ renamed further numbers
+renamed_to_one {left} {numbers} {further} {now} are len all same zero ones = same_lists now (renamed further numbers) (same ∙ sym (renamed_len further numbers)) (λ k d lt.
+    get_or_default now k d 0 lt ∙ at k lt ∙ sym (renamed_at numbers further k all.none) ∙ get_or_default (renamed further numbers) k 0 d (subst (λ n. k < n) (same ∙ sym (renamed_len further numbers)) lt))
+  where
+    one : (n : ℕ) → n ≤ 1 → 0 < n → 1 ≡ n
+    one n most some = omega (arith, most, some)
+
+    at : (k : ℕ) → k < length now → get_or now k 0 ≡ get_or further (get_or numbers k 0) 0
+    at k lt = elim (cases_lt 0 k) [
+      | inl from_one ↦
+          let had = are.some k from_one (subst (λ n. k < n) same lt) in
+          let most = are.at_most k in
+          let label = get_or numbers k 0 in
+          ones k from_one lt ∙ one (get_or further label 0) (all.at_most label) (all.some label had (omega (arith, most, len)))
+      | inr none ↦
+          let is : 0 ≡ k = omega (arith, none) in
+          subst (λ j. get_or now j 0 ≡ get_or further (get_or numbers j 0) 0) is (zero ∙ sym all.none ∙ ap (λ j. get_or further j 0) (sym are.none))
+    ]
+
 -- nothing is left
 pub none_left : {X : Type 0} (xs : List X) → length xs ≡ 0 → xs ≡ []
 none_left [] none = refl

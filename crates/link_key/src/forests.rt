@@ -26,7 +26,7 @@ impl<A: Allocator> Model for Forest<A> {
 }
 
 // Whether each link has a smaller key than the next, and so than all later ones.
-fn is_ascending(links: &[Link]) -> bool
+pub(crate) fn is_ascending(links: &[Link]) -> bool
     ensures { IsTrue result ↔ IsAscending links.now }
 {
     links.is_sorted_by(|earlier, later| earlier < later)

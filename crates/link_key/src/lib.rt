@@ -24,13 +24,14 @@
 //!
 //! Where to start a change: what is meant stands in `specs/` (`Link`, `Walk`, `Forest`, `Rounds`, `Labels`, `Offers`,
 //! `Cut`), and the laws that show it to be right in `laws`. `labellings` and `offered` say which lists are labels and
-//! offers, `cuts` where a list is cut. `plain` is the solver, in `rounds` between numbered components. What a round
-//! means stands in `specs/Rounds`, what it keeps meanwhile in `specs/OpenLinks`; `proofs/Touching` follows one link of a
-//! round, `proofs/Filling` the numbers that are handed out, `proofs/Keeping` the links that are kept, `proofs/Opened` what
-//! a round leaves, `proofs/Composing` rounds one after the other, `proofs/Stages` a round and the whole. `proofs/Parts` and
-//! `proofs/Fronts` cut a list into the lightest links and the rest, `proofs/Owns` begins with each vertex by itself, and
-//! `proofs/Spanning` shows that a part of the forest that spans the list is all of it. `components`
-//! merges components for the rounds that workers scan; another way to merge them needs only another `proofs/Rings`.
+//! offers, `cuts` where a list is cut. `plain` is the solver, in `rounds` between numbered components, `sorting` its
+//! sort. What a round means stands in `specs/Rounds`, what it keeps meanwhile in `specs/OpenLinks`; `proofs/Touching`
+//! follows one link of a round, `proofs/Filling` the numbers that are handed out, `proofs/Keeping` the links that are
+//! kept, `proofs/Opened` what a round leaves, `proofs/Composing` rounds one after the other, `proofs/Stages` a round
+//! and the whole. `proofs/Parts` and `proofs/Fronts` cut a list into the lightest links and the rest, `proofs/Owns`
+//! begins with each vertex by itself, and `proofs/Spanning` shows that a part of the forest that spans the list is all
+//! of it. `components` merges components for the rounds that workers scan; another way to merge them needs only another
+//! `proofs/Rings`.
 #![tactic(auto)]
 
 pub mod components;
@@ -43,6 +44,7 @@ pub mod offered;
 pub mod plain;
 mod rounds;
 pub mod shards;
+mod sorting;
 
 pub use components::Components;
 pub use cuts::{Cut, CutFault, check_even, check_places};

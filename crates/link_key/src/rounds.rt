@@ -191,11 +191,27 @@ fn number_rest(numbers: &mut [u32], last: u32) -> u32
 }
 
 // Puts its number in the place of each label.
-pub(crate) fn rename(labels: &mut [u32], numbers: &[u32])
+fn rename(labels: &mut [u32], numbers: &[u32])
     ensures { labels.new ≡ renamed numbers.now labels.old }
 {
     for label in labels.iter_mut() {
         *label = entry(numbers, *label);
+    }
+}
+
+// Puts its new number, of 1 to `count`, in the place of each number. Where one component is left no number is looked up.
+pub(crate) fn renumber<A: Allocator>(numbers: &mut [u32], left: u32, further: &Renaming<A>)
+    requires numbers { AreAllNumbers left numbers.old }
+    requires len { length further.now.numbers.items ≡ left + 1 }
+    requires further { AreAllNumbers further.now.count further.now.numbers.items }
+    ensures { numbers.new ≡ renamed further.now.numbers.items numbers.old }
+{
+    if further.count == 1 {
+        for label in 1..numbers.len() {
+            numbers[label] = 1;
+        }
+    } else {
+        rename(numbers, further.numbers.as_slice());
     }
 }
 
@@ -257,7 +273,7 @@ pub(crate) fn join<A: Allocator + Copy>(
         });
     }
     let further = join(alloc, left, candidates, marks)?;
-    rename(numbers.as_mut_slice(), further.numbers.as_slice());
+    renumber(numbers.as_mut_slice(), left, &further);
     Ok(Renaming {
         numbers,
         count: further.count,

@@ -1,5 +1,5 @@
 // Calls that may answer want of memory, each with ample memory and past the size of every piece that it works in:
-// 10,000 vertices and links. A body that gives up past some size is proved as well as one that doesn't. What is
+// 10,000 vertices and links, and 200,003 for the sort of links. A body that gives up past some size is proved as well as one that doesn't. What is
 // expected is written by a formula, here.
 use byte_streams::FusedSource;
 use forest_run::{plain_text, run_plain};
@@ -74,6 +74,25 @@ fn a_forest_of_ten_thousand_links(rt: HostRuntime) -> Result<(), Fail> {
     let forest = plain_forest(rt.alloc(), MANY + 1, links.as_slice())?;
     assert_eq!(rt; forest.links(), wanted.as_slice());
     let forest = forest_of(rt.alloc(), MANY + 1, links)?;
+    assert_eq!(rt; forest.links(), wanted.as_slice());
+    Ok(())
+}
+
+// More links than are put in order at once, of which every place is taken by the steps of 7,919 since their number is a
+// prime.
+#[test]
+fn a_forest_of_two_hundred_thousand_links(rt: HostRuntime) -> Result<(), Fail> {
+    let most: u32 = 200_003;
+    let arcs = path(rt.alloc(), most)?;
+    let wanted = links_of(rt.alloc(), most + 1, arcs.as_slice())?.expect(&rt, "arcs");
+    let mut scattered = Vec::new(rt.alloc());
+    let mut place = 0;
+    for _ in 0..arcs.len() {
+        scattered.push(arcs.get(place).copied().expect(&rt, "a place"))?;
+        place = place.wrapping_add(7919) % arcs.len().max(1);
+    }
+    let links = links_of(rt.alloc(), most + 1, scattered.as_slice())?.expect(&rt, "arcs");
+    let forest = forest_of(rt.alloc(), most + 1, links)?;
     assert_eq!(rt; forest.links(), wanted.as_slice());
     Ok(())
 }

@@ -82,16 +82,16 @@ pub returns-clause-len : goal.returns-clause-len
 returns-clause-len g t c =
     let numbers = c.loop-left.numbers in
     let value = c.as_mut_slice-2.ensures.value in
-    let len = c.rename-2.auto.labels ∙ ap length value in
-    ap length (written numbers.len c.rename-2.new.labels numbers.items len numbers.ok.0) ∙ len ∙ c.loop-left.invariant.len
+    let len = c.renumber.auto.numbers ∙ ap length value in
+    ap length (written numbers.len c.renumber.new.numbers numbers.items len numbers.ok.0) ∙ len ∙ c.loop-left.invariant.len
 
 pub returns-clause-numbers : goal.returns-clause-numbers
 returns-clause-numbers g t c =
     let numbers = c.loop-left.numbers in
     let further = c.in_ok-further-2.further.numbers in
     let value = c.as_mut_slice-2.ensures.value in
-    let whole = written numbers.len c.rename-2.new.labels numbers.items (c.rename-2.auto.labels ∙ ap length value) numbers.ok.0 in
-    let is : c.rename-2.new.labels ≡ renamed further.items numbers.items = c.rename-2.ensures ∙ ap₂ renamed c.as_slice-2.ensures.value value in
+    let whole = written numbers.len c.renumber.new.numbers numbers.items (c.renumber.auto.numbers ∙ ap length value) numbers.ok.0 in
+    let is : c.renumber.new.numbers ≡ renamed further.items numbers.items = c.renumber.ensures ∙ ap (renamed further.items) value in
     let done = c.in_ok-further-2.ensures in
     subst (AreAllNumbers c.in_ok-further-2.further.count) (sym (whole ∙ is)) (renamed_numbers c.loop-left.invariant.numbers done.len done.few done.numbers)
 
@@ -101,8 +101,8 @@ returns-clause-stage g t c =
     let numbers = l.numbers in
     let further = c.in_ok-further-2.further.numbers in
     let value = c.as_mut_slice-2.ensures.value in
-    let whole = written numbers.len c.rename-2.new.labels numbers.items (c.rename-2.auto.labels ∙ ap length value) numbers.ok.0 in
-    let is : c.rename-2.new.labels ≡ renamed further.items numbers.items = c.rename-2.ensures ∙ ap₂ renamed c.as_slice-2.ensures.value value in
+    let whole = written numbers.len c.renumber.new.numbers numbers.items (c.renumber.auto.numbers ∙ ap length value) numbers.ok.0 in
+    let is : c.renumber.new.numbers ≡ renamed further.items numbers.items = c.renumber.ensures ∙ ap (renamed further.items) value in
     let done = c.in_ok-further-2.ensures in
     subst (λ (table : List ℕ). LeadsOn c.args.count c.args.candidates.items c.args.marks.now table [] c.join.new.marks) (sym (whole ∙ is))
     (lead_on c.args.candidates.items l.candidates.items [] numbers.items done.numbers c.args.marks.now l.marks c.join.new.marks l.invariant.marks l.invariant.len l.invariant.numbers l.invariant.labelled l.invariant.stage done.stage)
