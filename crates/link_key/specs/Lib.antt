@@ -6,6 +6,7 @@ pub mod Labels
 pub mod Offers
 pub mod Components
 pub mod WideKey
+pub mod PackedKey
 pub mod Cut
 pub mod Rounds
 pub mod OpenLinks

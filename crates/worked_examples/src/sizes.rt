@@ -1,6 +1,6 @@
 // Calls that may answer want of memory, each with ample memory and past the size of every piece that it works in:
-// 10,000 vertices and links, and 200,003 for the sort of links. A body that gives up past some size is proved as well as one that doesn't. What is
-// expected is written by a formula, here.
+// 10,000 vertices and links, and 200,003 for the sort of links. A body that gives up past some size is proved as well as
+// one that doesn't. What is expected is written by a formula, here.
 use byte_streams::FusedSource;
 use forest_run::{plain_text, run_plain};
 use gr_text::{GrReader, Graph, MAX_BYTES, parse, read_graph, read_graph_upto, write_forest};
@@ -80,18 +80,42 @@ fn a_forest_of_ten_thousand_links(rt: HostRuntime) -> Result<(), Fail> {
 
 // More links than are put in order at once, of which every place is taken by the steps of 7,919 since their number is a
 // prime.
+// The arcs in another order, each beside others from far off.
+fn scattered(alloc: Global, arcs: &[Row]) -> Result<Vec<Row>, AllocError> {
+    let mut list = Vec::new(alloc);
+    let mut place = 0;
+    for _ in 0..arcs.len() {
+        if let Some(arc) = arcs.get(place) {
+            list.push(*arc)?;
+        }
+        place = place.wrapping_add(7919) % arcs.len().max(1);
+    }
+    Ok(list)
+}
+
 #[test]
 fn a_forest_of_two_hundred_thousand_links(rt: HostRuntime) -> Result<(), Fail> {
     let most: u32 = 200_003;
     let arcs = path(rt.alloc(), most)?;
     let wanted = links_of(rt.alloc(), most + 1, arcs.as_slice())?.expect(&rt, "arcs");
-    let mut scattered = Vec::new(rt.alloc());
-    let mut place = 0;
-    for _ in 0..arcs.len() {
-        scattered.push(arcs.get(place).copied().expect(&rt, "a place"))?;
-        place = place.wrapping_add(7919) % arcs.len().max(1);
-    }
-    let links = links_of(rt.alloc(), most + 1, scattered.as_slice())?.expect(&rt, "arcs");
+    let mixed = scattered(rt.alloc(), arcs.as_slice())?;
+    let links = links_of(rt.alloc(), most + 1, mixed.as_slice())?.expect(&rt, "arcs");
+    let forest = forest_of(rt.alloc(), most + 1, links)?;
+    assert_eq!(rt; forest.links(), wanted.as_slice());
+    Ok(())
+}
+
+// Keys that don't fit 64 bits: the lightest link there can be joins the ends of the path, whose heaviest link goes.
+#[test]
+fn a_forest_of_two_hundred_thousand_links_with_long_keys(rt: HostRuntime) -> Result<(), Fail> {
+    let most: u32 = 200_003;
+    let mut arcs = path(rt.alloc(), most)?;
+    arcs.push((most + 1, 1, i32::MIN))?;
+    let mixed = scattered(rt.alloc(), arcs.as_slice())?;
+    let links = links_of(rt.alloc(), most + 1, mixed.as_slice())?.expect(&rt, "arcs");
+    let mut kept = path(rt.alloc(), most - 1)?;
+    kept.insert(0, (1, most + 1, i32::MIN))?;
+    let wanted = links_of(rt.alloc(), most + 1, kept.as_slice())?.expect(&rt, "arcs");
     let forest = forest_of(rt.alloc(), most + 1, links)?;
     assert_eq!(rt; forest.links(), wanted.as_slice());
     Ok(())
