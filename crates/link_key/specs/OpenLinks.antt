@@ -47,7 +47,7 @@ IsLabelled labels l o = (l.high < length labels) × (slice_index labels l.low �
 abbrev pub AreLabelled : List ℕ → Link → List Link → List Open → Type 0
 AreLabelled labels d links candidates = All (λ (o : Open). IsLabelled labels (link_of d links o) o) candidates
 
--- open links of these, in the order of their keys, with the labels of their ends
+-- links of these by their ranks, in the order of their keys, with the labels of their ends
 abbrev pub AreOpenOf : List ℕ → Link → List Link → List Open → Type 0
 AreOpenOf labels d links candidates = IsSorted (open_cmp d links) candidates × AreLabelled labels d links candidates
 
@@ -63,13 +63,13 @@ AreBetween bound len candidates = All (IsBetween bound len) candidates
 abbrev pub zeros : List ℕ → ℕ
 zeros numbers = sum_by (λ (k : ℕ). if k == 0 then 1 else 0) numbers
 
--- numbers up to `last`, 0 where there is none, and so many labels have none that each can get one
+-- numbers up to `last`, 0 where a label has none, which 0 never has; and `last` is at most how many have one
 pub record AreNumbers (last : ℕ) (numbers : List ℕ) : Type 0 where
   pub at_most : (c : ℕ) → slice_index numbers c ≤ last
   pub none : slice_index numbers 0 ≡ 0
   pub few : last + zeros numbers ≤ length numbers
 
--- each label but 0 has a number up to `last`
+-- each label but 0 has a number up to `last`, and `last` is at most how many these are
 pub record AreAllNumbers (last : ℕ) (numbers : List ℕ) : Type 0 where
   pub at_most : (c : ℕ) → slice_index numbers c ≤ last
   pub none : slice_index numbers 0 ≡ 0
@@ -90,8 +90,9 @@ pub record ShareNumber (a b last : ℕ) (numbers : List ℕ) (last' : ℕ) (numb
 abbrev pub number_of : List ℕ → List ℕ → ℕ → ℕ
 number_of labels numbers v = slice_index numbers (slice_index labels v)
 
--- What the first touches of the links seen leave, of the rest: the labels at their ends have numbers, each link
--- taken is the least of the rest that leaves some label, and what has one number is joined by what is taken.
+-- What the first touches of the links seen lead to, which are the first of the rest: the labels at their ends have
+-- numbers; what was taken before stays taken; a link taken now whose ends' labels differ is the least of the rest that
+-- leaves some label; and what has one number is joined by what is taken, if what has one label was joined before.
 pub record AreTouched (labels : List ℕ) (rest seen : List Link) (numbers : List ℕ) (before after : List Link) : Type 0 where
   pub touched : (l : Link) → Contains seen l → (0 < number_of labels numbers l.low) × (0 < number_of labels numbers l.high)
   pub kept : (l : Link) → Contains before l → Contains after l
@@ -109,7 +110,7 @@ HaveFirst numbers candidates =
 abbrev pub HaveNumbers : List ℕ → List Open → Type 0
 HaveNumbers numbers candidates = All (λ (o : Open). (0 < slice_index numbers o.low) × (0 < slice_index numbers o.high)) candidates
 
--- numbers that were there stay, and each other label but 0 has one that no other has
+-- numbers that were there stay, and where another label has one now, no other label has that
 pub record AreFilled (numbers numbers' : List ℕ) : Type 0 where
   pub len : length numbers' ≡ length numbers
   pub kept : (c : ℕ) → 0 < slice_index numbers c → slice_index numbers' c ≡ slice_index numbers c
@@ -127,7 +128,8 @@ MarkTouched candidates marks numbers marks' =
     (d : Link) (links before : List Link) (labels : List ℕ) → length links ≡ length marks → AreOpenOf labels d links candidates
     → AreTouched labels (links_of d links candidates) (links_of d links candidates) numbers (before ++ marked links marks) (before ++ marked links marks')
 
--- whatever links they are of and whatever labels they had, those that are kept are open links of these by the new numbers
+-- Whatever links they are of and whatever labels they had: those that are kept are links of these in the order of their
+-- keys, with the new numbers for labels. Which are kept isn't said here.
 abbrev pub StayOpen : List Open → List ℕ → List Open → Type 0
 StayOpen candidates numbers kept =
     (d : Link) (links : List Link) (labels : List ℕ) → AreOpenOf labels d links candidates → AreOpenOf (renamed numbers labels) d links kept

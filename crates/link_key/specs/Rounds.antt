@@ -40,8 +40,9 @@ AreOwn n labels = (length labels ≡ n + 1) × EachIndex labels (λ v. slice_ind
 abbrev pub renamed : List ℕ → List ℕ → List ℕ
 renamed numbers labels = map (λ (c : ℕ). slice_index numbers c) labels
 
--- What stands while the forest of a list is found: what is taken is in it, labels tell what that joins, and a link whose
--- ends it doesn't join is of the rest, or left for later and not below one of the rest.
+-- What stands while the forest of a list is found: each end has a label; what is taken is in the forest, and joins what
+-- has one label; a link whose ends have different labels is of the rest, all whose links are such, or left for later,
+-- where none is below any of the rest.
 pub record IsStage (links rest later : List Link) (labels : List ℕ) (taken : List Link) : Type 0 where
   pub ends : (l : Link) → Contains links l → l.high < length labels
   pub joined : AreJoinedWhereOne labels taken

@@ -2,9 +2,10 @@
 //!
 //! Of links in ascending order the first that touches a component is the least that leaves it. So a round goes over
 //! the links once: it marks a link where the component at one of its ends wasn't touched before, and both components
-//! get one new number then. What nothing touched gets a new number of its own, so that the next round has a table of
+//! have one number then. What nothing touched gets a new number of its own, so that the next round has a table of
 //! the components that are left, and no vertex is looked at before the rounds are over. What is marked in the end, in
-//! the order of keys, is taken.
+//! the order of keys, is taken. That a round marks as many links as it can is promised by no contract: the time stands
+//! on it, and the forest doesn't.
 ghost use Rattle.std.specs.Prelude.{◌≡◌, false, ◌+◌, ◌<◌, ◌≤◌, [], ◌++◌, map, take, drop, length, slice_index, EachIndex, IfOk, OnOk, IsTrue};
 ghost use Rattle.std.specs.List.{filter};
 ghost use Rattle.limits.specs.declared.TheConstants.{MAX_VERTICES};
@@ -199,7 +200,7 @@ fn rename(labels: &mut [u32], numbers: &[u32])
     }
 }
 
-// Puts its new number, of 1 to `count`, in the place of each number. Where one component is left no number is looked up.
+// Puts its further number in the place of each number, of 1 to `left`. Where one component is left none is looked up.
 pub(crate) fn renumber<A: Allocator>(numbers: &mut [u32], left: u32, further: &Renaming<A>)
     requires numbers { AreAllNumbers left numbers.old }
     requires len { length further.now.numbers.items ≡ left + 1 }
@@ -242,8 +243,8 @@ fn round<A: Allocator + Copy>(
 }
 
 // Marks the forest's links among these, between the components 1 to `count`, and returns the new numbers of the
-// components. While more than half of them are left, the numbers that a round gives are looked up at once, so that a
-// further table has at most half as many entries: it takes at most 8 bytes a component.
+// components. While more than half of them are left, the numbers that a round gives are looked up at once and let go, so
+// that a table kept beside another has at most half its entries: they take at most 8 bytes a component.
 pub(crate) fn join<A: Allocator + Copy>(
     alloc: A,
     count: u32,
