@@ -1,14 +1,15 @@
 -- A plain arc line: its fields, its bytes, and that it is read whole.
-use Rattle.std.proofs.Common.{◌≡◌, ◌≢◌, ℕ, ℤ, ◌+◌, ◌-◌, ◌<◌, ◌≤◌, inl, inr, List, [], ◌∷◌, ◌++◌, refl, ap, sym, ◌∙◌, subst, arith, append_assoc, append-nil, codes, length, take, drop, get_or, length-append}
+use Rattle.std.proofs.Common.{◌≡◌, ◌≢◌, ℕ, ℤ, suc, ◌+◌, ◌-◌, ◌<◌, ◌≤◌, inl, inr, List, [], ◌∷◌, ◌++◌, refl, ap, sym, ◌∙◌, subst, arith, append_assoc, append-nil, codes, length, take, drop, get_or}
 use Rattle.std.specs.List.{AllByRecursion}
-use Rattle.std.proofs.lemmas.List.{take_more, take-append-drop, take_rest, length-take-le}
+use Rattle.std.proofs.lemmas.List.{take_more, take-append-drop, drop-append-le, take_rest}
+use Rattle.std.proofs.Math.Seq.{take-append-add}
 use Rattle.gr_text.specs.Lines.{line_feed, IsLine, ended}
 use Rattle.gr_text.specs.Fields.{IsFieldByte, BeginsBlank, AreFields, IsDigit}
 use Rattle.gr_text.specs.Word.{KeepsSigned}
 use Rattle.gr_text.specs.Partial.{IsWhole}
-use Rattle.gr_text.specs.PlainArc.{IsShort, IsShortSigned, IsPlainArc, BeginsWithShort}
+use Rattle.gr_text.specs.PlainArc.{IsShort, IsShortSigned, IsPlainArc, BeginsWithShort, HasShortBefore, HasNoShort}
 use Rattle.gr_text.specs.declared.words.Line.TheVariants.{ArcWhole}
-use Rattle.gr_text.proofs.Alls.{All-both, All-push}
+use Rattle.gr_text.proofs.Alls.{All-both, All-parts}
 use Rattle.gr_text.proofs.Unique.{prefix_unique}
 
 all_as : (P Q : ℕ → Type 0) → ((b : ℕ) → P b → Q b) → (xs : List ℕ) → AllByRecursion P xs → AllByRecursion Q xs
@@ -138,41 +139,20 @@ pub at_place : (xs : List ℕ) (i : ℕ) → i < length xs → xs ≡ take i xs 
 at_place xs i within =
     sym (take-append-drop (i + 1) xs) ∙ ap (λ (ys : List ℕ). ys ++ drop (i + 1) xs) (take_more xs i 0 within) ∙ append_assoc (take i xs) (get_or xs i 0 ∷ []) (drop (i + 1) xs)
 
--- digits in front are no more than those before a byte that is none
-digits_within : (stop : ℕ) (xs r field rest : List ℕ) → ¬ (IsDigit stop) → AllByRecursion IsDigit xs → xs ++ r ≡ field ++ stop ∷ rest → length xs ≤ length field
-digits_within stop [] r field rest no_digit all e = omega arith
-digits_within stop (x ∷ xs) r [] rest no_digit all e = absurd (let same : x ≡ stop = cc in no_digit (subst IsDigit same all.0))
-digits_within stop (x ∷ xs) r (f ∷ field) rest no_digit all e =
-    let tails : xs ++ r ≡ field ++ stop ∷ rest = cc in
-    let less : length xs ≤ length field = digits_within stop xs r field rest no_digit all.1 tails in omega arith
-
--- Eleven digits are in front.
-pub never_long : (stop : ℕ) (xs : List ℕ) → ¬ (IsDigit stop) → 10 < length xs → AllByRecursion IsDigit (take 11 xs) → (field rest : List ℕ) → IsShort field → xs ≢ field ++ stop ∷ rest
-never_long stop xs no_digit long all field rest short is =
-    let eleven : length (take 11 xs) ≡ 11 = length-take-le 11 xs (omega arith) in
-    let less : length (take 11 xs) ≤ length field = digits_within stop (take 11 xs) (drop 11 xs) field rest no_digit all (take-append-drop 11 xs ∙ is) in
-    omega (arith, short.few)
-
 -- All are digits.
-pub never_all : (stop : ℕ) (xs : List ℕ) → ¬ (IsDigit stop) → AllByRecursion IsDigit xs → (field rest : List ℕ) → IsShort field → xs ≢ field ++ stop ∷ rest
+pub never_all : (stop : ℕ) (xs : List ℕ) → ¬ (IsDigit stop) → AllByRecursion IsDigit xs → HasNoShort stop xs
 never_all stop xs no_digit all field rest short is =
-    let less : length xs ≤ length field = digits_within stop xs [] field rest no_digit all (append-nil xs ∙ is) in
-    let more : length xs ≡ length field + length (stop ∷ rest) = ap length is ∙ length-append field (stop ∷ rest) in
-    omega arith
+    let parts = All-parts IsDigit field (stop ∷ rest) (subst (AllByRecursion IsDigit) is all) in no_digit parts.1.0
 
 -- The first byte that is no digit isn't `stop`, or there is no digit before it.
 pub never_other : (stop : ℕ) (xs : List ℕ) (i : ℕ) → ¬ (IsDigit stop) → i < length xs → AllByRecursion IsDigit (take i xs) → ¬ (IsDigit (get_or xs i 0)) → (get_or xs i 0 ≡ stop → i ≡ 0)
-    → (field rest : List ℕ) → IsShort field → xs ≢ field ++ stop ∷ rest
+    → HasNoShort stop xs
 never_other stop xs i no_digit within all other none field rest short is =
     let both = prefix_unique IsDigit (take i xs) field (get_or xs i 0 ∷ drop (i + 1) xs) (stop ∷ rest) all short.digits other no_digit (sym (at_place xs i within) ∙ is) in
     let tails : get_or xs i 0 ∷ drop (i + 1) xs ≡ stop ∷ rest = both.1 in
     let same : get_or xs i 0 ≡ stop = cc in
     let zero : i ≡ 0 = none same in
     short.some (sym both.0 ∙ ap (λ (k : ℕ). take k xs) zero)
-
--- One more digit.
-pub digits_more : (xs : List ℕ) (i : ℕ) → i < length xs → AllByRecursion IsDigit (take i xs) → IsDigit (get_or xs i 0) → AllByRecursion IsDigit (take (i + 1) xs)
-digits_more xs i within all digit = subst (AllByRecursion IsDigit) (sym (take_more xs i 0 within)) (All-push IsDigit (take i xs) (get_or xs i 0) all digit)
 
 -- bytes by their first ones
 pub begins_one : (xs : List ℕ) (a : ℕ) → 1 ≤ length xs → get_or xs 0 0 ≡ a → xs ≡ a ∷ take (length xs - 1) (drop 1 xs)
@@ -184,3 +164,17 @@ begins_two [] a b some first second = absurd (omega arith)
 begins_two (x ∷ []) a b some first second = absurd (omega arith)
 begins_two (x ∷ y ∷ xs) a b some first second =
     ap (λ (z : ℕ). z ∷ y ∷ xs) first ∙ ap (λ (z : ℕ). a ∷ z ∷ xs) second ∙ ap (λ (zs : List ℕ). a ∷ b ∷ zs) (sym (take_rest (x ∷ y ∷ xs) 2))
+
+-- A number before `stop` stands in the text where it stands in its first eleven bytes.
+pub found_in_front : (kept stop place : ℕ) (xs : List ℕ) → HasShortBefore kept place stop (take 11 xs) → BeginsWithShort kept stop xs (drop (place + 1) xs)
+found_in_front kept stop place xs (within, (field, short, keeps, is)) =
+    let few : place + 1 ≤ length (take 11 xs) = omega arith in
+    let rest = drop-append-le (place + 1) (take 11 xs) (drop 11 xs) few in
+    let begins = ap (λ (ys : List ℕ). ys ++ drop 11 xs) is ∙ append_assoc field (stop ∷ drop (place + 1) (take 11 xs)) (drop 11 xs) ∙ ap (λ (ys : List ℕ). field ++ stop ∷ ys) (sym rest) in
+    subst (λ (ys : List ℕ). BeginsWithShort kept stop ys (drop (place + 1) ys)) (take-append-drop 11 xs) (field, short, keeps, begins)
+
+pub none_in_front : (stop : ℕ) (xs : List ℕ) → HasNoShort stop (take 11 xs) → HasNoShort stop xs
+none_in_front stop xs none field rest short is =
+    let more = 10 - length field in
+    let eleven : 11 ≡ length field + suc more = omega (arith, short.few) in
+    none field (take more rest) short (ap (take 11) is ∙ ap (λ (k : ℕ). take k (field ++ stop ∷ rest)) eleven ∙ take-append-add field (stop ∷ rest) (suc more))

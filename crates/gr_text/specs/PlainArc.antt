@@ -1,5 +1,5 @@
 -- The usual form of an arc line, which is read at once.
-use Rattle.std.specs.Prelude.{◌≡◌, ◌≢◌, ℕ, ℤ, ◌≤◌, ◌⊎◌, List, [], ◌∷◌, ◌++◌, length, codes}
+use Rattle.std.specs.Prelude.{◌≡◌, ◌≢◌, ℕ, ℤ, ◌+◌, ◌<◌, ◌≤◌, ◌⊎◌, List, [], ◌∷◌, ◌++◌, length, drop, codes}
 use Rattle.std.specs.List.{AllByRecursion}
 use Rattle.gr_text.specs.Lines.{line_feed, ended}
 use Rattle.gr_text.specs.Fields.{IsDigit}
@@ -30,6 +30,10 @@ pub record IsPlainArc (line : List ℕ) : Type 0 where
 -- the bytes are a field of this form, which keeps this, then `stop` and what is left
 abbrev pub BeginsWithShort : ℕ → ℕ → List ℕ → List ℕ → Type 0
 BeginsWithShort kept stop bytes rest = (field : List ℕ) × IsShort field × KeepsNumber kept field × (bytes ≡ field ++ stop ∷ rest)
+
+-- the same with `stop` at this place
+abbrev pub HasShortBefore : ℕ → ℕ → ℕ → List ℕ → Type 0
+HasShortBefore kept place stop bytes = (place < length bytes) × BeginsWithShort kept stop bytes (drop (place + 1) bytes)
 
 -- the same of a number that may have a minus, then a line feed and what is left
 abbrev pub BeginsWithShortSigned : ℤ → List ℕ → List ℕ → Type 0

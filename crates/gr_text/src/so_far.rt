@@ -46,6 +46,7 @@ impl<A: Allocator> SoFar<A> {
 
     /// Takes one more line, of this number. It fails with the fault of the line, or with `Memory` where its
     /// link finds none; nothing is read behind it.
+    #[inline(always)]
     pub(crate) fn take_line(&mut self, number: u64, line: Line) -> Result<(), ReadFault>
         ensures { (lines : List (List ℕ)) (bytes : List ℕ) → Gives self.old lines → IsWhole line bytes
             → IsTaken result self.new number lines bytes }
@@ -85,6 +86,7 @@ impl<A: Allocator> SoFar<A> {
     }
 
     // Adds an arc of the problem's vertices.
+    #[inline(always)]
     fn add(&mut self, tail: u32, head: u32, weight: i32) -> Result<(), ReadFault>
         requires { FitsAfter (Verdict.Adds tail head weight) self.old.size self.old.count }
         ensures { MatchResult result

@@ -25,6 +25,7 @@ pub(crate) enum Verdict {
 
 /// Judges a line by the lines before it: `size` is what their problem line states, where there is one, and
 /// `count` how many arc lines they have. In constant time.
+#[inline(always)]
 pub(crate) fn judge(size: Option<Size>, count: u32, line: Line) -> Verdict
     ensures fits { FitsAfter result size count }
     ensures told { JudgesEach result size count (IsWhole line) }
@@ -66,6 +67,7 @@ fn bad_problem(size: Option<Size>) -> Verdict
     }
 }
 
+#[inline(always)]
 fn judge_arc(size: Option<Size>, count: u32, u: u32, v: u32, w: i64) -> Verdict
     ensures fits { FitsAfter result size count }
     ensures told { JudgesEach result size count (KeepsArc u v w) }
@@ -85,6 +87,7 @@ fn judge_arc(size: Option<Size>, count: u32, u: u32, v: u32, w: i64) -> Verdict
     }
 }
 
+#[inline(always)]
 fn weight_of(w: i64) -> Option<i32>
     ensures { (z : ℤ) → IsCappedSigned w z → MatchOption result (¬ (IsWeight z)) (λ x. (x ≡ z) × IsWeight z) }
 {
