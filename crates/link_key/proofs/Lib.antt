@@ -14,6 +14,10 @@ pub mod EvenSizes
 pub mod Fetched
 pub mod Greatest
 pub mod Spanning
+pub mod Sublists
+pub mod Cycles
+pub mod ForestSpans
+pub mod Least
 pub mod Parts
 pub mod Touching
 mod Keeping

@@ -2,6 +2,8 @@ pub mod Arc
 pub mod Link
 pub mod Walk
 pub mod Forest
+pub mod LinkSet
+pub mod Least
 pub mod Labels
 pub mod Offers
 pub mod Components

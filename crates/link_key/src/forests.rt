@@ -1,5 +1,6 @@
 ghost use Rattle.std.specs.Prelude.{◌≡◌, ◌↔◌, IsSome, IfSome, IsTrue};
 ghost use Rattle.link_key.specs.Link.{IsAscending};
+ghost use Rattle.link_key.specs.Least.{sum_of_weights};
 
 use crate::links::Link;
 use std::alloc::{Allocator, Global};
@@ -52,6 +53,18 @@ impl<A: Allocator> Forest<A> {
         ensures { result ≡ links.items }
     {
         Forest { links }
+    }
+
+    /// What it weighs: the sum of the weights of its links. It looks at each link once, takes no memory, and never wraps:
+    /// a list in memory has fewer than 2^64 links.
+    pub fn total(&self) -> i128
+        ensures { result ≡ sum_of_weights self.now }
+    {
+        let mut total = 0;
+        for link in self.links.as_slice() {
+            total += i128::from(link.weight);
+        }
+        total
     }
 
     /// Its links, in ascending order, each once.

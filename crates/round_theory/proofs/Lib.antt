@@ -1,8 +1,6 @@
 pub mod Lists
-pub mod Cycles
 pub mod Labels
 pub mod Leaving
-pub mod Forests
 pub mod Steps
 pub mod Cutting
 pub mod Counting

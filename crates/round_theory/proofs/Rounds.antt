@@ -17,7 +17,7 @@ use Rattle.round_theory.specs.Rounds.{AreRoundPicks, TakenAfter, IsMergingRounds
 use Rattle.round_theory.proofs.Lists.{set_ends}
 use Rattle.round_theory.proofs.Labels.{list_joins_dec, least_below, labelling_exists, labelling_unique, one_label, low_vertex, high_vertex, ends_label, labelling_alike}
 use Rattle.round_theory.proofs.Leaving.{leaves_apart, leaves_end, leaves_low, leaves_high, least_leaving, least_leaving_exists, least_leaving_unique, least_leaving_in_forest, spans_where_none_leaves}
-use Rattle.round_theory.proofs.Forests.{spanning_part_is_forest}
+use Rattle.link_key.proofs.ForestSpans.{spanning_part_is_forest}
 use Rattle.round_theory.proofs.Counting.{size_of, size_one, two_sizes, sizes_add}
 
 -- a set that is the set of a list's members

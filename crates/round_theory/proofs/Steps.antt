@@ -11,7 +11,7 @@ use Rattle.link_key.specs.Labels.{label_of, IsLabelled, AreLabels}
 use Rattle.round_theory.specs.Labelling.{IsVertex, IsLabelling, IsWalkOver, JoinsOver, IsRelabelling}
 use Rattle.round_theory.specs.Offers.{IsLeastLeaving, IsPick}
 use Rattle.round_theory.proofs.Lists.{HasEndsUpTo, set_ends}
-use Rattle.round_theory.proofs.Cycles.{no_cycle_part, no_cycle_either}
+use Rattle.link_key.proofs.Cycles.{no_cycle_part, no_cycle_either}
 use Rattle.round_theory.proofs.Labels.{same_labels, one_label, low_vertex, high_vertex, ends_label, labelling_alike}
 use Rattle.round_theory.proofs.Leaving.{crossing_ends, leaves_apart, leaves_end}
 

@@ -4,6 +4,7 @@ use Rattle.std.proofs.Common.{lit≤, lit<}
 use Rattle.link_key.specs.declared.links.Link.{Link}
 use Rattle.link_key.specs.Walk.{Joins}
 use Rattle.link_key.specs.Forest.{IsForestLink}
+use Rattle.link_key.specs.Least.{IsLightest}
 use Rattle.link_key.specs.Labels.{AreApart}
 use Rattle.link_key.specs.Offers.{Offer}
 use Rattle.round_theory.specs.LinkSet.{SameLinks, HasNoCycle}
@@ -42,6 +43,10 @@ OneLinkJoinsItsEnds = Joins (Contains (link_1_2 ∷ [])) 2 1 × ¬ (Joins (Conta
 -- equal weights: the ends decide
 abbrev pub TwoSidesAreForest : Type 0
 TwoSidesAreForest = SameLinks (Contains two_sides) (IsForestLink triangle)
+
+-- they weigh 10, and no spanning forest less
+abbrev pub TwoSidesWeighLeast : Type 0
+TwoSidesWeighLeast = IsLightest triangle (pos 10)
 
 -- vertex 3 has two links of weight 5, and the one with the lesser ends is in the forest
 abbrev pub LesserEndsAreInForest : Type 0

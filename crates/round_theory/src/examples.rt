@@ -1,6 +1,6 @@
 //! Each law applied to a triangle, whose three links weigh the same.
 
-ghost use Rattle.round_theory.specs.Examples.{OneLinkJoinsItsEnds, TwoSidesAreForest, LesserEndsAreInForest, OneRoundSuffices, OneRoundTakesForest, LeastOfBothShards, OneLinkMore, HeavierOffersCloseNoCycle, EachLabelsItself, LesserOfBothParts, OneListOfOffers, EachOfferLeaves};
+ghost use Rattle.round_theory.specs.Examples.{OneLinkJoinsItsEnds, TwoSidesAreForest, TwoSidesWeighLeast, LesserEndsAreInForest, OneRoundSuffices, OneRoundTakesForest, LeastOfBothShards, OneLinkMore, HeavierOffersCloseNoCycle, EachLabelsItself, LesserOfBothParts, OneListOfOffers, EachOfferLeaves};
 
 use crate::laws;
 
@@ -25,6 +25,14 @@ pub fn two_sides()
     laws::one_labelling();
     laws::cut_property();
     laws::forest_spans();
+}
+
+/// The two sides weigh 10, and no spanning forest of the triangle weighs less.
+pub fn two_sides_weigh_least()
+    ensures { TwoSidesWeighLeast }
+{
+    two_sides();
+    link_key::laws::forest_is_lightest();
 }
 
 /// One round suffices, and takes the forest: two would need four vertices.

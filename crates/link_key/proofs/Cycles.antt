@@ -6,10 +6,10 @@ use Rattle.link_key.specs.Walk.{Joins}
 use Rattle.link_key.proofs.Members.{contains_cases, contains_head, contains_tail, contains_none}
 use Rattle.link_key.proofs.Keys.{link_dec}
 use Rattle.link_key.proofs.Walks.{WithLink, joins_link, joins_symm, joins_trans, joins_more, joins_one_more}
-use Rattle.round_theory.specs.LinkSet.{LinkSet, Either, Without, IsPartOf, HasNoCycle}
+use Rattle.link_key.specs.LinkSet.{LinkSet, Either, Without, IsPartOf, HasNoCycle}
 use Rattle.link_key.proofs.Greatest.{greatest_of}
 use Rattle.link_key.proofs.Spanning.{walked}
-use Rattle.round_theory.proofs.Lists.{part_in}
+use Rattle.link_key.proofs.Sublists.{part_in}
 
 -- a part of a set without a cycle has none
 pub no_cycle_part : (S T : LinkSet) → IsPartOf S T → HasNoCycle T → HasNoCycle S

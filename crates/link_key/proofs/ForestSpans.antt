@@ -7,9 +7,9 @@ use Rattle.link_key.specs.Forest.{LinksBelow, IsForestLink}
 use Rattle.link_key.proofs.Keys.{below_dec, below_irrefl, below_trans}
 use Rattle.link_key.proofs.Spanning.{spanning_part}
 use Rattle.link_key.proofs.Walks.{joins_link, joins_more, joins_replace, joins_dec}
-use Rattle.round_theory.specs.LinkSet.{LinkSet, Either, Without, IsPartOf, SameLinks, HasNoCycle, Spans}
-use Rattle.round_theory.proofs.Lists.{without_one}
-use Rattle.round_theory.proofs.Cycles.{no_cycle_part, no_cycle_either}
+use Rattle.link_key.specs.LinkSet.{LinkSet, Either, IsPartOf, SameLinks, HasNoCycle, Spans}
+use Rattle.link_key.proofs.Sublists.{without_one}
+use Rattle.link_key.proofs.Cycles.{no_cycle_part, no_cycle_either}
 
 -- no link at all
 abbrev NoLink : LinkSet
