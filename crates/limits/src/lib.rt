@@ -1,11 +1,14 @@
 //! The limits of this project, each with one name, for code, contracts and definitions alike.
 //!
-//! What is promised here: nothing but the numbers. A crate that tests a limit cites its name, and so does the
-//! contract that promises the test; the definitions of `specs/` import it from this crate's constants.
+//! What is promised here: nothing but the numbers, each by a clause of [`laws`]. A crate that tests a limit cites its
+//! name, and so does the contract that promises the test; the definitions of `specs/` import it from this crate's
+//! constants.
 //!
-//! Where to start a change: here; every crate that cites the constant is checked again, and `docs/GR_FORMAT.md`
-//! and `docs/PROTOCOL.md` say the numbers in words.
+//! Where to start a change: here, and the clause of `laws` that says the number again; every crate that cites the
+//! constant is checked again, and `docs/GR_FORMAT.md` and `docs/PROTOCOL.md` say the numbers in words.
 #![tactic(auto)]
+
+pub mod laws;
 
 /// The most vertices that a graph may have: 2^26.
 pub const MAX_VERTICES: u32 = 1 << 26;
