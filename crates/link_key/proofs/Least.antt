@@ -20,7 +20,7 @@ use Rattle.link_key.proofs.Keys.{link_dec, trichotomy, below_dec, below_trans, b
 use Rattle.link_key.proofs.WideKeys.{int_ranks}
 use Rattle.link_key.proofs.Walks.{WithLink, JoinsThrough, Decided, joins_link, joins_symm, joins_trans, joins_more, joins_replace, joins_one_more, joins_dec}
 use Rattle.link_key.specs.LinkSet.{LinkSet, Without, IsPartOf, HasNoCycle, Spans}
-use Rattle.link_key.specs.Least.{sum_of_weights, AreDistinct, IsTotalOf, IsSpanningForestOf, IsLightest, ForestIsLightest}
+use Rattle.link_key.specs.Least.{sum_of_weights, AreDistinct, IsTotalOf, IsSpanningForestOf, IsLightest, ForestIsLightest, NoCycleIsItsForest}
 use Rattle.link_key.proofs.Cycles.{no_cycle_part, no_cycle_one_more}
 use Rattle.link_key.proofs.ForestSpans.{forest_no_cycle, forest_spans}
 
@@ -437,3 +437,10 @@ forest_is_lightest links forest is = (spanning, total, lightest)
 -- so a forest weighs least
 pub lightest_forest : (links forest : List Link) → IsForestOf links forest → IsLightest links (sum_of_weights forest)
 lightest_forest links forest is = (forest_is_lightest links forest is).2
+
+-- the ends of none of them are joined by others, so not by those below it
+pub no_cycle_is_its_forest : NoCycleIsItsForest
+no_cycle_is_its_forest links forest none is l = (λ l_in. ((is.exact l).0 l_in).0, λ l_in. (is.exact l).1 (l_in, λ joined. none l l_in (joins_more (LinksBelow links l) (Without (Contains links) l) other l.low l.high joined)))
+  where
+    other : (m : Link) → LinksBelow links l m → Without (Contains links) l m
+    other m m_in = (m_in.0, λ same. below_irrefl l (subst (λ x. IsBelow x l) same m_in.1))

@@ -30,10 +30,15 @@ pub record IsSpanningForestOf (links some : List Link) : Type 0 where
 abbrev pub IsLightest : List Link → ℤ → Type 0
 IsLightest links total = (other : List Link) (its : ℤ) → IsSpanningForestOf links other → IsTotalOf other its → total ≤ℤ its
 
--- ---- the law
+-- ---- the laws
 
 -- the forest of a list is a spanning forest of it, its links are distinct, and no spanning forest weighs less
 abbrev pub ForestIsLightest : Type 0
 ForestIsLightest =
     (links forest : List Link) → IsForestOf links forest
     → IsSpanningForestOf links forest × IsTotalOf forest (sum_of_weights forest) × IsLightest links (sum_of_weights forest)
+
+-- the forest of links that close no cycle is all of them
+abbrev pub NoCycleIsItsForest : Type 0
+NoCycleIsItsForest =
+    (links forest : List Link) → HasNoCycle (Contains links) → IsForestOf links forest → SameLinks (Contains forest) (Contains links)

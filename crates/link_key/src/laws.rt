@@ -1,7 +1,7 @@
 // What the definitions themselves promise, each as the contract of a function that does nothing.
 ghost use Rattle.link_key.specs.Cut.{RefusedForALargeShard};
 ghost use Rattle.link_key.specs.Forest.{EachHasOneForest};
-ghost use Rattle.link_key.specs.Least.{ForestIsLightest};
+ghost use Rattle.link_key.specs.Least.{ForestIsLightest, NoCycleIsItsForest};
 
 /// Each list of links has exactly one minimum spanning forest, as an ascending list.
 pub fn each_has_one_forest()
@@ -12,6 +12,11 @@ pub fn each_has_one_forest()
 /// cycle and joins what the list joins is the sum of the weights less.
 pub fn forest_is_lightest()
     ensures { ForestIsLightest }
+{}
+
+/// The forest of links that close no cycle is all of them: so a forest's own forest is itself.
+pub fn no_cycle_is_its_forest()
+    ensures { NoCycleIsItsForest }
 {}
 
 /// Where the number of shards is allowed, an even cut is refused exactly where one of its shards has more than

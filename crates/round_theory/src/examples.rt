@@ -1,6 +1,6 @@
 //! Each law applied to a triangle, whose three links weigh the same.
 
-ghost use Rattle.round_theory.specs.Examples.{OneLinkJoinsItsEnds, TwoSidesAreForest, TwoSidesWeighLeast, LesserEndsAreInForest, OneRoundSuffices, OneRoundTakesForest, LeastOfBothShards, OneLinkMore, HeavierOffersCloseNoCycle, EachLabelsItself, LesserOfBothParts, OneListOfOffers, EachOfferLeaves};
+ghost use Rattle.round_theory.specs.Examples.{OneLinkJoinsItsEnds, TwoSidesAreForest, TwoSidesWeighLeast, TwoSidesAreTheirForest, LesserEndsAreInForest, OneRoundSuffices, OneRoundTakesForest, LeastOfBothShards, OneLinkMore, HeavierOffersCloseNoCycle, EachLabelsItself, LesserOfBothParts, OneListOfOffers, EachOfferLeaves};
 
 use crate::laws;
 
@@ -33,6 +33,15 @@ pub fn two_sides_weigh_least()
 {
     two_sides();
     link_key::laws::forest_is_lightest();
+}
+
+/// The two sides close no cycle, so their own forest is both.
+pub fn two_sides_are_their_forest()
+    ensures { TwoSidesAreTheirForest }
+{
+    two_sides();
+    laws::forest_spans();
+    link_key::laws::no_cycle_is_its_forest();
 }
 
 /// One round suffices, and takes the forest: two would need four vertices.
