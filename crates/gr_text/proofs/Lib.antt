@@ -21,3 +21,4 @@ pub mod ForestSize
 pub mod Texts
 pub mod OneFault
 pub mod Deciding
+pub mod ForestMeans

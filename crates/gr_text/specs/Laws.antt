@@ -1,7 +1,12 @@
 -- What the definitions promise of every text.
-use Rattle.std.specs.Prelude.{◌≡◌, ℕ, ◌⊎◌, List}
+use Rattle.std.specs.Prelude.{◌≡◌, ℕ, ◌≤◌, ◌⊎◌, List, length}
+use Rattle.limits.specs.declared.TheConstants.{MAX_ARCS, MAX_VERTICES}
 use Rattle.link_key.specs.Arc.{Arc}
-use Rattle.gr_text.specs.Graph.{Means}
+use Rattle.link_key.specs.Link.{EndsUpTo}
+use Rattle.link_key.specs.declared.links.Link.{Link}
+use Rattle.link_key.specs.Forest.{IsForestOf}
+use Rattle.gr_text.specs.Graph.{Means, GraphValue, IsGraphOf}
+use Rattle.gr_text.specs.ForestText.{forest_text}
 use Rattle.gr_text.specs.Fault.{IsFirstFault}
 use Rattle.gr_text.specs.declared.faults.GrKind.{GrKind}
 
@@ -21,3 +26,16 @@ NeverBoth = (text : List ℕ) (n : ℕ) (arcs : List Arc) (number : ℕ) (kind :
 abbrev pub HasOneFault : Type 0
 HasOneFault = (text : List ℕ) (number other : ℕ) (kind another : GrKind) → IsFirstFault text number kind → IsFirstFault text other another
     → (number ≡ other) × (kind ≡ another)
+
+-- the text of a forest means just its links, in their order
+abbrev pub ForestTextMeansItsLinks : Type 0
+ForestTextMeansItsLinks =
+    (n : ℕ) (forest : List Link) → n ≤ MAX_VERTICES → EndsUpTo n forest → length forest ≤ MAX_ARCS
+    → IsGraphOf (forest_text n forest) (record { vertices = n; links = forest })
+
+-- so the text of a forest is a graph's whose forest has that text again
+abbrev pub ForestTextGivesItself : Type 0
+ForestTextGivesItself =
+    (n : ℕ) (links forest : List Link) → n ≤ MAX_VERTICES → EndsUpTo n forest → length forest ≤ MAX_ARCS → IsForestOf links forest
+    → (graph : GraphValue) (its : List Link) → IsGraphOf (forest_text n forest) graph → IsForestOf graph.links its
+    → forest_text graph.vertices its ≡ forest_text n forest

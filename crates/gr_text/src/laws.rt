@@ -1,5 +1,5 @@
 //! What the definitions promise of every text, each as the contract of a function that does nothing.
-ghost use Rattle.gr_text.specs.Laws.{HasOneFault, MeansOneGraph, MeansOrFails, NeverBoth};
+ghost use Rattle.gr_text.specs.Laws.{ForestTextGivesItself, ForestTextMeansItsLinks, HasOneFault, MeansOneGraph, MeansOrFails, NeverBoth};
 
 /// A text means one graph at the most.
 pub fn a_text_means_one_graph()
@@ -15,4 +15,10 @@ pub fn a_text_means_a_graph_or_has_a_fault()
 /// A text has one first fault at the most: one line, and one kind.
 pub fn a_text_has_one_first_fault()
     ensures { HasOneFault }
+{}
+
+/// The text of a forest means just its links, and the forest of these has that text again.
+pub fn a_forest_text_means_its_links()
+    ensures links { ForestTextMeansItsLinks }
+    ensures itself { ForestTextGivesItself }
 {}
