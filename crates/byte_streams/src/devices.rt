@@ -1,5 +1,7 @@
 //! Files, standard streams and sockets, and a wrapper for any other reader or writer of std. Nobody
-//! counts the failures of a device, so these tell none; nor does std tell a device's bytes.
+//! counts the failures of a device, so these tell none; nor does std tell a device's bytes. So no clause sees
+//! that a device is called once, nor that its failure isn't told as its end. That is tested: of [`Untold`] by
+//! readers and writers that fail once, of the others over the built program.
 ghost use Rattle.std.specs.Prelude.{◌<◌, length, None};
 ghost use Rattle.std.specs.Io.{ReadsAtMost, WritesAtMost};
 ghost use Rattle.byte_streams.specs.Streams.{tells_left, tells_held, ReadGave, WriteTook, FlushTook};

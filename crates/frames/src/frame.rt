@@ -44,8 +44,9 @@ impl<A: Allocator> Links<A> {
     }
 }
 
-/// What a worker answers to an ask: the round and the shard that it was asked for, and for each component
-/// that a link of the shard leaves the place of the least one.
+/// What a worker answers to an ask: a round and a shard, and a place in the shard for each of some components.
+/// They are to be the round and the shard of the ask, each component that a link of the shard leaves, and the
+/// place of the least such link: a worker keeps to that, and nothing here tests it.
 #[derive(Drop)]
 pub struct Answer<A: Allocator = Global> {
     pub round: u32,

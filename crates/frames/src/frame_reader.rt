@@ -23,9 +23,10 @@ const PIECE: usize = 65_536;
 /// frame, `Device` where a read failed; else the fault of the head or of the body. After a fault no
 /// more of the stream was taken than the frame.
 ///
-/// The body grows by pieces of at most 65,536 bytes as they come, so a head that announces more than
-/// the stream has costs no more than about twice what came. `Memory` where such a growth was refused, or
-/// that of the list made of the body.
+/// The body grows by pieces of at most 65,536 bytes, and room for a piece is taken before it comes. So a head
+/// that announces more than the stream has costs at most 65,536 bytes at first, however little comes; once a whole
+/// piece came, at most twice what came, and three times that while it moves to a larger block. `Memory` where
+/// such a growth was refused, or that of the list made of the body.
 pub fn read_frame<A: Allocator + Copy, S: Source>(
     alloc: A,
     source: &mut S,
