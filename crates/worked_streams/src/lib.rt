@@ -1,12 +1,13 @@
-//! Worked examples of streams of bytes and of frames, each a test that needs public calls alone. What an example is
-//! for, and where a new one goes, stands at the head of `worked_examples`.
+//! Worked examples of streams of bytes, of frames, and of the memory that tests stand on, each a test that needs public
+//! calls alone. What an example is for, and where a new one goes, stands at the head of `worked_examples`.
 //!
 //! ```text
 //!   streams, failing_devices     sources and sinks, and those that fail
 //!   given_streams                frames of a source that tells only what it gave
 //!   frames_codec                 frames and their bytes, each refusal, and what it is told as
-//!   memory_of_frames             which blocks of memory live after a frame is read
-//!   sizes                        frames past the size of every inner piece
+//!   memory_of_frames             which blocks of memory frames take, and which live after one is read
+//!   refused_in_turn              work whose allocations are refused in turn, with a flaw and without one
+//!   sizes                        frames at the size of every inner piece, beside it and past it
 //! ```
 #![tactic(auto)]
 
@@ -18,6 +19,8 @@ mod frames_codec;
 mod given_streams;
 #[cfg(test)]
 mod memory_of_frames;
+#[cfg(test)]
+mod refused_in_turn;
 #[cfg(test)]
 mod sizes;
 #[cfg(test)]
