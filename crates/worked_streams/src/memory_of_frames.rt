@@ -1,7 +1,12 @@
-// Frames that are read from bytes: the body's block, and the list that is made of it.
-use frames::{FrameFault, read_frame};
+// Frames that are read from bytes: the body's block, and the list that is made of it. Frames that are written: the
+// text's one block.
+use frames::{
+    FrameFault, decode_body, decode_head, encode, encode_ask, encode_ask_over, read_frame,
+};
+use link_key::Labels;
 use std::alloc::Global;
 use std::process::Abort;
+use std::test::Fail;
 use test_memory::{Refusals, Refusing};
 
 const HELLO: [u8; 11] = [1, 0, 0, 0, 6, 0, 1, 0, 0, 0, 0];
@@ -98,4 +103,80 @@ fn what_came_before_a_refusal_is_dropped(rt: HostRuntime) {
         }
         assert_eq!(rt; (memory.given(), memory.live()), (number - 1, 0));
     }
+}
+
+// A head promises 2^28 bytes and more, and few come. The body is given room for one piece of 65,536 bytes before any
+// has come, and then a new block, twice as large, only once that one is full.
+#[test]
+fn a_body_is_given_room_as_it_comes(rt: HostRuntime) -> Result<(), Fail> {
+    for (pieces, blocks) in [(0, 1), (1, 2), (2, 3), (3, 3), (4, 4), (7, 4), (8, 5)] {
+        let mut bytes = Vec::from_slice(rt.alloc(), &[3, 16, 0, 0, 12])?;
+        bytes.resize(6 + 65_536 * pieces, 0)?;
+        let memory = Refusing::new(rt.alloc(), Refusals::none());
+        match read_frame(&memory, &mut bytes.as_slice()) {
+            Ok(_) => assert!(rt; false),
+            Err(fault) => assert_eq!(rt; fault, FrameFault::Torn),
+        }
+        assert_eq!(rt;
+            (memory.given(), memory.live()),
+            (blocks, 0),
+            "{pieces} pieces"
+        );
+    }
+    Ok(())
+}
+
+// A text is given its whole room once, and a body's list too, whatever their size.
+fn expect_one_block(rt: &impl Abort, alloc: Global, bytes: &[u8]) -> Result<(), Fail> {
+    let memory = Refusing::new(alloc, Refusals::none());
+    let Some((first, body)) = bytes.split_first_chunk::<5>() else {
+        panic!(rt; "a head");
+    };
+    let head = decode_head(first)?;
+    assert!(rt; body.len() == head.length as usize);
+    let frame = decode_body(alloc, head, body)?;
+    assert!(rt; frame.is_lawful());
+    let text = encode(&memory, &frame)?;
+    assert!(rt; text.as_slice() == bytes);
+    assert_eq!(rt; memory.given(), 1);
+    let _listed = decode_body(&memory, head, body)?;
+    assert_eq!(rt; memory.given(), 2);
+    Ok(())
+}
+
+#[test]
+fn a_text_is_given_one_block(rt: HostRuntime) -> Result<(), Fail> {
+    let labels = Labels::apart(rt.alloc(), 20_000)?;
+    let long = encode_ask(rt.alloc(), 1, 0, &labels)?;
+    for bytes in [SHARD.as_slice(), &ASK, &ANSWER, long.as_slice()] {
+        expect_one_block(&rt, rt.alloc(), bytes)?;
+    }
+    Ok(())
+}
+
+// An ask takes the room of the text before it, and a new block, of its whole size, only where it is longer.
+#[test]
+fn an_ask_in_place_of_another_takes_its_room(rt: HostRuntime) -> Result<(), Fail> {
+    let memory = Refusing::new(rt.alloc(), Refusals::none());
+    let mut text = Vec::new(&memory);
+    for (count, blocks) in [
+        (3, 1),
+        (2, 1),
+        (0, 1),
+        (3, 1),
+        (3, 1),
+        (5_000, 2),
+        (20, 2),
+        (5_000, 2),
+        (20_000, 3),
+    ] {
+        assert!(rt; count <= 20_000);
+        let labels = Labels::apart(rt.alloc(), count)?;
+        encode_ask_over(&mut text, 1, 0, &labels)?;
+        assert_eq!(rt;
+            (memory.given(), text.len()),
+            (blocks, 17 + 4 * count as usize)
+        );
+    }
+    Ok(())
 }

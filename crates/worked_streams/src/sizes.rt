@@ -1,30 +1,17 @@
-// Frames past the size of every inner piece: 10,000 links, and a body that is read in three pieces. A body that gives
-// up past some size is proved as well as one that doesn't. What is expected is written by a formula, here.
+// Frames at the size of every inner piece, one less and one more, up to twice the largest of them and past it. A body that
+// gives up at some size is proved as well as one that doesn't. What is expected is written by a formula, here.
+//
+// Labels are turned into bytes 1,024 at a time. A body is read in pieces of 65,536 bytes: 12 and 4 for each label are
+// just so many for 16,381 labels; 8 and 12 for each link, and 12 and 8 for each offer, come to no whole piece.
 use byte_streams::FusedSource;
 use frames::{
     Answer, Frame, Links, decode_body, decode_head, encode, encode_ask, encode_ask_over,
     encode_shard, read_frame, read_frame_after,
 };
 use link_key::{Labels, Link, Offers, Shard};
-use std::alloc::{AllocError, Global};
+use std::alloc::Global;
 use std::process::Abort;
 use std::test::Fail;
-use worked_graphs::{Row, links_of};
-
-const MANY: u32 = 10_000;
-
-// A body is read in pieces of 65,536 bytes, so so many links of 12 bytes are three pieces, the last of them not whole.
-const MORE: u32 = 12_000;
-
-// The arcs of a path from vertex 1 on, each as heavy as its first vertex: in key order, and each one in the forest.
-fn path(alloc: Global, count: u32) -> Result<Vec<Row>, AllocError> {
-    let mut arcs = Vec::new(alloc);
-    for v in 0..count {
-        let first = v.wrapping_add(1);
-        arcs.push((first, first.wrapping_add(1), first.cast_signed()))?;
-    }
-    Ok(arcs)
-}
 
 // Four bytes, the highest first.
 fn put_number(text: &mut Vec<u8>, number: u32) -> Result<(), Fail> {
@@ -32,62 +19,69 @@ fn put_number(text: &mut Vec<u8>, number: u32) -> Result<(), Fail> {
     Ok(())
 }
 
-// The numbers 1, 2, .. up to this one.
-fn numbers(alloc: Global, count: u32) -> Result<Vec<u32>, AllocError> {
-    let mut list = Vec::new(alloc);
-    for v in 0..count {
-        list.push(v.wrapping_add(1))?;
-    }
-    Ok(list)
-}
-
-// The bytes of a SHARD with these links, of which there are so many.
-fn shard_bytes(alloc: Global, number: u32, count: u32, links: &[Link]) -> Result<Vec<u8>, Fail> {
-    let mut text = Vec::from_slice(alloc, &[2])?;
-    put_number(&mut text, count.wrapping_mul(12).wrapping_add(8))?;
-    put_number(&mut text, number)?;
-    put_number(&mut text, count)?;
-    for link in links {
-        put_number(&mut text, link.low)?;
-        put_number(&mut text, link.high)?;
-        put_number(&mut text, link.weight.cast_unsigned())?;
+// The text of a frame of this kind, whose body is these numbers.
+fn frame_bytes(rt: &impl Abort, alloc: Global, kind: u8, numbers: &[u32]) -> Result<Vec<u8>, Fail> {
+    assert!(rt; numbers.len() < 1 << 30);
+    let mut text = Vec::from_slice(alloc, &[kind])?;
+    put_number(&mut text, numbers.len() as u32 * 4)?;
+    for number in numbers {
+        put_number(&mut text, *number)?;
     }
     Ok(text)
 }
 
+fn text_of(rt: &impl Abort, alloc: Global, frame: &Frame) -> Result<Vec<u8>, Fail> {
+    assert!(rt; frame.is_lawful());
+    Ok(encode(alloc, frame)?)
+}
+
 // The frame's text is these bytes, and it is what they are read as, whole, in pieces, and as a head and a body.
 fn expect_text(rt: &impl Abort, alloc: Global, frame: &Frame, bytes: &[u8]) -> Result<(), Fail> {
-    assert!(rt; frame.is_lawful());
-    assert_eq!(rt; encode(alloc, frame)?.as_slice(), bytes);
-    let whole = read_frame(alloc, &mut &*bytes)?;
-    assert!(rt; whole.is_lawful());
-    assert_eq!(rt; encode(alloc, &whole)?.as_slice(), bytes);
-    let mut slow = FusedSource::new(Vec::from_slice(alloc, bytes)?, usize::MAX, 1000);
-    let pieced = read_frame(alloc, &mut slow)?;
-    assert!(rt; pieced.is_lawful());
-    assert_eq!(rt; encode(alloc, &pieced)?.as_slice(), bytes);
+    let slow = FusedSource::new(Vec::from_slice(alloc, bytes)?, usize::MAX, 1000);
     let Some((first, body)) = bytes.split_first_chunk::<5>() else {
         panic!(rt; "a head");
     };
     let head = decode_head(first)?;
     assert!(rt; body.len() == head.length as usize);
+    let whole = read_frame(alloc, &mut &*bytes)?;
+    let pieced = read_frame(alloc, &mut { slow })?;
     let decoded = decode_body(alloc, head, body)?;
-    assert!(rt; decoded.is_lawful());
-    assert_eq!(rt; encode(alloc, &decoded)?.as_slice(), bytes);
+    for each in [frame, &whole, &pieced, &decoded] {
+        let text = text_of(rt, alloc, each)?;
+        assert!(rt; text.as_slice() == bytes, "{} bytes", bytes.len());
+    }
     Ok(())
 }
 
+// The links of a path from vertex 1 on. The first has the least weight, and the others those from the greatest down.
+fn path(rt: &impl Abort, alloc: Global, count: u32) -> Result<Vec<Link>, Fail> {
+    assert!(rt; count <= 1 << 24);
+    let mut links = Vec::new(alloc);
+    for before in 0..count {
+        let weight = i32::MIN.wrapping_sub(before.cast_signed());
+        if let Some(link) = Link::of_arc(before + 1, before + 2, weight) {
+            links.push(link)?;
+        }
+    }
+    Ok(links)
+}
+
 fn expect_shard(rt: &impl Abort, alloc: Global, number: u32, count: u32) -> Result<(), Fail> {
-    let arcs = path(alloc, count)?;
-    assert!(rt; count <= MORE && number < 4096);
-    let links = links_of(alloc, count + 1, arcs.as_slice())?.expect(rt, "arcs");
-    let bytes = shard_bytes(alloc, number, count, links.as_slice())?;
+    let links = path(rt, alloc, count)?;
+    let mut numbers = Vec::from_slice(alloc, &[number, count])?;
+    for link in &links {
+        numbers.extend_from_slice(&[link.low, link.high, link.weight.cast_unsigned()])?;
+    }
+    let bytes = frame_bytes(rt, alloc, 2, numbers.as_slice())?;
     let shard = Shard {
         number,
         links: links.as_slice(),
     };
-    assert!(rt; shard.links.len() <= 1 << 24);
-    assert_eq!(rt; encode_shard(alloc, &shard)?.as_slice(), bytes.as_slice());
+    assert!(rt; number < 4096 && shard.links.len() <= 1 << 24);
+    assert!(rt;
+        encode_shard(alloc, &shard)?.as_slice() == bytes.as_slice(),
+        "{count} links"
+    );
     let frame = Frame::Shard {
         number,
         links: Links::of_list(links),
@@ -96,63 +90,99 @@ fn expect_shard(rt: &impl Abort, alloc: Global, number: u32, count: u32) -> Resu
 }
 
 #[test]
-fn shards_of_none_one_and_many_links(rt: HostRuntime) -> Result<(), Fail> {
-    expect_shard(&rt, rt.alloc(), 0, 0)?;
-    expect_shard(&rt, rt.alloc(), 4095, 1)?;
-    expect_shard(&rt, rt.alloc(), 7, MANY)?;
-    expect_shard(&rt, rt.alloc(), 7, MORE)
+fn shards_of_so_many_links(rt: HostRuntime) -> Result<(), Fail> {
+    for count in [
+        0, 1, 5_460, 5_461, 5_462, 10_000, 12_000, 21_845, 21_846, 100_001,
+    ] {
+        expect_shard(&rt, rt.alloc(), 7, count)?;
+    }
+    expect_shard(&rt, rt.alloc(), 0, 1)?;
+    expect_shard(&rt, rt.alloc(), 4095, 1)
 }
 
-#[test]
-fn an_ask_of_many_labels(rt: HostRuntime) -> Result<(), Fail> {
-    let list = numbers(rt.alloc(), 3 * MORE)?;
-    let mut bytes = Vec::from_slice(rt.alloc(), &[3])?;
-    put_number(&mut bytes, 12 * MORE + 12)?;
-    put_number(&mut bytes, 5)?;
-    put_number(&mut bytes, 4095)?;
-    put_number(&mut bytes, 3 * MORE)?;
-    for label in &list {
-        put_number(&mut bytes, *label)?;
+// Each vertex has its own label.
+fn apart(rt: &impl Abort, alloc: Global, count: u32) -> Result<Labels, Fail> {
+    assert!(rt; count <= 1 << 26);
+    Ok(Labels::apart(alloc, count)?)
+}
+
+// An ask of so many labels, alone and over the text of another one, and read behind that one and behind itself.
+fn expect_ask(rt: &impl Abort, alloc: Global, before: u32, count: u32) -> Result<(), Fail> {
+    let labels = apart(rt, alloc, count)?;
+    let mut numbers = Vec::from_slice(alloc, &[5, 4095, count])?;
+    for before in 0..count {
+        numbers.push(before + 1)?;
     }
-    let labels = Labels::of_list(list).expect(&rt, "labels");
-    assert_eq!(rt;
-        encode_ask(rt.alloc(), 5, 4095, &labels)?.as_slice(),
-        bytes.as_slice()
+    let bytes = frame_bytes(rt, alloc, 3, numbers.as_slice())?;
+    let last = apart(rt, alloc, before)?;
+    let mut text = encode_ask(alloc, 4, 7, &last)?;
+    encode_ask_over(&mut text, 5, 4095, &labels)?;
+    assert!(rt;
+        text.as_slice() == bytes.as_slice(),
+        "{count} labels over {before}"
     );
-    let mut text = Vec::new(rt.alloc());
-    for shard in [4095, 7, 4095] {
-        encode_ask_over(&mut text, 5, shard, &labels)?;
+    let alone = encode_ask(alloc, 5, 4095, &labels)?;
+    assert!(rt; alone.as_slice() == bytes.as_slice(), "{count} labels");
+    for behind in [&last, &labels] {
+        let again = read_frame_after(alloc, &mut text.as_slice(), behind.as_slice())?;
+        let same = text_of(rt, alloc, &again)?;
+        assert!(rt;
+            same.as_slice() == bytes.as_slice(),
+            "{count} labels behind {}",
+            behind.n()
+        );
     }
-    assert_eq!(rt; text.as_slice(), bytes.as_slice());
-    let again = read_frame_after(rt.alloc(), &mut text.as_slice(), labels.as_slice())?;
-    assert!(rt; again.is_lawful());
-    assert_eq!(rt; encode(rt.alloc(), &again)?.as_slice(), bytes.as_slice());
     let frame = Frame::Ask {
         round: 5,
         shard: 4095,
         labels,
     };
-    expect_text(&rt, rt.alloc(), &frame, bytes.as_slice())
+    expect_text(rt, alloc, &frame, bytes.as_slice())
 }
 
 #[test]
-fn an_answer_of_many_offers(rt: HostRuntime) -> Result<(), Fail> {
-    let mut pairs = Vec::new(rt.alloc());
-    let mut bytes = Vec::from_slice(rt.alloc(), &[4])?;
-    put_number(&mut bytes, 16 * MORE + 12)?;
-    put_number(&mut bytes, 5)?;
-    put_number(&mut bytes, 6)?;
-    put_number(&mut bytes, 2 * MORE)?;
-    for label in &numbers(rt.alloc(), 2 * MORE)? {
-        pairs.push((*label, label.wrapping_mul(3)))?;
-        put_number(&mut bytes, *label)?;
-        put_number(&mut bytes, label.wrapping_mul(3))?;
+fn asks_of_so_many_labels(rt: HostRuntime) -> Result<(), Fail> {
+    let rows = [
+        (0, 0),
+        (3, 0),
+        (0, 1),
+        (1, 1_023),
+        (1_023, 1_024),
+        (1_024, 1_025),
+        (2_048, 16_380),
+        (16_380, 16_381),
+        (36_000, 16_382),
+        (16_382, 32_765),
+        (1, 36_000),
+        (36_000, 36_000),
+    ];
+    for (before, count) in rows {
+        expect_ask(&rt, rt.alloc(), before, count)?;
     }
-    let offers = Offers::of_pairs(pairs).expect(&rt, "ascending");
+    Ok(())
+}
+
+fn expect_answer(rt: &impl Abort, alloc: Global, count: u32) -> Result<(), Fail> {
+    let mut pairs = Vec::new(alloc);
+    let mut numbers = Vec::from_slice(alloc, &[5, 6, count])?;
+    for before in 0..count {
+        let pair = (before + 1, before.wrapping_mul(3));
+        pairs.push(pair)?;
+        numbers.extend_from_slice(&[pair.0, pair.1])?;
+    }
+    let bytes = frame_bytes(rt, alloc, 4, numbers.as_slice())?;
     let frame = Frame::Answer(Answer {
         round: 5,
         shard: 6,
-        offers,
+        offers: Offers::of_pairs(pairs).expect(rt, "ascending"),
     });
-    expect_text(&rt, rt.alloc(), &frame, bytes.as_slice())
+    expect_text(rt, alloc, &frame, bytes.as_slice())
+}
+
+#[test]
+fn answers_of_so_many_offers(rt: HostRuntime) -> Result<(), Fail> {
+    for count in [0, 1, 8_189, 8_190, 8_191, 24_000, 100_001] {
+        expect_answer(&rt, rt.alloc(), count)?;
+    }
+    Ok(())
 }

@@ -28,6 +28,33 @@ fn puts_into_a_vector(rt: HostRuntime) -> Result<(), Fail> {
     Ok(())
 }
 
+// Texts past every piece in which bytes are read or written anywhere, into a vector that grows, and out of a slice again.
+#[test]
+fn texts_of_any_size_go_in_and_out(rt: HostRuntime) -> Result<(), Fail> {
+    for size in [65_535, 65_536, 65_537, 1_000_000] {
+        let mut text = Vec::new(rt.alloc());
+        for number in 0..size {
+            text.push((number % 251) as u8)?;
+        }
+        let mut sink = Vec::new(rt.alloc());
+        for before in 0..3 {
+            let written = before * size;
+            assert_eq!(rt;
+                put(&mut sink, written, text.as_slice()),
+                Ok(written + size)
+            );
+        }
+        let mut source = sink.as_slice();
+        for _ in 0..3 {
+            let mut buf = vec![in rt.alloc(); 0; size as usize]?;
+            assert_eq!(rt; fill(&mut source, &mut buf), Ok(()));
+            assert!(rt; buf.as_slice() == text.as_slice(), "{size} bytes");
+        }
+        assert!(rt; source.is_empty());
+    }
+    Ok(())
+}
+
 // Five bytes in pieces of two: `passes` of them come before the source fails.
 #[test]
 fn source_fails_after_its_passes(rt: HostRuntime) -> Result<(), Fail> {
