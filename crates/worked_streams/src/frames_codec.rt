@@ -38,14 +38,6 @@ fn triangle(alloc: Global) -> Result<Vec<Link>, AllocError> {
     Ok(links)
 }
 
-fn expect_fault(rt: &impl Abort, alloc: Global, bytes: &[u8], expected: FrameFault) {
-    let mut source = bytes;
-    match read_frame(alloc, &mut source) {
-        Ok(_) => assert!(rt; false),
-        Err(fault) => assert_eq!(rt; fault, expected),
-    }
-}
-
 // The frame's text is these bytes, and it is what they are read as, and no more is taken.
 fn expect_text(rt: &impl Abort, alloc: Global, frame: &Frame, bytes: &[u8]) -> Result<(), Fail> {
     assert!(rt; frame.is_lawful());
@@ -243,114 +235,97 @@ fn fault_for_a_shard_not_held(rt: HostRuntime) -> Result<(), Fail> {
     expect_text(&rt, rt.alloc(), &frame, &FAULT)
 }
 
-#[test]
-fn lists_that_are_not_lawful(rt: HostRuntime) {
-    let descending = [
-        4, 0, 0, 0, 28, 0, 0, 0, 1, 0, 0, 0, 0, 0, 0, 0, 2, 0, 0, 0, 2, 0, 0, 0, 0, 0, 0, 0, 1, 0,
-        0, 0, 0,
-    ];
-    expect_fault(&rt, rt.alloc(), &descending, FrameFault::BadField);
-    let mut label_of_another = ASK;
-    label_of_another[24] = 1;
-    label_of_another[28] = 2;
-    expect_fault(&rt, rt.alloc(), &label_of_another, FrameFault::BadField);
-}
-
-#[test]
-fn streams_that_end(rt: HostRuntime) {
-    expect_fault(&rt, rt.alloc(), &ANSWER[..40], FrameFault::Torn);
-    expect_fault(&rt, rt.alloc(), &ANSWER[..3], FrameFault::Torn);
-    expect_fault(&rt, rt.alloc(), &[], FrameFault::Ended);
-    expect_fault(&rt, rt.alloc(), &[3, 16, 0, 0, 12], FrameFault::Torn);
-}
-
-#[test]
-fn heads_that_are_refused(rt: HostRuntime) {
-    expect_fault(&rt, rt.alloc(), &[6, 0, 0, 0, 0], FrameFault::BadKind);
-    expect_fault(&rt, rt.alloc(), &[1, 0, 0, 0, 7], FrameFault::BadLength);
-    expect_fault(&rt, rt.alloc(), &[4, 0, 0, 0, 13], FrameFault::BadLength);
-}
-
-#[test]
-fn fields_that_are_refused(rt: HostRuntime) {
-    let mut version_2 = HELLO;
-    version_2[6] = 2;
-    expect_fault(&rt, rt.alloc(), &version_2, FrameFault::BadVersion);
-    let mut worker_64 = HELLO;
-    worker_64[10] = 64;
-    expect_fault(&rt, rt.alloc(), &worker_64, FrameFault::BadField);
-    let mut code_4 = FAULT;
-    code_4[13] = 4;
-    expect_fault(&rt, rt.alloc(), &code_4, FrameFault::BadField);
-}
-
-// There are 4,096 shards, numbered from 0.
-#[test]
-fn shard_numbers_past_the_last(rt: HostRuntime) {
-    let mut shard = SHARD;
-    shard[7] = 16;
-    expect_fault(&rt, rt.alloc(), &shard, FrameFault::BadField);
-    let mut ask = ASK;
-    ask[11] = 16;
-    expect_fault(&rt, rt.alloc(), &ask, FrameFault::BadField);
-}
-
-// A count that isn't that of the items behind it, one less and one more.
-#[test]
-fn counts_that_are_wrong(rt: HostRuntime) {
-    for count in [2, 4] {
-        let mut shard = SHARD;
-        shard[12] = count;
-        expect_fault(&rt, rt.alloc(), &shard, FrameFault::BadField);
-        let mut ask = ASK;
-        ask[16] = count;
-        expect_fault(&rt, rt.alloc(), &ask, FrameFault::BadField);
-        let mut answer = ANSWER;
-        answer[16] = count;
-        expect_fault(&rt, rt.alloc(), &answer, FrameFault::BadField);
+// Each text, with these bytes put at their places, is refused with this fault.
+fn expect_refused(
+    rt: &impl Abort,
+    alloc: Global,
+    fault: FrameFault,
+    rows: &[(&[u8], &[(usize, u8)])],
+) -> Result<(), Fail> {
+    for (text, changes) in rows {
+        let mut bytes = Vec::from_slice(alloc, text)?;
+        for (place, byte) in *changes {
+            *bytes.get_mut(*place).expect(rt, "a place in the text") = *byte;
+        }
+        match read_frame(alloc, &mut bytes.as_slice()) {
+            Ok(_) => panic!(rt; "{text:?} with {changes:?} is read"),
+            Err(found) => assert_eq!(rt; found, fault, "{text:?} with {changes:?}"),
+        }
     }
-}
-
-// A link's ends are from 1 to 2^26, and differ.
-#[test]
-fn links_that_are_none(rt: HostRuntime) {
-    let mut low_0 = SHARD;
-    low_0[16] = 0;
-    expect_fault(&rt, rt.alloc(), &low_0, FrameFault::BadField);
-    let mut high_past_the_last = SHARD;
-    high_past_the_last[17] = 4;
-    high_past_the_last[20] = 1;
-    expect_fault(&rt, rt.alloc(), &high_past_the_last, FrameFault::BadField);
-    let mut turned_round = SHARD;
-    turned_round[16] = 3;
-    expect_fault(&rt, rt.alloc(), &turned_round, FrameFault::BadField);
-    let mut loop_at_2 = SHARD;
-    loop_at_2[16] = 2;
-    expect_fault(&rt, rt.alloc(), &loop_at_2, FrameFault::BadField);
+    Ok(())
 }
 
 #[test]
-fn lengths_of_heads(rt: HostRuntime) {
-    let links = Head {
-        kind: 2,
-        length: 0x0c00_0008,
-    };
-    assert_eq!(rt; decode_head(&[2, 12, 0, 0, 8]), Ok(links));
-    assert_eq!(rt; decode_head(&[2, 12, 0, 0, 20]), Err(FrameFault::BadLength));
-    let labels = Head {
-        kind: 3,
-        length: 0x1000_000c,
-    };
-    assert_eq!(rt; decode_head(&[3, 16, 0, 0, 12]), Ok(labels));
-    assert_eq!(rt; decode_head(&[3, 16, 0, 0, 16]), Err(FrameFault::BadLength));
-    let offers = Head {
-        kind: 4,
-        length: 0x1000_000c,
-    };
-    assert_eq!(rt; decode_head(&[4, 16, 0, 0, 12]), Ok(offers));
-    assert_eq!(rt; decode_head(&[4, 16, 0, 0, 20]), Err(FrameFault::BadLength));
-    assert_eq!(rt; decode_head(&[5, 0, 0, 0, 8]), Err(FrameFault::BadLength));
-    assert_eq!(rt; decode_head(&[0, 0, 0, 0, 9]), Err(FrameFault::BadKind));
+fn streams_that_end(rt: HostRuntime) -> Result<(), Fail> {
+    expect_refused(&rt, rt.alloc(), FrameFault::Ended, &[(&[], &[])])?;
+    let torn: [(&[u8], &[(usize, u8)]); 3] = [
+        (&ANSWER[..40], &[]),
+        (&ANSWER[..3], &[]),
+        (&[3, 16, 0, 0, 12], &[]),
+    ];
+    expect_refused(&rt, rt.alloc(), FrameFault::Torn, &torn)
+}
+
+#[test]
+fn fields_that_are_refused(rt: HostRuntime) -> Result<(), Fail> {
+    expect_refused(
+        &rt,
+        rt.alloc(),
+        FrameFault::BadVersion,
+        &[(&HELLO, &[(6, 2)])],
+    )?;
+    let rows: [(&[u8], &[(usize, u8)]); 17] = [
+        (&HELLO, &[(10, 64)]),
+        (&FAULT, &[(13, 4)]),
+        // There are 4,096 shards, numbered from 0.
+        (&SHARD, &[(7, 16)]),
+        (&ASK, &[(11, 16)]),
+        // A count that isn't that of the items behind it, one less and one more.
+        (&SHARD, &[(12, 2)]),
+        (&SHARD, &[(12, 4)]),
+        (&ASK, &[(16, 2)]),
+        (&ASK, &[(16, 4)]),
+        (&ANSWER, &[(16, 2)]),
+        (&ANSWER, &[(16, 4)]),
+        // A link's ends are from 1 to 2^26, and ascend.
+        (&SHARD, &[(16, 0)]),
+        (&SHARD, &[(17, 4), (20, 1)]),
+        (&SHARD, &[(16, 3)]),
+        (&SHARD, &[(16, 2)]),
+        // Vertex 3 with the label of vertex 2, whose own label is 1.
+        (&ASK, &[(24, 1), (28, 2)]),
+        // Components that descend, and one that stands twice.
+        (&ANSWER, &[(20, 2), (28, 1)]),
+        (&ANSWER, &[(28, 1)]),
+    ];
+    expect_refused(&rt, rt.alloc(), FrameFault::BadField, &rows)
+}
+
+// At most 2^24 links, 2^26 labels and 2^25 offers, and whole ones.
+#[test]
+fn heads(rt: HostRuntime) {
+    let rows = [
+        ([1, 0, 0, 0, 6], Ok(6)),
+        ([2, 12, 0, 0, 8], Ok(0x0c00_0008)),
+        ([3, 16, 0, 0, 12], Ok(0x1000_000c)),
+        ([4, 16, 0, 0, 12], Ok(0x1000_000c)),
+        ([5, 0, 0, 0, 9], Ok(9)),
+        ([0, 0, 0, 0, 9], Err(FrameFault::BadKind)),
+        ([6, 0, 0, 0, 0], Err(FrameFault::BadKind)),
+        ([1, 0, 0, 0, 7], Err(FrameFault::BadLength)),
+        ([2, 12, 0, 0, 20], Err(FrameFault::BadLength)),
+        ([3, 16, 0, 0, 16], Err(FrameFault::BadLength)),
+        ([4, 0, 0, 0, 13], Err(FrameFault::BadLength)),
+        ([4, 16, 0, 0, 20], Err(FrameFault::BadLength)),
+        ([5, 0, 0, 0, 8], Err(FrameFault::BadLength)),
+    ];
+    for (bytes, length) in rows {
+        let kind = bytes[0];
+        assert_eq!(rt;
+            decode_head(&bytes),
+            length.map(|length| Head { kind, length })
+        );
+    }
 }
 
 #[test]

@@ -4,7 +4,6 @@ ghost use Rattle.std.specs.Prelude.{Some, None, ◌≡◌, IfOk, ◌<◌, ◌-�
 use byte_streams::{Failed, FusedSource, Source};
 use frames::{Frame, FrameFault, read_frame};
 use std::alloc::Global;
-use std::process::Abort;
 use std::test::Fail;
 use test_memory::{Refusals, Refusing};
 
@@ -38,20 +37,6 @@ fn source_of(alloc: Global, bytes: &[u8], passes: usize) -> Result<GivenAlone, F
     Ok(GivenAlone(FusedSource::new(Vec::from_slice(alloc, bytes)?, passes, 3)))
 }
 
-fn expect_fault(
-    rt: &impl Abort,
-    alloc: Global,
-    bytes: &[u8],
-    passes: usize,
-    expected: FrameFault,
-) -> Result<(), Fail> {
-    match read_frame(alloc, &mut source_of(alloc, bytes, passes)?) {
-        Ok(_) => assert!(rt; false),
-        Err(fault) => assert_eq!(rt; fault, expected),
-    }
-    Ok(())
-}
-
 #[test]
 fn frames_that_follow_each_other_are_read_one_by_one(rt: HostRuntime) -> Result<(), Fail> {
     let mut bytes = Vec::from_slice(rt.alloc(), &HELLO)?;
@@ -71,40 +56,49 @@ fn frames_that_follow_each_other_are_read_one_by_one(rt: HostRuntime) -> Result<
     Ok(())
 }
 
+// Bytes that end, or a read that fails once so many were given, and what is told.
 #[test]
-fn a_stream_that_ends_is_torn_but_between_frames(rt: HostRuntime) -> Result<(), Fail> {
-    expect_fault(&rt, rt.alloc(), &[], 100, FrameFault::Ended)?;
-    expect_fault(&rt, rt.alloc(), &HELLO[..3], 100, FrameFault::Torn)?;
-    expect_fault(&rt, rt.alloc(), &HELLO[..10], 100, FrameFault::Torn)
-}
-
-#[test]
-fn a_read_that_fails_is_told_where_it_comes(rt: HostRuntime) -> Result<(), Fail> {
-    for passes in 0..11 {
-        expect_fault(&rt, rt.alloc(), &HELLO, passes, FrameFault::Device)?;
+fn each_fault_is_told_where_it_comes(rt: HostRuntime) -> Result<(), Fail> {
+    let rows: [(&[u8], usize, FrameFault); 19] = [
+        // A stream that ends is torn but between frames.
+        (&[], 100, FrameFault::Ended),
+        (&HELLO[..3], 100, FrameFault::Torn),
+        (&HELLO[..10], 100, FrameFault::Torn),
+        // A read fails behind each byte.
+        (&HELLO, 0, FrameFault::Device),
+        (&HELLO, 1, FrameFault::Device),
+        (&HELLO, 2, FrameFault::Device),
+        (&HELLO, 3, FrameFault::Device),
+        (&HELLO, 4, FrameFault::Device),
+        (&HELLO, 5, FrameFault::Device),
+        (&HELLO, 6, FrameFault::Device),
+        (&HELLO, 7, FrameFault::Device),
+        (&HELLO, 8, FrameFault::Device),
+        (&HELLO, 9, FrameFault::Device),
+        (&HELLO, 10, FrameFault::Device),
+        // A bad head is told by its kind and then its length.
+        (&[6, 0, 0, 0, 6], 100, FrameFault::BadKind),
+        (&[0, 0, 0, 0, 7], 100, FrameFault::BadKind),
+        (&[1, 0, 0, 0, 7], 100, FrameFault::BadLength),
+        // A bad body by its version and then its fields.
+        (
+            &[1, 0, 0, 0, 6, 0, 2, 0, 0, 0, 64],
+            100,
+            FrameFault::BadVersion,
+        ),
+        (
+            &[1, 0, 0, 0, 6, 0, 1, 0, 0, 0, 64],
+            100,
+            FrameFault::BadField,
+        ),
+    ];
+    for (bytes, passes, expected) in rows {
+        match read_frame(rt.alloc(), &mut source_of(rt.alloc(), bytes, passes)?) {
+            Ok(_) => assert!(rt; false),
+            Err(fault) => assert_eq!(rt; fault, expected, "{bytes:?} after {passes}"),
+        }
     }
     Ok(())
-}
-
-#[test]
-fn a_bad_head_is_told_by_its_kind_and_then_its_length(rt: HostRuntime) -> Result<(), Fail> {
-    expect_fault(&rt, rt.alloc(), &[6, 0, 0, 0, 6], 100, FrameFault::BadKind)?;
-    expect_fault(&rt, rt.alloc(), &[0, 0, 0, 0, 7], 100, FrameFault::BadKind)?;
-    expect_fault(
-        &rt,
-        rt.alloc(),
-        &[1, 0, 0, 0, 7],
-        100,
-        FrameFault::BadLength,
-    )
-}
-
-#[test]
-fn a_bad_body_is_told_by_its_version_and_then_its_fields(rt: HostRuntime) -> Result<(), Fail> {
-    let other_version = [1, 0, 0, 0, 6, 0, 2, 0, 0, 0, 64];
-    expect_fault(&rt, rt.alloc(), &other_version, 100, FrameFault::BadVersion)?;
-    let worker_64 = [1, 0, 0, 0, 6, 0, 1, 0, 0, 0, 64];
-    expect_fault(&rt, rt.alloc(), &worker_64, 100, FrameFault::BadField)
 }
 
 // The body is the first growth, and the links are the second. A shard of another count is refused
