@@ -1,5 +1,5 @@
 //! The whole run by one thread, which scans the shards itself.
-ghost use Rattle.std.specs.Prelude.{◌≡◌, ◌≤◌, ◌++◌, List, length, All, Contains, IfOk, IfErr};
+ghost use Rattle.std.specs.Prelude.{◌≡◌, ◌≤◌, ◌^◌, ◌++◌, max, List, length, All, Contains, IfOk, IfErr};
 ghost use Rattle.link_key.specs.declared.links.Link.{Link as TheLink};
 ghost use Rattle.link_key.specs.Labels.{AreLabels};
 ghost use Rattle.link_key.specs.Cut.{joined};
@@ -36,6 +36,7 @@ pub fn solve_alone<A: Allocator + Copy>(
     requires ends { All (EndsUpTo n) cut.now }
     ensures forest { IfOk result (λ answer. IsForestOf (joined cut.now) answer.0) }
     ensures rounds { IfOk result (λ answer. IsMergingRounds n (joined cut.now) answer.1) }
+    ensures in_time { IfOk result (λ answer. 2 ^ answer.1 ≤ max 1 n) }
     ensures fault { IfErr result (λ fault. fault ≡ Memory) }
 {
     let mut solver = Solver::new(alloc, n)?;

@@ -1,4 +1,5 @@
-use Rattle.std.proofs.Common.{◌≡◌, ◌-◌, sym, subst, arith}
+use Rattle.std.proofs.Common.{◌≡◌, ℕ, ◌-◌, ◌≤◌, sym, subst, arith}
+use Rattle.std.specs.Prelude.{◌^◌, max}
 use Rattle.std.proofs.lemmas.Result.{err_from_is_err_and}
 use Rattle.link_key.specs.Link.{EndsUpTo}
 use Rattle.link_key.specs.Cut.{joined}
@@ -31,3 +32,11 @@ returns-clause-rounds g c =
     let end = ended c.args.n links c.rounds.solver p c.in_ok-go_round.field-0 c.rounds.invariant.same_vertices c.rounds.invariant.so_far c.in_default.is c.in_ok-go_round.ensures.round in
     let number : p.rounds ≡ c.round-rounds.result - 1 = omega (arith, c.round-rounds.ensures.round) in
     subst (λ r. IsMergingRounds c.args.n links r) number (subst (λ n. IsMergingRounds n links p.rounds) end.same_vertices end.all)
+
+pub returns-clause-in_time : goal.returns-clause-in_time
+returns-clause-in_time g c =
+    let links = joined c.args.cut.now in
+    let p : Progress = c.go_round.new.solver in
+    let end = ended c.args.n links c.rounds.solver p c.in_ok-go_round.field-0 c.rounds.invariant.same_vertices c.rounds.invariant.so_far c.in_default.is c.in_ok-go_round.ensures.round in
+    let number : p.rounds ≡ c.round-rounds.result - 1 = omega (arith, c.round-rounds.ensures.round) in
+    subst (λ (r : ℕ). 2 ^ r ≤ max 1 c.args.n) number (subst (λ (n : ℕ). 2 ^ p.rounds ≤ max 1 n) end.same_vertices c.round-rounds.ensures.progress.in_time)
