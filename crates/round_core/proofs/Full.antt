@@ -40,6 +40,12 @@ accepted p s a none = by_tests (a.round == p.round) (a.shard == s) (is_taken p s
     by_tests true false d e in_round for_shard free fit is_none = absurd (cc)
     by_tests false c d e in_round for_shard free fit is_none = absurd (cc)
 
+-- a shard that isn't taken is one of the cut
+pub free_within : (taken : List Bool) (s : ℕ) → get_or taken s true ≡ false → s < length taken
+free_within [] s free = absurd (cc)
+free_within (x ∷ taken) zero free = omega arith
+free_within (x ∷ taken) (suc s) free = omega (arith, free_within taken s free)
+
 -- which shards are taken once an answer is
 pub heard_here : (p : Page) (a : AnswerValue) (s t : ℕ) → s < length p.taken → a.shard ≡ s → t ≡ s → is_taken (heard p a) t ≡ true
 heard_here p a s t within for_s same = ap (λ k. get_or (set p.taken k true) t true) for_s ∙ ap (λ k. get_or (set p.taken s true) k true) same ∙ get_or-set_same p.taken s true true within

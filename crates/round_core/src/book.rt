@@ -132,9 +132,17 @@ impl<'a, A: Allocator> RoundBook<'a, A> {
         ensures same { OnErr result (self.new ≡ self.old) }
     {
         self.judge(shard, &answer)?;
-        self.taken[shard as usize] = true;
-        self.answers.push_reserved(answer);
+        self.take_allowed(answer);
         Ok(())
+    }
+
+    /// Takes an answer that `judge` allows for the shard that it names. It looks at no offer again, and takes no memory.
+    pub fn take_allowed(&mut self, answer: Answer<A>)
+        requires allowed { refusal self.old answer.shard answer ≡ None }
+        ensures took { self.new ≡ heard self.old answer }
+    {
+        self.taken[answer.shard as usize] = true;
+        self.answers.push_reserved(answer);
     }
 
     /// The picks of the round, once each shard has an answer: for each label the least link that leaves it among all

@@ -4,7 +4,8 @@
 //! What it promises:
 //! - [`RoundBook`] takes one answer for each shard of a cut, and refuses an answer of another round, for another shard,
 //!   for a shard that was answered, or that offers what is no outgoing link, in this order; it stays as it was then;
-//! - [`RoundBook::judge`] says the same without taking the answer, and neither takes memory;
+//! - [`RoundBook::judge`] says the same without taking the answer, and [`RoundBook::take_allowed`] takes one that it allows
+//!   without a second look at its offers; none of them takes memory;
 //! - [`RoundBook::close`] gives [`Picks`]: for each label the least link that leaves it among all links offered, so that
 //!   the order of the answers changes nothing;
 //! - [`laws::light_offers_are_taken`]: light offers for a missing shard are never refused;
