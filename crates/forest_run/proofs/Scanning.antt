@@ -1,6 +1,6 @@
 -- The coordinator's own scans.
 use Rattle.std.proofs.Common.{◌≡◌, ℕ, ◌+◌, ◌<◌, inl, inr, not, Bool, true, false, List, [], ◌∷◌, ◌++◌, length, get_or, refl, ap, sym, subst, ◌∙◌, arith, length-append, length-set, set, zero, suc}
-use Rattle.std.specs.Prelude.{All, count_by, Option, Some, None, Result, Ok, Err, IfErr, OnOk}
+use Rattle.std.specs.Prelude.{All, count_by}
 use Rattle.std.proofs.lemmas.List.Elements.{All-append}
 use Rattle.frames.specs.AnswerValue.{AnswerValue}
 use Rattle.round_core.specs.Page.{Page, missing, heard, is_taken}
@@ -16,10 +16,6 @@ use Rattle.ports.specs.Exchanges.{Exchange}
 use Rattle.forest_run.proofs.Takes.{taken_one, heard_append, taken_before, set_takes}
 use Rattle.forest_run.proofs.Passing.{light_before, same_round}
 use Rattle.forest_run.proofs.AsksThen.{either}
-
-pub took_of : {X E : Type 0} (Q : Type 0) (o : Option E) (r : Result X E) → IfErr r (λ e. o ≡ Some e) → OnOk r Q → o ≡ None → Q
-took_of Q o (Ok x) h q n = q
-took_of Q o (Err e) h q n = absurd (let k = sym n ∙ h in cc)
 
 one : (P : AnswerValue → Type 0) (t : AnswerValue) → P t → All P (t ∷ [])
 one P t p zero d b = p

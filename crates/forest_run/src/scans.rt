@@ -34,7 +34,7 @@ fn scan_one<R: Threads + Sync, A: Allocator + Copy + Send + Sync>(
         shard,
         offers,
     };
-    let _ = book.take(shard, answer);
+    book.take_allowed(answer);
     Ok(())
 }
 

@@ -18,7 +18,7 @@ fn take_kept<A: Allocator>(book: &mut RoundBook<A>, kept: &mut Vec<Answer<A>, A>
 {
     kept.reverse();
     while let Some(answer) = kept.pop() {
-        let _ = book.take(answer.shard, answer);
+        book.take_allowed(answer);
     }
 }
 
