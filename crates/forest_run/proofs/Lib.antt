@@ -1,5 +1,6 @@
 pub mod AsksThen
 pub mod OneAsk
+pub mod Ways
 pub mod Eaches
 pub mod Dealing
 pub mod Takes

@@ -66,6 +66,7 @@ fn visit<A: Allocator, P: Port<A>>(
     ensures seat { (seat.new.board ≡ seat.old.board) × (seat.new.number ≡ seat.old.number) }
     ensures asked { AsksWent P.state P.honest P.sound P.exchanged (IsKept book.now) (IsClosing book.now) port.old port.new (option_to_list result) }
     ensures held { held seat.new.events ≡ held seat.old.events ++ shards_of (option_to_list result) }
+    ensures shard { IfSome result (λ a. a.shard ≡ shard) }
     ensures opened { IfSome result (λ _. (P.state port.new).is_open ≡ true) }
     ensures taken { IfSome result (IsTaken book.now) }
     ensures light { IfSome result (λ a. P.honest port.old → IsLight book.now a) }
@@ -105,7 +106,7 @@ fn next_shard(first: u32, step: u32, shards: u32) -> u32
     (first + step) % shards
 }
 
-#[tactic(auto, using(crate::proofs::AsksThen::asks_then, crate::proofs::AsksThen::stayed))]
+#[tactic(auto, using(crate::proofs::AsksThen::asks_then, crate::proofs::AsksThen::stayed, crate::proofs::Ways::none_passed))]
 // Asks the port for each shard that the seat wins, once round all of them. A closed port ends it.
 fn go_round<A: Allocator, P: Port<A>>(
     board: &Board<A>,

@@ -26,7 +26,8 @@
 //! - A port is closed only where an ask of it failed or found no memory, or where the round's book refuses its answer to
 //!   the last ask. No answer of an honest port is refused.
 //! - The counts: the asks of all ports and the ports that are open add up, before and after, with the answers taken.
-//! - No clause speaks of the order in which answers come.
+//! - What a ferry keeps comes in the order of its way round the shards, from a place of its own on. No other clause speaks
+//!   of the order in which answers come.
 //!
 //! ```text
 //!     run_lines            read, cut, a wire and a lane for each line, solve, the lines out again, write

@@ -1,11 +1,13 @@
-use Rattle.std.proofs.Common.{◌≡◌, ap, sym, ◌∙◌, ◌++◌, ◌∷◌, [], arith, rules, append-nil}
+use Rattle.std.proofs.Common.{◌≡◌, ◌+◌, ap, sym, subst, ◌∙◌, ◌++◌, ◌∷◌, [], arith, rules, append-nil}
 use Rattle.std.proofs.lemmas.List.{map-append}
 use Rattle.std.proofs.lemmas.List.Elements.{All-append}
 use Rattle.std.proofs.lemmas.Grind.{common_steps}
 use Rattle.std.specs.Prelude.{All, vec_len, vec_capacity}
 use Rattle.frames.specs.AnswerValue.{AnswerValue}
 use Rattle.forest_run.specs.Asks.{IsTaken, IsLight, shards_of}
+use Rattle.forest_run.specs.Ferries.{first_of, AreOnWay}
 use Rattle.forest_run.proofs.AsksThen.{asks_then, one_round}
+use Rattle.forest_run.proofs.Ways.{passed_on, passed_one, whole_way}
 use Rattle.forest_run.proofs.ferry.go_round.Goals as goal
 use Rattle.forest_run.proofs.ferry.go_round.Goals.{in-Some, in-None+else-not-is_open}
 
@@ -23,6 +25,24 @@ returns-then-not-is_open g c =
       seat = (v.seat.0 ∙ i.board, v.seat.1 ∙ i.number, v.held ∙ (append-nil _ ∙ i.held));
       taken = i.taken;
       light = i.light;
+      way = whole_way c.args.board.now c.args.seat.now c.first_shard-first.result c.len-shards.result c.loop-step.step (shards_of c.loop-step.kept.items)
+          c.requires.ready.seat.of_board (c.requires.ready.board_is.shards ∙ sym c.len-shards.ensures.shards)
+          (c.first_shard-first.ensures.first ∙ (ap (λ s. first_of s c.args.seats c.len-shards.result) c.number.ensures.number ∙ ap (λ k. first_of c.args.seat.now.number k c.len-shards.result) c.requires.seats))
+          i.steps i.way;
+    }
+
+pub returns : goal.returns
+returns g c =
+    let i = c.loop-step.invariant in
+    record {
+      asked = i.asked;
+      seat = (i.board, i.number, i.held);
+      taken = i.taken;
+      light = i.light;
+      way = whole_way c.args.board.now c.args.seat.now c.first_shard-first.result c.len-shards.result c.loop-step.step (shards_of c.loop-step.kept.items)
+          c.requires.ready.seat.of_board (c.requires.ready.board_is.shards ∙ sym c.len-shards.ensures.shards)
+          (c.first_shard-first.ensures.first ∙ (ap (λ s. first_of s c.args.seats c.len-shards.result) c.number.ensures.number ∙ ap (λ k. first_of c.args.seat.now.number k c.len-shards.result) c.requires.seats))
+          i.steps i.way;
     }
 
 pub loop-step-preserved : goal.loop-step-preserved
@@ -43,6 +63,9 @@ loop-step-preserved g c = elim c.match-visit.branch [
         light = λ h. All-append (IsLight c.args.book.now) _ _ (i.light h) (All-one (IsLight c.args.book.now) a (v.light (i.asked.honest_is h)));
         count = rw (ap vec_len w.kept-is, w.push_reserved.ensures.len) (omega arith);
         capacity = ap vec_capacity w.kept-is ∙ (w.push_reserved.ensures.capacity ∙ i.capacity);
+        steps = omega (arith, c.loop-step-test.true);
+        way = subst (λ xs. AreOnWay c.first_shard-first.result c.len-shards.result (c.loop-step.step + 1) xs) held
+            (passed_one c.first_shard-first.result c.len-shards.result c.loop-step.step (shards_of c.loop-step.kept.items) a.shard (v.shard ∙ c.next_shard.ensures.shard) i.way);
       }))
   | in-None+else-not-is_open w ↦ (
       let i = c.loop-step.invariant in
@@ -59,5 +82,7 @@ loop-step-preserved g c = elim c.match-visit.branch [
         light = i.light;
         count = rw (ap vec_len w.kept-is) (omega arith);
         capacity = ap vec_capacity w.kept-is ∙ i.capacity;
+        steps = omega (arith, c.loop-step-test.true);
+        way = passed_on c.first_shard-first.result c.len-shards.result c.loop-step.step (c.loop-step.step + 1) (shards_of c.loop-step.kept.items) (omega arith) i.way;
       }))
 ]

@@ -2,6 +2,7 @@ use Rattle.std.proofs.Common.{◌≡◌, ◌≤◌, true, vec_len}
 use Rattle.std.specs.Prelude.{All, vec_capacity}
 use Rattle.claim_board.specs.Machine.{held}
 use Rattle.forest_run.specs.Asks.{AsksWent, IsKept, IsClosing, IsTaken, IsLight, shards_of}
+use Rattle.forest_run.specs.Ferries.{AreOnWay}
 use Rattle.forest_run.proofs.ferry.go_round.Given as goal
 
 abbrev pub invariant-loop-step : goal.invariant-loop-step
@@ -15,4 +16,6 @@ invariant-loop-step g l = record {
   light : g.P.Port.honest l.fn.port → All (IsLight l.book) l.kept.items;
   count : vec_len l.kept ≤ l.step;
   capacity : vec_capacity l.kept ≡ vec_capacity l.fn.kept;
+  steps : l.step ≤ l.shards;
+  way : AreOnWay l.first l.shards l.step (shards_of l.kept.items);
 }
