@@ -41,21 +41,13 @@ bench: $(PROGRAM) $(STEPS)
 	python3 benches/run.py $(PROGRAM) $(STEPS)
 
 clean:
-	rm -rf crates/*/out crates/*/out.log
+	rm -rf crates/*/out .git/rooms
 
-# `rt run` proves, builds and runs; what it built stays in out/. What it says goes to out.log, and which crate it is
-# at to standard error.
-PROGRESS := awk '/^rt: chose --jobs/ { print "proving " $$NF; fflush() }' >&2
-
+# What was built stays in out/ of each crate; which crates are under way goes to standard error.
 $(PROGRAM): $(SOURCES)
-	@echo 'proving and building; the first time this takes some minutes' >&2
-	@cd crates/boruvka && { rt run -- ../../examples/small.gr 2>&1 || echo failed > out.failed; } | tee out.log | $(PROGRESS)
-	@cd crates/boruvka && { test ! -e out.failed || { cat out.log >&2; rm -f out.failed out.log; exit 1; }; }
-	@rm -f crates/boruvka/out.log
+	@python3 tools/prove.py boruvka
 	@touch $(PROGRAM)
 
 $(STEPS): $(SOURCES)
-	@cd crates/plain_bench && { rt run < stdin 2>&1 || echo failed > out.failed; } | tee out.log | $(PROGRESS)
-	@cd crates/plain_bench && { test ! -e out.failed || { cat out.log >&2; rm -f out.failed out.log; exit 1; }; }
-	@rm -f crates/plain_bench/out.log
+	@python3 tools/prove.py plain_bench
 	@touch $(STEPS)

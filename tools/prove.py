@@ -1,0 +1,326 @@
+#!/usr/bin/env python3
+"""Proves and builds a program and the crates below it, those that don't stand on each other side by side, and runs it.
+
+usage: tools/prove.py [--jobs N] [--dry-run] [PROGRAM]
+
+PROGRAM is a crate with a `main` (boruvka, if none is named); it is run on its file `stdin`, or on nothing. `rt` lets
+one of its commands at a time work in a crate and in those below it. So each library is proved in a room of its own:
+a copy of its files under .git (or under the program's out/, where there is no .git), beside what was built below it.
+What it built goes into its own out/, as if `rt lib` had run there; a crate that was proved before, and whose files
+are the same, takes a second. The program comes last, by `rt run` where it lies. A run that was cut off is begun
+again by the same words: what was proved stays.
+
+  --jobs N    at most N checks side by side (if not set: as many as there are processors, and one for each 2.5 GB of
+              memory that is free)
+  --dry-run   only shows in which order the crates would be proved, and how many processes each would have
+
+What it is at goes to standard error, when a crate begins and each half minute. Where a crate isn't proved, what `rt`
+said of it goes there too, and the status is 1. RT is the command that proves (`rt`, if not set).
+"""
+import contextlib
+import fcntl
+import os
+import re
+import shlex
+import shutil
+import signal
+import subprocess
+import sys
+import time
+
+ROOT = os.path.dirname(os.path.dirname(os.path.realpath(__file__)))
+RT = shlex.split(os.environ.get("RT", "rt"))
+EACH = 2_500_000_000  # bytes of free memory for each check
+LARGE = 300  # lines of code and of proofs from which on more than one process serves
+SECONDS = 30  # from one line on what it is at to the next
+PARTS = ("src", "specs", "proofs")
+
+
+class NotProved(Exception):
+    pass
+
+
+def crate_lines():
+    with open(f"{ROOT}/crates.txt", encoding="utf-8") as it:
+        lines = [line for line in it if line.strip() and not line.startswith("#")]
+    return {re.match(r"\w+", line)[0]: line for line in lines}
+
+
+def below(crate, lines):
+    """The crates below one, lowest first."""
+    found = []
+    for name in lines[crate].partition(":")[2].split():
+        if name in lines:
+            found += [it for it in [*below(name, lines), name] if it not in found]
+    return found
+
+
+def free_memory():
+    with open("/proc/meminfo", encoding="utf-8") as it:
+        return 1024 * int(re.search(r"MemAvailable:\s+(\d+)", it.read())[1])
+
+
+def lanes():
+    """How many checks can go side by side."""
+    try:
+        return max(1, min(len(os.sched_getaffinity(0)), free_memory() // EACH))
+    except (AttributeError, OSError, TypeError):
+        return 1
+
+
+def lines_of(crate):
+    """The lines of a crate's code, definitions and proofs."""
+    count = 0
+    for part in PARTS:
+        for at, _, files in os.walk(f"{ROOT}/crates/{crate}/{part}"):
+            for name in files:
+                with open(f"{at}/{name}", "rb") as it:
+                    count += it.read().count(b"\n")
+    return count
+
+
+class Plan:
+    """Which crates wait for which, and how long what stands on each takes, in lines."""
+
+    def __init__(self, program, lines):
+        self.program, self.lines = program, lines
+        self.names = [*below(program, lines), program]
+        self.below = {name: below(name, lines) for name in self.names}
+        self.count = {name: lines_of(name) for name in self.names}
+        self.chain = {}
+        for name in reversed(self.names):
+            self.chain[name] = self.count[name] + max([self.chain[it] for it in self.names if name in self.below[it]], default=0)
+
+    def ready(self, begun, done):
+        """The libraries that can begin, first the one with the longest chain of others upon it."""
+        found = [it for it in self.names[:-1] if it not in begun and all(name in done for name in self.below[it])]
+        return sorted(found, key=lambda it: -self.chain[it])
+
+    def is_lone(self, name, done):
+        """Whether each crate that isn't proved yet stands below this one or upon it."""
+        return all(it in done or it == name or it in self.below[name] or name in self.below[it] for it in self.names)
+
+    def processes(self, name, done, most):
+        """How many processes a check gets: the crates that go side by side have two each, a lone one all."""
+        if self.count[name] < LARGE:
+            return 1
+        return most if self.is_lone(name, done) else min(most, 2)
+
+
+class Progress:
+    """Says which crates are under way."""
+
+    def __init__(self, count):
+        self.count, self.begun, self.said, self.numbers = count, time.monotonic(), 0, {}
+
+    def tell(self, under_way):
+        for name in under_way:
+            self.numbers.setdefault(name, len(self.numbers) + 1)
+        named = [f"{it} ({self.numbers[it]} of {self.count})" for it in under_way]
+        text = " and ".join([", ".join(named[:-1])] * (len(named) > 1) + named[-1:])
+        print(f"proving {text}, {(time.monotonic() - self.begun) / 60:.0f} min", file=sys.stderr, flush=True)
+        self.said = time.monotonic()
+
+    def tell_again(self, under_way):
+        if under_way and time.monotonic() - self.said >= SECONDS:
+            self.tell(under_way)
+
+
+def linked(folder, to):
+    """Copies what was built, by links where these can be made: `rt` removes such a file before it makes it anew."""
+
+    def copy(one, other):
+        try:
+            os.link(one, other)
+        except OSError:
+            shutil.copy2(one, other)
+
+    shutil.copytree(folder, to, copy_function=copy)
+
+
+class Room:
+    """A library's copy, with what was built below it, in which `rt lib` runs."""
+
+    def __init__(self, crate, plan, rooms):
+        self.crate, self.room = crate, f"{rooms}/{crate}"
+        self.folder, self.log = f"{self.room}/crates/{crate}", f"{self.room}/log"
+        os.makedirs(self.folder)
+        with open(f"{self.room}/crates.txt", "w", encoding="utf-8") as it:
+            it.write("".join(plan.lines[name] for name in [*plan.below[crate], crate]))
+        if os.path.exists(f"{ROOT}/HANDLES"):
+            shutil.copy(f"{ROOT}/HANDLES", self.room)
+        for name in [*plan.below[crate], crate]:
+            for part in PARTS:
+                if os.path.isdir(f"{ROOT}/crates/{name}/{part}"):
+                    shutil.copytree(f"{ROOT}/crates/{name}/{part}", f"{self.room}/crates/{name}/{part}")
+        for name in plan.below[crate]:
+            linked(f"{ROOT}/crates/{name}/out/rlib", f"{self.room}/crates/{name}/out/rlib")
+        if os.path.isdir(f"{ROOT}/crates/{crate}/out"):
+            shutil.move(f"{ROOT}/crates/{crate}/out", f"{self.folder}/out")
+
+    def begin(self, processes):
+        with open(self.log, "wb") as log:
+            words = [*RT, "lib", "--jobs", str(processes)]
+            # a session of its own, so that all of it can be ended
+            self.process = subprocess.Popen(words, cwd=self.folder, stdin=subprocess.DEVNULL, stdout=log, stderr=log, start_new_session=True)
+
+    def ended(self):
+        """Whether it has ended; what it built is the crate's own then."""
+        if self.process.poll() is None:
+            return False
+        with open(self.log, encoding="utf-8", errors="replace") as it:
+            said = it.read()
+        self.leave()
+        if self.process.returncode:
+            raise NotProved(f"{said}{self.crate} is not proved, so nothing was built")
+        return True
+
+    def leave(self):
+        if self.process.poll() is None:
+            with contextlib.suppress(OSError):
+                os.killpg(self.process.pid, signal.SIGTERM)
+            with contextlib.suppress(subprocess.TimeoutExpired):
+                self.process.wait(10)
+            with contextlib.suppress(OSError):
+                os.killpg(self.process.pid, signal.SIGKILL)
+            self.process.wait()
+        put_back(self.crate, self.room)
+
+
+def put_back(crate, room):
+    """Gives a crate what was built of it in a room, and removes the room."""
+    made, own = f"{room}/crates/{crate}/out", f"{ROOT}/crates/{crate}/out"
+    if os.path.isdir(made) and not os.path.lexists(own) and os.path.isdir(os.path.dirname(own)):
+        shutil.move(made, own)
+    shutil.rmtree(room, ignore_errors=True)
+
+
+@contextlib.contextmanager
+def alone_in(crates):
+    """Keeps other commands of `rt` out of these crates' folders, and waits until none is at work there."""
+    held = []
+    try:
+        for crate in sorted(crates):
+            held.append(os.open(f"{ROOT}/crates/{crate}", os.O_RDONLY))
+            try:
+                fcntl.flock(held[-1], fcntl.LOCK_EX | fcntl.LOCK_NB)
+            except BlockingIOError:
+                print(f"waiting for another command that is at work in crates/{crate}", file=sys.stderr, flush=True)
+                fcntl.flock(held[-1], fcntl.LOCK_EX)
+            except OSError:
+                # (some file systems have no locks)
+                pass
+        yield
+    finally:
+        for it in held:
+            os.close(it)
+
+
+def prove_libraries(plan, most, progress):
+    rooms = f"{ROOT}/.git/rooms" if os.path.isdir(f"{ROOT}/.git") else f"{ROOT}/crates/{plan.program}/out/rooms"
+    with alone_in(plan.names):
+        # what a run that was killed left
+        for crate in os.listdir(rooms) if os.path.isdir(rooms) else []:
+            put_back(crate, f"{rooms}/{crate}")
+        running, done = {}, set()
+        try:
+            while len(done) < len(plan.names) - 1:
+                begun = plan.ready({*running, *done}, done)[: most - len(running)]
+                for name in begun:
+                    running[name] = Room(name, plan, rooms)
+                    running[name].begin(plan.processes(name, done, most))
+                if begun:
+                    progress.tell(running)
+                time.sleep(0.2)
+                for name in [it for it in running if running[it].ended()]:
+                    del running[name]
+                    done.add(name)
+                progress.tell_again(running)
+        finally:
+            for it in running.values():
+                it.leave()
+            shutil.rmtree(rooms, ignore_errors=True)
+
+
+def prove_program(plan, progress):
+    folder = f"{ROOT}/crates/{plan.program}"
+    source = f"{folder}/stdin"
+    log = f"{folder}/out/log"
+    os.makedirs(f"{folder}/out", exist_ok=True)
+    progress.tell([plan.program])
+    with open(source if os.path.isfile(source) else os.devnull, "rb") as given, open(log, "w+b") as said:
+        process = subprocess.Popen([*RT, "run"], cwd=folder, stdin=given, stdout=said, stderr=said, start_new_session=True)
+        try:
+            while process.poll() is None:
+                with contextlib.suppress(subprocess.TimeoutExpired):
+                    process.wait(0.2)
+                progress.tell_again([plan.program])
+        finally:
+            if process.poll() is None:
+                with contextlib.suppress(OSError):
+                    os.killpg(process.pid, signal.SIGTERM)
+                process.wait()
+        said.seek(0)
+        text = said.read().decode(errors="replace")
+    os.remove(log)
+    if process.returncode:
+        raise NotProved(f"{text}{plan.program} is not proved, or its run failed")
+
+
+def show_order(plan, most):
+    """As `prove_libraries` would go if each check took as long as its crate has lines."""
+    ends, done, now, number = {}, set(), 0, 0
+    while len(done) < len(plan.names) - 1:
+        for name in plan.ready({*ends, *done}, done)[: most - len(ends)]:
+            number += 1
+            print(f"{name} ({number} of {len(plan.names)}): {plan.processes(name, done, most)} processes, beside {', '.join(ends) or 'none'}")
+            ends[name] = now + plan.count[name]
+        now = min(ends.values())
+        for name in [it for it in ends if ends[it] == now]:
+            del ends[name]
+            done.add(name)
+    print(f"{plan.program} ({len(plan.names)} of {len(plan.names)})")
+
+
+def main(words):
+    most, is_dry, names = None, False, []
+    while words:
+        word = words.pop(0)
+        if word == "--jobs" and words and words[0].isdigit() and int(words[0]):
+            most = int(words.pop(0))
+        elif word == "--dry-run":
+            is_dry = True
+        elif not word.startswith("-"):
+            names.append(word)
+        else:
+            print(__doc__, end="", file=sys.stderr)
+            return 2
+    lines = crate_lines()
+    program = names[0] if names else "boruvka"
+    if len(names) > 1 or program not in lines or not os.path.isfile(f"{ROOT}/crates/{program}/src/main.rt"):
+        print(f"tools/prove.py: crates.txt has no program {' '.join(names)}", file=sys.stderr)
+        return 2
+    plan, most = Plan(program, lines), most or lanes()
+    if is_dry:
+        show_order(plan, most)
+        return 0
+    if not shutil.which(RT[0]):
+        print(f"To prove and build {program}, the Rattle toolchain's command `{RT[0]}` has to be on the PATH: see the README.", file=sys.stderr)
+        return 1
+    signal.signal(signal.SIGTERM, lambda *_: sys.exit(143))
+    print("proving and building; the first time this takes some minutes", file=sys.stderr, flush=True)
+    progress = Progress(len(plan.names))
+    try:
+        prove_libraries(plan, most, progress)
+        prove_program(plan, progress)
+    except NotProved as error:
+        print(error, file=sys.stderr)
+        return 1
+    except KeyboardInterrupt:
+        print("cut off; the same words go on from here", file=sys.stderr)
+        return 130
+    return 0
+
+
+if __name__ == "__main__":
+    sys.exit(main(sys.argv[1:]))
