@@ -2,7 +2,7 @@
 ghost use Rattle.std.specs.Prelude.{◌≡◌, ◌<◌};
 ghost use Rattle.claim_board.specs.State.{AreSeats};
 
-use claim_board::{Board, BoardFault, Claim, MOST_SHARDS, Seat};
+use claim_board::{Board, BoardFault, Claim, MOST_SEATS, MOST_SHARDS, Seat};
 use std::alloc::Global;
 use std::process::Abort;
 use std::sync::atomic::{AtomicU64, Ordering};
@@ -53,33 +53,6 @@ fn a_shard_goes_from_seat_to_seat(rt: HostRuntime) -> Result<(), Fail> {
         (owners.of(0), owners.of(1), owners.of(2)),
         (Some(1), None, None)
     );
-    Ok(())
-}
-
-#[test]
-fn one_seat_alone(rt: HostRuntime) -> Result<(), Fail> {
-    let (board, mut seats) = Board::open(rt.alloc(), 1, 1)?;
-    let first = claim(&board, &mut seats, 0, 0);
-    let again = claim(&board, &mut seats, 0, 0);
-    let gave = give_back(&board, &mut seats, 0, 0);
-    let last = claim(&board, &mut seats, 0, 0);
-    let owners = board.close(seats)?;
-    assert_eq!(rt; (first, again), (Claim::Won, Claim::Held(0)));
-    assert_eq!(rt; (gave, last, owners.of(0)), (true, Claim::Won, Some(0)));
-    Ok(())
-}
-
-#[test]
-fn many_seats_open_and_close(rt: HostRuntime) -> Result<(), Fail> {
-    let (board, seats) = Board::open(rt.alloc(), MOST_SHARDS, 64)?;
-    let count = seats.len();
-    let in_order = seats.iter().enumerate().all(|(place, seat)| seat.number() as usize == place
-        && !seat.holds(0));
-    let owners = board.close(seats)?;
-    assert_eq!(rt; (count, in_order), (64, true));
-    for shard in 0..MOST_SHARDS {
-        assert_eq!(rt; owners.of(shard), None);
-    }
     Ok(())
 }
 
@@ -143,25 +116,72 @@ fn two_threads_share_all_shards(rt: HostRuntime) -> Result<(), Fail> {
     Ok(())
 }
 
-// A board of two shards with so many seats: they are numbered in order, and the board closes.
-fn expect_seats(rt: &impl Abort, alloc: Global, count: u32) -> Result<(), Fail> {
-    assert!(rt; 1 <= count && count <= 64);
-    let (board, seats) = Board::open(alloc, 2, count)?;
+// An odd shard is given back. Whether it was, or is even.
+fn give_back_odd(board: &Board<Global>, seats: &mut Vec<Seat>, number: usize, shard: u32) -> bool
+    requires seats { AreSeats board.now seats.old.items }
+    requires number { number < board.now.seats }
+    requires shard { shard < board.now.shards }
+    ensures { AreSeats board.now seats.new.items }
+{
+    if shard % 2 == 0 {
+        return true;
+    }
+    give_back(board, seats, number, shard)
+}
+
+// Each shard is claimed twice by the seat whose number is the remainder of its own, and an odd one is given back. Whether
+// each of these went so.
+fn take_turns(board: &Board<Global>, seats: &mut Vec<Seat>, shards: u32, count: u32) -> bool
+    requires seats { AreSeats board.now seats.old.items }
+    requires shards { board.now.shards ≡ shards }
+    requires count { board.now.seats ≡ count }
+    requires some { 0 < count }
+    ensures { AreSeats board.now seats.new.items }
+{
+    let mut all = true;
+    for shard in 0..shards {
+        let number = shard % count;
+        let first = claim(board, seats, number as usize, shard);
+        let again = claim(board, seats, number as usize, shard);
+        let gave = give_back_odd(board, seats, number as usize, shard);
+        all = all && first == Claim::Won && again == Claim::Held(number) && gave;
+    }
+    all
+}
+
+// A board of this size has its seats in order, and closes with the owners that claims left.
+fn expect_board(rt: &impl Abort, alloc: Global, shards: u32, count: u32) -> Result<(), Fail> {
+    assert!(rt; 1 <= shards && shards <= MOST_SHARDS && 1 <= count && count <= MOST_SEATS);
+    let (board, mut seats) = Board::open(alloc, shards, count)?;
+    let in_order = seats.iter().enumerate().all(|(place, seat)| seat.number() as usize == place
+        && !seat.holds(0));
     let all = seats.len();
-    let in_order = seats
-        .iter()
-        .enumerate()
-        .all(|(place, seat)| seat.number() as usize == place);
+    let went = take_turns(&board, &mut seats, shards, count);
     let owners = board.close(seats)?;
-    assert_eq!(rt; (all, in_order), (count as usize, true));
-    assert_eq!(rt; (owners.of(0), owners.of(1)), (None, None));
+    assert_eq!(rt; (all, in_order, went), (count as usize, true, true));
+    for shard in 0..shards {
+        let owner = if shard % 2 == 0 {
+            Some(shard % count)
+        } else {
+            None
+        };
+        assert_eq!(rt; owners.of(shard), owner);
+    }
+    assert_eq!(rt; owners.of(shards), None);
     Ok(())
 }
 
+// Boards of few shards and of as many as there may be, to the last shard of a word of 64 bits and past it; and every
+// number of seats.
 #[test]
-fn every_number_of_seats(rt: HostRuntime) -> Result<(), Fail> {
+fn boards_of_each_size(rt: HostRuntime) -> Result<(), Fail> {
+    for shards in [1, 2, 63, 64, 65, 4095, 4096] {
+        for count in [1, 64] {
+            expect_board(&rt, rt.alloc(), shards, count)?;
+        }
+    }
     for count in 1..65 {
-        expect_seats(&rt, rt.alloc(), count)?;
+        expect_board(&rt, rt.alloc(), 65, count)?;
     }
     Ok(())
 }

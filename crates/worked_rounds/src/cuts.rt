@@ -37,18 +37,36 @@ fn sizes(
     Ok(sizes)
 }
 
+// The cut has shards of these sizes.
+fn expect_sizes(
+    rt: &impl Abort,
+    alloc: Global,
+    cut: Result<Cut, CutFault>,
+    links: &[Link],
+    wanted: &[usize],
+) -> Result<(), Fail> {
+    let cut = cut.expect(rt, "a cut");
+    let sizes_of_cut = sizes(rt, alloc, &cut, links)?;
+    assert_eq!(rt; sizes_of_cut.as_slice(), wanted);
+    Ok(())
+}
+
 #[test]
 fn even_shards(rt: HostRuntime) -> Result<(), Fail> {
     let alloc = rt.alloc();
     let links = path(&rt, alloc, 8)?;
     assert!(rt; links.len() <= 1 << 30);
-    let cut = Cut::even(alloc, links.as_slice(), 3).expect(&rt, "a cut");
-    let sizes_of_cut = sizes(&rt, alloc, &cut, links.as_slice())?;
-    assert_eq!(rt; sizes_of_cut.as_slice(), [2, 3, 3].as_slice());
-    let none = Cut::even(alloc, &[], 4).expect(&rt, "a cut");
-    let sizes_of_none = sizes(&rt, alloc, &none, &[])?;
-    assert_eq!(rt; sizes_of_none.as_slice(), [0, 0, 0, 0].as_slice());
-    Ok(())
+    let links = links.as_slice();
+    let cuts: [(u32, &[usize]); 4] = [
+        (1, &[8]),
+        (3, &[2, 3, 3]),
+        (8, &[1, 1, 1, 1, 1, 1, 1, 1]),
+        (9, &[0, 1, 1, 1, 1, 1, 1, 1, 1]),
+    ];
+    for (count, wanted) in cuts {
+        expect_sizes(&rt, alloc, Cut::even(alloc, links, count), links, wanted)?;
+    }
+    expect_sizes(&rt, alloc, Cut::even(alloc, &[], 4), &[], &[0, 0, 0, 0])
 }
 
 #[test]
@@ -56,9 +74,16 @@ fn shards_at_places(rt: HostRuntime) -> Result<(), Fail> {
     let alloc = rt.alloc();
     let links = path(&rt, alloc, 8)?;
     assert!(rt; links.len() <= 1 << 30);
-    let cut = Cut::at(alloc, links.as_slice(), &[2, 2, 8]).expect(&rt, "a cut");
-    let sizes_of_cut = sizes(&rt, alloc, &cut, links.as_slice())?;
-    assert_eq!(rt; sizes_of_cut.as_slice(), [2, 0, 6, 0].as_slice());
+    let links = links.as_slice();
+    let cuts: [(&[usize], &[usize]); 4] = [
+        (&[], &[8]),
+        (&[0], &[0, 8]),
+        (&[8], &[8, 0]),
+        (&[2, 2, 8], &[2, 0, 6, 0]),
+    ];
+    for (places, wanted) in cuts {
+        expect_sizes(&rt, alloc, Cut::at(alloc, links, places), links, wanted)?;
+    }
     Ok(())
 }
 
@@ -89,10 +114,12 @@ fn as_many_shards_as_there_may_be(rt: HostRuntime) -> Result<(), Fail> {
     let alloc = rt.alloc();
     let links = path(&rt, alloc, 10000)?;
     assert!(rt; links.len() <= 1 << 30);
-    let cut = Cut::even(alloc, links.as_slice(), 4096).expect(&rt, "a cut");
-    let sizes_of_cut = sizes(&rt, alloc, &cut, links.as_slice())?;
-    assert_eq!(rt; sizes_of_cut.len(), 4096);
-    assert!(rt; sizes_of_cut.iter().all(|size| *size == 2 || *size == 3));
+    for count in [4095, 4096] {
+        let cut = Cut::even(alloc, links.as_slice(), count).expect(&rt, "a cut");
+        let sizes_of_cut = sizes(&rt, alloc, &cut, links.as_slice())?;
+        assert_eq!(rt; sizes_of_cut.len(), count as usize);
+        assert!(rt; sizes_of_cut.iter().all(|size| *size == 2 || *size == 3));
+    }
     Ok(())
 }
 

@@ -5,10 +5,14 @@
 //!   cuts                         a list of links, cut into shards
 //!   board, shard_sets            claims of shards, by one seat and by many; sets of shards
 //!   labels                       labels that coarsen others
-//!   engine                       a worker's scan, what it hears, and whole sessions
+//!   scans                        a worker's scan, by one thread and by threads, and links that are laid aside
+//!   engine                       what a worker hears, and whole sessions
+//!   sizes                        scans and engines at each size at which something in them changes
 //!   fault_texts                  what each fault of a session is told as
 //!   refusals                     work whose allocations are refused in turn
-//!   memory_counts, memory_of_lists      which blocks of memory live after a call
+//!   memory_counts                an allocator that counts its blocks
+//!   memory_of_lists              which blocks live after a list was handed in
+//!   memory_of_scans              which blocks scans and asks take
 //! ```
 #![tactic(auto)]
 
@@ -27,6 +31,12 @@ mod memory_counts;
 #[cfg(test)]
 mod memory_of_lists;
 #[cfg(test)]
+mod memory_of_scans;
+#[cfg(test)]
 mod refusals;
 #[cfg(test)]
+mod scans;
+#[cfg(test)]
 mod shard_sets;
+#[cfg(test)]
+mod sizes;

@@ -1,0 +1,320 @@
+// A worker's scan, by one thread and by threads, beside a plain program: lists with repeats and with weights that many
+// links share, and links that an engine lays aside as components grow.
+ghost use Rattle.std.specs.Prelude.{◌<◌, IfOk};
+ghost use Rattle.frames.specs.FrameValue.{value_of};
+ghost use Rattle.frames.specs.Lawful.{IsLawful};
+ghost use Rattle.frames.specs.FrameStream.{AreLawful};
+ghost use Rattle.worker_engine.specs.Serving.{replies_in};
+
+use frames::{Frame, Links};
+use link_key::{Labels, Link, Offers};
+use std::alloc::{AllocError, Allocator, Global};
+use std::process::Abort;
+use std::test::Fail;
+use std::thread::Threads;
+use worked_graphs::{have_labels, links_of};
+use worker_engine::{Engine, Scanner, scan, scan_par};
+
+// The offers of links that are few enough and whose ends all have labels. Each way to scan gives the same ones; the
+// scanner may have scanned before.
+pub(crate) fn scanned(
+    rt: &(impl Abort + Threads + Sync),
+    alloc: Global,
+    scanner: &mut Scanner,
+    links: &[Link],
+    labels: &Labels,
+) -> Result<Offers, Fail> {
+    assert!(rt; links.len() <= 1 << 24 && have_labels(links, labels.n()));
+    let offers = scan(alloc, links, labels)?;
+    let by_threads = scan_par(rt, alloc, links, labels)?;
+    let again = scanner.scan(links, labels)?;
+    let again_by_threads = scanner.scan_par(rt, links, labels)?;
+    for others in [by_threads, again, again_by_threads] {
+        assert_eq!(rt; others.pairs(), offers.pairs());
+    }
+    Ok(offers)
+}
+
+// How an engine scans.
+#[derive(Clone, Copy)]
+pub(crate) enum By {
+    OneThread,
+    Threads,
+}
+
+// The engine's reply to a lawful frame.
+pub(crate) fn reply_by<A: Allocator + Copy + Send + Sync>(
+    rt: &(impl Threads + Sync),
+    by: By,
+    engine: &mut Engine<A>,
+    frame: Frame<A>,
+) -> Result<Option<Frame<A>>, AllocError>
+    requires { IsLawful (value_of frame) }
+    ensures { IfOk result (λ reply. AreLawful (replies_in reply)) }
+{
+    match by {
+        By::OneThread => engine.hear(frame),
+        By::Threads => engine.hear_par(rt, frame),
+    }
+}
+
+// The engine hears a shard with these links, and replies nothing.
+pub(crate) fn keep<A: Allocator + Copy + Send + Sync>(
+    rt: &(impl Abort + Threads + Sync),
+    by: By,
+    engine: &mut Engine<A>,
+    number: u32,
+    links: Vec<Link, A>,
+) -> Result<(), Fail> {
+    let shard = Frame::Shard {
+        number,
+        links: Links::of_list(links),
+    };
+    assert!(rt; shard.is_lawful());
+    assert!(rt; reply_by(rt, by, engine, shard)?.is_none());
+    Ok(())
+}
+
+// The offers that the engine answers to an ask of this shard under these labels.
+pub(crate) fn answered<A: Allocator + Copy + Send + Sync>(
+    rt: &(impl Abort + Threads + Sync),
+    by: By,
+    engine: &mut Engine<A>,
+    shard: u32,
+    labels: Labels<A>,
+) -> Result<Offers<A>, Fail> {
+    let ask = Frame::Ask {
+        round: 1,
+        shard,
+        labels,
+    };
+    assert!(rt; ask.is_lawful());
+    match reply_by(rt, by, engine, ask)?.expect(rt, "a reply") {
+        Frame::Answer(answer) => Ok(answer.offers),
+        _ => panic!(rt; "no answer"),
+    }
+}
+
+// The offers by a plain program: the links in ascending order, those that are equal by their places, of which the
+// first that leaves a component is offered for it. So many links stand before them.
+pub(crate) fn plain_offers(
+    rt: &impl Abort,
+    alloc: Global,
+    before: u32,
+    links: &[Link],
+    labels: &Labels,
+) -> Result<Vec<(u32, u32)>, Fail> {
+    let mut sorted = Vec::new(alloc);
+    let mut place = before;
+    for link in links {
+        sorted.push((*link, place))?;
+        place = place.wrapping_add(1);
+    }
+    sorted.as_mut_slice().sort_unstable();
+    let labels = labels.as_slice();
+    let mut firsts = Vec::from_elem(alloc, None, labels.len())?;
+    for (link, place) in &sorted {
+        assert!(rt; (link.low as usize) <= labels.len() && (link.high as usize) <= labels.len());
+        let low = labels[link.low as usize - 1] as usize;
+        let high = labels[link.high as usize - 1] as usize;
+        assert!(rt; 1 <= low && low <= firsts.len() && 1 <= high && high <= firsts.len());
+        if low != high {
+            firsts[low - 1] = firsts[low - 1].or(Some(*place));
+            firsts[high - 1] = firsts[high - 1].or(Some(*place));
+        }
+    }
+    let mut pairs = Vec::new(alloc);
+    for (before, first) in firsts.iter().enumerate() {
+        if let Some(place) = *first {
+            pairs.push(((before as u32).wrapping_add(1), place))?;
+        }
+    }
+    Ok(pairs)
+}
+
+// Components of so many of n neighbours each, named by the first.
+pub(crate) fn neighbours(rt: &impl Abort, alloc: Global, n: u32, size: u32) -> Result<Labels, Fail>
+    requires { 0 < size }
+{
+    let mut list = Vec::new(alloc);
+    for i in 0..n {
+        list.push(i.wrapping_sub(i % size).wrapping_add(1))?;
+    }
+    Ok(Labels::of_list(list).expect(rt, "labels"))
+}
+
+const MANY: u32 = 10_000;
+
+// Links between 10,000 vertices. The last 3,000 are repeats of the first, and each weight is that of hundreds.
+pub(crate) fn many_links(rt: &impl Abort, alloc: Global) -> Result<Vec<Link>, AllocError> {
+    let mut arcs = Vec::new(alloc);
+    for i in 0..MANY {
+        let j = i % 7000;
+        let tail = j.wrapping_mul(7919) % MANY + 1;
+        let head = j.wrapping_mul(j) % 9973 + 1;
+        let weight = j.wrapping_mul(31) % 17;
+        arcs.push((tail, head, weight.cast_signed().wrapping_sub(8)))?;
+    }
+    Ok(links_of(alloc, MANY, arcs.as_slice())?.expect(rt, "arcs"))
+}
+
+// The vertices up to 5,000 make components of fifty, and each greater one is a component by itself.
+pub(crate) fn many_labels(rt: &impl Abort, alloc: Global) -> Result<Labels, Fail> {
+    let mut list = Vec::new(alloc);
+    for i in 0..MANY {
+        let first = if i < 5000 { i.wrapping_sub(i % 50) } else { i };
+        list.push(first.wrapping_add(1))?;
+    }
+    Ok(Labels::of_list(list).expect(rt, "labels"))
+}
+
+// So many that they are scanned by threads, between 1,007 vertices, each near the next. Each link is repeated some forty
+// times.
+const NEAR_LINKS: u32 = 300_000;
+
+const NEAR: u32 = 1010;
+
+fn near_links(rt: &impl Abort, alloc: Global) -> Result<Vec<Link>, AllocError> {
+    let mut arcs = Vec::new(alloc);
+    for i in 0..NEAR_LINKS {
+        let low = i % 1000 + 1;
+        let weight = i.wrapping_mul(7919) % 101;
+        arcs.push((low, low + i % 7 + 1, weight.cast_signed()))?;
+    }
+    Ok(links_of(alloc, NEAR, arcs.as_slice())?.expect(rt, "arcs"))
+}
+
+// What another program told of the offers: how many there are, the first three, the one at a place, and the last three.
+#[derive(Clone, Copy)]
+struct Known {
+    count: usize,
+    first: [(u32, u32); 3],
+    place: usize,
+    at_place: (u32, u32),
+    last: [(u32, u32); 3],
+}
+
+const OF_MANY: Known = Known {
+    count: 4358,
+    first: [(1, 5184), (51, 6986), (101, 2549)],
+    place: 2179,
+    at_place: (7418, 5142),
+    last: [(9998, 6962), (9999, 4641), (10_000, 2320)],
+};
+
+const OF_NEAR: Known = Known {
+    count: 1007,
+    first: [(1, 0), (2, 0), (3, 202_000)],
+    place: 503,
+    at_place: (504, 282_497),
+    last: [(1005, 130_997), (1006, 19_998), (1007, 76_999)],
+};
+
+fn expect_known(rt: &impl Abort, pairs: &[(u32, u32)], known: &Known) {
+    assert_eq!(rt; pairs.len(), known.count);
+    assert!(rt; pairs.starts_with(&known.first) && pairs.ends_with(&known.last));
+    assert_eq!(rt; pairs.get(known.place), Some(&known.at_place));
+}
+
+// One scanner for lists of any length, some of them scanned by threads.
+#[test]
+fn scans_one_after_the_other(rt: HostRuntime) -> Result<(), Fail> {
+    let alloc = rt.alloc();
+    let triangle = links_of(alloc, 3, &[(1, 2, 5), (2, 3, 5), (1, 3, 5)])?.expect(&rt, "arcs");
+    let three = Labels::apart(alloc, 3)?;
+    let lists = [
+        (many_links(&rt, alloc)?, many_labels(&rt, alloc)?, OF_MANY),
+        (
+            near_links(&rt, alloc)?,
+            Labels::apart(alloc, NEAR)?,
+            OF_NEAR,
+        ),
+    ];
+    let mut scanner = Scanner::new(alloc);
+    for (links, labels, known) in &lists {
+        let few = scanned(&rt, alloc, &mut scanner, triangle.as_slice(), &three)?;
+        assert_eq!(rt; few.pairs(), [(1, 0), (2, 0), (3, 2)].as_slice());
+        let offers = scanned(&rt, alloc, &mut scanner, links.as_slice(), labels)?;
+        expect_known(&rt, offers.pairs(), known);
+        let expected = plain_offers(&rt, alloc, 0, links.as_slice(), labels)?;
+        assert_eq!(rt; offers.pairs(), expected.as_slice());
+    }
+    Ok(())
+}
+
+// The engine answers an ask of this shard with the offers of these links.
+fn expect_answer(
+    rt: &(impl Abort + Threads + Sync),
+    alloc: Global,
+    by: By,
+    engine: &mut Engine,
+    shard: u32,
+    links: &[Link],
+    size: u32,
+) -> Result<(), Fail>
+    requires { 0 < size }
+{
+    let labels = neighbours(rt, alloc, MANY, size)?;
+    let expected = plain_offers(rt, alloc, 0, links, &labels)?;
+    let offers = answered(rt, by, engine, shard, labels)?;
+    assert_eq!(rt; offers.pairs(), expected.as_slice());
+    Ok(())
+}
+
+// Two shards of many links, asked in turn as components grow, and then under labels that don't coarsen the last.
+#[test]
+fn many_links_laid_aside(rt: HostRuntime) -> Result<(), Fail> {
+    let alloc = rt.alloc();
+    let links = many_links(&rt, alloc)?;
+    let mut engine = Engine::new(alloc);
+    for number in 0..2 {
+        keep(&rt, By::OneThread, &mut engine, number, links.clone()?)?;
+    }
+    for size in [1, 2, 10, 50, 50, 1000, 2, 10, 1] {
+        expect_answer(
+            &rt,
+            alloc,
+            By::OneThread,
+            &mut engine,
+            0,
+            links.as_slice(),
+            size,
+        )?;
+        if size != 10 {
+            expect_answer(
+                &rt,
+                alloc,
+                By::OneThread,
+                &mut engine,
+                1,
+                links.as_slice(),
+                size,
+            )?;
+        }
+    }
+    Ok(())
+}
+
+#[test]
+fn links_laid_aside_are_live_again(rt: HostRuntime) -> Result<(), Fail> {
+    let alloc = rt.alloc();
+    let triangle = links_of(alloc, 3, &[(1, 2, 5), (2, 3, 5), (1, 3, 5)])?.expect(&rt, "arcs");
+    let all: &[(u32, u32)] = &[(1, 0), (2, 0), (3, 2)];
+    let asked: [(&[u32], &[(u32, u32)]); 5] = [
+        (&[1, 2, 3], all),
+        (&[1, 1, 3], &[(1, 2), (3, 2)]),
+        (&[1, 1, 1], &[]),
+        (&[1, 2, 3], all),
+        (&[1, 2, 3, 4], all),
+    ];
+    for by in [By::OneThread, By::Threads] {
+        let mut engine = Engine::new(alloc);
+        keep(&rt, by, &mut engine, 0, triangle.clone()?)?;
+        for (labels, expected) in asked {
+            let labels = Labels::of_list(Vec::from_slice(alloc, labels)?).expect(&rt, "labels");
+            let offers = answered(&rt, by, &mut engine, 0, labels)?;
+            assert_eq!(rt; offers.pairs(), expected);
+        }
+    }
+    Ok(())
+}

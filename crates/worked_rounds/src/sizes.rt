@@ -1,0 +1,147 @@
+// Calls that may answer want of memory, each with ample memory at the sizes at which something in them changes: no link
+// and no label, one, those from which on links are scanned by threads or halved again, with one less and one more, and
+// the most that there may be. A body that gives up at one of these is proved as well as one that doesn't. What is
+// expected is written by a formula, here.
+ghost use Rattle.std.specs.Prelude.{◌<◌, ◌^◌};
+
+use crate::scans::{By, answered, keep, neighbours, plain_offers, scanned};
+use link_key::{Labels, Link};
+use std::alloc::{AllocError, Allocator, Global};
+use std::process::Abort;
+use std::test::Fail;
+use std::thread::Threads;
+use worked_graphs::links_of;
+use worker_engine::{Engine, Scanner};
+
+// How many vertices and links there are. 131,072 links are scanned in two halves, 262,144 in four parts on four
+// processors, 524,288 in eight on eight, where a part has as many links as there are vertices.
+const SIZES: [(u32, u32); 15] = [
+    (0, 0),
+    (1, 0),
+    (2, 0),
+    (2, 1),
+    (3, 65_535),
+    (3, 65_536),
+    (3, 65_537),
+    (3, 131_071),
+    (3, 131_072),
+    (3, 131_073),
+    (65_536, 131_072),
+    (65_537, 131_072),
+    (3, 262_142),
+    (3, 262_144),
+    (3, 524_288),
+];
+
+// How many links the path of n vertices has; one at the least.
+fn steps(n: u32) -> u32
+    ensures some { 0 < result }
+    ensures few { result < 2 ^ 20 }
+{
+    if 1 < n && n < 1 << 20 { n - 1 } else { 1 }
+}
+
+// Links that go round the path of n vertices again and again, each lighter than the one before: those from one place on
+// before another.
+pub(crate) fn falling<A: Allocator>(
+    alloc: A,
+    n: u32,
+    from: u32,
+    to: u32,
+) -> Result<Vec<Link, A>, AllocError> {
+    let path = steps(n);
+    let mut links = Vec::with_capacity(alloc, to.saturating_sub(from) as usize)?;
+    for i in from..to {
+        let low = i % path + 1;
+        let weight = i.cast_signed().wrapping_neg();
+        if let Some(link) = Link::of_arc(low, low + 1, weight) {
+            links.push(link)?;
+        }
+    }
+    Ok(links)
+}
+
+// The offers of so many such links: the last ones, once round the path, are the least.
+pub(crate) fn falling_offers(
+    rt: &impl Abort,
+    alloc: Global,
+    n: u32,
+    count: u32,
+    labels: &Labels,
+) -> Result<Vec<(u32, u32)>, Fail> {
+    let from = count.saturating_sub(n);
+    let last = falling(alloc, n, from, count)?;
+    plain_offers(rt, alloc, from, last.as_slice(), labels)
+}
+
+// The labels of n vertices, each by itself.
+pub(crate) fn apart(rt: &impl Abort, alloc: Global, n: u32) -> Result<Labels, Fail> {
+    neighbours(rt, alloc, n, 1)
+}
+
+#[test]
+fn scans_of_each_size(rt: HostRuntime) -> Result<(), Fail> {
+    let alloc = rt.alloc();
+    let mut scanner = Scanner::new(alloc);
+    for (n, count) in SIZES {
+        let links = falling(alloc, n, 0, count)?;
+        let labels = apart(&rt, alloc, n)?;
+        let expected = falling_offers(&rt, alloc, n, count, &labels)?;
+        let offers = scanned(&rt, alloc, &mut scanner, links.as_slice(), &labels)?;
+        assert_eq!(rt; offers.pairs(), expected.as_slice(), "{count} links");
+    }
+    Ok(())
+}
+
+// An engine that keeps such links answers with their offers: by all links under the labels of each vertex, and twice under
+// those of pairs, the second time by the places of half of them.
+fn expect_answers(
+    rt: &(impl Abort + Threads + Sync),
+    alloc: Global,
+    by: By,
+    n: u32,
+    count: u32,
+) -> Result<(), Fail> {
+    let mut engine = Engine::new(alloc);
+    keep(rt, by, &mut engine, 0, falling(alloc, n, 0, count)?)?;
+    for size in [1, 2, 2] {
+        let labels = neighbours(rt, alloc, n, size)?;
+        let expected = falling_offers(rt, alloc, n, count, &labels)?;
+        let offers = answered(rt, by, &mut engine, 0, labels)?;
+        assert_eq!(rt; offers.pairs(), expected.as_slice(), "{count} links");
+    }
+    Ok(())
+}
+
+#[test]
+fn engines_of_each_size(rt: HostRuntime) -> Result<(), Fail> {
+    for (n, count) in SIZES {
+        for by in [By::OneThread, By::Threads] {
+            expect_answers(&rt, rt.alloc(), by, n, count)?;
+        }
+    }
+    Ok(())
+}
+
+// As many links as a shard may have.
+#[test]
+fn an_engine_keeps_the_longest_shard(rt: HostRuntime) -> Result<(), Fail> {
+    expect_answers(&rt, rt.alloc(), By::Threads, 3, 1 << 24)
+}
+
+// An engine keeps as many shards as there may be, each sent twice and asked for behind each time.
+#[test]
+fn as_many_shards_as_there_may_be(rt: HostRuntime) -> Result<(), Fail> {
+    let alloc = rt.alloc();
+    let links = links_of(alloc, 2, &[(1, 2, 5)])?.expect(&rt, "arcs");
+    for by in [By::OneThread, By::Threads] {
+        let mut engine = Engine::new(alloc);
+        for turn in 0..8192 {
+            let number = turn % 4096;
+            keep(&rt, by, &mut engine, number, links.clone()?)?;
+            let offers = answered(&rt, by, &mut engine, number, apart(&rt, alloc, 2)?)?;
+            assert_eq!(rt; offers.pairs(), [(1, 0), (2, 0)].as_slice());
+        }
+    }
+    Ok(())
+}
