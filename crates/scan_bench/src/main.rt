@@ -7,14 +7,21 @@
 //!
 //! It also measures scans of few links between few vertices by one thread and by threads, in turns, to see from how many
 //! links on threads are faster.
+//!
+//! With the word `check` it measures each step in turns with a plain form of it, which stands here, and fails where one is
+//! more than twice as slow: a scan, a scan by threads, a scan of few links over the table of many labels, and an ask of
+//! links that are all laid aside.
 #![tactic(auto)]
 
 ghost use Rattle.std.specs.Prelude.{◌<◌, ◌≤◌, ◌^◌, ◌↔◌, length, IsTrue};
 ghost use Rattle.link_key.specs.Link.{EndsUpTo};
 
+mod check;
+
 use limits::MAX_SHARD_LINKS;
 use link_key::{Labels, Link};
 use std::alloc::{AllocError, Global};
+use std::env;
 use std::thread::Threads;
 use std::time::{Clock, Duration, Instant};
 use worker_engine::{scan, scan_par};
@@ -41,12 +48,19 @@ const FEW_LINKS: [u32; 7] = [
 const MANY_RUNS: usize = 49;
 
 fn main(rt: HostRuntime) -> anyhow::Result<()> {
+    match env::args(&rt)?.nth(1) {
+        Some(word) if word.as_str() == "check" => check::check(&rt),
+        _ => measure_all(&rt),
+    }
+}
+
+fn measure_all(rt: &HostRuntime) -> anyhow::Result<()> {
     let links = drawn_links(rt.alloc(), SIZE, SIZE)?;
     let apart = Labels::apart(rt.alloc(), SIZE)?;
-    measure(&rt, "each vertex by itself", links.as_slice(), &apart)?;
+    measure(rt, "each vertex by itself", links.as_slice(), &apart)?;
     if let Some(scattered) = Labels::of_list(scattered_labels(rt.alloc())?) {
         measure(
-            &rt,
+            rt,
             "a quarter of a million components, scattered",
             links.as_slice(),
             &scattered,
@@ -55,7 +69,7 @@ fn main(rt: HostRuntime) -> anyhow::Result<()> {
     for count in FEW_LINKS {
         let few = drawn_links(rt.alloc(), count, FEW_VERTICES)?;
         let labels = Labels::apart(rt.alloc(), FEW_VERTICES)?;
-        let (alone, by_threads) = compare(&rt, rt.alloc(), few.as_slice(), &labels)?;
+        let (alone, by_threads) = compare(rt, rt.alloc(), few.as_slice(), &labels)?;
         eprintln!(rt;
             "{} links: scan {} ns, by threads {} ns",
             few.len(),
