@@ -9,16 +9,17 @@ use Rattle.link_key.specs.Link.{EndsUpTo}
 use Rattle.link_key.specs.Cut.{links_at}
 use Rattle.frames.specs.AnswerValue.{AnswerValue}
 use Rattle.frames.specs.FrameValue.{FrameValue, HelloFrame, ShardFrame, AskFrame, AnswerFrame, FaultFrame}
+use Rattle.frames.specs.FrameText.{text_of}
 use Rattle.frames.specs.Lawful.{IsShard, IsAsk}
 use Rattle.ports.specs.declared.fault.PortFault.{PortFault}
-use Rattle.ports.specs.declared.fault.PortFault.TheVariants.{Closed}
+use Rattle.ports.specs.declared.fault.PortFault.TheVariants.{Down, Garbled, WrongHello, Gave, Memory, Closed}
 use Rattle.shard_set.specs.Shards.{has_shard}
-use Rattle.ports.specs.Lines.{LineState, IsFresh, Tells, ServesSoFar}
+use Rattle.ports.specs.Lines.{LineState, IsFresh, Tells, Counted, ServesSoFar}
 use Rattle.ports.specs.Ports.{IsHonestAnswer, failure_of, want_of}
-use Rattle.ports.specs.Causes.{Cause, IsBlameless}
+use Rattle.ports.specs.Causes.{WentDown, IsWanting, Cause, CountedFault, IsBlameless}
 use Rattle.ports.specs.Exchanges.{Exchange, exchange_of}
-use Rattle.ports.specs.Talking.{Talk, TalkState, told, shard_once, frames_put, Asked, IsOfCut, IsInStep}
-use Rattle.ports.specs.Wires.{WireState, last_ask, IsCalm, WentOn, WireCause}
+use Rattle.ports.specs.Talking.{Talk, TalkState, told, shard_once, frames_put, AskBrought, AskEnded, Asked, IsOfCut, IsInStep}
+use Rattle.ports.specs.Wires.{WireState, last_ask, IsQuiet, IsCountedWire, IsCalm, WentOn, WireCause}
 use Rattle.ports.proofs.Asking.{all_brought, step_more, honest_answer, blameless}
 
 told_none : (told : Option (List ℕ)) → IsSome told → IfSome told (λ bytes. bytes ≡ []) → told ≡ Some []
@@ -52,6 +53,95 @@ last_put last (FaultFrame r s c ∷ said) round shard labels = last_put last sai
 -- an ask that was open never ends with Closed
 pub not_closed : {L : Type 0} (state : L → LineState) (round shard : ℕ) (labels : List ℕ) (before after : TalkState L) (fault : PortFault) → Cause state fault round shard labels before after → fault ≢ Closed
 not_closed state round shard labels before after fault cause same = subst (λ (f : PortFault). Cause state f round shard labels before after) same cause
+
+-- ---- by what the line counts
+
+-- what was counted in two steps, none of it in the first
+quiet_first : (failed ended : ℕ) (a b c : LineState) → Counted 0 0 a b → Counted failed ended b c → Counted failed ended a c
+quiet_first failed ended a b c first behind = (omega (arith, first.0, behind.0), omega (arith, first.1, behind.1))
+
+down_counted : (before after : LineState) → WentDown before after → CountedFault Down before after
+down_counted before after down = elim down [
+  | inl failed ↦ inl (failed.failures, failed.ends)
+  | inr ended ↦ inr (ended.2.failures, ended.2.ends)
+]
+
+module _ {L : Type 0} (state : L → LineState) (round shard : ℕ) (labels : List ℕ) (before after : TalkState L) where
+  brought_counted : (bytes : List ℕ) → AskBrought state round shard labels bytes before after → Counted 0 0 (state before.line) (state after.line)
+  brought_counted bytes brought = (let first = brought.1 in let behind = brought.2 in (omega (arith, first.failures, behind.failures), omega (arith, first.ends, behind.ends)))
+
+  pub answer_counted : (a : AnswerValue) → Asked state round shard labels a before after → Counted 0 0 (state before.line) (state after.line)
+  answer_counted a asked = brought_counted (text_of (AnswerFrame a)) asked.brought
+
+  ended_counted : (bytes : List ℕ) → AskEnded state round shard labels bytes before after → Counted 0 1 (state before.line) (state after.line)
+  ended_counted bytes ended = (let first = ended.1 in let behind = ended.2 in (omega (arith, first.failures, behind.failures), omega (arith, first.ends, behind.ends)))
+
+  wanting_counted : IsWanting state round shard labels before after → Counted 0 0 (state before.line) (state after.line)
+  wanting_counted (IsWanting.InHello none) = (let went = none.1.2 in (went.failures, went.ends))
+  wanting_counted (IsWanting.InShard unsent put) = (put.failures, put.ends)
+  wanting_counted (IsWanting.InAsk put) = (put.failures, put.ends)
+  wanting_counted (IsWanting.InReply bytes none brought) = brought_counted bytes brought
+
+  -- each cause of a fault has its counts
+  pub cause_counted : (fault : PortFault) → Cause state fault round shard labels before after → CountedFault fault (state before.line) (state after.line)
+  cause_counted Down cause = elim cause [
+    | inl failed ↦ inl (failed.failures, failed.ends)
+    | inr ended ↦ elim ended [
+      | inl greeting ↦ down_counted (state before.line) (state after.line) greeting.1
+      | inr reply ↦ inr (ended_counted reply.0 reply.2)
+    ]
+  ]
+  cause_counted Garbled cause = elim cause [
+    | inl greeting ↦ let went = greeting.1.2 in (went.failures, went.ends)
+    | inr reply ↦ brought_counted reply.0 reply.2
+  ]
+  cause_counted WrongHello cause = (let went = cause.1.3 in (went.failures, went.ends))
+  cause_counted (Gave code) cause = brought_counted _ cause.3
+  cause_counted Memory cause = wanting_counted cause
+  cause_counted Closed cause = cause
+
+module _ {L : Type 0} (state : L → LineState) (old new : WireState L) (start : LineState) (live : old.is_open ≡ true) where
+  -- one that is open is quiet
+  quiet_open : IsCountedWire state old start → IsQuiet state old start
+  quiet_open counted = elim counted [
+    | inl quiet ↦ quiet
+    | inr faulted ↦ (let closed = faulted.closed in cc)
+  ]
+
+  -- an ask of it that was answered, and one that wasn't
+  pub quiet_more : Counted 0 0 (state old.talk.line) (state new.talk.line) → new.failures ≡ old.failures → new.wants ≡ old.wants → IsCountedWire state old start → IsCountedWire state new start
+  quiet_more more failures wants counted =
+      let quiet = quiet_open counted in
+      inl (record { counted = quiet_first 0 0 start (state old.talk.line) (state new.talk.line) quiet.counted more; failures = failures ∙ quiet.failures; wants = wants ∙ quiet.wants })
+
+  pub faulted_more : (fault : PortFault) → CountedFault fault (state old.talk.line) (state new.talk.line) → new.is_open ≡ false → new.failures ≡ old.failures + failure_of fault → new.wants ≡ old.wants + want_of fault
+      → IsCountedWire state old start → IsCountedWire state new start
+  faulted_more fault more closed failures wants counted =
+      let quiet = quiet_open counted in
+      inr (record { closed = closed; fault = fault; counted = fault_since fault quiet.counted more; failures = omega (arith, failures, quiet.failures); wants = omega (arith, wants, quiet.wants) })
+    where
+      fault_since : (fault : PortFault) → Counted 0 0 start (state old.talk.line) → CountedFault fault (state old.talk.line) (state new.talk.line) → CountedFault fault start (state new.talk.line)
+      fault_since Down first behind = elim behind [
+        | inl failed ↦ inl (quiet_first 1 0 start (state old.talk.line) (state new.talk.line) first failed)
+        | inr ended ↦ inr (quiet_first 0 1 start (state old.talk.line) (state new.talk.line) first ended)
+      ]
+      fault_since Garbled first behind = quiet_first 0 0 start (state old.talk.line) (state new.talk.line) first behind
+      fault_since WrongHello first behind = quiet_first 0 0 start (state old.talk.line) (state new.talk.line) first behind
+      fault_since (Gave code) first behind = quiet_first 0 0 start (state old.talk.line) (state new.talk.line) first behind
+      fault_since Memory first behind = quiet_first 0 0 start (state old.talk.line) (state new.talk.line) first behind
+      fault_since Closed first behind = behind
+
+module _ {L : Type 0} (state : L → LineState) where
+  -- a wire that was never asked
+  pub new_quiet : (wire : WireState L) → wire.failures ≡ 0 → wire.wants ≡ 0 → IsCountedWire state wire (state wire.talk.line)
+  new_quiet wire failures wants = inl (record { counted = (omega arith, omega arith); failures = failures; wants = wants })
+
+  -- one that is shut keeps what it counted
+  pub counted_shut : (wire : WireState L) (start : LineState) → IsCountedWire state wire start → IsCountedWire state (record wire { is_open = false }) start
+  counted_shut wire start counted = elim counted [
+    | inl quiet ↦ inl (record { counted = quiet.counted; failures = quiet.failures; wants = quiet.wants })
+    | inr faulted ↦ inr (record { closed = refl; fault = faulted.fault; counted = faulted.counted; failures = faulted.failures; wants = faulted.wants })
+  ]
 
 module _ {L : Type 0} (state : L → LineState) where
   -- a wire that asked nothing yet, over a fresh line that tells its bytes

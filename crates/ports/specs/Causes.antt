@@ -13,7 +13,7 @@ use Rattle.frames.specs.declared.fault.FrameFault.TheVariants.{BadKind, BadLengt
 use Rattle.frames.specs.declared.fault.FrameFault.TheVariants.{Memory as NoMemory}
 use Rattle.ports.specs.declared.fault.PortFault.{PortFault}
 use Rattle.ports.specs.declared.fault.PortFault.TheVariants.{Down, Garbled, WrongHello, Gave, Memory, Closed}
-use Rattle.ports.specs.Lines.{LineState, Went}
+use Rattle.ports.specs.Lines.{LineState, Went, Counted}
 use Rattle.ports.specs.Talking.{Talk, TalkState, told, hello_once, shard_once, AskBrought, AskEnded}
 
 -- a fault that tells of bytes which no lawful frame begins with
@@ -112,6 +112,12 @@ Cause state (Gave code) round shard labels before after =
     (r s : ℕ) × IsLawful (FaultFrame r s code) × AskBrought state round shard labels (text_of (FaultFrame r s code)) before after
 Cause state Memory round shard labels before after = IsWanting state round shard labels before after
 Cause state Closed round shard labels before after = ⊥
+
+-- what a line counted in an ask that got no answer, whether or not it tells its bytes: it is down where one call failed, or one found the end; with any other fault neither
+abbrev pub CountedFault : PortFault → LineState → LineState → Type 0
+CountedFault Down before after = Counted 1 0 before after ⊎ Counted 0 1 before after
+CountedFault Closed before after = ⊥
+CountedFault fault before after = Counted 0 0 before after
 
 -- a fault that a wire over a faithful line may answer
 abbrev pub IsBlameless : PortFault → Type 0

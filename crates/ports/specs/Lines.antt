@@ -34,6 +34,10 @@ pub record Went (failed ended : ℕ) (said came : List ℕ) (before after : Line
   pub failures : after.failures ≡ before.failures + failed
   pub ends : after.ends ≡ before.ends + ended
 
+-- from `before` to `after` so many calls failed, and so many found the end, whether or not the line tells its bytes
+abbrev pub Counted : (failed ended : ℕ) → LineState → LineState → Type 0
+Counted failed ended before after = (after.failures ≡ before.failures + failed) × (after.ends ≡ before.ends + ended)
+
 -- one put: it sent all its bytes, or failed
 abbrev pub PutWent : {T : Type 0} → Result T LineFault → List ℕ → LineState → LineState → Type 0
 PutWent (Ok passed) bytes before after = Went 0 0 bytes [] before after

@@ -4,13 +4,13 @@ use Rattle.limits.specs.declared.TheConstants.{MAX_WORKERS}
 use Rattle.link_key.specs.declared.links.Link.{Link}
 use Rattle.shard_set.specs.Shards.{has_shard}
 use Rattle.frames.specs.FrameValue.{FrameValue, AskFrame}
-use Rattle.ports.specs.Lines.{LineState, HasRoom}
+use Rattle.ports.specs.Lines.{LineState, HasRoom, Counted}
 use Rattle.ports.specs.Exchanges.{Exchange, answers_of}
 use Rattle.ports.specs.Ports.{PortState, failure_of, want_of}
 use Rattle.ports.specs.Talking.{TalkState, told, HasGiven, IsInStep}
 use Rattle.ports.specs.declared.fault.PortFault.{PortFault}
 use Rattle.ports.specs.declared.fault.PortFault.TheVariants.{Closed}
-use Rattle.ports.specs.Causes.{Cause, IsBlameless}
+use Rattle.ports.specs.Causes.{Cause, CountedFault, IsBlameless}
 
 -- a wire: its talk, whether it is open, its counts, and the round and the shard of its last ask
 pub record WireState (L : Type 0) : Type 0 where
@@ -43,6 +43,26 @@ pub record IsNewWire {L : Type 0} (line : L) (cut : List (List Link)) (worker : 
 -- as a port
 abbrev pub port_of : {L : Type 0} → WireState L → PortState
 port_of wire = record { cut = wire.talk.cut; worker = wire.talk.worker; is_open = wire.is_open; asks = wire.asks; failures = wire.failures; wants = wire.wants; last = wire.last }
+
+-- ---- by what its line counts, whether or not it tells its bytes
+
+-- no ask got a fault, and since the line told this no call failed and none found the end
+pub record IsQuiet {L : Type 0} (state : L → LineState) (wire : WireState L) (start : LineState) : Type 0 where
+  pub counted : Counted 0 0 start (state wire.talk.line)
+  pub failures : wire.failures ≡ 0
+  pub wants : wire.wants ≡ 0
+
+-- one ask got a fault, which closed it, and since the line told this it counted just what fits that fault
+pub record HasFaulted {L : Type 0} (state : L → LineState) (wire : WireState L) (start : LineState) : Type 0 where
+  pub closed : wire.is_open ≡ false
+  pub fault : PortFault
+  pub counted : CountedFault fault start (state wire.talk.line)
+  pub failures : wire.failures ≡ failure_of fault
+  pub wants : wire.wants ≡ want_of fault
+
+-- why it is closed, over a line that told this when the wire was new: it was shut, or a fault closed it
+abbrev pub IsCountedWire : {L : Type 0} → (L → LineState) → WireState L → LineState → Type 0
+IsCountedWire state wire start = IsQuiet state wire start ⊎ HasFaulted state wire start
 
 -- ---- by what its line tells of itself
 

@@ -11,6 +11,8 @@
 //!   the frame that it waited for: the hello, or a reply, and then all of the ask had been sent before the end
 //!   was found. In an ask that found no memory the line neither failed nor ended, and the
 //!   bytes are those up to the frame that memory was wanting for.
+//! - Over any line, also one that tells no bytes, what was counted since the wire was new says why it is closed: one
+//!   call failed or found the end where it was down, and none where another fault closed it, or it was shut.
 //! - An ask that is answered sent the ask alone, and before it the shard where no ask sent it before; its answer
 //!   came behind that.
 //! - An open wire over a line that was fresh, and tells its bytes, sent shards of its cut that were asked for,

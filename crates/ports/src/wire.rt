@@ -2,12 +2,12 @@
 ghost use Rattle.std.specs.Prelude.{◌≡◌, ℕ, ◌+◌, ◌-◌, ◌<◌, ◌≤◌, ◌^◌, true, false, List, [], ◌∷◌, ◌++◌, length, IfOk, IfErr, OnErr};
 ghost use Rattle.link_key.specs.Link.{EndsUpTo};
 ghost use Rattle.link_key.specs.Cut.{links_at};
-ghost use Rattle.ports.specs.Lines.{HasRoom, IsFresh, Tells, ServesSoFar};
+ghost use Rattle.ports.specs.Lines.{LineState, HasRoom, IsFresh, Tells, ServesSoFar};
 ghost use Rattle.ports.specs.Exchanges.{Exchange, exchange_of};
 ghost use Rattle.ports.specs.Ports.{PortWent, AskWent, IsHonestAnswer, failure_of, want_of};
 ghost use Rattle.ports.specs.Causes.{IsBlameless};
 ghost use Rattle.ports.specs.Talking.{Asked};
-ghost use Rattle.ports.specs.Wires.{port_of, IsNewWire, IsSoundWire, IsHonestWire, WireExchanged, WireCause};
+ghost use Rattle.ports.specs.Wires.{port_of, IsNewWire, IsCountedWire, IsSoundWire, IsHonestWire, WireExchanged, WireCause};
 
 use crate::fault::PortFault;
 use crate::heard::Heard;
@@ -55,6 +55,9 @@ impl<'a, L: Line, A: Allocator + Copy> Wire<'a, L, A> {
         requires worker { worker < MAX_WORKERS }
         requires room { HasRoom (L.state line) }
         ensures new { IsNewWire line cut.now worker result }
+
+        // Over any line its counts will say why it is closed.
+        ensures counted { IsCountedWire L.state result (L.state line) }
 
         // Over a fresh line that tells its bytes it is sound, and over one that is faithful for the worker honest.
         ensures sound { IsFresh (L.state line) → Tells (L.state line)
@@ -133,6 +136,9 @@ impl<'a, L: Line, A: Allocator + Copy> Port<A> for Wire<'a, L, A> {
         ensures cause { IfErr result (λ e. self.old.is_open ≡ true
             → WireCause L.state e round shard labels.now self.old self.new) }
 
+        // By what the line counted since the wire was new, whether or not it tells its bytes: why it is closed.
+        ensures counted { (start : LineState) → IsCountedWire L.state self.old start → IsCountedWire L.state self.new start }
+
         // A closed wire does nothing.
         ensures closed { self.old.is_open ≡ false → self.new ≡ self.old }
 
@@ -164,6 +170,8 @@ impl<'a, L: Line, A: Allocator + Copy> Port<A> for Wire<'a, L, A> {
         ensures honest { IsHonestWire L.state L.faithful self.old → IsHonestWire L.state L.faithful self.new }
         ensures sound { (ends : ℕ) (exchanges : List Exchange)
             → IsSoundWire L.state self.old ends exchanges → IsSoundWire L.state self.new ends exchanges }
+
+        ensures counted { (start : LineState) → IsCountedWire L.state self.old start → IsCountedWire L.state self.new start }
 
         // Nothing else changes: the line is as it was.
         ensures talk { self.new.talk ≡ self.old.talk }

@@ -1,6 +1,9 @@
 use Rattle.std.proofs.Common.{[], refl, inl}
-use Rattle.ports.proofs.Wiring.{fresh_calm}
+use Rattle.ports.proofs.Wiring.{new_quiet, fresh_calm}
 use Rattle.ports.proofs.wire.Wire.new.Goals as goal
+
+pub returns-clause-counted : goal.returns-clause-counted
+returns-clause-counted g c = new_quiet g.L.Line.state _ refl refl
 
 pub returns-clause-sound : goal.returns-clause-sound
 returns-clause-sound g c fresh tells = inl ([], fresh_calm g.L.Line.state _ _ fresh tells refl refl c.empty.ensures refl refl refl refl)

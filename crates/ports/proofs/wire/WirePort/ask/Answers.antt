@@ -2,7 +2,7 @@ use Rattle.std.proofs.Common.{◌≡◌, ◌<◌, ◌+◌, [], ◌∷◌, ◌++�
 use Rattle.std.specs.Prelude.{true, length}
 use Rattle.ports.specs.Exchanges.{exchange_of}
 use Rattle.ports.proofs.Asking.{exchanged_more}
-use Rattle.ports.proofs.Wiring.{answered, served_answer, light_answer, not_closed, failed, blameless_fault}
+use Rattle.ports.proofs.Wiring.{answer_counted, cause_counted, quiet_more, faulted_more, answered, served_answer, light_answer, not_closed, failed, blameless_fault}
 use Rattle.ports.proofs.wire.WirePort.ask.Goals as goal
 
 pub returns-in-Ok-clause-exchanged : goal.returns-in-Ok-clause-exchanged
@@ -45,6 +45,19 @@ returns-in-Err-clause-sound_fault g c =
     let in_cut : c.args.shard < length c.self.inside.talk.cut = rw (sym c.self.view_is) at c.requires.shard in
     rw (sym c.self.view_is)
     (λ ends exchanges. failed g.L.Line.state c.args.round c.args.shard c.args.labels.now _ _ in_cut live refl refl c.in-Err.fault c.in-Err.ensures.cause _ _ ends exchanges (not_closed g.L.Line.state c.args.round c.args.shard c.args.labels.now _ _ c.in-Err.fault c.in-Err.ensures.cause) refl c.ask.ensures.cut c.ask.ensures.worker (ap (λ n. c.self.inside.failures + n) c.failure_of.ensures) (ap (λ n. c.self.inside.wants + n) c.want_of.ensures))
+
+pub returns-in-Ok-clause-counted : goal.returns-in-Ok-clause-counted
+returns-in-Ok-clause-counted g c =
+    let live : c.self.inside.is_open ≡ true = search rules in
+    let more = answer_counted g.L.Line.state c.args.round c.args.shard c.args.labels.now _ _ c.in-Ok.answer c.in-Ok.ensures.asked in
+    rw (sym c.self.view_is) (λ start. quiet_more g.L.Line.state _ _ start live more refl refl)
+
+pub returns-in-Err-clause-counted : goal.returns-in-Err-clause-counted
+returns-in-Err-clause-counted g c =
+    let live : c.self.inside.is_open ≡ true = search rules in
+    let cause = cause_counted g.L.Line.state c.args.round c.args.shard c.args.labels.now _ _ c.in-Err.fault c.in-Err.ensures.cause in
+    rw (sym c.self.view_is)
+    (λ start. faulted_more g.L.Line.state _ _ start live c.in-Err.fault cause refl (ap (λ n. c.self.inside.failures + n) c.failure_of.ensures) (ap (λ n. c.self.inside.wants + n) c.want_of.ensures))
 
 pub returns-in-Err-clause-blameless : goal.returns-in-Err-clause-blameless
 returns-in-Err-clause-blameless g c =

@@ -1,5 +1,5 @@
 use Rattle.std.proofs.Common.{sym}
-use Rattle.ports.proofs.Wiring.{went_shut}
+use Rattle.ports.proofs.Wiring.{counted_shut, went_shut}
 use Rattle.ports.proofs.wire.WirePort.shut.Goals as goal
 
 pub returns-clause-honest : goal.returns-clause-honest
@@ -7,3 +7,6 @@ returns-clause-honest g c = rw (sym c.self.view_is) (λ honest. let (carries, so
 
 pub returns-clause-sound : goal.returns-clause-sound
 returns-clause-sound g c = rw (sym c.self.view_is) (λ ends exchanges. went_shut g.L.Line.state _ _ ends exchanges)
+
+pub returns-clause-counted : goal.returns-clause-counted
+returns-clause-counted g c = rw (sym c.self.view_is) (λ start. counted_shut g.L.Line.state _ start)
