@@ -100,12 +100,12 @@ pub(crate) fn answered<A: Allocator + Copy + Send + Sync>(
 pub(crate) fn plain_offers(
     rt: &impl Abort,
     alloc: Global,
-    before: u32,
+    from: u32,
     links: &[Link],
     labels: &Labels,
 ) -> Result<Vec<(u32, u32)>, Fail> {
     let mut sorted = Vec::new(alloc);
-    let mut place = before;
+    let mut place = from;
     for link in links {
         sorted.push((*link, place))?;
         place = place.wrapping_add(1);
