@@ -59,7 +59,7 @@ fn frames_that_follow_each_other_are_read_one_by_one(rt: HostRuntime) -> Result<
 // Bytes that end, or a read that fails once so many were given, and what is told.
 #[test]
 fn each_fault_is_told_where_it_comes(rt: HostRuntime) -> Result<(), Fail> {
-    let rows: [(&[u8], usize, FrameFault); 19] = [
+    let rows: [(&[u8], usize, FrameFault); 20] = [
         // A stream that ends is torn but between frames.
         (&[], 100, FrameFault::Ended),
         (&HELLO[..3], 100, FrameFault::Torn),
@@ -80,6 +80,7 @@ fn each_fault_is_told_where_it_comes(rt: HostRuntime) -> Result<(), Fail> {
         (&[6, 0, 0, 0, 6], 100, FrameFault::BadKind),
         (&[0, 0, 0, 0, 7], 100, FrameFault::BadKind),
         (&[1, 0, 0, 0, 7], 100, FrameFault::BadLength),
+        (&[4, 0, 0, 0, 13], 100, FrameFault::BadLength),
         // A bad body by its version and then its fields.
         (
             &[1, 0, 0, 0, 6, 0, 2, 0, 0, 0, 64],
