@@ -13,7 +13,7 @@
 //! alone, and a socket tells nothing of what it was given.
 //!
 //! ```text
-//!   Workers::start ── a listener on 127.0.0.1, and for each worker
+//!   Workers::start ── for each worker a listener on 127.0.0.1, and over it
 //!         │
 //!       pair ──► TcpLine (near end) ══ a connection ══ TcpStream (far end)
 //!                   │                                       │ in a thread of its own

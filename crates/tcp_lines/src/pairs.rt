@@ -4,12 +4,16 @@ ghost use Rattle.tcp_lines.specs.Lines.{unused};
 
 use crate::line::TcpLine;
 use std::net::{Net, TcpListener, TcpStream};
+use std::time::Duration;
 use thiserror::Error;
+
+// A listener of this machine answers at once, unless strangers have filled its queue: then no wait ends well.
+const PATIENCE_SECONDS: u64 = 1;
 
 /// Why there is no pair.
 #[derive(Clone, Copy, Debug, PartialEq, Eq, Error)]
 pub enum PairFault {
-    /// The listener couldn't be connected to, or the connection not be set up.
+    /// The listener couldn't be connected to within a second, or the connection not be set up.
     #[error("cannot connect")]
     NoConnect,
     /// No connection could be accepted, or it not be set up.
@@ -31,7 +35,10 @@ pub fn pair<R: Net<Listener = TcpListener, Stream = TcpStream>>(
     ensures { IfOk result (λ ends. ends.0 ≡ unused) }
 {
     let address = listener.local_addr().map_err(|_| PairFault::NoConnect)?;
-    let near = TcpStream::connect(rt, address).map_err(|_| PairFault::NoConnect)?;
+    let patience = Duration::from_secs(PATIENCE_SECONDS);
+    let near = TcpStream::connect_timeout(rt, &address, patience).map_err(
+        |_| PairFault::NoConnect,
+    )?;
     let name = near.local_addr().map_err(|_| PairFault::NoConnect)?;
     near.set_nodelay(true).map_err(|_| PairFault::NoConnect)?;
     let (far, peer) = listener.accept().map_err(|_| PairFault::NoAccept)?;

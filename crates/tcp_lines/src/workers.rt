@@ -1,5 +1,5 @@
 //! Workers in threads of this process, each at the far end of a line.
-ghost use Rattle.std.specs.Prelude.{◌≡◌, ◌<◌, ◌≤◌, All, IfOk, length, vec_len};
+ghost use Rattle.std.specs.Prelude.{◌≡◌, ◌<◌, ◌≤◌, All, IfOk, IfSome, length, vec_len};
 ghost use Rattle.limits.specs.declared.TheConstants.{MAX_WORKERS};
 ghost use Rattle.tcp_lines.specs.Lines.{unused};
 
@@ -8,7 +8,6 @@ use crate::pairs::pair;
 use byte_streams::Untold;
 use limits::MAX_WORKERS;
 use std::alloc::{AllocError, Global};
-use std::io;
 use std::marker::Model;
 use std::net::{Ipv4Addr, Net, TcpListener, TcpStream};
 use std::thread::{self, JoinHandle, Threads};
@@ -32,10 +31,9 @@ impl Workers {
     /// Starts workers in threads of their own, at most `count`, and gives the lines to them: the line at each
     /// place is to the worker of that number.
     ///
-    /// It listens on the loopback address, at a port that the system picks, until all are started. A worker
-    /// whose connection can't be made, or whose thread can't be started, is left out, as all are where it can't
-    /// listen. An error is want of memory for the two lists, and comes before anything is started. A worker's
-    /// shards take memory of `Global`.
+    /// For each it listens on the loopback address, at a port that the system picks, until that connection is made. A
+    /// worker whose connection can't be made, or whose thread can't be started, is left out. An error is want of
+    /// memory for the two lists, and comes before anything is started. A worker's shards take memory of `Global`.
     pub fn start<R>(
         rt: &R,
         alloc: Global,
@@ -52,22 +50,12 @@ impl Workers {
     {
         let mut lines = Vec::with_capacity(alloc, count as usize)?;
         let mut threads = Vec::with_capacity(alloc, count as usize)?;
-        let Ok(mut listener) = listen(rt) else {
-            return Ok((lines, Workers { threads }));
-        };
         for _ in 0..count {
-            match pair(rt, &listener) {
-                Ok((line, far)) => {
-                    if let Some(thread) = start_one(rt, alloc, lines.len() as u32, far) {
-                        lines.push_reserved(line);
-                        threads.push_reserved(thread);
-                    }
+            if let Some((line, far)) = own_pair(rt) {
+                if let Some(thread) = start_one(rt, alloc, lines.len() as u32, far) {
+                    lines.push_reserved(line);
+                    threads.push_reserved(thread);
                 }
-                // A connection that was made may still be due to be accepted, so the next pair would meet a stranger.
-                Err(_) => match listen(rt) {
-                    Ok(another) => listener = another,
-                    Err(_) => break,
-                },
             }
         }
         Ok((lines, Workers { threads }))
@@ -82,9 +70,15 @@ impl Workers {
     }
 }
 
-// A listener that only this machine can connect to.
-fn listen<R: Net<Listener = TcpListener, Stream = TcpStream>>(rt: &R) -> io::Result<TcpListener> {
-    TcpListener::bind(rt, (Ipv4Addr::LOCALHOST, 0))
+// A pair over a listener of its own, which only this machine can connect to: it is open from just before its connect
+// until the pair is made, so that nobody else has the time to fill its queue, and a stranger costs one worker alone.
+fn own_pair<R: Net<Listener = TcpListener, Stream = TcpStream>>(
+    rt: &R,
+) -> Option<(TcpLine, TcpStream)>
+    ensures { IfSome result (λ ends. ends.0 ≡ unused) }
+{
+    let listener = TcpListener::bind(rt, (Ipv4Addr::LOCALHOST, 0)).ok()?;
+    pair(rt, &listener).ok()
 }
 
 // A thread that serves the stream as the worker of this number, and closes it at the end.
