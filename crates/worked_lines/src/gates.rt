@@ -1,6 +1,6 @@
 // Lines that answer only once another was asked, and else fail. They don't fail: ports are asked at the same time, and
 // a port takes over what another hasn't come to.
-ghost use Rattle.std.specs.Prelude.{◌≡◌, ◌<◌, IfOk};
+ghost use Rattle.std.specs.Prelude.{◌≡◌, ◌<◌, ◌≤◌, length, All, IfOk};
 ghost use Rattle.ports.specs.EngineLines.{line_of};
 ghost use Rattle.ports.specs.Lines.{HasRoom};
 ghost use Rattle.ports.specs.Testing.{with_stops};
@@ -18,13 +18,15 @@ use worked_graphs::SMALL_NET;
 const TURNS: u64 = 1 << 28;
 
 /// A line to a worker in memory, which counts its asks: its first gets after a put. At the first of them it waits until
-/// another line was asked so often; where it doesn't see that within its turns it fails.
+/// another line was asked so often, or all lines together where they share one count; where it doesn't see that within
+/// its turns it fails. It fails too where its first ask isn't for this shard, whose frame is the first to be put.
 #[derive(Drop)]
 struct Gate<'a> {
     line: EngineLine<Global>,
     asked: &'a AtomicU64,
     other: &'a AtomicU64,
     least: u64,
+    first: u8,
     has_put: bool,
     has_passed: bool,
     stopped: u64,
@@ -40,6 +42,10 @@ impl<'a> Line for Gate<'a> {
     ghost faithful = { λ s worker. IsEngineLine worker s.line };
 
     fn put(&mut self, bytes: &[u8]) -> Result<(), LineFault> {
+        if !self.has_passed && !self.has_put && !is_of_shard(bytes, self.first) {
+            self.stopped += 1;
+            return Err(LineFault::Failed);
+        }
         self.has_put = true;
         self.line.put(bytes)
     }
@@ -69,6 +75,11 @@ impl<'a> Gate<'a> {
     }
 }
 
+// Whether a frame with a shard is of this one: behind its kind and its length stands the number, in four bytes.
+fn is_of_shard(frame: &[u8], shard: u8) -> bool {
+    frame.get(8) == Some(&shard)
+}
+
 // Whether the count is seen to be so much.
 fn reaches(count: &AtomicU64, least: u64) -> bool {
     for _ in 0..TURNS {
@@ -79,13 +90,14 @@ fn reaches(count: &AtomicU64, least: u64) -> bool {
     false
 }
 
-// A gate before the worker of this number.
+// A gate before the worker of this number, which is first asked for this shard.
 fn gate_to<'a>(
     alloc: Global,
     worker: u32,
     asked: &'a AtomicU64,
     other: &'a AtomicU64,
     least: u64,
+    first: u8,
 ) -> Result<Gate<'a>, Fail>
     requires { worker < 64 }
     ensures room { IfOk result (λ line. HasRoom (with_stops (line_of line.line) line.stopped)) }
@@ -95,10 +107,23 @@ fn gate_to<'a>(
         asked,
         other,
         least,
+        first,
         has_put: false,
         has_passed: false,
         stopped: 0,
     })
+}
+
+// Nine gates with one count, each of which waits until all were asked.
+fn nine_gates<'a>(alloc: Global, asked: &'a AtomicU64) -> Result<Vec<Gate<'a>>, Fail>
+    ensures few { IfOk result (λ lines. length lines.items ≤ 64) }
+    ensures room { IfOk result (λ lines. All (λ line. HasRoom (with_stops (line_of line.line) line.stopped)) lines.items) }
+{
+    let mut lines = Vec::new(alloc);
+    for worker in 0..9u32 {
+        lines.push(gate_to(alloc, worker, asked, asked, 9, 2 * worker as u8)?)?;
+    }
+    Ok(lines)
 }
 
 // Each waits for the other's first ask.
@@ -106,8 +131,8 @@ fn gate_to<'a>(
 fn lines_that_wait_for_each_other(rt: HostRuntime) -> Result<(), Fail> {
     let alloc = rt.alloc();
     let (zero, one) = (AtomicU64::new(0), AtomicU64::new(0));
-    let first = gate_to(alloc, 0, &zero, &one, 1)?;
-    let lines = Vec::from_array(alloc, [first, gate_to(alloc, 1, &one, &zero, 1)?])?;
+    let first = gate_to(alloc, 0, &zero, &one, 1, 0)?;
+    let lines = Vec::from_array(alloc, [first, gate_to(alloc, 1, &one, &zero, 1, 1)?])?;
     let counts = run_of_worked(&rt, alloc, &SMALL_NET, Cutting::Even(2), lines);
     assert_eq!(rt; counts, [2, 2, 6, 6, 0, 0]);
     Ok(())
@@ -118,9 +143,21 @@ fn lines_that_wait_for_each_other(rt: HostRuntime) -> Result<(), Fail> {
 fn a_line_that_waits_for_three_asks(rt: HostRuntime) -> Result<(), Fail> {
     let alloc = rt.alloc();
     let (zero, one) = (AtomicU64::new(0), AtomicU64::new(0));
-    let first = gate_to(alloc, 0, &zero, &one, 3)?;
-    let lines = Vec::from_array(alloc, [first, gate_to(alloc, 1, &one, &zero, 0)?])?;
+    let first = gate_to(alloc, 0, &zero, &one, 3, 0)?;
+    let lines = Vec::from_array(alloc, [first, gate_to(alloc, 1, &one, &zero, 0, 2)?])?;
     let counts = run_of_worked(&rt, alloc, &SMALL_NET, Cutting::Even(4), lines);
     assert_eq!(rt; counts, [2, 4, 12, 12, 0, 0]);
+    Ok(())
+}
+
+// Nine lines over eighteen shards: each is first asked for a shard of its own, two places after the one before, and waits
+// until all were asked.
+#[test]
+fn nine_lines_that_wait_for_all(rt: HostRuntime) -> Result<(), Fail> {
+    let alloc = rt.alloc();
+    let asked = AtomicU64::new(0);
+    let lines = nine_gates(alloc, &asked)?;
+    let counts = run_of_worked(&rt, alloc, &SMALL_NET, Cutting::Even(18), lines);
+    assert_eq!(rt; counts, [2, 18, 54, 54, 0, 0]);
     Ok(())
 }

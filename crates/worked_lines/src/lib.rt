@@ -2,6 +2,7 @@
 //! public calls alone. What an example is for, and where a new one goes, stands at the head of `worked_examples`.
 //!
 //! ```text
+//!   in_memory       engines in memory, and a run over them: the premise of the promise over lines is met
 //!   runs            a run into memory, and what is said of each: the calls that the others make
 //!   served          the worked graphs over no line, one, two, and as many as there may be
 //!   stopping        lines that stop after so many bytes or calls
@@ -12,6 +13,10 @@
 //!   sizes           a run past the size of every inner piece, and one of many links between few vertices
 //! ```
 #![tactic(auto)]
+
+mod in_memory;
+
+pub use in_memory::text_over_workers;
 
 #[cfg(test)]
 mod drawn;

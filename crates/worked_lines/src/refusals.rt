@@ -1,7 +1,8 @@
 // Runs that end before their text is written, or while it is.
 ghost use Rattle.std.specs.Prelude.{◌<◌, ◌-◌, ◌^◌};
 
-use crate::runs::{engines, fault_of};
+use crate::in_memory::engines;
+use crate::runs::fault_of;
 use byte_streams::FusedSink;
 use forest_run::{Cutting, RunFault, run_lines};
 use gr_text::{GrFault, GrKind, ReadFault};

@@ -1,11 +1,10 @@
 // A run over lines into memory, and what holds of each.
-ghost use Rattle.std.specs.Prelude.{◌≡◌, ◌≤◌, length, All, IfOk};
-ghost use Rattle.ports.specs.EngineLines.{line_of};
+ghost use Rattle.std.specs.Prelude.{◌≤◌, length, All};
 ghost use Rattle.ports.specs.Lines.{HasRoom};
 
 use forest_run::{Cutting, Report, RunFault, run_lines};
-use ports::{EngineLine, Line};
-use std::alloc::{AllocError, Global};
+use ports::Line;
+use std::alloc::Global;
 use std::process::Abort;
 use std::sync::Wait;
 use std::thread::Threads;
@@ -13,19 +12,6 @@ use worked_graphs::Worked;
 
 /// What a run did: merging rounds, shards, asks, answers taken, scans without a worker, ports closed.
 pub(crate) type Counts = [u64; 6];
-
-// Lines to so many workers, numbered from 0.
-pub(crate) fn engines(alloc: Global, count: u32) -> Result<Vec<EngineLine<Global>>, AllocError>
-    requires { count ≤ 64 }
-    ensures count { IfOk result (λ lines. length lines.items ≡ count) }
-    ensures room { IfOk result (λ lines. All (λ line. HasRoom (line_of line)) lines.items) }
-{
-    let mut lines = Vec::new(alloc);
-    for worker in 0..count {
-        lines.push(EngineLine::new(alloc, worker)?)?;
-    }
-    Ok(lines)
-}
 
 // The counts of a report over so many lines: each ask brought an answer or closed a port; each shard of each round was
 // answered, or scanned without a worker where all ports were closed; the rounds are within the bound.

@@ -1,5 +1,6 @@
 // The worked graphs over lines to workers in memory.
-use crate::runs::{engines, run_of_worked};
+use crate::in_memory::{engines, text_over_workers};
+use crate::runs::run_of_worked;
 use forest_run::Cutting;
 use std::test::Fail;
 use worked_graphs::{A_PATH_OF_EIGHT, NO_VERTICES, SMALL_NET, WORKED};
@@ -10,6 +11,16 @@ fn the_small_net_over_two_workers(rt: HostRuntime) -> Result<(), Fail> {
     let lines = engines(rt.alloc(), 2)?;
     let counts = run_of_worked(&rt, rt.alloc(), &SMALL_NET, Cutting::Even(2), lines);
     assert_eq!(rt; counts, [2, 2, 6, 6, 0, 0]);
+    Ok(())
+}
+
+// The same by the call whose contract says by definitions which text it is.
+#[test]
+fn the_text_of_the_small_net(rt: HostRuntime) -> Result<(), Fail> {
+    for workers in 0..3u32 {
+        let text = text_over_workers(&rt, rt.alloc(), SMALL_NET.file, Cutting::Even(2), workers);
+        assert_eq!(rt; text.expect(&rt, "a forest").as_slice(), SMALL_NET.text);
+    }
     Ok(())
 }
 
@@ -36,20 +47,39 @@ fn a_path_of_eight(rt: HostRuntime) -> Result<(), Fail> {
     Ok(())
 }
 
-// As many lines and shards as there may be; all but eight of the shards are empty.
+// As many shards as there may be, without a line, over one, over more than 32, and over as many as there may be; all but
+// eight of the shards are empty.
 #[test]
-fn the_most_workers_and_shards(rt: HostRuntime) -> Result<(), Fail> {
-    let lines = engines(rt.alloc(), 64)?;
-    let counts = run_of_worked(&rt, rt.alloc(), &SMALL_NET, Cutting::Even(4096), lines);
-    assert_eq!(rt; counts, [2, 4096, 12_288, 12_288, 0, 0]);
+fn the_most_shards(rt: HostRuntime) -> Result<(), Fail> {
+    for (workers, answered, alone) in [
+        (0u32, 0, 12_288),
+        (1, 12_288, 0),
+        (33, 12_288, 0),
+        (64, 12_288, 0),
+    ] {
+        let lines = engines(rt.alloc(), workers.min(64))?;
+        let counts = run_of_worked(&rt, rt.alloc(), &SMALL_NET, Cutting::Even(4096), lines);
+        assert_eq!(rt;
+            counts,
+            [2, 4096, answered, answered, alone, 0],
+            "over {workers}"
+        );
+    }
     Ok(())
 }
 
-// In one shard, in five, and in three of which the first two are empty: no worker answers ill.
+// In one shard, even and at no place; in five; in three of which the first two are empty; and in as many as there may
+// be, with all links in the last: no worker answers ill.
 #[test]
 fn each_worked_graph_over_up_to_two_workers(rt: HostRuntime) -> Result<(), Fail> {
     for graph in WORKED {
-        for cutting in [Cutting::Even(1), Cutting::Even(5), Cutting::At(&[0, 0])] {
+        for cutting in [
+            Cutting::Even(1),
+            Cutting::At(&[]),
+            Cutting::Even(5),
+            Cutting::At(&[0, 0]),
+            Cutting::At(&[0; 4095]),
+        ] {
             for workers in 0..3u32 {
                 let lines = engines(rt.alloc(), workers)?;
                 let counts = run_of_worked(&rt, rt.alloc(), &graph, cutting, lines);

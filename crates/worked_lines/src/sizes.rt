@@ -1,10 +1,11 @@
-// A run past the size of every inner piece, of 10,000 vertices and links, and one of 9,000 links between few vertices.
-use crate::runs::{engines, run_of};
+// A run past the size of every inner piece, of 40,000 vertices and links and 15 merging rounds, and one of 9,000 links between few vertices.
+use crate::in_memory::engines;
+use crate::runs::run_of;
 use forest_run::Cutting;
 use std::alloc::Global;
 use std::test::Fail;
 
-const MANY: u32 = 10_000;
+const MANY: u32 = 40_000;
 
 // The weight of the link from this vertex to the next: how often its number can be halved. So in each round each second
 // component is joined to the one after it, and an odd last one to those before it.
@@ -22,7 +23,7 @@ fn push_arc(alloc: Global, text: &mut Vec<u8>, vertex: u32) -> Result<(), Fail> 
 
 // A ring: the arcs of the path in a scattered order, and the heaviest one, which closes it.
 fn ring(alloc: Global) -> Result<Vec<u8>, Fail> {
-    let mut file = Vec::from_slice(alloc, b"p sp 10000 10000\na 10000 1 20\n")?;
+    let mut file = Vec::from_slice(alloc, b"p sp 40000 40000\na 40000 1 20\n")?;
     for place in 0..MANY - 1 {
         push_arc(alloc, &mut file, 1 + place * 7919 % (MANY - 1))?;
     }
@@ -32,7 +33,7 @@ fn ring(alloc: Global) -> Result<Vec<u8>, Fail> {
 // The path of so many vertices, by weight and then by vertex, behind its problem line.
 fn path_text(alloc: Global, head: &[u8], count: u32) -> Result<Vec<u8>, Fail> {
     let mut text = Vec::from_slice(alloc, head)?;
-    for weight_of in 0..14u32 {
+    for weight_of in 0..16u32 {
         for vertex in 1..count {
             if weight(vertex) == weight_of {
                 push_arc(alloc, &mut text, vertex)?;
@@ -42,12 +43,12 @@ fn path_text(alloc: Global, head: &[u8], count: u32) -> Result<Vec<u8>, Fail> {
     Ok(text)
 }
 
-// The components are halved in each round: 10,000, 5,000, and so on to 4, 2, 1.
+// The components are halved in each round: 40,000, 20,000, and so on to 625, 312, and to 4, 2, 1.
 #[test]
-fn a_ring_of_ten_thousand_over_three_workers(rt: HostRuntime) -> Result<(), Fail> {
+fn a_ring_of_forty_thousand_over_three_workers(rt: HostRuntime) -> Result<(), Fail> {
     let alloc = rt.alloc();
     let file = ring(alloc)?;
-    let text = path_text(alloc, b"p sp 10000 9999\n", MANY)?;
+    let text = path_text(alloc, b"p sp 40000 39999\n", MANY)?;
     let lines = engines(alloc, 3)?;
     let size = (MANY, u64::from(MANY));
     let counts = run_of(
@@ -59,7 +60,7 @@ fn a_ring_of_ten_thousand_over_three_workers(rt: HostRuntime) -> Result<(), Fail
         text.as_slice(),
         size,
     );
-    assert_eq!(rt; counts, [13, 7, 98, 98, 0, 0]);
+    assert_eq!(rt; counts, [15, 7, 112, 112, 0, 0]);
     Ok(())
 }
 

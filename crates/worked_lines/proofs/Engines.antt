@@ -1,0 +1,55 @@
+-- New lines to engines, numbered from 0, and what a run over them leaves in memory.
+use Rattle.std.proofs.Common.{◌≡◌, ◌<◌, ℕ, List, [], ◌∷◌, ◌++◌, length, get_or, inl, inr, Some, None, Err, refl, sym, subst, arith, length-append}
+use Rattle.std.proofs.lemmas.Bool.{cases_lt}
+use Rattle.std.proofs.lemmas.List.{get_or_append_left, get_or_push}
+use Rattle.std.proofs.lemmas.List.Elements.{All-nil, All-push}
+use Rattle.byte_streams.specs.Streams.{SourceState, SinkState, tells_held}
+use Rattle.byte_streams.proofs.Streaming.{gave_to_end, took_told}
+use Rattle.gr_text.specs.ForestText.{forest_text}
+use Rattle.gr_text.specs.Graph.{GraphValue}
+use Rattle.link_key.specs.declared.links.Link.{Link}
+use Rattle.ports.specs.EngineLines.{EngineLineState, line_of, IsEngineLine}
+use Rattle.ports.specs.Lines.{IsFresh, Tells}
+use Rattle.forest_run.specs.Files.{IsFileOf, IsForestTextOf}
+use Rattle.forest_run.specs.Outcomes.{streams, IsDone, IsLeast}
+use Rattle.forest_run.specs.LinesRun.{IsUnhindered}
+use Rattle.forest_run.specs.WiredLines.{AreServed}
+use Rattle.forest_run.specs.declared.fault.RunFault.{RunFault}
+use Rattle.forest_run.specs.declared.fault.RunFault.TheVariants as fault
+
+abbrev pub AreEngines : List EngineLineState → Type 0
+AreEngines lines = AreServed line_of (λ line worker. IsEngineLine worker line) lines
+
+pub no_engines : AreEngines []
+no_engines = (All-nil (λ line. IsFresh (line_of line) × Tells (line_of line)), λ worker d b. absurd (omega arith))
+
+-- a line to an engine tells all its bytes, and one more stands for the worker of the next number
+pub engine_more : (lines : List EngineLineState) (line : EngineLineState) (number : ℕ) → number ≡ length lines → AreEngines lines → IsEngineLine number line → IsFresh (line_of line)
+    → AreEngines (lines ++ line ∷ [])
+engine_more lines line number at served is fresh = (
+  All-push (λ l. IsFresh (line_of l) × Tells (line_of l)) lines line served.0 (fresh, record { sent = refl; got = refl }),
+  λ worker d b. elim (cases_lt worker (length lines)) [
+    | inl before ↦ subst (IsEngineLine worker) (sym (get_or_append_left lines (line ∷ []) d worker before)) (served.1 worker d before)
+    | inr past ↦
+        let last : length lines ≡ worker = omega (arith, length-append lines (line ∷ [])) in
+        let same : number ≡ worker = omega (arith, at, last) in
+        subst (IsEngineLine worker) (sym (get_or_push lines line d worker last)) (subst (λ k. IsEngineLine k line) same is)
+  ],
+)
+
+-- where a source told these bytes and an empty sink took the forest's text, that is the text of their forest
+pub text_is : (says : GraphValue → List Link → Type 0) (bytes text : List ℕ) (s t : SourceState) (a b : SinkState)
+    → s.left ≡ Some bytes → a.held ≡ Some [] → b.held ≡ Some text → IsDone IsLeast says (streams s a) (streams t b) → IsForestTextOf bytes text
+text_is says bytes text s t a b told empty held ran =
+    let same : ran.bytes ≡ bytes = sym (gave_to_end 0 1 bytes ran.bytes s t told (omega arith) ran.read) in
+    let out = took_told 0 [] (forest_text ran.graph.vertices ran.forest) a b empty ran.written in
+    (ran.graph, ran.forest, record { file = subst (λ (xs : List ℕ). IsFileOf xs ran.graph) same ran.file; least = ran.found_is }, cc)
+
+-- a fault that fits a run into a sink that tells its bytes alone fits one into a sink that tells nothing
+pub unhindered : (why : RunFault) (a b : SinkState) → IsUnhindered {X = Unit {0}} (Err why) a b → IsUnhindered {X = Unit {0}} (Err why) (tells_held None) (tells_held None)
+unhindered (fault.Read why) a b is = is
+unhindered (fault.Cut why) a b is = is
+unhindered (fault.Rounds round) a b is = absurd is
+unhindered (fault.Missed link) a b is = absurd is
+unhindered fault.Memory a b is = tt
+unhindered (fault.Write written) a b is = λ calm. let never = calm.1 in cc

@@ -1,0 +1,65 @@
+//! A run over workers in memory: lines of which the promise of a run over lines speaks, a source that tells its bytes,
+//! and a sink that tells those that it took.
+ghost use Rattle.std.specs.Prelude.{◌≡◌, ◌≤◌, None, length, All, IfOk};
+ghost use Rattle.limits.specs.declared.TheConstants.{MAX_WORKERS};
+ghost use Rattle.byte_streams.specs.Streams.{tells_held};
+ghost use Rattle.gr_text.specs.Graph.{GraphValue};
+ghost use Rattle.ports.specs.EngineLines.{line_of, IsEngineLine};
+ghost use Rattle.ports.specs.Lines.{HasRoom};
+ghost use Rattle.forest_run.specs.Cuttings.{cut_refusal};
+ghost use Rattle.forest_run.specs.Files.{IsFileOf, IsForestTextOf};
+ghost use Rattle.forest_run.specs.LinesRun.{IsUnhindered};
+ghost use Rattle.forest_run.specs.WiredLines.{AreServed};
+
+use forest_run::{Cutting, RunFault, run_lines};
+use ports::EngineLine;
+use std::alloc::{AllocError, Allocator};
+use std::sync::Wait;
+use std::thread::Threads;
+
+// New lines to so many workers in memory, numbered from 0.
+pub(crate) fn engines<A: Allocator + Copy>(
+    alloc: A,
+    count: u32,
+) -> Result<Vec<EngineLine<A>, A>, AllocError>
+    requires few { count ≤ MAX_WORKERS }
+    ensures count { IfOk result (λ lines. length lines.items ≡ count) }
+    ensures room { IfOk result (λ lines. All (λ line. HasRoom (line_of line)) lines.items) }
+    ensures served { IfOk result (λ lines. AreServed line_of (λ line worker. IsEngineLine worker line) lines.items) }
+{
+    let mut lines = Vec::new(alloc);
+    for worker in 0..count {
+        lines.push(EngineLine::new(alloc, worker)?)?;
+    }
+    Ok(lines)
+}
+
+/// The text of the forest of a file whose bytes are in memory, found over so many workers in memory.
+///
+/// It shows that the premise can be met under which [`run_lines`] promises the minimum spanning forest: its lines are
+/// new, and each carries its worker's session. A growth of the text that is refused is a failed write.
+pub fn text_over_workers<A: Allocator + Copy + Send + Sync, R: Threads + Wait + Sync>(
+    rt: &R,
+    alloc: A,
+    bytes: &[u8],
+    cutting: Cutting,
+    workers: u32,
+) -> Result<Vec<u8, A>, RunFault>
+    requires few { workers ≤ MAX_WORKERS }
+
+    // By definitions alone, and in which rounds and over which workers it was found doesn't matter.
+    ensures text { IfOk result (λ text. IsForestTextOf bytes.now text.items) }
+
+    // Where the cut of the file's graph is allowed, want of memory alone can hinder it.
+    ensures ends_well { (graph : GraphValue) → IsFileOf bytes.now graph
+        → cut_refusal cutting.entry (length graph.links) ≡ None
+        → IsUnhindered result (tells_held None) (tells_held None) }
+{
+    let Ok(lines) = engines(alloc, workers) else {
+        return Err(RunFault::Memory);
+    };
+    let mut source = bytes;
+    let mut text = Vec::new(alloc);
+    run_lines(rt, alloc, &mut source, cutting, lines, &mut text)?;
+    Ok(text)
+}
