@@ -17,7 +17,7 @@ use Rattle.link_key.proofs.Walks.{joins_more}
 use Rattle.round_theory.specs.LinkSet.{SameLinks}
 use Rattle.round_theory.specs.Offers.{Leaves}
 use Rattle.round_theory.proofs.Cutting.{flat_map_contains}
-use Rattle.round_theory.proofs.Cycles.{no_cycle_part}
+use Rattle.link_key.proofs.Cycles.{no_cycle_part}
 use Rattle.round_theory.proofs.Leaving.{leaves_apart, spans_where_none_leaves}
 use Rattle.round_core.specs.Solver.{Progress, vertices, IsProgress, is_apart, missed, IsFinished}
 

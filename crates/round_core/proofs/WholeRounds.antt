@@ -13,7 +13,7 @@ use Rattle.round_theory.specs.LinkSet.{IsPartOf, SameLinks}
 use Rattle.round_theory.specs.Labelling.{IsVertex}
 use Rattle.round_theory.specs.Offers.{Leaves, IsPick}
 use Rattle.round_theory.specs.Rounds.{TakenAfter, IsMergingRounds}
-use Rattle.round_theory.proofs.Forests.{spanning_part_is_forest}
+use Rattle.link_key.proofs.ForestSpans.{spanning_part_is_forest}
 use Rattle.round_theory.proofs.Labels.{labelling_alike, labelling_is_labels}
 use Rattle.round_theory.proofs.Leaving.{leaves_low, least_leaving_unique}
 use Rattle.round_theory.proofs.OfferSteps.{left_label_is_vertex}
