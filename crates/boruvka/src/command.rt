@@ -5,6 +5,7 @@ ghost use Rattle.limits.specs.declared.TheConstants.{MAX_WORKERS};
 ghost use Rattle.clap.specs.Words.{kind_of};
 ghost use Rattle.ports.specs.Lines.{HasRoom};
 ghost use Rattle.forest_run.specs.WiredLines.{AreServed};
+ghost use Rattle.tcp_lines.specs.Lines.{line_of, unused};
 ghost use Rattle.boruvka.specs.Arguments.{IsMistake, file_named, is_set, refusals};
 ghost use Rattle.boruvka.specs.Messages.{message_line};
 ghost use Rattle.boruvka.specs.Status.{told, asked_of, status_of_run, report_of, IsReported, EndsOver, EndsAs, Obeys, ObeysWords};
@@ -25,7 +26,7 @@ use std::io::{self, ErrorKind};
 use std::net::{Net, TcpListener, TcpStream};
 use std::sync::Wait;
 use std::thread::Threads;
-use tcp_lines::Workers;
+use tcp_lines::{TcpLine, Workers};
 
 // Tells the report of a run that ended well, where it is wanted, or why it ended ill.
 fn tell_end<E: Sink>(wants_report: bool, ended: &Result<Report, RunFault>, errors: &mut E) -> u8
@@ -107,6 +108,43 @@ pub fn run_over<
     tell_end(wants_report, &ended, errors)
 }
 
+// Runs over the lines to the workers that were started, a line for each of them, as the words ask for. Each of them has
+// ended when it answers.
+fn run_started<R, I, O, E>(
+    rt: &R,
+    chosen: &Options,
+    started: (Vec<TcpLine>, Workers),
+    input: &mut I,
+    output: &mut O,
+    errors: &mut E,
+) -> u8
+where
+    R: Alloc<A = Global> + Threads + Wait + Sync,
+    I: Source,
+    O: Sink,
+    E: Sink,
+    requires few { length started.0.items ≤ MAX_WORKERS }
+    requires new { All (λ line. line ≡ unused) started.0.items }
+    requires all { started.1 ≡ length started.0.items }
+    requires input { I.can_read input.old }
+    requires output { O.can_write output.old }
+    requires errors { E.can_write errors.old }
+
+    // Over just these lines, whatever comes over them.
+    ensures ends { EndsOver line_of (λ line worker. ⊥) started.0.items chosen.now.shards chosen.now.report result
+        (told I.state O.state E.state input.old output.old errors.old)
+        (told I.state O.state E.state input.new output.new errors.new) }
+    ensures status { result ≤ 5 }
+    ensures silent { LeavesOutput result → IsUntouched (O.state output.old) (O.state output.new) }
+    ensures quiet { chosen.now.report ≡ false → result ≡ 0 → errors.new ≡ errors.old }
+{
+    let (lines, workers) = started;
+    let (shards, wants_report) = (chosen.shards, chosen.report);
+    let status = run_over(rt, shards, wants_report, lines, input, output, errors);
+    workers.join(rt);
+    status
+}
+
 // Runs as the words ask for, on this input. Where it runs over workers, each of them has ended when it answers.
 fn run_on<R, I, O, E>(rt: &R, chosen: &Options, input: &mut I, output: &mut O, errors: &mut E) -> u8
 where
@@ -140,14 +178,11 @@ where
         return tell_end(chosen.report, &ended, errors);
     }
     let (_held, count) = workers_beside(rt, chosen.workers);
-    let Ok((lines, workers)) = Workers::start(rt, alloc, count) else {
+    let Ok(started) = Workers::start(rt, alloc, count) else {
         tell(errors, &RunFault::Memory);
         return NO_MEMORY;
     };
-    let (shards, wants_report) = (chosen.shards, chosen.report);
-    let status = run_over(rt, shards, wants_report, lines, input, output, errors);
-    workers.join(rt);
-    status
+    run_started(rt, chosen, started, input, output, errors)
 }
 
 /// Does what lawful words ask for, and answers the status.
