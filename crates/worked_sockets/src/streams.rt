@@ -9,6 +9,7 @@ use std::io::{Read, Write};
 use std::net::{Ipv4Addr, Net, TcpListener, TcpStream};
 use std::process::Abort;
 use std::test::Fail;
+use std::time::{Duration, Instant};
 use tcp_lines::{PairFault, TcpLine, pair};
 
 fn listen(rt: &impl Net<Listener = TcpListener, Stream = TcpStream>) -> io::Result<TcpListener> {
@@ -71,6 +72,25 @@ fn a_stranger_who_connected_before_is_told(rt: HostRuntime) -> Result<(), Fail> 
     drop(stranger);
     let another = listen(&rt)?;
     assert!(rt; pair(&rt, &another).is_ok());
+    Ok(())
+}
+
+// A listener whose queue strangers have filled answers nobody, and isn't waited for.
+#[test]
+fn a_listener_without_room_cannot_be_connected_to(rt: HostRuntime) -> Result<(), Fail> {
+    let listener = listen(&rt)?;
+    let address = listener.local_addr()?;
+    let mut strangers = Vec::new(rt.alloc());
+    for _ in 0..200 {
+        match TcpStream::connect_timeout(&rt, &address, Duration::from_millis(200)) {
+            Ok(stranger) => strangers.push(stranger)?,
+            Err(_) => break,
+        }
+    }
+    let start = Instant::now(&rt)?;
+    let refused = pair(&rt, &listener);
+    assert!(rt; matches!(refused, Err(PairFault::NoConnect)));
+    assert!(rt; start.elapsed(&rt)? < Duration::from_secs(10));
     Ok(())
 }
 

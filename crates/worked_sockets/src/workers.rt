@@ -5,12 +5,12 @@ ghost use Rattle.tcp_lines.specs.Lines.{unused};
 use forest_run::{Cutting, Report, run_lines};
 use link_key::{Cut, Labels};
 use ports::{Port, PortFault, Wire};
-use std::alloc::{AllocError, Global};
-use std::net::{Ipv4Addr, TcpListener};
+use std::alloc::{Alloc, AllocError, Global};
+use std::net::{Ipv4Addr, Net, TcpListener, TcpStream};
 use std::process::Abort;
 use std::sync::Wait;
 use std::test::Fail;
-use std::thread::Threads;
+use std::thread::{self, Threads};
 use std::time::{Duration, Instant};
 use tcp_lines::{TcpLine, Workers, pair};
 use worked_graphs::{EQUAL_WEIGHTS, SMALL_NET, have_labels, links_of};
@@ -158,18 +158,48 @@ fn add(lines: &mut Vec<TcpLine>, line: TcpLine) -> Result<(), AllocError>
     Ok(())
 }
 
-#[test]
-fn a_worker_who_hangs_up_leaves_its_shards_to_the_other(rt: HostRuntime) -> Result<(), Fail> {
+// A worker, and a line whose far end is closed or soon will be: the worker answers all.
+fn expect_all_of_the_other<R>(rt: &R, line: TcpLine) -> Result<(), Fail>
+where
+    R: Alloc<A = Global>
+        + Net<Listener = TcpListener, Stream = TcpStream>
+        + Threads
+        + Abort
+        + Wait
+        + Sync
+        + Copy
+        + Send
+        + 'static,
+    requires { line ≡ unused }
+{
     let alloc = rt.alloc();
-    let (mut lines, workers) = Workers::start(&rt, alloc, 1)?;
-    let listener = TcpListener::bind(&rt, (Ipv4Addr::LOCALHOST, 0))?;
-    let (line, far) = pair(&rt, &listener).map_err(|_| "a pair")?;
-    drop(far);
+    let (mut lines, workers) = Workers::start(rt, alloc, 1)?;
     add(&mut lines, line)?;
-    let report = report_of(&rt, alloc, 2, lines);
+    let report = report_of(rt, alloc, 2, lines);
     assert_eq!(rt; (report.rounds, report.answered, report.alone), (2, 6, 0));
     assert!(rt; report.closed <= 1);
     assert_eq!(rt; report.asked, 6 + report.closed);
-    workers.join(&rt);
+    workers.join(rt);
+    Ok(())
+}
+
+#[test]
+fn a_worker_who_hangs_up_leaves_its_shards_to_the_other(rt: HostRuntime) -> Result<(), Fail> {
+    let listener = TcpListener::bind(&rt, (Ipv4Addr::LOCALHOST, 0))?;
+    let (line, far) = pair(&rt, &listener).map_err(|_| "a pair")?;
+    drop(far);
+    expect_all_of_the_other(&rt, line)
+}
+
+// The same where its thread hangs up, at whatever time that is.
+#[test]
+fn a_thread_that_drops_its_stream_leaves_its_shards_to_the_other(
+    rt: HostRuntime,
+) -> Result<(), Fail> {
+    let listener = TcpListener::bind(&rt, (Ipv4Addr::LOCALHOST, 0))?;
+    let (line, far) = pair(&rt, &listener).map_err(|_| "a pair")?;
+    let thread = thread::spawn(&rt, move || drop(far))?;
+    expect_all_of_the_other(&rt, line)?;
+    thread.join(&rt);
     Ok(())
 }
