@@ -1,7 +1,7 @@
 #!/usr/bin/env python3
 """Tries wrong bodies many at a time: each has to be refused by the prover.
 
-usage: tests/wrong_bodies.py [--must-fail] [--self-test] [CRATE..]
+usage: tests/wrong_bodies.py [--jobs N] [--must-fail] [--self-test] [CRATE..]
 
 Each `crates/NAME/wrong-bodies/*.edit` turns the body of a function. As many edits as touch different functions go
 into one copy of the crate, and one `rt check` of that copy has to tell each of these functions as not proved: a
@@ -12,6 +12,8 @@ its proof files only name what the edit took away, the edit is tried alone, and 
 told as suspicious. One that is told as proved, or not told at all, since the prover waits for another edit's function,
 is tried alone too before it counts as survived.
 
+  --jobs N      so many crates side by side (if not set: one for each two processors, and for each 4 GB of memory that
+                is free); where several go, the lines of a crate are printed once it is done
   --must-fail   the edits of must-fail/ too, in the same way (`rt must-fail` tries them one at a time)
   --self-test   puts one body that is right among the wrong ones of each crate, which has to be told as survived
   CRATE..       only these crates
@@ -24,9 +26,10 @@ that matters:
     old: a text that stands once in that file
     new: what stands there in its place
 
-The crate's own `out/` and those of the crates below it are copied, so that only what an edit touches is proved
-again. RT is the command that checks (`rt`, if not set). The last line is `N wrong bodies refused, M survived`, and
-the status is 0 only where none survived and each edit could be tried.
+Each crate is checked as it stands first. Its own `out/` and those of the crates below it are copied then, so that
+only what an edit touches is proved again. RT is the command that checks (`rt`, if not set). The last line, over all
+crates, is `N wrong bodies refused, M survived`, and the status is 0 only where none survived and each edit could be
+tried.
 """
 import os
 import re
@@ -36,7 +39,9 @@ import shutil
 import subprocess
 import sys
 import tempfile
+import threading
 import time
+from concurrent.futures import ThreadPoolExecutor
 from dataclasses import dataclass, field
 
 ROOT = os.path.dirname(os.path.dirname(os.path.realpath(__file__)))
@@ -44,6 +49,9 @@ RT = shlex.split(os.environ.get("RT", "rt"))
 NAME_OF_EDIT = re.compile(r"[A-Za-z0-9_-][A-Za-z0-9_.-]*\.edit")
 # What a proof file says where it names something that the edit took away.
 NAMES_ALONE = re.compile(r"has no field|is not in scope|has no `|was not admitted")
+EACH = 4_000_000_000  # bytes of free memory for each crate that is tried
+HOW = {"stdin": subprocess.DEVNULL, "stdout": subprocess.PIPE, "stderr": subprocess.STDOUT, "errors": "replace"}
+CUT_OFF = threading.Event()
 
 
 @dataclass
@@ -243,8 +251,8 @@ def packed(edits, texts):
 class Room:
     """A copy of a crate, with what stands below it, in a folder of its own."""
 
-    def __init__(self, crate, lines, folder):
-        self.crate, self.folder = crate, f"{folder}/crates/{crate}"
+    def __init__(self, crate, lines, folder, flags):
+        self.crate, self.folder, self.flags = crate, f"{folder}/crates/{crate}", flags
         names = below(crate, lines)
         os.makedirs(f"{folder}/crates")
         with open(f"{folder}/crates.txt", "w", encoding="utf-8") as it:
@@ -273,8 +281,7 @@ class Room:
         for file, text in texts.items():
             with open(f"{self.folder}/{file}", "w", encoding="utf-8") as it:
                 it.write(text)
-        how = {"stdin": subprocess.DEVNULL, "stdout": subprocess.PIPE, "stderr": subprocess.STDOUT, "errors": "replace"}
-        said = subprocess.run([*RT, "check"], cwd=self.folder, **how).stdout
+        said = subprocess.run([*RT, "check", *self.flags], cwd=self.folder, **HOW).stdout
         return said, next((it for it in reversed(said.split("\n")) if it.startswith("logic=")), "")
 
 
@@ -343,17 +350,16 @@ def planted(crate, edits, texts):
     return next((it for it in found if not it.touched & taken), found[0] if found else None)
 
 
-def try_crate(crate, lines, folders, tests_itself):
+def is_proved(crate):
+    """Whether the crate itself is proved: what its check keeps in out/, and in those of the crates below, the copies begin with."""
+    return not subprocess.run([*RT, "check"], cwd=f"{ROOT}/crates/{crate}", **HOW).returncode
+
+
+def try_crate(crate, lines, folders, tests_itself, flags, say):
     """The numbers of edits that were refused, that survived and that couldn't be tried."""
-    # the crate's own check keeps its work in out/, and that of the crates below it, over which the copies are checked
-    how = {"stdin": subprocess.DEVNULL, "stdout": subprocess.PIPE, "stderr": subprocess.STDOUT, "errors": "replace"}
-    own = subprocess.run([*RT, "check"], cwd=f"{ROOT}/crates/{crate}", **how)
-    if own.returncode:
-        print(f"{crate}: the crate itself is not proved, so nothing was tried", flush=True)
-        return 0, 0, 1
     edits, unfit = [], 0
     with tempfile.TemporaryDirectory(prefix="wrong-bodies-") as folder:
-        room = Room(crate, lines, folder)
+        room = Room(crate, lines, folder, flags)
         for part in folders:
             where = f"{ROOT}/crates/{crate}/{part}"
             for name in sorted(os.listdir(where)) if os.path.isdir(where) else []:
@@ -364,14 +370,14 @@ def try_crate(crate, lines, folders, tests_itself):
                     why = why_unfit(edit, room.texts)
                     edits += [] if why else [edit]
                 if why:
-                    print(f"{crate}/{part}/{name}: BAD EDIT: {why}", flush=True)
+                    say(f"{crate}/{part}/{name}: BAD EDIT: {why}")
                     unfit += 1
         if not edits:
             return 0, 0, unfit
         right = planted(crate, edits, room.texts) if tests_itself else None
         queue = packed([right] * bool(right) + edits, room.texts)
         refused, survived = 0, []
-        while queue:
+        while queue and not CUT_OFF.is_set():
             copy = queue.pop(0)
             said, last = room.check(copy["texts"])
             # the next copy begins with the crate's own texts again
@@ -382,7 +388,7 @@ def try_crate(crate, lines, folders, tests_itself):
             for edit in copy["edits"]:
                 if not last:
                     first = next((it for it in said.split("\n") if "error" in it), said[:200])
-                    print(f"{crate}/{edit.name}: BAD EDIT: it did not reach the prover: {first[:200]}", flush=True)
+                    say(f"{crate}/{edit.name}: BAD EDIT: it did not reach the prover: {first[:200]}")
                     unfit += 1
                     continue
                 how_it_ended, line = verdict(edit, copy["texts"], said) if last.startswith("logic=not-proved") else ("survived", "")
@@ -391,38 +397,90 @@ def try_crate(crate, lines, folders, tests_itself):
                     queue.append({"edits": [edit], "texts": applied(edit, room_texts), "touched": edit.touched, "whole": True})
                 elif how_it_ended == "survived":
                     survived.append(edit.name)
-                    print(f"{crate}/{edit.name}: SURVIVED", flush=True)
+                    say(f"{crate}/{edit.name}: SURVIVED")
                 else:
                     refused += 1
                     note = " (SUSPICIOUS: only a proof file's names are missing; turn a value in its place)" if how_it_ended == "named" else ""
-                    print(f"{crate}/{edit.name}: refused{note}: {line[:160]}", flush=True)
+                    say(f"{crate}/{edit.name}: refused{note}: {line[:160]}")
         if right:
             if right.name in survived:
                 survived.remove(right.name)
-                print(f"{crate}: the planted body that is right was found", flush=True)
+                say(f"{crate}: the planted body that is right was found")
             else:
-                print(f"{crate}: the planted body that is right was NOT found", flush=True)
+                say(f"{crate}: the planted body that is right was NOT found")
                 unfit += 1
         elif tests_itself:
-            print(f"{crate}: no function to plant a body that is right in", flush=True)
+            say(f"{crate}: no function to plant a body that is right in")
             unfit += 1
         return refused, len(survived), unfit
 
 
+def side_by_side():
+    """How many crates are tried side by side, if it isn't said."""
+    try:
+        with open("/proc/meminfo", encoding="utf-8") as it:
+            free = 1024 * int(re.search(r"MemAvailable:\s+(\d+)", it.read())[1])
+        return max(1, min(len(os.sched_getaffinity(0)) // 2, free // EACH))
+    except (AttributeError, OSError, TypeError):
+        return 1
+
+
+def say_at_once(line):
+    print(line, flush=True)
+
+
+def try_crates(names, lines, folders, tests_itself, jobs):
+    """The sums of what `try_crate` gives, with crates side by side."""
+    jobs = min(jobs, len(names))
+    if jobs < 2:
+        return [sum(it) for it in zip((0, 0, 0), *(try_crate(name, lines, folders, tests_itself, [], say_at_once) for name in names))]
+    flags, printing = ["--jobs", str(max(1, (os.cpu_count() or 1) // jobs))], threading.Lock()
+
+    def whole(name):
+        said = []
+        found = try_crate(name, lines, folders, tests_itself, flags, said.append)
+        with printing:
+            print("".join(f"{it}\n" for it in said), end="", flush=True)
+        return found
+
+    def edits_of(name):
+        return sum(len(os.listdir(f"{ROOT}/crates/{name}/{it}")) for it in folders if os.path.isdir(f"{ROOT}/crates/{name}/{it}"))
+
+    with ThreadPoolExecutor(jobs) as pool:
+        # the longest first
+        running = [pool.submit(whole, name) for name in sorted(names, key=edits_of, reverse=True)]
+        try:
+            return [sum(it) for it in zip(*(it.result() for it in running))]
+        except BaseException:
+            CUT_OFF.set()
+            for it in running:
+                it.cancel()
+            raise
+
+
 def main(words):
-    options = {it for it in words if it.startswith("-")}
-    if options - {"--must-fail", "--self-test"}:
-        print(__doc__, end="", file=sys.stderr)
-        return 2
+    jobs, options, names = side_by_side(), set(), []
+    while words:
+        word = words.pop(0)
+        if word == "--jobs" and words and words[0].isdigit() and int(words[0]):
+            jobs = int(words.pop(0))
+        elif word in ("--must-fail", "--self-test"):
+            options.add(word)
+        elif not word.startswith("-"):
+            names.append(word)
+        else:
+            print(__doc__, end="", file=sys.stderr)
+            return 2
     lines, begun = crate_lines(), time.monotonic()
-    names = [it for it in words if not it.startswith("-")] or list(lines)
     folders = ["wrong-bodies"] + ["must-fail"] * ("--must-fail" in options)
-    refused = survived = unfit = 0
+    names = [name for name in names or lines if any(os.path.isdir(f"{ROOT}/crates/{name}/{part}") for part in folders)]
+    # before any copy is made: the check of a crate builds those below it
+    proved = [name for name in names if is_proved(name)]
     for name in names:
-        if not any(os.path.isdir(f"{ROOT}/crates/{name}/{part}") for part in folders):
-            continue
-        found = try_crate(name, lines, folders, "--self-test" in options)
-        refused, survived, unfit = refused + found[0], survived + found[1], unfit + found[2]
+        if name not in proved:
+            say_at_once(f"{name}: the crate itself is not proved, so nothing was tried")
+    refused, survived, unfit = try_crates(proved, lines, folders, "--self-test" in options, jobs)
+    unfit += len(names) - len(proved)
     used = resource.getrusage(resource.RUSAGE_CHILDREN)
     print(f"{time.monotonic() - begun:.0f} s, {used.ru_utime + used.ru_stime:.0f} s of processor time")
     if unfit:
