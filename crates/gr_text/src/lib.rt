@@ -41,6 +41,8 @@ mod verdicts;
 mod words;
 mod writer;
 
+/// Streams over memory that fail at a chosen byte, for tests of what reads a graph or writes a forest.
+pub use byte_streams::{FusedSink, FusedSource};
 pub use faults::{GrFault, GrKind, ReadFault};
 pub use graphs::Graph;
 pub use limits::MAX_BYTES;
