@@ -124,9 +124,11 @@ pub(crate) fn plain_offers(
         }
     }
     let mut pairs = Vec::new(alloc);
-    for (before, first) in firsts.iter().enumerate() {
+    let mut component: u32 = 0;
+    for first in &firsts {
+        component = component.wrapping_add(1);
         if let Some(place) = *first {
-            pairs.push(((before as u32).wrapping_add(1), place))?;
+            pairs.push((component, place))?;
         }
     }
     Ok(pairs)
