@@ -6,8 +6,13 @@
 //!   relabelling     components made one by merges and by picks, and the labels that follow
 //!   rounds          the judge's answers, the order of answers, a book that several threads read
 //!   solving         a solver's steps, rounds past the bound, whole runs by one thread
-//!   wires           asks of a worker over a line that stops, or over stored bytes in place of a worker
+//!   wires           asks of a worker over a line that stops, or over stored bytes in place of a worker; an engine's line
+//!                   once its session is over
 //! ```
+//!
+//! Each call that may answer want of memory is made at its bounds too: no vertex, one and two, no links, one shard and
+//! 4,096, a cut at no place and at 4,095, and more rounds than 14. A shard that is just full, of 16,777,216 links, is too large for
+//! a test here, and so are as many vertices as there may be, 67,108,864.
 #![tactic(auto)]
 
 #[cfg(test)]

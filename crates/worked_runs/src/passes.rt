@@ -4,11 +4,14 @@ ghost use Rattle.forest_run.specs.Lanes.{IsIdle};
 
 use crate::solving::path;
 use forest_run::{Lane, Report, solve};
-use link_key::Cut;
+use link_key::{Cut, Link};
 use ports::{EngineLine, Port, Wire};
 use std::alloc::{AllocError, Global};
+use std::process::Abort;
+use std::sync::Wait;
 use std::test::Fail;
-use worked_graphs::{SMALL_NET, all_have_labels, links_of};
+use std::thread::Threads;
+use worked_graphs::{Row, SMALL_NET, all_have_labels, links_of};
 
 /// A lane to a worker in memory.
 type Worker<'a> = Lane<Wire<'a, EngineLine<Global>, Global>, Global>;
@@ -39,93 +42,86 @@ fn lanes<'a>(alloc: Global, cut: &'a Cut<'a>, count: u32) -> Result<Vec<Worker<'
     Ok(lanes)
 }
 
-#[test]
-fn two_workers_answer_each_shard_once_a_round(rt: HostRuntime) -> Result<(), Fail> {
-    let alloc = rt.alloc();
-    let links = links_of(alloc, 6, SMALL_NET.arcs)?.expect(&rt, "arcs");
-    let expected = links_of(alloc, 6, SMALL_NET.forest)?.expect(&rt, "arcs");
-    assert!(rt; links.len() <= 1 << 30);
-    let cut = Cut::even(alloc, links.as_slice(), 2).expect(&rt, "a cut");
-    assert!(rt; all_have_labels(&cut, 6));
-    let mut lanes = lanes(alloc, &cut, 2)?;
-    let (forest, report) = solve(&rt, alloc, 6, &cut, lanes.as_mut_slice()).expect(&rt, "a forest");
-    assert_eq!(rt; forest.links(), expected.as_slice());
-    assert_eq!(rt;
-        report,
-        Report {
-            vertices: 6,
-            links: 8,
-            rounds: 2,
-            shards: 2,
-            asked: 6,
-            answered: 6,
-            alone: 0,
-            closed: 0,
-        }
-    );
+// How often the workers of these lanes were asked, each of which is open.
+fn asks_of(rt: &impl Abort, lanes: Vec<Worker>) -> u64 {
     let mut asks = 0u64;
     for lane in lanes {
         assert!(rt; lane.port().is_open());
-        let wire = lane.into_port();
-        asks = asks.wrapping_add(wire.asks());
+        asks = asks.wrapping_add(lane.into_port().asks());
     }
-    assert_eq!(rt; asks, 6);
+    asks
+}
+
+// A run over so many workers finds this forest of the links, and reports this.
+fn expect_run<R: Abort + Threads + Wait + Sync>(
+    rt: &R,
+    alloc: Global,
+    links: &[Link],
+    workers: u32,
+    forest: &[Row],
+    expected: Report,
+) -> Result<(), Fail>
+    requires { workers ≤ 64 }
+{
+    let n = expected.vertices;
+    assert!(rt; links.len() <= 1 << 30 && n <= 1 << 26);
+    let cut = Cut::even(alloc, links, expected.shards).expect(rt, "a cut");
+    assert!(rt; all_have_labels(&cut, n));
+    let mut lanes = lanes(alloc, &cut, workers)?;
+    let (found, report) = solve(rt, alloc, n, &cut, lanes.as_mut_slice()).expect(rt, "a forest");
+    let forest = links_of(alloc, n, forest)?.expect(rt, "arcs");
+    assert!(rt; found.links() == forest.as_slice() && report == expected);
+    assert_eq!(rt; asks_of(rt, lanes), report.asked);
     Ok(())
 }
 
-#[test]
-fn no_workers_leave_each_shard_to_the_coordinator(rt: HostRuntime) -> Result<(), Fail> {
-    let alloc = rt.alloc();
-    let links = links_of(alloc, 6, SMALL_NET.arcs)?.expect(&rt, "arcs");
-    let expected = links_of(alloc, 6, SMALL_NET.forest)?.expect(&rt, "arcs");
-    assert!(rt; links.len() <= 1 << 30);
-    let cut = Cut::even(alloc, links.as_slice(), 2).expect(&rt, "a cut");
-    assert!(rt; all_have_labels(&cut, 6));
-    let mut lanes: [Worker; 0] = [];
-    let (forest, report) = solve(&rt, alloc, 6, &cut, &mut lanes).expect(&rt, "a forest");
-    assert_eq!(rt; forest.links(), expected.as_slice());
-    assert_eq!(rt;
-        report,
-        Report {
-            vertices: 6,
-            links: 8,
-            rounds: 2,
-            shards: 2,
-            asked: 0,
-            answered: 0,
-            alone: 6,
-            closed: 0,
-        }
-    );
-    Ok(())
+// What a run reports that closed no port, and scanned shards alone only where it had no workers.
+fn report(vertices: u32, links: u64, rounds: u32, shards: u32, asked: u64, alone: u64) -> Report {
+    Report {
+        vertices,
+        links,
+        rounds,
+        shards,
+        asked,
+        answered: asked,
+        alone,
+        closed: 0,
+    }
 }
 
-// Each vertex but the first picks the link to the one before it, so one round merges them all.
+// The same of the links of these arcs.
+fn expect_run_of(
+    rt: &(impl Abort + Threads + Wait + Sync),
+    alloc: Global,
+    workers: u32,
+    arcs: &[Row],
+    forest: &[Row],
+    expected: Report,
+) -> Result<(), Fail>
+    requires { workers ≤ 64 }
+{
+    let links = links_of(alloc, expected.vertices, arcs)?.expect(rt, "arcs");
+    expect_run(rt, alloc, links.as_slice(), workers, forest, expected)
+}
+
+// Two workers answer each shard once a round, and none leave each to the coordinator. Of a path of one weight each
+// vertex but the first picks the link to the one before it, so one round merges them all.
 #[test]
-fn three_workers_at_ten_thousand_links(rt: HostRuntime) -> Result<(), Fail> {
+fn runs_over_lanes(rt: HostRuntime) -> Result<(), Fail> {
     let alloc = rt.alloc();
-    let arcs = path(alloc, 10_000)?;
-    let links = links_of(alloc, 10_001, arcs.as_slice())?.expect(&rt, "arcs");
-    assert!(rt; links.len() <= 1 << 30);
-    let cut = Cut::even(alloc, links.as_slice(), 4).expect(&rt, "a cut");
-    assert!(rt; all_have_labels(&cut, 10_001));
-    let mut lanes = lanes(alloc, &cut, 3)?;
-    let (forest, report) = solve(&rt, alloc, 10_001, &cut, lanes.as_mut_slice()).expect(
-        &rt, "a forest",
-    );
-    assert_eq!(rt; forest.links(), links.as_slice());
-    assert_eq!(rt;
-        report,
-        Report {
-            vertices: 10_001,
-            links: 10_000,
-            rounds: 1,
-            shards: 4,
-            asked: 8,
-            answered: 8,
-            alone: 0,
-            closed: 0,
-        }
-    );
-    Ok(())
+    let net = SMALL_NET;
+    let runs: [(u32, &'static [Row], &'static [Row], Report); 4] = [
+        (2, net.arcs, net.forest, report(6, 8, 2, 2, 6, 0)),
+        (0, net.arcs, net.forest, report(6, 8, 2, 2, 0, 6)),
+        (64, &[], &[], report(0, 0, 0, 1, 1, 0)),
+        (0, &[], &[], report(0, 0, 0, 4096, 0, 4096)),
+    ];
+    for (workers, arcs, forest, expected) in runs {
+        assert!(rt; workers <= 64);
+        expect_run_of(&rt, alloc, workers, arcs, forest, expected)?;
+    }
+    let path = path(alloc, 10_000)?;
+    let path = path.as_slice();
+    let expected = report(10_001, 10_000, 1, 4, 8, 0);
+    expect_run_of(&rt, alloc, 3, path, path, expected)
 }

@@ -39,20 +39,21 @@ fn picks_of(
     Ok(book.close())
 }
 
-// The labels of a round over these arcs as one shard, whose only answer offers these.
-fn relabelled(
-    rt: &impl Abort,
-    alloc: Global,
-    labels: &Labels,
-    arcs: &[Row],
-    pairs: &[(u32, u32)],
-) -> Result<Labels, Fail> {
+/// A round over arcs as one shard: the labels before it, the arcs, the offers of its only answer, and the labels behind it.
+type Round<'a> = (&'a [u32], &'a [Row], &'a [(u32, u32)], &'a [u32]);
+
+// Such a round makes these labels.
+fn expect_relabelled(rt: &impl Abort, alloc: Global, round: Round) -> Result<(), Fail> {
+    let (before, arcs, pairs, behind) = round;
+    let labels = Labels::of_list(before.to_vec(alloc)?).expect(rt, "labels");
     let links = links_of(alloc, labels.n(), arcs)?.expect(rt, "arcs");
     assert!(rt; links.len() <= 1 << 24);
     let cut = Cut::even(alloc, links.as_slice(), 1).expect(rt, "a cut");
     assert!(rt; all_have_labels(&cut, labels.n()));
-    let picks = picks_of(rt, alloc, &cut, labels, pairs)?;
-    Ok(hook_relabel(alloc, labels, &picks)?)
+    let picks = picks_of(rt, alloc, &cut, &labels, pairs)?;
+    let made = hook_relabel(alloc, &labels, &picks)?;
+    assert!(rt; made.as_slice() == behind);
+    Ok(())
 }
 
 // Makes the components of two of the numbers one.
@@ -73,10 +74,23 @@ fn components_of_five(rt: HostRuntime) -> Result<(), Fail> {
     make_one(&rt, &mut components, 2, 4);
     make_one(&rt, &mut components, 4, 5);
     make_one(&rt, &mut components, 1, 3);
-    assert_eq!(rt; components.label(2), components.label(5));
-    assert_eq!(rt; components.label(1), components.label(3));
-    assert!(rt; components.label(1) != components.label(2));
-    assert_eq!(rt; components.label(0), 0);
+    let (first, second) = (components.label(1), components.label(2));
+    let others = (
+        components.label(0),
+        components.label(3),
+        components.label(5),
+    );
+    assert!(rt; others == (0, first, second) && first != second);
+    Ok(())
+}
+
+// Components of no vertex and of one: each number stands alone.
+#[test]
+fn components_at_their_bounds(rt: HostRuntime) -> Result<(), Fail> {
+    for n in 0..3u32 {
+        let components = Components::apart(rt.alloc(), n)?;
+        assert_eq!(rt; components.label(n), n);
+    }
     Ok(())
 }
 
@@ -90,27 +104,30 @@ fn labels_that_are_known(rt: HostRuntime) -> Result<(), Fail> {
 }
 
 // In the first round of the small net each vertex's least link is picked, and in the second the link between the two
-// components that are left.
+// components that are left. An answer that hides links makes fewer components one, whether or not what it names is
+// least; an empty one makes none. And there may be no vertex, or one.
 #[test]
-fn rounds_of_the_small_net(rt: HostRuntime) -> Result<(), Fail> {
-    let apart = Labels::apart(rt.alloc(), 6)?;
-    let first = [(1, 1), (2, 6), (3, 4), (4, 4), (5, 6), (6, 5)];
-    let labels = relabelled(&rt, rt.alloc(), &apart, SMALL_NET.arcs, &first)?;
-    assert_eq!(rt; labels.as_slice(), [1, 2, 1, 1, 2, 1].as_slice());
-    let second = [(1, 3), (2, 3)];
-    let whole = relabelled(&rt, rt.alloc(), &labels, SMALL_NET.arcs, &second)?;
-    assert_eq!(rt; whole.as_slice(), [1, 1, 1, 1, 1, 1].as_slice());
-    Ok(())
-}
-
-// An answer that hides links makes fewer components one, whether or not what it names is least; an empty one makes none.
-#[test]
-fn picks_that_hide_links(rt: HostRuntime) -> Result<(), Fail> {
-    let apart = Labels::apart(rt.alloc(), 6)?;
-    let one = relabelled(&rt, rt.alloc(), &apart, SMALL_NET.arcs, &[(6, 7)])?;
-    assert_eq!(rt; one.as_slice(), [1, 2, 3, 4, 5, 5].as_slice());
-    let none = relabelled(&rt, rt.alloc(), &apart, SMALL_NET.arcs, &[])?;
-    assert_eq!(rt; none.as_slice(), apart.as_slice());
+fn rounds_of_small_graphs(rt: HostRuntime) -> Result<(), Fail> {
+    let net = SMALL_NET.arcs;
+    let apart = [1, 2, 3, 4, 5, 6].as_slice();
+    let merged = [1, 2, 1, 1, 2, 1].as_slice();
+    let rounds: [Round; 7] = [
+        (
+            apart,
+            net,
+            &[(1, 1), (2, 6), (3, 4), (4, 4), (5, 6), (6, 5)],
+            merged,
+        ),
+        (merged, net, &[(1, 3), (2, 3)], &[1, 1, 1, 1, 1, 1]),
+        (apart, net, &[(6, 7)], &[1, 2, 3, 4, 5, 5]),
+        (apart, net, &[], apart),
+        (&[], &[], &[], &[]),
+        (&[1], &[], &[], &[1]),
+        (&[1, 2], &[(1, 2, 7)], &[(2, 0)], &[1, 1]),
+    ];
+    for round in rounds {
+        expect_relabelled(&rt, rt.alloc(), round)?;
+    }
     Ok(())
 }
 
@@ -120,27 +137,34 @@ fn picks_that_hide_links(rt: HostRuntime) -> Result<(), Fail> {
 fn ten_thousand_vertices(rt: HostRuntime) -> Result<(), Fail> {
     let alloc = rt.alloc();
     let mut arcs = Vec::new(alloc);
+    let mut apart = Vec::new(alloc);
     let mut lower = Vec::new(alloc);
     let mut pairs = Vec::new(alloc);
     let mut between = Vec::new(alloc);
-    for place in 0..MANY - 1 {
-        let vertex = place + 1;
-        arcs.push((vertex, vertex + 1, 1))?;
-    }
+    let mut ones = Vec::new(alloc);
     for half in 0..MANY / 2 {
         let vertex = 2 * half + 1;
-        lower.push(vertex)?;
-        lower.push(vertex)?;
+        arcs.push((vertex, vertex + 1, 1))?;
+        if vertex + 1 < MANY {
+            arcs.push((vertex + 1, vertex + 2, 1))?;
+        }
+        apart.extend_from_slice(&[vertex, vertex + 1])?;
+        lower.extend_from_slice(&[vertex, vertex])?;
+        ones.extend_from_slice(&[1, 1])?;
         pairs.push((vertex, 2 * half))?;
         if vertex > 1 {
             between.push((vertex, 2 * half - 1))?;
         }
     }
-    let apart = Labels::apart(alloc, MANY)?;
-    let labels = relabelled(&rt, alloc, &apart, arcs.as_slice(), pairs.as_slice())?;
-    assert_eq!(rt; labels.as_slice(), lower.as_slice());
-    let whole = relabelled(&rt, alloc, &labels, arcs.as_slice(), between.as_slice())?;
-    assert_eq!(rt; whole.n(), MANY);
-    assert!(rt; whole.as_slice().iter().all(|label| *label == 1));
-    Ok(())
+    let (arcs, lower) = (arcs.as_slice(), lower.as_slice());
+    expect_relabelled(
+        &rt,
+        alloc,
+        (apart.as_slice(), arcs, pairs.as_slice(), lower),
+    )?;
+    expect_relabelled(
+        &rt,
+        alloc,
+        (lower, arcs, between.as_slice(), ones.as_slice()),
+    )
 }

@@ -87,13 +87,25 @@ fn judged(
     rt: &impl Abort,
     alloc: Global,
     book: &RoundBook,
-    round: u32,
-    shard: u32,
-    pairs: &[(u32, u32)],
+    answered: (u32, u32, &[(u32, u32)]),
 ) -> Result<Result<(), Refusal>, AllocError> {
     assert!(rt; 0 < book.len());
-    let answer = answer(rt, alloc, round, shard, pairs)?;
+    let answer = answer(rt, alloc, answered.0, answered.1, answered.2)?;
     Ok(book.judge(0, &answer))
+}
+
+// The book judges these answers so, one after the other.
+fn expect_judged(
+    rt: &impl Abort,
+    alloc: Global,
+    book: &RoundBook,
+    rows: &[(u32, u32, &[(u32, u32)], Result<(), Refusal>)],
+) -> Result<(), AllocError> {
+    for row in rows {
+        let said = judged(rt, alloc, book, (row.0, row.1, row.2))?;
+        assert_eq!(rt; said, row.3);
+    }
+    Ok(())
 }
 
 #[test]
@@ -105,67 +117,60 @@ fn judged_answers(rt: HostRuntime) -> Result<(), Fail> {
     let labels = Labels::apart(alloc, 3)?;
     assert!(rt; all_have_labels(&cut, labels.n()));
     let mut book = RoundBook::open(alloc, 1, &cut, &labels)?;
-    assert!(rt; 0 < book.len());
-    assert!(rt; book.is_missing(0));
+    assert!(rt; 0 < book.len() && book.is_missing(0));
     let light = [(1, 0), (2, 0), (3, 2)];
-    assert_eq!(rt;
-        judged(&rt, alloc, &book, 2, 7, &[(1, 9)])?,
-        Err(Refusal::Stale)
-    );
-    assert_eq!(rt;
-        judged(&rt, alloc, &book, 1, 7, &[(1, 9)])?,
-        Err(Refusal::Stranger)
-    );
-    assert_eq!(rt;
-        judged(&rt, alloc, &book, 1, 0, &[(1, 3)])?,
-        Err(Refusal::NotALink)
-    );
-    assert_eq!(rt;
-        judged(&rt, alloc, &book, 1, 0, &[(1, 1)])?,
-        Err(Refusal::NotALink)
-    );
-    assert_eq!(rt; judged(&rt, alloc, &book, 1, 0, &[])?, Ok(()));
-    assert_eq!(rt; judged(&rt, alloc, &book, 1, 0, &light)?, Ok(()));
-    let heavier = [(1, 0), (2, 0), (3, 1)];
-    assert_eq!(rt; judged(&rt, alloc, &book, 1, 0, &heavier)?, Ok(()));
-    let first = answer(&rt, alloc, 1, 0, &light)?;
-    assert_eq!(rt; book.take(0, first), Ok(()));
-    assert!(rt; 0 < book.len());
-    assert!(rt; !book.is_missing(0));
-    assert_eq!(rt;
-        judged(&rt, alloc, &book, 1, 0, &light)?,
-        Err(Refusal::Double)
-    );
-    Ok(())
+    expect_judged(
+        &rt,
+        alloc,
+        &book,
+        &[
+            (2, 7, &[(1, 9)], Err(Refusal::Stale)),
+            (1, 7, &[(1, 9)], Err(Refusal::Stranger)),
+            (1, 0, &[(1, 3)], Err(Refusal::NotALink)),
+            (1, 0, &[(1, 1)], Err(Refusal::NotALink)),
+            (1, 0, &[], Ok(())),
+            (1, 0, &light, Ok(())),
+            (1, 0, &[(1, 0), (2, 0), (3, 1)], Ok(())),
+        ],
+    )?;
+    assert_eq!(rt; book.take(0, answer(&rt, alloc, 1, 0, &light)?), Ok(()));
+    assert!(rt; 0 < book.len() && !book.is_missing(0));
+    Ok(expect_judged(&rt, alloc, &book, &[(1, 0, &light, Err(Refusal::Double))])?)
 }
 
-// In the path's first round each vertex picks the link to its neighbour, once its three shards have answered in this
-// order.
-fn expect_pairs(rt: &impl Abort, alloc: Global, order: [u32; 3]) -> Result<(), Fail> {
-    let links = links_of(alloc, 8, A_PATH_OF_EIGHT.arcs)?.expect(rt, "arcs");
-    assert!(rt; links.len() <= 1 << 30);
-    let cut = Cut::even(alloc, links.as_slice(), 3).expect(rt, "a cut");
-    let labels = Labels::apart(alloc, 8)?;
-    let picks = picks_of_scans(rt, alloc, &cut, 1, &labels, &order)?;
-    assert!(rt; labels.n() == 8);
+// In the path's first round each vertex picks the link to its neighbour.
+fn are_pairs(picks: &Picks) -> bool
+    requires { length picks.now ≡ 8 }
+{
+    let mut pairs = true;
     for pair in 0..4 {
         let link = Link::of_arc(2 * pair + 1, 2 * pair + 2, 1);
-        assert_eq!(rt; picks.of(2 * pair + 1), link);
-        assert_eq!(rt; picks.of(2 * pair + 2), link);
+        pairs = pairs && picks.of(2 * pair + 1) == link && picks.of(2 * pair + 2) == link;
     }
-    assert!(rt; !picks.is_empty());
-    Ok(())
+    pairs && !picks.is_empty()
 }
 
+// The picks are the same once its three shards have answered, in whatever order.
 #[test]
 fn answers_in_any_order(rt: HostRuntime) -> Result<(), Fail> {
     let alloc = rt.alloc();
-    expect_pairs(&rt, alloc, [0, 1, 2])?;
-    expect_pairs(&rt, alloc, [0, 2, 1])?;
-    expect_pairs(&rt, alloc, [1, 0, 2])?;
-    expect_pairs(&rt, alloc, [1, 2, 0])?;
-    expect_pairs(&rt, alloc, [2, 0, 1])?;
-    expect_pairs(&rt, alloc, [2, 1, 0])?;
+    let links = links_of(alloc, 8, A_PATH_OF_EIGHT.arcs)?.expect(&rt, "arcs");
+    assert!(rt; links.len() <= 1 << 30);
+    let cut = Cut::even(alloc, links.as_slice(), 3).expect(&rt, "a cut");
+    let labels = Labels::apart(alloc, 8)?;
+    assert!(rt; labels.n() == 8);
+    let orders = [
+        [0, 1, 2],
+        [0, 2, 1],
+        [1, 0, 2],
+        [1, 2, 0],
+        [2, 0, 1],
+        [2, 1, 0],
+    ];
+    for order in orders {
+        let picks = picks_of_scans(&rt, alloc, &cut, 1, &labels, &order)?;
+        assert!(rt; are_pairs(&picks));
+    }
     Ok(())
 }
 

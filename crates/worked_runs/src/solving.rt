@@ -1,11 +1,14 @@
 // A solver's steps on the worked graphs, and whole runs by one thread.
 use crate::rounds::{picks_of_offers, picks_of_scans};
-use link_key::{Cut, Link};
+use link_key::{Cut, Labels, Link};
 use round_core::{SolveFault, Solver, Turn, solve_alone};
 use std::alloc::{AllocError, Global};
 use std::process::Abort;
 use std::test::Fail;
 use worked_graphs::{A_PATH_OF_EIGHT, EQUAL_WEIGHTS, Row, SMALL_NET, all_have_labels, links_of};
+
+/// A round: the order in which its shards are scanned, what it does, and the labels behind it.
+type Step<'a> = (&'a [u32], Turn, &'a [u32]);
 
 // A round whose shards are scanned in this order.
 fn step(
@@ -19,31 +22,100 @@ fn step(
     Ok(solver.step(&picks).expect(rt, "a turn"))
 }
 
+// From vertices that are apart these rounds lead to this forest of the cut's links.
+fn expect_steps(
+    rt: &impl Abort,
+    alloc: Global,
+    n: u32,
+    cut: &Cut,
+    steps: &[Step],
+    forest: &[Row],
+) -> Result<(), Fail> {
+    assert!(rt; n <= 1 << 26);
+    let mut solver = Solver::new(alloc, n)?;
+    let mut round = 1u32;
+    for (order, expected, behind) in steps {
+        assert_eq!(rt; solver.round(), round);
+        let turn = step(rt, alloc, cut, order, &mut solver)?;
+        assert!(rt; turn == *expected && solver.labels().as_slice() == *behind);
+        round = round.wrapping_add(if turn == Turn::Done { 0 } else { 1 });
+    }
+    assert!(rt; solver.round() == round && all_have_labels(cut, solver.labels().n()));
+    let found = solver.finish(cut).expect(rt, "a forest");
+    let forest = links_of(alloc, n, forest)?.expect(rt, "arcs");
+    assert!(rt; found.links() == forest.as_slice());
+    Ok(())
+}
+
+// The same of arcs that are cut at these places.
+fn expect_cut(
+    rt: &impl Abort,
+    alloc: Global,
+    n: u32,
+    arcs: &[Row],
+    places: &[usize],
+    steps: &[Step],
+    forest: &[Row],
+) -> Result<(), Fail> {
+    let links = links_of(alloc, n, arcs)?.expect(rt, "arcs");
+    assert!(rt; links.len() <= 1 << 30);
+    let cut = Cut::at(alloc, links.as_slice(), places).expect(rt, "a cut");
+    expect_steps(rt, alloc, n, &cut, steps, forest)
+}
+
+// The shards of a cut in their order.
+fn ascending(alloc: Global, count: u32) -> Result<Vec<u32>, AllocError> {
+    let mut order = Vec::new(alloc);
+    for shard in 0..count {
+        order.push(shard)?;
+    }
+    Ok(order)
+}
+
 #[test]
 fn steps_on_the_small_net(rt: HostRuntime) -> Result<(), Fail> {
+    let merged = [1, 2, 1, 1, 2, 1].as_slice();
+    let ones = [1; 6].as_slice();
+    let steps: [Step; 3] = [
+        (&[0, 1], Turn::Merged(4), merged),
+        (&[1, 0], Turn::Merged(1), ones),
+        (&[0, 1], Turn::Done, ones),
+    ];
+    let net = SMALL_NET;
+    expect_cut(&rt, rt.alloc(), 6, net.arcs, &[4], &steps, net.forest)
+}
+
+// No vertex, one, and two, in one shard and in as many as there may be: cut at no place, and at 4,095.
+#[test]
+fn steps_at_their_bounds(rt: HostRuntime) -> Result<(), Fail> {
     let alloc = rt.alloc();
-    let links = links_of(alloc, SMALL_NET.n, SMALL_NET.arcs)?.expect(&rt, "arcs");
-    assert!(rt; links.len() <= 1 << 30);
-    let cut = Cut::even(alloc, links.as_slice(), 2).expect(&rt, "a cut");
-    let mut solver = Solver::new(alloc, 6)?;
-    assert_eq!(rt; solver.round(), 1);
-    assert_eq!(rt;
-        step(&rt, alloc, &cut, &[0, 1], &mut solver)?,
-        Turn::Merged(4)
-    );
-    assert_eq!(rt; solver.labels().as_slice(), [1, 2, 1, 1, 2, 1].as_slice());
-    assert_eq!(rt; solver.round(), 2);
-    assert_eq!(rt;
-        step(&rt, alloc, &cut, &[1, 0], &mut solver)?,
-        Turn::Merged(1)
-    );
-    assert_eq!(rt; step(&rt, alloc, &cut, &[0, 1], &mut solver)?, Turn::Done);
-    assert_eq!(rt; solver.round(), 3);
-    assert!(rt; all_have_labels(&cut, solver.labels().n()));
-    let forest = solver.finish(&cut).expect(&rt, "a forest");
-    let expected = links_of(alloc, SMALL_NET.n, SMALL_NET.forest)?.expect(&rt, "arcs");
-    assert_eq!(rt; forest.links(), expected.as_slice());
+    let places = [0; 4095];
+    let order = ascending(alloc, 4096)?;
+    let graphs: [(u32, &[Row], Turn, &[u32]); 3] = [
+        (0, &[], Turn::Done, &[]),
+        (1, &[], Turn::Done, &[1]),
+        (2, &[(1, 2, 7)], Turn::Merged(1), &[1, 1]),
+    ];
+    for (n, arcs, first, behind) in graphs {
+        let cuts: [(&[usize], &[u32]); 2] = [(&[], &[0]), (&places, order.as_slice())];
+        for (places, order) in cuts {
+            let steps: [Step; 2] = [(order, first, behind), (order, Turn::Done, behind)];
+            expect_cut(&rt, alloc, n, arcs, places, &steps, arcs)?;
+        }
+    }
     Ok(())
+}
+
+// A round whose only answer offers these.
+fn offer(
+    rt: &impl Abort,
+    alloc: Global,
+    cut: &Cut,
+    solver: &mut Solver,
+    pairs: &[(u32, u32)],
+) -> Result<Result<Turn, SolveFault>, Fail> {
+    let picks = picks_of_offers(rt, alloc, cut, solver.round(), solver.labels(), &[pairs])?;
+    Ok(solver.step(&picks))
 }
 
 // A worker that offers one link a round, and hides the third: three vertices can't have a second merging round.
@@ -54,27 +126,37 @@ fn a_round_past_the_bound(rt: HostRuntime) -> Result<(), Fail> {
     assert!(rt; links.len() <= 1 << 30);
     let cut = Cut::even(alloc, links.as_slice(), 1).expect(&rt, "a cut");
     let mut solver = Solver::new(alloc, 3)?;
-
-    let labels = solver.labels();
-    let picks = picks_of_offers(&rt, alloc, &cut, 1, labels, &[&[(1, 0)]])?;
-    assert!(rt; labels.n() == 3);
-    assert_eq!(rt; picks.of(1), Link::of_arc(1, 2, 5));
-    assert_eq!(rt; picks.of(2), Link::of_arc(1, 2, 5));
-    assert_eq!(rt; picks.of(3), None);
-    assert_eq!(rt; solver.step(&picks), Ok(Turn::Merged(1)));
-    assert_eq!(rt; solver.labels().as_slice(), [1, 1, 3].as_slice());
-    assert_eq!(rt; solver.round(), 2);
-
-    let labels = solver.labels();
-    let picks = picks_of_offers(&rt, alloc, &cut, 2, labels, &[&[(3, 1)]])?;
-    assert!(rt; labels.n() == 3);
-    assert_eq!(rt; picks.of(1), Link::of_arc(2, 3, 5));
-    assert_eq!(rt; picks.of(3), Link::of_arc(2, 3, 5));
-    assert_eq!(rt; solver.step(&picks), Err(SolveFault::Rounds { round: 2 }));
-    assert_eq!(rt; solver.labels().as_slice(), [1, 1, 3].as_slice());
-    assert_eq!(rt; solver.round(), 2);
-
+    let rounds = [
+        ((1, 0), Ok(Turn::Merged(1))),
+        ((3, 1), Err(SolveFault::Rounds { round: 2 })),
+    ];
+    for (pair, expected) in rounds {
+        let said = offer(&rt, alloc, &cut, &mut solver, &[pair])?;
+        assert!(rt; said == expected && solver.labels().as_slice() == [1, 1, 3].as_slice());
+        assert_eq!(rt; solver.round(), 2);
+    }
     expect_missed(&rt, &solver, &cut, Link::of_arc(2, 3, 5));
+    Ok(())
+}
+
+// The links picked, where one worker offers one of the triangle's links for one of its components.
+#[test]
+fn picks_of_one_offer(rt: HostRuntime) -> Result<(), Fail> {
+    let alloc = rt.alloc();
+    let links = links_of(alloc, EQUAL_WEIGHTS.n, EQUAL_WEIGHTS.arcs)?.expect(&rt, "arcs");
+    assert!(rt; links.len() <= 1 << 30);
+    let cut = Cut::even(alloc, links.as_slice(), 1).expect(&rt, "a cut");
+    let (first, second) = (Link::of_arc(1, 2, 5), Link::of_arc(2, 3, 5));
+    let rounds = [
+        ([1, 2, 3], (1, 0), [first, first, None]),
+        ([1, 1, 3], (3, 1), [second, None, second]),
+    ];
+    for (labels, pair, expected) in rounds {
+        let labels = Labels::of_list(labels.to_vec(alloc)?).expect(&rt, "labels");
+        assert!(rt; labels.n() == 3);
+        let picks = picks_of_offers(&rt, alloc, &cut, 1, &labels, &[&[pair]])?;
+        assert!(rt; [picks.of(1), picks.of(2), picks.of(3)] == expected);
+    }
     Ok(())
 }
 
@@ -102,21 +184,13 @@ fn expect_alone(
     expected: (&[Row], u32),
 ) -> Result<(), Fail> {
     let links = links_of(alloc, n, arcs)?.expect(rt, "arcs");
-    assert!(rt; links.len() <= 1 << 30);
+    assert!(rt; links.len() <= 1 << 30 && n <= 1 << 26);
     let cut = Cut::even(alloc, links.as_slice(), shards).expect(rt, "a cut");
-    assert!(rt; n <= 1 << 26 && all_have_labels(&cut, n));
-    let (forest, rounds) = solve_alone(alloc, n, &cut).expect(rt, "a forest");
-    let links_expected = links_of(alloc, n, expected.0)?.expect(rt, "arcs");
-    assert_eq!(rt; forest.links(), links_expected.as_slice());
-    assert_eq!(rt; rounds, expected.1);
+    assert!(rt; all_have_labels(&cut, n));
+    let (found, rounds) = solve_alone(alloc, n, &cut).expect(rt, "a forest");
+    let forest = links_of(alloc, n, expected.0)?.expect(rt, "arcs");
+    assert!(rt; found.links() == forest.as_slice() && rounds == expected.1);
     Ok(())
-}
-
-// Pairs after one round, fours after two, and one component after three.
-#[test]
-fn alone_on_a_path_of_eight(rt: HostRuntime) -> Result<(), Fail> {
-    let path = A_PATH_OF_EIGHT;
-    expect_alone(&rt, rt.alloc(), 8, path.arcs, 3, (path.forest, 3))
 }
 
 // The path of so many arcs of one weight.
@@ -129,43 +203,72 @@ pub(crate) fn path(alloc: Global, count: u32) -> Result<Vec<Row>, AllocError> {
     Ok(arcs)
 }
 
-// Each vertex but the first picks the link to the one before it, so one round merges them all.
+// The path of 2^16 vertices whose arc behind vertex v is as heavy as 2 divides v often, by weight: each round makes
+// components of twice as many vertices.
+fn doubling_path(alloc: Global) -> Result<Vec<Row>, AllocError> {
+    let mut arcs = Vec::new(alloc);
+    for weight in 0..16u32 {
+        for pair in 0..32_768u32 >> weight {
+            let v = pair.wrapping_mul(2).wrapping_add(1).wrapping_shl(weight);
+            arcs.push((v, v.wrapping_add(1), weight.cast_signed()))?;
+        }
+    }
+    Ok(arcs)
+}
+
+// Of the path of eight pairs after one round, fours after two, and one component after three. Of a path of one weight
+// each vertex but the first picks the link to the one before it, so one round merges them all.
 #[test]
-fn alone_on_ten_thousand_links(rt: HostRuntime) -> Result<(), Fail> {
+fn runs_alone(rt: HostRuntime) -> Result<(), Fail> {
     let alloc = rt.alloc();
-    let arcs = path(alloc, 10_000)?;
-    expect_alone(&rt, alloc, 10_001, arcs.as_slice(), 4, (arcs.as_slice(), 1))
+    let eight = A_PATH_OF_EIGHT;
+    let path = path(alloc, 10_000)?;
+    let doubling = doubling_path(alloc)?;
+    let runs: [(u32, &[Row], u32, &[Row], u32); 9] = [
+        (0, &[], 1, &[], 0),
+        (0, &[], 4096, &[], 0),
+        (1, &[], 1, &[], 0),
+        (2, &[(1, 2, 7)], 2, &[(1, 2, 7)], 1),
+        (8, eight.arcs, 1, eight.forest, 3),
+        (8, eight.arcs, 3, eight.forest, 3),
+        (8, eight.arcs, 4096, eight.forest, 3),
+        (10_001, path.as_slice(), 4, path.as_slice(), 1),
+        (65_536, doubling.as_slice(), 64, doubling.as_slice(), 16),
+    ];
+    for (n, arcs, shards, forest, rounds) in runs {
+        expect_alone(&rt, alloc, n, arcs, shards, (forest, rounds))?;
+    }
+    Ok(())
 }
 
 #[test]
 fn steps_over_ten_thousand_links(rt: HostRuntime) -> Result<(), Fail> {
     let alloc = rt.alloc();
-    let arcs = path(alloc, 10_000)?;
-    let links = links_of(alloc, 10_001, arcs.as_slice())?.expect(&rt, "arcs");
-    assert!(rt; links.len() <= 1 << 30);
-    let cut = Cut::even(alloc, links.as_slice(), 3).expect(&rt, "a cut");
-    let mut solver = Solver::new(alloc, 10_001)?;
-    let first = step(&rt, alloc, &cut, &[0, 1, 2], &mut solver)?;
-    assert_eq!(rt; first, Turn::Merged(10_000));
-    assert_eq!(rt;
-        step(&rt, alloc, &cut, &[2, 1, 0], &mut solver)?,
-        Turn::Done
-    );
-    assert!(rt; all_have_labels(&cut, solver.labels().n()));
-    let forest = solver.finish(&cut).expect(&rt, "a forest");
-    assert_eq!(rt; forest.links(), links.as_slice());
-    Ok(())
+    let path = path(alloc, 10_000)?;
+    let mut ones = Vec::new(alloc);
+    for _ in 0..10_001u32 {
+        ones.push(1)?;
+    }
+    let (path, ones) = (path.as_slice(), ones.as_slice());
+    let steps: [Step; 2] = [
+        (&[0, 1, 2], Turn::Merged(10_000), ones),
+        (&[2, 1, 0], Turn::Done, ones),
+    ];
+    expect_cut(&rt, alloc, 10_001, path, &[3333, 6666], &steps, path)
 }
 
 #[test]
 fn told_faults(rt: HostRuntime) -> Result<(), Fail> {
     let alloc = rt.alloc();
-    let round = format!(in alloc; "{}", SolveFault::Rounds { round: 2 })?;
-    assert_eq!(rt; round.as_str(), "round 2 is past the bound");
     let link = Link::of_arc(2, 1, 17).expect(&rt, "a link");
-    let missed = format!(in alloc; "{}", SolveFault::Missed { link })?;
-    assert_eq!(rt; missed.as_str(), "link 1 2 17 was missed");
-    let memory = format!(in alloc; "{}", SolveFault::Memory)?;
-    assert_eq!(rt; memory.as_str(), "no memory");
+    let texts = [
+        (SolveFault::Rounds { round: 2 }, "round 2 is past the bound"),
+        (SolveFault::Missed { link }, "link 1 2 17 was missed"),
+        (SolveFault::Memory, "no memory"),
+    ];
+    for (fault, text) in texts {
+        let told = format!(in alloc; "{fault}")?;
+        assert_eq!(rt; told.as_str(), text);
+    }
     Ok(())
 }

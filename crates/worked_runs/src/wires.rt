@@ -1,24 +1,50 @@
 // A wire over lines that end where a test wants it: a worker in memory whose line stops after so many bytes or calls,
 // and stored bytes in place of a worker. The triangle of equal weights is asked in one shard, or in two.
-ghost use Rattle.std.specs.Prelude.{◌≡◌, ◌<◌};
+ghost use Rattle.std.specs.Prelude.{◌≡◌, ◌+◌, ◌<◌, ◌≤◌};
 ghost use Rattle.ports.specs.Lines.{HasRoom};
 
+use frames::Answer;
 use link_key::{Cut, Labels};
 use ports::{EngineLine, FusedLine, Line, LineFault, Port, PortFault, ScriptLine, Wire};
 use std::alloc::{AllocError, Global};
 use std::process::Abort;
 use std::test::Fail;
-use worked_graphs::{EQUAL_WEIGHTS, have_labels, links_of};
+use worked_graphs::{EQUAL_WEIGHTS, Row, have_labels, links_of};
 
 /// The offers of an answer, or why there is none.
 type Reply<'a> = Result<&'a [(u32, u32)], PortFault>;
+
+/// What is done with a wire: an ask of a round for a shard, which is answered so, or it is shut.
+#[derive(Clone, Copy)]
+enum Step<'a> {
+    Ask(u32, u32, Reply<'a>),
+    Shut,
+}
+
+const DOWN: Reply = Err(PortFault::Down);
+
+const CLOSED: Reply = Err(PortFault::Closed);
 
 const HELLO: [u8; 11] = [1, 0, 0, 0, 6, 0, 1, 0, 0, 0, 0];
 
 const NOT_HELD: [u8; 14] = [5, 0, 0, 0, 9, 0, 0, 0, 1, 0, 0, 0, 5, 2];
 
+// A head of no kind.
+const NO_KIND: [u8; 5] = [6, 0, 0, 0, 0];
+
 // The triangle's offers, where each vertex is a component by itself.
-const OFFERS: [(u32, u32); 3] = [(1, 0), (2, 0), (3, 2)];
+const OFFERS: Reply = Ok(&[(1, 0), (2, 0), (3, 2)]);
+
+// Whether an ask of this round and shard was answered so.
+fn is_reply(reply: &Result<Answer, PortFault>, asked: (u32, u32), expected: Reply) -> bool {
+    match (reply, expected) {
+        (Ok(answer), Ok(offers)) => {
+            (answer.round, answer.shard) == asked && answer.offers.pairs() == offers
+        }
+        (Err(fault), Err(expected)) => *fault == expected,
+        (_, _) => false,
+    }
+}
 
 // An ask of a round for a shard is answered so.
 fn expect_ask<P: Port<Global>>(
@@ -34,21 +60,60 @@ fn expect_ask<P: Port<Global>>(
 {
     let (round, shard) = asked;
     assert!(rt; 1 <= round && shard < cut.len() && port.asks() < 100);
-    let part = cut.shard(shard);
-    assert!(rt; have_labels(part.links, labels.n()));
+    assert!(rt; have_labels(cut.shard(shard).links, labels.n()));
     let reply = port.ask(round, shard, labels);
-    assert_eq!(rt; port.is_open(), reply.is_ok());
-    match (reply, expected) {
-        (Ok(answer), Ok(offers)) => {
-            assert_eq!(rt; (answer.round, answer.shard), (round, shard));
-            assert_eq!(rt; answer.offers.pairs(), offers);
+    assert!(rt; is_reply(&reply, asked, expected) && port.is_open() == reply.is_ok());
+}
+
+fn take_step<P: Port<Global>>(rt: &impl Abort, port: &mut P, cut: &Cut, labels: &Labels, step: Step)
+    requires { (P.state port.old).cut ≡ cut.now }
+    ensures { (P.state port.new).cut ≡ cut.now }
+{
+    match step {
+        Step::Ask(round, shard, expected) => {
+            expect_ask(rt, port, cut, (round, shard), labels, expected)
         }
-        (Err(fault), Err(expected)) => assert_eq!(rt; fault, expected),
-        (_, _) => assert!(rt;
-            false,
-            "an answer in place of a fault, or a fault in place of an answer"
-        ),
+        Step::Shut => port.shut(),
     }
+}
+
+fn take_steps<P: Port<Global>>(
+    rt: &impl Abort,
+    port: &mut P,
+    cut: &Cut,
+    labels: &Labels,
+    steps: &[Step],
+)
+    requires { (P.state port.old).cut ≡ cut.now }
+    ensures { (P.state port.new).cut ≡ cut.now }
+{
+    for step in steps {
+        take_step(rt, port, cut, labels, *step);
+    }
+}
+
+// These steps of a new wire over a line, which answers as it does after so many asks. What the line is then.
+fn expect_steps<L: Line + Drop>(
+    rt: &impl Abort,
+    alloc: Global,
+    graph: (u32, &[Row], u32),
+    line: L,
+    worker: u32,
+    steps: &[Step],
+    asks: u64,
+) -> Result<L, Fail>
+    requires worker { worker < 64 }
+    requires room { HasRoom (L.state line) }
+{
+    let (n, arcs, shards) = graph;
+    let links = links_of(alloc, n, arcs)?.expect(rt, "arcs");
+    assert!(rt; links.len() <= 1 << 30 && n <= 1 << 26);
+    let cut = Cut::even(alloc, links.as_slice(), shards).expect(rt, "a cut");
+    let labels = Labels::apart(alloc, n)?;
+    let mut wire = Wire::new(alloc, line, &cut, worker);
+    take_steps(rt, &mut wire, &cut, &labels, steps);
+    assert_eq!(rt; wire.asks(), asks);
+    Ok(wire.into_line())
 }
 
 // Two asks for the whole triangle, of rounds 1 and 2, over a new wire are answered so.
@@ -57,60 +122,38 @@ fn expect_two<L: Line + Drop>(
     alloc: Global,
     line: L,
     worker: u32,
-    first: Reply,
-    second: Reply,
+    replies: (Reply<'static>, Reply<'static>),
 ) -> Result<(), Fail>
     requires worker { worker < 64 }
     requires room { HasRoom (L.state line) }
 {
-    let links = links_of(alloc, 3, EQUAL_WEIGHTS.arcs)?.expect(rt, "arcs");
-    assert!(rt; links.len() <= 1 << 30);
-    let cut = Cut::even(alloc, links.as_slice(), 1).expect(rt, "a cut");
-    let labels = Labels::apart(alloc, 3)?;
-    let mut wire = Wire::new(alloc, line, &cut, worker);
-    expect_ask(rt, &mut wire, &cut, (1, 0), &labels, first);
-    expect_ask(rt, &mut wire, &cut, (2, 0), &labels, second);
+    let steps = [Step::Ask(1, 0, replies.0), Step::Ask(2, 0, replies.1)];
+    let asks = if replies.1 == CLOSED { 1 } else { 2 };
+    let graph = (3, EQUAL_WEIGHTS.arcs, 1);
+    expect_steps(rt, alloc, graph, line, worker, &steps, asks)?;
     Ok(())
 }
 
-// The same over an engine whose line stops once so many bytes were got.
-fn expect_cut(
-    rt: &impl Abort,
-    alloc: Global,
-    bytes: u64,
-    first: Reply,
-    second: Reply,
-) -> Result<(), Fail> {
-    let line = FusedLine::after_bytes(EngineLine::new(alloc, 0)?, bytes);
-    expect_two(rt, alloc, line, 0, first, second)
-}
-
-#[test]
-fn a_line_that_stops_after_so_many_bytes(rt: HostRuntime) -> Result<(), Fail> {
-    let down = Err(PortFault::Down);
-    let closed = Err(PortFault::Closed);
-    let answer: Reply = Ok(&OFFERS);
-    expect_cut(&rt, rt.alloc(), 0, down, closed)?;
-    expect_cut(&rt, rt.alloc(), 10, down, closed)?;
-    expect_cut(&rt, rt.alloc(), 11, down, closed)?;
-    expect_cut(&rt, rt.alloc(), 51, down, closed)?;
-    expect_cut(&rt, rt.alloc(), 52, answer, down)?;
-    expect_cut(&rt, rt.alloc(), 93, answer, answer)
+// The replies to two asks over a line that stops after so much, where the first wants so much, and both so much.
+fn stopped(after: u64, first: u64, both: u64) -> (Reply<'static>, Reply<'static>) {
+    if after < first {
+        (DOWN, CLOSED)
+    } else if after < both {
+        (OFFERS, DOWN)
+    } else {
+        (OFFERS, OFFERS)
+    }
 }
 
 // The hello has 11 bytes and each answer 41.
 #[test]
 fn a_line_that_stops_after_each_byte(rt: HostRuntime) -> Result<(), Fail> {
-    let down = Err(PortFault::Down);
-    let closed = Err(PortFault::Closed);
-    let answer: Reply = Ok(&OFFERS);
-    for bytes in 0..52u64 {
-        expect_cut(&rt, rt.alloc(), bytes, down, closed)?;
+    let alloc = rt.alloc();
+    for bytes in 0..94u64 {
+        let line = FusedLine::after_bytes(EngineLine::new(alloc, 0)?, bytes);
+        expect_two(&rt, alloc, line, 0, stopped(bytes, 52, 93))?;
     }
-    for bytes in 52..93u64 {
-        expect_cut(&rt, rt.alloc(), bytes, answer, down)?;
-    }
-    expect_cut(&rt, rt.alloc(), 93, answer, answer)
+    Ok(())
 }
 
 // The calls of two asks over an engine: the hello's head and body, the shard, the ask, the answer's head and body; and
@@ -118,20 +161,9 @@ fn a_line_that_stops_after_each_byte(rt: HostRuntime) -> Result<(), Fail> {
 #[test]
 fn a_line_that_stops_after_so_many_calls(rt: HostRuntime) -> Result<(), Fail> {
     let alloc = rt.alloc();
-    let down = Err(PortFault::Down);
-    let closed = Err(PortFault::Closed);
-    let answer: Reply = Ok(&OFFERS);
     for calls in 0..10u64 {
         let line = FusedLine::after_calls(EngineLine::new(alloc, 0)?, calls);
-        let first = if calls < 6 { down } else { answer };
-        let second = if calls < 6 {
-            closed
-        } else if calls < 9 {
-            down
-        } else {
-            answer
-        };
-        expect_two(&rt, alloc, line, 0, first, second)?;
+        expect_two(&rt, alloc, line, 0, stopped(calls, 6, 9))?;
     }
     Ok(())
 }
@@ -139,22 +171,10 @@ fn a_line_that_stops_after_so_many_calls(rt: HostRuntime) -> Result<(), Fail> {
 #[test]
 fn a_wire_that_was_shut(rt: HostRuntime) -> Result<(), Fail> {
     let alloc = rt.alloc();
-    let links = links_of(alloc, 3, EQUAL_WEIGHTS.arcs)?.expect(&rt, "arcs");
-    assert!(rt; links.len() <= 1 << 30);
-    let cut = Cut::even(alloc, links.as_slice(), 1).expect(&rt, "a cut");
-    let labels = Labels::apart(alloc, 3)?;
-    let mut wire = Wire::new(alloc, EngineLine::new(alloc, 0)?, &cut, 0);
-    expect_ask(&rt, &mut wire, &cut, (1, 0), &labels, Ok(&OFFERS));
-    wire.shut();
-    expect_ask(
-        &rt,
-        &mut wire,
-        &cut,
-        (2, 0),
-        &labels,
-        Err(PortFault::Closed),
-    );
-    assert!(rt; wire.asks() == 1 && !wire.is_open());
+    let line = EngineLine::new(alloc, 0)?;
+    let steps = [Step::Ask(1, 0, OFFERS), Step::Shut, Step::Ask(2, 0, CLOSED)];
+    let graph = (3, EQUAL_WEIGHTS.arcs, 1);
+    expect_steps(&rt, alloc, graph, line, 0, &steps, 1)?;
     Ok(())
 }
 
@@ -168,37 +188,26 @@ fn script(alloc: Global, parts: &[&[u8]]) -> Result<Vec<u8>, AllocError> {
 }
 
 // A wire for this worker hears these parts: so its first ask ends, and it is closed.
-fn expect_fault(
-    rt: &impl Abort,
-    alloc: Global,
-    worker: u32,
-    parts: &[&[u8]],
-    fault: PortFault,
-) -> Result<(), Fail>
-    requires { worker < 64 }
-{
-    let line = ScriptLine::new(script(alloc, parts)?);
-    expect_two(rt, alloc, line, worker, Err(fault), Err(PortFault::Closed))
-}
-
 #[test]
 fn a_script_in_place_of_a_worker(rt: HostRuntime) -> Result<(), Fail> {
     let alloc = rt.alloc();
-    expect_fault(&rt, alloc, 1, &[&HELLO], PortFault::WrongHello)?;
-    expect_fault(&rt, alloc, 0, &[&NOT_HELD], PortFault::WrongHello)?;
-    expect_fault(&rt, alloc, 0, &[&HELLO, &NOT_HELD], PortFault::Gave(2))?;
-    expect_fault(&rt, alloc, 0, &[&HELLO, &HELLO], PortFault::Garbled)?;
-    expect_fault(
-        &rt,
-        alloc,
-        0,
-        &[&HELLO, &[6, 0, 0, 0, 0]],
-        PortFault::Garbled,
-    )?;
-    expect_fault(&rt, alloc, 0, &[&[6, 0, 0, 0, 0]], PortFault::Garbled)?;
-    expect_fault(&rt, alloc, 0, &[&HELLO], PortFault::Down)?;
-    expect_fault(&rt, alloc, 0, &[&HELLO, &NOT_HELD[..13]], PortFault::Down)?;
-    expect_fault(&rt, alloc, 0, &[], PortFault::Down)
+    let scripts: [(u32, &[&[u8]], PortFault); 9] = [
+        (1, &[&HELLO], PortFault::WrongHello),
+        (0, &[&NOT_HELD], PortFault::WrongHello),
+        (0, &[&HELLO, &NOT_HELD], PortFault::Gave(2)),
+        (0, &[&HELLO, &HELLO], PortFault::Garbled),
+        (0, &[&HELLO, &NO_KIND], PortFault::Garbled),
+        (0, &[&NO_KIND], PortFault::Garbled),
+        (0, &[&HELLO], PortFault::Down),
+        (0, &[&HELLO, &NOT_HELD[..13]], PortFault::Down),
+        (0, &[], PortFault::Down),
+    ];
+    for (worker, parts, fault) in scripts {
+        let line = ScriptLine::new(script(alloc, parts)?);
+        assert!(rt; worker < 64);
+        expect_two(&rt, alloc, line, worker, (Err(fault), CLOSED))?;
+    }
+    Ok(())
 }
 
 /// An engine's line that remembers how long each of its first eight puts was.
@@ -236,26 +245,22 @@ impl Line for Listening {
 #[test]
 fn each_shard_is_sent_before_its_first_ask_alone(rt: HostRuntime) -> Result<(), Fail> {
     let alloc = rt.alloc();
-    let links = links_of(alloc, 3, EQUAL_WEIGHTS.arcs)?.expect(&rt, "arcs");
-    assert!(rt; links.len() <= 1 << 30);
-    let cut = Cut::even(alloc, links.as_slice(), 2).expect(&rt, "a cut");
-    let labels = Labels::apart(alloc, 3)?;
     let line = Listening {
         line: EngineLine::new(alloc, 63)?,
         lengths: [0; 8],
         puts: 0,
     };
-    let mut wire = Wire::new(alloc, line, &cut, 63);
     let of_one: Reply = Ok(&[(1, 0), (2, 0)]);
     let of_two: Reply = Ok(&[(1, 1), (2, 0), (3, 1)]);
-    expect_ask(&rt, &mut wire, &cut, (1, 0), &labels, of_one);
-    expect_ask(&rt, &mut wire, &cut, (1, 1), &labels, of_two);
-    expect_ask(&rt, &mut wire, &cut, (2, 0), &labels, of_one);
-    expect_ask(&rt, &mut wire, &cut, (2, 1), &labels, of_two);
-    assert_eq!(rt; wire.asks(), 4);
-    let line = wire.into_line();
-    assert_eq!(rt; line.lengths, [25, 29, 37, 29, 29, 29, 0, 0]);
-    assert_eq!(rt; line.puts, 6);
+    let steps = [
+        Step::Ask(1, 0, of_one),
+        Step::Ask(1, 1, of_two),
+        Step::Ask(2, 0, of_one),
+        Step::Ask(2, 1, of_two),
+    ];
+    let graph = (3, EQUAL_WEIGHTS.arcs, 2);
+    let line = expect_steps(&rt, alloc, graph, line, 63, &steps, 4)?;
+    assert!(rt; line.lengths == [25, 29, 37, 29, 29, 29, 0, 0] && line.puts == 6);
     Ok(())
 }
 
@@ -274,13 +279,74 @@ fn a_wire_at_ten_thousand_links(rt: HostRuntime) -> Result<(), Fail> {
         arcs.push((low, low.wrapping_add(1), low.cast_signed()))?;
         offers.push((low.wrapping_add(1), i))?;
     }
-    let links = links_of(alloc, MANY + 1, arcs.as_slice())?.expect(&rt, "arcs");
-    assert!(rt; links.len() == MANY as usize);
-    let cut = Cut::even(alloc, links.as_slice(), 1).expect(&rt, "a cut");
-    let labels = Labels::apart(alloc, MANY + 1)?;
-    let mut wire = Wire::new(alloc, EngineLine::new(alloc, 0)?, &cut, 0);
-    expect_ask(&rt, &mut wire, &cut, (1, 0), &labels, Ok(offers.as_slice()));
-    expect_ask(&rt, &mut wire, &cut, (2, 0), &labels, Ok(offers.as_slice()));
+    let reply: Reply = Ok(offers.as_slice());
+    let steps = [Step::Ask(1, 0, reply), Step::Ask(2, 0, reply)];
+    let line = EngineLine::new(alloc, 0)?;
+    let graph = (MANY + 1, arcs.as_slice(), 1);
+    expect_steps(&rt, alloc, graph, line, 0, &steps, 2)?;
+    Ok(())
+}
+
+// Asks under no labels and under one, and for the last of as many shards as there may be.
+#[test]
+fn asks_at_their_bounds(rt: HostRuntime) -> Result<(), Fail> {
+    let alloc = rt.alloc();
+    let none: Reply = Ok(&[]);
+    let graphs: [(u32, &[Row], u32, u32, Reply); 5] = [
+        (0, &[], 1, 0, none),
+        (0, &[], 4096, 4095, none),
+        (1, &[], 1, 0, none),
+        (2, &[(1, 2, 7)], 1, 0, Ok(&[(1, 0), (2, 0)])),
+        (2, &[(1, 2, 7)], 4096, 4095, Ok(&[(1, 0), (2, 0)])),
+    ];
+    for (n, arcs, shards, shard, reply) in graphs {
+        let line = EngineLine::new(alloc, 0)?;
+        let steps = [
+            Step::Ask(1, shard, reply),
+            Step::Ask(u32::MAX, shard, reply),
+        ];
+        expect_steps(&rt, alloc, (n, arcs, shards), line, 0, &steps, 2)?;
+    }
+    Ok(())
+}
+
+// Puts these bytes, and gets once: how many bytes came.
+fn say(rt: &impl Abort, line: &mut EngineLine<Global>, bytes: &[u8]) -> usize
+    requires { line.old.failures + line.old.ends < 100 }
+    ensures { line.new.failures + line.new.ends ≤ line.old.failures + line.old.ends + 2 }
+{
+    assert!(rt; line.put(bytes).is_ok());
+    let mut piece = [0; 64];
+    line.get(&mut piece).expect(rt, "a piece")
+}
+
+// Shard 0 of the link 1 2 7, and an ask for it of round 1 under two labels, whose answer has 33 bytes.
+const ASKED: [u8; 50] = [
+    2, 0, 0, 0, 20, 0, 0, 0, 0, 0, 0, 0, 1, 0, 0, 0, 1, 0, 0, 0, 2, 0, 0, 0, 7, 3, 0, 0, 0, 20, 0,
+    0, 0, 1, 0, 0, 0, 0, 0, 0, 0, 2, 0, 0, 0, 1, 0, 0, 0, 2,
+];
+
+// A session that heard bytes which begin no frame is over: what is put later adds nothing, and each get finds the end.
+#[test]
+fn a_session_that_is_over(rt: HostRuntime) -> Result<(), Fail> {
+    let alloc = rt.alloc();
+    // A hello of seven bytes, one of another version, and the first three bytes of a frame, which may go on.
+    let sessions: [(&[u8], usize); 6] = [
+        (&[], 33),
+        (&NO_KIND, 0),
+        (&[1, 0, 0, 0, 7], 0),
+        (&[1, 0, 0, 0, 6, 0, 2, 0, 0, 0, 0], 0),
+        (&[2, 0, 0], 0),
+        (&HELLO, 33),
+    ];
+    for (first, came) in sessions {
+        let mut line = EngineLine::new(alloc, 0)?;
+        let hello = say(&rt, &mut line, &[]);
+        let silent = say(&rt, &mut line, first);
+        let answer = say(&rt, &mut line, &ASKED);
+        let again = say(&rt, &mut line, &[]);
+        assert_eq!(rt; (hello, silent, answer, again), (11, 0, came, 0));
+    }
     Ok(())
 }
 
