@@ -9,17 +9,15 @@ use worked_graphs::{Row, links_of};
 
 // The links whose ends aren't joined by smaller ones, by the plain program: where two labels become one, each vertex
 // is looked at.
-pub(crate) fn slow_forest(
+fn slow_forest(
     rt: &impl Abort,
     alloc: Global,
     n: u32,
     links: &[Link],
-) -> Result<Vec<Link>, AllocError>
-    requires { n ≤ 2 ^ 26 }
-{
+) -> Result<Vec<Link>, AllocError> {
     let mut sorted = Vec::from_slice(alloc, links)?;
     sorted.as_mut_slice().sort_unstable();
-    let mut labels: Vec<u32> = (0..n + 1).collect(alloc)?;
+    let mut labels: Vec<u32> = (0..=n).collect(alloc)?;
     let mut taken = Vec::new(alloc);
     for link in &sorted {
         assert!(rt; (link.low as usize) < labels.len() && (link.high as usize) < labels.len());
@@ -75,17 +73,34 @@ fn drawn_arcs(
     Ok(arcs)
 }
 
-// The solver, on a copy and in the list itself, and the plain program give one forest of a drawn list.
-fn expect_one_forest(rt: &impl Abort, alloc: Global, n: u32, arcs: &[Row]) -> Result<(), Fail>
-    requires { n ≤ 2 ^ 26 }
-{
+// The solver, on a copy and in the list itself, gives just these links as the forest of the arcs.
+pub(crate) fn expect_forest(
+    rt: &impl Abort,
+    alloc: Global,
+    n: u32,
+    arcs: &[Row],
+    wanted: &[Link],
+) -> Result<(), Fail> {
+    assert!(rt; n <= 1 << 26);
+    let links = links_of(alloc, n, arcs)?.expect(rt, "arcs");
+    let forest = plain_forest(alloc, n, links.as_slice())?;
+    assert_eq!(rt; forest.links(), wanted);
+    let forest = forest_of(alloc, n, links)?;
+    assert_eq!(rt; forest.links(), wanted);
+    Ok(())
+}
+
+// The solver and the plain program give one forest of a drawn list, which is returned.
+pub(crate) fn expect_one_forest(
+    rt: &impl Abort,
+    alloc: Global,
+    n: u32,
+    arcs: &[Row],
+) -> Result<Vec<Link>, Fail> {
     let links = links_of(alloc, n, arcs)?.expect(rt, "arcs");
     let slow = slow_forest(rt, alloc, n, links.as_slice())?;
-    let forest = plain_forest(alloc, n, links.as_slice())?;
-    assert_eq!(rt; forest.links(), slow.as_slice());
-    let forest = forest_of(alloc, n, links)?;
-    assert_eq!(rt; forest.links(), slow.as_slice());
-    Ok(())
+    expect_forest(rt, alloc, n, arcs, slow.as_slice())?;
+    Ok(slow)
 }
 
 // The same of 300 drawn lists of sixty arcs with these weights.
@@ -93,7 +108,7 @@ fn expect_forests(rt: &impl Abort, alloc: Global, weights: &[i32; 5]) -> Result<
     for seed in 0..300u32 {
         let n = seed % 39 + 2;
         let arcs = drawn_arcs(alloc, u64::from(seed), n, 60, weights)?;
-        expect_one_forest(rt, alloc, n, arcs.as_slice())?;
+        let _forest = expect_one_forest(rt, alloc, n, arcs.as_slice())?;
     }
     Ok(())
 }
@@ -125,7 +140,7 @@ fn drawn_lists_of_many_sizes(rt: HostRuntime) -> Result<(), Fail> {
                 arcs.push((*tail, *head, *weight))?;
                 arcs.push((*head, *tail, *weight))?;
             }
-            expect_one_forest(&rt, rt.alloc(), n, arcs.as_slice())?;
+            let _forest = expect_one_forest(&rt, rt.alloc(), n, arcs.as_slice())?;
         }
     }
     Ok(())

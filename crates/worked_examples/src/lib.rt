@@ -1,5 +1,6 @@
 //! Worked examples of files and forests, each a test that needs public calls alone; `worked_streams` has those of
-//! streams and frames, `worked_rounds` of shards and their workers, `worked_runs` of wires, rounds and solvers.
+//! streams and frames, `worked_rounds` of shards and their workers, `worked_runs` of wires, rounds and solvers,
+//! `worked_lines` of whole runs over lines, and `worked_sockets` of workers over sockets.
 //!
 //! What the contracts promise isn't tried again here. An example shows a call on its happy path with a value from
 //! outside, what no contract can see (that a call ends well with ample memory, whatever the size; printed texts; which
@@ -10,14 +11,16 @@
 //!   drawn_lists     the solver beside a plain program, over drawn lists
 //!   drawn_texts     `.gr` texts in pieces and byte by byte, over drawn texts
 //!   reading         `.gr` texts, their faults, pieces and limits
-//!   writing         forest texts, and how much of one went out
+//!   writing         forest texts, how a sink is called, and how much of a text went out
 //!   plain_runs      a file to its forest text
+//!   totals          what forests weigh, and texts of forests as files
 //!   fault_texts     what each fault is told as
-//!   sizes           each call past the size of every inner piece
+//!   sizes           each call at and past the size of every inner piece
+//!   memory_of_graphs    what a reader asks for, by an allocator that refuses
 //! ```
 //!
 //! Where to start a change: a new public call gets its example in the file of its subject, here or in the other
-//! three crates, and one in that crate's `sizes` if it may answer want of memory. The worked graphs stand in `worked_graphs`.
+//! five crates, and one in that crate's `sizes` if it may answer want of memory. The worked graphs stand in `worked_graphs`.
 #![tactic(auto)]
 
 #[cfg(test)]
@@ -29,10 +32,14 @@ mod fault_texts;
 #[cfg(test)]
 mod lists;
 #[cfg(test)]
+mod memory_of_graphs;
+#[cfg(test)]
 mod plain_runs;
 #[cfg(test)]
 mod reading;
 #[cfg(test)]
 mod sizes;
+#[cfg(test)]
+mod totals;
 #[cfg(test)]
 mod writing;

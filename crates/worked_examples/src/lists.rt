@@ -1,35 +1,16 @@
 // Links of arcs, labels, offers and forests, and the forests of the worked graphs.
-use crate::drawn_lists::slow_forest;
-use link_key::{Forest, Labels, Link, Offers, forest_of, plain_forest};
-use std::alloc::Global;
-use std::process::Abort;
+use crate::drawn_lists::expect_one_forest;
+use link_key::{Forest, Labels, Link, Offers};
 use std::test::Fail;
-use worked_graphs::{Row, WORKED, links_of};
+use worked_graphs::{WORKED, links_of};
 
-// The forest of the arcs has just the links of the expected ones, in their order, and so has the slow one.
-fn expect_forest(
-    rt: &impl Abort,
-    alloc: Global,
-    n: u32,
-    arcs: &[Row],
-    expected: &[Row],
-) -> Result<(), Fail> {
-    assert!(rt; n <= 1 << 26);
-    let links = links_of(alloc, n, arcs)?.expect(rt, "arcs");
-    let forest = plain_forest(alloc, n, links.as_slice())?;
-    let wanted = links_of(alloc, n, expected)?.expect(rt, "links");
-    assert_eq!(rt; forest.links(), wanted.as_slice());
-    let slow = slow_forest(rt, alloc, n, links.as_slice())?;
-    assert_eq!(rt; slow.as_slice(), wanted.as_slice());
-    let forest = forest_of(alloc, n, links)?;
-    assert_eq!(rt; forest.links(), wanted.as_slice());
-    Ok(())
-}
-
+// The plain program finds them too.
 #[test]
 fn forests_of_the_worked_graphs(rt: HostRuntime) -> Result<(), Fail> {
     for graph in WORKED {
-        expect_forest(&rt, rt.alloc(), graph.n, graph.arcs, graph.forest)?;
+        let forest = expect_one_forest(&rt, rt.alloc(), graph.n, graph.arcs)?;
+        let wanted = links_of(rt.alloc(), graph.n, graph.forest)?.expect(&rt, "links");
+        assert_eq!(rt; forest.as_slice(), wanted.as_slice());
     }
     Ok(())
 }

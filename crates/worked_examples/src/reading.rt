@@ -1,7 +1,7 @@
 // Texts in the `.gr` format: what they mean, their faults, pieces and limits.
-use byte_streams::FusedSource;
 use gr_text::{
-    GrFault, GrKind, GrReader, Graph, MAX_BYTES, ReadFault, parse, read_graph, read_graph_upto,
+    FusedSource, GrFault, GrKind, GrReader, Graph, MAX_BYTES, ReadFault, parse, read_graph,
+    read_graph_upto,
 };
 use link_key::Link;
 use std::alloc::Allocator;
@@ -124,18 +124,26 @@ fn reads_two_pieces_cut_anywhere(rt: HostRuntime) {
     }
 }
 
+// Nine bytes are too few for ten and ten are enough, wherever the text is cut: also where a piece begins at the limit.
 #[test]
 fn takes_no_more_than_its_limit(rt: HostRuntime) {
-    let mut short = GrReader::new(rt.alloc(), 9);
-    assert_eq!(rt; short.feed(b"p sp 0 0"), Ok(()));
-    assert_eq!(rt; short.line(), 1);
-    assert_eq!(rt; short.feed(b"\nc"), Err(ReadFault::TooLong));
-    assert_eq!(rt; short.finish().err(), Some(ReadFault::TooLong));
-    let mut enough = GrReader::new(rt.alloc(), 10);
-    assert_eq!(rt; enough.feed(b"p sp 0 0"), Ok(()));
-    assert_eq!(rt; enough.feed(b"\nc"), Ok(()));
-    assert_eq!(rt; enough.line(), 2);
-    assert_eq!(rt; enough.finish().ok().expect(&rt, "a graph").n(), 0);
+    let text = b"p sp 0 0\nc";
+    let too_long = Err(ReadFault::TooLong);
+    for at in 0..=text.len() {
+        let (first, second) = text.split_at(at);
+        let mut short = GrReader::new(rt.alloc(), 9);
+        let told = (short.feed(first).is_ok(), short.feed(second));
+        assert_eq!(rt; told, (at < 10, too_long));
+        assert_eq!(rt;
+            short.finish().map(|graph| graph.n()),
+            Err(ReadFault::TooLong)
+        );
+        let mut enough = GrReader::new(rt.alloc(), 10);
+        let told = (enough.feed(first), enough.feed(second), enough.feed(b""));
+        assert_eq!(rt; told, (Ok(()), Ok(()), Ok(())));
+        assert_eq!(rt; enough.line(), 2);
+        assert_eq!(rt; enough.finish().map(|graph| graph.n()), Ok(0));
+    }
 }
 
 #[test]
@@ -172,11 +180,21 @@ fn reads_sources_that_fail(rt: HostRuntime) -> Result<(), Fail> {
     Ok(())
 }
 
+// In pieces of each length, so that some begin just at the limit.
 #[test]
-fn reads_a_source_up_to_a_limit(rt: HostRuntime) {
-    let text = b"p sp 0 0\nc";
-    let long = read_graph_upto(rt.alloc(), &mut text.as_slice(), 9);
-    assert_eq!(rt; long.err(), Some(ReadFault::TooLong));
-    let graph = read_graph_upto(rt.alloc(), &mut text.as_slice(), 10);
-    assert_eq!(rt; graph.ok().expect(&rt, "a graph").n(), 0);
+fn reads_a_source_up_to_a_limit(rt: HostRuntime) -> Result<(), Fail> {
+    for piece in 1..12usize {
+        for limit in 0..12u64 {
+            let text = Vec::from_slice(rt.alloc(), b"p sp 0 0\nc")?;
+            let mut source = FusedSource::new(text, usize::MAX, piece);
+            let graph = read_graph_upto(rt.alloc(), &mut source, limit);
+            let expected = if limit < 10 {
+                Err(ReadFault::TooLong)
+            } else {
+                Ok(0)
+            };
+            assert_eq!(rt; graph.map(|graph| graph.n()), expected);
+        }
+    }
+    Ok(())
 }

@@ -1,30 +1,47 @@
-// Calls that may answer want of memory, each with ample memory and past the size of every piece that it works in:
-// 10,000 vertices and links, and 200,003 for the sort of links. A body that gives up past some size is proved as well as
-// one that doesn't. What is expected is written by a formula, here.
-use byte_streams::FusedSource;
+// Calls that may answer want of memory, each with ample memory at each size of a table: none and few, the pieces that a
+// call works in, less one, themselves and one more, and far past them. A body that gives up at some size is proved as
+// well as one that doesn't. What is expected is written by a formula, here.
+use crate::drawn_lists::expect_forest;
 use forest_run::{plain_text, run_plain};
-use gr_text::{GrReader, Graph, MAX_BYTES, parse, read_graph, read_graph_upto, write_forest};
-use link_key::{Forest, Labels, Link, Offers, forest_of, plain_forest};
+use gr_text::{
+    FusedSource, GrReader, Graph, MAX_BYTES, parse, read_graph, read_graph_upto, write_forest,
+};
+use link_key::{Components, Forest, Labels, Link, Offers};
 use std::alloc::{AllocError, Global};
 use std::process::Abort;
 use std::test::Fail;
 use worked_graphs::{Row, links_of};
 
-const MANY: u32 = 10_000;
+// How many vertices a path has. Labels are looked at by 4 and by 256, a sample has 256 links, and 65,536 links are put
+// in order at once; a path has a link less than vertices, and with long keys there are two more.
+const SIZES: [u32; 19] = [
+    0, 1, 2, 3, 4, 5, 6, 254, 255, 256, 257, 10_001, 65_533, 65_534, 65_535, 65_536, 65_537,
+    65_538, 200_003,
+];
 
-// The arcs of a path from vertex 1 on, each as heavy as its first vertex: in key order, and each one in the forest.
-fn path(alloc: Global, count: u32) -> Result<Vec<Row>, AllocError> {
-    let mut arcs = Vec::new(alloc);
-    for v in 0..count {
-        let first = v.wrapping_add(1);
-        arcs.push((first, first.wrapping_add(1), first.cast_signed()))?;
+// The vertex that the lightest links of lists with long keys lead to.
+const LAST: u32 = 1 << 20;
+
+// As many vertices as there may be.
+const MOST: u32 = 1 << 26;
+
+// Adds the arcs of a path from vertex 1 to n, each as heavy as its first vertex: in key order, and each one in the forest.
+fn put_path(arcs: &mut Vec<Row>, n: u32) -> Result<(), AllocError> {
+    for v in 1..n {
+        arcs.push((v, v.wrapping_add(1), v.cast_signed()))?;
     }
+    Ok(())
+}
+
+fn path(alloc: Global, n: u32) -> Result<Vec<Row>, AllocError> {
+    let mut arcs = Vec::new(alloc);
+    put_path(&mut arcs, n)?;
     Ok(arcs)
 }
 
 // The path as a file, which is also its forest's text.
-fn path_text(alloc: Global, arcs: &[Row]) -> Result<Vec<u8>, Fail> {
-    let first = format!(in alloc; "p sp {} {}\n", arcs.len().wrapping_add(1), arcs.len())?;
+fn path_text(alloc: Global, n: u32, arcs: &[Row]) -> Result<Vec<u8>, Fail> {
+    let first = format!(in alloc; "p sp {n} {}\n", arcs.len())?;
     let mut text = Vec::from_slice(alloc, first.as_bytes())?;
     for (u, v, w) in arcs {
         let line = format!(in alloc; "a {u} {v} {w}\n")?;
@@ -33,54 +50,8 @@ fn path_text(alloc: Global, arcs: &[Row]) -> Result<Vec<u8>, Fail> {
     Ok(text)
 }
 
-// The numbers 1, 2, .. up to this one.
-fn numbers(alloc: Global, count: u32) -> Result<Vec<u32>, AllocError> {
-    let mut list = Vec::new(alloc);
-    for v in 0..count {
-        list.push(v.wrapping_add(1))?;
-    }
-    Ok(list)
-}
-
-#[test]
-fn lists_of_ten_thousand(rt: HostRuntime) -> Result<(), Fail> {
-    let expected = numbers(rt.alloc(), MANY)?;
-    let apart = Labels::apart(rt.alloc(), MANY)?;
-    assert_eq!(rt; apart.as_slice(), expected.as_slice());
-    let labels = Labels::of_list(expected.clone()?).expect(&rt, "labels");
-    assert_eq!(rt; labels.as_slice(), expected.as_slice());
-    let mut pairs = Vec::new(rt.alloc());
-    for label in &expected {
-        pairs.push((*label, label.wrapping_mul(3)))?;
-    }
-    let wanted = pairs.clone()?;
-    let offers = Offers::of_pairs(pairs).expect(&rt, "ascending");
-    assert_eq!(rt; offers.pairs(), wanted.as_slice());
-    let arcs = path(rt.alloc(), MANY)?;
-    let links = links_of(rt.alloc(), MANY + 1, arcs.as_slice())?.expect(&rt, "arcs");
-    let wanted = links.clone()?;
-    let forest = Forest::of_list(links).expect(&rt, "ascending");
-    assert_eq!(rt; forest.links(), wanted.as_slice());
-    Ok(())
-}
-
-// The links come in descending order, so that every one is moved.
-#[test]
-fn a_forest_of_ten_thousand_links(rt: HostRuntime) -> Result<(), Fail> {
-    let mut arcs = path(rt.alloc(), MANY)?;
-    let wanted = links_of(rt.alloc(), MANY + 1, arcs.as_slice())?.expect(&rt, "arcs");
-    arcs.as_mut_slice().reverse();
-    let links = links_of(rt.alloc(), MANY + 1, arcs.as_slice())?.expect(&rt, "arcs");
-    let forest = plain_forest(rt.alloc(), MANY + 1, links.as_slice())?;
-    assert_eq!(rt; forest.links(), wanted.as_slice());
-    let forest = forest_of(rt.alloc(), MANY + 1, links)?;
-    assert_eq!(rt; forest.links(), wanted.as_slice());
-    Ok(())
-}
-
-// More links than are put in order at once, of which every place is taken by the steps of 7,919 since their number is a
-// prime.
-// The arcs in another order, each beside others from far off.
+// The arcs in another order, each beside others from far off. Every place is taken by the steps of 7,919, since that is
+// a prime that doesn't divide their number.
 fn scattered(alloc: Global, arcs: &[Row]) -> Result<Vec<Row>, AllocError> {
     let mut list = Vec::new(alloc);
     let mut place = 0;
@@ -93,84 +64,176 @@ fn scattered(alloc: Global, arcs: &[Row]) -> Result<Vec<Row>, AllocError> {
     Ok(list)
 }
 
+// The forest of the arcs in another order has just these links, in key order.
+fn expect_links(
+    rt: &impl Abort,
+    alloc: Global,
+    n: u32,
+    arcs: &[Row],
+    wanted: &[Row],
+) -> Result<(), Fail> {
+    let links = links_of(alloc, n, wanted)?.expect(rt, "links");
+    let mixed = scattered(alloc, arcs)?;
+    expect_forest(rt, alloc, n, mixed.as_slice(), links.as_slice())
+}
+
 #[test]
-fn a_forest_of_two_hundred_thousand_links(rt: HostRuntime) -> Result<(), Fail> {
-    let most: u32 = 200_003;
-    let arcs = path(rt.alloc(), most)?;
-    let wanted = links_of(rt.alloc(), most + 1, arcs.as_slice())?.expect(&rt, "arcs");
-    let mixed = scattered(rt.alloc(), arcs.as_slice())?;
-    let links = links_of(rt.alloc(), most + 1, mixed.as_slice())?.expect(&rt, "arcs");
-    let forest = forest_of(rt.alloc(), most + 1, links)?;
-    assert_eq!(rt; forest.links(), wanted.as_slice());
+fn forests_of_paths(rt: HostRuntime) -> Result<(), Fail> {
+    for n in SIZES {
+        let arcs = path(rt.alloc(), n)?;
+        expect_links(&rt, rt.alloc(), n, arcs.as_slice(), arcs.as_slice())?;
+    }
     Ok(())
 }
 
-// Keys that don't fit 64 bits: the lightest link there can be joins the ends of the path, whose heaviest link goes.
+// Keys that don't fit 64 bits: beside the path there are two of the lightest links, and the heaviest beside one of them,
+// which closes a cycle.
 #[test]
-fn a_forest_of_two_hundred_thousand_links_with_long_keys(rt: HostRuntime) -> Result<(), Fail> {
-    let most: u32 = 200_003;
-    let mut arcs = path(rt.alloc(), most)?;
-    arcs.push((most + 1, 1, i32::MIN))?;
-    let mixed = scattered(rt.alloc(), arcs.as_slice())?;
-    let links = links_of(rt.alloc(), most + 1, mixed.as_slice())?.expect(&rt, "arcs");
-    let mut kept = path(rt.alloc(), most - 1)?;
-    kept.insert(0, (1, most + 1, i32::MIN))?;
-    let wanted = links_of(rt.alloc(), most + 1, kept.as_slice())?.expect(&rt, "arcs");
-    let forest = forest_of(rt.alloc(), most + 1, links)?;
-    assert_eq!(rt; forest.links(), wanted.as_slice());
+fn forests_of_links_with_long_keys(rt: HostRuntime) -> Result<(), Fail> {
+    for n in SIZES {
+        let mut wanted = Vec::new(rt.alloc());
+        wanted.push((1, LAST, i32::MIN))?;
+        wanted.push((LAST - 1, LAST, -i32::MAX))?;
+        put_path(&mut wanted, n)?;
+        let mut arcs = wanted.clone()?;
+        arcs.push((1, LAST, i32::MAX))?;
+        expect_links(&rt, rt.alloc(), LAST, arcs.as_slice(), wanted.as_slice())?;
+    }
     Ok(())
 }
 
-// The graph is the path with so many arcs.
-fn expect_path(rt: &impl Abort, graph: &Graph, links: &[Link]) {
-    assert_eq!(rt; graph.n(), MANY + 1);
-    assert_eq!(rt; graph.links(), links);
+// The links of a path of 2^`rounds` vertices in key order. Every second one is lighter than the others, every second of
+// these lighter than the rest, and so on, so that each round leaves half of the components.
+fn halving_path(alloc: Global, rounds: u32) -> Result<Vec<Row>, AllocError> {
+    let mut arcs = Vec::new(alloc);
+    for weight in 0..rounds {
+        let step = 1u32.wrapping_shl(weight);
+        let mut v = step;
+        for _ in 0..1u32.wrapping_shl(rounds.wrapping_sub(weight).wrapping_sub(1)) {
+            arcs.push((v, v.wrapping_add(1), weight.cast_signed()))?;
+            v = v.wrapping_add(step).wrapping_add(step);
+        }
+    }
+    Ok(arcs)
 }
 
 #[test]
-fn a_file_of_ten_thousand_arcs(rt: HostRuntime) -> Result<(), Fail> {
-    let arcs = path(rt.alloc(), MANY)?;
-    let links = links_of(rt.alloc(), MANY + 1, arcs.as_slice())?.expect(&rt, "arcs");
-    let text = path_text(rt.alloc(), arcs.as_slice())?;
-    let parsed = parse(rt.alloc(), text.as_slice())?;
-    expect_path(&rt, &parsed, links.as_slice());
-    let read = read_graph(rt.alloc(), &mut text.as_slice())?;
-    expect_path(&rt, &read, links.as_slice());
-    let mut slow = FusedSource::new(text.clone()?, usize::MAX, 1000);
-    let upto = read_graph_upto(rt.alloc(), &mut slow, text.len() as u64)?;
-    expect_path(&rt, &upto, links.as_slice());
-    let mut reader = GrReader::new(rt.alloc(), MAX_BYTES);
-    assert_eq!(rt; reader.feed(text.as_slice()), Ok(()));
-    assert_eq!(rt; reader.line(), 10_002);
-    let fed = reader.finish()?;
-    expect_path(&rt, &fed, links.as_slice());
+fn forests_of_up_to_eighteen_rounds(rt: HostRuntime) -> Result<(), Fail> {
+    for rounds in 0..19u32 {
+        let arcs = halving_path(rt.alloc(), rounds)?;
+        let n = 1u32.wrapping_shl(rounds);
+        expect_links(&rt, rt.alloc(), n, arcs.as_slice(), arcs.as_slice())?;
+    }
+    Ok(())
+}
+
+// Each of the vertices 1 to n by itself, by each call that labels them, and as offers.
+fn expect_numbers(rt: &impl Abort, alloc: Global, n: u32) -> Result<(), Fail> {
+    assert!(rt; n <= MOST);
+    let numbers: Vec<u32> = (1..n + 1).collect(alloc)?;
+    let apart = Labels::apart(alloc, n)?;
+    assert_eq!(rt; apart.as_slice(), numbers.as_slice());
+    let components = Components::apart(alloc, n)?;
+    for v in 0..n + 1 {
+        assert_eq!(rt; components.label(v), v);
+    }
+    let pairs: Vec<(u32, u32)> = numbers.iter().map(|v| (*v, *v)).collect(alloc)?;
+    let wanted = pairs.clone()?;
+    let offers = Offers::of_pairs(pairs).expect(rt, "ascending");
+    assert_eq!(rt; offers.pairs(), wanted.as_slice());
+    let labels = Labels::of_list(numbers).expect(rt, "labels");
+    assert_eq!(rt; labels.as_slice(), apart.as_slice());
     Ok(())
 }
 
 #[test]
-fn a_forest_text_of_ten_thousand_links(rt: HostRuntime) -> Result<(), Fail> {
-    let arcs = path(rt.alloc(), MANY)?;
-    let links = links_of(rt.alloc(), MANY + 1, arcs.as_slice())?.expect(&rt, "arcs");
-    let text = path_text(rt.alloc(), arcs.as_slice())?;
-    let forest = Forest::of_list(links).expect(&rt, "ascending");
-    let mut sink = Vec::new(rt.alloc());
-    assert_eq!(rt;
-        write_forest(&mut sink, MANY + 1, &forest),
-        Ok(text.len() as u64)
-    );
-    assert_eq!(rt; sink.as_slice(), text.as_slice());
+fn labels_and_offers(rt: HostRuntime) -> Result<(), Fail> {
+    for n in SIZES {
+        expect_numbers(&rt, rt.alloc(), n)?;
+    }
+    Ok(())
+}
+
+// The graph has so many vertices and these links.
+fn expect_graph(rt: &impl Abort, graph: &Graph, n: u32, links: &[Link]) {
+    assert_eq!(rt; (graph.n(), graph.links()), (n, links));
+}
+
+#[test]
+fn files_to_graphs(rt: HostRuntime) -> Result<(), Fail> {
+    for n in SIZES {
+        let arcs = path(rt.alloc(), n)?;
+        let links = links_of(rt.alloc(), n, arcs.as_slice())?.expect(&rt, "arcs");
+        let text = path_text(rt.alloc(), n, arcs.as_slice())?;
+        let parsed = parse(rt.alloc(), text.as_slice())?;
+        expect_graph(&rt, &parsed, n, links.as_slice());
+        let read = read_graph(rt.alloc(), &mut text.as_slice())?;
+        expect_graph(&rt, &read, n, links.as_slice());
+    }
+    Ok(())
+}
+
+// What is read at once has 65,536 bytes; a piece of a source or of a text has a byte, or about so many as that.
+#[test]
+fn files_in_pieces(rt: HostRuntime) -> Result<(), Fail> {
+    let n = 10_001;
+    let arcs = path(rt.alloc(), n)?;
+    let links = links_of(rt.alloc(), n, arcs.as_slice())?.expect(&rt, "arcs");
+    let text = path_text(rt.alloc(), n, arcs.as_slice())?;
+    let limit = MAX_BYTES.min(text.len() as u64);
+    for piece in [1, 2, 4095, 4096, 65_535, 65_536, 65_537, 1 << 20] {
+        let mut source = FusedSource::new(text.clone()?, usize::MAX, piece);
+        let read = read_graph_upto(rt.alloc(), &mut source, limit)?;
+        expect_graph(&rt, &read, n, links.as_slice());
+        let mut reader = GrReader::new(rt.alloc(), limit);
+        for part in text.chunks(piece) {
+            reader.feed(part)?;
+        }
+        assert_eq!(rt; reader.line(), 10_002);
+        let fed = reader.finish()?;
+        expect_graph(&rt, &fed, n, links.as_slice());
+    }
     Ok(())
 }
 
 #[test]
-fn a_run_of_ten_thousand_arcs(rt: HostRuntime) -> Result<(), Fail> {
-    let arcs = path(rt.alloc(), MANY)?;
-    let text = path_text(rt.alloc(), arcs.as_slice())?;
-    let mut sink = Vec::new(rt.alloc());
-    let report = run_plain(rt.alloc(), &mut text.as_slice(), &mut sink)?;
-    assert_eq!(rt; (report.vertices, report.links), (10_001, 10_000));
-    assert_eq!(rt; sink.as_slice(), text.as_slice());
-    let again = plain_text(rt.alloc(), text.as_slice())?;
-    assert_eq!(rt; again.as_slice(), text.as_slice());
+fn forests_to_texts(rt: HostRuntime) -> Result<(), Fail> {
+    for n in SIZES {
+        let arcs = path(rt.alloc(), n)?;
+        let links = links_of(rt.alloc(), n, arcs.as_slice())?.expect(&rt, "arcs");
+        let text = path_text(rt.alloc(), n, arcs.as_slice())?;
+        let forest = Forest::of_list(links).expect(&rt, "ascending");
+        let mut sink = Vec::new(rt.alloc());
+        let written = write_forest(&mut sink, n, &forest);
+        assert_eq!(rt; written, Ok(text.len() as u64));
+        assert_eq!(rt; sink.as_slice(), text.as_slice());
+    }
+    Ok(())
+}
+
+#[test]
+fn files_to_texts(rt: HostRuntime) -> Result<(), Fail> {
+    for n in SIZES {
+        let arcs = path(rt.alloc(), n)?;
+        let text = path_text(rt.alloc(), n, arcs.as_slice())?;
+        let mut sink = Vec::new(rt.alloc());
+        let report = run_plain(rt.alloc(), &mut text.as_slice(), &mut sink)?;
+        assert_eq!(rt; (report.vertices, report.links), (n, arcs.len() as u64));
+        assert_eq!(rt; sink.as_slice(), text.as_slice());
+        let again = plain_text(rt.alloc(), text.as_slice())?;
+        assert_eq!(rt; again.as_slice(), text.as_slice());
+    }
+    Ok(())
+}
+
+// Tables of 268 MB each.
+#[test]
+fn as_many_vertices_as_there_may_be(rt: HostRuntime) -> Result<(), Fail> {
+    let arcs = [(1, MOST, -7), (1, 2, 5), (MOST - 1, MOST, 5)];
+    expect_links(&rt, rt.alloc(), MOST, &arcs, &arcs)?;
+    let text = b"p sp 67108864 0\n".as_slice();
+    assert_eq!(rt; plain_text(rt.alloc(), text)?.as_slice(), text);
+    assert_eq!(rt; Labels::apart(rt.alloc(), MOST)?.n(), MOST);
+    assert_eq!(rt; Components::apart(rt.alloc(), MOST)?.label(MOST), MOST);
     Ok(())
 }

@@ -1,123 +1,41 @@
-// The texts of forests, and how much of one went out.
-use byte_streams::{Failed, FusedSink, Sink};
-use gr_text::{WriteFault, write_forest};
-use link_key::{Forest, Link};
-use std::alloc::{AllocError, Allocator, Global};
+// The texts of forests, how a sink is called, and how much of a text went out.
+use byte_streams::{Failed, Sink};
+use gr_text::{FusedSink, WriteFault, write_forest};
+use link_key::Forest;
+use std::alloc::{AllocError, Global};
+use std::process::Abort;
 use std::test::Fail;
-use worked_graphs::SMALL_NET;
+use worked_graphs::{Row, SMALL_NET, links_of};
 
-// The forest of some links, which have to ascend.
-fn forest_of<A: Allocator + Copy>(
-    alloc: A,
-    links: &[Option<Link>],
-) -> Result<Option<Forest<A>>, AllocError> {
-    let mut list = Vec::new(alloc);
-    for link in links.iter().flatten() {
-        list.push(*link).map_err(AllocError::from)?;
-    }
-    Ok(Forest::of_list(list))
+// The forest of these links, which have to ascend.
+fn forest_of(rt: &impl Abort, alloc: Global, rows: &[Row]) -> Result<Forest, AllocError> {
+    let links = links_of(alloc, 1 << 26, rows)?.expect(rt, "arcs");
+    Ok(Forest::of_list(links).expect(rt, "ascending"))
 }
 
-fn small_net() -> [Option<Link>; 5] {
-    [
-        Link::of_arc(5, 2, 0),
-        Link::of_arc(4, 3, 0),
-        Link::of_arc(3, 5, 0),
-        Link::of_arc(4, 6, 3),
-        Link::of_arc(1, 3, 10),
-    ]
-}
-
-#[test]
-fn writes_a_small_net(rt: HostRuntime) -> Result<(), Fail> {
-    let forest = forest_of(rt.alloc(), &small_net())?.expect(&rt, "ascending");
-    let mut sink = Vec::new(rt.alloc());
-    assert_eq!(rt; write_forest(&mut sink, 6, &forest), Ok(50));
-    assert_eq!(rt; sink.as_slice(), SMALL_NET.text);
-    Ok(())
-}
-
-#[test]
-fn writes_weights_of_both_signs(rt: HostRuntime) -> Result<(), Fail> {
-    let links = [
-        Link::of_arc(5, 6, -2147483648),
-        Link::of_arc(1, 2, -3),
-        Link::of_arc(3, 4, 0),
-        Link::of_arc(67108863, 67108864, 2147483647),
-    ];
-    let forest = forest_of(rt.alloc(), &links)?.expect(&rt, "ascending");
-    let mut sink = Vec::new(rt.alloc());
-    assert_eq!(rt; write_forest(&mut sink, 67108864, &forest), Ok(82));
-    assert_eq!(rt;
-        sink.as_slice(),
-        b"p sp 67108864 4\na 5 6 -2147483648\na 1 2 -3\na 3 4 0\na 67108863 67108864 2147483647\n".as_slice()
-    );
-    Ok(())
-}
-
-#[test]
-fn writes_no_links(rt: HostRuntime) -> Result<(), Fail> {
-    let forest = forest_of(rt.alloc(), &[])?.expect(&rt, "ascending");
-    let mut sink = FusedSink::new(rt.alloc(), 10, 7)?;
-    assert_eq!(rt; write_forest(&mut sink, 0, &forest), Ok(9));
-    assert_eq!(rt; sink.held(), b"p sp 0 0\n".as_slice());
-    Ok(())
-}
-
-// A sink that fails, or takes nothing more, after `passes` bytes holds just these.
-#[test]
-fn tells_the_bytes_that_went_out(rt: HostRuntime) -> Result<(), Fail> {
-    let forest = forest_of(rt.alloc(), &small_net())?.expect(&rt, "ascending");
-    for passes in [0usize, 10, 49] {
-        let fault = WriteFault {
-            written: passes as u64,
-        };
-        let mut failing = FusedSink::new(rt.alloc(), passes, 7)?;
-        assert_eq!(rt; write_forest(&mut failing, 6, &forest), Err(fault));
-        assert_eq!(rt; failing.held(), &SMALL_NET.text[..passes]);
-        let mut stopping = FusedSink::stopped(rt.alloc(), passes, 7)?;
-        assert_eq!(rt; write_forest(&mut stopping, 6, &forest), Err(fault));
-        assert_eq!(rt; stopping.held(), &SMALL_NET.text[..passes]);
-    }
-    Ok(())
-}
-
-// A sink that is full at the last byte fails at the flush, and one that then only takes nothing is flushed.
-#[test]
-fn tells_a_flush_that_failed(rt: HostRuntime) -> Result<(), Fail> {
-    let forest = forest_of(rt.alloc(), &small_net())?.expect(&rt, "ascending");
-    let mut failing = FusedSink::new(rt.alloc(), 50, 7)?;
-    assert_eq!(rt;
-        write_forest(&mut failing, 6, &forest),
-        Err(WriteFault { written: 50 })
-    );
-    assert_eq!(rt; failing.held(), SMALL_NET.text);
-    let mut stopping = FusedSink::stopped(rt.alloc(), 50, 7)?;
-    assert_eq!(rt; write_forest(&mut stopping, 6, &forest), Ok(50));
-    assert_eq!(rt; stopping.held(), SMALL_NET.text);
-    Ok(())
-}
-
-// A sink that counts its flushes, and the writes that come behind the first one.
+// A sink that counts its writes, its flushes, and the writes that come behind the first flush.
 #[derive(Drop)]
-struct Flushed {
+struct Counted {
     bytes: Vec<u8>,
+    writes: usize,
     flushes: u32,
     late_writes: u32,
 }
 
-impl Flushed {
+impl Counted {
     fn new(alloc: Global) -> Self {
-        Flushed {
+        Counted {
             bytes: Vec::new(alloc),
+            writes: 0,
             flushes: 0,
             late_writes: 0,
         }
     }
 }
 
-impl Sink for Flushed {
+impl Sink for Counted {
     fn write(&mut self, buf: &[u8]) -> Result<usize, Failed> {
+        self.writes = self.writes.saturating_add(1);
         if self.flushes > 0 {
             self.late_writes = self.late_writes.saturating_add(1);
         }
@@ -131,38 +49,75 @@ impl Sink for Flushed {
     }
 }
 
-#[test]
-fn flushes_once_behind_the_last_byte(rt: HostRuntime) -> Result<(), Fail> {
-    let forest = forest_of(rt.alloc(), &small_net())?.expect(&rt, "ascending");
-    let mut sink = Flushed::new(rt.alloc());
-    assert_eq!(rt; write_forest(&mut sink, 6, &forest), Ok(50));
-    assert_eq!(rt; sink.bytes.as_slice(), SMALL_NET.text);
+// The forest has this text. It is flushed once, behind its last byte, and written in pieces of 8 KiB, each of which but
+// the last has no room for one more line of 64 bytes.
+fn expect_text(rt: &impl Abort, alloc: Global, n: u32, forest: &Forest, text: &[u8]) {
+    let mut sink = Counted::new(alloc);
+    assert_eq!(rt; write_forest(&mut sink, n, forest), Ok(text.len() as u64));
+    assert_eq!(rt; sink.bytes.as_slice(), text);
     assert_eq!(rt; (sink.flushes, sink.late_writes), (1, 0));
+    assert!(rt; sink.writes <= text.len() / 8128 + 1);
+}
+
+#[test]
+fn writes_small_forests(rt: HostRuntime) -> Result<(), Fail> {
+    let signs = [
+        (5, 6, -2147483648),
+        (1, 2, -3),
+        (3, 4, 0),
+        (67108863, 67108864, 2147483647),
+    ];
+    let rows = [
+        (0, [].as_slice(), b"p sp 0 0\n".as_slice()),
+        (6, SMALL_NET.forest, SMALL_NET.text),
+        (
+            67108864,
+            signs.as_slice(),
+            b"p sp 67108864 4\na 5 6 -2147483648\na 1 2 -3\na 3 4 0\na 67108863 67108864 2147483647\n".as_slice(),
+        ),
+    ];
+    for (n, links, text) in rows {
+        let forest = forest_of(&rt, rt.alloc(), links)?;
+        expect_text(&rt, rt.alloc(), n, &forest, text);
+    }
     Ok(())
 }
 
-// 2000 links whose lines have 11 bytes each, which is more than one piece holds.
+// A sink that fails after `passes` bytes holds just these, also one that is full at the last byte and fails at the
+// flush; one that takes nothing more, and then is flushed, has the whole text.
+#[test]
+fn tells_the_bytes_that_went_out(rt: HostRuntime) -> Result<(), Fail> {
+    let forest = forest_of(&rt, rt.alloc(), SMALL_NET.forest)?;
+    for passes in 0..51usize {
+        let fault = Err(WriteFault {
+            written: passes as u64,
+        });
+        let mut failing = FusedSink::new(rt.alloc(), passes, 7)?;
+        assert_eq!(rt; write_forest(&mut failing, 6, &forest), fault);
+        let mut stopping = FusedSink::stopped(rt.alloc(), passes, 7)?;
+        let expected = if passes < 50 { fault } else { Ok(50) };
+        assert_eq!(rt; write_forest(&mut stopping, 6, &forest), expected);
+        assert_eq!(rt; stopping.held(), failing.held());
+        assert_eq!(rt; SMALL_NET.text.get(..passes), Some(failing.held()));
+    }
+    Ok(())
+}
+
+// 2000 links whose lines have 11 bytes each, which is more than two pieces hold.
 #[test]
 fn writes_many_pieces(rt: HostRuntime) -> Result<(), Fail> {
-    let mut links = Vec::new(rt.alloc());
+    let mut rows = Vec::new(rt.alloc());
     let mut text = Vec::from_slice(rt.alloc(), b"p sp 8 2000\n")?;
     for weight in 1000..3000 {
-        if let Some(link) = Link::of_arc(7, 8, weight) {
-            links.push(link).map_err(AllocError::from)?;
-        }
+        rows.push((7, 8, weight))?;
         let line = format!(in rt.alloc(); "a 7 8 {weight}\n")?;
         text.extend_from_slice(line.as_bytes())?;
     }
-    let forest = Forest::of_list(links).expect(&rt, "ascending");
-    let mut sink = Vec::new(rt.alloc());
-    assert_eq!(rt; write_forest(&mut sink, 8, &forest), Ok(22012));
-    assert_eq!(rt; sink.as_slice(), text.as_slice());
+    let forest = forest_of(&rt, rt.alloc(), rows.as_slice())?;
+    expect_text(&rt, rt.alloc(), 8, &forest, text.as_slice());
     let mut failing = FusedSink::new(rt.alloc(), 20000, 5000)?;
-    assert_eq!(rt;
-        write_forest(&mut failing, 8, &forest),
-        Err(WriteFault { written: 20000 })
-    );
-    assert_eq!(rt; failing.held().len(), 20000);
-    assert!(rt; text.as_slice().starts_with(failing.held()));
+    let fault = WriteFault { written: 20000 };
+    assert_eq!(rt; write_forest(&mut failing, 8, &forest), Err(fault));
+    assert_eq!(rt; text.get(..20000), Some(failing.held()));
     Ok(())
 }

@@ -1,0 +1,66 @@
+// The memory that a reader asks for: that of the arcs that came, whatever its problem line states.
+use gr_text::{GrFault, GrKind, GrReader, MAX_BYTES, ReadFault, parse, read_graph};
+use std::alloc::{AllocError, Global};
+use std::process::Abort;
+use std::test::Fail;
+use test_memory::{Refusals, Refusing};
+
+// The first line of a text of as many arc lines as there may be.
+const PROBLEM: &[u8] = b"p sp 2 1073741824\n";
+
+// The fault of a text that states 2^30 arc lines and ends before this line.
+fn lacks_arcs(line: u64) -> Option<ReadFault> {
+    Some(ReadFault::Gr(GrFault {
+        line,
+        kind: GrKind::MissingArcs,
+    }))
+}
+
+// Three readers of the text end with this fault while these allocations are refused. Returns how many they asked for.
+fn expect_fault(
+    rt: &impl Abort,
+    alloc: Global,
+    refusals: Refusals,
+    text: &[u8],
+    fault: Option<ReadFault>,
+) -> u64 {
+    let memory = Refusing::new(alloc, refusals);
+    let parsed = parse(&memory, text).err();
+    let mut source = text;
+    let read = read_graph(&memory, &mut source).err();
+    let mut reader = GrReader::new(&memory, MAX_BYTES);
+    let _told = reader.feed(text);
+    assert_eq!(rt;
+        (parsed, read, reader.finish().err()),
+        (fault, fault, fault)
+    );
+    assert_eq!(rt; memory.live(), 0);
+    memory.asked()
+}
+
+// Each allocation is refused, the first alone, or none: the line takes no memory, with its line feed and without.
+#[test]
+fn a_problem_line_takes_none(rt: HostRuntime) {
+    for refusals in [Refusals::since(1), Refusals::only(1), Refusals::none()] {
+        for text in [PROBLEM, PROBLEM.trim_ascii_end()] {
+            let asked = expect_fault(&rt, rt.alloc(), refusals, text, lacks_arcs(2));
+            assert_eq!(rt; asked, 0);
+        }
+    }
+}
+
+// A list that grows as the arcs come asks for a block at each growth, and one with room for all that are stated once.
+#[test]
+fn arcs_take_it_as_they_come(rt: HostRuntime) -> Result<(), Fail> {
+    let mut text = Vec::from_slice(rt.alloc(), PROBLEM)?;
+    text.extend_from_slice(b"a 1 2 3\n")?;
+    let refused = Some(ReadFault::Memory);
+    let asked = expect_fault(&rt, rt.alloc(), Refusals::since(1), &text, refused);
+    assert_eq!(rt; asked, 3);
+    for _ in 1..1000u32 {
+        text.extend_from_slice(b"a 1 2 3\n")?;
+    }
+    let asked = expect_fault(&rt, rt.alloc(), Refusals::none(), &text, lacks_arcs(1002));
+    assert!(rt; asked > 6);
+    Ok(())
+}
