@@ -1,5 +1,5 @@
 //! Steps beside plain forms of them.
-use crate::{SIZE, compare, drawn_links, have_labels, time_scan};
+use crate::{FEW_VERTICES, SIZE, drawn_links, have_labels, time_scan};
 use frames::{Frame, Links};
 use limits::MAX_SHARD_LINKS;
 use link_key::{Labels, Link};
@@ -10,21 +10,16 @@ use worker_engine::{Engine, Scanner};
 // How often each step is run.
 const RUNS: usize = 9;
 
-// How many vertices a list of many links is between.
-const FEW_VERTICES: u32 = 512;
-
-// Fails where a step is more than twice as slow as its plain form.
-pub(crate) fn check(rt: &HostRuntime) -> anyhow::Result<()> {
+// Fails where a step is more than twice as slow as its plain form; how long a scan of many links takes alone and by
+// threads is measured before.
+pub(crate) fn check(rt: &HostRuntime, alone: Duration, by_threads: Duration) -> anyhow::Result<()> {
     let alloc = rt.alloc();
     let links = drawn_links(alloc, SIZE, SIZE)?;
     let apart = Labels::apart(alloc, SIZE)?;
     check_scan(rt, links.as_slice(), &apart)?;
     check_few_links(rt, &apart)?;
-    let links = drawn_links(alloc, SIZE, FEW_VERTICES)?;
-    let few = Labels::apart(alloc, FEW_VERTICES)?;
-    let (alone, by_threads) = compare(rt, alloc, links.as_slice(), &few)?;
     judge(rt, "a scan by threads", by_threads, alone)?;
-    check_laid_aside(rt, links)?;
+    check_laid_aside(rt, drawn_links(alloc, SIZE, FEW_VERTICES)?)?;
     println!(rt; "no step is more than twice as slow as its plain form")?;
     Ok(())
 }
@@ -66,18 +61,22 @@ fn plain_scan(
     labels: &[u32],
 ) -> Result<Vec<(u32, u32)>, AllocError> {
     let mut leasts = Vec::from_elem(alloc, None, labels.len())?;
-    for (place, link) in links.iter().enumerate() {
+    let mut place = 0u32;
+    for link in links {
         let low = label_of(labels, link.low);
         let high = label_of(labels, link.high);
         if low != high {
-            keep_least(leasts.as_mut_slice(), low, *link, place as u32);
-            keep_least(leasts.as_mut_slice(), high, *link, place as u32);
+            keep_least(leasts.as_mut_slice(), low, *link, place);
+            keep_least(leasts.as_mut_slice(), high, *link, place);
         }
+        place = place.wrapping_add(1);
     }
     let mut pairs = Vec::new(alloc);
-    for (before, least) in leasts.iter().enumerate() {
+    let mut label = 0u32;
+    for least in &leasts {
+        label = label.wrapping_add(1);
         if let Some((_link, place)) = least {
-            pairs.push(((before as u32).wrapping_add(1), *place))?;
+            pairs.push((label, *place))?;
         }
     }
     Ok(pairs)

@@ -48,19 +48,20 @@ const FEW_LINKS: [u32; 7] = [
 const MANY_RUNS: usize = 49;
 
 fn main(rt: HostRuntime) -> anyhow::Result<()> {
-    match env::args(&rt)?.nth(1) {
-        Some(word) if word.as_str() == "check" => check::check(&rt),
-        _ => measure_all(&rt),
+    if let Some(word) = env::args(&rt)?.nth(1) {
+        if word.as_str() == "check" {
+            let links = drawn_links(rt.alloc(), SIZE, FEW_VERTICES)?;
+            let labels = Labels::apart(rt.alloc(), FEW_VERTICES)?;
+            let (alone, by_threads) = compare(&rt, rt.alloc(), links.as_slice(), &labels)?;
+            return check::check(&rt, alone, by_threads);
+        }
     }
-}
-
-fn measure_all(rt: &HostRuntime) -> anyhow::Result<()> {
     let links = drawn_links(rt.alloc(), SIZE, SIZE)?;
     let apart = Labels::apart(rt.alloc(), SIZE)?;
-    measure(rt, "each vertex by itself", links.as_slice(), &apart)?;
+    measure(&rt, "each vertex by itself", links.as_slice(), &apart)?;
     if let Some(scattered) = Labels::of_list(scattered_labels(rt.alloc())?) {
         measure(
-            rt,
+            &rt,
             "a quarter of a million components, scattered",
             links.as_slice(),
             &scattered,
@@ -69,7 +70,7 @@ fn measure_all(rt: &HostRuntime) -> anyhow::Result<()> {
     for count in FEW_LINKS {
         let few = drawn_links(rt.alloc(), count, FEW_VERTICES)?;
         let labels = Labels::apart(rt.alloc(), FEW_VERTICES)?;
-        let (alone, by_threads) = compare(rt, rt.alloc(), few.as_slice(), &labels)?;
+        let (alone, by_threads) = compare(&rt, rt.alloc(), few.as_slice(), &labels)?;
         eprintln!(rt;
             "{} links: scan {} ns, by threads {} ns",
             few.len(),
