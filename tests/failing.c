@@ -1,15 +1,21 @@
-/* Preloaded before a program: makes chosen calls of its sockets and threads fail, and tells what goes to a socket.
+/* Preloaded before a program: makes chosen calls of its sockets, files and threads fail, and tells what goes to a
+ * socket.
  *
- * FAIL_CALL is the name of a call (listen, connect, accept, recv, send, thread, and others below), FAIL_NUMBER the
- * number of the first that fails, from 1, and FAIL_LAST that of the last (none: the first alone). FAIL_HOW says how a
- * recv or a send fails: "error" (none: this), "interrupted", or "end" (a recv gives 0 bytes, a send takes none).
+ * FAIL_CALL is the name of a call (listen, connect, accept, recv, send, read, write, thread, and others below),
+ * FAIL_NUMBER the number of the first that fails, from 1, and FAIL_LAST that of the last (none: the first alone).
+ * FAIL_HOW says how a recv, a send, a read or a write fails: "error" (none: this), "interrupted", or "end" (a recv or
+ * a read gives 0 bytes, a send or a write takes none). A read or a write is one of a file or a stream here, and a
+ * recv or a send one of a socket.
  * A listen under the name "stranger" passes, but somebody else then connects first.
  * For each call that fails an 'x' goes to the descriptor TOLD. With SHORT each recv, read and send is of one byte.
+ * With COUNTED an 'R' goes there for each read that asks for 64 KiB, an 'r' for each other, and a 'w' for each write.
+ * Where a socket listens on more than the loopback address, an 'A' goes there.
  * Where the program ends and a thread that it started wasn't joined, a 'J' goes there; with JOINED a 'j' too, for each
  * that was.
  * Where words for the user (a forest, a report, a fault) are written to a socket, or a socket is read as a file, a
  * 'T' goes to TOLD. It takes no memory itself. */
 #define _GNU_SOURCE
+#include <arpa/inet.h>
 #include <dlfcn.h>
 #include <errno.h>
 #include <netinet/in.h>
@@ -24,7 +30,7 @@
 static const char *chosen = "", *how = "error";
 static unsigned long first, last;
 static atomic_ulong counted, started, joined;
-static int told = -1, is_short;
+static int told = -1, is_short, is_counted;
 
 static unsigned long number(const char *name, unsigned long otherwise) {
     const char *text = getenv(name);
@@ -36,6 +42,7 @@ __attribute__((constructor)) static void begin(void) {
     first = number("FAIL_NUMBER", 0);
     last = number("FAIL_LAST", first);
     is_short = getenv("SHORT") != 0;
+    is_counted = getenv("COUNTED") != 0;
     how = getenv("FAIL_HOW") ? getenv("FAIL_HOW") : how;
     chosen = getenv("FAIL_CALL") ? getenv("FAIL_CALL") : chosen;
 }
@@ -61,7 +68,7 @@ static int fails(const char *name, int error) {
     return 1;
 }
 
-/* what a failing recv or send answers */
+/* what a failing recv, send, read or write answers */
 static ssize_t failed(void) { return strcmp(how, "end") ? -1 : 0; }
 
 static int is_socket(int fd) {
@@ -99,11 +106,22 @@ static void visit(int listener) {
     }
 }
 
+/* whether others than this machine's processes could connect to a listener */
+static int is_open_to_others(int listener) {
+    struct sockaddr_in name;
+    socklen_t size = sizeof name;
+    return REAL(getsockname)(listener, (struct sockaddr *)&name, &size) || name.sin_family != AF_INET ||
+           name.sin_addr.s_addr != htonl(INADDR_LOOPBACK);
+}
+
 int listen(int fd, int backlog) {
     if (fails("listen", EADDRINUSE)) {
         return -1;
     }
     int answer = REAL(listen)(fd, backlog);
+    if (!answer && is_open_to_others(fd)) {
+        tell("A");
+    }
     if (!answer && fails("stranger", 0)) {
         visit(fd);
     }
@@ -144,12 +162,24 @@ ssize_t send(int fd, const void *bytes, size_t count, int flags) {
 ssize_t read(int fd, void *into, size_t count) {
     if (is_socket(fd)) {
         tell("T");
+    } else if (fails("read", EIO)) {
+        return failed();
+    } else if (is_counted) {
+        tell(count == 65536 ? "R" : "r");
     }
     return REAL(read)(fd, into, at_most(count));
 }
 
 ssize_t write(int fd, const void *bytes, size_t count) {
     look(fd, bytes, count);
+    if (!is_socket(fd)) {
+        if (fails("write", EIO)) {
+            return failed();
+        }
+        if (is_counted) {
+            tell("w");
+        }
+    }
     return REAL(write)(fd, bytes, count);
 }
 

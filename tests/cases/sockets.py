@@ -1,14 +1,16 @@
 """Each call of a socket, and each start of a thread, failed in turn: the same bytes go out, and the report tells it."""
-from cases.running import SMALL_FOREST, SMALL_NET, Program, Report, case, drawn_graph, told_by
+import sys
+
+from cases.running import SMALL_FOREST, SMALL_NET, Program, Report, case, drawn_graph, expect, told_by
 from cases.workers import over
 
 WORKERS, SHARDS = 2, 4
 FAR = str(10**9)
 
 
-def failed_from(room, source, text, call, number, more):
+def failed_from(room, source, text, call, number, more, workers=WORKERS):
     """The report of a run in which calls of this name failed from that number on, and how many did."""
-    words = [Program.path, *over(WORKERS, SHARDS), "--report"]
+    words = [Program.path, *over(workers, SHARDS), "--report"]
     environment = {"FAIL_CALL": call, "FAIL_NUMBER": str(number), **more}
     (status, output, errors), told = told_by(room, words, source, environment, seconds=20)
     what = f"{call} {number} {more}"
@@ -18,8 +20,10 @@ def failed_from(room, source, text, call, number, more):
         raise AssertionError(f"{what}: a text for the user went to a socket")
     if b"J" in told:
         raise AssertionError(f"{what}: a thread was not joined")
+    if b"A" in told:
+        raise AssertionError(f"{what}: it listened to more than this machine")
     report = Report(errors)
-    report.expect_equations(SHARDS, WORKERS)
+    report.expect_equations(SHARDS, workers)
     return report, len(told)
 
 
@@ -33,6 +37,15 @@ def each_failed(room, source, text, call, **more):
                 raise AssertionError(f"{call} {more}: nothing failed, and a worker was lost: {vars(report)}")
             return reports
         reports.append(report)
+
+
+def expect_not_tried_again(room, call, number, more):
+    """Over one worker, a call that fails closes the line, though the same call would have passed the next time. It
+    answers whether one failed, and no line was closed: the worker's last read meets the end of its session."""
+    report, failed = failed_from(room, SMALL_NET, SMALL_FOREST, call, number, more, workers=1)
+    if failed > 1 or report.closed and report.alone + report.answered != 3 * SHARDS:
+        raise AssertionError(f"{call} {number} {more}: {failed} calls failed: {vars(report)}")
+    return bool(failed), bool(report.closed)
 
 
 def expect_some(reports, least):
@@ -122,6 +135,37 @@ def each_read_and_write_of_a_socket_fails(room):
 def each_read_and_write_of_a_socket_fails_for_good(room):
     for how in ["error", "end"]:
         all_lost_from_there(room, SMALL_NET, SMALL_FOREST, how)
+
+
+@case
+def a_failed_read_or_write_of_a_socket_is_not_tried_again(room):
+    for how in ["error", "interrupted"]:
+        for call, last in [("recv", 4), ("send", 0)]:
+            number, passed = 1, []
+            while True:
+                failed, closed = expect_not_tried_again(room, call, number, {"FAIL_HOW": how})
+                if not failed:
+                    break
+                passed += [] if closed else [number]
+                number += 1
+            # (how many reads there are differs a little from run to run)
+            if number < 20 or any(it < number - last for it in passed):
+                raise AssertionError(f"{call} {how}: {number - 1} calls failed, and no line was closed at {passed}")
+            # with a byte at a time most calls are within a frame
+            for number in [*range(1, 40), 222, 333, 444, 555, 666]:
+                if expect_not_tried_again(room, call, number, {"FAIL_HOW": how, "SHORT": "1"}) != (True, True):
+                    raise AssertionError(f"{call} {how}, a byte at a time: nothing was closed at {number}")
+
+
+@case
+def nobody_else_is_listened_to(room):
+    # the library tells of a listener on all addresses, and of none of the program's
+    listen = "import socket, sys; it = socket.socket(); it.bind((sys.argv[1], 0)); it.listen()"
+    for address, wanted in [("127.0.0.1", b""), ("0.0.0.0", b"A")]:
+        found, told = told_by(room, [sys.executable, "-c", listen, address], b"", {})
+        expect(found, 0, b"", b"")
+        expect((told.strip(b"T"), b"", b""), wanted, b"", b"")
+    failed_from(room, SMALL_NET, SMALL_FOREST, "none", 1, {}, workers=8)
 
 
 @case

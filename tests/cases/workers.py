@@ -4,11 +4,23 @@ import random
 import resource
 import time
 
-from cases.running import SMALL_FOREST, SMALL_NET, Report, case, drawn_graph, expect, ran
+from cases.running import SMALL_FOREST, SMALL_NET, Report, case, drawn_graph, expect, ran, written
 
 
 def over(workers, shards):
     return ["--workers", str(workers), "--shards", str(shards)]
+
+
+def expect_healthy(words, file, text, workers, shards):
+    """Runs over so many workers and shards give this text, and no worker is lost: a line is closed, and a shard scanned
+    alone beside workers, where one found no memory too, which the forest doesn't show. It answers the report."""
+    status, output, errors = ran([*over(workers, shards), "--report", *words], file)
+    expect((status, output, b""), 0, text, b"")
+    report = Report(errors)
+    report.expect_equations(shards, workers)
+    if report.closed or workers and report.alone:
+        raise AssertionError(f"{workers} workers, {shards} shards: a worker failed: {vars(report)}")
+    return report
 
 
 @case
@@ -60,7 +72,7 @@ def small_graphs(_room):
 def lists_so_long_that_they_are_scanned_by_threads(_room):
     file, text = drawn_graph(11, 700, 300_000)
     for workers, shards in [(0, 1), (1, 2), (2, 1)]:
-        expect(ran(over(workers, shards), file), 0, text, b"")
+        expect_healthy([], file, text, workers, shards)
 
 
 @case
@@ -69,22 +81,16 @@ def forty_drawn_graphs_as_by_one_thread(_room):
     for seed in range(40):
         vertices = draw.choice([1, 2, 7, 60, 900])
         file, text = drawn_graph(100 + seed, vertices, draw.randint(0, 4 * vertices))
-        plain = ran(["--plain"], file)
-        expect(plain, 0, text, b"")
+        expect(ran(["--plain"], file), 0, text, b"")
         workers, shards = draw.choice([0, 1, 2, 3, 8]), draw.choice([1, 2, 5, 64, 300])
-        status, output, errors = ran([*over(workers, shards), "--report"], file)
-        expect((status, output, b""), *plain)
-        report = Report(errors)
-        report.expect_equations(shards, workers)
-        if workers and (report.alone or report.closed):
-            raise AssertionError(f"a worker failed: {vars(report)}")
+        expect_healthy([], file, text, workers, shards)
 
 
 @case
 def a_larger_graph_over_workers(_room):
     file, text = drawn_graph(4, 5000, 60000)
     for workers, shards in [(1, 1), (2, 64), (4, 7)]:
-        expect(ran(over(workers, shards), file), 0, text, b"")
+        expect_healthy([], file, text, workers, shards)
 
 
 @case
@@ -139,3 +145,69 @@ def few_descriptors(_room):
         # with four descriptors there is no line, and with 320 there are some
         if seen != {0, 12}:
             raise AssertionError(f"shards scanned alone: {seen}")
+
+
+# Sizes that no proved test has the time for, at which something might give up
+
+
+@case
+def a_list_halved_three_times(_room):
+    # forty times the same links are forty times as many, and the forest is the same
+    file, text = drawn_graph(13, 600, 30_000)
+    more = b"p sp 600 1200000\n" + file.partition(b"\n")[2] * 40
+    for workers, shards in [(0, 1), (1, 1)]:
+        expect_healthy([], more, text, workers, shards)
+
+
+@case
+def two_hundred_thousand_links(_room):
+    # (the last in one SHARD)
+    file, text = drawn_graph(15, 20_000, 200_000)
+    for workers, shards in [(0, 4096), (3, 4096), (33, 64), (64, 65), (1, 1)]:
+        expect_healthy([], file, text, workers, shards)
+
+
+@case
+def a_forest_of_more_than_65536_links(room):
+    file, text = drawn_graph(14, 100_000, 150_000)
+    if text.count(b"\na ") <= 65_536:
+        raise AssertionError("the forest is too small")
+    name = written(f"{room}/net.gr", file)
+    expect(ran(["--plain", name]), 0, text, b"")
+    for workers, shards in [(0, 5), (2, 64)]:
+        expect_healthy([name], b"", text, workers, shards)
+
+
+@case
+def a_session_of_more_than_65536_frames(room):
+    # a path whose links weigh as many as there are zeros behind their number: each round merges pairs, so there are
+    # as many rounds as there can be, and one worker gets 4,096 shards and 16 asks of each
+    rows = b"".join(b"a %d %d %d\n" % (it, it + 1, (it & -it).bit_length() - 1) for it in range(1, 32_768))
+    name = written(f"{room}/path.gr", b"p sp 32768 32767\n" + rows)
+    text = ran(["--plain", name])[1]
+    if sorted(text.splitlines()[1:]) != sorted(rows.splitlines()) or text[:17] != b"p sp 32768 32767\n":
+        raise AssertionError("the forest of a path is the path")
+    report = expect_healthy([name], b"", text, 1, 4096)
+    if (report.rounds, report.asked) != (15, 65_536):
+        raise AssertionError(f"wanted 15 rounds and 65,536 asks: {vars(report)}")
+
+
+@case
+def as_many_vertices_as_there_can_be(_room):
+    file = b"p sp 67108864 1\na 1 67108864 -7\n"
+    expect(ran(["--plain"], file), 0, file, b"")
+    file = b"p sp 67108864 0\n"
+    expect_healthy([], file, file, 1, 1)
+
+
+@case
+def more_than_two_to_the_25_links(room):
+    with open(f"{room}/wide.gr", "wb") as it:
+        it.write(b"p sp 2 33554433\n")
+        for _ in range(1024):
+            it.write(b"a 1 2 3\n" * 32768)
+        it.write(b"a 1 2 2\n")
+    text = b"p sp 2 1\na 1 2 2\n"
+    expect(ran(["--plain", f"{room}/wide.gr"]), 0, text, b"")
+    expect_healthy([f"{room}/wide.gr"], b"", text, 1, 3)
+    os.remove(f"{room}/wide.gr")
