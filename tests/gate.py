@@ -12,6 +12,7 @@ import resource
 import subprocess
 import sys
 import threading
+import time
 
 HERE = os.path.dirname(os.path.realpath(__file__))
 ROOT = os.path.dirname(HERE)
@@ -95,7 +96,7 @@ def shown(words):
 
 
 def main():
-    costs = Costs()
+    costs, begun = Costs(), time.monotonic()
     costs.start()
     status, told = shown(["rt", "ci"])
     costs.ends.set()
@@ -103,7 +104,8 @@ def main():
     used = resource.getrusage(resource.RUSAGE_CHILDREN)
     for line in costs.table():
         print(line)
-    print(f"rt ci took {(used.ru_utime + used.ru_stime) / 60:.0f} processor minutes", flush=True)
+    minutes = (time.monotonic() - begun) / 60
+    print(f"rt ci took {(used.ru_utime + used.ru_stime) / 60:.0f} processor minutes, {minutes:.0f} minutes", flush=True)
     passed, failed = told or (0, 0)
     # a run that ended badly and told of no failure has one
     if status and not failed or not told:
