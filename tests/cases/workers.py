@@ -162,7 +162,7 @@ def a_list_halved_three_times(_room):
 @case
 def two_hundred_thousand_links(_room):
     # (the last in one SHARD)
-    file, text = drawn_graph(15, 20_000, 200_000)
+    file, text = drawn_graph(15, 2000, 200_000)
     for workers, shards in [(0, 4096), (3, 4096), (33, 64), (64, 65), (1, 1)]:
         expect_healthy([], file, text, workers, shards)
 
