@@ -3,12 +3,12 @@
 
 usage: tools/prove.py [--jobs N] [--dry-run] [PROGRAM]
 
-PROGRAM is a crate with a `main` (boruvka, if none is named); it is run on its file `stdin`, or on nothing. `rt` lets
-one of its commands at a time work in a crate and in those below it. So each library is proved in a room of its own:
-a copy of its files under .git (or under the program's out/, where there is no .git), beside what was built below it.
-What it built goes into its own out/, as if `rt lib` had run there; a crate that was proved before, and whose files
-are the same, takes a second. The program comes last, by `rt run` where it lies. A run that was cut off is begun
-again by the same words: what was proved stays.
+PROGRAM is a crate with a `main` (boruvka, if none is named); it is run with the words of its file `args`, and on its
+file `stdin`, where it has them. `rt` lets one of its commands at a time work in a crate and in those below it. So each
+library is proved in a room of its own: a copy of its files under .git (or under the program's out/, where there is no
+.git), beside what was built below it. What it built goes into its own out/, as if `rt lib` had run there; a crate that
+was proved before, and whose files are the same, takes a second. The program comes last, by `rt run` where it lies. A
+run that was cut off is begun again by the same words: what was proved stays.
 
   --jobs N    at most N checks side by side (if not set: as many as there are processors, and one for each 2.5 GB of
               memory that is free)
@@ -96,15 +96,12 @@ class Plan:
         found = [it for it in self.names[:-1] if it not in begun and all(name in done for name in self.below[it])]
         return sorted(found, key=lambda it: -self.chain[it])
 
-    def is_lone(self, name, done):
-        """Whether each crate that isn't proved yet stands below this one or upon it."""
-        return all(it in done or it == name or it in self.below[name] or name in self.below[it] for it in self.names)
-
-    def processes(self, name, done, most):
-        """How many processes a check gets: the crates that go side by side have two each, a lone one all."""
-        if self.count[name] < LARGE:
+    def processes(self, name, beside, most):
+        """How many processes a check gets: beside others one, but the one with the longest chain upon it has all that they leave."""
+        others = [it for it in beside if it != name]
+        if self.count[name] < LARGE or any(self.chain[it] > self.chain[name] for it in others):
             return 1
-        return most if self.is_lone(name, done) else min(most, 2)
+        return max(1, most - len(others))
 
 
 class Progress:
@@ -226,9 +223,10 @@ def prove_libraries(plan, most, progress):
         try:
             while len(done) < len(plan.names) - 1:
                 begun = plan.ready({*running, *done}, done)[: most - len(running)]
+                beside = [*running, *begun]
                 for name in begun:
                     running[name] = Room(name, plan, rooms)
-                    running[name].begin(plan.processes(name, done, most))
+                    running[name].begin(plan.processes(name, beside, most))
                 if begun:
                     progress.tell(running)
                 time.sleep(0.2)
@@ -242,6 +240,14 @@ def prove_libraries(plan, most, progress):
             shutil.rmtree(rooms, ignore_errors=True)
 
 
+def words_of(folder):
+    """What a program is run with: the words of its file `args`, one a line."""
+    if not os.path.isfile(f"{folder}/args"):
+        return []
+    with open(f"{folder}/args", encoding="utf-8") as it:
+        return ["--", *it.read().splitlines()]
+
+
 def prove_program(plan, progress):
     folder = f"{ROOT}/crates/{plan.program}"
     source = f"{folder}/stdin"
@@ -249,7 +255,8 @@ def prove_program(plan, progress):
     os.makedirs(f"{folder}/out", exist_ok=True)
     progress.tell([plan.program])
     with open(source if os.path.isfile(source) else os.devnull, "rb") as given, open(log, "w+b") as said:
-        process = subprocess.Popen([*RT, "run"], cwd=folder, stdin=given, stdout=said, stderr=said, start_new_session=True)
+        words = [*RT, "run", *words_of(folder)]
+        process = subprocess.Popen(words, cwd=folder, stdin=given, stdout=said, stderr=said, start_new_session=True)
         try:
             while process.poll() is None:
                 with contextlib.suppress(subprocess.TimeoutExpired):
@@ -271,9 +278,11 @@ def show_order(plan, most):
     """As `prove_libraries` would go if each check took as long as its crate has lines."""
     ends, done, now, number = {}, set(), 0, 0
     while len(done) < len(plan.names) - 1:
-        for name in plan.ready({*ends, *done}, done)[: most - len(ends)]:
+        begun = plan.ready({*ends, *done}, done)[: most - len(ends)]
+        beside = [*ends, *begun]
+        for name in begun:
             number += 1
-            print(f"{name} ({number} of {len(plan.names)}): {plan.processes(name, done, most)} processes, beside {', '.join(ends) or 'none'}")
+            print(f"{name} ({number} of {len(plan.names)}): {plan.processes(name, beside, most)} processes, beside {', '.join(ends) or 'none'}")
             ends[name] = now + plan.count[name]
         now = min(ends.values())
         for name in [it for it in ends if ends[it] == now]:
