@@ -4,7 +4,7 @@ use Rattle.std.specs.List.{list_any}
 use Rattle.atomic_table.specs.Seated.{TableId}
 use Rattle.atomic_table.specs.Table.{Me}
 use Rattle.shard_set.specs.Shards.{has_shard}
-use Rattle.claim_board.specs.declared.most.TheConstants.{MOST_SHARDS, MOST_SEATS}
+use Rattle.limits.specs.declared.TheConstants.{MAX_SHARDS, MAX_WORKERS}
 use Rattle.claim_board.specs.declared.rule.Size.{Size}
 use Rattle.claim_board.specs.declared.rule.View.{View}
 use Rattle.claim_board.specs.Machine.{held}
@@ -25,9 +25,9 @@ seat_state table view = record { board = board_state table view.size; number = v
 -- some shards and seats, and no more than a board may have
 pub record IsInRange (size : Size) : Type 0 where
   pub some_shard : 0 < size.shards
-  pub shards : size.shards ≤ MOST_SHARDS
+  pub shards : size.shards ≤ MAX_SHARDS
   pub some_seat : 0 < size.seats
-  pub seats : size.seats ≤ MOST_SEATS
+  pub seats : size.seats ≤ MAX_WORKERS
 
 -- the token's view is of this number alone, and the bits are the shards of its list
 pub record IsSeat (me : Me (Unit {0}) View) (number : ℕ) (bits : List ℕ) : Type 0 where
@@ -63,4 +63,4 @@ InOrderAt table seats = (number : ℕ) (seat : SeatState) → slice_get seats nu
 pub record IsClosed (row : List ℕ) (words slots shards : ℕ) : Type 0 where
   pub words_count : words ≡ shards
   pub slots_count : slots ≡ 0
-  pub of_seats : (shard : ℕ) → slice_index row shard ≤ MOST_SEATS
+  pub of_seats : (shard : ℕ) → slice_index row shard ≤ MAX_WORKERS

@@ -1,5 +1,6 @@
 //! The board: a word for each shard, in a table that its seats share.
 ghost use Rattle.std.specs.Prelude.{◌≡◌, ◌≢◌, ℕ, ◌<◌, ◌≤◌, ◌==◌, ◌↔◌, not, List, [], ◌∷◌, ◌++◌, length, filter, All, AllPairs, Contains, IfOk, IfErr, IsOk};
+ghost use Rattle.limits.specs.declared.TheConstants.{MAX_WORKERS};
 ghost use Rattle.claim_board.specs.Machine.{held};
 ghost use Rattle.claim_board.specs.State.{OnWon, IfHeld, AreSeats, IsUnusedSeat, all_held, IsHeldBy, owner_told, CameFromRun};
 ghost use Rattle.claim_board.specs.Rule.{opener};
@@ -10,12 +11,12 @@ ghost use Rattle.claim_board.specs.declared.fault.BoardFault.TheVariants.{Memory
 
 use crate::claim::Claim;
 use crate::fault::BoardFault;
-use crate::most::{MOST_SEATS, MOST_SHARDS};
 use crate::owners::Owners;
 use crate::rule::{Claims, GivesBack, Ruled, Size, Token, View};
 use crate::seat::Seat;
 use crate::seating::{deal, gather};
 use atomic_table::Table;
+use limits::MAX_SHARDS;
 use std::alloc::{AllocError, Allocator};
 use std::marker::Model;
 
@@ -45,7 +46,7 @@ fn free_words<A: Allocator>(
     ensures table { IfOk result (λ t. (t.0.shared.table_id.words ≡ size.now.shards) × (t.0.shared.table_id.slots ≡ 0) × (t.0.shared.key ≡ size.now)) }
     ensures token { IfOk result (λ t. (t.1.table_id ≡ t.0.shared.table_id) × (t.1.me ≡ (opener size.now, []))) }
 {
-    let zeros = [0; MOST_SHARDS as usize];
+    let zeros = [0; MAX_SHARDS];
     Table::of_words(alloc, &zeros[..size.shards as usize], size)
 }
 
@@ -56,8 +57,8 @@ impl<A: Allocator + Copy> Board<A> {
     /// comes. It takes 8 bytes for each shard and some 500 for each seat, and one step on a word for each seat but the
     /// last.
     pub fn open(alloc: A, shards: u32, seats: u32) -> Result<(Board<A>, Vec<Seat, A>), BoardFault>
-        requires shards { (0 < shards) × (shards ≤ MOST_SHARDS) }
-        requires seats { (0 < seats) × (seats ≤ MOST_SEATS) }
+        requires shards { (0 < shards) × (shards ≤ MAX_SHARDS) }
+        requires seats { (0 < seats) × (seats ≤ MAX_WORKERS) }
         ensures size { IfOk result (λ r. (r.0.shards ≡ shards) × (r.0.seats ≡ seats)) }
         ensures seats { IfOk result (λ r. AreSeats r.0 r.1.items) }
         ensures fresh { IfOk result (λ r. All (IsUnusedSeat r.0) r.1.items) }

@@ -1,8 +1,9 @@
-//! The limits of this project, each with one name, for code, contracts and definitions alike.
+//! The limits of this project, each with one name, for code, contracts and definitions alike. A crate that tests a
+//! limit cites its name, and so does the contract that promises the test; the definitions of `specs/` import it from
+//! this crate's constants.
 //!
-//! What is promised here: nothing but the numbers, each by a clause of [`laws`]. A crate that tests a limit cites its
-//! name, and so does the contract that promises the test; the definitions of `specs/` import it from this crate's
-//! constants.
+//! What it promises:
+//! - Nothing but the numbers, each by a clause of [`laws`].
 //!
 //! Where to start a change: here, and the clause of `laws` that says the number again; every crate that cites the
 //! constant is checked again, and `docs/GR_FORMAT.md` and `docs/PROTOCOL.md` say the numbers in words.

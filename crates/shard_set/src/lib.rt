@@ -1,13 +1,15 @@
-//! A set of shards, one bit for each of them.
-//!
-//! What is promised here: a [`ShardSet`] holds shards below `MAX_SHARDS`, and contracts see its words, of which
-//! `has_shard` tells whether a shard is in it. `insert` and `remove` change what is said of their one shard and of no other, and no call takes memory.
+//! A set of shards, one bit for each of them. No call takes memory.
 //!
 //! ```text
 //!   shard 70 ──► word 70 / 64 = 1, bit 70 % 64 = 6
 //!
 //!   [ word 0 | word 1 | word 2 | .. | word 63 ]
 //! ```
+//!
+//! What it promises:
+//! - A [`ShardSet`] holds shards below `MAX_SHARDS`; contracts see its words, of which `has_shard` tells whether a shard
+//!   is in it.
+//! - `insert` and `remove` change what is said of their one shard and of no other.
 //!
 //! Where to start a change: `specs/Shards` says what the words mean, and `proofs/Bits` what a write of one bit does to all
 //! of them. The number of words follows from `MAX_SHARDS`.
