@@ -2,7 +2,7 @@
 
 PREFIX ?= /usr/local
 PROGRAM := crates/boruvka/out/boruvka
-STEPS := crates/plain_bench/out/plain_bench
+BENCH := crates/bench/out/bench
 SOURCES := $(shell find crates -path '*/out' -prune -o -type f \( -name '*.rt' -o -name '*.antt' \) -print) crates.txt
 # (paths that may have a space, in single quotes for the shell)
 UNDER := '$(subst ','\'',$(DESTDIR)$(PREFIX))'
@@ -37,8 +37,8 @@ install: $(PROGRAM)
 uninstall:
 	rm -f $(BIN)/boruvka $(MAN)/boruvka.1
 
-bench: $(PROGRAM) $(STEPS)
-	python3 benches/run.py $(PROGRAM) $(STEPS)
+bench: $(PROGRAM) $(BENCH)
+	python3 benches/run.py $(PROGRAM) $(BENCH)
 
 clean:
 	rm -rf crates/*/out .git/rooms
@@ -48,6 +48,6 @@ $(PROGRAM): $(SOURCES)
 	@python3 tools/prove.py boruvka
 	@touch $(PROGRAM)
 
-$(STEPS): $(SOURCES)
-	@python3 tools/prove.py plain_bench
-	@touch $(STEPS)
+$(BENCH): $(SOURCES)
+	@python3 tools/prove.py bench
+	@touch $(BENCH)

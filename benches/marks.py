@@ -1,13 +1,13 @@
 #!/usr/bin/env python3
 """Measures `boruvka` against two marks on generated graphs, in turns, and prints tables in Markdown.
 
-    marks.py PROGRAM STEPS [PLAIN_TIMES [WORKERS_TIMES]]
+    marks.py PROGRAM BENCH [PLAIN_TIMES [WORKERS_TIMES]]
 
-PROGRAM is `boruvka`; STEPS is `plain_bench`, which tells what the steps of a plain run took. The marks are tuned.cpp,
-a tuned program of one thread, for `--plain`; and floor.cpp, which only moves the bytes of a run over two workers, as
-turns.c noted them of one run, for runs over workers. Each time is the least of PLAIN_TIMES runs (none: 9), of those
-over workers and of the floor of WORKERS_TIMES (none: 7). All programs run in each turn. The answers must be equal, and
-no worker may have failed.
+PROGRAM is `boruvka`; BENCH is `bench`, which by its word `steps` tells what the steps of a plain run took. The marks
+are tuned.cpp, a tuned program of one thread, for `--plain`; and floor.cpp, which only moves the bytes of a run over two
+workers, as turns.c noted them of one run, for runs over workers. Each time is the least of PLAIN_TIMES runs (none: 9),
+of those over workers and of the floor of WORKERS_TIMES (none: 7). All programs run in each turn. The answers must be
+equal, and no worker may have failed.
 
 It needs Python 3, a C++17 compiler (c++, or $CXX) and a C compiler (cc, or $CC). Times are in milliseconds.
 """
@@ -38,8 +38,8 @@ def built(folder, name, source, *words):
 
 
 class Programs:
-    def __init__(self, folder, program, steps):
-        self.program, self.steps = program, steps
+    def __init__(self, folder, program, bench):
+        self.program, self.bench = program, bench
         self.tuned = built(folder, "tuned", "tuned.cpp", "-std=c++17", "-static")
         self.floor = built(folder, "floor", "floor.cpp", "-std=c++17", "-pthread")
         self.recorder = built(folder, "turns.so", "turns.c", "-shared", "-fPIC")
@@ -87,7 +87,7 @@ class Measured:
 
     def take_plain_turn(self):
         self.time("plain", [self.programs.program, "--plain"])
-        told = self.time("steps", [self.programs.steps])
+        told = self.time("steps", [self.programs.bench, "steps"])
         self.keep_parts("plain", [part / 1000 for part in parts_of(told)])
         self.keep_parts("tuned", parts_of(self.time("tuned", [self.programs.tuned, "--times"])))
 
@@ -141,12 +141,12 @@ def tell_growth(graphs):
 
 
 def main():
-    program, steps = (os.path.abspath(path) for path in sys.argv[1:3])
+    program, bench = (os.path.abspath(path) for path in sys.argv[1:3])
     plain_times = int(sys.argv[3]) if len(sys.argv) > 3 else 9
     workers_times = int(sys.argv[4]) if len(sys.argv) > 4 else 7
     before = os.getloadavg()[0]
     with tempfile.TemporaryDirectory() as folder:
-        programs = Programs(folder, program, steps)
+        programs = Programs(folder, program, bench)
         graphs = {(kind, n): Measured(folder, kind, n, programs) for kind, n in GRAPHS}
         # All graphs in each turn, so that a slow minute of the machine falls on all of them.
         for turn in range(max(plain_times, workers_times)):

@@ -1,9 +1,10 @@
 #!/usr/bin/env python3
 """Times `boruvka --plain` beside the C++ program on generated graphs, in turns, and prints the least times.
 
-    run.py PROGRAM STEPS [TIMES]
+    run.py PROGRAM BENCH [TIMES]
 
-PROGRAM is `boruvka`; STEPS is `plain_bench`, which does the same and tells what reading, solving and writing took.
+PROGRAM is `boruvka`; BENCH is `bench`, which by its word `steps` does the same and tells what reading, solving and
+writing took.
 It needs Python 3, a C++17 compiler (c++, or $CXX) and GNU time. The answers of all programs must be equal.
 """
 import os
@@ -67,11 +68,11 @@ class Measured:
         self.parts, self.parts_cpp = [1e9] * 3, [1e9] * 3
 
     def take_turn(self):
-        program, steps, kruskal = self.programs
+        program, bench, kruskal = self.programs
         self.whole = min(self.whole, run([program, "--plain"], self.graph, self.ours)[0])
         took, told = run([kruskal], self.graph, self.theirs)
         self.whole_cpp, self.parts_cpp = min(self.whole_cpp, took), least(self.parts_cpp, parts_of(told))
-        _, told = run([steps], self.graph, self.stepped)
+        _, told = run([bench, "steps"], self.graph, self.stepped)
         self.parts = least(self.parts, [part / 1000 for part in parts_of(told)])
         self.count = min(self.count, run(["wc", "-l"], self.graph, self.counted)[0])
         if not bytes_of(self.ours) == bytes_of(self.stepped) == bytes_of(self.theirs):
@@ -87,13 +88,13 @@ class Measured:
 
 
 def main():
-    program, steps = (os.path.abspath(path) for path in sys.argv[1:3])
+    program, bench = (os.path.abspath(path) for path in sys.argv[1:3])
     times = int(sys.argv[3]) if len(sys.argv) > 3 else 9
     with tempfile.TemporaryDirectory() as folder:
         kruskal = os.path.join(folder, "kruskal")
         source = os.path.join(HERE, "kruskal.cpp")
         subprocess.run([os.environ.get("CXX", "c++"), "-O2", "-std=c++17", "-o", kruskal, source], check=True)
-        graphs = {(kind, n): Measured(folder, kind, n, (program, steps, kruskal)) for kind, n in GRAPHS}
+        graphs = {(kind, n): Measured(folder, kind, n, (program, bench, kruskal)) for kind, n in GRAPHS}
         # All graphs in each turn, so that a slow minute of the machine falls on all of them.
         for _ in range(times):
             for graph in graphs.values():

@@ -1,4 +1,4 @@
-// The scan of `scan_bench` in C++: the same links and labels, the same two lines, and the least times of nine runs.
+// The scan of `bench scan` in C++: the same links and labels, the same two lines, and the least times of nine runs.
 #include <algorithm>
 #include <chrono>
 #include <cstdint>

@@ -1,61 +1,75 @@
-//! Steps beside plain forms of them.
-use crate::{FEW_VERTICES, SIZE, drawn_links, have_labels, time_scan};
+//! Steps of a worker, each in turns with a simple form of it, which stands here: a scan, a scan by threads, scans of few
+//! links over the table of many labels, and an ask of links that are all laid aside.
+use crate::beside::Times;
+use crate::drawn::{MANY, are_within, drawn_links};
+use crate::scans::{FEW_VERTICES, compare, time_scan};
 use frames::{Frame, Links};
 use limits::MAX_SHARD_LINKS;
 use link_key::{Labels, Link};
 use std::alloc::{AllocError, Global};
-use std::time::{Duration, Instant};
+use std::thread::Threads;
+use std::time::{Clock, Duration, Instant};
 use worker_engine::{Engine, Scanner};
 
 // How often each step is run.
 const RUNS: usize = 9;
 
-// Fails where a step is more than twice as slow as its plain form; how long a scan of many links takes alone and by
-// threads is measured before.
-pub(crate) fn check(rt: &HostRuntime, alone: Duration, by_threads: Duration) -> anyhow::Result<()> {
+/// Prints the times of the steps beside those of their simple forms, and fails at the first that is more than twice as
+/// slow.
+pub(crate) fn check_scans(
+    rt: &(impl Print + Eprint + AllocGlobal + Clock + Threads + Sync),
+) -> anyhow::Result<()> {
     let alloc = rt.alloc();
-    let links = drawn_links(alloc, SIZE, SIZE)?;
-    let apart = Labels::apart(alloc, SIZE)?;
+    let by_threads = time_threads(rt)?;
+    let links = drawn_links(alloc, MANY, MANY)?;
+    let apart = Labels::apart(alloc, MANY)?;
     check_scan(rt, links.as_slice(), &apart)?;
     check_few_links(rt, &apart)?;
-    judge(rt, "a scan by threads", by_threads, alone)?;
-    check_laid_aside(rt, drawn_links(alloc, SIZE, FEW_VERTICES)?)?;
-    println!(rt; "no step is more than twice as slow as its plain form")?;
+    judge(rt, "a scan by threads", by_threads)?;
+    check_laid_aside(rt, drawn_links(alloc, MANY, FEW_VERTICES)?)?;
+    println!(rt; "no step is more than twice as slow as its simple form")?;
     Ok(())
 }
 
-// Tells both times; an error where the step took more than twice as long as its plain form.
-fn judge(rt: &HostRuntime, name: &str, step: Duration, plain: Duration) -> anyhow::Result<()> {
-    eprintln!(rt;
-        "{name}: {} us, plain {} us",
-        step.as_micros(),
-        plain.as_micros()
-    )?;
-    if step.as_nanos() / 2 > plain.as_nanos() {
-        anyhow::bail!("{name} is more than twice as slow as its plain form");
+// Tells both times; an error where the step took more than twice as long as its simple form.
+fn judge(rt: &impl Eprint, name: &str, times: Times) -> anyhow::Result<()> {
+    if times.tell(rt, name)? {
+        anyhow::bail!("{name} is more than twice as slow as its simple form");
     }
     Ok(())
+}
+
+// A scan by threads of many links between few vertices beside one by one thread.
+fn time_threads(rt: &(impl AllocGlobal + Clock + Threads + Sync)) -> anyhow::Result<Times> {
+    let links = drawn_links(rt.alloc(), MANY, FEW_VERTICES)?;
+    let labels = Labels::apart(rt.alloc(), FEW_VERTICES)?;
+    let (alone, by_threads) = compare(rt, links.as_slice(), &labels)?;
+    let mut times = Times::none();
+    times.add(by_threads, alone);
+    Ok(times)
 }
 
 // A scan beside a pass that keeps the least link of each label whole.
-fn check_scan(rt: &HostRuntime, links: &[Link], labels: &Labels) -> anyhow::Result<()> {
-    let mut step = Duration::MAX;
-    let mut plain = Duration::MAX;
+fn check_scan(
+    rt: &(impl Eprint + AllocGlobal + Clock),
+    links: &[Link],
+    labels: &Labels,
+) -> anyhow::Result<()> {
+    let mut times = Times::none();
     for _ in 0..RUNS {
         let (took, offered) = time_scan(rt, links, labels)?;
-        step = step.min(took);
         let start = Instant::now(rt)?;
-        let pairs = plain_scan(rt.alloc(), links, labels.as_slice())?;
-        plain = plain.min(start.elapsed(rt)?);
+        let pairs = simple_scan(rt.alloc(), links, labels.as_slice())?;
+        times.add(took, start.elapsed(rt)?);
         if pairs.len() != offered.0 {
-            anyhow::bail!("other offers by the plain scan");
+            anyhow::bail!("the simple form gives other offers");
         }
     }
-    judge(rt, "a scan", step, plain)
+    judge(rt, "a scan", times)
 }
 
 // The least link that leaves each label, and its place.
-fn plain_scan(
+fn simple_scan(
     alloc: Global,
     links: &[Link],
     labels: &[u32],
@@ -100,27 +114,29 @@ fn keep_least(leasts: &mut [Option<(Link, u32)>], label: u32, link: Link, place:
 
 // Four scans of few links over the table of many labels beside writing and reading such a table once: what is noted of
 // blocks of labels spares both.
-fn check_few_links(rt: &HostRuntime, labels: &Labels) -> anyhow::Result<()> {
+fn check_few_links(
+    rt: &(impl Eprint + AllocGlobal + Clock),
+    labels: &Labels,
+) -> anyhow::Result<()> {
     let links = drawn_links(rt.alloc(), 16, FEW_VERTICES)?;
-    if links.len() > MAX_SHARD_LINKS || !have_labels(links.as_slice(), labels.n()) {
+    if links.len() > MAX_SHARD_LINKS || !are_within(links.as_slice(), labels.n()) {
         anyhow::bail!("links without labels");
     }
     let mut scanner = Scanner::new(rt.alloc());
     let mut table = Vec::from_elem(rt.alloc(), 1u64, labels.as_slice().len())?;
-    let mut step = Duration::MAX;
-    let mut plain = Duration::MAX;
+    let mut times = Times::none();
     for run in 0..RUNS {
         let start = Instant::now(rt)?;
         for _ in 0..4 {
             let _offers = scanner.scan(links.as_slice(), labels)?;
         }
-        step = step.min(start.elapsed(rt)?);
+        let took = start.elapsed(rt)?;
         let start = Instant::now(rt)?;
         let kept = write_and_read(table.as_mut_slice(), run as u64);
-        plain = plain.min(start.elapsed(rt)?);
+        times.add(took, start.elapsed(rt)?);
         eprintln!(rt; "{kept} kept")?;
     }
-    judge(rt, "four scans of few links", step, plain)
+    judge(rt, "four scans of few links", times)
 }
 
 fn write_and_read(table: &mut [u64], word: u64) -> usize {
@@ -129,8 +145,11 @@ fn write_and_read(table: &mut [u64], word: u64) -> usize {
 }
 
 // An ask of links that are all laid aside beside one look at each link.
-fn check_laid_aside(rt: &HostRuntime, links: Vec<Link>) -> anyhow::Result<()> {
-    let plain_links = links.clone()?;
+fn check_laid_aside(
+    rt: &(impl Eprint + AllocGlobal + Clock),
+    links: Vec<Link>,
+) -> anyhow::Result<()> {
+    let links_again = links.clone()?;
     let mut engine = Engine::new(rt.alloc());
     let shard = Frame::Shard {
         number: 0,
@@ -140,27 +159,25 @@ fn check_laid_aside(rt: &HostRuntime, links: Vec<Link>) -> anyhow::Result<()> {
         anyhow::bail!("no lawful shard");
     }
     let _none = engine.hear(shard)?;
-    let mut step = Duration::MAX;
-    let mut plain = Duration::MAX;
+    let mut times = Times::none();
     for run in 0..RUNS + 1 {
         let took = time_ask(rt, &mut engine)?;
         let start = Instant::now(rt)?;
-        let are_few = have_labels(plain_links.as_slice(), FEW_VERTICES);
+        let are_few = are_within(links_again.as_slice(), FEW_VERTICES);
         let looked = start.elapsed(rt)?;
         if !are_few {
             anyhow::bail!("links without labels");
         }
         // the first ask lays them aside
         if run > 0 {
-            step = step.min(took);
-            plain = plain.min(looked);
+            times.add(took, looked);
         }
     }
-    judge(rt, "an ask of links laid aside", step, plain)
+    judge(rt, "an ask of links laid aside", times)
 }
 
 // The time of an ask under the labels of one component.
-fn time_ask(rt: &HostRuntime, engine: &mut Engine) -> anyhow::Result<Duration> {
+fn time_ask(rt: &(impl AllocGlobal + Clock), engine: &mut Engine) -> anyhow::Result<Duration> {
     let list = Vec::from_elem(rt.alloc(), 1u32, FEW_VERTICES as usize)?;
     let Some(labels) = Labels::of_list(list) else {
         anyhow::bail!("no labels");

@@ -1,5 +1,5 @@
-//! The steps as one would write them first, for the lists of [`crate::check`]. They promise nothing: their times are what
-//! a step is compared with.
+//! The steps of a run by one thread as one would write them first, for [`crate::step_check`]. They promise nothing: their
+//! times are what a step is compared with.
 use link_key::Link;
 use std::alloc::{AllocError, Global};
 

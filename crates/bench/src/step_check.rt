@@ -1,8 +1,10 @@
-//! Each step beside a plain form of it, over a list whose keys have all of 64 bits.
+//! Each step of a run by one thread beside a simple form of it, over a list whose keys have all of 64 bits.
 //!
 //! Where the solver packed such keys in too few bits, it would pack nothing and sort the list more than once: of links of
 //! one weight the short keys have only some digits of the lower end.
-use crate::plain_forms::{link_of, read, solve, write};
+use crate::beside::Times;
+use crate::drawn::{SEED, next};
+use crate::simple_forms::{link_of, read, solve, write};
 use gr_text::{Graph, read_graph, write_forest};
 use link_key::{Forest, Link, plain_forest};
 use std::alloc::{AllocError, Global};
@@ -21,34 +23,9 @@ const VERTICES: u32 = HUBS + DISTANCES;
 // How often each is run; the least time counts.
 const RUNS: usize = 7;
 
-// The least times of a step and of its plain form.
-#[derive(Clone, Copy)]
-struct Times {
-    step: Duration,
-    plain: Duration,
-}
-
-impl Times {
-    fn none() -> Times {
-        Times {
-            step: Duration::MAX,
-            plain: Duration::MAX,
-        }
-    }
-
-    fn add(&mut self, step: Duration, plain: Duration) {
-        self.step = self.step.min(step);
-        self.plain = self.plain.min(plain);
-    }
-
-    fn is_slow(self) -> bool {
-        self.step.as_micros() / 2 > self.plain.as_micros()
-    }
-}
-
-/// Prints the times of the steps beside those of their plain forms, and fails where one is more than twice as long.
+/// Prints the times of the steps beside those of their simple forms, and fails where one is more than twice as long.
 pub(crate) fn check_steps(rt: &HostRuntime) -> anyhow::Result<()> {
-    let drawn = drawn_links(rt.alloc())?;
+    let drawn = hub_links(rt.alloc())?;
     let text = write(rt.alloc(), VERTICES, drawn.as_slice())?;
     let graph = read_graph(rt.alloc(), &mut text.as_slice())?;
     let forest = plain_forest(rt.alloc(), graph.n(), graph.links())?;
@@ -59,15 +36,10 @@ pub(crate) fn check_steps(rt: &HostRuntime) -> anyhow::Result<()> {
     ];
     let mut slow = false;
     for (name, times) in steps {
-        eprintln!(rt;
-            "{name}: {} us, plainly {} us",
-            times.step.as_micros(),
-            times.plain.as_micros()
-        )?;
-        slow |= times.is_slow();
+        slow |= times.tell(rt, name)?;
     }
     if slow {
-        anyhow::bail!("a step takes more than twice as long as its plain form");
+        anyhow::bail!("a step takes more than twice as long as its simple form");
     }
     Ok(())
 }
@@ -83,7 +55,7 @@ fn time_reading(rt: &HostRuntime, text: &[u8]) -> anyhow::Result<Times> {
         let links = read(rt.alloc(), text)?;
         times.add(step, start.elapsed(rt)?);
         if links.len() != graph.links().len() {
-            anyhow::bail!("other links are read plainly");
+            anyhow::bail!("the simple form reads other links");
         }
     }
     Ok(times)
@@ -99,7 +71,7 @@ fn time_solving(rt: &HostRuntime, graph: &Graph) -> anyhow::Result<Times> {
         let taken = solve(rt.alloc(), graph.n(), graph.links())?;
         times.add(step, start.elapsed(rt)?);
         if taken.len() != forest.links().len() {
-            anyhow::bail!("another forest is found plainly");
+            anyhow::bail!("the simple form finds another forest");
         }
     }
     Ok(times)
@@ -116,16 +88,16 @@ fn time_writing(rt: &HostRuntime, forest: &Forest) -> anyhow::Result<Times> {
         let text = write(rt.alloc(), VERTICES, forest.links())?;
         times.add(step, start.elapsed(rt)?);
         if text.as_slice() != sink.as_slice() {
-            anyhow::bail!("another text is written plainly");
+            anyhow::bail!("the simple form writes another text");
         }
     }
     Ok(times)
 }
 
-// The links, which all have one weight but for the lightest and the heaviest there can be.
-fn drawn_links(alloc: Global) -> Result<Vec<Link>, AllocError> {
+// Links from a few hubs, which all have one weight but for the lightest and the heaviest there can be.
+fn hub_links(alloc: Global) -> Result<Vec<Link>, AllocError> {
     let mut links = Vec::new(alloc);
-    let mut state: u64 = 1926;
+    let mut state = SEED;
     for number in 0..LINKS {
         let hub = draw(&mut state, HUBS).wrapping_add(1);
         let leaf = draw(&mut state, DISTANCES)
@@ -145,8 +117,6 @@ fn drawn_links(alloc: Global) -> Result<Vec<Link>, AllocError> {
 
 // The next number below `bound` of a fixed sequence.
 fn draw(state: &mut u64, bound: u32) -> u32 {
-    *state = state
-        .wrapping_mul(6_364_136_223_846_793_005)
-        .wrapping_add(1_442_695_040_888_963_407);
+    *state = next(*state);
     (*state >> 33) as u32 % bound.max(1)
 }

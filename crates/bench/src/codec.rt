@@ -1,28 +1,26 @@
-//! Measures an ask of a million labels, both ways, beside a plain copy of the same bytes.
+//! An ask of a million labels, encoded and decoded, beside a copy of the same bytes.
 //!
 //! Each step makes its bytes or its labels anew and gives them back before the next step, so that all meet the
 //! allocator alike. Standard output is constant; the times, the least of several runs, go to standard error.
-#![tactic(auto)]
-
+use crate::drawn::{MANY, scattered_labels};
 use frames::{Frame, decode_body, decode_head, encode_ask};
 use link_key::Labels;
 use std::alloc::{AllocError, Global};
 use std::time::{Duration, Instant};
 
-// How many labels the ask has, and how often each step is run.
-const LABELS: u32 = 1 << 20;
-
+// How often each step is run.
 const RUNS: usize = 9;
 
-fn main(rt: HostRuntime) -> anyhow::Result<()> {
-    let apart = Labels::apart(rt.alloc(), LABELS)?;
-    measure(&rt, "each vertex by itself", &apart)?;
+/// Tells the times under labels of three kinds.
+pub(crate) fn time_frames(rt: &HostRuntime) -> anyhow::Result<()> {
+    let apart = Labels::apart(rt.alloc(), MANY)?;
+    measure(rt, "each vertex by itself", &apart)?;
     if let Some(neighbours) = Labels::of_list(neighbours_labels(rt.alloc())?) {
-        measure(&rt, "components of eight neighbours", &neighbours)?;
+        measure(rt, "components of eight neighbours", &neighbours)?;
     }
     if let Some(scattered) = Labels::of_list(scattered_labels(rt.alloc())?) {
         measure(
-            &rt,
+            rt,
             "a quarter of a million components, scattered",
             &scattered,
         )?;
@@ -90,28 +88,9 @@ fn decode(alloc: Global, bytes: &[u8]) -> Option<Labels> {
 
 // Each eight vertices in a row have the label of the first of them.
 fn neighbours_labels(alloc: Global) -> Result<Vec<u32>, AllocError> {
-    let mut labels = Vec::with_capacity(alloc, LABELS as usize)?;
-    for place in 0..LABELS {
+    let mut labels = Vec::with_capacity(alloc, MANY as usize)?;
+    for place in 0..MANY {
         labels.push(place / 8 * 8 + 1)?;
-    }
-    Ok(labels)
-}
-
-// Every fourth vertex or so keeps its own label, and the others get that of any vertex before them: the slowest
-// labels to look at, since each points elsewhere.
-fn scattered_labels(alloc: Global) -> Result<Vec<u32>, AllocError> {
-    let mut labels = Vec::with_capacity(alloc, LABELS as usize)?;
-    let mut state: u64 = 1926;
-    for vertex in 1..LABELS + 1 {
-        state = state
-            .wrapping_mul(6_364_136_223_846_793_005)
-            .wrapping_add(1_442_695_040_888_963_407);
-        let drawn = (state >> 33) as usize;
-        let label = match labels.get(drawn % vertex as usize) {
-            Some(label) if state >> 62 != 0 => *label,
-            _ => vertex,
-        };
-        labels.push(label)?;
     }
     Ok(labels)
 }

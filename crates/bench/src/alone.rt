@@ -1,36 +1,39 @@
-//! Times one thread's solving by rounds beside the plain solver, for a `.gr` text from standard input.
+//! One thread's solving by rounds beside the solver that a run by one thread uses, for a `.gr` text.
 //!
 //! Each is run several times, the rounds over 1, 64 and 4,096 even shards. The number of the forest's links and that of
 //! the merging rounds go to standard output, the least times in microseconds to standard error.
-#![tactic(auto)]
-
 ghost use Rattle.std.specs.Prelude.{◌≤◌, length, IsTrue, All};
 ghost use Rattle.link_key.specs.Link.{EndsUpTo};
 ghost use Rattle.limits.specs.declared.TheConstants.{MAX_VERTICES};
 
+use crate::drawn::are_within;
+use byte_streams::Source;
 use gr_text::{Graph, read_graph};
 use limits::MAX_VERTICES;
-use link_key::{Cut, Link, plain_forest};
+use link_key::{Cut, plain_forest};
 use round_core::solve_alone;
 use std::time::{Duration, Instant};
 
 // How often each is run.
 const RUNS: usize = 9;
 
-fn main(rt: HostRuntime) -> anyhow::Result<()> {
-    let graph = read_graph(rt.alloc(), &mut rt.stdin())?;
-    let (plain, links) = measure_plain(&rt, &graph)?;
-    eprintln!(rt; "plain_forest {} us", plain.as_micros())?;
+/// Reads the text, and tells the times and the rounds.
+pub(crate) fn time_rounds<S: Source>(rt: &HostRuntime, source: &mut S) -> anyhow::Result<()>
+    requires can { S.can_read source.old }
+{
+    let graph = read_graph(rt.alloc(), source)?;
+    let (least, links) = measure_forest(rt, &graph)?;
+    eprintln!(rt; "plain_forest {} us", least.as_micros())?;
     for shards in [1, 64, 4096] {
-        let (alone, taken, rounds) = measure_alone(&rt, &graph, shards)?;
+        let (alone, taken, rounds) = measure_alone(rt, &graph, shards)?;
         eprintln!(rt; "solve_alone, {shards} shards: {} us", alone.as_micros())?;
         println!(rt; "{shards} shards: {taken} of {links} links in {rounds} rounds")?;
     }
     Ok(())
 }
 
-// The least time of the plain solver, and how many links its forest has.
-fn measure_plain(rt: &HostRuntime, graph: &Graph) -> anyhow::Result<(Duration, usize)> {
+// The least time of `plain_forest`, and how many links the forest has.
+fn measure_forest(rt: &HostRuntime, graph: &Graph) -> anyhow::Result<(Duration, usize)> {
     let mut least = Duration::MAX;
     let mut links = 0;
     for _ in 0..RUNS {
@@ -75,10 +78,4 @@ fn have_labels(cut: &Cut, n: u32) -> bool
         }
     }
     true
-}
-
-fn are_within(links: &[Link], n: u32) -> bool
-    ensures { IsTrue result → EndsUpTo n links.now }
-{
-    links.iter().all(|link| link.high <= n)
 }
