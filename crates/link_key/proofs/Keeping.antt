@@ -7,7 +7,7 @@ use mir.Val.{bool_byte}
 use Rattle.std.proofs.lemmas.Bool.{cases_eq}
 use Rattle.std.proofs.lemmas.Bool.Decides.{nat_tests}
 use Rattle.std.proofs.lemmas.List.Elements.{filter-append, All-push}
-use Rattle.link_key.specs.declared.rounds.Open.{Open}
+use Rattle.link_key.specs.declared.sequential.rounds.Open.{Open}
 use Rattle.link_key.specs.OpenLinks.{renumbered, is_open, HaveNumbers}
 
 pub closed : (a b : ℕ) → a ≡ b → not (a == b) ≡ false

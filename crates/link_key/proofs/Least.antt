@@ -407,6 +407,10 @@ no_heavier links taken (l ∷ left) others taking holding =
 ascending_distinct : (links : List Link) → IsAscending links → AreDistinct links
 ascending_distinct links up i j d lt in_range same = below_irrefl (get_or links i d) (subst (λ x. IsBelow (get_or links i d) x) (sym same) (up i j d lt in_range))
 
+-- so what an ascending list weighs is the sum over the list
+pub own_total : (links : List Link) (total : ℤ) → IsAscending links → total ≡ sum_of_weights links → IsTotalOf links total
+own_total links total up is = record { once = links; distinct = ascending_distinct links up; members = λ l. (λ l_in. l_in, λ l_in. l_in); total_is = is }
+
 pub forest_is_lightest : ForestIsLightest
 forest_is_lightest links forest is = (spanning, total, lightest)
   where
@@ -418,7 +422,7 @@ forest_is_lightest links forest is = (spanning, total, lightest)
     }
 
     total : IsTotalOf forest (sum_of_weights forest)
-    total = record { once = forest; distinct = ascending_distinct forest is.ascending; members = λ l. (λ l_in. l_in, λ l_in. l_in); total_is = refl }
+    total = own_total forest (sum_of_weights forest) is.ascending refl
 
     lightest : IsLightest links (sum_of_weights forest)
     lightest other its spans total_of = subst (λ z. sum_of_weights forest ≤ℤ z) (sym total_of.total_is) (no_heavier links [] forest total_of.once record {

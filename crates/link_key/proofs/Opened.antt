@@ -11,7 +11,7 @@ use Rattle.std.proofs.lemmas.List.Kept.{IsSortedBy-filter}
 use Rattle.std.proofs.lemmas.List.Sorted.{ranks_by}
 use Rattle.std.proofs.lemmas.Bool.Decides.{nat_tests}
 use Rattle.link_key.specs.declared.links.Link.{Link}
-use Rattle.link_key.specs.declared.rounds.Open.{Open}
+use Rattle.link_key.specs.declared.sequential.rounds.Open.{Open}
 use Rattle.link_key.specs.Link.{key_cmp}
 use Rattle.link_key.specs.Components.{HasOneLabel}
 use Rattle.link_key.specs.Rounds.{renamed}

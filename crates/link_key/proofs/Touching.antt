@@ -11,7 +11,7 @@ use Rattle.link_key.specs.declared.links.Link.{Link}
 use Rattle.link_key.specs.Link.{IsBelow, key_cmp}
 use Rattle.link_key.specs.Walk.{Joins}
 use Rattle.link_key.specs.Components.{HasOneLabel}
-use Rattle.link_key.specs.declared.rounds.Open.{Open}
+use Rattle.link_key.specs.declared.sequential.rounds.Open.{Open}
 use Rattle.link_key.specs.Rounds.{LeavesLabel, IsLeastOut, AreJoinedWhereOne}
 use Rattle.link_key.specs.OpenLinks.{AreNumbers, ShareNumber, AreTouched, number_of, zeros}
 use Rattle.link_key.proofs.Members.{contains_none}

@@ -1,4 +1,4 @@
--- What a set of links weighs, and that no set that spans weighs less than the forest.
+-- What a set of links weighs, and that no spanning forest weighs less than the minimum spanning forest.
 use Rattle.std.specs.Prelude.{◌≢◌, ◌≡◌, ℤ, pos, ◌+ℤ◌, List, Contains, AllPairs, fold}
 use Rattle.std.specs.Int.Signed.{◌≤ℤ◌}
 use Rattle.link_key.specs.declared.links.Link.{Link}

@@ -1,10 +1,10 @@
--- The state of the plain solver's rounds: links with the labels of their ends, and new numbers of those labels.
+-- The state of the sequential solver's rounds: links with the labels of their ends, and new numbers of those labels.
 use Rattle.std.specs.Prelude.{◌≡◌, ◌≢◌, ℕ, ◌+◌, ◌<◌, ◌≤◌, ◌⊎◌, Bool, not, ◌==◌, if◌then◌else◌, List, [], ◌∷◌, ◌++◌, map, length, slice_index, slice_index_or, Contains}
 use Rattle.std.specs.List.{All, sum_by}
 use Rattle.std.specs.List.Sorted.{IsSorted}
 use Rattle.std.specs.declared.cmp.Ordering.{Ordering}
 use Rattle.link_key.specs.declared.links.Link.{Link}
-use Rattle.link_key.specs.declared.rounds.Open.{Open}
+use Rattle.link_key.specs.declared.sequential.rounds.Open.{Open}
 use Rattle.link_key.specs.Link.{key_cmp}
 use Rattle.link_key.specs.Walk.{Joins}
 use Rattle.link_key.specs.Components.{HasOneLabel}

@@ -1,6 +1,6 @@
 ghost use Rattle.std.specs.Prelude.{◌≡◌, ◌↔◌, IsSome, IfSome, IsTrue};
 ghost use Rattle.link_key.specs.Link.{IsAscending};
-ghost use Rattle.link_key.specs.Least.{sum_of_weights};
+ghost use Rattle.link_key.specs.Least.{sum_of_weights, IsTotalOf};
 
 use crate::links::Link;
 use std::alloc::{Allocator, Global};
@@ -58,7 +58,8 @@ impl<A: Allocator> Forest<A> {
     /// What it weighs: the sum of the weights of its links. It looks at each link once, takes no memory, and never wraps:
     /// a list in memory has fewer than 2^64 links.
     pub fn total(&self) -> i128
-        ensures { result ≡ sum_of_weights self.now }
+        ensures sum { result ≡ sum_of_weights self.now }
+        ensures total { IsTotalOf self.now result }
     {
         let mut total = 0;
         for link in self.links.as_slice() {

@@ -76,6 +76,20 @@ impl<'a, A: Allocator> RoundBook<'a, A> {
         self.round
     }
 
+    /// The cut whose shards are asked for.
+    pub fn cut(&self) -> &'a Cut<'a, A>
+        ensures { result.now ≡ self.now.cut }
+    {
+        self.cut
+    }
+
+    /// The labels under which they are asked for.
+    pub fn labels(&self) -> &'a Labels<A>
+        ensures { result.now ≡ self.now.labels }
+    {
+        self.labels
+    }
+
     /// The number of shards of the cut.
     pub fn len(&self) -> u32
         ensures shards { result ≡ length self.now.cut }

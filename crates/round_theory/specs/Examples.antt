@@ -4,7 +4,7 @@ use Rattle.std.proofs.Common.{lit≤, lit<}
 use Rattle.link_key.specs.declared.links.Link.{Link}
 use Rattle.link_key.specs.Walk.{Joins}
 use Rattle.link_key.specs.Forest.{IsForestLink, IsForestOf}
-use Rattle.link_key.specs.Least.{IsLightest}
+use Rattle.link_key.specs.Least.{IsSpanningForestOf, IsTotalOf, IsLightest}
 use Rattle.link_key.specs.Labels.{AreApart}
 use Rattle.link_key.specs.Offers.{Offer}
 use Rattle.round_theory.specs.LinkSet.{SameLinks, HasNoCycle}
@@ -44,13 +44,13 @@ OneLinkJoinsItsEnds = Joins (Contains (link_1_2 ∷ [])) 2 1 × ¬ (Joins (Conta
 abbrev pub TwoSidesAreForest : Type 0
 TwoSidesAreForest = SameLinks (Contains two_sides) (IsForestLink triangle)
 
--- they weigh 10, and no spanning forest less
+-- they are a spanning forest, weigh 10, and no spanning forest weighs less
 abbrev pub TwoSidesWeighLeast : Type 0
-TwoSidesWeighLeast = IsLightest triangle (pos 10)
+TwoSidesWeighLeast = IsSpanningForestOf triangle two_sides × IsTotalOf two_sides (pos 10) × IsLightest triangle (pos 10)
 
 -- and close no cycle, so their own forest is both
 abbrev pub TwoSidesAreTheirForest : Type 0
-TwoSidesAreTheirForest = (forest : List Link) → IsForestOf two_sides forest → SameLinks (Contains forest) (Contains two_sides)
+TwoSidesAreTheirForest = HasNoCycle (Contains two_sides) × ((forest : List Link) → IsForestOf two_sides forest → SameLinks (Contains forest) (Contains two_sides))
 
 -- vertex 3 has two links of weight 5, and the one with the lesser ends is in the forest
 abbrev pub LesserEndsAreInForest : Type 0

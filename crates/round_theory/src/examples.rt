@@ -27,7 +27,7 @@ pub fn two_sides()
     laws::forest_spans();
 }
 
-/// The two sides weigh 10, and no spanning forest of the triangle weighs less.
+/// The two sides are a spanning forest of the triangle and weigh 10, and no spanning forest of it weighs less.
 pub fn two_sides_weigh_least()
     ensures { TwoSidesWeighLeast }
 {

@@ -12,4 +12,4 @@ ascending (suc i) (suc zero) d lt in_range = absurd (omega arith)
 ascending (suc i) (suc (suc j)) d lt in_range = absurd (omega arith)
 
 pub returns : goal.returns
-returns c = (c.forest_is_lightest.ensures triangle two_sides (record { ascending = ascending; exact = c.two_sides.ensures })).2
+returns c = c.forest_is_lightest.ensures triangle two_sides (record { ascending = ascending; exact = c.two_sides.ensures })

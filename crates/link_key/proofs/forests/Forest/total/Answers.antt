@@ -1,8 +1,9 @@
 use Rattle.std.proofs.Common.{◌≤◌, length, take, arith, rules, ap, pos, ◌+ℤ◌}
+use Rattle.std.proofs.lemmas.Grind.{common_steps}
 use Rattle.std.proofs.lemmas.Int.{ints}
 use Rattle.std.proofs.lemmas.List.Sums.{fold_more}
 use Rattle.link_key.specs.declared.links.Link.{Link}
-use Rattle.link_key.proofs.Least.{sum_within}
+use Rattle.link_key.proofs.Least.{sum_within, own_total}
 use Rattle.link_key.proofs.forests.Forest.total.Goals as goal
 
 pub overflow_add-total : goal.overflow_add-total
@@ -17,3 +18,6 @@ loop-link-preserved g c =
     let more = fold_more (λ sum l. sum +ℤ l.weight) (pos 0) c.as_slice-link-items.result.now c.loop-link.link-index c.link-item.result c.loop-link-test.true in
     let same = ap (λ (l : Link). l.weight) c.link-item.is in
     omega (arith, ints, more, same, c.loop-link.invariant, c.from-total.ensures, overflow_add-total g c)
+
+pub returns-clause-total : goal.returns-clause-total
+returns-clause-total g c = own_total c.args.self.now _ (rw (← c.self.view_is) c.self.invariant) (grind (arith, common_steps))
