@@ -6,7 +6,7 @@ use Rattle.gr_text.specs.Lines.{with_last, AreLines}
 use Rattle.gr_text.specs.Graph.{GraphValue}
 use Rattle.gr_text.specs.Fault.{IsFirstFaulty, IsFirstFault, IsEndedFault}
 use Rattle.gr_text.specs.Reading.{IsLineFault, IsGraphOfLines, IsLack}
-use Rattle.gr_text.specs.Partial.{is_begun}
+use Rattle.gr_text.specs.PartialLine.{is_begun}
 use Rattle.gr_text.specs.Reader.{ReadingValue, Stands, StopsBy, FailsBy, IsRead, IsReadWhole}
 use Rattle.gr_text.specs.declared.faults.GrKind.{GrKind}
 use Rattle.gr_text.specs.declared.faults.ReadFault.{ReadFault}

@@ -18,7 +18,7 @@ use Rattle.gr_text.specs.ForestText.{header_of, link_line, forest_text}
 use Rattle.gr_text.specs.Laws.{ForestTextMeansItsLinks, ForestTextGivesItself}
 use Rattle.link_key.specs.Forest.{IsForestOf}
 use Rattle.link_key.proofs.Keys.{link_eq, same_members}
-use Rattle.link_key.proofs.Least.{forest_is_lightest, no_cycle_is_its_forest}
+use Rattle.link_key.proofs.Least.{no_cycle_is_its_forest}
 use Rattle.gr_text.proofs.Texts.{means_one_graph}
 use Rattle.gr_text.proofs.Alls.{All-both, All-push}
 
@@ -261,11 +261,11 @@ same_keys (l ∷ xs) (m ∷ ys) e =
 same_keys xs ys e = absurd (cc)
 
 pub forest_text_gives_itself : ForestTextGivesItself
-forest_text_gives_itself n links forest few ends short is graph its (arcs, means, are) its_is =
+forest_text_gives_itself n forest few ends short up no_cycle graph its (arcs, means, are) its_is =
     let own = forest_text_means_its_links n forest few ends short in
     let one = means_one_graph (forest_text n forest) n graph.vertices own.0 arcs own.1 means in
     let same_links : graph.links ≡ forest = same_keys graph.links forest (are ∙ ap (λ (xs : List Arc). map arc_key (filter is_no_loop xs)) (sym one.1) ∙ sym own.2) in
     let is_its : IsForestOf forest its = subst (λ (xs : List Link). IsForestOf xs its) same_links its_is in
-    let all = no_cycle_is_its_forest forest its (forest_is_lightest links forest is).0.no_cycle is_its in
-    let same : its ≡ forest = same_members its forest is_its.ascending is.ascending all in
-    λ i. forest_text (sym one.0 i) (same i)
+    let all = no_cycle_is_its_forest forest its no_cycle is_its in
+    let same : its ≡ forest = same_members its forest is_its.ascending up all in
+    (sym one.0, same)

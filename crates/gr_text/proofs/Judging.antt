@@ -10,8 +10,8 @@ use Rattle.gr_text.specs.Reading.{Counts}
 use Rattle.gr_text.specs.Word.{IsCapped, LineMeans}
 use Rattle.gr_text.specs.declared.faults.GrKind.{GrKind}
 use Rattle.gr_text.specs.declared.sizes.Size.{Size}
-use Rattle.gr_text.specs.declared.words.Line.{Line}
-use Rattle.gr_text.specs.declared.words.Line.TheVariants as line
+use Rattle.gr_text.specs.declared.words.LineFields.{LineFields}
+use Rattle.gr_text.specs.declared.words.LineFields.TheVariants as line
 
 -- what lines say, by what is kept of them
 pub told_of : (size : Option Size) (count : ℕ) (lines : List (List ℕ)) → Counts size count lines → (told : Told) × AreTold lines told
@@ -37,7 +37,7 @@ short_problem : (fields others : List (List ℕ)) → fields ≡ codes "p" ∷ o
 short_problem fields others is few =
     ((others, is), λ n m (f, g, e, wf, wg). (let counted : length (codes "p" ∷ others) ≡ length (codes "p" ∷ codes "sp" ∷ f ∷ g ∷ []) = ap length (sym is ∙ e) in omega arith))
 
-pub no_problem : (l : Line) (fields : List (List ℕ)) → LineMeans l fields
+pub no_problem : (l : LineFields) (fields : List (List ℕ)) → LineMeans l fields
     → (l ≡ line.Problem) ⊎ (l ≡ line.ProblemSp) ⊎ ((n : ℕ) × (l ≡ line.ProblemVertices n)) ⊎ (l ≡ line.BadProblem) → AreOfSort fields NoProblem
 no_problem line.Problem fields is which = short_problem fields [] is (omega arith)
 no_problem line.ProblemSp fields is which = short_problem fields (codes "sp" ∷ []) is (omega arith)
@@ -50,7 +50,7 @@ short_arc : (fields others : List (List ℕ)) → fields ≡ codes "a" ∷ other
 short_arc fields others is few =
     ((others, is), λ arc (f, g, h, e, wf, wg, wh). (let counted : length (codes "a" ∷ others) ≡ length (codes "a" ∷ f ∷ g ∷ h ∷ []) = ap length (sym is ∙ e) in omega arith))
 
-pub no_arc : (l : Line) (fields : List (List ℕ)) → LineMeans l fields
+pub no_arc : (l : LineFields) (fields : List (List ℕ)) → LineMeans l fields
     → (l ≡ line.Arc) ⊎ ((u : ℕ) × (l ≡ line.ArcTail u)) ⊎ ((u v : ℕ) × (l ≡ line.ArcEnds u v)) ⊎ (l ≡ line.BadArc) → AreOfSort fields NoArc
 no_arc line.Arc fields is which = short_arc fields [] is (omega arith)
 no_arc (line.ArcTail u) fields (f, is, kept) which = short_arc fields (f ∷ []) is (omega arith)

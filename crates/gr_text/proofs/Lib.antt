@@ -5,7 +5,7 @@ pub mod Judging
 pub mod Unique
 pub mod Steps
 pub mod Parts
-pub mod PlainLines
+pub mod UsualLines
 pub mod Alls
 pub mod OrNot
 pub mod Sorts

@@ -1,7 +1,7 @@
 -- What follows a part of a line may go on with the field that it ends in, or begin with a blank.
 use Rattle.std.proofs.Common.{◌≡◌, ℕ, List, [], ◌∷◌, ◌++◌, refl, ap, sym, ◌∙◌, subst, append_assoc, append-nil, true, false}
 use Rattle.gr_text.specs.Fields.{IsBlank, IsFieldByte, AreFields}
-use Rattle.gr_text.specs.Partial.{with_field, AreParts, is_begun}
+use Rattle.gr_text.specs.PartialLine.{with_field, AreParts, is_begun}
 
 -- no byte yet: what follows has its own fields
 pub AreParts-none : AreParts [] [] []

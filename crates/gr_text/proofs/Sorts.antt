@@ -6,7 +6,7 @@ use Rattle.link_key.specs.Arc.{Arc}
 use Rattle.gr_text.specs.Fields.{IsDigit, number_of, Writes, WritesSigned}
 use Rattle.gr_text.specs.Statement.{Problem, ArcLine, AreSilent, FieldsSay}
 use Rattle.gr_text.specs.Sort.{LineSort, Nothing, Makes, NoProblem, NoArc, Unknown, AreOfSort, IsOfSort}
-use Rattle.gr_text.specs.Partial.{with_field, AreParts}
+use Rattle.gr_text.specs.PartialLine.{with_field, AreParts}
 use Rattle.gr_text.specs.Word.{BeginsComment}
 use Rattle.gr_text.proofs.OrNot.{both_or_not, either_or_not, within_or_not}
 use Rattle.gr_text.proofs.LineFields.{comment_of_silent}

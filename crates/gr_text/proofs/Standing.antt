@@ -5,17 +5,17 @@ use Rattle.link_key.specs.declared.links.Link.{Link}
 use Rattle.gr_text.specs.Lines.{IsLine, ended, EndsLines}
 use Rattle.gr_text.specs.Graph.{AreLawfulSoFar}
 use Rattle.gr_text.specs.Fault.{IsFirstFaulty}
-use Rattle.gr_text.specs.Reading.{SoFarValue, AreKept, Gives, IsLineFault}
-use Rattle.gr_text.specs.Partial.{IsKeptAs}
+use Rattle.gr_text.specs.Reading.{LinesSoFarValue, AreKept, Gives, IsLineFault}
+use Rattle.gr_text.specs.PartialLine.{IsKeptAs}
 use Rattle.gr_text.specs.Reader.{ReadingValue, Stands, StopsAt}
 use Rattle.gr_text.specs.declared.faults.ReadFault.{ReadFault}
 use Rattle.gr_text.specs.declared.faults.ReadFault.TheVariants as fault
-use Rattle.gr_text.specs.declared.partial.Partial.{Partial}
+use Rattle.gr_text.specs.declared.partial_line.PartialLine.{PartialLine}
 use Rattle.gr_text.specs.declared.sizes.Size.{Size}
 use Rattle.gr_text.proofs.Cuts.{EndsLines-bytes, EndsLines-line, EndsLines-more, cut_of}
 use Rattle.gr_text.proofs.Faulty.{first_faulty_at}
 
-pub lawful_of : (kept : SoFarValue) (lines : List (List ℕ)) → Gives kept lines → AreLawfulSoFar lines
+pub lawful_of : (kept : LinesSoFarValue) (lines : List (List ℕ)) → Gives kept lines → AreLawfulSoFar lines
 lawful_of kept lines = lawful_at kept.size kept.count kept.links lines
   where
     lawful_at : (size : Option Size) (count : ℕ) (links : List Link) (lines : List (List ℕ)) → AreKept size count links lines → AreLawfulSoFar lines
@@ -36,7 +36,7 @@ first_faulty lines part more fault.TooLong number lawful numbered no_such text r
 first_faulty lines part more fault.Memory number lawful numbered any text r cut = tt
 
 -- more bytes of a line
-pub Stands-part : (r : ReadingValue) (partial : Partial) (text more : List ℕ) → (stands : Stands r text) → IsLine more → IsKeptAs partial (stands.part ++ more)
+pub Stands-part : (r : ReadingValue) (partial : PartialLine) (text more : List ℕ) → (stands : Stands r text) → IsLine more → IsKeptAs partial (stands.part ++ more)
     → Stands (record r { partial = partial }) (text ++ more)
 Stands-part r partial text more stands is_line kept = record {
   lines = stands.lines;
@@ -48,7 +48,7 @@ Stands-part r partial text more stands is_line kept = record {
 }
 
 -- the rest of a line with its line feed, where the line is taken
-pub Stands-line : (r : ReadingValue) (fresh : Partial) (so_far : SoFarValue) (text line : List ℕ) → (stands : Stands r text) → IsLine line → IsKeptAs fresh []
+pub Stands-line : (r : ReadingValue) (fresh : PartialLine) (so_far : LinesSoFarValue) (text line : List ℕ) → (stands : Stands r text) → IsLine line → IsKeptAs fresh []
     → Gives so_far (stands.lines ++ (stands.part ++ line) ∷ []) → Stands (record { number = r.number + 1; partial = fresh; so_far = so_far }) (text ++ ended line)
 Stands-line r fresh so_far text line stands is_line none gives = record {
   lines = stands.lines ++ (stands.part ++ line) ∷ [];

@@ -1,5 +1,5 @@
 -- What lines say when one more comes.
-use Rattle.std.proofs.Common.{◌≡◌, ℕ, ◌+◌, ◌<◌, ◌≤◌, inl, inr, List, [], ◌∷◌, ◌++◌, refl, ap, sym, ◌∙◌, subst, arith, append-nil, map, length, Option, Some, None, cond, true, false, Bool, ℤ, Result, Ok, Err, MatchResult}
+use Rattle.std.proofs.Common.{◌≡◌, ℕ, ◌+◌, ◌<◌, ◌≤◌, inl, inr, List, [], ◌∷◌, ◌++◌, refl, ap, sym, ◌∙◌, subst, arith, append-nil, map, length, Option, Some, None, cond, true, false, Bool, Result, Ok, Err, MatchResult}
 use Rattle.std.specs.List.{filter}
 use Rattle.std.proofs.lemmas.List.{map-append, length_push}
 use Rattle.std.proofs.lemmas.List.Elements.{filter-append}
@@ -10,7 +10,7 @@ use Rattle.link_key.specs.Link.{Key, key_of, arc_key, is_no_loop, AreLinksOf}
 use Rattle.link_key.specs.declared.links.Link.{Link}
 use Rattle.gr_text.specs.Statement.{Statement, Problem, ArcLine, IsSilent, Says, Say}
 use Rattle.gr_text.specs.Graph.{IsArcOf, AreLawfulLines}
-use Rattle.gr_text.specs.Reading.{SoFarValue, Counts, AreKept, Gives, Judges, AddsLink, AddsArc, IsLineFault}
+use Rattle.gr_text.specs.Reading.{LinesSoFarValue, Counts, AreKept, Gives, Judges, AddsLink, AddsArc, IsLineFault}
 use Rattle.gr_text.proofs.Alls.{All-push}
 use Rattle.gr_text.specs.declared.sizes.Size.{Size}
 use Rattle.gr_text.specs.declared.faults.ReadFault.{ReadFault}
@@ -94,12 +94,11 @@ links_with arcs old new arc are (inl (same, is)) =
 links_with arcs old new arc are (inr (differ, (link, key, is))) =
     rw is (AreLinksOf-link arcs old arc link are (grind (arith, nat_tests)) key)
 
-pub Gives-arc : (size size' : Option Size) (count count' : ℕ) (old new : List Link) (lines : List (List ℕ)) (line : List ℕ) (u v : ℕ) (w : ℤ)
-    → AreKept size count old lines → Judges (verdict.Adds u v w) size count lines line → size' ≡ size → count' ≡ count + 1
-    → AddsLink old new (record { tail = u; head = v; weight = w }) → AreKept size' count' new (lines ++ line ∷ [])
-Gives-arc None size' count count' old new lines line u v w gives judged same more adds = absurd judged
-Gives-arc (Some size) size' count count' old new lines line u v w (arcs, lawful, counted, are) (says, is_arc, room) same more adds =
-    let arc : Arc = record { tail = u; head = v; weight = w } in
+pub Gives-arc : (size size' : Option Size) (count count' : ℕ) (old new : List Link) (lines : List (List ℕ)) (line : List ℕ) (arc : Arc)
+    → AreKept size count old lines → Judges (verdict.Adds arc) size count lines line → size' ≡ size → count' ≡ count + 1
+    → AddsLink old new arc → AreKept size' count' new (lines ++ line ∷ [])
+Gives-arc None size' count count' old new lines line arc gives judged same more adds = absurd judged
+Gives-arc (Some size) size' count count' old new lines line arc (arcs, lawful, counted, are) (says, is_arc, room) same more adds =
     subst (λ (s : Option Size). AreKept s count' new (lines ++ line ∷ [])) (sym same) (
       arcs ++ arc ∷ [],
       AreLawfulLines-arc lines line size.vertices size.arcs arcs arc lawful says is_arc (omega arith),
@@ -107,10 +106,10 @@ Gives-arc (Some size) size' count count' old new lines line u v w (arcs, lawful,
       links_with arcs old new arc are adds,
     )
 
-pub arc_taken : {X : Type 0} (r : Result X ReadFault) (old new : SoFarValue) (lines : List (List ℕ)) (line : List ℕ) (u v : ℕ) (w : ℤ) (number : ℕ)
-    → MatchResult r (λ _. AddsArc old new (record { tail = u; head = v; weight = w })) (λ e. e ≡ fault.Memory)
-    → Gives old lines → Judges (verdict.Adds u v w) old.size old.count lines line
+pub arc_taken : {X : Type 0} (r : Result X ReadFault) (old new : LinesSoFarValue) (lines : List (List ℕ)) (line : List ℕ) (arc : Arc) (number : ℕ)
+    → MatchResult r (λ _. AddsArc old new arc) (λ e. e ≡ fault.Memory)
+    → Gives old lines → Judges (verdict.Adds arc) old.size old.count lines line
     → MatchResult r (λ _. Gives new (lines ++ line ∷ [])) (λ e. IsLineFault e number lines line)
-arc_taken (Ok x) old new lines line u v w number (same, more, adds) gives judged =
-    Gives-arc old.size new.size old.count new.count old.links new.links lines line u v w gives judged same more adds
-arc_taken (Err e) old new lines line u v w number is gives judged = rw is tt
+arc_taken (Ok x) old new lines line arc number (same, more, adds) gives judged =
+    Gives-arc old.size new.size old.count new.count old.links new.links lines line arc gives judged same more adds
+arc_taken (Err e) old new lines line arc number is gives judged = rw is tt

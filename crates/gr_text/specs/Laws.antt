@@ -1,10 +1,11 @@
 -- What the definitions promise of every text.
-use Rattle.std.specs.Prelude.{◌≡◌, ℕ, ◌≤◌, ◌⊎◌, List, length}
+use Rattle.std.specs.Prelude.{◌≡◌, ℕ, ◌≤◌, ◌⊎◌, List, length, Contains}
 use Rattle.limits.specs.declared.TheConstants.{MAX_ARCS, MAX_VERTICES}
 use Rattle.link_key.specs.Arc.{Arc}
-use Rattle.link_key.specs.Link.{EndsUpTo}
+use Rattle.link_key.specs.Link.{EndsUpTo, IsAscending}
 use Rattle.link_key.specs.declared.links.Link.{Link}
 use Rattle.link_key.specs.Forest.{IsForestOf}
+use Rattle.link_key.specs.LinkSet.{HasNoCycle}
 use Rattle.gr_text.specs.Graph.{Means, GraphValue, IsGraphOf}
 use Rattle.gr_text.specs.ForestText.{forest_text}
 use Rattle.gr_text.specs.Fault.{IsFirstFault}
@@ -33,9 +34,9 @@ ForestTextMeansItsLinks =
     (n : ℕ) (forest : List Link) → n ≤ MAX_VERTICES → EndsUpTo n forest → length forest ≤ MAX_ARCS
     → IsGraphOf (forest_text n forest) (record { vertices = n; links = forest })
 
--- so the text of a forest is a graph's whose forest has that text again
+-- so the text of ascending links that close no cycle means a graph of which they are the forest
 abbrev pub ForestTextGivesItself : Type 0
 ForestTextGivesItself =
-    (n : ℕ) (links forest : List Link) → n ≤ MAX_VERTICES → EndsUpTo n forest → length forest ≤ MAX_ARCS → IsForestOf links forest
+    (n : ℕ) (forest : List Link) → n ≤ MAX_VERTICES → EndsUpTo n forest → length forest ≤ MAX_ARCS → IsAscending forest → HasNoCycle (Contains forest)
     → (graph : GraphValue) (its : List Link) → IsGraphOf (forest_text n forest) graph → IsForestOf graph.links its
-    → forest_text graph.vertices its ≡ forest_text n forest
+    → (graph.vertices ≡ n) × (its ≡ forest)

@@ -7,8 +7,8 @@ pub mod Sort
 pub mod Fault
 pub mod Word
 pub mod Reading
-pub mod Partial
-pub mod PlainArc
+pub mod PartialLine
+pub mod UsualArc
 pub mod Reader
 pub mod Sourced
 pub mod Written

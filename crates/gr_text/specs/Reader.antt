@@ -3,17 +3,17 @@ use Rattle.std.specs.Prelude.{◌≡◌, ℕ, ◌+◌, ◌<◌, ◌≤◌, ◌�
 use Rattle.gr_text.specs.Lines.{EndsLines}
 use Rattle.gr_text.specs.Graph.{GraphValue, IsGraphOf}
 use Rattle.gr_text.specs.Fault.{IsFirstFault, IsEndedFault, HasLawfulLines}
-use Rattle.gr_text.specs.Reading.{SoFarValue, Gives}
-use Rattle.gr_text.specs.Partial.{IsKeptAs}
+use Rattle.gr_text.specs.Reading.{LinesSoFarValue, Gives}
+use Rattle.gr_text.specs.PartialLine.{IsKeptAs}
 use Rattle.gr_text.specs.declared.faults.ReadFault.{ReadFault}
 use Rattle.gr_text.specs.declared.faults.ReadFault.TheVariants as fault
-use Rattle.gr_text.specs.declared.partial.Partial.{Partial}
+use Rattle.gr_text.specs.declared.partial_line.PartialLine.{PartialLine}
 
 -- what is kept of a text: the number of the line that is coming, its part that has come, and what the lines before say
 pub record ReadingValue : Type 0 where
   pub number : ℕ
-  pub partial : Partial
-  pub so_far : SoFarValue
+  pub partial : PartialLine
+  pub so_far : LinesSoFarValue
 
 -- the text is whole lines that give this, and then a part of a line, which is kept so
 pub record Stands (reading : ReadingValue) (text : List ℕ) : Type 0 where

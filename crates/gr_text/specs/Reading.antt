@@ -5,7 +5,7 @@ use Rattle.link_key.specs.Arc.{Arc}
 use Rattle.link_key.specs.Link.{key_of, arc_key, AreLinksOf, EndsUpTo}
 use Rattle.link_key.specs.declared.links.Link.{Link}
 use Rattle.gr_text.specs.Statement.{Problem, ArcLine, IsSilent, Says, Say}
-use Rattle.gr_text.specs.Graph.{GraphValue, IsArcOf, AreLawfulLines}
+use Rattle.gr_text.specs.Graph.{GraphValue, HasEnds, IsArcOf, AreLawfulLines}
 use Rattle.gr_text.specs.Fault.{IsFaultAfter, Lacks}
 use Rattle.gr_text.specs.declared.faults.ReadFault.{ReadFault}
 use Rattle.gr_text.specs.declared.faults.ReadFault.TheVariants as fault
@@ -22,8 +22,7 @@ Counts (Some size) count lines = (arcs : List Arc) × AreLawfulLines lines size.
 abbrev pub FitsAfter : Verdict → Option Size → ℕ → Type 0
 FitsAfter verdict.Silent size count = Unit {0}
 FitsAfter (verdict.Begins new) size count = size ≡ None
-FitsAfter (verdict.Adds u v w) size count =
-    (old : Size) × (size ≡ Some old) × (1 ≤ u) × (u ≤ old.vertices) × (1 ≤ v) × (v ≤ old.vertices) × (count < old.arcs)
+FitsAfter (verdict.Adds arc) size count = (old : Size) × (size ≡ Some old) × HasEnds old.vertices arc × (count < old.arcs)
 FitsAfter (verdict.Faulty kind) size count = Unit {0}
 
 -- what is kept of any lines: no more arcs than the problem states, and links of its vertices, no more than arcs
@@ -36,10 +35,8 @@ abbrev pub Judges : Verdict → Option Size → ℕ → List (List ℕ) → List
 Judges verdict.Silent size count lines line = IsSilent line
 Judges (verdict.Begins new) size count lines line = (size ≡ None) × Says line (Problem new.vertices new.arcs)
     × (new.vertices ≤ MAX_VERTICES) × (new.arcs ≤ MAX_ARCS)
-Judges (verdict.Adds u v w) None count lines line = ⊥
-Judges (verdict.Adds u v w) (Some size) count lines line =
-    Says line (ArcLine (record { tail = u; head = v; weight = w }))
-    × IsArcOf size.vertices (record { tail = u; head = v; weight = w }) × (count < size.arcs)
+Judges (verdict.Adds arc) None count lines line = ⊥
+Judges (verdict.Adds arc) (Some size) count lines line = Says line (ArcLine arc) × IsArcOf size.vertices arc × (count < size.arcs)
 Judges (verdict.Faulty kind) size count lines line = IsFaultAfter lines line kind
 
 -- the same of each such line, after any lines that state this problem, if one, and as many arcs
@@ -49,7 +46,7 @@ JudgesEach verdict size count IsSuch =
 
 -- what is kept of whole lines: what their problem line states, once it has come; how many arc lines they have; and the
 -- links of these
-pub record SoFarValue : Type 0 where
+pub record LinesSoFarValue : Type 0 where
   pub size : Option Size
   pub count : ℕ
   pub links : List Link
@@ -60,7 +57,7 @@ AreKept None count links lines = Say lines [] × (count ≡ 0) × (links ≡ [])
 AreKept (Some size) count links lines = (arcs : List Arc) × AreLawfulLines lines size.vertices size.arcs arcs × (length arcs ≡ count) × AreLinksOf arcs links
 
 -- this is what is kept of the lines
-abbrev pub Gives : SoFarValue → List (List ℕ) → Type 0
+abbrev pub Gives : LinesSoFarValue → List (List ℕ) → Type 0
 Gives kept lines = AreKept kept.size kept.count kept.links lines
 
 -- why a line wasn't taken: its fault, or memory
@@ -71,7 +68,7 @@ IsLineFault fault.TooLong number lines line = ⊥
 IsLineFault fault.Memory number lines line = Unit {0}
 
 -- a line of this number behind these lines was taken, so that this is kept of all, or has this fault
-abbrev pub IsTaken : {X : Type 0} → Result X ReadFault → SoFarValue → ℕ → List (List ℕ) → List ℕ → Type 0
+abbrev pub IsTaken : {X : Type 0} → Result X ReadFault → LinesSoFarValue → ℕ → List (List ℕ) → List ℕ → Type 0
 IsTaken result kept number lines line = MatchResult result (λ _. Gives kept (lines ++ line ∷ [])) (λ e. IsLineFault e number lines line)
 
 -- the links with that of one more arc
@@ -80,7 +77,7 @@ AddsLink old new arc = ((arc.tail ≡ arc.head) × (new ≡ old))
     ⊎ ((arc.tail ≢ arc.head) × ((link : Link) × (key_of link ≡ arc_key arc) × (new ≡ old ++ link ∷ [])))
 
 -- one more arc is kept
-abbrev pub AddsArc : SoFarValue → SoFarValue → Arc → Type 0
+abbrev pub AddsArc : LinesSoFarValue → LinesSoFarValue → Arc → Type 0
 AddsArc old new arc = (new.size ≡ old.size) × (new.count ≡ old.count + 1) × AddsLink old.links new.links arc
 
 -- the graph of whole lines

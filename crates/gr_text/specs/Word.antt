@@ -5,8 +5,8 @@ use Rattle.gr_text.specs.Fields.{Writes, WritesSigned}
 use Rattle.gr_text.specs.Statement.{Statement, Problem, ArcLine, AreSilent, FieldsSay, Says}
 use Rattle.gr_text.specs.declared.words.Word.{Word}
 use Rattle.gr_text.specs.declared.words.Word.TheVariants as word
-use Rattle.gr_text.specs.declared.words.Line.{Line}
-use Rattle.gr_text.specs.declared.words.Line.TheVariants as line
+use Rattle.gr_text.specs.declared.words.LineFields.{LineFields}
+use Rattle.gr_text.specs.declared.words.LineFields.TheVariants as line
 
 -- the largest number that is kept as it is; any greater one is kept as this
 abbrev pub cap : ℕ
@@ -69,7 +69,7 @@ IsArcLine (Problem n m) = ⊥
 IsArcLine (ArcLine arc) = Unit {0}
 
 -- the fields of a line that have come are as this says
-abbrev pub LineMeans : Line → List (List ℕ) → Type 0
+abbrev pub LineMeans : LineFields → List (List ℕ) → Type 0
 LineMeans line.Nothing fields = fields ≡ []
 LineMeans line.Comment fields = (fields ≢ []) × AreSilent fields
 LineMeans line.Unknown fields = (first : List ℕ) × (others : List (List ℕ)) × (fields ≡ first ∷ others)

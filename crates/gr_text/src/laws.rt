@@ -17,7 +17,8 @@ pub fn a_text_has_one_first_fault()
     ensures { HasOneFault }
 {}
 
-/// The text of a forest means just its links, and the forest of these has that text again.
+/// The text of a forest means just its links; and where they ascend and close no cycle, they are the forest of what it
+/// means, which so has that text again.
 pub fn a_forest_text_means_its_links()
     ensures links { ForestTextMeansItsLinks }
     ensures itself { ForestTextGivesItself }

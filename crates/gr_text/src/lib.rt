@@ -1,42 +1,39 @@
-//! The `.gr` text of the 9th DIMACS Implementation Challenge, read as an undirected graph, and the text
-//! of a forest.
-//!
-//! **What it promises.** A text, a source or pieces fed one after another give a graph exactly where they
-//! mean one; else the fault of the first faulty line, with its number and its kind ([`GrFault`]). The
-//! text of a forest goes out byte for byte, or it is told how many of its bytes did. [`laws`] says
-//! that these words leave nothing open: a text means one graph or has one first fault, and never both.
-//!
-//! **How it is built.** A byte goes into `words` (the field that is coming), a field into a `Line` (the
-//! line so far), a line into `so_far` (what the whole lines say) after a verdict of `verdicts`. An arc
-//! line in its usual form that lies whole in a piece is read at once instead, by `plain`:
+//! The `.gr` text of the 9th DIMACS Implementation Challenge, read as an undirected graph, and the text of a forest. A
+//! reader is fed with pieces of any lengths, and keeps no text.
 //!
 //! ```text
-//! source --sourced--> pieces --reader--> bytes --partial/words or plain--> lines --verdicts/so_far--> graph
+//! source --sourced--> pieces --reader--> bytes --partial_line/words or usual_line--> lines
+//! lines --verdicts/lines_so_far--> graph
 //! forest --spelled--> lines --piece--> 8 KiB --writer--> sink
 //! ```
 //!
-//! Each layer's contract says what its state stands for, by relations over whole fields, lines and texts
-//! (`specs/`); no layer keeps the text.
+//! What it promises:
+//! - A text, a source or pieces give a graph exactly where they mean one; else the fault of the first faulty line, with
+//!   its number and its kind ([`GrFault`]).
+//! - The text of a forest goes out byte for byte, or it is told how many of its bytes did.
+//! - A text means one graph or has one first fault, and never both; a forest's text means just its links ([`laws`]).
 //!
-//! **Where to start a change.** What a line may say: `specs/Statement.antt`, then `words`. What is wrong
-//! with a line, and which fault comes first: `specs/Fault.antt`, then `verdicts`. The limits of vertices,
-//! arc lines and bytes: the crate `limits`, whose names code, contracts and `specs/` cite. That of weights:
-//! `IsWeight` in `specs/Graph.antt`, then `verdicts`.
+//! Where to start a change: what a line may say, `specs/Statement`, then `words`; what is wrong with a line, and which
+//! fault comes first, `specs/Fault`, then `verdicts`; the limits of vertices, arc lines and bytes, the crate `limits`;
+//! that of weights, `IsWeight` in `specs/Graph`, then `verdicts`. A byte goes into a `Word` (the field that is
+//! coming), a field into `LineFields` (those of its line), a line into `LinesSoFar` (what the whole lines say); an arc
+//! line in its usual form that lies whole in a piece is read at once, by `usual_line`.
 #![tactic(auto)]
 
+mod arcs;
 mod faults;
 mod graphs;
 pub mod laws;
+mod lines_so_far;
 mod parsing;
-mod partial;
+mod partial_line;
 mod piece;
-mod plain;
 mod reader;
 mod reading;
 mod sizes;
-mod so_far;
 mod sourced;
 mod spelled;
+mod usual_line;
 mod verdicts;
 mod words;
 mod writer;

@@ -3,8 +3,8 @@ ghost use Rattle.gr_text.specs.Reader.{Stands, StopsAt, IsReadWhole};
 
 use crate::faults::ReadFault;
 use crate::graphs::Graph;
-use crate::partial::Partial;
-use crate::so_far::SoFar;
+use crate::lines_so_far::LinesSoFar;
+use crate::partial_line::PartialLine;
 use std::alloc::Allocator;
 use std::marker::Model;
 
@@ -14,9 +14,9 @@ pub(crate) struct Reading<A: Allocator> {
     /// The number of the line that is being read.
     number: u64,
     /// The part of it that has come.
-    partial: Partial,
+    partial: PartialLine,
     /// What the lines before it say.
-    so_far: SoFar<A>,
+    so_far: LinesSoFar<A>,
 }
 
 impl<A: Allocator> Model for Reading<A> {
@@ -35,8 +35,8 @@ impl<A: Allocator> Reading<A> {
     {
         Reading {
             number: 1,
-            partial: Partial::new(),
-            so_far: SoFar::new(alloc),
+            partial: PartialLine::new(),
+            so_far: LinesSoFar::new(alloc),
         }
     }
 

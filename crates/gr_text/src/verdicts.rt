@@ -1,13 +1,14 @@
 ghost use Rattle.std.specs.Prelude.{◌≡◌, ℕ, ℤ, MatchOption};
 ghost use Rattle.gr_text.specs.Word.{IsCappedSigned, KeepsArc, KeepsProblem};
-ghost use Rattle.gr_text.specs.Partial.{IsWhole};
+ghost use Rattle.gr_text.specs.PartialLine.{IsWhole};
 ghost use Rattle.gr_text.specs.Reading.{FitsAfter, JudgesEach};
 ghost use Rattle.gr_text.specs.Sort.{IsOfSort, NoArc, NoProblem};
 ghost use Rattle.gr_text.specs.Graph.{IsWeight};
 
+use crate::arcs::Arc;
 use crate::faults::GrKind;
 use crate::sizes::Size;
-use crate::words::Line;
+use crate::words::LineFields;
 use limits::{MAX_ARCS, MAX_VERTICES};
 
 /// What a line does after those before it.
@@ -17,8 +18,8 @@ pub(crate) enum Verdict {
     Silent,
     /// It states the problem.
     Begins(Size),
-    /// It adds an arc: its tail, its head and its weight.
-    Adds(u32, u32, i32),
+    /// It adds this arc.
+    Adds(Arc),
     /// It has a fault.
     Faulty(GrKind),
 }
@@ -26,18 +27,21 @@ pub(crate) enum Verdict {
 /// Judges a line by the lines before it: `size` is what their problem line states, where there is one, and
 /// `count` how many arc lines they have. In constant time.
 #[inline(always)]
-pub(crate) fn judge(size: Option<Size>, count: u32, line: Line) -> Verdict
+pub(crate) fn judge(size: Option<Size>, count: u32, line: LineFields) -> Verdict
     ensures fits { FitsAfter result size count }
     ensures told { JudgesEach result size count (IsWhole line) }
 {
     match line {
-        Line::Nothing | Line::Comment => Verdict::Silent,
-        Line::Unknown => Verdict::Faulty(GrKind::UnknownLine),
-        Line::ProblemWhole(n, m) => judge_problem(size, n, m),
-        Line::Problem | Line::ProblemSp | Line::ProblemVertices(_) | Line::BadProblem =>
-            bad_problem(size),
-        Line::ArcWhole(u, v, w) => judge_arc(size, count, u, v, w),
-        Line::Arc | Line::ArcTail(_) | Line::ArcEnds(_, _) | Line::BadArc => bad_arc(size, count),
+        LineFields::Nothing | LineFields::Comment => Verdict::Silent,
+        LineFields::Unknown => Verdict::Faulty(GrKind::UnknownLine),
+        LineFields::ProblemWhole(n, m) => judge_problem(size, n, m),
+        LineFields::Problem
+        | LineFields::ProblemSp
+        | LineFields::ProblemVertices(_)
+        | LineFields::BadProblem => bad_problem(size),
+        LineFields::ArcWhole(u, v, w) => judge_arc(size, count, u, v, w),
+        LineFields::Arc | LineFields::ArcTail(_) | LineFields::ArcEnds(_, _) | LineFields::BadArc =>
+            bad_arc(size, count),
     }
 }
 
@@ -82,7 +86,11 @@ fn judge_arc(size: Option<Size>, count: u32, u: u32, v: u32, w: i64) -> Verdict
         return Verdict::Faulty(GrKind::EndOutOfRange);
     }
     match weight_of(w) {
-        Some(w) => Verdict::Adds(u, v, w),
+        Some(weight) => Verdict::Adds(Arc {
+            tail: u,
+            head: v,
+            weight,
+        }),
         None => Verdict::Faulty(GrKind::WeightOutOfRange),
     }
 }

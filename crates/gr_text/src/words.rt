@@ -34,7 +34,7 @@ pub(crate) enum Word {
 ///
 /// `Bad..` is a line whose first field is known, and which is unlawful whatever fields follow.
 #[derive(Clone, Copy)]
-pub(crate) enum Line {
+pub(crate) enum LineFields {
     Nothing,
     Comment,
     Unknown,
@@ -148,57 +148,57 @@ impl Word {
     }
 }
 
-impl Line {
+impl LineFields {
     // The line that begins with this field.
-    fn begun(first: Word) -> Line
+    fn begun(first: Word) -> LineFields
         ensures { (field : List ℕ) → field ≢ [] → WordMeans first field → LineMeans result (field ∷ []) }
     {
         match first {
-            Word::LetterP => Line::Problem,
-            Word::LetterA => Line::Arc,
-            Word::Comment => Line::Comment,
-            _ => Line::Unknown,
+            Word::LetterP => LineFields::Problem,
+            Word::LetterA => LineFields::Arc,
+            Word::Comment => LineFields::Comment,
+            _ => LineFields::Unknown,
         }
     }
 
     /// The line with one more whole field. In constant time.
-    pub(crate) fn then(self, word: Word) -> Line
+    pub(crate) fn then(self, word: Word) -> LineFields
         ensures { (fields : List (List ℕ)) (field : List ℕ) → field ≢ [] → LineMeans self fields → WordMeans word field
             → LineMeans result (fields ++ field ∷ []) }
     {
         match self {
-            Line::Nothing => Line::begun(word),
-            Line::Comment => Line::Comment,
-            Line::Unknown => Line::Unknown,
-            Line::Problem => if word.is_sp() {
-                Line::ProblemSp
+            LineFields::Nothing => LineFields::begun(word),
+            LineFields::Comment => LineFields::Comment,
+            LineFields::Unknown => LineFields::Unknown,
+            LineFields::Problem => if word.is_sp() {
+                LineFields::ProblemSp
             } else {
-                Line::BadProblem
+                LineFields::BadProblem
             },
-            Line::ProblemSp => match word.as_number() {
-                Some(n) => Line::ProblemVertices(n),
-                None => Line::BadProblem,
+            LineFields::ProblemSp => match word.as_number() {
+                Some(n) => LineFields::ProblemVertices(n),
+                None => LineFields::BadProblem,
             },
-            Line::ProblemVertices(n) => match word.as_number() {
-                Some(m) => Line::ProblemWhole(n, m),
-                None => Line::BadProblem,
+            LineFields::ProblemVertices(n) => match word.as_number() {
+                Some(m) => LineFields::ProblemWhole(n, m),
+                None => LineFields::BadProblem,
             },
-            Line::ProblemWhole(_, _) => Line::BadProblem,
-            Line::BadProblem => Line::BadProblem,
-            Line::Arc => match word.as_number() {
-                Some(u) => Line::ArcTail(u),
-                None => Line::BadArc,
+            LineFields::ProblemWhole(_, _) => LineFields::BadProblem,
+            LineFields::BadProblem => LineFields::BadProblem,
+            LineFields::Arc => match word.as_number() {
+                Some(u) => LineFields::ArcTail(u),
+                None => LineFields::BadArc,
             },
-            Line::ArcTail(u) => match word.as_number() {
-                Some(v) => Line::ArcEnds(u, v),
-                None => Line::BadArc,
+            LineFields::ArcTail(u) => match word.as_number() {
+                Some(v) => LineFields::ArcEnds(u, v),
+                None => LineFields::BadArc,
             },
-            Line::ArcEnds(u, v) => match word.as_signed() {
-                Some(w) => Line::ArcWhole(u, v, w),
-                None => Line::BadArc,
+            LineFields::ArcEnds(u, v) => match word.as_signed() {
+                Some(w) => LineFields::ArcWhole(u, v, w),
+                None => LineFields::BadArc,
             },
-            Line::ArcWhole(_, _, _) => Line::BadArc,
-            Line::BadArc => Line::BadArc,
+            LineFields::ArcWhole(_, _, _) => LineFields::BadArc,
+            LineFields::BadArc => LineFields::BadArc,
         }
     }
 }

@@ -44,9 +44,9 @@ returns-in-Some-weight_of-clause-told c = λ lines bytes counts (arc, says, tail
     let n = c.in-Some.size.vertices in
     let told = c.in-Some-weight_of.ensures arc.weight (subst (λ (z : ℤ). IsCappedSigned z arc.weight) (sym (to_z-of_z w64 c.args.w c.ranges.w)) weight) in
     let ends = ends_of n c.args.u c.args.v arc lawful.vertices tail head c.if-u-lt1.false c.if-u-size.false c.if-v-lt1.false c.if-v-size.false in
-    let fits : SFits w32 c.in-Some-weight_of.w = search rules in
-    let weight_is : to_z w32 (of_z w32 c.in-Some-weight_of.w) ≡ arc.weight = to_z-of_z w32 c.in-Some-weight_of.w fits ∙ told.0 in
-    let kept : Arc = record { tail = c.args.u; head = c.args.v; weight = to_z w32 (of_z w32 c.in-Some-weight_of.w) } in
+    let fits : SFits w32 c.in-Some-weight_of.weight = search rules in
+    let weight_is : to_z w32 (of_z w32 c.in-Some-weight_of.weight) ≡ arc.weight = to_z-of_z w32 c.in-Some-weight_of.weight fits ∙ told.0 in
+    let kept : Arc = record { tail = c.args.u; head = c.args.v; weight = to_z w32 (of_z w32 c.in-Some-weight_of.weight) } in
     let same = arc_unique arc kept (kept_end c.args.u arc.tail n tail c.if-u-size.false lawful.vertices) (kept_end c.args.v arc.head n head c.if-v-size.false lawful.vertices) (sym weight_is) in
-    subst (λ (s : Option Size). Judges (verdict.Adds kept.tail kept.head kept.weight) s c.args.count lines bytes) (sym c.in-Some.is)
+    subst (λ (s : Option Size). Judges (verdict.Adds kept) s c.args.count lines bytes) (sym c.in-Some.is)
     (subst (λ (a : Arc). Says bytes (ArcLine a)) same says, subst (IsArcOf n) same (ends, told.1), c.if-count-size.false)

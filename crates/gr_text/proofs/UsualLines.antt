@@ -1,0 +1,180 @@
+-- A usual arc line: its fields, its bytes, and that it is read whole.
+use Rattle.std.proofs.Common.{◌≡◌, ◌≢◌, ℕ, ℤ, suc, ◌+◌, ◌-◌, ◌<◌, ◌≤◌, inl, inr, List, [], ◌∷◌, ◌++◌, refl, ap, sym, ◌∙◌, subst, arith, append_assoc, append-nil, codes, length, take, drop, get_or}
+use Rattle.std.specs.List.{AllByRecursion}
+use Rattle.std.proofs.lemmas.List.{take_more, take-append-drop, drop-append-le, take_rest}
+use Rattle.std.proofs.Math.Seq.{take-append-add}
+use Rattle.gr_text.specs.Lines.{line_feed, IsLine, ended}
+use Rattle.gr_text.specs.Fields.{IsFieldByte, BeginsBlank, AreFields, IsDigit}
+use Rattle.gr_text.specs.Word.{KeepsSigned}
+use Rattle.gr_text.specs.PartialLine.{IsWhole}
+use Rattle.gr_text.specs.UsualArc.{IsShort, IsShortSigned, IsUsualArc, BeginsWithShort, HasShortBefore, HasNoShort}
+use Rattle.gr_text.specs.declared.words.LineFields.TheVariants.{ArcWhole}
+use Rattle.gr_text.proofs.Alls.{All-both, All-parts}
+use Rattle.gr_text.proofs.Unique.{prefix_unique}
+
+all_as : (P Q : ℕ → Type 0) → ((b : ℕ) → P b → Q b) → (xs : List ℕ) → AllByRecursion P xs → AllByRecursion Q xs
+all_as P Q weaker [] all = tt
+all_as P Q weaker (x ∷ xs) all = (weaker x all.0, all_as P Q weaker xs all.1)
+
+-- no blank and no line feed
+abbrev Inner : ℕ → Type 0
+Inner b = 32 < b
+
+inner_of_digit : (b : ℕ) → IsDigit b → Inner b
+inner_of_digit b digit = omega (arith, digit.0)
+
+field_of_inner : (b : ℕ) → Inner b → IsFieldByte b
+field_of_inner b inner blank = elim blank [ inl e ↦ omega arith | inr (inl e) ↦ omega arith | inr (inr e) ↦ omega arith ]
+
+no_feed_of_inner : (b : ℕ) → Inner b → b ≢ line_feed
+no_feed_of_inner b inner is = omega arith
+
+-- a number's bytes, without and with a sign
+pub record IsInner (field : List ℕ) : Type 0 where
+  pub some : field ≢ []
+  pub all : AllByRecursion Inner field
+
+inner_of_short : (field : List ℕ) → IsShort field → IsInner field
+inner_of_short field short = record { some = short.some; all = all_as IsDigit Inner inner_of_digit field short.digits }
+
+inner_of_signed : (field : List ℕ) → IsShortSigned field → IsInner field
+inner_of_signed field (inl short) = inner_of_short field short
+inner_of_signed field (inr (digits, is, short)) =
+    subst IsInner (sym is) (record { some = λ (e : 45 ∷ digits ≡ []). cc; all = (omega arith, all_as IsDigit Inner inner_of_digit digits short.digits) })
+
+-- a field behind a space
+behind_space : (field after : List ℕ) (others : List (List ℕ)) → IsInner field → BeginsBlank after → AreFields after others → AreFields (32 ∷ (field ++ after)) (field ∷ others)
+behind_space field after others inner begins are =
+    (32 ∷ [], after, (inl refl, tt), inner.some, all_as Inner IsFieldByte field_of_inner field inner.all, refl, begins, are)
+
+usual_fields : (line : List ℕ) → (usual : IsUsualArc line) → AreFields line (codes "a" ∷ usual.tail ∷ usual.head ∷ usual.weight ∷ [])
+usual_fields line usual =
+    let tail = usual.tail in
+    let head = usual.head in
+    let weight = usual.weight in
+    let last : AreFields (32 ∷ weight) (weight ∷ []) = subst (λ (xs : List ℕ). AreFields (32 ∷ xs) (weight ∷ [])) (append-nil weight)
+    (behind_space weight [] [] (inner_of_signed weight usual.short_weight) tt tt) in
+    let two = behind_space head (32 ∷ weight) (weight ∷ []) (inner_of_short head usual.short_head) (inl refl) last in
+    let three = behind_space tail (32 ∷ (head ++ 32 ∷ weight)) (head ∷ weight ∷ []) (inner_of_short tail usual.short_tail) (inl refl) two in
+    subst (λ (xs : List ℕ). AreFields xs (codes "a" ∷ tail ∷ head ∷ weight ∷ [])) (sym usual.spelled)
+    ([], 32 ∷ (tail ++ 32 ∷ (head ++ 32 ∷ weight)), tt, (λ (e : codes "a" ≡ []). cc), (field_of_inner 97 (omega arith), tt), refl, inl refl, three)
+
+-- it has no line feed
+pub usual_is_line : (line : List ℕ) → IsUsualArc line → IsLine line
+usual_is_line line usual =
+    let P : ℕ → Type 0 = λ b. b ≢ line_feed in
+    let no_feed : (field : List ℕ) → IsInner field → AllByRecursion P field = λ field inner. all_as Inner P no_feed_of_inner field inner.all in
+    let space : P 32 = λ e. omega arith in
+    let letter : P 97 = λ e. omega arith in
+    let last = no_feed usual.weight (inner_of_signed usual.weight usual.short_weight) in
+    let two = All-both P usual.head (32 ∷ usual.weight) (no_feed usual.head (inner_of_short usual.head usual.short_head)) (space, last) in
+    let three = All-both P usual.tail (32 ∷ (usual.head ++ 32 ∷ usual.weight)) (no_feed usual.tail (inner_of_short usual.tail usual.short_tail)) (space, two) in
+    subst (AllByRecursion P) (sym usual.spelled) (letter, (space, three))
+
+-- how it begins a text
+usual_spelled : (line rest tail head weight : List ℕ) → line ≡ codes "a " ++ (tail ++ 32 ∷ (head ++ 32 ∷ weight))
+    → ended line ++ rest ≡ codes "a " ++ (tail ++ 32 ∷ (head ++ 32 ∷ (weight ++ line_feed ∷ rest)))
+usual_spelled line rest tail head weight is =
+    append_assoc line (line_feed ∷ []) rest ∙ ap (λ (xs : List ℕ). xs ++ line_feed ∷ rest) is
+    ∙ ap (λ (xs : List ℕ). 97 ∷ 32 ∷ xs) (append_assoc tail (32 ∷ (head ++ 32 ∷ weight)) (line_feed ∷ rest)
+    ∙ ap (λ (xs : List ℕ). tail ++ 32 ∷ xs) (append_assoc head (32 ∷ weight) (line_feed ∷ rest)))
+
+-- What is read is such a line.
+pub usual_found : (bytes fields second third rest : List ℕ) (u v : ℕ) (w : ℤ) → bytes ≡ 97 ∷ 32 ∷ fields → BeginsWithShort u 32 fields second → BeginsWithShort v 32 second third
+    → ((field : List ℕ) × IsShortSigned field × KeepsSigned w field × (third ≡ field ++ line_feed ∷ rest))
+    → (line : List ℕ) × IsUsualArc line × IsWhole (ArcWhole u v w) line × (bytes ≡ ended line ++ rest)
+usual_found bytes fields second third rest u v w begins (tail, short_tail, keeps_tail, is_tail) (head, short_head, keeps_head, is_head) (weight, short_weight, keeps_weight, is_weight) =
+    let line : List ℕ = codes "a " ++ (tail ++ 32 ∷ (head ++ 32 ∷ weight)) in
+    let usual : IsUsualArc line = record {
+      tail = tail;
+      head = head;
+      weight = weight;
+      spelled = refl;
+      short_tail = short_tail;
+      short_head = short_head;
+      short_weight = short_weight;
+    } in (
+      line,
+      usual,
+      (codes "a" ∷ tail ∷ head ∷ weight ∷ [], usual_fields line usual, (tail, head, weight, refl, keeps_tail, keeps_head, keeps_weight)),
+      begins ∙ ap (λ (xs : List ℕ). 97 ∷ 32 ∷ xs) (is_tail ∙ ap (λ (xs : List ℕ). tail ++ 32 ∷ xs) (is_head ∙ ap (λ (xs : List ℕ). head ++ 32 ∷ xs) is_weight))
+          ∙ sym (usual_spelled line rest tail head weight refl),
+    )
+
+space_no_digit : ¬ (IsDigit 32)
+space_no_digit digit = omega (arith, digit.0)
+
+-- behind a short number
+behind : (kept stop : ℕ) (bytes after field rest : List ℕ) → ¬ (IsDigit stop) → BeginsWithShort kept stop bytes after → IsShort field → bytes ≡ field ++ stop ∷ rest → after ≡ rest
+behind kept stop bytes after field rest no_digit (field', short', keeps, is') short is =
+    let both = prefix_unique IsDigit field' field (stop ∷ after) (stop ∷ rest) short'.digits short.digits no_digit no_digit (sym is' ∙ is) in
+    let tails : stop ∷ after ≡ stop ∷ rest = both.1 in cc
+
+-- what follows the letter of a usual line
+behind_letter : (bytes fields line rest : List ℕ) → (usual : IsUsualArc line) → bytes ≡ 97 ∷ 32 ∷ fields → bytes ≡ ended line ++ rest
+    → fields ≡ usual.tail ++ 32 ∷ (usual.head ++ 32 ∷ (usual.weight ++ line_feed ∷ rest))
+behind_letter bytes fields line rest usual begins is =
+    let whole : 97 ∷ 32 ∷ fields ≡ 97 ∷ 32 ∷ (usual.tail ++ 32 ∷ (usual.head ++ 32 ∷ (usual.weight ++ line_feed ∷ rest))) =
+    sym begins ∙ is ∙ usual_spelled line rest usual.tail usual.head usual.weight usual.spelled in
+    cc
+
+-- No usual line begins bytes in which a field of it is missing.
+pub never_head : (bytes fields second : List ℕ) (u : ℕ) → bytes ≡ 97 ∷ 32 ∷ fields → BeginsWithShort u 32 fields second
+    → ((field rest : List ℕ) → IsShort field → second ≢ field ++ 32 ∷ rest) → (line rest : List ℕ) → IsUsualArc line → bytes ≢ ended line ++ rest
+never_head bytes fields second u begins tail never line rest usual is =
+    never usual.head (usual.weight ++ line_feed ∷ rest) usual.short_head
+    (behind u 32 fields second usual.tail (usual.head ++ 32 ∷ (usual.weight ++ line_feed ∷ rest)) space_no_digit tail usual.short_tail
+    (behind_letter bytes fields line rest usual begins is))
+
+pub never_weight : (bytes fields second third : List ℕ) (u v : ℕ) → bytes ≡ 97 ∷ 32 ∷ fields → BeginsWithShort u 32 fields second → BeginsWithShort v 32 second third
+    → ((field rest : List ℕ) → IsShortSigned field → third ≢ field ++ line_feed ∷ rest) → (line rest : List ℕ) → IsUsualArc line → bytes ≢ ended line ++ rest
+never_weight bytes fields second third u v begins tail head never line rest usual is =
+    never usual.weight rest usual.short_weight
+    (behind v 32 second third usual.head (usual.weight ++ line_feed ∷ rest) space_no_digit head usual.short_head
+    (behind u 32 fields second usual.tail (usual.head ++ 32 ∷ (usual.weight ++ line_feed ∷ rest)) space_no_digit tail usual.short_tail
+    (behind_letter bytes fields line rest usual begins is)))
+
+-- A place in bytes.
+pub at_place : (xs : List ℕ) (i : ℕ) → i < length xs → xs ≡ take i xs ++ get_or xs i 0 ∷ drop (i + 1) xs
+at_place xs i within =
+    sym (take-append-drop (i + 1) xs) ∙ ap (λ (ys : List ℕ). ys ++ drop (i + 1) xs) (take_more xs i 0 within) ∙ append_assoc (take i xs) (get_or xs i 0 ∷ []) (drop (i + 1) xs)
+
+-- All are digits.
+pub never_all : (stop : ℕ) (xs : List ℕ) → ¬ (IsDigit stop) → AllByRecursion IsDigit xs → HasNoShort stop xs
+never_all stop xs no_digit all field rest short is =
+    let parts = All-parts IsDigit field (stop ∷ rest) (subst (AllByRecursion IsDigit) is all) in no_digit parts.1.0
+
+-- The first byte that is no digit isn't `stop`, or there is no digit before it.
+pub never_other : (stop : ℕ) (xs : List ℕ) (i : ℕ) → ¬ (IsDigit stop) → i < length xs → AllByRecursion IsDigit (take i xs) → ¬ (IsDigit (get_or xs i 0)) → (get_or xs i 0 ≡ stop → i ≡ 0)
+    → HasNoShort stop xs
+never_other stop xs i no_digit within all other none field rest short is =
+    let both = prefix_unique IsDigit (take i xs) field (get_or xs i 0 ∷ drop (i + 1) xs) (stop ∷ rest) all short.digits other no_digit (sym (at_place xs i within) ∙ is) in
+    let tails : get_or xs i 0 ∷ drop (i + 1) xs ≡ stop ∷ rest = both.1 in
+    let same : get_or xs i 0 ≡ stop = cc in
+    let zero : i ≡ 0 = none same in
+    short.some (sym both.0 ∙ ap (λ (k : ℕ). take k xs) zero)
+
+-- bytes by their first ones
+pub begins_one : (xs : List ℕ) (a : ℕ) → 1 ≤ length xs → get_or xs 0 0 ≡ a → xs ≡ a ∷ take (length xs - 1) (drop 1 xs)
+begins_one [] a some first = absurd (omega arith)
+begins_one (x ∷ xs) a some first = ap (λ (y : ℕ). y ∷ xs) first ∙ ap (λ (ys : List ℕ). a ∷ ys) (sym (take_rest (x ∷ xs) 1))
+
+pub begins_two : (xs : List ℕ) (a b : ℕ) → 2 ≤ length xs → get_or xs 0 0 ≡ a → get_or xs 1 0 ≡ b → xs ≡ a ∷ b ∷ take (length xs - 2) (drop 2 xs)
+begins_two [] a b some first second = absurd (omega arith)
+begins_two (x ∷ []) a b some first second = absurd (omega arith)
+begins_two (x ∷ y ∷ xs) a b some first second =
+    ap (λ (z : ℕ). z ∷ y ∷ xs) first ∙ ap (λ (z : ℕ). a ∷ z ∷ xs) second ∙ ap (λ (zs : List ℕ). a ∷ b ∷ zs) (sym (take_rest (x ∷ y ∷ xs) 2))
+
+-- A number before `stop` stands in the text where it stands in its first eleven bytes.
+pub found_in_front : (kept stop place : ℕ) (xs : List ℕ) → HasShortBefore kept place stop (take 11 xs) → BeginsWithShort kept stop xs (drop (place + 1) xs)
+found_in_front kept stop place xs (within, (field, short, keeps, is)) =
+    let few : place + 1 ≤ length (take 11 xs) = omega arith in
+    let rest = drop-append-le (place + 1) (take 11 xs) (drop 11 xs) few in
+    let begins = ap (λ (ys : List ℕ). ys ++ drop 11 xs) is ∙ append_assoc field (stop ∷ drop (place + 1) (take 11 xs)) (drop 11 xs) ∙ ap (λ (ys : List ℕ). field ++ stop ∷ ys) (sym rest) in
+    subst (λ (ys : List ℕ). BeginsWithShort kept stop ys (drop (place + 1) ys)) (take-append-drop 11 xs) (field, short, keeps, begins)
+
+pub none_in_front : (stop : ℕ) (xs : List ℕ) → HasNoShort stop (take 11 xs) → HasNoShort stop xs
+none_in_front stop xs none field rest short is =
+    let more = 10 - length field in
+    let eleven : 11 ≡ length field + suc more = omega (arith, short.few) in
+    none field (take more rest) short (ap (take 11) is ∙ ap (λ (k : ℕ). take k (field ++ stop ∷ rest)) eleven ∙ take-append-add field (stop ∷ rest) (suc more))

@@ -1,7 +1,0 @@
-use Rattle.gr_text.specs.Partial.{with_field}
-use Rattle.gr_text.proofs.Parts.{AreParts-whole}
-use Rattle.gr_text.proofs.partial.Partial.whole.Goals as goal
-
-pub returns : goal.returns
-returns c = λ part (begun, (fields, last, parts, on, word)).
-    (with_field fields last, AreParts-whole part fields last parts, c.closed.ensures fields last on word)

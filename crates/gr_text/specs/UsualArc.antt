@@ -1,0 +1,54 @@
+-- The usual form of an arc line, which is read at once.
+use Rattle.std.specs.Prelude.{◌≡◌, ◌≢◌, ℕ, ℤ, ◌+◌, ◌<◌, ◌≤◌, ◌⊎◌, List, [], ◌∷◌, ◌++◌, length, drop, codes}
+use Rattle.std.specs.List.{AllByRecursion}
+use Rattle.gr_text.specs.Lines.{line_feed, ended}
+use Rattle.gr_text.specs.Fields.{IsDigit}
+use Rattle.gr_text.specs.Word.{KeepsNumber, KeepsSigned}
+use Rattle.gr_text.specs.PartialLine.{IsWhole}
+use Rattle.gr_text.specs.declared.words.LineFields.{LineFields}
+
+-- one to ten digits
+pub record IsShort (field : List ℕ) : Type 0 where
+  pub some : field ≢ []
+  pub digits : AllByRecursion IsDigit field
+  pub few : length field ≤ 10
+
+-- the same with at most one minus before them
+abbrev pub IsShortSigned : List ℕ → Type 0
+IsShortSigned field = IsShort field ⊎ ((digits : List ℕ) × (field ≡ 45 ∷ digits) × IsShort digits)
+
+-- a line `a U V W` of such numbers, with one space between two fields and no other blank; only W may have a minus
+pub record IsUsualArc (line : List ℕ) : Type 0 where
+  pub tail : List ℕ
+  pub head : List ℕ
+  pub weight : List ℕ
+  pub spelled : line ≡ codes "a " ++ (tail ++ 32 ∷ (head ++ 32 ∷ weight))
+  pub short_tail : IsShort tail
+  pub short_head : IsShort head
+  pub short_weight : IsShortSigned weight
+
+-- the bytes are a field of this form, which keeps this, then `stop` and what is left
+abbrev pub BeginsWithShort : ℕ → ℕ → List ℕ → List ℕ → Type 0
+BeginsWithShort kept stop bytes rest = (field : List ℕ) × IsShort field × KeepsNumber kept field × (bytes ≡ field ++ stop ∷ rest)
+
+-- the same with `stop` at this place
+abbrev pub HasShortBefore : ℕ → ℕ → ℕ → List ℕ → Type 0
+HasShortBefore kept place stop bytes = (place < length bytes) × BeginsWithShort kept stop bytes (drop (place + 1) bytes)
+
+-- the same of a number that may have a minus, then a line feed and what is left
+abbrev pub BeginsWithShortSigned : ℤ → List ℕ → List ℕ → Type 0
+BeginsWithShortSigned kept bytes rest = (field : List ℕ) × IsShortSigned field × KeepsSigned kept field × (bytes ≡ field ++ line_feed ∷ rest)
+
+-- the bytes are such a line, which is kept so, its line feed and what is left
+abbrev pub BeginsWithUsualArc : LineFields → List ℕ → List ℕ → Type 0
+BeginsWithUsualArc kept bytes rest = (line : List ℕ) × IsUsualArc line × IsWhole kept line × (bytes ≡ ended line ++ rest)
+
+-- the bytes begin with no such field before `stop`, with none before a line feed, and with no such line
+abbrev pub HasNoShort : ℕ → List ℕ → Type 0
+HasNoShort stop bytes = (field rest : List ℕ) → IsShort field → bytes ≢ field ++ stop ∷ rest
+
+abbrev pub HasNoShortSigned : List ℕ → Type 0
+HasNoShortSigned bytes = (field rest : List ℕ) → IsShortSigned field → bytes ≢ field ++ line_feed ∷ rest
+
+abbrev pub HasNoUsualArc : List ℕ → Type 0
+HasNoUsualArc bytes = (line rest : List ℕ) → IsUsualArc line → bytes ≢ ended line ++ rest

@@ -1,0 +1,105 @@
+ghost use Rattle.std.specs.Prelude.{◌≡◌, ℕ, List, [], MatchResult};
+ghost use Rattle.gr_text.specs.PartialLine.{IsWhole};
+ghost use Rattle.gr_text.specs.Reading.{AddsArc, FitsAfter, Gives, IsGraphOfLines, IsLack, IsTaken};
+
+use crate::arcs::Arc;
+use crate::faults::{GrFault, GrKind, ReadFault};
+use crate::graphs::Graph;
+use crate::sizes::Size;
+use crate::verdicts::{Verdict, judge};
+use crate::words::LineFields;
+use link_key::Link;
+use std::alloc::Allocator;
+use std::marker::Model;
+
+/// What the whole lines so far say.
+#[derive(Drop)]
+pub(crate) struct LinesSoFar<A: Allocator> {
+    /// What their problem line states, once it has come.
+    size: Option<Size>,
+    /// How many arc lines have come.
+    count: u32,
+    /// The links of these, in order; loops have none.
+    links: Vec<Link, A>,
+}
+
+impl<A: Allocator> Model for LinesSoFar<A> {
+    ghost use Rattle.gr_text.specs.Reading.{IsWithinSize, LinesSoFarValue};
+
+    ghost Value = { LinesSoFarValue };
+
+    ghost view = { λ s. record { size = s.size; count = s.count; links = s.links.items } };
+
+    ghost invariant = { λ s. IsWithinSize s.size s.count s.links.items };
+}
+
+impl<A: Allocator> LinesSoFar<A> {
+    /// What no lines say.
+    pub(crate) fn new(alloc: A) -> LinesSoFar<A>
+        ensures { Gives result [] }
+    {
+        LinesSoFar {
+            size: None,
+            count: 0,
+            links: Vec::new(alloc),
+        }
+    }
+
+    /// Takes one more line, of this number. It fails with the fault of the line, or with `Memory` where its
+    /// link finds none; nothing is read behind it.
+    #[inline(always)]
+    pub(crate) fn take_line(&mut self, number: u64, line: LineFields) -> Result<(), ReadFault>
+        ensures { (lines : List (List ℕ)) (bytes : List ℕ) → Gives self.old lines → IsWhole line bytes
+            → IsTaken result self.new number lines bytes }
+    {
+        match judge(self.size, self.count, line) {
+            Verdict::Silent => Ok(()),
+            Verdict::Begins(size) => {
+                self.size = Some(size);
+                Ok(())
+            }
+            Verdict::Adds(arc) => self.add(arc),
+            Verdict::Faulty(kind) => Err(ReadFault::Gr(GrFault { line: number, kind })),
+        }
+    }
+
+    /// The graph of the lines so far, where nothing lacks. `number` is that of the line after them.
+    pub(crate) fn graph(self, number: u64) -> Result<Graph<A>, ReadFault>
+        ensures { (lines : List (List ℕ)) → Gives self lines
+            → MatchResult result (λ graph. IsGraphOfLines lines graph) (λ e. IsLack e number lines) }
+    {
+        match self.size {
+            None => Err(ReadFault::Gr(GrFault {
+                line: number,
+                kind: GrKind::MissingProblem,
+            })),
+            Some(size) => {
+                if self.count < size.arcs {
+                    Err(ReadFault::Gr(GrFault {
+                        line: number,
+                        kind: GrKind::MissingArcs,
+                    }))
+                } else {
+                    Ok(Graph::of_parts(size.vertices, self.links))
+                }
+            }
+        }
+    }
+
+    // Adds an arc of the problem's vertices.
+    #[inline(always)]
+    fn add(&mut self, arc: Arc) -> Result<(), ReadFault>
+        requires { FitsAfter (Verdict.Adds arc) self.old.size self.old.count }
+        ensures { MatchResult result (λ _. AddsArc self.old self.new arc) (λ e. e ≡ ReadFault.Memory) }
+    {
+        let Some(link) = Link::of_arc(arc.tail, arc.head, arc.weight) else {
+            self.count += 1;
+            return Ok(());
+        };
+        if self.links.push(link).is_err() {
+            return Err(ReadFault::Memory);
+        }
+        self.count += 1;
+        Ok(())
+    }
+}
