@@ -9,14 +9,14 @@ use Rattle.link_key.specs.declared.links.Link.{Link}
 use Rattle.link_key.specs.declared.cuts.CutFault.TheVariants as cut
 use Rattle.gr_text.specs.Graph.{GraphValue}
 use Rattle.gr_text.specs.declared.faults.ReadFault.TheVariants as read
-use Rattle.ports.specs.Lines.{LineState}
-use Rattle.tcp_lines.specs.Lines.{TcpLineState, line_of, unused}
+use Rattle.ports.specs.declared.line.Line as Line
+use Rattle.tcp_lines.specs.Lines.{TcpLineState, tcp_line, unused}
 use Rattle.forest_run.specs.Cuttings.{cut_refusal}
 use Rattle.forest_run.specs.Files.{HasFile, IsFileOf, MeansGraph, MeansNothing, IsFirstFaultOf, IsNoRefusal}
-use Rattle.forest_run.specs.Outcomes.{streams, Streams, Ran, IsUnread, IsLeast}
+use Rattle.forest_run.specs.Outcomes.{streams, Streams, Ran, IsUnread, IsSpanning, IsLeast}
 use Rattle.forest_run.specs.PlainRun.{RanPlain, IsPlainReport, IsPlainFault}
 use Rattle.forest_run.specs.WiredLines.{AreServed}
-use Rattle.forest_run.specs.LinesRun.{RanLines, RanServed, IsSpanning, IsUnhindered, LinesWent, IsLinesFault}
+use Rattle.forest_run.specs.LinesRun.{RanLines, RanServed, IsUnhindered, RunsOverLines, IsLinesFault}
 use Rattle.forest_run.specs.declared.cutting.Cutting.TheVariants.{Even}
 use Rattle.forest_run.specs.declared.report.Report.{Report}
 use Rattle.forest_run.specs.declared.fault.RunFault.{RunFault}
@@ -106,17 +106,17 @@ status_of_report (Err why) = refl
 pub status_by_report : {X : Type 0} (status : ℕ) (ended : Result Report RunFault) (result : Result (Report × X) RunFault) → ended ≡ report_of result → status ≡ status_of_run ended → status ≡ status_of_run result
 status_by_report status ended result told is = is ∙ (subst (λ (r : Result Report RunFault). status_of_run ended ≡ status_of_run r) told refl ∙ status_of_report result)
 
-pub over_lines : {L : Type 0} (state : L → LineState) (faithful : L → ℕ → Type 0) (lines : List L) (shards : ℕ) (wants : Bool) (status : ℕ) (before after : Standard)
+pub over_lines : {L : Type 0} (over : Line.Ghosts L) (lines : List L) (shards : ℕ) (wants : Bool) (status : ℕ) (before after : Standard)
     (ended : Result Report RunFault) (result : Result (Report × Vec L) RunFault) → ended ≡ report_of result → status ≡ status_of_run ended
     → IsReported wants ended before.errors after.errors
-    → RanLines state faithful (Even shards) lines result (of_run before) (of_run after)
+    → RanLines over (Even shards) lines result (of_run before) (of_run after)
     → ((bytes : List ℕ) → HasFile bytes before.source after.source → MeansNothing bytes → IsFirstFaultOf bytes result)
     → ((bytes : List ℕ) → HasFile bytes before.source after.source → MeansGraph bytes → IsNoRefusal result)
-    → (AreServed state faithful lines → RanServed (Even shards) result (of_run before) (of_run after))
-    → (AreServed state faithful lines → (bytes : List ℕ) (graph : GraphValue) → HasFile bytes before.source after.source → IsFileOf bytes graph
+    → (AreServed over lines → RanServed (Even shards) result (of_run before) (of_run after))
+    → (AreServed over lines → (bytes : List ℕ) (graph : GraphValue) → HasFile bytes before.source after.source → IsFileOf bytes graph
     → cut_refusal (Even shards) (length graph.links) ≡ None → IsUnhindered result before.sink after.sink)
-    → EndsOver state faithful lines shards wants status before after
-over_lines state faithful lines shards wants status before after ended result told is reported ran malformed lawful served ends_well = record {
+    → EndsOver over lines shards wants status before after
+over_lines over lines shards wants status before after ended result told is reported ran malformed lawful served ends_well = record {
   result = result;
   status_is = status_by_report status ended result told is;
   ran = ran;
@@ -128,7 +128,7 @@ over_lines state faithful lines shards wants status before after ended result to
 }
 
 pub over_workers : (workers shards : ℕ) (wants : Bool) (status : ℕ) (before after : Standard) (lines : List TcpLineState) → length lines ≤ workers → All (λ line. line ≡ unused) lines
-    → EndsOver line_of (λ line worker. ⊥) lines shards wants status before after → EndsOverWorkers workers shards wants status before after
+    → EndsOver tcp_line lines shards wants status before after → EndsOverWorkers workers shards wants status before after
 over_workers workers shards wants status before after lines few new ends = record {
   lines = lines;
   few = few;
@@ -198,17 +198,17 @@ silent_run found says why (Err (fault.Write written)) status s t a b is ran sile
 
 pub silent_plainly : (result : Result Report RunFault) (status : ℕ) (s t : SourceState) (a b : SinkState) → status ≡ status_of_run result
     → RanPlain result (streams s a) (streams t b) → LeavesOutput status → IsUntouched a b
-silent_plainly result = silent_run IsLeast (λ graph forest. IsPlainReport graph) IsPlainFault result
+silent_plainly result = silent_run IsLeast IsPlainReport IsPlainFault result
 
-pub bound_lines : {L : Type 0} (state : L → LineState) (faithful : L → ℕ → Type 0) (lines : List L) (shards : ℕ) (wants : Bool) (status : ℕ) (before after : Standard)
-    → EndsOver state faithful lines shards wants status before after → status ≤ 5
-bound_lines state faithful lines shards wants status before after ends = run_bound ends.result status ends.status_is
+pub bound_lines : {L : Type 0} (over : Line.Ghosts L) (lines : List L) (shards : ℕ) (wants : Bool) (status : ℕ) (before after : Standard)
+    → EndsOver over lines shards wants status before after → status ≤ 5
+bound_lines over lines shards wants status before after ends = run_bound ends.result status ends.status_is
 
-pub silent_lines : {L : Type 0} (state : L → LineState) (faithful : L → ℕ → Type 0) (lines : List L) (shards : ℕ) (wants : Bool) (status : ℕ) (before after : Standard)
-    → EndsOver state faithful lines shards wants status before after → LeavesOutput status → IsUntouched before.sink after.sink
-silent_lines state faithful lines shards wants status before after ends =
-    silent_run IsSpanning (λ graph forest r. LinesWent state faithful (Even shards) lines r.1.items graph forest r.0)
-    (IsLinesFault state faithful (Even shards) lines) ends.result status _ _ _ _ ends.status_is ends.ran
+pub silent_lines : {L : Type 0} (over : Line.Ghosts L) (lines : List L) (shards : ℕ) (wants : Bool) (status : ℕ) (before after : Standard)
+    → EndsOver over lines shards wants status before after → LeavesOutput status → IsUntouched before.sink after.sink
+silent_lines over lines shards wants status before after ends =
+    silent_run IsSpanning (λ graph forest r. RunsOverLines _ over (Even shards) lines r.1.items graph forest r.0)
+    (IsLinesFault _ over (Even shards) lines) ends.result status _ _ _ _ ends.status_is ends.ran
 
 -- over lines that carry their workers' sessions no run ends by what the workers answered
 not_five : (n status : ℕ) → n ≤ 4 → status ≡ n → status ≢ 5
@@ -231,9 +231,9 @@ served_status shards (Err (fault.Missed link)) status before after is ran = absu
 served_status shards (Err fault.Memory) status before after is ran = not_five 4 status (omega arith) is
 served_status shards (Err (fault.Write written)) status before after is ran = not_five 3 status (omega arith) is
 
-pub blameless_lines : {L : Type 0} (state : L → LineState) (faithful : L → ℕ → Type 0) (lines : List L) (shards : ℕ) (wants : Bool) (status : ℕ) (before after : Standard)
-    → EndsOver state faithful lines shards wants status before after → AreServed state faithful lines → status ≢ 5
-blameless_lines state faithful lines shards wants status before after ends served =
+pub blameless_lines : {L : Type 0} (over : Line.Ghosts L) (lines : List L) (shards : ℕ) (wants : Bool) (status : ℕ) (before after : Standard)
+    → EndsOver over lines shards wants status before after → AreServed over lines → status ≢ 5
+blameless_lines over lines shards wants status before after ends served =
     served_status shards ends.result status (of_run before) (of_run after) ends.status_is (ends.served served)
 
 -- a lawful file whose links can be cut so has its forest, or memory was wanting, or the sink had a setback
@@ -253,9 +253,9 @@ done_status (Err (fault.Missed link)) status a b is free = absurd free
 done_status (Err fault.Memory) status a b is free = inr (inl is)
 done_status (Err (fault.Write written)) status a b is free = inr (inr (is, free))
 
-pub done_lines : {L : Type 0} (state : L → LineState) (faithful : L → ℕ → Type 0) (lines : List L) (shards : ℕ) (wants : Bool) (status : ℕ) (before after : Standard)
-    → EndsOver state faithful lines shards wants status before after → AreServed state faithful lines → HasGraph shards before.source after.source → IsDone status before.sink after.sink
-done_lines state faithful lines shards wants status before after ends served it =
+pub done_lines : {L : Type 0} (over : Line.Ghosts L) (lines : List L) (shards : ℕ) (wants : Bool) (status : ℕ) (before after : Standard)
+    → EndsOver over lines shards wants status before after → AreServed over lines → HasGraph shards before.source after.source → IsDone status before.sink after.sink
+done_lines over lines shards wants status before after ends served it =
     done_status ends.result status before.sink after.sink ends.status_is (ends.ends_well served it.bytes it.graph it.has it.file it.allowed)
 
 -- a file that means nothing is refused, or memory was wanting
@@ -271,9 +271,9 @@ refused_status bytes (Err (fault.Missed link)) status is first = absurd first
 refused_status bytes (Err fault.Memory) status is first = absurd first
 refused_status bytes (Err (fault.Write written)) status is first = absurd first
 
-pub refused_lines : {L : Type 0} (state : L → LineState) (faithful : L → ℕ → Type 0) (lines : List L) (shards : ℕ) (wants : Bool) (status : ℕ) (before after : Standard)
-    → EndsOver state faithful lines shards wants status before after → HasNoGraph before.source after.source → (status ≡ 1) ⊎ (status ≡ 4)
-refused_lines state faithful lines shards wants status before after ends (bytes, has, nothing) =
+pub refused_lines : {L : Type 0} (over : Line.Ghosts L) (lines : List L) (shards : ℕ) (wants : Bool) (status : ℕ) (before after : Standard)
+    → EndsOver over lines shards wants status before after → HasNoGraph before.source after.source → (status ≡ 1) ⊎ (status ≡ 4)
+refused_lines over lines shards wants status before after ends (bytes, has, nothing) =
     refused_status bytes ends.result status ends.status_is (ends.malformed bytes has nothing)
 
 -- what was chosen is what the words ask for

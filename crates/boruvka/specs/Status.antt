@@ -9,7 +9,7 @@ use Rattle.clap.specs.Words.{IsAmong}
 use Rattle.clap.specs.declared.error.kind.ErrorKind.{ErrorKind}
 use Rattle.clap.specs.declared.error.kind.ErrorKind.TheVariants.{DisplayHelp}
 use Rattle.link_key.specs.declared.cuts.CutFault.TheVariants as cut
-use Rattle.ports.specs.Lines.{LineState}
+use Rattle.ports.specs.declared.line.Line as Line
 use Rattle.forest_run.specs.Cuttings.{cut_refusal}
 use Rattle.forest_run.specs.Files.{HasFile, IsFileOf, MeansGraph, MeansNothing, IsFirstFaultOf, IsNoRefusal}
 use Rattle.forest_run.specs.Outcomes.{Streams, streams}
@@ -21,7 +21,7 @@ use Rattle.forest_run.specs.declared.cutting.Cutting.TheVariants.{Even}
 use Rattle.forest_run.specs.declared.report.Report.{Report}
 use Rattle.forest_run.specs.declared.fault.RunFault.{RunFault}
 use Rattle.forest_run.specs.declared.fault.RunFault.TheVariants as fault
-use Rattle.tcp_lines.specs.Lines.{TcpLineState, line_of, unused}
+use Rattle.tcp_lines.specs.Lines.{TcpLineState, tcp_line, unused}
 use Rattle.tcp_lines.specs.declared.line.TcpLine.{TcpLine}
 use Rattle.boruvka.specs.Arguments.{refusals, given, file_named, number_of, is_set, IsMistake}
 use Rattle.boruvka.specs.declared.chosen.Options.{Options}
@@ -105,17 +105,17 @@ pub record EndsWith (wants : Bool) (status : ℕ) (before after : Standard) : Ty
   pub lawful : (bytes : List ℕ) → HasFile bytes before.source after.source → MeansGraph bytes → IsNoRefusal result
 
 -- the same of a run over these lines, of links cut into so many shards, whatever the workers answer
-pub record EndsOver {L : Type 0} (state : L → LineState) (faithful : L → ℕ → Type 0) (lines : List L) (shards : ℕ) (wants : Bool) (status : ℕ) (before after : Standard) : Type 0 where
+pub record EndsOver {L : Type 0} (over : Line.Ghosts L) (lines : List L) (shards : ℕ) (wants : Bool) (status : ℕ) (before after : Standard) : Type 0 where
   pub result : Result (Report × Vec L) RunFault
   pub status_is : status ≡ status_of_run result
-  pub ran : RanLines state faithful (Even shards) lines result (of_run before) (of_run after)
+  pub ran : RanLines over (Even shards) lines result (of_run before) (of_run after)
   pub reported : IsReported wants (report_of result) before.errors after.errors
   -- of a source that tells
   pub malformed : (bytes : List ℕ) → HasFile bytes before.source after.source → MeansNothing bytes → IsFirstFaultOf bytes result
   pub lawful : (bytes : List ℕ) → HasFile bytes before.source after.source → MeansGraph bytes → IsNoRefusal result
   -- where each line is new and carries its worker's session
-  pub served : AreServed state faithful lines → RanServed (Even shards) result (of_run before) (of_run after)
-  pub ends_well : AreServed state faithful lines → (bytes : List ℕ) (graph : GraphValue) → HasFile bytes before.source after.source → IsFileOf bytes graph
+  pub served : AreServed over lines → RanServed (Even shards) result (of_run before) (of_run after)
+  pub ends_well : AreServed over lines → (bytes : List ℕ) (graph : GraphValue) → HasFile bytes before.source after.source → IsFileOf bytes graph
       → cut_refusal (Even shards) (length graph.links) ≡ None → IsUnhindered result before.sink after.sink
 
 -- a run over new lines to at most so many workers ended so. Nothing is known of what comes over the lines; a run that had no line has each of them served, and found the minimum spanning forest
@@ -123,7 +123,7 @@ pub record EndsOverWorkers (workers shards : ℕ) (wants : Bool) (status : ℕ) 
   pub lines : List TcpLineState
   pub few : length lines ≤ workers
   pub new : All (λ line. line ≡ unused) lines
-  pub ends : EndsOver line_of (λ line worker. ⊥) lines shards wants status before after
+  pub ends : EndsOver tcp_line lines shards wants status before after
 
 -- ---- what follows for the status, of a source that tells
 

@@ -5,7 +5,7 @@ ghost use Rattle.limits.specs.declared.TheConstants.{MAX_WORKERS};
 ghost use Rattle.clap.specs.Words.{kind_of};
 ghost use Rattle.ports.specs.Lines.{HasRoom};
 ghost use Rattle.forest_run.specs.WiredLines.{AreServed};
-ghost use Rattle.tcp_lines.specs.Lines.{line_of, unused};
+ghost use Rattle.tcp_lines.specs.Lines.{tcp_line, unused};
 ghost use Rattle.boruvka.specs.Arguments.{IsMistake, file_named, is_set, refusals};
 ghost use Rattle.boruvka.specs.Messages.{message_line};
 ghost use Rattle.boruvka.specs.Status.{told, asked_of, status_of_run, report_of, IsReported, EndsOver, EndsAs, Obeys, ObeysWords};
@@ -87,7 +87,7 @@ pub fn run_over<
     requires errors { E.can_write errors.old }
 
     // Whatever the workers answer, and more where each line is new and carries its worker's session.
-    ensures ends { EndsOver L.state L.faithful lines.items shards wants_report result
+    ensures ends { EndsOver L.Line lines.items shards wants_report result
         (told I.state O.state E.state input.old output.old errors.old)
         (told I.state O.state E.state input.new output.new errors.new) }
     ensures status { result ≤ 5 }
@@ -98,8 +98,8 @@ pub fn run_over<
     ensures malformed { HasNoGraph (I.state input.old) (I.state input.new) → (result ≡ 1) ⊎ (result ≡ 4) }
 
     // Over such lines the workers are never blamed, and a file whose links can be cut so has its forest.
-    ensures blameless { AreServed L.state L.faithful lines.items → result ≢ 5 }
-    ensures done { AreServed L.state L.faithful lines.items
+    ensures blameless { AreServed L.Line lines.items → result ≢ 5 }
+    ensures done { AreServed L.Line lines.items
         → HasGraph shards (I.state input.old) (I.state input.new)
         → IsDone result (O.state output.old) (O.state output.new) }
 {
@@ -131,7 +131,7 @@ where
     requires errors { E.can_write errors.old }
 
     // Over just these lines, whatever comes over them.
-    ensures ends { EndsOver line_of (λ line worker. ⊥) started.0.items chosen.now.shards chosen.now.report result
+    ensures ends { EndsOver tcp_line started.0.items chosen.now.shards chosen.now.report result
         (told I.state O.state E.state input.old output.old errors.old)
         (told I.state O.state E.state input.new output.new errors.new) }
     ensures status { result ≤ 5 }

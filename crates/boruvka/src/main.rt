@@ -1,17 +1,5 @@
-//! The program: it reads a graph in the `.gr` format and writes the text of its minimum spanning forest.
-//!
-//! **What it promises.** The forest goes to the output only where the whole input was read and means a
-//! graph, and then exactly its text; whatever goes wrong has one of five statuses, which tells what failed,
-//! and puts no other byte on the output than a prefix of that text ([`command::obey`]). By one thread, or
-//! without workers, it is the minimum spanning forest; over workers a spanning forest whatever they answer,
-//! and the minimum one where each answers as the worker's engine does, and then no status blames them
-//! ([`command::run_over`]; that the sockets carry such answers no contract can see).
-//! Where the run ends well standard error gets the line of its report, if that is asked for, and nothing else;
-//! where it ends ill, or FILE can't be opened, just the line that says why. The help goes to the output too,
-//! where the words ask for it ([`command::command`]). Tests alone show that standard error gets the usage for
-//! wrong words.
-//!
-//! **How it is built.**
+//! The program: it reads a graph in the `.gr` format and writes the text of its minimum spanning forest. It runs over
+//! worker threads at the far ends of loopback connections, or by one thread.
 //!
 //! ```text
 //! words --arguments::options--> Options --command::obey--> a run over FILE or standard input --> status
@@ -19,9 +7,18 @@
 //!   a run: tcp_lines::Workers::start, command::run_over, Workers::join; with --plain forest_run::run_plain
 //! ```
 //!
-//! **Where to start a change.** A new option: `arguments` and `chosen`, with the table in `specs/Arguments.antt`. A new fault: `statuses`
-//! and `messages`, with the tables in `specs/Status.antt` and `specs/Messages.antt`. What the program does, in order: `command`. What each status says of a run:
-//! `specs/Status.antt`. How the standard streams are kept apart from sockets: `standard`.
+//! What it promises:
+//! - The output gets a prefix of the forest's text, the whole where the status is 0, or the help; the status is one of
+//!   six, and tells what failed ([`command::obey`]).
+//! - By one thread, or without workers, it is the minimum spanning forest; over workers a spanning forest whatever they
+//!   answer, and the minimum one where each answers as the worker's engine does ([`command::run_over`]; that sockets
+//!   carry such answers no contract can see).
+//! - Standard error gets the line of the report, if that is asked for, or the line that says what went wrong; that it
+//!   gets the usage for wrong words is only tested.
+//!
+//! Where to start a change: a new option, `arguments` and `chosen`, with the table in `specs/Arguments`; a new fault,
+//! `statuses` and `messages`, with `specs/Status` and `specs/Messages`; what the program does, in order, `command`; how
+//! the standard streams are kept apart from sockets, `standard`.
 #![tactic(auto)]
 
 mod arguments;

@@ -12,8 +12,8 @@ use gr_text::{GrKind, ReadFault};
 use itoa::Buffer;
 use link_key::CutFault;
 
-// The room for a line. A report has at most 195 bytes.
-const LINE_ROOM: usize = 256;
+// The room for a line. A report has at most 242 bytes.
+const LINE_ROOM: usize = 320;
 
 /// Writes a text, up to the sink's first setback.
 pub fn write_text<S: Sink>(sink: &mut S, text: &[u8])
@@ -37,6 +37,26 @@ fn push_count(line: &mut ArrayString<LINE_ROOM>, name: &str, count: u64)
     line.push_str(digits.format(count));
 }
 
+// Appends a total, which has at most forty characters.
+fn push_total(line: &mut ArrayString<LINE_ROOM>, total: i128)
+    requires { array_string_len line.old + 40 ≤ LINE_ROOM }
+    ensures text { line.new.bytes ≡ line.old.bytes ++ signed_decimal total }
+    ensures short { array_string_len line.new ≤ array_string_len line.old + 40 }
+{
+    let mut digits = Buffer::new();
+    line.push_str(digits.format(total));
+}
+
+// Appends a weight, which has at most eleven characters.
+fn push_weight(line: &mut ArrayString<LINE_ROOM>, weight: i32)
+    requires { array_string_len line.old + 40 ≤ LINE_ROOM }
+    ensures text { line.new.bytes ≡ line.old.bytes ++ signed_decimal weight }
+    ensures short { array_string_len line.new ≤ array_string_len line.old + 40 }
+{
+    let mut digits = Buffer::new();
+    line.push_str(digits.format(weight));
+}
+
 // A report as a line.
 fn line_of(report: &Report) -> ArrayString<LINE_ROOM>
     ensures { result.bytes ≡ report_line report.now }
@@ -50,6 +70,8 @@ fn line_of(report: &Report) -> ArrayString<LINE_ROOM>
     push_count(&mut line, " answered=", report.answered);
     push_count(&mut line, " alone=", report.alone);
     push_count(&mut line, " closed=", report.closed);
+    line.push_str(" total=");
+    push_total(&mut line, report.total);
     line.push_str("\n");
     line
 }
@@ -63,16 +85,6 @@ pub fn tell_report<S: Sink>(sink: &mut S, report: &Report)
     ensures { IsWritten (report_line report.now) (S.state sink.old) (S.state sink.new) }
 {
     write_text(sink, line_of(report).as_str().as_bytes());
-}
-
-// Appends a weight, which has at most eleven characters.
-fn push_weight(line: &mut ArrayString<LINE_ROOM>, weight: i32)
-    requires { array_string_len line.old + 40 ≤ LINE_ROOM }
-    ensures text { line.new.bytes ≡ line.old.bytes ++ signed_decimal weight }
-    ensures short { array_string_len line.new ≤ array_string_len line.old + 40 }
-{
-    let mut digits = Buffer::new();
-    line.push_str(digits.format(weight));
 }
 
 // The name of what is wrong with a line.

@@ -2,7 +2,7 @@ ghost use Rattle.std.specs.Prelude.{◌≡◌, ◌≤◌, length, All, IfOk};
 ghost use Rattle.limits.specs.declared.TheConstants.{MAX_WORKERS};
 ghost use Rattle.ports.specs.EngineLines.{line_of};
 ghost use Rattle.ports.specs.Lines.{HasRoom};
-ghost use Rattle.ports.specs.Testing.{played};
+ghost use Rattle.ports.specs.Testing.{line_of_script};
 
 use crate::arguments::{all_words, options};
 use crate::chosen::OptionsFault;
@@ -89,7 +89,7 @@ fn expect(
 #[test]
 fn writes_the_forest(rt: HostRuntime) -> Result<(), Fail> {
     let report =
-        b"vertices=6 links=8 rounds=0 shards=0 asked=0 answered=0 alone=0 closed=0\n".as_slice();
+        b"vertices=6 links=8 rounds=0 shards=0 asked=0 answered=0 alone=0 closed=0 total=13\n".as_slice();
     expect(
         &rt,
         &["boruvka", "--plain"],
@@ -171,7 +171,7 @@ fn runs_over_workers(rt: HostRuntime) -> Result<(), Fail> {
         SMALL_NET,
         0,
         SMALL_FOREST,
-        b"vertices=6 links=8 rounds=2 shards=2 asked=6 answered=6 alone=0 closed=0\n",
+        b"vertices=6 links=8 rounds=2 shards=2 asked=6 answered=6 alone=0 closed=0 total=13\n",
     );
     expect(
         &rt,
@@ -179,7 +179,7 @@ fn runs_over_workers(rt: HostRuntime) -> Result<(), Fail> {
         SMALL_NET,
         0,
         SMALL_FOREST,
-        b"vertices=6 links=8 rounds=2 shards=2 asked=0 answered=0 alone=6 closed=0\n",
+        b"vertices=6 links=8 rounds=2 shards=2 asked=0 answered=0 alone=6 closed=0 total=13\n",
     );
     expect(&rt, &["boruvka"], SMALL_NET, 0, SMALL_FOREST, b"");
     Ok(())
@@ -643,7 +643,7 @@ fn two_engines(alloc: Global) -> Result<Vec<EngineLine<Global>>, AllocError>
 // A line over which come the hello of worker 0, and then an answer to the first ask that offers no link.
 fn a_lie(alloc: Global) -> Result<Vec<ScriptLine>, AllocError>
     ensures one { IfOk result (λ lines. length lines.items ≡ 1) }
-    ensures room { IfOk result (λ lines. All (λ line. HasRoom (played line)) lines.items) }
+    ensures room { IfOk result (λ lines. All (λ line. HasRoom (line_of_script line)) lines.items) }
 {
     let script = [
         1, 0, 0, 0, 6, 0, 1, 0, 0, 0, 0, 4, 0, 0, 0, 12, 0, 0, 0, 1, 0, 0, 0, 0, 0, 0, 0, 0,
@@ -657,7 +657,7 @@ fn a_lie(alloc: Global) -> Result<Vec<ScriptLine>, AllocError>
 #[test]
 fn runs_over_lines_in_memory(rt: HostRuntime) -> Result<(), Fail> {
     let report =
-        b"vertices=6 links=8 rounds=2 shards=2 asked=6 answered=6 alone=0 closed=0\n".as_slice();
+        b"vertices=6 links=8 rounds=2 shards=2 asked=6 answered=6 alone=0 closed=0 total=13\n".as_slice();
     let lines = two_engines(rt.alloc())?;
     expect_over(&rt, 2, lines, 0, SMALL_FOREST, report);
     let missed = b"boruvka: link 1 2 17 was missed\n".as_slice();
@@ -679,9 +679,10 @@ fn writes_a_report_of_the_largest_numbers(rt: HostRuntime) -> Result<(), Fail> {
         answered: most,
         alone: most,
         closed: most,
+        total: i128::MIN,
     };
     let line =
-        b"vertices=4294967295 links=18446744073709551615 rounds=4294967295 shards=4294967295 asked=18446744073709551615 answered=18446744073709551615 alone=18446744073709551615 closed=18446744073709551615\n";
+        b"vertices=4294967295 links=18446744073709551615 rounds=4294967295 shards=4294967295 asked=18446744073709551615 answered=18446744073709551615 alone=18446744073709551615 closed=18446744073709551615 total=-170141183460469231731687303715884105728\n";
     let mut errors = Vec::new(rt.alloc());
     tell_report(&mut errors, &report);
     assert_eq!(rt; errors.as_slice(), line.as_slice());

@@ -4,11 +4,11 @@ use Rattle.std.specs.Prelude.{All, Option, Some, None, option_to_list}
 use Rattle.std.proofs.lemmas.List.{append-nil, map-append}
 use Rattle.std.proofs.lemmas.List.Elements.{All-nil, All-append, All-head, All-tail}
 use Rattle.frames.specs.AnswerValue.{AnswerValue}
-use Rattle.ports.specs.Ports.{PortState}
+use Rattle.ports.specs.declared.port.Port as Port
 use Rattle.ports.specs.Exchanges.{Exchange, answers_of}
-use Rattle.forest_run.specs.Lanes.{one_if}
+use Rattle.forest_run.specs.Lanes.{count_if}
 use Rattle.round_core.specs.Page.{Page}
-use Rattle.forest_run.specs.Asks.{AsksWent, IsKept, AreInRounds, StoodStill, answered}
+use Rattle.forest_run.specs.Asks.{AnswersAsks, TakesExchange, AreInRounds, SameFaults, answered}
 
 pub either : (v : Bool) → (v ≡ true) ⊎ (v ≡ false)
 either true = inl refl
@@ -19,7 +19,7 @@ abbrev pub ComeFirst : List Exchange → List Exchange → Type 0
 ComeFirst xs ys = All (λ (x : Exchange). All (λ (y : Exchange). x.round ≤ y.round) ys) xs
 
 -- those of one book come in any order
-pub one_round : (page : Page) (xs ys : List Exchange) → All (IsKept page) xs → All (IsKept page) ys → ComeFirst xs ys
+pub one_round : (page : Page) (xs ys : List Exchange) → All (TakesExchange page) xs → All (TakesExchange page) ys → ComeFirst xs ys
 one_round page xs ys first second i d b j e c = omega (arith, (first i d b).asked.ask.round, (second j e c).asked.ask.round)
 
 first_of_all : (x : Exchange) (zs : List Exchange) → All (λ (y : Exchange). x.round ≤ y.round) zs → AreInRounds zs → AreInRounds (x ∷ zs)
@@ -49,9 +49,9 @@ first_part others xs ys last last' no_more none =
     ap (λ (zs : List Exchange). (others ++ answered xs last) ++ answered zs last') no_more
     ∙ (ap (λ (o : Option Exchange). (others ++ answered xs last) ++ option_to_list o) none ∙ append-nil (others ++ answered xs last))
 
-module _ {P : Type 0} (state : P → PortState) (honest : P → Type 0) (sound : P → ℕ → List Exchange → Type 0) (exchanged : P → List Exchange → Type 0) (keeping : Exchange → Type 0) (closing : ℕ × ℕ → Option Exchange → Type 0) where
+module _ {P A : Type 0} (port : Port.Ghosts P A) (keeping : Exchange → Type 0) (closing : ℕ × ℕ → Option Exchange → Type 0) where
   -- nothing was done
-  pub stayed : (a : P) → AsksWent state honest sound exchanged keeping closing a a []
+  pub stayed : (a : P) → AnswersAsks port keeping closing a a []
   stayed a = record {
     cut = refl;
     worker = refl;
@@ -66,27 +66,27 @@ module _ {P : Type 0} (state : P → PortState) (honest : P → Type 0) (sound :
     refused = None;
     opened = λ t. (t, record { failures = refl; wants = refl }, refl);
     still = λ f. (refl, refl, refl);
-    given = λ s others g. subst (exchanged a) (sym (append-nil others)) g;
+    given = λ s others g. subst (port.exchanged a) (sym (append-nil others)) g;
     honest_is = λ x. x;
-    sound_is = λ ends others x. subst (sound a ends) (sym (append-nil others)) x;
+    sound_is = λ ends others x. subst (port.sound a ends) (sym (append-nil others)) x;
     why = λ t f. absurd (cc);
     why_honest = λ x t f. absurd (cc);
   }
 
   -- a closed port stays closed
-  closed_stays : (a b : P) (xs : List AnswerValue) → AsksWent state honest sound exchanged keeping closing a b xs → (state a).is_open ≡ false → (state b).is_open ≡ false
-  closed_stays a b xs p f = elim (either (state b).is_open) [ inl e ↦ absurd (let r = (p.opened e).0 in cc) | inr e ↦ e ]
+  closed_stays : (a b : P) (xs : List AnswerValue) → AnswersAsks port keeping closing a b xs → (port.state a).is_open ≡ false → (port.state b).is_open ≡ false
+  closed_stays a b xs p f = elim (either (port.state b).is_open) [ inl e ↦ absurd (let r = (p.opened e).0 in cc) | inr e ↦ e ]
 
-  module _ (a b c : P) (xs ys : List AnswerValue) (p : AsksWent state honest sound exchanged keeping closing a b xs) (q : AsksWent state honest sound exchanged keeping closing b c ys) where
+  module _ (a b c : P) (xs ys : List AnswerValue) (p : AnswersAsks port keeping closing a b xs) (q : AnswersAsks port keeping closing b c ys) where
     -- the counts that stood still over both parts stood still in each
-    each_stood : StoodStill (state a) (state c) → StoodStill (state a) (state b) × StoodStill (state b) (state c)
+    each_stood : SameFaults (port.state a) (port.state c) → SameFaults (port.state a) (port.state b) × SameFaults (port.state b) (port.state c)
     each_stood s = (
       record { failures = omega (arith, s.failures, p.failures, q.failures); wants = omega (arith, s.wants, p.wants, q.wants) },
       record { failures = omega (arith, s.failures, p.failures, q.failures); wants = omega (arith, s.wants, p.wants, q.wants) },
     )
 
     -- the second part begins with an open port
-    then_open : ComeFirst p.exchanges q.exchanges → (state b).is_open ≡ true → AsksWent state honest sound exchanged keeping closing a c (xs ++ ys)
+    then_open : ComeFirst p.exchanges q.exchanges → (port.state b).is_open ≡ true → AnswersAsks port keeping closing a c (xs ++ ys)
     then_open first e =
         let s = p.opened e in
         let joined = λ (others : List Exchange). both_parts others p.exchanges q.exchanges p.refused q.refused s.2 in
@@ -96,7 +96,7 @@ module _ {P : Type 0} (state : P → PortState) (honest : P → Type 0) (sound :
           asks = omega (arith, length-append xs ys, p.asks, q.asks);
           failures = omega (arith, p.failures, q.failures);
           wants = omega (arith, p.wants, q.wants);
-          one_fault = (let t = q.one_fault in let u = ap one_if s.0 in let v = ap one_if e in omega (arith, t, u, v, s.1.failures, s.1.wants));
+          one_fault = (let t = q.one_fault in let u = ap count_if s.0 in let v = ap count_if e in omega (arith, t, u, v, s.1.failures, s.1.wants));
           exchanges = p.exchanges ++ q.exchanges;
           kept_are = ap (λ zs. zs ++ ys) p.kept_are ∙ (ap (λ zs. answers_of p.exchanges ++ zs) q.kept_are ∙ sym (map-append (λ (x : Exchange). x.answer) p.exchanges q.exchanges));
           keeps = All-append keeping p.exchanges q.exchanges p.keeps q.keeps;
@@ -106,9 +106,9 @@ module _ {P : Type 0} (state : P → PortState) (honest : P → Type 0) (sound :
               let r = q.opened t in
               (s.0, record { failures = r.1.failures ∙ s.1.failures; wants = r.1.wants ∙ s.1.wants }, r.2));
           still = λ f. absurd (let o = s.0 in cc);
-          given = λ t others g. (let h = each_stood t in subst (exchanged c) (joined others) (q.given h.1 _ (p.given h.0 others g)));
+          given = λ t others g. (let h = each_stood t in subst (port.exchanged c) (joined others) (q.given h.1 _ (p.given h.0 others g)));
           honest_is = λ x. q.honest_is (p.honest_is x);
-          sound_is = λ ends others x. subst (sound c ends) (joined others) (q.sound_is ends _ (p.sound_is ends others x));
+          sound_is = λ ends others x. subst (port.sound c ends) (joined others) (q.sound_is ends _ (p.sound_is ends others x));
           why = λ t f. elim (q.why e f) [
             | inl r ↦ inl (omega (arith, r.0, p.failures, p.wants), r.1, r.2)
             | inr r ↦ inr (r.0, r.1, record { failures = r.2.failures ∙ s.1.failures; wants = r.2.wants ∙ s.1.wants }, r.3)
@@ -117,12 +117,12 @@ module _ {P : Type 0} (state : P → PortState) (honest : P → Type 0) (sound :
         }
 
     -- or with one that was closed, so there is no second part
-    then_closed : (state b).is_open ≡ false → AsksWent state honest sound exchanged keeping closing a c (xs ++ ys)
+    then_closed : (port.state b).is_open ≡ false → AnswersAsks port keeping closing a c (xs ++ ys)
     then_closed e =
         let s = q.still e in
         let fault = q.one_fault in
-        let shut = ap one_if e in
-        let more : StoodStill (state b) (state c) =
+        let shut = ap count_if e in
+        let more : SameFaults (port.state b) (port.state c) =
         record { failures = omega (arith, fault, shut, q.failures, q.wants); wants = omega (arith, fault, shut, q.failures, q.wants) } in
         let nothing : ys ≡ [] = q.kept_are ∙ ap (λ zs. answers_of zs) s.0 in
         let joined = λ (others : List Exchange). first_part others p.exchanges q.exchanges p.refused q.refused s.0 s.1 in
@@ -140,9 +140,9 @@ module _ {P : Type 0} (state : P → PortState) (honest : P → Type 0) (sound :
           refused = p.refused;
           opened = λ t. absurd (let r = (q.opened t).0 in cc);
           still = λ f. (let r = p.still f in (r.0, r.1, s.2 ∙ r.2));
-          given = λ t others g. (let h = each_stood t in subst (exchanged c) (joined others) (q.given h.1 _ (p.given h.0 others g)));
+          given = λ t others g. (let h = each_stood t in subst (port.exchanged c) (joined others) (q.given h.1 _ (p.given h.0 others g)));
           honest_is = λ x. q.honest_is (p.honest_is x);
-          sound_is = λ ends others x. subst (sound c ends) (joined others) (q.sound_is ends _ (p.sound_is ends others x));
+          sound_is = λ ends others x. subst (port.sound c ends) (joined others) (q.sound_is ends _ (p.sound_is ends others x));
           why = λ t f. elim (p.why t e) [
             | inl r ↦ inl (omega (arith, r.0, q.failures, q.wants), r.1, subst (λ (w : ℕ × ℕ). closing w None) (sym s.2) r.2)
             | inr r ↦ inr (
@@ -155,5 +155,5 @@ module _ {P : Type 0} (state : P → PortState) (honest : P → Type 0) (sound :
           why_honest = λ x t f. (let r = p.why_honest x t e in omega (arith, r, q.failures, q.wants));
         }
 
-    pub asks_then : ComeFirst p.exchanges q.exchanges → AsksWent state honest sound exchanged keeping closing a c (xs ++ ys)
-    asks_then first = elim (either (state b).is_open) [ inl e ↦ then_open first e | inr e ↦ then_closed e ]
+    pub asks_then : ComeFirst p.exchanges q.exchanges → AnswersAsks port keeping closing a c (xs ++ ys)
+    asks_then first = elim (either (port.state b).is_open) [ inl e ↦ then_open first e | inr e ↦ then_closed e ]

@@ -11,15 +11,15 @@ use Rattle.round_core.specs.Solver.{Progress}
 use Rattle.round_core.proofs.Full.{full_book_is_least}
 use Rattle.forest_run.specs.Asks.{IsLight}
 use Rattle.forest_run.specs.Runs.{IsFullBook}
-use Rattle.forest_run.specs.Chains.{IsMergedBy, AreMergedBy, IsSolvedBy}
+use Rattle.forest_run.specs.Chains.{MergesBook, MergesBooks, MergesFromStart}
 
 -- ---- a book more
 
-more : (old : Progress) (books : List Page) (middle : Progress) (book : Page) (new : Progress) → AreMergedBy old books middle → IsMergedBy middle book new → AreMergedBy old (books ++ book ∷ []) new
-more old [] middle book new so_far m = (new, subst (λ (p : Progress). IsMergedBy p book new) so_far m, refl)
+more : (old : Progress) (books : List Page) (middle : Progress) (book : Page) (new : Progress) → MergesBooks old books middle → MergesBook middle book new → MergesBooks old (books ++ book ∷ []) new
+more old [] middle book new so_far m = (new, subst (λ (p : Progress). MergesBook p book new) so_far m, refl)
 more old (b ∷ books) middle book new so_far m = (so_far.0, so_far.1, more so_far.0 books middle book new so_far.2 m)
 
-pub merged_then : (n : ℕ) (books : List Page) (old : Progress) (book : Page) (new : Progress) → IsSolvedBy n books old → IsMergedBy old book new → IsSolvedBy n (books ++ book ∷ []) new
+pub merged_then : (n : ℕ) (books : List Page) (old : Progress) (book : Page) (new : Progress) → MergesFromStart n books old → MergesBook old book new → MergesFromStart n (books ++ book ∷ []) new
 merged_then n books old book new s m = record { start = s.start; at_start = s.at_start; merged = more s.start books old book new s.merged m }
 
 -- ---- light answers

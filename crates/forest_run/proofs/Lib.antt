@@ -19,3 +19,4 @@ mod PlainRunning
 mod NewWires
 mod TalkedLines
 mod LinesRunning
+mod Again

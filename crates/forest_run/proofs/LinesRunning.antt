@@ -2,7 +2,7 @@
 use Rattle.std.proofs.Common.{◌≡◌, ℕ, zero, suc, ◌+◌, ◌<◌, ◌≤◌, ◌^◌, ◌⊎◌, inl, inr, true, List, [], ◌∷◌, length, get_or, take, map, None, Ok, Err, refl, sym, ap, subst, ◌∙◌, arith}
 use Rattle.std.specs.Prelude.{All, Contains, Vec, max, filter}
 use Rattle.std.proofs.lemmas.List.{length-append, length-map, get_or_append_left, get_or-append-add}
-use Rattle.std.proofs.lemmas.List.Elements.{All-head, All-tail}
+use Rattle.std.proofs.lemmas.List.Elements.{All-head, All-tail, All-contains}
 use Rattle.std.proofs.lemmas.List.Sorted.{IsPermutation-remove, length_permutation, Contains-permutation}
 use Rattle.std.proofs.lemmas.List.Sums.{sum_by-cons}
 use Rattle.std.specs.List.{remove}
@@ -17,6 +17,7 @@ use Rattle.link_key.specs.declared.cuts.CutFault.TheVariants as cut
 use Rattle.link_key.specs.Cut.{joined, IsCutFault}
 use Rattle.link_key.specs.Link.{IsBelow, IsAscending, EndsUpTo, key_of, arc_key, is_no_loop}
 use Rattle.link_key.specs.Forest.{IsForestOf}
+use Rattle.link_key.specs.Least.{IsSpanningForestOf, IsLightest}
 use Rattle.link_key.proofs.Keys.{below_irrefl}
 use Rattle.gr_text.specs.ForestText.{forest_text}
 use Rattle.gr_text.specs.Graph.{GraphValue, IsGraphOf}
@@ -25,16 +26,16 @@ use Rattle.gr_text.specs.Sourced.{IsReadOf}
 use Rattle.gr_text.proofs.Texts.{means_one_graph}
 use Rattle.round_core.specs.declared.solver.SolveFault.{SolveFault}
 use Rattle.round_core.specs.declared.solver.SolveFault.TheVariants as solving
-use Rattle.ports.specs.Lines.{LineState}
+use Rattle.ports.specs.declared.line.Line as Line
 use Rattle.ports.specs.Wires.{WireState, port_of}
 use Rattle.forest_run.specs.declared.cutting.Cutting.{Cutting}
 use Rattle.forest_run.specs.declared.fault.RunFault.TheVariants as fault
 use Rattle.forest_run.specs.declared.report.Report.{Report}
-use Rattle.forest_run.specs.Lanes.{LaneState, one_if, open_of}
+use Rattle.forest_run.specs.Lanes.{LaneState, count_if, open_count}
 use Rattle.forest_run.specs.Cuttings.{cut_refusal, IsCutOf}
-use Rattle.forest_run.specs.Outcomes.{streams, IsUnsolved, IsLeast}
-use Rattle.forest_run.specs.WiredLines.{AreServed, LinesSolved, LinesRefused}
-use Rattle.forest_run.specs.LinesRun.{IsSpanningForest, IsSpanning, IsLinesReport, LinesWent, IsLinesFault, told_fault, RanLines, IsHonestReport, IsServedReport, IsServedFault, RanServed}
+use Rattle.forest_run.specs.Outcomes.{streams, IsUnsolved, IsSpanning, IsLeast}
+use Rattle.forest_run.specs.WiredLines.{AreServed, FindsOverLines, RefusesOverLines}
+use Rattle.forest_run.specs.LinesRun.{IsLinesReport, RunsOverLines, IsLinesFault, told_fault, RanLines, IsHonestReport, IsServedReport, IsServedFault, RanServed}
 use Rattle.forest_run.proofs.PlainRunning.{unsolved, broken_off}
 use Rattle.forest_run.proofs.NewWires.{served_honest}
 use Rattle.forest_run.proofs.TalkedLines.{have_talked}
@@ -79,27 +80,27 @@ few_enough n m less few = omega (arith, less, few)
 
 -- ---- the forest and the report
 
-module _ {L : Type 0} (state : L → LineState) (faithful : L → ℕ → Type 0) (n : ℕ) (cut : List (List Link)) (links : List Link) (whole : joined cut ≡ links) (before after : List L) (forest : List Link) (report : Report)
-    (solved : LinesSolved state faithful n cut before after forest report) where
-  pub spanning : IsSpanningForest links forest
+module _ {L A : Type 0} (over : Line.Ghosts L) (n : ℕ) (cut : List (List Link)) (links : List Link) (whole : joined cut ≡ links) (before after : List L) (forest : List Link) (report : Report)
+    (solved : FindsOverLines A over n cut before after forest report) where
+  pub spanning : IsAscending forest × IsSpanningForestOf links forest
   spanning =
       let f = solved.went.finished in
-      subst (λ (ls : List Link). IsSpanningForest ls forest) whole (record { ascending = f.ascending; from_list = solved.went.from_list; no_cycle = f.no_cycle; spans = f.spans })
+      (f.ascending, subst (λ (ls : List Link). IsSpanningForestOf ls forest) whole (record { from_list = λ l l_in. All-contains (Contains (joined cut)) forest l solved.went.from_list l_in; no_cycle = f.no_cycle; spans = f.spans }))
 
   pub few_links : length forest ≤ length links
-  few_links = no_longer forest links spanning.ascending spanning.from_list
+  few_links = no_longer forest links spanning.0 (subst (λ (ls : List Link). All (Contains ls) forest) whole solved.went.from_list)
 
   -- all new wires are open
-  open_all : (lanes : List (LaneState (WireState L))) → ((i : ℕ) (d : LaneState (WireState L)) → i < length lanes → (get_or lanes i d).port.is_open ≡ true) → open_of port_of lanes ≡ length lanes
+  open_all : (lanes : List (LaneState (WireState L))) → ((i : ℕ) (d : LaneState (WireState L)) → i < length lanes → (get_or lanes i d).port.is_open ≡ true) → open_count port_of lanes ≡ length lanes
   open_all [] opened = refl
   open_all (lane ∷ lanes) opened =
-      let here : one_if lane.port.is_open ≡ 1 = ap one_if (opened 0 lane (omega arith)) in
-      omega (arith, sum_by-cons (λ (l : LaneState (WireState L)). one_if (port_of l.port).is_open) lane lanes, here, open_all lanes (λ i d b. opened (suc i) d (omega arith)))
+      let here : count_if lane.port.is_open ≡ 1 = ap count_if (opened 0 lane (omega arith)) in
+      omega (arith, sum_by-cons (λ (l : LaneState (WireState L)). count_if (port_of l.port).is_open) lane lanes, here, open_all lanes (λ i d b. opened (suc i) d (omega arith)))
 
-  pub opened_all : open_of port_of solved.lanes ≡ length before
+  pub opened_all : open_count port_of solved.lanes ≡ length before
   opened_all = open_all solved.lanes (λ i d b. (solved.new.each i d.port.talk.line d (let e = solved.new.number in omega arith)).opened) ∙ solved.new.number
 
-  pub reported : (graph : GraphValue) → n ≡ graph.vertices → graph.links ≡ links → IsLinesReport (length before) graph (length cut) report
+  pub reported : (graph : GraphValue) → n ≡ graph.vertices → graph.links ≡ links → IsLinesReport (length before) graph (length cut) forest report
   reported graph vertices same =
       let went = solved.went in
       let closed = went.closed in
@@ -113,55 +114,58 @@ module _ {L : Type 0} (state : L → LineState) (faithful : L → ℕ → Type 0
         answered = went.counts.answered;
         few_closed = omega (arith, closed, opened);
         alone = λ some. (let none = went.went.rounds.closed some in omega (arith, closed, opened, none));
+        total = went.counts.total;
       }
 
-  pub least : AreServed state faithful before → IsForestOf links forest
-  least served = subst (λ (ls : List Link). IsForestOf ls forest) whole (solved.went.honest_forest (served_honest state faithful before cut solved.lanes solved.new served))
+  pub least : AreServed over before → IsForestOf links forest
+  least served = subst (λ (ls : List Link). IsForestOf ls forest) whole (solved.went.honest_forest (served_honest over before cut solved.lanes solved.new served))
 
 -- what a run says of a graph that it found a forest of
-module _ {L : Type 0} (state : L → LineState) (faithful : L → ℕ → Type 0) (cutting : Cutting) (graph : GraphValue) (shards : List (List Link)) (is : IsCutOf cutting graph.links shards) (before after : List L) (forest : List Link) (report : Report)
-    (solved : LinesSolved state faithful graph.vertices shards before after forest report) where
-  honest_report : AreServed state faithful before → IsHonestReport graph report
+module _ {L A : Type 0} (over : Line.Ghosts L) (cutting : Cutting) (graph : GraphValue) (shards : List (List Link)) (is : IsCutOf cutting graph.links shards) (before after : List L) (forest : List Link) (report : Report)
+    (solved : FindsOverLines A over graph.vertices shards before after forest report) where
+  honest_report : AreServed over before → IsHonestReport graph report
   honest_report served = record {
     rounds_are =
-        subst (λ (ls : List Link). IsMergingRounds graph.vertices ls report.rounds) is.whole (solved.went.honest_rounds (served_honest state faithful before shards solved.lanes solved.new served));
+        subst (λ (ls : List Link). IsMergingRounds graph.vertices ls report.rounds) is.whole (solved.went.honest_rounds (served_honest over before shards solved.lanes solved.new served));
     in_time = solved.went.in_time;
+    lightest =
+        subst (λ (ls : List Link). IsLightest ls report.total) is.whole (solved.went.honest_total (served_honest over before shards solved.lanes solved.new served));
   }
 
-  pub served_report : AreServed state faithful before → IsServedReport cutting graph report
-  served_report served = record { allowed = is.allowed; honest = honest_report served }
+  pub served_report : AreServed over before → IsServedReport cutting graph forest report
+  served_report served = record { allowed = is.allowed; honest = honest_report served; total = solved.went.counts.total }
 
-  pub lines_went : LinesWent state faithful cutting before after graph forest report
+  pub lines_went : RunsOverLines A over cutting before after graph forest report
   lines_went = record {
     cut = shards;
     cut_is = is;
-    report_is = reported state faithful graph.vertices shards graph.links is.whole before after forest report solved graph refl refl;
+    report_is = reported over graph.vertices shards graph.links is.whole before after forest report solved graph refl refl;
     solved = solved;
-    least = λ served. (least state faithful graph.vertices shards graph.links is.whole before after forest report solved served, honest_report served);
-    talked = λ scanned closed fresh. have_talked state faithful graph.vertices shards before after forest report solved scanned (open_still scanned closed) fresh;
+    least = λ served. (least over graph.vertices shards graph.links is.whole before after forest report solved served, honest_report served);
+    talked = λ scanned closed fresh. have_talked over graph.vertices shards before after forest report solved scanned (open_still scanned closed) fresh;
   }
     where
-      open_still : report.alone ≡ 0 → report.closed ≡ 0 → open_of port_of solved.ended ≡ length before
+      open_still : report.alone ≡ 0 → report.closed ≡ 0 → open_count port_of solved.ended ≡ length before
       open_still scanned closed =
-          let all = opened_all state faithful graph.vertices shards graph.links is.whole before after forest report solved in
+          let all = opened_all over graph.vertices shards graph.links is.whole before after forest report solved in
           omega (arith, solved.went.closed, closed, all)
 
 -- ---- why there is no forest
 
-module _ {L : Type 0} (state : L → LineState) (faithful : L → ℕ → Type 0) (cutting : Cutting) (lines : List L) (graph : GraphValue) (s t : SourceState) (a : SinkState) (read : IsReadOf MAX_BYTES (Ok graph) s t) where
+module _ {L : Type 0} (A : Type 0) (over : Line.Ghosts L) (cutting : Cutting) (lines : List L) (graph : GraphValue) (s t : SourceState) (a : SinkState) (read : IsReadOf MAX_BYTES (Ok graph) s t) where
   pub cut_unsolved : (why : CutFault) → IsCutFault (cut_refusal cutting (length graph.links)) why
-      → IsUnsolved (λ g. IsLinesFault state faithful cutting lines g (fault.Cut why)) (streams s a) (streams t a)
-  cut_unsolved why refused = unsolved (λ g. IsLinesFault state faithful cutting lines g (fault.Cut why)) graph s t a read refused
+      → IsUnsolved (λ g. IsLinesFault A over cutting lines g (fault.Cut why)) (streams s a) (streams t a)
+  cut_unsolved why refused = unsolved (λ g. IsLinesFault A over cutting lines g (fault.Cut why)) graph s t a read refused
 
-  pub solve_unsolved : (A : Type 0) (shards : List (List Link)) → IsCutOf cutting graph.links shards → (why : SolveFault) → (why ≡ solving.Memory) ⊎ LinesRefused state faithful graph.vertices shards lines why
-      → RanLines {A = A} state faithful cutting lines (Err (told_fault why)) (streams s a) (streams t a)
-  solve_unsolved A shards is (solving.Rounds round) (inl none) = absurd (cc)
-  solve_unsolved A shards is (solving.Rounds round) (inr refused) =
-      unsolved (λ g. IsLinesFault state faithful cutting lines g (fault.Rounds round)) graph s t a read (record { cut = shards; cut_is = is; refused = refused })
-  solve_unsolved A shards is (solving.Missed link) (inl none) = absurd (cc)
-  solve_unsolved A shards is (solving.Missed link) (inr refused) =
-      unsolved (λ g. IsLinesFault state faithful cutting lines g (fault.Missed link)) graph s t a read (record { cut = shards; cut_is = is; refused = refused })
-  solve_unsolved A shards is solving.Memory why = unsolved (λ g. IsLinesFault state faithful cutting lines g fault.Memory) graph s t a read is.allowed
+  pub solve_unsolved : (shards : List (List Link)) → IsCutOf cutting graph.links shards → (why : SolveFault) → (why ≡ solving.Memory) ⊎ RefusesOverLines A over graph.vertices shards lines why
+      → RanLines {A = A} over cutting lines (Err (told_fault why)) (streams s a) (streams t a)
+  solve_unsolved shards is (solving.Rounds round) (inl none) = absurd (cc)
+  solve_unsolved shards is (solving.Rounds round) (inr refused) =
+      unsolved (λ g. IsLinesFault A over cutting lines g (fault.Rounds round)) graph s t a read (record { cut = shards; cut_is = is; refused = refused })
+  solve_unsolved shards is (solving.Missed link) (inl none) = absurd (cc)
+  solve_unsolved shards is (solving.Missed link) (inr refused) =
+      unsolved (λ g. IsLinesFault A over cutting lines g (fault.Missed link)) graph s t a read (record { cut = shards; cut_is = is; refused = refused })
+  solve_unsolved shards is solving.Memory why = unsolved (λ g. IsLinesFault A over cutting lines g fault.Memory) graph s t a read is.allowed
 
 module _ (cutting : Cutting) (graph : GraphValue) (s t : SourceState) (a : SinkState) (read : IsReadOf MAX_BYTES (Ok graph) s t) where
   pub cut_served : (why : CutFault) → IsCutFault (cut_refusal cutting (length graph.links)) why → IsUnsolved (λ g. IsServedFault cutting g (fault.Cut why)) (streams s a) (streams t a)
@@ -185,16 +189,16 @@ had_setback written text a b part calm = absurd (omega (arith, took_unhindered 1
 
 -- ---- a forest whose text went out in part
 
-pub lines_broken_off : {L A : Type 0} (state : L → LineState) (faithful : L → ℕ → Type 0) (cutting : Cutting) (graph : GraphValue) (before : List L) (forest : List Link) (report : Report) (after : Vec L A)
+pub lines_broken_off : {L A : Type 0} (over : Line.Ghosts L) (cutting : Cutting) (graph : GraphValue) (before : List L) (forest : List Link) (report : Report) (after : Vec L A)
     (written n : ℕ) (s t : SourceState) (a b : SinkState) → IsReadOf MAX_BYTES (Ok graph) s t → IsSpanning graph forest → length forest ≤ 2 ^ 55 → n ≡ graph.vertices
-    → PrefixWentOut written (forest_text n forest) a b → LinesWent state faithful cutting before after.items graph forest report
-    → RanLines {A = A} state faithful cutting before (Err (fault.Write written)) (streams s a) (streams t b)
-lines_broken_off {L = L} {A = A} state faithful cutting graph before forest report after written n s t a b read found few same part said =
-    broken_off {X = Report × Vec L A} IsSpanning (λ g f r. LinesWent state faithful cutting before r.1.items g f r.0) (report, after) written graph forest n s t a b read found few same part said
+    → PrefixWentOut written (forest_text n forest) a b → RunsOverLines A over cutting before after.items graph forest report
+    → RanLines {A = A} over cutting before (Err (fault.Write written)) (streams s a) (streams t b)
+lines_broken_off {L = L} {A = A} over cutting graph before forest report after written n s t a b read found few same part said =
+    broken_off {X = Report × Vec L A} IsSpanning (λ g f r. RunsOverLines A over cutting before r.1.items g f r.0) (report, after) written graph forest n s t a b read found few same part said
 
 pub served_broken_off : {X : Type 0} (cutting : Cutting) (graph : GraphValue) (forest : List Link) (report : Report) (after : X)
     (written n : ℕ) (s t : SourceState) (a b : SinkState) → IsReadOf MAX_BYTES (Ok graph) s t → IsLeast graph forest → length forest ≤ 2 ^ 55 → n ≡ graph.vertices
-    → PrefixWentOut written (forest_text n forest) a b → IsServedReport cutting graph report
+    → PrefixWentOut written (forest_text n forest) a b → IsServedReport cutting graph forest report
     → RanServed {X = X} cutting (Err (fault.Write written)) (streams s a) (streams t b)
 served_broken_off {X = X} cutting graph forest report after written n s t a b read found few same part said =
-    broken_off {X = Report × X} IsLeast (λ g f r. IsServedReport cutting g r.0) (report, after) written graph forest n s t a b read found few same part said
+    broken_off {X = Report × X} IsLeast (λ g f r. IsServedReport cutting g f r.0) (report, after) written graph forest n s t a b read found few same part said

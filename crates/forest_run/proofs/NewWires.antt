@@ -6,14 +6,15 @@ use Rattle.std.proofs.lemmas.List.{length-append, length-map, length-reverse, ma
 use Rattle.std.proofs.lemmas.List.Elements.{All-push, All-nil}
 use Rattle.link_key.specs.declared.links.Link.{Link}
 use Rattle.frames.specs.AnswerValue.{AnswerValue}
-use Rattle.ports.specs.Lines.{LineState, HasRoom, IsFresh, Tells}
-use Rattle.ports.specs.Wires.{WireState, IsNewWire, IsCalm, port_of, IsHonestWire, IsSoundWire, WireExchanged}
+use Rattle.ports.specs.declared.line.Line as Line
+use Rattle.ports.specs.Lines.{LineState, HasRoom, IsFresh, TellsBytes}
+use Rattle.ports.specs.Wires.{WireState, IsNewWire, IsFaultless, port_of, wire_port, IsHonestWire, IsSoundWire}
 use Rattle.ports.proofs.Wiring.{fresh_calm}
 use Rattle.forest_run.specs.Lanes.{LaneState, IsIdle}
 use Rattle.forest_run.specs.Asks.{answered}
-use Rattle.forest_run.specs.Runs.{PortsWent}
-use Rattle.forest_run.specs.WiredLines.{AreServed, AreNewLanes, lines_of, WiresWent, LinesSolved, LinesRefused}
-use Rattle.forest_run.specs.Solved.{AreHonest, SolveWent, IsSolveFault}
+use Rattle.forest_run.specs.Runs.{PortsAnswer}
+use Rattle.forest_run.specs.WiredLines.{AreServed, AreNewLanes, lines_of, TellsOfWires, FindsOverLines, RefusesOverLines}
+use Rattle.forest_run.specs.Solved.{AreHonest, FindsForest, IsSolveFault}
 use Rattle.forest_run.specs.declared.report.Report.{Report}
 use Rattle.round_core.specs.Page.{Page}
 use Rattle.round_core.specs.declared.solver.SolveFault.{SolveFault}
@@ -97,22 +98,22 @@ module _ {L : Type 0} where
 
 -- ---- what new wires over new lines are
 
-module _ {L : Type 0} (state : L → LineState) (faithful : L → ℕ → Type 0) where
-  new_calm : (line : L) (cut : List (List Link)) (worker : ℕ) (wire : WireState L) → IsNewWire line cut worker wire → IsFresh (state line) → Tells (state line) → IsCalm state (state line).ends wire [] []
+module _ {L : Type 0} (over : Line.Ghosts L) where
+  new_calm : (line : L) (cut : List (List Link)) (worker : ℕ) (wire : WireState L) → IsNewWire line cut worker wire → IsFresh (over.state line) → TellsBytes (over.state line) → IsFaultless over.state (over.state line).ends wire [] []
   new_calm line cut worker wire new fresh tells =
-      fresh_calm state wire (state line).ends (subst (λ l. IsFresh (state l)) (sym new.line_is) fresh) (subst (λ l. Tells (state l)) (sym new.line_is) tells) (ap (λ l. (state l).ends) new.line_is) new.ungreeted new.nothing_sent new.asks new.failures new.wants new.last
+      fresh_calm over.state wire (over.state line).ends (subst (λ l. IsFresh (over.state l)) (sym new.line_is) fresh) (subst (λ l. TellsBytes (over.state l)) (sym new.line_is) tells) (ap (λ l. (over.state l).ends) new.line_is) new.ungreeted new.nothing_sent new.asks new.failures new.wants new.last
 
-  pub new_sound : (line : L) (cut : List (List Link)) (worker : ℕ) (wire : WireState L) → IsNewWire line cut worker wire → IsFresh (state line) → Tells (state line) → IsSoundWire state wire (state line).ends []
+  pub new_sound : (line : L) (cut : List (List Link)) (worker : ℕ) (wire : WireState L) → IsNewWire line cut worker wire → IsFresh (over.state line) → TellsBytes (over.state line) → IsSoundWire over.state wire (over.state line).ends []
   new_sound line cut worker wire new fresh tells = inl ([], new_calm line cut worker wire new fresh tells)
 
-  pub new_honest : (line : L) (cut : List (List Link)) (worker : ℕ) (wire : WireState L) → IsNewWire line cut worker wire → IsFresh (state line) → Tells (state line) → faithful line worker
-      → IsHonestWire state faithful wire
+  pub new_honest : (line : L) (cut : List (List Link)) (worker : ℕ) (wire : WireState L) → IsNewWire line cut worker wire → IsFresh (over.state line) → TellsBytes (over.state line) → over.faithful line worker
+      → IsHonestWire over wire
   new_honest line cut worker wire new fresh tells carries =
-      (subst (λ w. faithful wire.talk.line w) (sym new.worker_is) (subst (λ l. faithful l worker) (sym new.line_is) carries), ((state line).ends, [], inl ([], new_calm line cut worker wire new fresh tells)))
+      (subst (λ w. over.faithful wire.talk.line w) (sym new.worker_is) (subst (λ l. over.faithful l worker) (sym new.line_is) carries), ((over.state line).ends, [], inl ([], new_calm line cut worker wire new fresh tells)))
 
   -- over lines that are served each wire is honest
-  pub served_honest : (lines : List L) (cut : List (List Link)) (lanes : List (LaneState (WireState L))) → AreNewLanes lines cut lanes → AreServed state faithful lines
-      → AreHonest (IsHonestWire state faithful) lanes
+  pub served_honest : (lines : List L) (cut : List (List Link)) (lanes : List (LaneState (WireState L))) → AreNewLanes lines cut lanes → AreServed over lines
+      → AreHonest (IsHonestWire over) lanes
   served_honest lines cut lanes new served i d b =
       let within : i < length lines = (let e = new.number in omega arith) in
       let line : L = d.port.talk.line in
@@ -134,9 +135,9 @@ module _ {L : Type 0} where
 pub written_back : {X : Type 0} (n : ℕ) (xs ys : List X) → length ys ≡ n → take n (ys ++ drop (length ys) xs) ≡ ys
 written_back n xs ys e = take_at ys (drop (length ys) xs) n e
 
-module _ {L : Type 0} (state : L → LineState) (faithful : L → ℕ → Type 0) (n : ℕ) (cut : List (List Link)) (lines : List L) (before after : List (LaneState (WireState L))) (new : AreNewLanes lines cut before) where
+module _ {L A : Type 0} (over : Line.Ghosts L) (n : ℕ) (cut : List (List Link)) (lines : List L) (before after : List (LaneState (WireState L))) (new : AreNewLanes lines cut before) where
   wires_went : (books : List Page) (answers_at : ℕ → List AnswerValue)
-      → PortsWent port_of (IsHonestWire state faithful) (IsSoundWire state) (WireExchanged state) books before after answers_at → WiresWent state faithful lines after
+      → PortsAnswer (wire_port A over) books before after answers_at → TellsOfWires over lines after
   wires_went books answers_at ports =
       let number = new.number in
       record {
@@ -144,17 +145,17 @@ module _ {L : Type 0} (state : L → LineState) (faithful : L → ℕ → Type 0
         sound = λ worker line lane b fresh tells.
             (let went = ports.each worker lane (omega (arith, number, b)) in (
               answered went.exchanges went.refused,
-              went.sound_is (state (get_or lines worker line)).ends [] (new_sound state faithful (get_or lines worker line) cut worker (get_or before worker lane).port (new.each worker line lane b) fresh tells),
+              went.sound_is (over.state (get_or lines worker line)).ends [] (new_sound over (get_or lines worker line) cut worker (get_or before worker lane).port (new.each worker line lane b) fresh tells),
             ));
         honest = λ worker line lane b fresh tells carries.
-            (ports.each worker lane (omega (arith, number, b))).honest_is (new_honest state faithful (get_or lines worker line) cut worker (get_or before worker lane).port (new.each worker line lane b) fresh tells carries);
+            (ports.each worker lane (omega (arith, number, b))).honest_is (new_honest over (get_or lines worker line) cut worker (get_or before worker lane).port (new.each worker line lane b) fresh tells carries);
       }
 
-  pub solve_fault : (fault : SolveFault) → IsSolveFault port_of (IsHonestWire state faithful) (IsSoundWire state) (WireExchanged state) n cut before after fault
-      → (fault ≡ Memory) ⊎ LinesRefused state faithful n cut lines fault
+  pub solve_fault : (fault : SolveFault) → IsSolveFault (wire_port A over) n cut before after fault
+      → (fault ≡ Memory) ⊎ RefusesOverLines A over n cut lines fault
   solve_fault fault (inl none) = inl none
   solve_fault fault (inr refused) = inr (record { lanes = before; new = new; ended = after; refused = refused; wires = (let rounds = refused.went.rounds in wires_went _ rounds.answers_at rounds.ports) })
 
-  pub solve_went : (forest : List Link) (report : Report) (lines' : List L) → SolveWent port_of (IsHonestWire state faithful) (IsSoundWire state) (WireExchanged state) n cut before after forest report
-      → lines' ≡ lines_of after → LinesSolved state faithful n cut lines lines' forest report
+  pub solve_went : (forest : List Link) (report : Report) (lines' : List L) → FindsForest (wire_port A over) n cut before after forest report
+      → lines' ≡ lines_of after → FindsOverLines A over n cut lines lines' forest report
   solve_went forest report lines' went out = record { lanes = before; new = new; ended = after; went = went; wires = (let rounds = went.went.rounds in wires_went _ rounds.answers_at rounds.ports); lines_are = out }

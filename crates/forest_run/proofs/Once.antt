@@ -12,25 +12,25 @@ use Rattle.frames.specs.AnswerValue.{AnswerValue}
 use Rattle.round_core.specs.Page.{Page, IsPage, IsBook, opened, heard, is_taken}
 use Rattle.round_core.proofs.Books.{book_opened}
 use Rattle.round_core.proofs.Full.{book_heard}
-use Rattle.forest_run.specs.Lanes.{LaneState, all_kept}
-use Rattle.forest_run.specs.Asks.{AreForOne, shards_of}
-use Rattle.forest_run.specs.Passes.{AreOnce}
-use Rattle.forest_run.specs.Taking.{heard_all, AreTaken}
+use Rattle.forest_run.specs.Lanes.{LaneState, kept_answers}
+use Rattle.forest_run.specs.Asks.{SameShard, shards_of}
+use Rattle.forest_run.specs.Passes.{AnswersOnce}
+use Rattle.forest_run.specs.Taking.{with_answers, TakesAll}
 use Rattle.forest_run.proofs.AsksThen.{either}
 use Rattle.forest_run.proofs.Takes.{Distinct, untaken, kept_at, kept_to, taken_before, set_takes}
 
 -- ---- what went into a book
 
 -- an answer that went into a book was one of a shard that it missed
-pub was_free : (p : Page) (ts : List AnswerValue) (t : AnswerValue) → AreTaken p ts → Contains ts t → is_taken p t.shard ≡ false
+pub was_free : (p : Page) (ts : List AnswerValue) (t : AnswerValue) → TakesAll p ts → Contains ts t → is_taken p t.shard ≡ false
 was_free p [] t are h = absurd (omega (arith, h.1))
 was_free p (x ∷ ts) t are (zero, b, e) = subst (λ (a : AnswerValue). is_taken p a.shard ≡ false) e (untaken p x are.0)
 was_free p (x ∷ ts) t are (suc k, b, e) = taken_before p (x ∷ []) t.shard (was_free (heard p x) ts t are.1 (k, omega arith, e))
 
 -- and now the book misses it no more
-pub is_taken_now : (p : Page) (ts : List AnswerValue) (t : AnswerValue) → Contains ts t → is_taken (heard_all p ts) t.shard ≡ true
+pub is_taken_now : (p : Page) (ts : List AnswerValue) (t : AnswerValue) → Contains ts t → is_taken (with_answers p ts) t.shard ≡ true
 is_taken_now p [] t h = absurd (omega (arith, h.1))
-is_taken_now p (x ∷ ts) t (zero, b, e) = elim (either (is_taken (heard_all (heard p x) ts) t.shard)) [
+is_taken_now p (x ∷ ts) t (zero, b, e) = elim (either (is_taken (with_answers (heard p x) ts) t.shard)) [
   | inl e1 ↦ e1
   | inr e2 ↦ absurd (
       let before : is_taken (heard p x) t.shard ≡ false = taken_before (heard p x) ts t.shard e2 in
@@ -46,12 +46,12 @@ page_opened round cut labels are ends few =
     book_opened round (length cut) cut labels (replicate (length cut) false) [] nothing are ends few refl refl (omega arith) long
     (λ i d b. get_or-replicate (length labels) i None d (omega (arith, b, long)))
 
-book_all : (p : Page) (ts : List AnswerValue) (room : ℕ) (best : List (Option Link)) → IsBook p room best → AreTaken p ts → IsBook (heard_all p ts) room best
+book_all : (p : Page) (ts : List AnswerValue) (room : ℕ) (best : List (Option Link)) → IsBook p room best → TakesAll p ts → IsBook (with_answers p ts) room best
 book_all p [] room best is are = is
 book_all p (t ∷ ts) room best is are = book_all (heard p t) ts room best (book_heard p room best t.shard t is are.0.within are.0.taken) are.1
 
 -- a book that was opened stays a book
-pub page_of : (round : ℕ) (cut : List (List Link)) (labels : List ℕ) (ts : List AnswerValue) → AreLabels labels → All (EndsUpTo (length labels)) cut → length cut ≤ MAX_SHARDS → AreTaken (opened round cut labels) ts → IsPage (heard_all (opened round cut labels) ts)
+pub page_of : (round : ℕ) (cut : List (List Link)) (labels : List ℕ) (ts : List AnswerValue) → AreLabels labels → All (EndsUpTo (length labels)) cut → length cut ≤ MAX_SHARDS → TakesAll (opened round cut labels) ts → IsPage (with_answers (opened round cut labels) ts)
 page_of round cut labels ts labels_are ends few are = (book_all (opened round cut labels) ts _ _ (page_opened round cut labels labels_are ends few) are).page
 
 -- ---- lists of numbers, none of which stands twice
@@ -91,26 +91,26 @@ shard_here (t ∷ ts) zero d = refl
 shard_here (t ∷ ts) (suc k) d = shard_here ts k d
 
 -- kept answers whose shards differ are one for each shard
-pub once_of : {P : Type 0} (lanes : List (LaneState P)) → Distinct (shards_of (all_kept lanes)) → AreOnce (length lanes) (kept_at lanes)
+pub once_of : {P : Type 0} (lanes : List (LaneState P)) → Distinct (shards_of (kept_answers lanes)) → AnswersOnce (length lanes) (kept_at lanes)
 once_of [] d i j k l t a b c e same = absurd (omega arith)
 once_of (x ∷ xs) d zero zero k l t a b c e same =
-    let apart : Distinct (shards_of x.kept ++ shards_of (all_kept xs)) = rw (shards_cut x.kept (all_kept xs)) at d in
+    let apart : Distinct (shards_of x.kept ++ shards_of (kept_answers xs)) = rw (shards_cut x.kept (kept_answers xs)) at d in
     let long : length (shards_of x.kept) ≡ length x.kept = length-map x.kept (λ (a : AnswerValue). a.shard) in
-    (refl, distinct_places (shards_of x.kept) (shards_of (all_kept xs)) k l t.shard apart (omega arith) (omega arith) (shard_here x.kept k t ∙ (same.1 ∙ sym (shard_here x.kept l t))))
+    (refl, distinct_places (shards_of x.kept) (shards_of (kept_answers xs)) k l t.shard apart (omega arith) (omega arith) (shard_here x.kept k t ∙ (same.1 ∙ sym (shard_here x.kept l t))))
 once_of (x ∷ xs) d zero (suc j) k l t a b c e same =
-    let apart : Distinct (shards_of x.kept ++ shards_of (all_kept xs)) = rw (shards_cut x.kept (all_kept xs)) at d in
+    let apart : Distinct (shards_of x.kept ++ shards_of (kept_answers xs)) = rw (shards_cut x.kept (kept_answers xs)) at d in
     let first = get_or x.kept k t in
     let other = get_or (kept_at xs j) l t in
-    let there : Contains (all_kept xs) other = kept_to xs j other (omega arith) (All-contains_itself (kept_at xs j) l t e) in
-    absurd (distinct_apart (shards_of x.kept) (shards_of (all_kept xs)) first.shard apart (named x.kept first (All-contains_itself x.kept k t c)) (subst (Contains (shards_of (all_kept xs))) (sym same.1) (named (all_kept xs) other there)))
+    let there : Contains (kept_answers xs) other = kept_to xs j other (omega arith) (All-contains_itself (kept_at xs j) l t e) in
+    absurd (distinct_apart (shards_of x.kept) (shards_of (kept_answers xs)) first.shard apart (named x.kept first (All-contains_itself x.kept k t c)) (subst (Contains (shards_of (kept_answers xs))) (sym same.1) (named (kept_answers xs) other there)))
 once_of (x ∷ xs) d (suc i) zero k l t a b c e same =
-    let apart : Distinct (shards_of x.kept ++ shards_of (all_kept xs)) = rw (shards_cut x.kept (all_kept xs)) at d in
+    let apart : Distinct (shards_of x.kept ++ shards_of (kept_answers xs)) = rw (shards_cut x.kept (kept_answers xs)) at d in
     let first = get_or x.kept l t in
     let other = get_or (kept_at xs i) k t in
-    let there : Contains (all_kept xs) other = kept_to xs i other (omega arith) (All-contains_itself (kept_at xs i) k t c) in
-    absurd (distinct_apart (shards_of x.kept) (shards_of (all_kept xs)) first.shard apart (named x.kept first (All-contains_itself x.kept l t e)) (subst (Contains (shards_of (all_kept xs))) same.1 (named (all_kept xs) other there)))
+    let there : Contains (kept_answers xs) other = kept_to xs i other (omega arith) (All-contains_itself (kept_at xs i) k t c) in
+    absurd (distinct_apart (shards_of x.kept) (shards_of (kept_answers xs)) first.shard apart (named x.kept first (All-contains_itself x.kept l t e)) (subst (Contains (shards_of (kept_answers xs))) same.1 (named (kept_answers xs) other there)))
 once_of (x ∷ xs) d (suc i) (suc j) k l t a b c e same =
-    let rest : Distinct (shards_of (all_kept xs)) = distinct_rest (shards_of x.kept) (shards_of (all_kept xs)) (rw (shards_cut x.kept (all_kept xs)) at d) in
+    let rest : Distinct (shards_of (kept_answers xs)) = distinct_rest (shards_of x.kept) (shards_of (kept_answers xs)) (rw (shards_cut x.kept (kept_answers xs)) at d) in
     let r = once_of xs rest i j k l t (omega arith) (omega arith) c e same in
     (ap suc r.0, r.1)
 
@@ -124,15 +124,15 @@ record InBoth (xs ys : List AnswerValue) (k : ℕ) (d : AnswerValue) : Type 0 wh
 in_both : (xs ys : List AnswerValue) (k : ℕ) (d : AnswerValue) → InBoth xs ys k d
 in_both xs ys k d = record { first = λ b. get_or_append_left xs ys d k b; second = λ b. get_or-append_right xs ys (length xs) k d refl b }
 
-one_same : (a b c e : AnswerValue) → a ≡ c → b ≡ e → AreForOne a b → AreForOne c e
-one_same a b c e p q same = subst (λ (x : AnswerValue). AreForOne x e) p (subst (AreForOne a) q same)
+one_same : (a b c e : AnswerValue) → a ≡ c → b ≡ e → SameShard a b → SameShard c e
+one_same a b c e p q same = subst (λ (x : AnswerValue). SameShard x e) p (subst (SameShard a) q same)
 
-other_way : (a b : AnswerValue) → AreForOne a b → AreForOne b a
+other_way : (a b : AnswerValue) → SameShard a b → SameShard b a
 other_way a b same = (sym same.0, sym same.1)
 
 -- once, and once more, for other shards or rounds
-pub once_then : (n : ℕ) (at bt : ℕ → List AnswerValue) → AreOnce n at → AreOnce n bt
-    → ((i j : ℕ) (a b : AnswerValue) → i < n → j < n → Contains (at i) a → Contains (bt j) b → ¬ AreForOne a b) → AreOnce n (λ i. at i ++ bt i)
+pub once_then : (n : ℕ) (at bt : ℕ → List AnswerValue) → AnswersOnce n at → AnswersOnce n bt
+    → ((i j : ℕ) (a b : AnswerValue) → i < n → j < n → Contains (at i) a → Contains (bt j) b → ¬ SameShard a b) → AnswersOnce n (λ i. at i ++ bt i)
 once_then n at bt u v apart i j k l d bi bj bk bl same =
     let p = in_both (at i) (bt i) k d in
     let q = in_both (at j) (bt j) l d in

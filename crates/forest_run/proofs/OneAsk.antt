@@ -8,12 +8,13 @@ use Rattle.link_key.specs.declared.links.Link.{Link}
 use Rattle.frames.specs.AnswerValue.{AnswerValue}
 use Rattle.round_core.specs.Page.{Page, refusal, is_taken, LightOffersAreTaken}
 use Rattle.round_core.specs.declared.refusals.Refusal.{Refusal}
+use Rattle.ports.specs.declared.port.Port as Port
 use Rattle.ports.specs.declared.fault.PortFault.{PortFault}
 use Rattle.ports.specs.declared.fault.PortFault.TheVariants.{Down, Garbled, WrongHello, Gave, Memory, Closed}
-use Rattle.ports.specs.Ports.{PortState, PortWent, AskWent, IsHonestAnswer}
+use Rattle.ports.specs.Ports.{CountsAsks, AnswersAsk, IsHonestAnswer}
 use Rattle.ports.specs.Exchanges.{Exchange, exchange_of}
-use Rattle.forest_run.specs.Lanes.{one_if}
-use Rattle.forest_run.specs.Asks.{IsAskOf, IsExchangeOf, IsKept, IsClosing, IsTaken, IsLight, AsksWent}
+use Rattle.forest_run.specs.Lanes.{count_if}
+use Rattle.forest_run.specs.Asks.{IsAskOf, IsExchangeOf, TakesExchange, ClosesPort, Takes, IsLight, AnswersAsks}
 
 -- an honest answer to an ask under the book's labels
 pub told_of : (page : Page) (cut : List (List Link)) (round shard : ℕ) (labels : List ℕ) (t : AnswerValue) → cut ≡ page.cut → round ≡ page.round → page.labels ≡ labels
@@ -30,7 +31,7 @@ light_of page shard t h = subst (λ (s : ℕ). IsHonestAnswer page.cut page.roun
 pub names_shard : (page : Page) (shard : ℕ) (t : AnswerValue) → refusal page shard t ≡ None → t.shard ≡ shard
 names_shard page shard t e = grind (arith, common_steps, nat_tests)
 
-pub is_taken_of : (page : Page) (shard : ℕ) (t : AnswerValue) → shard < length page.cut → refusal page shard t ≡ None → IsTaken page t
+pub is_taken_of : (page : Page) (shard : ℕ) (t : AnswerValue) → shard < length page.cut → refusal page shard t ≡ None → Takes page t
 is_taken_of page shard t within e =
     let same : t.shard ≡ shard = names_shard page shard t e in
     record { within = subst (λ (s : ℕ). s < length page.cut) (sym same) within; taken = subst (λ (s : ℕ). refusal page s t ≡ None) (sym same) e }
@@ -55,27 +56,27 @@ none_of_ok o (Err x) h e = absurd (cc)
 
 -- ---- one ask of an open port, for a shard that the book misses
 
-module _ {P : Type 0} (state : P → PortState) (honest : P → Type 0) (sound : P → ℕ → List Exchange → Type 0) (exchanged : P → List Exchange → Type 0) (page : Page) (a : P) (round shard : ℕ) (labels : List ℕ)
-    (round_is : round ≡ page.round) (labels_are : labels ≡ page.labels) (inside : shard < length page.cut) (missed : is_taken page shard ≡ false) (live : (state a).is_open ≡ true) where
+module _ {P A : Type 0} (port : Port.Ghosts P A) (page : Page) (a : P) (round shard : ℕ) (labels : List ℕ)
+    (round_is : round ≡ page.round) (labels_are : labels ≡ page.labels) (inside : shard < length page.cut) (missed : is_taken page shard ≡ false) (live : (port.state a).is_open ≡ true) where
   asked_of : IsAskOf page (round, shard)
   asked_of = record { round = round_is; within = inside; missed = missed }
 
   exchange_is : (t : AnswerValue) → IsExchangeOf page (exchange_of round shard labels t)
   exchange_is t = record { ask = asked_of; labels = labels_are }
 
-  one_kept : (e : Exchange) → IsKept page e → All (IsKept page) (e ∷ [])
+  one_kept : (e : Exchange) → TakesExchange page e → All (TakesExchange page) (e ∷ [])
   one_kept e is zero d b = is
   one_kept e is (suc i) d b = absurd (omega arith)
 
   -- the answer is kept
-  pub kept_one : (b : P) (t : AnswerValue) → refusal page shard t ≡ None → (state b).is_open ≡ true → PortWent 1 0 0 (state a) (state b)
-      → ((before : List Exchange) → exchanged a before → exchanged b (before ++ exchange_of round shard labels t ∷ [])) → (honest a → honest b)
-      → ((ends : ℕ) (before : List Exchange) → sound a ends before → sound b ends (before ++ exchange_of round shard labels t ∷ []))
-      → AsksWent state honest sound exchanged (IsKept page) (IsClosing page) a b (t ∷ [])
+  pub kept_one : (b : P) (t : AnswerValue) → refusal page shard t ≡ None → (port.state b).is_open ≡ true → CountsAsks 1 0 0 (port.state a) (port.state b)
+      → ((before : List Exchange) → port.exchanged a before → port.exchanged b (before ++ exchange_of round shard labels t ∷ [])) → (port.honest a → port.honest b)
+      → ((ends : ℕ) (before : List Exchange) → port.sound a ends before → port.sound b ends (before ++ exchange_of round shard labels t ∷ []))
+      → AnswersAsks port (TakesExchange page) (ClosesPort page) a b (t ∷ [])
   kept_one b t taken still_live went exchanges stays sounds = record {
     cut = went.cut;
     worker = went.worker;
-    asks = (let u = ap one_if live in let v = ap one_if still_live in omega (arith, went.asks, u, v));
+    asks = (let u = ap count_if live in let v = ap count_if still_live in omega (arith, went.asks, u, v));
     failures = omega (arith, went.failures);
     wants = omega (arith, went.wants);
     one_fault = omega (arith, went.failures, went.wants);
@@ -94,16 +95,16 @@ module _ {P : Type 0} (state : P → PortState) (honest : P → Type 0) (sound :
   }
 
   -- the answer is refused, and the port shut
-  pub refused_one : (m b : P) (t : AnswerValue) → IsSome (refusal page shard t) → (honest a → refusal page shard t ≡ None) → PortWent 1 0 0 (state a) (state m) → (state m).last ≡ (round, shard)
-      → PortWent 0 0 0 (state m) (state b) → (state b).is_open ≡ false
-      → ((before : List Exchange) → exchanged a before → exchanged m (before ++ exchange_of round shard labels t ∷ [])) → ((others : List Exchange) → exchanged m others → exchanged b others)
-      → (honest a → honest m) → (honest m → honest b)
-      → ((ends : ℕ) (before : List Exchange) → sound a ends before → sound m ends (before ++ exchange_of round shard labels t ∷ [])) → ((ends : ℕ) (others : List Exchange) → sound m ends others → sound b ends others)
-      → AsksWent state honest sound exchanged (IsKept page) (IsClosing page) a b []
+  pub refused_one : (m b : P) (t : AnswerValue) → IsSome (refusal page shard t) → (port.honest a → refusal page shard t ≡ None) → CountsAsks 1 0 0 (port.state a) (port.state m) → (port.state m).last ≡ (round, shard)
+      → CountsAsks 0 0 0 (port.state m) (port.state b) → (port.state b).is_open ≡ false
+      → ((before : List Exchange) → port.exchanged a before → port.exchanged m (before ++ exchange_of round shard labels t ∷ [])) → ((others : List Exchange) → port.exchanged m others → port.exchanged b others)
+      → (port.honest a → port.honest m) → (port.honest m → port.honest b)
+      → ((ends : ℕ) (before : List Exchange) → port.sound a ends before → port.sound m ends (before ++ exchange_of round shard labels t ∷ [])) → ((ends : ℕ) (others : List Exchange) → port.sound m ends others → port.sound b ends others)
+      → AnswersAsks port (TakesExchange page) (ClosesPort page) a b []
   refused_one m b t some none_of_honest went last shut closed exchanges exchanges' stays stays' sounds sounds' = record {
     cut = shut.cut ∙ went.cut;
     worker = shut.worker ∙ went.worker;
-    asks = (let u = ap one_if live in let v = ap one_if closed in omega (arith, went.asks, shut.asks, u, v));
+    asks = (let u = ap count_if live in let v = ap count_if closed in omega (arith, went.asks, shut.asks, u, v));
     failures = omega (arith, went.failures, shut.failures);
     wants = omega (arith, went.wants, shut.wants);
     one_fault = omega (arith, went.failures, shut.failures, went.wants, shut.wants);
@@ -126,15 +127,15 @@ module _ {P : Type 0} (state : P → PortState) (honest : P → Type 0) (sound :
     why_honest = λ x e f. absurd (let s : IsSome {T = Refusal} None = subst (λ o. IsSome o) (none_of_honest x) some in cc);
   }
 
-  closed_one : (b : P) (failed wanted : ℕ) → failed + wanted ≡ 1 → PortWent 1 failed wanted (state a) (state b) → (state b).last ≡ (round, shard) → (state b).is_open ≡ false
-      → (honest a → honest b) → ((ends : ℕ) (others : List Exchange) → sound a ends others → sound b ends others) → AsksWent state honest sound exchanged (IsKept page) (IsClosing page) a b []
+  closed_one : (b : P) (failed wanted : ℕ) → failed + wanted ≡ 1 → CountsAsks 1 failed wanted (port.state a) (port.state b) → (port.state b).last ≡ (round, shard) → (port.state b).is_open ≡ false
+      → (port.honest a → port.honest b) → ((ends : ℕ) (others : List Exchange) → port.sound a ends others → port.sound b ends others) → AnswersAsks port (TakesExchange page) (ClosesPort page) a b []
   closed_one b failed wanted one went last closed stays sounds = record {
     cut = went.cut;
     worker = went.worker;
-    asks = (let u = ap one_if live in let v = ap one_if closed in omega (arith, went.asks, u, v));
+    asks = (let u = ap count_if live in let v = ap count_if closed in omega (arith, went.asks, u, v));
     failures = omega (arith, went.failures);
     wants = omega (arith, went.wants);
-    one_fault = (let u = ap one_if live in omega (arith, went.failures, went.wants, one, u));
+    one_fault = (let u = ap count_if live in omega (arith, went.failures, went.wants, one, u));
     exchanges = [];
     kept_are = refl;
     keeps = λ i d b. absurd (omega arith);
@@ -144,14 +145,14 @@ module _ {P : Type 0} (state : P → PortState) (honest : P → Type 0) (sound :
     still = λ f. absurd (cc);
     given = λ s others g. absurd (omega (arith, s.failures, s.wants, went.failures, went.wants, one));
     honest_is = stays;
-    sound_is = λ ends others x. subst (sound b ends) (sym (append-nil others)) (sounds ends others x);
+    sound_is = λ ends others x. subst (port.sound b ends) (sym (append-nil others)) (sounds ends others x);
     why = λ e f. inl (omega (arith, went.failures, went.wants, one), refl, subst (IsAskOf page) (sym last) asked_of);
     why_honest = λ x e f. omega (arith, went.failures, went.wants, one);
   }
 
   -- there is no answer
-  pub failed_one : (b : P) (fault : PortFault) → AskWent {T = AnswerValue} (Err fault) round shard (state a) (state b) → (honest a → honest b)
-      → ((ends : ℕ) (others : List Exchange) → sound a ends others → sound b ends others) → AsksWent state honest sound exchanged (IsKept page) (IsClosing page) a b []
+  pub failed_one : (b : P) (fault : PortFault) → AnswersAsk {T = AnswerValue} (Err fault) round shard (port.state a) (port.state b) → (port.honest a → port.honest b)
+      → ((ends : ℕ) (others : List Exchange) → port.sound a ends others → port.sound b ends others) → AnswersAsks port (TakesExchange page) (ClosesPort page) a b []
   failed_one b Closed went stays sounds = absurd (let e = went.0 in cc)
   failed_one b Memory went stays sounds = closed_one b 0 1 refl went.2 went.3 went.1 stays sounds
   failed_one b Down went stays sounds = closed_one b 1 0 refl went.2 went.3 went.1 stays sounds

@@ -3,6 +3,7 @@ use Rattle.std.proofs.Common.{◌≡◌, ◌≤◌, ◌^◌, ℕ, List, [], leng
 use Rattle.limits.specs.declared.TheConstants.{MAX_BYTES}
 use Rattle.byte_streams.specs.Streams.{SourceState, SinkState, Gave, Took, HadNoFailure}
 use Rattle.byte_streams.proofs.Streaming.{gave_to_end, took_nothing, took_told}
+use Rattle.link_key.specs.Least.{sum_of_weights, IsLightest}
 use Rattle.link_key.specs.declared.links.Link.{Link}
 use Rattle.gr_text.specs.ForestText.{forest_text}
 use Rattle.gr_text.specs.Graph.{GraphValue}
@@ -13,8 +14,9 @@ use Rattle.gr_text.proofs.ForestSize.{few_are_told}
 use Rattle.forest_run.proofs.Telling.{reads_the_file}
 use Rattle.forest_run.specs.Files.{IsFileOf, HasForest, IsForestTextOf, IsFaultInMemory}
 use Rattle.forest_run.specs.Outcomes.{streams, IsDone, IsUnread, IsUnsolved, IsBrokenOff, IsLeast}
-use Rattle.forest_run.specs.PlainRun.{RanPlain}
+use Rattle.forest_run.specs.PlainRun.{RanPlain, IsPlainReport, plain_report}
 use Rattle.forest_run.specs.declared.fault.RunFault.{RunFault}
+use Rattle.forest_run.specs.declared.report.Report.{Report}
 use Rattle.forest_run.specs.declared.fault.RunFault.TheVariants as fault
 
 -- a graph is read only of a whole file
@@ -47,6 +49,11 @@ done found says graph forest n s t a b read found_is same took said =
       said = said;
     }
 
+-- such a report is one of least links
+pub plainly : (graph : GraphValue) (forest : List Link) (report : Report) → IsLightest graph.links (sum_of_weights forest) → report ≡ plain_report graph forest
+    → IsPlainReport graph forest report
+plainly graph forest report least is = record { report_is = is; lightest = subst (λ (r : Report). IsLightest graph.links r.total) (sym is) least }
+
 -- a file has at most 2^30 arc lines, so what a failed write tells is the number of bytes itself
 pub broken_off : {X : Type 0} (found : GraphValue → List Link → Type 0) (says : GraphValue → List Link → X → Type 0) (answer : X) (written : ℕ) (graph : GraphValue) (forest : List Link) (n : ℕ) (s t : SourceState) (a b : SinkState)
     → IsReadOf MAX_BYTES (Ok graph) s t → found graph forest → length forest ≤ 2 ^ 55 → n ≡ graph.vertices
@@ -68,7 +75,7 @@ broken_off found says answer written graph forest n s t a b read found_is few sa
 -- ---- bytes in memory: a source that tells them and no failure
 
 -- the file that was read is all that there was
-given_file : (bytes got : List ℕ) (s t : SourceState) → s.left ≡ Some bytes → Gave 0 1 got s t → got ≡ bytes
+pub given_file : (bytes got : List ℕ) (s t : SourceState) → s.left ≡ Some bytes → Gave 0 1 got s t → got ≡ bytes
 given_file bytes got s t told gave = sym (gave_to_end 0 1 bytes got s t told (omega arith) gave)
 
 -- the forest of the file that was read is that of the bytes

@@ -8,16 +8,16 @@ use Rattle.link_key.specs.declared.links.Link.{Link}
 use Rattle.link_key.specs.Link.{EndsUpTo}
 use Rattle.frames.specs.AnswerValue.{AnswerValue}
 use Rattle.round_core.specs.Page.{Page, IsRight, IsPage, opened, heard, missing}
-use Rattle.ports.specs.Ports.{PortState}
+use Rattle.ports.specs.declared.port.Port as Port
 use Rattle.ports.specs.Exchanges.{Exchange}
 use Rattle.forest_run.specs.Lanes.{LaneState}
-use Rattle.forest_run.specs.Asks.{IsKept, IsClosing, IsLight}
-use Rattle.forest_run.specs.Bounds.{IsBookUnder}
-use Rattle.forest_run.specs.Taking.{heard_all}
-use Rattle.forest_run.specs.Passes.{AreOnce, PassWent}
-use Rattle.forest_run.specs.Scanned.{Scanned}
-use Rattle.forest_run.specs.Rounds.{RoundWent}
-use Rattle.forest_run.specs.Runs.{unanswered, IsClosingIn, IsKeptIn, IsGivenBy, IsLightIn, IsFullBook, AreKept, RoundsWent}
+use Rattle.forest_run.specs.Asks.{TakesExchange, ClosesPort, IsLight}
+use Rattle.forest_run.specs.Bounds.{IsAskable}
+use Rattle.forest_run.specs.Taking.{with_answers}
+use Rattle.forest_run.specs.Passes.{AnswersOnce, RunsPasses}
+use Rattle.forest_run.specs.Scanned.{ScansShards}
+use Rattle.forest_run.specs.Rounds.{RunsRound}
+use Rattle.forest_run.specs.Runs.{opened_book, ClosesPortIn, IsKeptIn, IsGivenBy, IsLightIn, IsFullBook, MatchesBooks, RunsRounds}
 use Rattle.forest_run.proofs.AsksThen.{ComeFirst, stayed, asks_then}
 use Rattle.forest_run.proofs.Once.{once_then}
 use Rattle.forest_run.proofs.Passing.{SameRound, same_round, asks_more}
@@ -36,16 +36,15 @@ contains_all P xs h = each_more (Contains xs) P xs h (All-contains_itself xs)
 pub opened_misses : (round : ℕ) (cut : List (List Link)) (labels : List ℕ) → missing (opened round cut labels) ≡ length cut
 opened_misses round cut labels = (let e = sum_by-replicate (λ x. cond (not x) 1 0) (length cut) false in omega (arith, e))
 
-pub opened_round : (round : ℕ) (cut : List (List Link)) (labels : List ℕ) → 0 < length cut → All (EndsUpTo (length labels)) cut → 1 ≤ round → IsBookUnder (opened round cut labels) labels
+pub opened_round : (round : ℕ) (cut : List (List Link)) (labels : List ℕ) → 0 < length cut → All (EndsUpTo (length labels)) cut → 1 ≤ round → IsAskable (opened round cut labels)
 opened_round round cut labels some ends first = record {
   some_shard = some;
-  labels_are = refl;
   ends = ends;
   round = first;
 }
 
 -- answers are added behind those that the book has
-pub heard_answers : (p : Page) (ts : List AnswerValue) → (heard_all p ts).answers ≡ p.answers ++ ts
+pub heard_answers : (p : Page) (ts : List AnswerValue) → (with_answers p ts).answers ≡ p.answers ++ ts
 heard_answers p [] = sym (append-nil p.answers)
 heard_answers p (t ∷ ts) = heard_answers (heard p t) ts ∙ append_assoc p.answers (t ∷ []) ts
 
@@ -60,7 +59,7 @@ none_or_some (suc k) = inr (omega arith)
 same_then : (p q r : Page) → SameRound p q → SameRound q r → SameRound p r
 same_then p q r s t = record { round = t.round ∙ s.round; cut = t.cut ∙ s.cut; labels = t.labels ∙ s.labels }
 
-pub heard_same : (p q : Page) (ts : List AnswerValue) → q ≡ heard_all p ts → SameRound p q
+pub heard_same : (p q : Page) (ts : List AnswerValue) → q ≡ with_answers p ts → SameRound p q
 heard_same p q ts e =
     let s = same_round p ts in
     record { round = ap (λ o. o.round) e ∙ s.round; cut = ap (λ o. o.cut) e ∙ s.cut; labels = ap (λ o. o.labels) e ∙ s.labels }
@@ -68,17 +67,17 @@ heard_same p q ts e =
 light_still : (p q : Page) → SameRound p q → (t : AnswerValue) → IsLight p t → IsLight q t
 light_still p q s t l = rw (s.cut, s.round, s.labels) l
 
-pub closing_still : (p q : Page) → SameRound p q → (w : ℕ × ℕ) (o : Option Exchange) → IsClosing (unanswered p) w o → IsClosing (unanswered q) w o
+pub closing_still : (p q : Page) → SameRound p q → (w : ℕ × ℕ) (o : Option Exchange) → ClosesPort (opened_book p) w o → ClosesPort (opened_book q) w o
 closing_still p q s w None r = rw (s.cut, s.round, s.labels) r
 closing_still p q s w (Some t) r = rw (s.cut, s.round, s.labels) r
 
-pub kept_still : (p q : Page) → SameRound p q → (x : Exchange) → IsKept (unanswered p) x → IsKept (unanswered q) x
+pub kept_still : (p q : Page) → SameRound p q → (x : Exchange) → TakesExchange (opened_book p) x → TakesExchange (opened_book q) x
 kept_still p q s x r = rw (s.cut, s.round, s.labels) r
 
-module _ {P : Type 0} (state : P → PortState) (honest : P → Type 0) (sound : P → ℕ → List Exchange → Type 0) (exchanged : P → List Exchange → Type 0) where
+module _ {P A : Type 0} (port : Port.Ghosts P A) where
   -- a round leaves the book's round, cut and labels
   pub same_still : (round : ℕ) (cut : List (List Link)) (labels : List ℕ) (new : Page) (xs ys : List (LaneState P)) (k : ℕ)
-      → RoundWent state honest sound exchanged (opened round cut labels) new xs ys k → SameRound (opened round cut labels) new
+      → RunsRound port (opened round cut labels) new xs ys k → SameRound (opened round cut labels) new
   same_still round cut labels new xs ys k r =
       same_then (opened round cut labels) r.middle new (heard_same _ _ r.passes.answers r.passes.page) (heard_same _ _ r.scans.answers r.scans.page)
 
@@ -89,7 +88,7 @@ lane_at (x ∷ xs) i b = x
 -- ---- kept answers beside the books
 
 -- the answers of a book that passes and scans filled
-filled : (old middle new : Page) (ts us : List AnswerValue) → middle ≡ heard_all old ts → new ≡ heard_all middle us → old.answers ≡ [] → new.answers ≡ ts ++ us
+filled : (old middle new : Page) (ts us : List AnswerValue) → middle ≡ with_answers old ts → new ≡ with_answers middle us → old.answers ≡ [] → new.answers ≡ ts ++ us
 filled old middle new ts us first second none =
     ap (λ o. o.answers) second
     ∙ (heard_answers middle us ∙ ap (λ zs. zs ++ us) (ap (λ o. o.answers) first ∙ (heard_answers old ts ∙ ap (λ zs. zs ++ ts) none)))
@@ -108,7 +107,7 @@ books_first books round xs ys earlier kept now i d b j e c =
     omega (arith, is.asked.ask.round, All-contains (λ (book : Page). book.round < round) books book earlier is_in, now j e c)
 
 -- nothing was kept
-pub kept_none : {P : Type 0} (honest : P → Type 0) (xs : List (LaneState P)) → AreKept honest xs [] (λ i. [])
+pub kept_none : {P : Type 0} (honest : P → Type 0) (xs : List (LaneState P)) → MatchesBooks honest xs [] (λ i. [])
 kept_none honest xs = record {
   reached = λ i t b h. absurd (omega (arith, h.1));
   each_is = λ i d b. absurd (omega arith);
@@ -117,9 +116,9 @@ kept_none honest xs = record {
 }
 
 -- what passes kept stands in the book that they and scans filled
-pub kept_in : {P : Type 0} (state : P → PortState) (honest : P → Type 0) (sound : P → ℕ → List Exchange → Type 0) (exchanged : P → List Exchange → Type 0) (old middle new : Page) (xs ys : List (LaneState P)) (k : ℕ)
-    → (v : PassWent state honest sound exchanged old middle xs ys) → Scanned middle new k → old.answers ≡ [] → AreKept honest xs (new ∷ []) v.answers_at
-kept_in state honest sound exchanged old middle new xs ys k v w none =
+pub kept_in : {P A : Type 0} (port : Port.Ghosts P A) (old middle new : Page) (xs ys : List (LaneState P)) (k : ℕ)
+    → (v : RunsPasses port old middle xs ys) → ScansShards middle new k → old.answers ≡ [] → MatchesBooks port.honest xs (new ∷ []) v.answers_at
+kept_in port old middle new xs ys k v w none =
     let answers : new.answers ≡ v.answers ++ w.answers = filled old middle new v.answers w.answers v.page w.page none in
     let second : SameRound middle new = heard_same middle new w.answers w.page in
     let same : SameRound old new = same_then old middle new (heard_same old middle v.answers v.page) second in
@@ -140,7 +139,7 @@ kept_in state honest sound exchanged old middle new xs ys k v w none =
     }
 
 -- an answer that was kept is of the round of a book
-pub kept_round : {P : Type 0} (honest : P → Type 0) (xs : List (LaneState P)) (books : List Page) (at : ℕ → List AnswerValue) (i : ℕ) (t : AnswerValue) → All IsPage books → AreKept honest xs books at
+pub kept_round : {P : Type 0} (honest : P → Type 0) (xs : List (LaneState P)) (books : List Page) (at : ℕ → List AnswerValue) (i : ℕ) (t : AnswerValue) → All IsPage books → MatchesBooks honest xs books at
     → i < length xs → Contains (at i) t → (book : Page) × Contains books book × (t.round ≡ book.round)
 kept_round honest xs books at i t pages u b h =
     let r = u.reached i t b h in
@@ -150,7 +149,7 @@ kept_round honest xs books at i t pages u b h =
 -- kept answers beside books, and beside one book more of a later round
 pub kept_then : {P : Type 0} (honest : P → Type 0) (xs ys : List (LaneState P)) (books : List Page) (new : Page) (at bt : ℕ → List AnswerValue) → length ys ≡ length xs
     → ((i : ℕ) (d : LaneState P) → i < length xs → honest (get_or xs i d).port → honest (get_or ys i d).port) → All IsPage books → IsPage new → All (λ (book : Page). book.round < new.round) books
-    → AreKept honest xs books at → AreKept honest ys (new ∷ []) bt → AreKept honest xs (books ++ new ∷ []) (λ i. at i ++ bt i)
+    → MatchesBooks honest xs books at → MatchesBooks honest ys (new ∷ []) bt → MatchesBooks honest xs (books ++ new ∷ []) (λ i. at i ++ bt i)
 kept_then {P} honest xs ys books new at bt same stays pages page earlier u v =
     let both : ℕ → List AnswerValue = λ i. at i ++ bt i in
     let left : (book : Page) → Contains books book → Contains (books ++ new ∷ []) book = λ book c. Contains-append_left books (new ∷ []) book c in
@@ -174,7 +173,7 @@ kept_then {P} honest xs ys books new at bt same stays pages page earlier u v =
           All-append (IsLightIn (books ++ new ∷ [])) (at i) (bt i)
           (each_more (IsLightIn books) (IsLightIn (books ++ new ∷ [])) (at i) (λ t q. (q.0, left q.0 q.1, q.2, q.3)) (u.light_at i d b h))
           (each_more (IsLightIn (new ∷ [])) (IsLightIn (books ++ new ∷ [])) (bt i) (λ t q. (q.0, right q.0 q.1, q.2, q.3)) (v.light_at i d (omega arith) (stays i d b h)));
-      once = once_then (length xs) at bt u.once (subst (λ n. AreOnce n bt) same v.once) (λ i j a b bi bj ha hb for_one. (
+      once = once_then (length xs) at bt u.once (subst (λ n. AnswersOnce n bt) same v.once) (λ i j a b bi bj ha hb for_one. (
           let p = kept_round honest xs books at i a pages u bi ha in
           let q = kept_round honest ys (new ∷ []) bt j b (one IsPage new page) v (omega arith) hb in
           let before : p.0.round < new.round = All-contains (λ (book : Page). book.round < new.round) books p.0 earlier p.1 in
@@ -186,13 +185,13 @@ kept_then {P} honest xs ys books new at bt same stays pages page earlier u v =
           absurd (omega arith)));
     }
 
-module _ {P : Type 0} (state : P → PortState) (honest : P → Type 0) (sound : P → ℕ → List Exchange → Type 0) (exchanged : P → List Exchange → Type 0) where
-  pub rounds_none : (cut : List (List Link)) (xs : List (LaneState P)) → RoundsWent state honest sound exchanged cut xs xs [] 0 0
+module _ {P A : Type 0} (port : Port.Ghosts P A) where
+  pub rounds_none : (cut : List (List Link)) (xs : List (LaneState P)) → RunsRounds port cut xs xs [] 0 0
   rounds_none cut xs = record {
     whole = λ i d b. absurd (omega arith);
     answers_at = λ i. [];
-    ports = record { same_lanes = refl; each = λ i d b. stayed state honest sound exchanged (IsKeptIn []) (IsClosingIn []) (get_or xs i d).port };
-    kept = kept_none honest xs;
+    ports = record { same_lanes = refl; each = λ i d b. stayed port (IsKeptIn []) (ClosesPortIn []) (get_or xs i d).port };
+    kept = kept_none port.honest xs;
     few = λ i. omega arith;
     counted = omega arith;
     asks = omega arith;
@@ -204,8 +203,8 @@ module _ {P : Type 0} (state : P → PortState) (honest : P → Type 0) (sound :
 
   -- a round more, over a book that was opened for the cut
   pub rounds_then : (cut : List (List Link)) (round : ℕ) (labels : List ℕ) (new : Page) (xs ys zs : List (LaneState P)) (books : List Page) (answered alone k : ℕ)
-      → RoundsWent state honest sound exchanged cut xs ys books answered alone → All (λ (book : Page). book.round < round) books → (r : RoundWent state honest sound exchanged (opened round cut labels) new ys zs k) → IsPage new
-      → RoundsWent state honest sound exchanged cut xs zs (books ++ new ∷ []) (answered + length r.passes.answers) (alone + k)
+      → RunsRounds port cut xs ys books answered alone → All (λ (book : Page). book.round < round) books → (r : RunsRound port (opened round cut labels) new ys zs k) → IsPage new
+      → RunsRounds port cut xs zs (books ++ new ∷ []) (answered + length r.passes.answers) (alone + k)
   rounds_then cut round labels new xs ys zs books answered alone k u earlier r page =
       let old = opened round cut labels in
       let v = r.passes in
@@ -225,17 +224,17 @@ module _ {P : Type 0} (state : P → PortState) (honest : P → Type 0) (sound :
           same_lanes = v.same_lanes ∙ u.ports.same_lanes;
           each = λ i d b. (
               let within : i < length ys = (let e = u.ports.same_lanes in omega arith) in
-              asks_then state honest sound exchanged (IsKeptIn (books ++ new ∷ [])) (IsClosingIn (books ++ new ∷ [])) _ _ _ (u.answers_at i) (v.answers_at i)
-              (asks_more state honest sound exchanged (IsKeptIn books) (IsKeptIn (books ++ new ∷ [])) (IsClosingIn books) (IsClosingIn (books ++ new ∷ []))
+              asks_then port (IsKeptIn (books ++ new ∷ [])) (ClosesPortIn (books ++ new ∷ [])) _ _ _ (u.answers_at i) (v.answers_at i)
+              (asks_more port (IsKeptIn books) (IsKeptIn (books ++ new ∷ [])) (ClosesPortIn books) (ClosesPortIn (books ++ new ∷ []))
               (λ x q. (q.0, Contains-append_left books (new ∷ []) q.0 q.1, q.2)) (λ w t q. (q.0, Contains-append_left books (new ∷ []) q.0 q.1, q.2)) _ _ (u.answers_at i) (u.ports.each i d b))
-              (asks_more state honest sound exchanged (IsKept old) (IsKeptIn (books ++ new ∷ [])) (IsClosing old) (IsClosingIn (books ++ new ∷ []))
+              (asks_more port (TakesExchange old) (IsKeptIn (books ++ new ∷ [])) (ClosesPort old) (ClosesPortIn (books ++ new ∷ []))
               (λ x q. (new, here, kept_still old new same x q)) (λ w t q. (new, here, closing_still old new same w t q)) _ _ (v.answers_at i) (v.each i d within))
               (books_first books round (u.ports.each i d b).exchanges (v.each i d within).exchanges earlier (u.ports.each i d b).keeps (λ j e c. ((v.each i d within).keeps j e c).asked.ask.round)));
         };
         kept =
-            kept_then honest xs ys books new u.answers_at v.answers_at u.ports.same_lanes (λ i d b. (u.ports.each i d b).honest_is) (whole_pages cut books u.whole) page
+            kept_then port.honest xs ys books new u.answers_at v.answers_at u.ports.same_lanes (λ i d b. (u.ports.each i d b).honest_is) (whole_pages cut books u.whole) page
             (subst (λ (r : ℕ). All (λ (book : Page). book.round < r) books) (sym same.round) earlier) u.kept
-            (kept_in state honest sound exchanged old r.middle new ys zs k v w refl);
+            (kept_in port old r.middle new ys zs k v w refl);
         few = λ i. (let a = u.few i in let b = v.few i in omega (arith, length-append (u.answers_at i) (v.answers_at i)));
         counted = (
             let one_more : length (books ++ new ∷ []) ≡ suc (length books) = omega (arith, length-append books (new ∷ [])) in

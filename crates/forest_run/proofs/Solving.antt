@@ -13,11 +13,10 @@ use Rattle.round_theory.specs.Offers.{Hearing, Names, IsNamed}
 use Rattle.round_core.specs.Page.{Page, opened, hearing_of, hearings}
 use Rattle.round_core.proofs.Full.{full_book_has_all_links}
 use Rattle.round_core.specs.Picks.{pick_of, Picked, IsPickOf, ArePicks}
-use Rattle.ports.specs.Ports.{PortState}
-use Rattle.ports.specs.Exchanges.{Exchange}
+use Rattle.ports.specs.declared.port.Port as Port
 use Rattle.forest_run.specs.Lanes.{LaneState}
-use Rattle.forest_run.specs.Bounds.{IsWide}
-use Rattle.forest_run.specs.Runs.{IsFullBook, IsGivenBy, IsNamedIn, RoundsWent}
+use Rattle.forest_run.specs.Bounds.{HasRoomForRound}
+use Rattle.forest_run.specs.Runs.{IsFullBook, IsGivenBy, IsNamedIn, RunsRounds}
 use Rattle.forest_run.proofs.Lasting.{one_at_most}
 use Rattle.forest_run.proofs.Running.{opened_misses}
 
@@ -72,9 +71,9 @@ from_cut cut books l whole named =
     any_more (λ h. Names h l) (λ h. Contains h.shard l) (hearings book) (λ h names. (names.place, names.within, names.here)) named.2 in
     subst (λ (c : List (List Link)). Contains (joined c) l) is.cut_is ((full_book_has_all_links book is.page is.all l).1 there)
 
-module _ {P : Type 0} (state : P → PortState) (honest : P → Type 0) (sound : P → ℕ → List Exchange → Type 0) (exchanged : P → List Exchange → Type 0) where
+module _ {P A : Type 0} (port : Port.Ghosts P A) where
   -- where the coordinator scanned nothing, a lane kept the answer that named it
-  pub named_given : (cut : List (List Link)) (xs ys : List (LaneState P)) (books : List Page) (answered alone : ℕ) (u : RoundsWent state honest sound exchanged cut xs ys books answered alone)
+  pub named_given : (cut : List (List Link)) (xs ys : List (LaneState P)) (books : List Page) (answered alone : ℕ) (u : RunsRounds port cut xs ys books answered alone)
       → alone ≡ 0 → (l : Link) → IsNamedIn books l → (answer : AnswerValue) × IsGivenBy (length xs) u.answers_at answer × Names (hearing_of cut answer) l
   named_given cut xs ys books answered alone u none l named =
       let book = named.0 in
@@ -87,15 +86,15 @@ module _ {P : Type 0} (state : P → PortState) (honest : P → Type 0) (sound :
   -- ---- the room for a round more
 
   pub wide_still : (cut : List (List Link)) (round : ℕ) (labels : List ℕ) (xs ys : List (LaneState P)) (books : List Page) (answered alone : ℕ)
-      → RoundsWent state honest sound exchanged cut xs ys books answered alone → length cut ≤ 4096 → length books ≤ 32
-      → All (λ (lane : LaneState P). (state lane.port).cut ≡ cut) xs → All (λ (lane : LaneState P). (state lane.port).asks < 2 ^ 63) xs
-      → All (λ (lane : LaneState P). IsWide state (opened round cut labels) lane.port) ys
+      → RunsRounds port cut xs ys books answered alone → length cut ≤ 4096 → length books ≤ 32
+      → All (λ (lane : LaneState P). (port.state lane.port).cut ≡ cut) xs → All (λ (lane : LaneState P). (port.state lane.port).asks < 2 ^ 63) xs
+      → All (λ (lane : LaneState P). HasRoomForRound port.state (opened round cut labels) lane.port) ys
   wide_still cut round labels xs ys books answered alone u small few cuts counts i d b =
       let n = u.ports.same_lanes in
       let v = u.ports.each i d (omega arith) in
       let c = cuts i d (omega arith) in
       let asks = v.asks in
-      let most = one_at_most (state (get_or xs i d).port).is_open in
+      let most = one_at_most (port.state (get_or xs i d).port).is_open in
       let count = counts i d (omega arith) in
       let kept = u.few i in
       let all = u.counted in

@@ -7,17 +7,17 @@ use Rattle.std.proofs.lemmas.List.Sums.{sum_by-cons}
 use Rattle.link_key.specs.declared.links.Link.{Link}
 use Rattle.frames.specs.AnswerValue.{AnswerValue}
 use Rattle.worker_engine.specs.Serving.{asks_in}
-use Rattle.ports.specs.Lines.{LineState}
+use Rattle.ports.specs.declared.line.Line as Line
 use Rattle.ports.specs.Exchanges.{Exchange, answers_of}
-use Rattle.ports.specs.Talking.{told}
+use Rattle.ports.specs.Talking.{told_talk}
 use Rattle.ports.specs.Wires.{WireState, port_of, IsSoundWire}
 use Rattle.ports.specs.declared.fault.PortFault.{PortFault}
 use Rattle.ports.specs.declared.fault.PortFault.TheVariants.{Closed}
 use Rattle.ports.proofs.Asking.{asks_made}
 use Rattle.ports.proofs.Wiring.{calm_open}
 use Rattle.forest_run.specs.declared.report.Report.{Report}
-use Rattle.forest_run.specs.Lanes.{LaneState, one_if, asks_of, open_of}
-use Rattle.forest_run.specs.WiredLines.{AreFresh, LinesSolved, Said, HasTalked, HaveTalked}
+use Rattle.forest_run.specs.Lanes.{LaneState, count_if, ask_count, open_count}
+use Rattle.forest_run.specs.WiredLines.{AreFresh, FindsOverLines, Transcript, HasTalked, HaveTalked}
 use Rattle.round_theory.specs.Offers.{Names}
 use Rattle.round_core.specs.Page.{hearing_of}
 use Rattle.forest_run.specs.Asks.{answered}
@@ -55,41 +55,41 @@ at_place : {X : Type 0} (xs : List X) (i : ℕ) → i < length xs → X
 at_place [] i b = absurd (omega arith)
 at_place (x ∷ xs) i b = x
 
-one_most : (b : Bool) → one_if b ≤ 1
+one_most : (b : Bool) → count_if b ≤ 1
 one_most true = omega arith
 one_most false = omega arith
 
-is_one : (b : Bool) → one_if b ≡ 1 → b ≡ true
+is_one : (b : Bool) → count_if b ≡ 1 → b ≡ true
 is_one true one = refl
 is_one false none = absurd (omega (arith, none))
 
 -- where as many ports are open as there are, each is
-each_open : {P : Type 0} (is : P → Bool) (xs : List P) → length xs ≤ sum_by (λ x. one_if (is x)) xs → (i : ℕ) (d : P) → i < length xs → is (get_or xs i d) ≡ true
+each_open : {P : Type 0} (is : P → Bool) (xs : List P) → length xs ≤ sum_by (λ x. count_if (is x)) xs → (i : ℕ) (d : P) → i < length xs → is (get_or xs i d) ≡ true
 each_open {P = P} is [] many i d b = absurd (omega arith)
 each_open {P = P} is (x ∷ xs) many zero d b =
-    is_one (is x) (omega (arith, many, sum_by-cons (λ x. one_if (is x)) x xs, one_most (is x), few is xs))
+    is_one (is x) (omega (arith, many, sum_by-cons (λ x. count_if (is x)) x xs, one_most (is x), few is xs))
   where
-    few : (is : P → Bool) (xs : List P) → sum_by (λ x. one_if (is x)) xs ≤ length xs
+    few : (is : P → Bool) (xs : List P) → sum_by (λ x. count_if (is x)) xs ≤ length xs
     few is [] = omega arith
-    few is (x ∷ xs) = omega (arith, sum_by-cons (λ x. one_if (is x)) x xs, one_most (is x), few is xs)
+    few is (x ∷ xs) = omega (arith, sum_by-cons (λ x. count_if (is x)) x xs, one_most (is x), few is xs)
 each_open {P = P} is (x ∷ xs) many (suc i) d b =
-    each_open is xs (omega (arith, many, sum_by-cons (λ x. one_if (is x)) x xs, one_most (is x))) i d (omega arith)
+    each_open is xs (omega (arith, many, sum_by-cons (λ x. count_if (is x)) x xs, one_most (is x))) i d (omega arith)
 
 -- ---- the talks of a run
 
-module _ {L : Type 0} (state : L → LineState) (faithful : L → ℕ → Type 0) (n : ℕ) (cut : List (List Link)) (before after : List L) (forest : List Link) (report : Report)
-    (solved : LinesSolved state faithful n cut before after forest report) where
+module _ {L A : Type 0} (over : Line.Ghosts L) (n : ℕ) (cut : List (List Link)) (before after : List L) (forest : List Link) (report : Report)
+    (solved : FindsOverLines A over n cut before after forest report) where
   -- what was said and heard over the line at a place, and how often it was asked
-  record Talked (i : ℕ) (said : Said) : Type 0 where
-    pub each : (line : L) → HasTalked cut i (state (get_or after i line)) said
+  record Talked (i : ℕ) (said : Transcript) : Type 0 where
+    pub each : (line : L) → HasTalked cut i (over.state (get_or after i line)) said
     pub answers : solved.went.went.rounds.answers_at i ≡ answers_of said.1
     pub asks : (lane : LaneState (WireState L)) → asks_in said.0 ≡ (port_of (get_or solved.ended i lane).port).asks
 
-  module _ (scanned : report.alone ≡ 0) (still : open_of port_of solved.ended ≡ length before) (fresh : AreFresh state before) where
+  module _ (scanned : report.alone ≡ 0) (still : open_count port_of solved.ended ≡ length before) (fresh : AreFresh over.state before) where
     number : length solved.ended ≡ length before
     number = solved.went.went.rounds.ports.same_lanes ∙ solved.new.number
 
-    talked_at : (i : ℕ) → i < length before → (said : Said) × Talked i said
+    talked_at : (i : ℕ) → i < length before → (said : Transcript) × Talked i said
     talked_at i within =
         let rounds = solved.went.went.rounds in
         let d : LaneState (WireState L) = at_place solved.ended i (omega (arith, number)) in
@@ -102,20 +102,20 @@ module _ {L : Type 0} (state : L → LineState) (faithful : L → ℕ → Type 0
         let opened : last.port.is_open ≡ true = each_open (λ (lane : LaneState (WireState L)). lane.port.is_open) solved.ended (omega (arith, still, number)) i d (omega (arith, number)) in
         let none : answered went.exchanges went.refused ≡ went.exchanges =
         ap (λ (o : Option Exchange). answered went.exchanges o) (went.opened opened).2 ∙ append-nil went.exchanges in
-        let sound : IsSoundWire state last.port (state (get_or before i line)).ends went.exchanges =
-        subst (λ (es : List Exchange). IsSoundWire state last.port (state (get_or before i line)).ends es) none
-        (went.sound_is (state (get_or before i line)).ends [] (new_sound state faithful (get_or before i line) cut i first.port new news.0 news.1)) in
-        let (said, calm) = calm_open state (λ (fault : PortFault). fault ≢ Closed) last.port (state (get_or before i line)).ends went.exchanges opened sound in
+        let sound : IsSoundWire over.state last.port (over.state (get_or before i line)).ends went.exchanges =
+        subst (λ (es : List Exchange). IsSoundWire over.state last.port (over.state (get_or before i line)).ends es) none
+        (went.sound_is (over.state (get_or before i line)).ends [] (new_sound over (get_or before i line) cut i first.port new news.0 news.1)) in
+        let (said, calm) = calm_open over.state (λ (fault : PortFault). fault ≢ Closed) last.port (over.state (get_or before i line)).ends went.exchanges opened sound in
         let step = calm.in_step in
-        let one_open : one_if last.port.is_open ≡ 1 = ap one_if opened in
-        let one_new : one_if first.port.is_open ≡ 1 = ap one_if new.opened in
+        let one_open : count_if last.port.is_open ≡ 1 = ap count_if opened in
+        let one_new : count_if first.port.is_open ≡ 1 = ap count_if new.opened in
         let many : length (rounds.answers_at i) ≡ length went.exchanges = ap (λ ts. length ts) went.kept_are ∙ length-map went.exchanges (λ (e : Exchange). e.answer) in
-        let asks : asks_in said ≡ last.port.asks = omega (arith, asks_made (told state last.port.talk) said went.exchanges step, many, went.asks, one_open, one_new, new.asks) in
+        let asks : asks_in said ≡ last.port.asks = omega (arith, asks_made (told_talk over.state last.port.talk) said went.exchanges step, many, went.asks, one_open, one_new, new.asks) in
         let out : (line' : L) → get_or after i line' ≡ last.port.talk.line =
         λ line'. ap (λ ls. get_or ls i line') solved.lines_are ∙ get_or-map (λ (lane : LaneState (WireState L)). lane.port.talk.line) solved.ended i d line' (omega (arith, number)) in (
           (said, went.exchanges),
           record {
-            each = λ line'. record { talk = told state last.port.talk; worker_is = went.worker ∙ new.worker_is; line_is = ap state (sym (out line')); cut_is = went.cut ∙ new.cut_is; in_step = step };
+            each = λ line'. record { talk = told_talk over.state last.port.talk; worker_is = went.worker ∙ new.worker_is; line_is = ap over.state (sym (out line')); cut_is = went.cut ∙ new.cut_is; in_step = step };
             answers = went.kept_are;
             asks = λ lane. asks ∙ ap (λ (l : LaneState (WireState L)). l.port.asks) (same_place solved.ended i d lane (omega (arith, number)));
           },
@@ -127,18 +127,18 @@ module _ {L : Type 0} (state : L → LineState) (faithful : L → ℕ → Type 0
         same_place (x ∷ xs) (suc i) d e b = same_place xs i d e (omega arith)
 
     -- a new wire was never asked
-    none_asked : (lanes : List (LaneState (WireState L))) → ((i : ℕ) (d : LaneState (WireState L)) → i < length lanes → (get_or lanes i d).port.asks ≡ 0) → asks_of port_of lanes ≡ 0
+    none_asked : (lanes : List (LaneState (WireState L))) → ((i : ℕ) (d : LaneState (WireState L)) → i < length lanes → (get_or lanes i d).port.asks ≡ 0) → ask_count port_of lanes ≡ 0
     none_asked [] none = refl
     none_asked (lane ∷ lanes) none =
         omega (arith, sum_by-cons (λ (l : LaneState (WireState L)). (port_of l.port).asks) lane lanes, none 0 lane (omega arith), none_asked lanes (λ i d b. none (suc i) d (omega arith)))
 
-    pub have_talked : HaveTalked state cut forest report.asked after
+    pub have_talked : HaveTalked over.state cut forest report.asked after
     have_talked =
         let (talks, many, each) = choose (length before) Talked talked_at in
         let outs : length after ≡ length before = ap (λ ls. length ls) solved.lines_are ∙ (length-map solved.ended (λ (lane : LaneState (WireState L)). lane.port.talk.line) ∙ number) in
         let start = none_asked solved.lanes (λ i d b. (solved.new.each i d.port.talk.line d (omega (arith, solved.new.number))).asks) in
-        let sums : sum_by (λ (said : Said). asks_in said.0) talks ≡ asks_of port_of solved.ended =
-        same_sums (λ (said : Said). asks_in said.0) (λ (lane : LaneState (WireState L)). (port_of lane.port).asks) talks solved.ended (many ∙ sym number)
+        let sums : sum_by (λ (said : Transcript). asks_in said.0) talks ≡ ask_count port_of solved.ended =
+        same_sums (λ (said : Transcript). asks_in said.0) (λ (lane : LaneState (WireState L)). (port_of lane.port).asks) talks solved.ended (many ∙ sym number)
         (λ i d e b. (each i d (omega (arith, many))).asks e) in
         record {
           talks = talks;
@@ -149,8 +149,8 @@ module _ {L : Type 0} (state : L → LineState) (faithful : L → ℕ → Type 0
               let (answer, given, names) = solved.went.named scanned l l_in in
               let i : ℕ = given.0 in
               let within : i < length before = (let b = given.1 in omega (arith, solved.new.number)) in
-              let d : Said = ([], []) in
-              let said : Said = get_or talks i d in
+              let d : Transcript = ([], []) in
+              let said : Transcript = get_or talks i d in
               let (exchange, there, is) = exchange_with said.1 answer (subst (λ (ts : List AnswerValue). Contains ts answer) (each i d within).answers given.2) in (
                 said,
                 exchange,

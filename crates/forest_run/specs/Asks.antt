@@ -2,9 +2,10 @@
 use Rattle.std.specs.Prelude.{◌≡◌, ℕ, ◌+◌, ◌<◌, ◌≤◌, ◌⊎◌, true, false, List, [], ◌++◌, length, map, All, AllPairs, IsSome, Option, Some, None, option_to_list}
 use Rattle.frames.specs.AnswerValue.{AnswerValue}
 use Rattle.round_core.specs.Page.{Page, refusal, is_taken}
+use Rattle.ports.specs.declared.port.Port as Port
 use Rattle.ports.specs.Ports.{PortState, IsHonestAnswer}
 use Rattle.ports.specs.Exchanges.{Exchange, answers_of}
-use Rattle.forest_run.specs.Lanes.{one_if}
+use Rattle.forest_run.specs.Lanes.{count_if}
 
 -- the ask is of the book's round, for a shard that it misses
 pub record IsAskOf (page : Page) (ask : ℕ × ℕ) : Type 0 where
@@ -18,23 +19,23 @@ pub record IsExchangeOf (page : Page) (exchange : Exchange) : Type 0 where
   pub labels : exchange.labels ≡ page.labels
 
 -- and whose answer the book takes for the shard that was asked
-pub record IsKept (page : Page) (exchange : Exchange) : Type 0 where
+pub record TakesExchange (page : Page) (exchange : Exchange) : Type 0 where
   pub asked : IsExchangeOf page exchange
   pub taken : refusal page exchange.shard exchange.answer ≡ None
 
 -- the last ask of a port got an answer that the book refuses for the shard that was asked
-pub record IsRefused (page : Page) (last : ℕ × ℕ) (exchange : Exchange) : Type 0 where
+pub record RefusesExchange (page : Page) (last : ℕ × ℕ) (exchange : Exchange) : Type 0 where
   pub last_is : last ≡ (exchange.round, exchange.shard)
   pub asked : IsExchangeOf page exchange
   pub refused : IsSome (refusal page exchange.shard exchange.answer)
 
 -- an ask of the book, the last one of a port, brought no answer, or one that the book refuses
-abbrev pub IsClosing : Page → ℕ × ℕ → Option Exchange → Type 0
-IsClosing page last None = IsAskOf page last
-IsClosing page last (Some exchange) = IsRefused page last exchange
+abbrev pub ClosesPort : Page → ℕ × ℕ → Option Exchange → Type 0
+ClosesPort page last None = IsAskOf page last
+ClosesPort page last (Some exchange) = RefusesExchange page last exchange
 
 -- the book takes the answer
-pub record IsTaken (page : Page) (answer : AnswerValue) : Type 0 where
+pub record Takes (page : Page) (answer : AnswerValue) : Type 0 where
   pub within : answer.shard < length page.cut
   pub taken : refusal page answer.shard answer ≡ None
 
@@ -43,19 +44,19 @@ abbrev pub IsLight : Page → AnswerValue → Type 0
 IsLight page answer = IsHonestAnswer page.cut page.round answer.shard page.labels answer
 
 -- both answers are for one shard of one round
-abbrev pub AreForOne : AnswerValue → AnswerValue → Type 0
-AreForOne answer other = (answer.round ≡ other.round) × (answer.shard ≡ other.shard)
+abbrev pub SameShard : AnswerValue → AnswerValue → Type 0
+SameShard answer other = (answer.round ≡ other.round) × (answer.shard ≡ other.shard)
 
 -- the shards that the answers name
 abbrev pub shards_of : List AnswerValue → List ℕ
 shards_of answers = map (λ answer. answer.shard) answers
 
 -- one ask more failed, or found no memory
-abbrev pub FailedMore : PortState → PortState → Type 0
-FailedMore before after = before.failures + before.wants < after.failures + after.wants
+abbrev pub MoreFaults : PortState → PortState → Type 0
+MoreFaults before after = before.failures + before.wants < after.failures + after.wants
 
 -- no ask failed, and none found no memory
-pub record StoodStill (before after : PortState) : Type 0 where
+pub record SameFaults (before after : PortState) : Type 0 where
   pub failures : after.failures ≡ before.failures
   pub wants : after.wants ≡ before.wants
 
@@ -68,15 +69,15 @@ abbrev pub answered : List Exchange → Option Exchange → List Exchange
 answered exchanges refused = exchanges ++ option_to_list refused
 
 -- a port before and after some asks, of which these answers were kept; an answer that wasn't is one that a book refuses, which closed the port
-pub record AsksWent {P : Type 0} (state : P → PortState) (honest : P → Type 0) (sound : P → ℕ → List Exchange → Type 0) (exchanged : P → List Exchange → Type 0) (keeping : Exchange → Type 0) (closing : ℕ × ℕ → Option Exchange → Type 0) (before after : P) (kept : List AnswerValue) : Type 0 where
-  pub cut : (state after).cut ≡ (state before).cut
-  pub worker : (state after).worker ≡ (state before).worker
+pub record AnswersAsks {P A : Type 0} (port : Port.Ghosts P A) (keeping : Exchange → Type 0) (closing : ℕ × ℕ → Option Exchange → Type 0) (before after : P) (kept : List AnswerValue) : Type 0 where
+  pub cut : (port.state after).cut ≡ (port.state before).cut
+  pub worker : (port.state after).worker ≡ (port.state before).worker
   -- each ask brought an answer that was kept, but the one that closed the port
-  pub asks : (state after).asks + one_if (state after).is_open ≡ (state before).asks + length kept + one_if (state before).is_open
-  pub failures : (state before).failures ≤ (state after).failures
-  pub wants : (state before).wants ≤ (state after).wants
+  pub asks : (port.state after).asks + count_if (port.state after).is_open ≡ (port.state before).asks + length kept + count_if (port.state before).is_open
+  pub failures : (port.state before).failures ≤ (port.state after).failures
+  pub wants : (port.state before).wants ≤ (port.state after).wants
   -- at most one of the asks failed or found no memory, and none of a port that was closed
-  pub one_fault : (state after).failures + (state after).wants ≤ (state before).failures + (state before).wants + one_if (state before).is_open
+  pub one_fault : (port.state after).failures + (port.state after).wants ≤ (port.state before).failures + (port.state before).wants + count_if (port.state before).is_open
   -- the asks whose answers were kept, in their order, which is that of their rounds: the book takes each for the shard that was asked
   pub exchanges : List Exchange
   pub kept_are : kept ≡ answers_of exchanges
@@ -85,16 +86,16 @@ pub record AsksWent {P : Type 0} (state : P → PortState) (honest : P → Type 
   -- the ask whose answer is refused, if there is one
   pub refused : Option Exchange
   -- while it is open both counts stand still, and no answer was refused
-  pub opened : (state after).is_open ≡ true → ((state before).is_open ≡ true) × StoodStill (state before) (state after) × (refused ≡ None)
+  pub opened : (port.state after).is_open ≡ true → ((port.state before).is_open ≡ true) × SameFaults (port.state before) (port.state after) × (refused ≡ None)
   -- once it is closed it is asked no more
-  pub still : (state before).is_open ≡ false → (exchanges ≡ []) × (refused ≡ None) × ((state after).last ≡ (state before).last)
+  pub still : (port.state before).is_open ≡ false → (exchanges ≡ []) × (refused ≡ None) × ((port.state after).last ≡ (port.state before).last)
   -- where no ask failed or found no memory these are just the asks that it answered more
-  pub given : StoodStill (state before) (state after) → (others : List Exchange) → exchanged before others → exchanged after (others ++ answered exchanges refused)
-  pub honest_is : honest before → honest after
+  pub given : SameFaults (port.state before) (port.state after) → (others : List Exchange) → port.exchanged before others → port.exchanged after (others ++ answered exchanges refused)
+  pub honest_is : port.honest before → port.honest after
   -- and what a port answered that failed later is told with why it failed
-  pub sound_is : (ends : ℕ) (others : List Exchange) → sound before ends others → sound after ends (others ++ answered exchanges refused)
+  pub sound_is : (ends : ℕ) (others : List Exchange) → port.sound before ends others → port.sound after ends (others ++ answered exchanges refused)
   -- why it was closed: its last ask failed or found no memory, or brought an answer that is refused, which no honest port gives
-  pub why : (state before).is_open ≡ true → (state after).is_open ≡ false
-      → (FailedMore (state before) (state after) × (refused ≡ None) × closing (state after).last None)
-      ⊎ ((exchange : Exchange) × (refused ≡ Some exchange) × StoodStill (state before) (state after) × closing (state after).last (Some exchange))
-  pub why_honest : honest before → (state before).is_open ≡ true → (state after).is_open ≡ false → FailedMore (state before) (state after)
+  pub why : (port.state before).is_open ≡ true → (port.state after).is_open ≡ false
+      → (MoreFaults (port.state before) (port.state after) × (refused ≡ None) × closing (port.state after).last None)
+      ⊎ ((exchange : Exchange) × (refused ≡ Some exchange) × SameFaults (port.state before) (port.state after) × closing (port.state after).last (Some exchange))
+  pub why_honest : port.honest before → (port.state before).is_open ≡ true → (port.state after).is_open ≡ false → MoreFaults (port.state before) (port.state after)

@@ -17,9 +17,9 @@ pub record IsIdle {P : Type 0} (lane : LaneState P) : Type 0 where
   pub none_kept : lane.kept ≡ []
 
 -- 1 where it holds
-abbrev pub one_if : Bool → ℕ
-one_if true = 1
-one_if false = 0
+abbrev pub count_if : Bool → ℕ
+count_if true = 1
+count_if false = 0
 
 -- ---- all lanes, in their order
 
@@ -28,13 +28,13 @@ abbrev pub seats_of : {P : Type 0} → List (LaneState P) → List SeatState
 seats_of lanes = flat_map (λ lane. option_to_list lane.seat) lanes
 
 -- the answers that they kept
-abbrev pub all_kept : {P : Type 0} → List (LaneState P) → List AnswerValue
-all_kept lanes = flat_map (λ lane. lane.kept) lanes
+abbrev pub kept_answers : {P : Type 0} → List (LaneState P) → List AnswerValue
+kept_answers lanes = flat_map (λ lane. lane.kept) lanes
 
 -- how many asks their ports had
-abbrev pub asks_of : {P : Type 0} → (P → PortState) → List (LaneState P) → ℕ
-asks_of state lanes = sum_by (λ lane. (state lane.port).asks) lanes
+abbrev pub ask_count : {P : Type 0} → (P → PortState) → List (LaneState P) → ℕ
+ask_count state lanes = sum_by (λ lane. (state lane.port).asks) lanes
 
 -- how many of their ports are open
-abbrev pub open_of : {P : Type 0} → (P → PortState) → List (LaneState P) → ℕ
-open_of state lanes = sum_by (λ lane. one_if (state lane.port).is_open) lanes
+abbrev pub open_count : {P : Type 0} → (P → PortState) → List (LaneState P) → ℕ
+open_count state lanes = sum_by (λ lane. count_if (state lane.port).is_open) lanes

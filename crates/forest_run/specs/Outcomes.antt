@@ -3,6 +3,8 @@ use Rattle.std.specs.Prelude.{ℕ, List, [], Result, Ok, Err}
 use Rattle.limits.specs.declared.TheConstants.{MAX_BYTES}
 use Rattle.byte_streams.specs.Streams.{SourceState, SinkState, Gave, Took, WentOut}
 use Rattle.link_key.specs.Forest.{IsForestOf}
+use Rattle.link_key.specs.Link.{IsAscending}
+use Rattle.link_key.specs.Least.{IsSpanningForestOf}
 use Rattle.link_key.specs.declared.links.Link.{Link}
 use Rattle.gr_text.specs.Graph.{GraphValue}
 use Rattle.gr_text.specs.ForestText.{forest_text}
@@ -63,6 +65,10 @@ Ran found says why (Ok x) = IsDone found (λ graph forest. says graph forest x)
 Ran found says why (Err (fault.Read fault)) = IsUnread fault
 Ran found says why (Err (fault.Write written)) = IsBrokenOff found says written
 Ran found says why (Err other) = IsUnsolved (λ graph. why graph other)
+
+-- the links, in the order of their keys, are a spanning forest of the graph's
+abbrev pub IsSpanning : GraphValue → List Link → Type 0
+IsSpanning graph forest = IsAscending forest × IsSpanningForestOf graph.links forest
 
 -- the links are the graph's minimum spanning forest
 abbrev pub IsLeast : GraphValue → List Link → Type 0

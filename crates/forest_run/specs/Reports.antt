@@ -2,12 +2,14 @@
 use Rattle.std.specs.Prelude.{◌≡◌, ℕ, ◌+◌, ◌*◌, List, length}
 use Rattle.link_key.specs.declared.links.Link.{Link}
 use Rattle.link_key.specs.Cut.{joined}
+use Rattle.link_key.specs.Least.{sum_of_weights}
 use Rattle.forest_run.specs.declared.report.Report.{Report}
 
--- a report of a run for the vertices 1 to n over a cut: each ask brought an answer or closed a port, and each shard of each round was answered or scanned alone
-pub record IsReportOf (n : ℕ) (cut : List (List Link)) (report : Report) : Type 0 where
+-- a report of a run for the vertices 1 to n over a cut, which found this forest: each ask brought an answer or closed a port, and each shard of each round was answered or scanned alone
+pub record IsReportOf (n : ℕ) (cut : List (List Link)) (forest : List Link) (report : Report) : Type 0 where
   pub vertices : report.vertices ≡ n
   pub links : report.links ≡ length (joined cut)
   pub shards : report.shards ≡ length cut
   pub asked : report.asked ≡ report.answered + report.closed
   pub answered : report.answered + report.alone ≡ (report.rounds + 1) * length cut
+  pub total : report.total ≡ sum_of_weights forest

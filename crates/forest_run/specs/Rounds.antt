@@ -4,23 +4,22 @@ use Rattle.link_key.specs.declared.links.Link.{Link}
 use Rattle.round_theory.specs.Offers.{IsNamed}
 use Rattle.round_core.specs.Page.{Page, IsPage, opened, missing, hearings}
 use Rattle.round_core.specs.Picks.{ArePicks}
-use Rattle.ports.specs.Ports.{PortState}
-use Rattle.ports.specs.Exchanges.{Exchange}
-use Rattle.forest_run.specs.Lanes.{LaneState, open_of}
-use Rattle.forest_run.specs.Passes.{PassWent}
-use Rattle.forest_run.specs.Scanned.{Scanned}
+use Rattle.ports.specs.declared.port.Port as Port
+use Rattle.forest_run.specs.Lanes.{LaneState, open_count}
+use Rattle.forest_run.specs.Passes.{RunsPasses}
+use Rattle.forest_run.specs.Scanned.{ScansShards}
 
 -- first the ports were asked, and then the coordinator scanned so many shards alone, which it does only where no port is open
-pub record RoundWent {P : Type 0} (state : P → PortState) (honest : P → Type 0) (sound : P → ℕ → List Exchange → Type 0) (exchanged : P → List Exchange → Type 0) (old new : Page) (before after : List (LaneState P)) (alone : ℕ) : Type 0 where
+pub record RunsRound {P A : Type 0} (port : Port.Ghosts P A) (old new : Page) (before after : List (LaneState P)) (alone : ℕ) : Type 0 where
   pub middle : Page
-  pub passes : PassWent state honest sound exchanged old middle before after
-  pub scans : Scanned middle new alone
+  pub passes : RunsPasses port old middle before after
+  pub scans : ScansShards middle new alone
   pub all : missing new ≡ 0
-  pub closed : 0 < alone → open_of state after ≡ 0
+  pub closed : 0 < alone → open_count port.state after ≡ 0
 
 -- a whole round over a book that was opened for the cut under the labels: these are the picks of its answers
-pub record RoundPicked {P : Type 0} (state : P → PortState) (honest : P → Type 0) (sound : P → ℕ → List Exchange → Type 0) (exchanged : P → List Exchange → Type 0) (round : ℕ) (cut : List (List Link)) (labels : List ℕ) (before after : List (LaneState P)) (picks : List (Option Link)) (alone : ℕ) : Type 0 where
+pub record PicksInRound {P A : Type 0} (port : Port.Ghosts P A) (round : ℕ) (cut : List (List Link)) (labels : List ℕ) (before after : List (LaneState P)) (picks : List (Option Link)) (alone : ℕ) : Type 0 where
   pub book : Page
-  pub went : RoundWent state honest sound exchanged (opened round cut labels) book before after alone
+  pub went : RunsRound port (opened round cut labels) book before after alone
   pub page : IsPage book
   pub picked : ArePicks labels (IsNamed (hearings book)) picks

@@ -4,28 +4,28 @@ use Rattle.link_key.specs.declared.links.Link.{Link}
 use Rattle.frames.specs.AnswerValue.{AnswerValue}
 use Rattle.round_theory.specs.Offers.{IsNamed}
 use Rattle.round_core.specs.Page.{Page, IsPage, opened, missing, hearings}
-use Rattle.ports.specs.Ports.{PortState}
+use Rattle.ports.specs.declared.port.Port as Port
 use Rattle.ports.specs.Exchanges.{Exchange}
-use Rattle.forest_run.specs.Lanes.{LaneState, asks_of, open_of}
-use Rattle.forest_run.specs.Asks.{AsksWent, IsKept, IsClosing, IsLight}
-use Rattle.forest_run.specs.Passes.{AreOnce}
+use Rattle.forest_run.specs.Lanes.{LaneState, ask_count, open_count}
+use Rattle.forest_run.specs.Asks.{AnswersAsks, TakesExchange, ClosesPort, IsLight}
+use Rattle.forest_run.specs.Passes.{AnswersOnce}
 
 -- the book, as it was opened
-abbrev pub unanswered : Page → Page
-unanswered book = opened book.round book.cut book.labels
+abbrev pub opened_book : Page → Page
+opened_book book = opened book.round book.cut book.labels
 
 -- an ask of one of the books, as it was opened, the last one of a port, brought no answer, or one that the book refuses
-abbrev pub IsClosingIn : List Page → ℕ × ℕ → Option Exchange → Type 0
-IsClosingIn books last refused = (book : Page) × Contains books book × IsClosing (unanswered book) last refused
+abbrev pub ClosesPortIn : List Page → ℕ × ℕ → Option Exchange → Type 0
+ClosesPortIn books last refused = (book : Page) × Contains books book × ClosesPort (opened_book book) last refused
 
 -- an exchange of one of the books, as it was opened, whose answer it takes for the shard that was asked
 abbrev pub IsKeptIn : List Page → Exchange → Type 0
-IsKeptIn books exchange = (book : Page) × Contains books book × IsKept (unanswered book) exchange
+IsKeptIn books exchange = (book : Page) × Contains books book × TakesExchange (opened_book book) exchange
 
 -- the ports of lanes before and after asks of these books, of which these answers were kept at each lane's place
-pub record PortsWent {P : Type 0} (state : P → PortState) (honest : P → Type 0) (sound : P → ℕ → List Exchange → Type 0) (exchanged : P → List Exchange → Type 0) (books : List Page) (before after : List (LaneState P)) (answers_at : ℕ → List AnswerValue) : Type 0 where
+pub record PortsAnswer {P A : Type 0} (port : Port.Ghosts P A) (books : List Page) (before after : List (LaneState P)) (answers_at : ℕ → List AnswerValue) : Type 0 where
   pub same_lanes : length after ≡ length before
-  pub each : (i : ℕ) (d : LaneState P) → i < length before → AsksWent state honest sound exchanged (IsKeptIn books) (IsClosingIn books) (slice_index_or before i d).port (slice_index_or after i d).port (answers_at i)
+  pub each : (i : ℕ) (d : LaneState P) → i < length before → AnswersAsks port (IsKeptIn books) (ClosesPortIn books) (slice_index_or before i d).port (slice_index_or after i d).port (answers_at i)
 
 -- a lane kept the answer
 abbrev pub IsGivenBy : ℕ → (ℕ → List AnswerValue) → AnswerValue → Type 0
@@ -40,13 +40,13 @@ abbrev pub AreLightBooks : List Page → Type 0
 AreLightBooks books = All (λ book. All (IsLight book) book.answers) books
 
 -- the answers that lanes kept, beside the books that they went into
-pub record AreKept {P : Type 0} (honest : P → Type 0) (before : List (LaneState P)) (books : List Page) (answers_at : ℕ → List AnswerValue) : Type 0 where
+pub record MatchesBooks {P : Type 0} (honest : P → Type 0) (before : List (LaneState P)) (books : List Page) (answers_at : ℕ → List AnswerValue) : Type 0 where
   pub reached : (i : ℕ) (answer : AnswerValue) → i < length before → Contains (answers_at i) answer → (book : Page) × Contains books book × Contains book.answers answer
   -- each answer in a book is light, or a lane kept it
   pub each_is : All (λ book. All (λ answer. IsLight book answer ⊎ IsGivenBy (length before) answers_at answer) book.answers) books
   -- what a lane with an honest port kept is light, whatever the other lanes are
   pub light_at : (i : ℕ) (d : LaneState P) → i < length before → honest (slice_index_or before i d).port → All (IsLightIn books) (answers_at i)
-  pub once : AreOnce (length before) answers_at
+  pub once : AnswersOnce (length before) answers_at
 
 -- an answer that a book took names the link
 abbrev pub IsNamedIn : List Page → Link → Type 0
@@ -59,18 +59,18 @@ pub record IsFullBook (cut : List (List Link)) (book : Page) : Type 0 where
   pub all : missing book ≡ 0
 
 -- lanes before and after whole rounds over books of a cut: the books have so many answers that lanes kept, and so many others, each of which is light: those the coordinator scanned itself
-pub record RoundsWent {P : Type 0} (state : P → PortState) (honest : P → Type 0) (sound : P → ℕ → List Exchange → Type 0) (exchanged : P → List Exchange → Type 0) (cut : List (List Link)) (before after : List (LaneState P)) (books : List Page) (answered alone : ℕ) : Type 0 where
+pub record RunsRounds {P A : Type 0} (port : Port.Ghosts P A) (cut : List (List Link)) (before after : List (LaneState P)) (books : List Page) (answered alone : ℕ) : Type 0 where
   pub whole : All (IsFullBook cut) books
   pub answers_at : ℕ → List AnswerValue
-  pub ports : PortsWent state honest sound exchanged books before after answers_at
-  pub kept : AreKept honest before books answers_at
+  pub ports : PortsAnswer port books before after answers_at
+  pub kept : MatchesBooks port.honest before books answers_at
   pub few : (i : ℕ) → length (answers_at i) ≤ answered
   -- each shard of each round has an answer that a lane kept, or another
   pub counted : answered + alone ≡ length books * length cut
   -- each ask brought an answer, but for those that closed a port
-  pub asks : asks_of state after + open_of state after ≡ (asks_of state before + answered) + open_of state before
-  pub never_opened : open_of state after ≤ open_of state before
-  pub closed : 0 < alone → open_of state after ≡ 0
+  pub asks : ask_count port.state after + open_count port.state after ≡ (ask_count port.state before + answered) + open_count port.state before
+  pub never_opened : open_count port.state after ≤ open_count port.state before
+  pub closed : 0 < alone → open_count port.state after ≡ 0
   -- where the coordinator scanned nothing, each answer is one that a lane kept
   pub given : alone ≡ 0 → All (λ book. All (IsGivenBy (length before) answers_at) book.answers) books
-  pub light : All (λ lane. honest lane.port) before → AreLightBooks books
+  pub light : All (λ lane. port.honest lane.port) before → AreLightBooks books

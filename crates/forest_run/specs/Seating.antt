@@ -1,36 +1,29 @@
 -- What the steps of a pass that ask no port leave of the lanes.
-use Rattle.std.specs.Prelude.{◌≡◌, ⊤, List, [], ◌∷◌, None, is_some}
+use Rattle.std.specs.Prelude.{◌≡◌, [], None, is_some}
 use Rattle.ports.specs.Ports.{PortState}
 use Rattle.forest_run.specs.Lanes.{LaneState}
 
--- the lists are as long as one another, and the relation holds at each place
-abbrev pub Each : {X Y : Type 0} → (X → Y → Type 0) → List X → List Y → Type 0
-Each R [] [] = ⊤
-Each R [] (y ∷ ys) = ⊥
-Each R (x ∷ xs) [] = ⊥
-Each R (x ∷ xs) (y ∷ ys) = R x y × Each R xs ys
-
 -- a lane that may have got room
-pub record GotRoom {P : Type 0} (before after : LaneState P) : Type 0 where
+pub record GainsRoom {P : Type 0} (before after : LaneState P) : Type 0 where
   pub port : after.port ≡ before.port
   pub seat : after.seat ≡ before.seat
   pub kept : after.kept ≡ before.kept
 
 -- a lane that got a seat, if its port is open
-pub record GotSeat {P : Type 0} (state : P → PortState) (before after : LaneState P) : Type 0 where
+pub record GainsSeat {P : Type 0} (state : P → PortState) (before after : LaneState P) : Type 0 where
   pub port : after.port ≡ before.port
   pub kept : after.kept ≡ before.kept
   pub room : after.room ≡ before.room
   pub seat : is_some after.seat ≡ (state before.port).is_open
 
 -- a lane whose seat was taken
-pub record GaveSeat {P : Type 0} (before after : LaneState P) : Type 0 where
+pub record LosesSeat {P : Type 0} (before after : LaneState P) : Type 0 where
   pub port : after.port ≡ before.port
   pub kept : after.kept ≡ before.kept
   pub seat : after.seat ≡ None
 
 -- a lane whose kept answers were taken
-pub record GaveKept {P : Type 0} (before after : LaneState P) : Type 0 where
+pub record LosesAnswers {P : Type 0} (before after : LaneState P) : Type 0 where
   pub port : after.port ≡ before.port
   pub seat : after.seat ≡ before.seat
   pub none_kept : after.kept ≡ []

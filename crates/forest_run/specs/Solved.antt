@@ -3,6 +3,7 @@ use Rattle.std.specs.Prelude.{◌≡◌, ◌≢◌, ℕ, ◌+◌, ◌≤◌, ◌
 use Rattle.link_key.specs.declared.links.Link.{Link}
 use Rattle.link_key.specs.Cut.{joined}
 use Rattle.link_key.specs.Forest.{IsForestOf}
+use Rattle.link_key.specs.Least.{IsLightest}
 use Rattle.frames.specs.AnswerValue.{AnswerValue}
 use Rattle.round_theory.specs.Offers.{Names}
 use Rattle.round_theory.specs.Rounds.{IsMergingRounds}
@@ -12,13 +13,12 @@ use Rattle.round_core.specs.Solver.{Progress, IsProgress, vertices, IsTurn, IsSt
 use Rattle.round_core.specs.declared.solver.Turn.{Turn}
 use Rattle.round_core.specs.declared.solver.SolveFault.{SolveFault}
 use Rattle.round_core.specs.declared.solver.SolveFault.TheVariants.{Memory}
-use Rattle.ports.specs.Ports.{PortState}
-use Rattle.ports.specs.Exchanges.{Exchange}
+use Rattle.ports.specs.declared.port.Port as Port
 use Rattle.forest_run.specs.declared.report.Report.{Report}
-use Rattle.forest_run.specs.Lanes.{LaneState, asks_of, open_of}
-use Rattle.forest_run.specs.Rounds.{RoundPicked}
-use Rattle.forest_run.specs.Runs.{IsFullBook, AreKept, AreLightBooks, PortsWent, RoundsWent, IsGivenBy, IsNamedIn}
-use Rattle.forest_run.specs.Chains.{IsNextOf, IsPickedBy, IsSolvedBy}
+use Rattle.forest_run.specs.Lanes.{LaneState, ask_count, open_count}
+use Rattle.forest_run.specs.Rounds.{PicksInRound}
+use Rattle.forest_run.specs.Runs.{IsFullBook, MatchesBooks, AreLightBooks, PortsAnswer, RunsRounds, IsGivenBy, IsNamedIn}
+use Rattle.forest_run.specs.Chains.{IsNextBook, HasPicks, MergesFromStart}
 use Rattle.forest_run.specs.Reports.{IsReportOf}
 
 -- each lane's port is honest
@@ -28,55 +28,55 @@ AreHonest honest lanes = All (λ lane. honest lane.port) lanes
 -- ---- one round
 
 -- a round under the solver's labels, and a step of the solver by its picks
-pub record TurnWent {P : Type 0} (state : P → PortState) (honest : P → Type 0) (sound : P → ℕ → List Exchange → Type 0) (exchanged : P → List Exchange → Type 0) (cut : List (List Link)) (old new : Progress) (before after : List (LaneState P)) (turn : Turn) (alone : ℕ) : Type 0 where
+pub record StepsOnce {P A : Type 0} (port : Port.Ghosts P A) (cut : List (List Link)) (old new : Progress) (before after : List (LaneState P)) (turn : Turn) (alone : ℕ) : Type 0 where
   pub picks : List (Option Link)
   pub progress : IsProgress old
-  pub picked : RoundPicked state honest sound exchanged (old.rounds + 1) cut old.labels before after picks alone
+  pub picked : PicksInRound port (old.rounds + 1) cut old.labels before after picks alone
   pub stepped : IsTurn picks old new turn
 
 -- however a turn ended: what it did to the lanes' ports, and the book that it filled, as far as it came
-pub record TurnAsked {P : Type 0} (state : P → PortState) (honest : P → Type 0) (sound : P → ℕ → List Exchange → Type 0) (exchanged : P → List Exchange → Type 0) (cut : List (List Link)) (old : Progress) (before after : List (LaneState P)) : Type 0 where
+pub record AsksInRound {P A : Type 0} (port : Port.Ghosts P A) (cut : List (List Link)) (old : Progress) (before after : List (LaneState P)) : Type 0 where
   pub book : Page
-  pub next : IsNextOf cut old book
+  pub next : IsNextBook cut old book
   pub answers_at : ℕ → List AnswerValue
-  pub ports : PortsWent state honest sound exchanged (book ∷ []) before after answers_at
-  pub kept : AreKept honest before (book ∷ []) answers_at
+  pub ports : PortsAnswer port (book ∷ []) before after answers_at
+  pub kept : MatchesBooks port.honest before (book ∷ []) answers_at
 
 -- a round under the solver's labels, whose picks the solver refuses
-pub record TurnRefused {P : Type 0} (state : P → PortState) (honest : P → Type 0) (sound : P → ℕ → List Exchange → Type 0) (exchanged : P → List Exchange → Type 0) (cut : List (List Link)) (old : Progress) (before after : List (LaneState P)) (fault : SolveFault) : Type 0 where
+pub record RefusesPicks {P A : Type 0} (port : Port.Ghosts P A) (cut : List (List Link)) (old : Progress) (before after : List (LaneState P)) (fault : SolveFault) : Type 0 where
   pub picks : List (Option Link)
   pub alone : ℕ
   pub progress : IsProgress old
-  pub picked : RoundPicked state honest sound exchanged (old.rounds + 1) cut old.labels before after picks alone
+  pub picked : PicksInRound port (old.rounds + 1) cut old.labels before after picks alone
   pub refused : IsStepFault old picks fault
 
 -- why a turn ends ill: want of memory, or the solver refuses the picks
-abbrev pub IsTurnFault : {P : Type 0} → (P → PortState) → (P → Type 0) → (P → ℕ → List Exchange → Type 0) → (P → List Exchange → Type 0) → List (List Link) → Progress → List (LaneState P) → List (LaneState P) → SolveFault → Type 0
-IsTurnFault state honest sound exchanged cut old before after fault = (fault ≡ Memory) ⊎ TurnRefused state honest sound exchanged cut old before after fault
+abbrev pub IsTurnFault : {P A : Type 0} → Port.Ghosts P A → List (List Link) → Progress → List (LaneState P) → List (LaneState P) → SolveFault → Type 0
+IsTurnFault port cut old before after fault = (fault ≡ Memory) ⊎ RefusesPicks port cut old before after fault
 
 -- ---- rounds from the start of a run
 
 -- merging rounds from a run's start, which led to this solver, and one whole round more, of which these are the picks
-pub record PickedAfter {P : Type 0} (state : P → PortState) (honest : P → Type 0) (sound : P → ℕ → List Exchange → Type 0) (exchanged : P → List Exchange → Type 0) (n : ℕ) (cut : List (List Link)) (before after : List (LaneState P)) (solver : Progress) (picks : List (Option Link)) (answered alone : ℕ) : Type 0 where
+pub record PicksAfterRounds {P A : Type 0} (port : Port.Ghosts P A) (n : ℕ) (cut : List (List Link)) (before after : List (LaneState P)) (solver : Progress) (picks : List (Option Link)) (answered alone : ℕ) : Type 0 where
   pub merging : List Page
   pub last : Page
-  pub rounds : RoundsWent state honest sound exchanged cut before after (merging ++ last ∷ []) answered alone
-  pub solved : IsSolvedBy n merging solver
-  pub picked : IsPickedBy solver last picks
+  pub rounds : RunsRounds port cut before after (merging ++ last ∷ []) answered alone
+  pub solved : MergesFromStart n merging solver
+  pub picked : HasPicks solver last picks
 
 -- the books that a run asked for: none, or a whole one for each merging round, and the one of the solver's next round, as far as it was filled
 abbrev pub AreRunBooks : ℕ → List (List Link) → List Page → Type 0
 AreRunBooks n cut books =
     (books ≡ [])
-    ⊎ ((merging : List Page) × (solver : Progress) × (last : Page) × (books ≡ merging ++ last ∷ []) × All (IsFullBook cut) merging × IsSolvedBy n merging solver × IsNextOf cut solver last)
+    ⊎ ((merging : List Page) × (solver : Progress) × (last : Page) × (books ≡ merging ++ last ∷ []) × All (IsFullBook cut) merging × MergesFromStart n merging solver × IsNextBook cut solver last)
 
 -- however a run ended: what it did to the lanes' ports, and the books that it filled
-pub record RunAsked {P : Type 0} (state : P → PortState) (honest : P → Type 0) (sound : P → ℕ → List Exchange → Type 0) (exchanged : P → List Exchange → Type 0) (n : ℕ) (cut : List (List Link)) (before after : List (LaneState P)) : Type 0 where
+pub record AsksInRun {P A : Type 0} (port : Port.Ghosts P A) (n : ℕ) (cut : List (List Link)) (before after : List (LaneState P)) : Type 0 where
   pub books : List Page
   pub are_books : AreRunBooks n cut books
   pub answers_at : ℕ → List AnswerValue
-  pub ports : PortsWent state honest sound exchanged books before after answers_at
-  pub kept : AreKept honest before books answers_at
+  pub ports : PortsAnswer port books before after answers_at
+  pub kept : MatchesBooks port.honest before books answers_at
 
 -- the links taken are those of all merging rounds over the list
 pub record HasAllRoundsOf (links : List Link) (p : Progress) : Type 0 where
@@ -84,9 +84,9 @@ pub record HasAllRoundsOf (links : List Link) (p : Progress) : Type 0 where
   pub all : IsMergingRounds (vertices p) links p.rounds
 
 -- rounds of a run until one had no picks: an answer of each link that the solver took stands in a book
-pub record RunWent {P : Type 0} (state : P → PortState) (honest : P → Type 0) (sound : P → ℕ → List Exchange → Type 0) (exchanged : P → List Exchange → Type 0) (n : ℕ) (cut : List (List Link)) (before after : List (LaneState P)) (solver : Progress) (answered alone : ℕ) : Type 0 where
+pub record MergesAll {P A : Type 0} (port : Port.Ghosts P A) (n : ℕ) (cut : List (List Link)) (before after : List (LaneState P)) (solver : Progress) (answered alone : ℕ) : Type 0 where
   pub picks : List (Option Link)
-  pub went : PickedAfter state honest sound exchanged n cut before after solver picks answered alone
+  pub went : PicksAfterRounds port n cut before after solver picks answered alone
   pub none : AreNoPicks picks
   pub number : length (went.merging ++ went.last ∷ []) ≡ solver.rounds + 1
   pub progress : IsProgress solver
@@ -97,43 +97,45 @@ pub record RunWent {P : Type 0} (state : P → PortState) (honest : P → Type 0
   pub right : AreLightBooks (went.merging ++ went.last ∷ []) → HasAllRoundsOf (joined cut) solver
 
 -- rounds of a run, after which the solver refuses the picks of the last one, or there were none and it can't be finished
-pub record RunRefused {P : Type 0} (state : P → PortState) (honest : P → Type 0) (sound : P → ℕ → List Exchange → Type 0) (exchanged : P → List Exchange → Type 0) (n : ℕ) (cut : List (List Link)) (before after : List (LaneState P)) (fault : SolveFault) : Type 0 where
+pub record RefusesRun {P A : Type 0} (port : Port.Ghosts P A) (n : ℕ) (cut : List (List Link)) (before after : List (LaneState P)) (fault : SolveFault) : Type 0 where
   pub solver : Progress
   pub picks : List (Option Link)
   pub answered : ℕ
   pub alone : ℕ
-  pub went : PickedAfter state honest sound exchanged n cut before after solver picks answered alone
+  pub went : PicksAfterRounds port n cut before after solver picks answered alone
   pub vertices_are : vertices solver ≡ n
   pub why : IsStepFault solver picks fault ⊎ (AreNoPicks picks × IsFinishFault solver (joined cut) fault)
   -- a fault other than want of memory comes of an answer that isn't light
   pub to_blame : fault ≢ Memory → ¬ (AreLightBooks (went.merging ++ went.last ∷ []))
 
 -- why a run has no forest: want of memory, or what was answered in its rounds
-abbrev pub IsSolveFault : {P : Type 0} → (P → PortState) → (P → Type 0) → (P → ℕ → List Exchange → Type 0) → (P → List Exchange → Type 0) → ℕ → List (List Link) → List (LaneState P) → List (LaneState P) → SolveFault → Type 0
-IsSolveFault state honest sound exchanged n cut before after fault = (fault ≡ Memory) ⊎ RunRefused state honest sound exchanged n cut before after fault
+abbrev pub IsSolveFault : {P A : Type 0} → Port.Ghosts P A → ℕ → List (List Link) → List (LaneState P) → List (LaneState P) → SolveFault → Type 0
+IsSolveFault port n cut before after fault = (fault ≡ Memory) ⊎ RefusesRun port n cut before after fault
 
 -- a run that ended well over the lanes: its forest, and its report
-pub record SolveWent {P : Type 0} (state : P → PortState) (honest : P → Type 0) (sound : P → ℕ → List Exchange → Type 0) (exchanged : P → List Exchange → Type 0) (n : ℕ) (cut : List (List Link)) (before after : List (LaneState P)) (forest : List Link) (report : Report) : Type 0 where
+pub record FindsForest {P A : Type 0} (port : Port.Ghosts P A) (n : ℕ) (cut : List (List Link)) (before after : List (LaneState P)) (forest : List Link) (report : Report) : Type 0 where
   pub solver : Progress
   pub picks : List (Option Link)
   -- a merging round for each that is reported, and the last one, which had no picks
-  pub went : PickedAfter state honest sound exchanged n cut before after solver picks report.answered report.alone
+  pub went : PicksAfterRounds port n cut before after solver picks report.answered report.alone
   pub none : AreNoPicks picks
   pub rounds_are : report.rounds ≡ solver.rounds
   pub in_time : 2 ^ report.rounds ≤ max 1 n
-  pub counts : IsReportOf n cut report
+  pub counts : IsReportOf n cut forest report
   -- the ports' counts of asks rose by `asked`, and so many ports were closed
-  pub asked : asks_of state after ≡ asks_of state before + report.asked
-  pub closed : open_of state after + report.closed ≡ open_of state before
+  pub asked : ask_count port.state after ≡ ask_count port.state before + report.asked
+  pub closed : open_count port.state after + report.closed ≡ open_count port.state before
   -- the links that the solver took, which are a spanning forest, whatever was answered
   pub finished : IsFinished solver (joined cut) forest
   -- no link is invented
   pub from_list : All (Contains (joined cut)) forest
   -- where the coordinator scanned nothing, an answer that a lane kept names each link
   pub named : report.alone ≡ 0 → (l : Link) → Contains forest l → (answer : AnswerValue) × IsGivenBy (length before) went.rounds.answers_at answer × Names (hearing_of cut answer) l
-  -- where each answer is light, whoever gave it: the minimum spanning forest, and the number of merging rounds
+  -- where each answer is light, whoever gave it: the minimum spanning forest, than which no spanning forest weighs less, and the number of merging rounds
   pub light_forest : AreLightBooks (went.merging ++ went.last ∷ []) → IsForestOf (joined cut) forest
+  pub light_total : AreLightBooks (went.merging ++ went.last ∷ []) → IsLightest (joined cut) report.total
   pub light_rounds : AreLightBooks (went.merging ++ went.last ∷ []) → IsMergingRounds n (joined cut) report.rounds
   -- and so where all ports are honest
-  pub honest_forest : AreHonest honest before → IsForestOf (joined cut) forest
-  pub honest_rounds : AreHonest honest before → IsMergingRounds n (joined cut) report.rounds
+  pub honest_forest : AreHonest port.honest before → IsForestOf (joined cut) forest
+  pub honest_total : AreHonest port.honest before → IsLightest (joined cut) report.total
+  pub honest_rounds : AreHonest port.honest before → IsMergingRounds n (joined cut) report.rounds

@@ -2,13 +2,13 @@
 use Rattle.std.specs.Prelude.{List, [], ◌∷◌, ⊤, fold}
 use Rattle.frames.specs.AnswerValue.{AnswerValue}
 use Rattle.round_core.specs.Page.{Page, heard}
-use Rattle.forest_run.specs.Asks.{IsTaken}
+use Rattle.forest_run.specs.Asks.{Takes}
 
 -- the book after all these answers
-abbrev pub heard_all : Page → List AnswerValue → Page
-heard_all page answers = fold heard page answers
+abbrev pub with_answers : Page → List AnswerValue → Page
+with_answers page answers = fold heard page answers
 
 -- the book takes each of these answers, one after the other
-abbrev pub AreTaken : Page → List AnswerValue → Type 0
-AreTaken page [] = ⊤
-AreTaken page (answer ∷ answers) = IsTaken page answer × AreTaken (heard page answer) answers
+abbrev pub TakesAll : Page → List AnswerValue → Type 0
+TakesAll page [] = ⊤
+TakesAll page (answer ∷ answers) = Takes page answer × TakesAll (heard page answer) answers

@@ -6,23 +6,24 @@ use Rattle.round_theory.specs.Offers.{Names}
 use Rattle.worker_engine.specs.Serving.{asks_in}
 use Rattle.round_core.specs.Page.{hearing_of}
 use Rattle.round_core.specs.declared.solver.SolveFault.{SolveFault}
-use Rattle.ports.specs.Lines.{LineState, IsFresh, Tells}
+use Rattle.ports.specs.declared.line.Line as Line
+use Rattle.ports.specs.Lines.{LineState, IsFresh, TellsBytes}
 use Rattle.ports.specs.Exchanges.{Exchange}
-use Rattle.ports.specs.Talking.{Talk, IsInStep}
-use Rattle.ports.specs.Wires.{WireState, IsNewWire, port_of, IsHonestWire, IsSoundWire, WireExchanged}
+use Rattle.ports.specs.Talking.{Talk, MatchesLine}
+use Rattle.ports.specs.Wires.{WireState, IsNewWire, wire_port, IsHonestWire, IsSoundWire}
 use Rattle.forest_run.specs.declared.report.Report.{Report}
 use Rattle.forest_run.specs.Lanes.{LaneState, IsIdle}
-use Rattle.forest_run.specs.Solved.{SolveWent, RunRefused}
+use Rattle.forest_run.specs.Solved.{FindsForest, RefusesRun}
 
 -- ---- the lines
 
 -- each line is new and tells its bytes
 abbrev pub AreFresh : {L : Type 0} → (L → LineState) → List L → Type 0
-AreFresh state lines = All (λ line. IsFresh (state line) × Tells (state line)) lines
+AreFresh state lines = All (λ line. IsFresh (state line) × TellsBytes (state line)) lines
 
 -- each line is new and tells its bytes, and the line at each place is faithful for the worker of that number
-abbrev pub AreServed : {L : Type 0} → (L → LineState) → (L → ℕ → Type 0) → List L → Type 0
-AreServed state faithful lines = AreFresh state lines × ((worker : ℕ) (d : _) → worker < length lines → faithful (slice_index_or lines worker d) worker)
+abbrev pub AreServed : {L : Type 0} → Line.Ghosts L → List L → Type 0
+AreServed over lines = AreFresh over.state lines × ((worker : ℕ) (d : _) → worker < length lines → over.faithful (slice_index_or lines worker d) worker)
 
 -- lanes with a new wire over each line: the wire at each place is for the worker of that number
 pub record AreNewLanes {L : Type 0} (lines : List L) (cut : List (List Link)) (lanes : List (LaneState (WireState L))) : Type 0 where
@@ -38,52 +39,52 @@ lines_of lanes = map (λ lane. lane.port.talk.line) lanes
 -- ---- what a run does to them
 
 -- the wires that lanes with new wires over these lines have after a run: each is of the worker of its place, and they tell why those that are shut were shut
-pub record WiresWent {L : Type 0} (state : L → LineState) (faithful : L → ℕ → Type 0) (lines : List L) (ended : List (LaneState (WireState L))) : Type 0 where
+pub record TellsOfWires {L : Type 0} (over : Line.Ghosts L) (lines : List L) (ended : List (LaneState (WireState L))) : Type 0 where
   pub workers : (worker : ℕ) (lane : LaneState (WireState L)) → worker < length lines → (slice_index_or ended worker lane).port.talk.worker ≡ worker
   -- over a line that was new and tells its bytes, whatever the other lines are, from the ends on that it had found before the run
   pub sound : (worker : ℕ) (line : L) (lane : LaneState (WireState L)) → worker < length lines
-      → IsFresh (state (slice_index_or lines worker line)) → Tells (state (slice_index_or lines worker line))
-      → (exchanges : List Exchange) × IsSoundWire state (slice_index_or ended worker lane).port (state (slice_index_or lines worker line)).ends exchanges
+      → IsFresh (over.state (slice_index_or lines worker line)) → TellsBytes (over.state (slice_index_or lines worker line))
+      → (exchanges : List Exchange) × IsSoundWire over.state (slice_index_or ended worker lane).port (over.state (slice_index_or lines worker line)).ends exchanges
   -- over such a line that carries its worker's session, whatever the other lines are
   pub honest : (worker : ℕ) (line : L) (lane : LaneState (WireState L)) → worker < length lines
-      → IsFresh (state (slice_index_or lines worker line)) → Tells (state (slice_index_or lines worker line)) → faithful (slice_index_or lines worker line) worker
-      → IsHonestWire state faithful (slice_index_or ended worker lane).port
+      → IsFresh (over.state (slice_index_or lines worker line)) → TellsBytes (over.state (slice_index_or lines worker line)) → over.faithful (slice_index_or lines worker line) worker
+      → IsHonestWire over (slice_index_or ended worker lane).port
 
 -- over new wires a run of their lanes found this forest of the cut's links, for the vertices 1 to n; the lines were taken out again in their order
-pub record LinesSolved {L : Type 0} (state : L → LineState) (faithful : L → ℕ → Type 0) (n : ℕ) (cut : List (List Link)) (before after : List L) (forest : List Link) (report : Report) : Type 0 where
+pub record FindsOverLines {L : Type 0} (A : Type 0) (over : Line.Ghosts L) (n : ℕ) (cut : List (List Link)) (before after : List L) (forest : List Link) (report : Report) : Type 0 where
   pub lanes : List (LaneState (WireState L))
   pub new : AreNewLanes before cut lanes
   pub ended : List (LaneState (WireState L))
-  pub went : SolveWent port_of (IsHonestWire state faithful) (IsSoundWire state) (WireExchanged state) n cut lanes ended forest report
-  pub wires : WiresWent state faithful before ended
+  pub went : FindsForest (wire_port A over) n cut lanes ended forest report
+  pub wires : TellsOfWires over before ended
   pub lines_are : after ≡ lines_of ended
 
 -- over new wires the rounds of a run were answered so that the solver refuses them by this fault
-pub record LinesRefused {L : Type 0} (state : L → LineState) (faithful : L → ℕ → Type 0) (n : ℕ) (cut : List (List Link)) (lines : List L) (fault : SolveFault) : Type 0 where
+pub record RefusesOverLines {L : Type 0} (A : Type 0) (over : Line.Ghosts L) (n : ℕ) (cut : List (List Link)) (lines : List L) (fault : SolveFault) : Type 0 where
   pub lanes : List (LaneState (WireState L))
   pub new : AreNewLanes lines cut lanes
   pub ended : List (LaneState (WireState L))
-  pub refused : RunRefused port_of (IsHonestWire state faithful) (IsSoundWire state) (WireExchanged state) n cut lanes ended fault
-  pub wires : WiresWent state faithful lines ended
+  pub refused : RefusesRun (wire_port A over) n cut lanes ended fault
+  pub wires : TellsOfWires over lines ended
 
 -- ---- the bytes on the lines
 
 -- what was said with a worker: the frames that were sent, and the asks among them with their answers
-abbrev pub Said : Type 0
-Said = List FrameValue × List Exchange
+abbrev pub Transcript : Type 0
+Transcript = List FrameValue × List Exchange
 
 -- a new line's whole talk with this worker about shards of the cut: these frames were sent, shards that were asked for there, once each and before their first ask, and the asks of these exchanges, and nothing else; and the worker's hello and the answers of the exchanges got, and nothing else, or nothing where no hello came
-pub record HasTalked (cut : List (List Link)) (worker : ℕ) (line : LineState) (said : Said) : Type 0 where
+pub record HasTalked (cut : List (List Link)) (worker : ℕ) (line : LineState) (said : Transcript) : Type 0 where
   pub talk : Talk
   pub worker_is : talk.worker ≡ worker
   pub line_is : talk.line ≡ line
   pub cut_is : talk.cut ≡ cut
-  pub in_step : IsInStep talk said.0 said.1
+  pub in_step : MatchesLine talk said.0 said.1
 
 -- what was said and heard over all lines, at each place: so many asks in all, and each link of the forest is named by one of the answers
 pub record HaveTalked {L : Type 0} (state : L → LineState) (cut : List (List Link)) (forest : List Link) (asked : ℕ) (lines : List L) : Type 0 where
-  pub talks : List Said
+  pub talks : List Transcript
   pub number : length talks ≡ length lines
-  pub each : (worker : ℕ) (line : L) (said : Said) → worker < length lines → HasTalked cut worker (state (slice_index_or lines worker line)) (slice_index_or talks worker said)
+  pub each : (worker : ℕ) (line : L) (said : Transcript) → worker < length lines → HasTalked cut worker (state (slice_index_or lines worker line)) (slice_index_or talks worker said)
   pub asks : sum_by (λ said. asks_in said.0) talks ≡ asked
-  pub named : (l : Link) → Contains forest l → (said : Said) × (exchange : Exchange) × Contains talks said × Contains said.1 exchange × Names (hearing_of cut exchange.answer) l
+  pub named : (l : Link) → Contains forest l → (said : Transcript) × (exchange : Exchange) × Contains talks said × Contains said.1 exchange × Names (hearing_of cut exchange.answer) l

@@ -1,6 +1,7 @@
 //! Why a run ends ill.
 use gr_text::ReadFault;
 use link_key::{CutFault, Link};
+use round_core::SolveFault;
 use std::fmt;
 use thiserror::Error;
 
@@ -53,4 +54,20 @@ pub enum RunFault {
         /// How many bytes of the forest text the sink took.
         written: u64,
     },
+}
+
+// What is told of a run whose rounds gave no forest.
+impl From<SolveFault> for RunFault {
+    ghost use Rattle.std.specs.Prelude.{◌≡◌};
+    ghost use Rattle.forest_run.specs.LinesRun.{told_fault};
+
+    ghost from_gives = { λ fault told. told ≡ told_fault fault };
+
+    fn from(fault: SolveFault) -> RunFault {
+        match fault {
+            SolveFault::Rounds { round } => RunFault::Rounds { round },
+            SolveFault::Missed { link } => RunFault::Missed { link },
+            SolveFault::Memory => RunFault::Memory,
+        }
+    }
 }

@@ -9,8 +9,8 @@ ghost use Rattle.ports.specs.Lines.{HasRoom};
 ghost use Rattle.forest_run.specs.Files.{HasFile, IsFileOf, MeansGraph, MeansNothing, IsFirstFaultOf, IsNoRefusal};
 ghost use Rattle.forest_run.specs.Outcomes.{streams};
 ghost use Rattle.forest_run.specs.Cuttings.{cut_refusal, IsCutOf};
-ghost use Rattle.forest_run.specs.WiredLines.{AreServed, AreNewLanes, lines_of, LinesSolved, LinesRefused};
-ghost use Rattle.forest_run.specs.LinesRun.{RanLines, RanServed, IsUnhindered, told_fault};
+ghost use Rattle.forest_run.specs.WiredLines.{AreServed, AreNewLanes, lines_of, FindsOverLines, RefusesOverLines};
+ghost use Rattle.forest_run.specs.LinesRun.{RanLines, RanServed, IsUnhindered};
 
 use crate::cutting::Cutting;
 use crate::fault::RunFault;
@@ -79,17 +79,6 @@ fn close_lanes<'a, L: Line + Drop, A: Allocator + Copy>(
     }
 }
 
-// What a run is told whose rounds gave no forest.
-fn run_fault(fault: SolveFault) -> RunFault
-    ensures { result ≡ told_fault fault }
-{
-    match fault {
-        SolveFault::Rounds { round } => RunFault::Rounds { round },
-        SolveFault::Missed { link } => RunFault::Missed { link },
-        SolveFault::Memory => RunFault::Memory,
-    }
-}
-
 // Finds a spanning forest of the cut's links over new wires, and takes the lines out of them.
 fn solve_lines<
     'a,
@@ -107,9 +96,9 @@ fn solve_lines<
     requires room { All (λ line. HasRoom (L.state line)) lines.items }
     requires vertices { n ≤ MAX_VERTICES }
     requires ends { All (EndsUpTo n) cut.now }
-    ensures went { IfOk result (λ r. LinesSolved L.state L.faithful n cut.now lines.items r.2.items r.0 r.1) }
-    ensures fault { IfErr result (λ fault. (fault ≡ Memory) ⊎ LinesRefused L.state L.faithful n cut.now lines.items fault) }
-    ensures served { IfErr result (λ fault. AreServed L.state L.faithful lines.items → fault ≡ Memory) }
+    ensures went { IfOk result (λ r. FindsOverLines A L.Line n cut.now lines.items r.2.items r.0 r.1) }
+    ensures fault { IfErr result (λ fault. (fault ≡ Memory) ⊎ RefusesOverLines A L.Line n cut.now lines.items fault) }
+    ensures served { IfErr result (λ fault. AreServed L.Line lines.items → fault ≡ Memory) }
 {
     let mut lanes = open_lanes(alloc, cut, &mut lines)?;
     let (forest, report) = solve(rt, alloc, n, cut, &mut lanes)?;
@@ -154,12 +143,12 @@ pub fn run_lines<
     // Whatever the workers answer: the source was read to its end, and exactly the text of a spanning forest went out, or
     // the fault says what was done. At the end, where a write failed, and where what came over the lines makes no forest,
     // each line was asked as its worker, and where it was given up it tells why.
-    ensures ran { RanLines L.state L.faithful cutting.entry lines.items result (streams (S.state source.old) (W.state sink.old))
+    ensures ran { RanLines L.Line cutting.entry lines.items result (streams (S.state source.old) (W.state sink.old))
         (streams (S.state source.new) (W.state sink.new)) }
 
     // Where each line is new and carries its worker's session: the minimum spanning forest, after as many rounds as merge
     // components. `ran` says so too, of the forest and the report that it tells of.
-    ensures served { AreServed L.state L.faithful lines.items → RanServed cutting.entry result
+    ensures served { AreServed L.Line lines.items → RanServed cutting.entry result
         (streams (S.state source.old) (W.state sink.old)) (streams (S.state source.new) (W.state sink.new)) }
 
     // A file that means nothing is refused by its first fault, where no read fails; one that means a graph isn't.
@@ -170,7 +159,7 @@ pub fn run_lines<
 
     // Over such lines, where the cut of the file's graph is allowed, only want of memory and a setback of the sink can
     // hinder a run.
-    ensures ends_well { AreServed L.state L.faithful lines.items → (bytes : List ℕ) (graph : GraphValue)
+    ensures ends_well { AreServed L.Line lines.items → (bytes : List ℕ) (graph : GraphValue)
         → HasFile bytes (S.state source.old) (S.state source.new) → IsFileOf bytes graph
         → cut_refusal cutting.entry (length graph.links) ≡ None
         → IsUnhindered result (W.state sink.old) (W.state sink.new) }
@@ -188,7 +177,7 @@ pub fn run_lines<
     };
     let (forest, report, lines) = match solve_lines(rt, alloc, graph.n(), &cut, lines) {
         Ok(solved) => solved,
-        Err(fault) => return Err(run_fault(fault)),
+        Err(fault) => return Err(RunFault::from(fault)),
     };
     match write_forest(sink, graph.n(), &forest) {
         Ok(_) => Ok((report, lines)),

@@ -1,8 +1,8 @@
 //! A run by one thread, from the bytes of a file to the text of its forest.
-ghost use Rattle.std.specs.Prelude.{ℕ, List, OnOk};
+ghost use Rattle.std.specs.Prelude.{ℕ, List, OnOk, IfOk};
 ghost use Rattle.forest_run.specs.Files.{HasFile, MeansGraph, MeansNothing, IsFirstFaultOf, IsNoRefusal};
 ghost use Rattle.forest_run.specs.Outcomes.{streams};
-ghost use Rattle.forest_run.specs.PlainRun.{RanPlain};
+ghost use Rattle.forest_run.specs.PlainRun.{RanPlain, WritesAgain};
 
 use crate::fault::RunFault;
 use crate::report::Report;
@@ -14,8 +14,9 @@ use std::alloc::Allocator;
 /// Reads a graph of at most [`limits::MAX_BYTES`] bytes, finds its minimum spanning forest by one thread, and writes the
 /// forest's text.
 ///
-/// The forest is whole before the first byte is written. For b bytes, m links and n vertices it takes
-/// O(b + m log m + n log n) time, and memory for one list of the links, in which the forest is found, and what
+/// No spanning forest of the graph weighs less than the total that it reports. The text of a forest is written again as
+/// it is, with the same total. The forest is whole before the first byte is written. For b bytes, m links and n vertices
+/// it takes O(b + m log m + n log n) time, and memory for one list of the links, in which the forest is found, and what
 /// [`forest_of`] takes beside it.
 pub fn run_plain<S: Source, W: Sink, A: Allocator + Copy>(
     alloc: A,
@@ -34,6 +35,10 @@ pub fn run_plain<S: Source, W: Sink, A: Allocator + Copy>(
         → MeansNothing bytes → IsFirstFaultOf bytes result }
     ensures lawful { (bytes : List ℕ) → HasFile bytes (S.state source.old) (S.state source.new)
         → MeansGraph bytes → IsNoRefusal result }
+
+    // The text of a forest is written again as it is: of its links no more and no fewer are taken.
+    ensures itself { IfOk result (λ report. WritesAgain report (streams (S.state source.old) (W.state sink.old))
+        (streams (S.state source.new) (W.state sink.new))) }
 
     // After a run that ends well the sink can be written again.
     ensures again { OnOk result (W.can_write sink.new) }
@@ -58,6 +63,7 @@ pub fn run_plain<S: Source, W: Sink, A: Allocator + Copy>(
             answered: 0,
             alone: 0,
             closed: 0,
+            total: forest.total(),
         }),
         Err(fault) => Err(RunFault::Write {
             written: fault.written,

@@ -4,7 +4,7 @@ ghost use Rattle.limits.specs.declared.TheConstants.{MAX_WORKERS};
 ghost use Rattle.link_key.specs.Cut.{joined};
 ghost use Rattle.forest_run.specs.Reports.{IsReportOf};
 
-use link_key::Cut;
+use link_key::{Cut, Forest};
 use std::alloc::Allocator;
 use std::fmt;
 
@@ -31,6 +31,8 @@ pub struct Report {
     pub alone: u64,
     /// The ports that were closed in the run.
     pub closed: u64,
+    /// What the forest weighs: the sum of the weights of its links.
+    pub total: i128,
 }
 
 impl fmt::Display for Report {
@@ -42,7 +44,7 @@ impl fmt::Display for Report {
     fn fmt<W: fmt::Write>(&self, f: &mut fmt::Formatter<W>) -> fmt::Result {
         write!(
             f,
-            "vertices={} links={} rounds={} shards={} asked={} answered={} alone={} closed={}",
+            "vertices={} links={} rounds={} shards={} asked={} answered={} alone={} closed={} total={}",
             self.vertices,
             self.links,
             self.rounds,
@@ -51,30 +53,44 @@ impl fmt::Display for Report {
             self.answered,
             self.alone,
             self.closed,
+            self.total,
         )
     }
 }
 
-// The report of a run whose last round has this number, in which so many shards were scanned alone and so many ports
-// closed. It looks at each shard once, and takes no memory.
+// What the rounds of a run counted: the number of the last one, the shards that were scanned alone, and the ports that
+// were closed.
+#[derive(Clone, Copy)]
+pub(crate) struct Counts {
+    pub(crate) last: u32,
+    pub(crate) alone: u64,
+    pub(crate) closed: u32,
+}
+
+// The report of a run over a cut of so many shards, which found this forest in such rounds. It looks at each shard and
+// each link of the forest once, and takes no memory.
 pub(crate) fn report_of<A: Allocator>(
     cut: &Cut<A>,
     shards: u32,
     n: u32,
-    last: u32,
-    alone: u64,
-    closed: u32,
+    forest: &Forest<A>,
+    counts: Counts,
 ) -> Report
     requires shards { shards ≡ length cut.now }
-    requires last { 1 ≤ last }
-    requires few { last ≤ 32 }
-    requires alone { alone ≤ last * length cut.now }
-    requires closed { closed ≤ MAX_WORKERS }
-    ensures report { IsReportOf n cut.now result }
-    ensures last { result.rounds + 1 ≡ last }
-    ensures alone { result.alone ≡ alone }
-    ensures closed { result.closed ≡ closed }
+    requires last { 1 ≤ counts.last }
+    requires few { counts.last ≤ 32 }
+    requires alone { counts.alone ≤ counts.last * length cut.now }
+    requires closed { counts.closed ≤ MAX_WORKERS }
+    ensures report { IsReportOf n cut.now forest.now result }
+    ensures last { result.rounds + 1 ≡ counts.last }
+    ensures alone { result.alone ≡ counts.alone }
+    ensures closed { result.closed ≡ counts.closed }
 {
+    let Counts {
+        last,
+        alone,
+        closed,
+    } = counts;
     let answered = u64::from(last) * u64::from(shards) - alone;
     let closed = u64::from(closed);
     Report {
@@ -86,6 +102,7 @@ pub(crate) fn report_of<A: Allocator>(
         answered,
         alone,
         closed,
+        total: forest.total(),
     }
 }
 

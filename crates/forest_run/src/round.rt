@@ -1,12 +1,12 @@
 //! The passes of a round.
 ghost use Rattle.std.specs.Prelude.{◌≡◌, ◌<◌, ◌≤◌, length, All, OnOk, IfOk};
-ghost use Rattle.claim_board.specs.declared.most.TheConstants.{MOST_SEATS};
+ghost use Rattle.limits.specs.declared.TheConstants.{MAX_WORKERS};
 ghost use Rattle.link_key.specs.Link.{EndsUpTo};
 ghost use Rattle.round_core.specs.Page.{Page, opened, missing};
-ghost use Rattle.forest_run.specs.Lanes.{open_of, IsIdle};
-ghost use Rattle.forest_run.specs.Bounds.{IsBookUnder, IsWide};
-ghost use Rattle.forest_run.specs.Passes.{PassWent};
-ghost use Rattle.forest_run.specs.Rounds.{RoundWent, RoundPicked};
+ghost use Rattle.forest_run.specs.Lanes.{open_count, IsIdle};
+ghost use Rattle.forest_run.specs.Bounds.{IsAskable, HasRoomForRound};
+ghost use Rattle.forest_run.specs.Passes.{RunsPasses};
+ghost use Rattle.forest_run.specs.Rounds.{RunsRound, PicksInRound};
 
 use crate::lane::Lane;
 use crate::pass::pass;
@@ -20,26 +20,25 @@ use std::sync::Wait;
 use std::thread::Threads;
 
 // Passes over the lanes, until the book misses no shard or no port is open.
-fn ask_all<A: Allocator + Copy + Send + Sync, P: Port<A> + Send + Drop, R: Threads + Wait + Sync>(
+fn ask_ports<A: Allocator + Copy + Send + Sync, P: Port<A> + Send + Drop, R: Threads + Wait + Sync>(
     rt: &R,
     alloc: A,
     book: &mut RoundBook<A>,
-    labels: &Labels<A>,
     lanes: &mut [Lane<P, A>],
 ) -> Result<(), AllocError>
-    requires few { length lanes.old ≤ MOST_SEATS }
-    requires round { IsBookUnder book.old labels.now }
-    requires wide { All (λ lane. IsWide P.state book.old lane.port) lanes.old }
+    requires few { length lanes.old ≤ MAX_WORKERS }
+    requires round { IsAskable book.old }
+    requires wide { All (λ lane. HasRoomForRound P.state book.old lane.port) lanes.old }
     requires idle { All IsIdle lanes.old }
-    ensures went { PassWent P.state P.honest P.sound P.exchanged book.old book.new lanes.old lanes.new }
+    ensures went { RunsPasses P.Port book.old book.new lanes.old lanes.new }
     ensures idle { All IsIdle lanes.new }
-    ensures end { OnOk result (0 < missing book.new → open_of P.state lanes.new ≡ 0) }
+    ensures end { OnOk result (0 < missing book.new → open_count P.state lanes.new ≡ 0) }
 {
     for _ in rt.forever() {
         if book.missing() == 0 || count_open(lanes) == 0 {
             break;
         }
-        pass(rt, alloc, book, labels, lanes)?;
+        pass(rt, alloc, book, lanes)?;
     }
     Ok(())
 }
@@ -55,36 +54,28 @@ fn ask_all<A: Allocator + Copy + Send + Sync, P: Port<A> + Send + Drop, R: Threa
 //
 // For s shards and k lanes a pass takes 8 bytes a shard and some 500 a lane, and each lane keeps room for s answers of
 // some 40 bytes from then on.
-pub(crate) fn whole_round<
+pub(crate) fn run_round<
     A: Allocator + Copy + Send + Sync,
     P: Port<A> + Send + Drop,
     R: Threads + Wait + Sync,
->(
-    rt: &R,
-    alloc: A,
-    cut: &Cut<A>,
-    labels: &Labels<A>,
-    book: &mut RoundBook<A>,
-    lanes: &mut [Lane<P, A>],
-) -> Result<u32, AllocError>
-    requires few { length lanes.old ≤ MOST_SEATS }
-    requires cut { book.old.cut ≡ cut.now }
-    requires round { IsBookUnder book.old labels.now }
-    requires wide { All (λ lane. IsWide P.state book.old lane.port) lanes.old }
+>(rt: &R, alloc: A, book: &mut RoundBook<A>, lanes: &mut [Lane<P, A>]) -> Result<u32, AllocError>
+    requires few { length lanes.old ≤ MAX_WORKERS }
+    requires round { IsAskable book.old }
+    requires wide { All (λ lane. HasRoomForRound P.state book.old lane.port) lanes.old }
     requires idle { All IsIdle lanes.old }
-    ensures went { IfOk result (λ alone. RoundWent P.state P.honest P.sound P.exchanged book.old book.new lanes.old lanes.new alone) }
-    ensures asked { (middle : Page) × PassWent P.state P.honest P.sound P.exchanged book.old middle lanes.old lanes.new }
+    ensures went { IfOk result (λ alone. RunsRound P.Port book.old book.new lanes.old lanes.new alone) }
+    ensures asked { (middle : Page) × RunsPasses P.Port book.old middle lanes.old lanes.new }
     ensures idle { All IsIdle lanes.new }
 {
-    ask_all(rt, alloc, book, labels, lanes)?;
-    scan_missing(rt, alloc, cut, labels, book)
+    ask_ports(rt, alloc, book, lanes)?;
+    scan_missing(rt, alloc, book)
 }
 
 // A whole round of this number over a book of its own: the picks of the answers, and how many shards the coordinator
 // scanned itself. The only error is want of memory; then each lane is as its asks left it.
 //
-// It takes a book, which is freed with the round, and what `whole_round` takes.
-pub(crate) fn round_picks<
+// It takes a book, which is freed with the round, and what `run_round` takes.
+pub(crate) fn picks_of_round<
     'a,
     A: Allocator + Copy + Send + Sync,
     P: Port<A> + Send + Drop,
@@ -97,17 +88,17 @@ pub(crate) fn round_picks<
     labels: &'a Labels<A>,
     lanes: &mut [Lane<P, A>],
 ) -> Result<(Picks<A>, u32), AllocError>
-    requires few { length lanes.old ≤ MOST_SEATS }
+    requires few { length lanes.old ≤ MAX_WORKERS }
     requires round { 1 ≤ round }
     requires some_shard { 0 < length cut.now }
     requires ends { All (EndsUpTo (length labels.now)) cut.now }
-    requires wide { All (λ lane. IsWide P.state (opened round cut.now labels.now) lane.port) lanes.old }
+    requires wide { All (λ lane. HasRoomForRound P.state (opened round cut.now labels.now) lane.port) lanes.old }
     requires idle { All IsIdle lanes.old }
-    ensures picked { IfOk result (λ r. RoundPicked P.state P.honest P.sound P.exchanged round cut.now labels.now lanes.old lanes.new r.0 r.1) }
-    ensures asked { (middle : Page) × PassWent P.state P.honest P.sound P.exchanged (opened round cut.now labels.now) middle lanes.old lanes.new }
+    ensures picked { IfOk result (λ r. PicksInRound P.Port round cut.now labels.now lanes.old lanes.new r.0 r.1) }
+    ensures asked { (middle : Page) × RunsPasses P.Port (opened round cut.now labels.now) middle lanes.old lanes.new }
     ensures idle { All IsIdle lanes.new }
 {
     let mut book = RoundBook::open(alloc, round, cut, labels)?;
-    let alone = whole_round(rt, alloc, cut, labels, &mut book, lanes)?;
+    let alone = run_round(rt, alloc, &mut book, lanes)?;
     Ok((book.close(), alone))
 }

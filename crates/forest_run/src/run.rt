@@ -1,18 +1,17 @@
 //! The whole run over lanes: rounds, until one has no picks.
 ghost use Rattle.std.specs.Prelude.{◌≡◌, ℕ, ◌+◌, ◌<◌, ◌≤◌, ◌^◌, length, All, IfOk, IfErr};
-ghost use Rattle.claim_board.specs.declared.most.TheConstants.{MOST_SEATS};
-ghost use Rattle.limits.specs.declared.TheConstants.{MAX_SHARDS, MAX_VERTICES};
+ghost use Rattle.limits.specs.declared.TheConstants.{MAX_SHARDS, MAX_VERTICES, MAX_WORKERS};
 ghost use Rattle.link_key.specs.Link.{EndsUpTo};
 ghost use Rattle.round_core.specs.Page.{opened};
 ghost use Rattle.round_core.specs.Solver.{vertices, IsAtStart};
 ghost use Rattle.round_core.specs.declared.solver.SolveFault.TheVariants.{Memory};
 ghost use Rattle.forest_run.specs.Lanes.{IsIdle};
-ghost use Rattle.forest_run.specs.Bounds.{IsWide};
-ghost use Rattle.forest_run.specs.Solved.{AreHonest, TurnWent, TurnAsked, IsTurnFault, RunWent, RunAsked, SolveWent, IsSolveFault};
+ghost use Rattle.forest_run.specs.Bounds.{HasRoomForRound};
+ghost use Rattle.forest_run.specs.Solved.{AreHonest, StepsOnce, AsksInRound, IsTurnFault, MergesAll, AsksInRun, FindsForest, IsSolveFault};
 
 use crate::lane::Lane;
-use crate::report::{Report, report_of};
-use crate::round::round_picks;
+use crate::report::{Counts, Report, report_of};
+use crate::round::picks_of_round;
 use crate::seats::count_open;
 use link_key::{Cut, Forest};
 use ports::Port;
@@ -29,24 +28,24 @@ fn turn<'a, A: Allocator + Copy + Send + Sync, P: Port<A> + Send + Drop, R: Thre
     cut: &'a Cut<'a, A>,
     lanes: &mut [Lane<P, A>],
 ) -> Result<(Turn, u32), SolveFault>
-    requires few { length lanes.old ≤ MOST_SEATS }
+    requires few { length lanes.old ≤ MAX_WORKERS }
     requires some_shard { 0 < length cut.now }
     requires few_shards { length cut.now ≤ MAX_SHARDS }
     requires ends { All (EndsUpTo (vertices solver.old)) cut.now }
-    requires wide { All (λ lane. IsWide P.state (opened (solver.old.rounds + 1) cut.now solver.old.labels) lane.port) lanes.old }
+    requires wide { All (λ lane. HasRoomForRound P.state (opened (solver.old.rounds + 1) cut.now solver.old.labels) lane.port) lanes.old }
     requires idle { All IsIdle lanes.old }
-    ensures went { IfOk result (λ r. TurnWent P.state P.honest P.sound P.exchanged cut.now solver.old solver.new lanes.old lanes.new r.0 r.1) }
-    ensures ports { TurnAsked P.state P.honest P.sound P.exchanged cut.now solver.old lanes.old lanes.new }
-    ensures fault { IfErr result (IsTurnFault P.state P.honest P.sound P.exchanged cut.now solver.old lanes.old lanes.new) }
+    ensures went { IfOk result (λ r. StepsOnce P.Port cut.now solver.old solver.new lanes.old lanes.new r.0 r.1) }
+    ensures ports { AsksInRound P.Port cut.now solver.old lanes.old lanes.new }
+    ensures fault { IfErr result (IsTurnFault P.Port cut.now solver.old lanes.old lanes.new) }
     ensures idle { All IsIdle lanes.new }
 {
-    let (picks, alone) = round_picks(rt, alloc, solver.round(), cut, solver.labels(), lanes)?;
+    let (picks, alone) = picks_of_round(rt, alloc, solver.round(), cut, solver.labels(), lanes)?;
     let turn = solver.step(&picks)?;
     Ok((turn, alone))
 }
 
 // Rounds until one has no picks. It answers how many shards were scanned alone.
-fn merge_all<
+fn merge_rounds<
     'a,
     A: Allocator + Copy + Send + Sync,
     P: Port<A> + Send + Drop,
@@ -60,7 +59,7 @@ fn merge_all<
     lanes: &mut [Lane<P, A>],
 ) -> Result<u64, SolveFault>
     requires start { IsAtStart n solver.old }
-    requires few { length lanes.old ≤ MOST_SEATS }
+    requires few { length lanes.old ≤ MAX_WORKERS }
     requires vertices { n ≤ MAX_VERTICES }
     requires some_shard { 0 < length cut.now }
     requires few_shards { length cut.now ≤ MAX_SHARDS }
@@ -69,9 +68,9 @@ fn merge_all<
     requires counts { All (λ lane. (P.state lane.port).asks < 2 ^ 63) lanes.old }
     requires idle { All IsIdle lanes.old }
     ensures went { IfOk result (λ alone. (answered : ℕ)
-        × RunWent P.state P.honest P.sound P.exchanged n cut.now lanes.old lanes.new solver.new answered alone) }
-    ensures ports { RunAsked P.state P.honest P.sound P.exchanged n cut.now lanes.old lanes.new }
-    ensures fault { IfErr result (IsSolveFault P.state P.honest P.sound P.exchanged n cut.now lanes.old lanes.new) }
+        × MergesAll P.Port n cut.now lanes.old lanes.new solver.new answered alone) }
+    ensures ports { AsksInRun P.Port n cut.now lanes.old lanes.new }
+    ensures fault { IfErr result (IsSolveFault P.Port n cut.now lanes.old lanes.new) }
     ensures honest_fault { IfErr result (λ fault. AreHonest P.honest lanes.old → fault ≡ Memory) }
     ensures idle { All IsIdle lanes.new }
 {
@@ -89,10 +88,11 @@ fn merge_all<
 /// A spanning forest of the cut's links, by what the lanes' ports answer and, where none is open, by the coordinator's own
 /// scans; and what the run did.
 ///
-/// Where all ports are honest it is the minimum spanning forest, after as many rounds as merge components, and the only
-/// fault is want of memory. Whatever the answers are, the forest closes no cycle and spans the links. In each round each
-/// shard is asked of one port after another until one answers. It waits for the ports' answers. At the end, after a fault
-/// too, each lane holds its port as the asks left it, without a seat or kept answers.
+/// Where all ports are honest it is the minimum spanning forest, after as many rounds as merge components; no spanning
+/// forest weighs less than the total reported; and the only fault is want of memory. Whatever the answers are, the forest
+/// closes no cycle and spans the links. In each round each shard is asked of one port after another until one answers. It
+/// waits for the ports' answers. At the end, after a fault too, each lane holds its port as the asks left it, without a
+/// seat or kept answers.
 ///
 /// A run takes the solver's memory, that of one round at a time, and in each lane room for an answer of each shard. It
 /// has at most log2 n merging rounds, and one more.
@@ -111,26 +111,28 @@ pub fn solve<
     cut: &'a Cut<'a, A>,
     lanes: &mut [Lane<P, A>],
 ) -> Result<(Forest<A>, Report), SolveFault>
-    requires few { length lanes.old ≤ MOST_SEATS }
+    requires few { length lanes.old ≤ MAX_WORKERS }
     requires vertices { n ≤ MAX_VERTICES }
     requires ends { All (EndsUpTo n) cut.now }
     requires cut { All (λ lane. (P.state lane.port).cut ≡ cut.now) lanes.old }
     requires counts { All (λ lane. (P.state lane.port).asks < 2 ^ 63) lanes.old }
     requires idle { All IsIdle lanes.old }
-    ensures went { IfOk result (λ r. SolveWent P.state P.honest P.sound P.exchanged n cut.now lanes.old lanes.new r.0 r.1) }
-    ensures ports { RunAsked P.state P.honest P.sound P.exchanged n cut.now lanes.old lanes.new }
-    ensures fault { IfErr result (IsSolveFault P.state P.honest P.sound P.exchanged n cut.now lanes.old lanes.new) }
+    ensures went { IfOk result (λ r. FindsForest P.Port n cut.now lanes.old lanes.new r.0 r.1) }
+    ensures ports { AsksInRun P.Port n cut.now lanes.old lanes.new }
+    ensures fault { IfErr result (IsSolveFault P.Port n cut.now lanes.old lanes.new) }
     ensures honest_fault { IfErr result (λ fault. AreHonest P.honest lanes.old → fault ≡ Memory) }
     ensures idle { All IsIdle lanes.new }
 {
     let shards = cut.len();
     let open = count_open(lanes);
     let mut solver = Solver::new(alloc, n)?;
-    let alone = merge_all(rt, alloc, n, &mut solver, cut, lanes)?;
+    let alone = merge_rounds(rt, alloc, n, &mut solver, cut, lanes)?;
     let forest = solver.finish(cut)?;
-    let closed = open - count_open(lanes);
-    Ok((
-        forest,
-        report_of(cut, shards, n, solver.round(), alone, closed),
-    ))
+    let counts = Counts {
+        last: solver.round(),
+        alone,
+        closed: open - count_open(lanes),
+    };
+    let report = report_of(cut, shards, n, &forest, counts);
+    Ok((forest, report))
 }

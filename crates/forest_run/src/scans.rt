@@ -1,34 +1,30 @@
 //! What the coordinator scans itself.
 ghost use Rattle.std.specs.Prelude.{◌≡◌, ◌<◌, length, OnOk, IfOk, true, false};
 ghost use Rattle.round_core.specs.Page.{missing, is_taken};
-ghost use Rattle.forest_run.specs.Bounds.{IsBookUnder};
-ghost use Rattle.forest_run.specs.Scanned.{Scanned};
+ghost use Rattle.forest_run.specs.Bounds.{IsAskable};
+ghost use Rattle.forest_run.specs.Scanned.{ScansShards};
 
 use frames::Answer;
-use link_key::{Cut, Labels};
 use round_core::{RoundBook, laws};
 use std::alloc::{AllocError, Allocator};
 use std::thread::Threads;
 use worker_engine::Scanner;
 
 // Scans a shard that the book misses, and takes its light offers into the book.
-fn scan_one<R: Threads + Sync, A: Allocator + Copy + Send + Sync>(
+fn scan_shard<R: Threads + Sync, A: Allocator + Copy + Send + Sync>(
     rt: &R,
     scanner: &mut Scanner<A>,
-    cut: &Cut<A>,
-    labels: &Labels<A>,
     book: &mut RoundBook<A>,
     shard: u32,
 ) -> Result<(), AllocError>
-    requires round { IsBookUnder book.old labels.now }
-    requires cut { book.old.cut ≡ cut.now }
+    requires round { IsAskable book.old }
     requires shard { shard < length book.old.cut }
     requires missed { is_taken book.old shard ≡ false }
-    ensures scanned { OnOk result (Scanned book.old book.new 1) }
+    ensures scanned { OnOk result (ScansShards book.old book.new 1) }
     ensures taken { OnOk result (is_taken book.new shard ≡ true) }
 {
     laws::light_offers_are_taken();
-    let offers = scanner.scan_par(rt, cut.shard(shard).links, labels)?;
+    let offers = scanner.scan_par(rt, book.cut().shard(shard).links, book.labels())?;
     let answer = Answer {
         round: book.round(),
         shard,
@@ -42,20 +38,17 @@ fn scan_one<R: Threads + Sync, A: Allocator + Copy + Send + Sync>(
 pub(crate) fn scan_missing<R: Threads + Sync, A: Allocator + Copy + Send + Sync>(
     rt: &R,
     alloc: A,
-    cut: &Cut<A>,
-    labels: &Labels<A>,
     book: &mut RoundBook<A>,
 ) -> Result<u32, AllocError>
-    requires round { IsBookUnder book.old labels.now }
-    requires cut { book.old.cut ≡ cut.now }
-    ensures scanned { IfOk result (λ alone. Scanned book.old book.new alone) }
+    requires round { IsAskable book.old }
+    ensures scanned { IfOk result (λ alone. ScansShards book.old book.new alone) }
     ensures all { OnOk result (missing book.new ≡ 0) }
 {
     let mut scanner = Scanner::new(alloc);
     let mut alone = 0;
     for shard in 0..book.len() {
         if book.is_missing(shard) {
-            scan_one(rt, &mut scanner, cut, labels, book, shard)?;
+            scan_shard(rt, &mut scanner, book, shard)?;
             alone += 1;
         }
     }

@@ -1,8 +1,9 @@
 //! The kept answers go into the book.
+ghost use Rattle.std.specs.List.{AllZip};
 ghost use Rattle.std.specs.Prelude.{◌≡◌, []};
-ghost use Rattle.forest_run.specs.Lanes.{all_kept};
-ghost use Rattle.forest_run.specs.Seating.{Each, GaveKept};
-ghost use Rattle.forest_run.specs.Taking.{heard_all, AreTaken};
+ghost use Rattle.forest_run.specs.Lanes.{kept_answers};
+ghost use Rattle.forest_run.specs.Seating.{LosesAnswers};
+ghost use Rattle.forest_run.specs.Taking.{with_answers, TakesAll};
 
 use crate::lane::Lane;
 use frames::Answer;
@@ -11,9 +12,9 @@ use std::alloc::Allocator;
 
 // Takes a list of kept answers into the book, in their order. The list keeps its room.
 #[tactic(auto, using(crate::proofs::Takes::popped))]
-fn take_kept<A: Allocator>(book: &mut RoundBook<A>, kept: &mut Vec<Answer<A>, A>)
-    requires taken { AreTaken book.old kept.old.items }
-    ensures page { book.new ≡ heard_all book.old kept.old.items }
+fn take_list<A: Allocator>(book: &mut RoundBook<A>, kept: &mut Vec<Answer<A>, A>)
+    requires taken { TakesAll book.old kept.old.items }
+    ensures page { book.new ≡ with_answers book.old kept.old.items }
     ensures none { kept.new.items ≡ [] }
 {
     kept.reverse();
@@ -23,23 +24,23 @@ fn take_kept<A: Allocator>(book: &mut RoundBook<A>, kept: &mut Vec<Answer<A>, A>
 }
 
 // Takes a lane's kept answers into the book.
-fn empty<A: Allocator, P>(book: &mut RoundBook<A>, lane: &mut Lane<P, A>)
-    requires taken { AreTaken book.old lane.old.kept }
-    ensures page { book.new ≡ heard_all book.old lane.old.kept }
-    ensures lane { GaveKept lane.old lane.new }
+fn take_answers_of<A: Allocator, P>(book: &mut RoundBook<A>, lane: &mut Lane<P, A>)
+    requires taken { TakesAll book.old lane.old.kept }
+    ensures page { book.new ≡ with_answers book.old lane.old.kept }
+    ensures lane { LosesAnswers lane.old lane.new }
 {
-    take_kept(book, &mut lane.kept);
+    take_list(book, &mut lane.kept);
 }
 
 // Takes all lanes' kept answers into the book.
 #[tactic(auto, using(crate::proofs::Eaches::each_cons))]
-pub(crate) fn take_all<A: Allocator, P>(book: &mut RoundBook<A>, lanes: &mut [Lane<P, A>])
-    requires taken { AreTaken book.old (all_kept lanes.old) }
-    ensures page { book.new ≡ heard_all book.old (all_kept lanes.old) }
-    ensures lanes { Each GaveKept lanes.old lanes.new }
+pub(crate) fn take_answers<A: Allocator, P>(book: &mut RoundBook<A>, lanes: &mut [Lane<P, A>])
+    requires taken { TakesAll book.old (kept_answers lanes.old) }
+    ensures page { book.new ≡ with_answers book.old (kept_answers lanes.old) }
+    ensures lanes { AllZip LosesAnswers lanes.old lanes.new }
 {
     if let Some((lane, rest)) = lanes.split_first_mut() {
-        empty(book, lane);
-        take_all(book, rest);
+        take_answers_of(book, lane);
+        take_answers(book, rest);
     }
 }

@@ -21,26 +21,26 @@ use Rattle.worker_engine.proofs.Replying.{asks-append, shelf_after-append, last_
 use Rattle.ports.specs.declared.fault.PortFault.{PortFault}
 use Rattle.ports.specs.declared.fault.PortFault.TheVariants.{Down, Garbled, WrongHello, Gave, Memory, Closed}
 use Rattle.shard_set.specs.Shards.{has_shard}
-use Rattle.ports.specs.Lines.{LineState, Went, ServesSoFar}
-use Rattle.ports.specs.Causes.{IsNoReply, Came, Cause, IsBlameless}
+use Rattle.ports.specs.Lines.{LineState, Transfers, ServesSoFar}
+use Rattle.ports.specs.Causes.{IsNoReply, Receives, Cause, IsBlameless}
 use Rattle.ports.specs.Ports.{IsHonestAnswer}
 use Rattle.ports.specs.Exchanges.{Exchange, exchange_of, IsAskedIn, answers_of}
-use Rattle.ports.specs.Talking.{Talk, TalkState, told, hello_once, shard_once, frames_put, AskBrought, Asked, frames_got, HasGiven, IsOfCut, times_sent, asks_among, FollowTheirShards, IsInStep}
+use Rattle.ports.specs.Talking.{Talk, TalkState, told_talk, hello_due, shard_due, frames_put, Brings, AnswersOverLine, frames_got, HasGiven, IsOfCut, times_sent, asks_among, FollowTheirShards, MatchesLine}
 use Rattle.ports.proofs.Going.{then_came}
 use Rattle.ports.proofs.Refused.{bad_never}
 
 -- ---- what one ask puts
 
-asks_shard : (sent : Bool) (shard : ℕ) (links : List Link) → asks_in (shard_once sent shard links) ≡ 0
+asks_shard : (sent : Bool) (shard : ℕ) (links : List Link) → asks_in (shard_due sent shard links) ≡ 0
 asks_shard true shard links = refl
 asks_shard false shard links = refl
 
-once_put : (sent : Bool) (shard : ℕ) (links : List Link) (round : ℕ) (labels : List ℕ) → (if sent then 1 else 0) + times_sent shard (shard_once sent shard links ++ AskFrame round shard labels ∷ []) ≡ 1
+once_put : (sent : Bool) (shard : ℕ) (links : List Link) (round : ℕ) (labels : List ℕ) → (if sent then 1 else 0) + times_sent shard (shard_due sent shard links ++ AskFrame round shard labels ∷ []) ≡ 1
 once_put true shard links round labels = refl
 once_put false shard links round labels = rw (eq-eqb shard shard refl) refl
 
 -- no other shard than the one that is asked
-none_put : (sent : Bool) (shard s : ℕ) (links : List Link) (round : ℕ) (labels : List ℕ) → s ≢ shard → times_sent s (shard_once sent shard links ++ AskFrame round shard labels ∷ []) ≡ 0
+none_put : (sent : Bool) (shard s : ℕ) (links : List Link) (round : ℕ) (labels : List ℕ) → s ≢ shard → times_sent s (shard_due sent shard links ++ AskFrame round shard labels ∷ []) ≡ 0
 none_put true shard s links round labels apart = refl
 none_put false shard s links round labels apart = rw (ne_eqb s shard apart) refl
 
@@ -56,13 +56,13 @@ of_cut_ask : (cut : List (List Link)) (round shard : ℕ) (labels : List ℕ) �
 of_cut_ask cut round shard labels within = All-cons (IsOfCut cut) (AskFrame round shard labels) [] within (All-nil (IsOfCut cut))
 
 of_cut_put : (sent : Bool) (cut : List (List Link)) (round shard : ℕ) (labels : List ℕ) → shard < length cut
-    → All (IsOfCut cut) (shard_once sent shard (links_at cut shard) ++ AskFrame round shard labels ∷ [])
+    → All (IsOfCut cut) (shard_due sent shard (links_at cut shard) ++ AskFrame round shard labels ∷ [])
 of_cut_put true cut round shard labels within = of_cut_ask cut round shard labels within
 of_cut_put false cut round shard labels within =
     All-cons (IsOfCut cut) (ShardFrame shard (links_at cut shard)) (AskFrame round shard labels ∷ []) (within, refl) (of_cut_ask cut round shard labels within)
 
 -- the one ask that an ask puts
-among_put : (sent : Bool) (shard : ℕ) (links : List Link) (round : ℕ) (labels : List ℕ) → asks_among (shard_once sent shard links ++ AskFrame round shard labels ∷ []) ≡ AskFrame round shard labels ∷ []
+among_put : (sent : Bool) (shard : ℕ) (links : List Link) (round : ℕ) (labels : List ℕ) → asks_among (shard_due sent shard links ++ AskFrame round shard labels ∷ []) ≡ AskFrame round shard labels ∷ []
 among_put true shard links round labels = refl
 among_put false shard links round labels = refl
 
@@ -83,24 +83,24 @@ among_count (AnswerFrame a ∷ fs) = omega (arith, among_count fs)
 among_count (FaultFrame r k c ∷ fs) = omega (arith, among_count fs)
 
 -- a talk in step asked once for each exchange
-pub asks_made : (talk : Talk) (said : List FrameValue) (exchanges : List Exchange) → IsInStep talk said exchanges → asks_in said ≡ length exchanges
+pub asks_made : (talk : Talk) (said : List FrameValue) (exchanges : List Exchange) → MatchesLine talk said exchanges → asks_in said ≡ length exchanges
 asks_made talk said exchanges step =
     omega (arith, among_count said, ap (λ (fs : List FrameValue). length fs) step.asked, length-map exchanges (λ (e : Exchange). AskFrame e.round e.shard e.labels))
 
-shard_lawful : (sent : Bool) (shard : ℕ) (links : List Link) → IsShard shard links → AreLawful (shard_once sent shard links)
+shard_lawful : (sent : Bool) (shard : ℕ) (links : List Link) → IsShard shard links → AreLawful (shard_due sent shard links)
 shard_lawful true shard links is = tt
 shard_lawful false shard links is = (is, tt)
 
 pub put_lawful : (round shard : ℕ) (labels : List ℕ) (talk : Talk) → IsShard shard (links_at talk.cut shard) → IsAsk round shard labels → AreLawful (frames_put talk round shard labels)
 put_lawful round shard labels talk is ask =
-    lawful-append (shard_once (has_shard talk.sent shard) shard (links_at talk.cut shard)) (AskFrame round shard labels ∷ []) (shard_lawful (has_shard talk.sent shard) shard (links_at talk.cut shard) is) (ask, tt)
+    lawful-append (shard_due (has_shard talk.sent shard) shard (links_at talk.cut shard)) (AskFrame round shard labels ∷ []) (shard_lawful (has_shard talk.sent shard) shard (links_at talk.cut shard) is) (ask, tt)
 
 shelf_there : (sent : Bool) (shelf : Shelf) (shard : ℕ) (links : List Link) → shelf shard ≡ (if sent then Some links else None)
-    → shelf_after shelf (shard_once sent shard links) shard ≡ Some links
+    → shelf_after shelf (shard_due sent shard links) shard ≡ Some links
 shelf_there true shelf shard links kept = kept
 shelf_there false shelf shard links kept = rw (eq-eqb shard shard refl) refl
 
-shelf_elsewhere : (sent : Bool) (shelf : Shelf) (shard s : ℕ) (links : List Link) → s ≢ shard → shelf_after shelf (shard_once sent shard links) s ≡ shelf s
+shelf_elsewhere : (sent : Bool) (shelf : Shelf) (shard s : ℕ) (links : List Link) → s ≢ shard → shelf_after shelf (shard_due sent shard links) s ≡ shelf s
 shelf_elsewhere true shelf shard s links apart = refl
 shelf_elsewhere false shelf shard s links apart = rw (ne_eqb s shard apart) refl
 
@@ -114,13 +114,13 @@ follows-append shelf (FaultFrame r k c ∷ fs) gs before behind = follows-append
 
 -- what an ask puts has its shard before it, unless that was on the shelf
 follows_put : (sent : Bool) (shelf : Shelf) (shard : ℕ) (links : List Link) (round : ℕ) (labels : List ℕ) → shelf shard ≡ (if sent then Some links else None)
-    → FollowTheirShards shelf (shard_once sent shard links ++ AskFrame round shard labels ∷ [])
+    → FollowTheirShards shelf (shard_due sent shard links ++ AskFrame round shard labels ∷ [])
 follows_put true shelf shard links round labels kept = (rw kept refl, tt)
 follows_put false shelf shard links round labels kept = (rw (eq-eqb shard shard refl) refl, tt)
 
 -- an ask changes no shelf
 shelf_put : (sent : Bool) (shelf : Shelf) (shard s : ℕ) (links : List Link) (round : ℕ) (labels : List ℕ)
-    → shelf_after shelf (shard_once sent shard links ++ AskFrame round shard labels ∷ []) s ≡ shelf_after shelf (shard_once sent shard links) s
+    → shelf_after shelf (shard_due sent shard links ++ AskFrame round shard labels ∷ []) s ≡ shelf_after shelf (shard_due sent shard links) s
 shelf_put true shelf shard s links round labels = refl
 shelf_put false shelf shard s links round labels = refl
 
@@ -128,7 +128,7 @@ shelf_put false shelf shard s links round labels = refl
 
 -- behind what was got before, the hello comes before any other bytes
 got_more : (greeted : Bool) (worker : ℕ) (answers : List AnswerValue) (bytes : List ℕ) → (greeted ≡ false → answers ≡ [])
-    → texts_of (frames_got greeted worker answers) ++ (hello_once greeted worker ++ bytes) ≡ texts_of (HelloFrame 1 worker ∷ map AnswerFrame answers) ++ bytes
+    → texts_of (frames_got greeted worker answers) ++ (hello_due greeted worker ++ bytes) ≡ texts_of (HelloFrame 1 worker ∷ map AnswerFrame answers) ++ bytes
 got_more true worker answers bytes silent = refl
 got_more false worker answers bytes silent =
     ap (λ (t : List ℕ). t ++ bytes) (sym (append-nil (text_of (HelloFrame 1 worker))))
@@ -145,18 +145,18 @@ got_answer worker answers a =
     ∙ ap (λ (fs : List FrameValue). texts_of (HelloFrame 1 worker ∷ fs)) (sym (answers_more answers a))
 
 -- what an ask brought, and what it put before that
-pub all_brought : {L : Type 0} (state : L → LineState) (round shard : ℕ) (labels bytes : List ℕ) (old new : TalkState L) → AskBrought state round shard labels bytes old new
-    → Went 0 0 (texts_of (frames_put (told state old) round shard labels)) (hello_once old.greeted old.worker ++ bytes) (state old.line) (state new.line)
+pub all_brought : {L : Type 0} (state : L → LineState) (round shard : ℕ) (labels bytes : List ℕ) (old new : TalkState L) → Brings state round shard labels bytes old new
+    → Transfers 0 0 (texts_of (frames_put (told_talk state old) round shard labels)) (hello_due old.greeted old.worker ++ bytes) (state old.line) (state new.line)
 all_brought state round shard labels bytes old new brought = then_came (state old.line) (state brought.0) (state new.line) _ _ bytes brought.1 brought.2
 
 -- ---- an ask that was answered
 
-module _ {L : Type 0} (state : L → LineState) (round shard : ℕ) (labels : List ℕ) (a : AnswerValue) (old new : TalkState L) (asked : Asked state round shard labels a old new) where
-  brought : Went 0 0 (texts_of (frames_put (told state old) round shard labels)) (hello_once old.greeted old.worker ++ text_of (AnswerFrame a)) (state old.line) (state new.line)
+module _ {L : Type 0} (state : L → LineState) (round shard : ℕ) (labels : List ℕ) (a : AnswerValue) (old new : TalkState L) (asked : AnswersOverLine state round shard labels a old new) where
+  brought : Transfers 0 0 (texts_of (frames_put (told_talk state old) round shard labels)) (hello_due old.greeted old.worker ++ text_of (AnswerFrame a)) (state old.line) (state new.line)
   brought = all_brought state round shard labels (text_of (AnswerFrame a)) old new asked.brought
 
   -- the answer is added at the end of those given
-  pub gave_more : (answers : List AnswerValue) → HasGiven (told state old) answers → HasGiven (told state new) (answers ++ a ∷ [])
+  pub gave_more : (answers : List AnswerValue) → HasGiven (told_talk state old) answers → HasGiven (told_talk state new) (answers ++ a ∷ [])
   gave_more answers given =
       let got : (state new.line).got ≡ Some (texts_of (frames_got true old.worker (answers ++ a ∷ []))) =
       appends-told (state old.line).got (state new.line).got _ _ given.got (brought.got refl)
@@ -171,45 +171,45 @@ module _ {L : Type 0} (state : L → LineState) (round shard : ℕ) (labels : Li
   answers_then exchanges = map-append (λ (e : Exchange). e.answer) exchanges (exchange_of round shard labels a ∷ [])
 
   -- and so with its ask behind the exchanges before
-  pub exchanged_more : (exchanges : List Exchange) → HasGiven (told state old) (answers_of exchanges) → HasGiven (told state new) (answers_of (exchanges ++ exchange_of round shard labels a ∷ []))
-  exchanged_more exchanges given = subst (HasGiven (told state new)) (sym (answers_then exchanges)) (gave_more (answers_of exchanges) given)
+  pub exchanged_more : (exchanges : List Exchange) → HasGiven (told_talk state old) (answers_of exchanges) → HasGiven (told_talk state new) (answers_of (exchanges ++ exchange_of round shard labels a ∷ []))
+  exchanged_more exchanges given = subst (HasGiven (told_talk state new)) (sym (answers_then exchanges)) (gave_more (answers_of exchanges) given)
 
   module _ (in_cut : shard < length old.cut) (is : IsShard shard (links_at old.cut shard)) (ask : IsAsk round shard labels) where
-    module _ (said : List FrameValue) (exchanges : List Exchange) (step : IsInStep (told state old) said exchanges) where
+    module _ (said : List FrameValue) (exchanges : List Exchange) (step : MatchesLine (told_talk state old) said exchanges) where
       shelves_step : (s : ℕ) → s < length old.cut
-          → shelf_after empty_shelf (said ++ frames_put (told state old) round shard labels) s ≡ (if has_shard new.sent s then Some (links_at old.cut s) else None)
+          → shelf_after empty_shelf (said ++ frames_put (told_talk state old) round shard labels) s ≡ (if has_shard new.sent s then Some (links_at old.cut s) else None)
       shelves_step s within =
           let shelf : Shelf = shelf_after empty_shelf said in
           let links : List Link = links_at old.cut shard in
           let sent : Bool = has_shard old.sent shard in
-          let whole : shelf_after empty_shelf (said ++ frames_put (told state old) round shard labels) s ≡ shelf_after shelf (shard_once sent shard links) s =
-          ap (λ (f : Shelf). f s) (shelf_after-append empty_shelf said (frames_put (told state old) round shard labels)) ∙ shelf_put sent shelf shard s links round labels in
+          let whole : shelf_after empty_shelf (said ++ frames_put (told_talk state old) round shard labels) s ≡ shelf_after shelf (shard_due sent shard links) s =
+          ap (λ (f : Shelf). f s) (shelf_after-append empty_shelf said (frames_put (told_talk state old) round shard labels)) ∙ shelf_put sent shelf shard s links round labels in
           ⊎_elim
           (λ (e : s ≡ shard).
           let now : has_shard new.sent s ≡ true = asked.sent s ∙ ap (λ b. b || has_shard old.sent s) (eq-eqb s shard e) in
-          let there : shelf_after shelf (shard_once sent shard links) s ≡ Some links =
-          ap (shelf_after shelf (shard_once sent shard links)) e ∙ shelf_there sent shelf shard links (step.shelves shard in_cut) in
+          let there : shelf_after shelf (shard_due sent shard links) s ≡ Some links =
+          ap (shelf_after shelf (shard_due sent shard links)) e ∙ shelf_there sent shelf shard links (step.shelves shard in_cut) in
           whole ∙ there ∙ ap (λ (k : ℕ). Some (links_at old.cut k)) (sym e) ∙ ap (λ b. if b then Some (links_at old.cut s) else None) (sym now))
           (λ (apart : s ≢ shard).
           let now : has_shard new.sent s ≡ has_shard old.sent s = asked.sent s ∙ ap (λ b. b || has_shard old.sent s) (ne_eqb s shard apart) in
           whole ∙ shelf_elsewhere sent shelf shard s links apart ∙ step.shelves s within ∙ ap (λ b. if b then Some (links_at old.cut s) else None) (sym now))
           (cases_eq s shard)
 
-      once_step : (s : ℕ) → times_sent s (said ++ frames_put (told state old) round shard labels) ≡ (if has_shard new.sent s then 1 else 0)
+      once_step : (s : ℕ) → times_sent s (said ++ frames_put (told_talk state old) round shard labels) ≡ (if has_shard new.sent s then 1 else 0)
       once_step s =
           let links : List Link = links_at old.cut shard in
           let sent : Bool = has_shard old.sent shard in
-          let whole = times-append s said (frames_put (told state old) round shard labels) in
+          let whole = times-append s said (frames_put (told_talk state old) round shard labels) in
           ⊎_elim
           (λ (e : s ≡ shard).
           let now : has_shard new.sent s ≡ true = asked.sent s ∙ ap (λ b. b || has_shard old.sent s) (eq-eqb s shard e) in
-          let count : times_sent s said + times_sent s (frames_put (told state old) round shard labels) ≡ 1 =
-          subst (λ (k : ℕ). times_sent k said + times_sent k (frames_put (told state old) round shard labels) ≡ 1) (sym e)
-          (ap (λ (n : ℕ). n + times_sent shard (frames_put (told state old) round shard labels)) (step.once shard) ∙ once_put sent shard links round labels) in
+          let count : times_sent s said + times_sent s (frames_put (told_talk state old) round shard labels) ≡ 1 =
+          subst (λ (k : ℕ). times_sent k said + times_sent k (frames_put (told_talk state old) round shard labels) ≡ 1) (sym e)
+          (ap (λ (n : ℕ). n + times_sent shard (frames_put (told_talk state old) round shard labels)) (step.once shard) ∙ once_put sent shard links round labels) in
           whole ∙ count ∙ ap (λ b. if b then 1 else 0) (sym now))
           (λ (apart : s ≢ shard).
           let now : has_shard new.sent s ≡ has_shard old.sent s = asked.sent s ∙ ap (λ b. b || has_shard old.sent s) (ne_eqb s shard apart) in
-          let count : times_sent s said + times_sent s (frames_put (told state old) round shard labels) ≡ times_sent s said = omega (arith, none_put sent shard s links round labels apart) in
+          let count : times_sent s said + times_sent s (frames_put (told_talk state old) round shard labels) ≡ times_sent s said = omega (arith, none_put sent shard s links round labels apart) in
           whole ∙ count ∙ step.once s ∙ ap (λ b. if b then 1 else 0) (sym now))
           (cases_eq s shard)
 
@@ -225,13 +225,13 @@ module _ {L : Type 0} (state : L → LineState) (round shard : ℕ) (labels : Li
           (other, Contains-append_left exchanges (exchange ∷ []) other is_in, is))
           (cases_eq s shard)
 
-      pub step_more : IsInStep (told state new) (said ++ frames_put (told state old) round shard labels) (exchanges ++ exchange_of round shard labels a ∷ [])
+      pub step_more : MatchesLine (told_talk state new) (said ++ frames_put (told_talk state old) round shard labels) (exchanges ++ exchange_of round shard labels a ∷ [])
       step_more =
-          let more : List FrameValue = frames_put (told state old) round shard labels in
+          let more : List FrameValue = frames_put (told_talk state old) round shard labels in
           record {
             calm = omega (arith, brought.failures, step.calm);
             sent = appends-told (state old.line).sent (state new.line).sent (texts_of said) (texts_of more) step.sent (brought.sent refl) ∙ ap (λ t. Some t) (sym (texts-append said more));
-            lawful = lawful-append said more step.lawful (put_lawful round shard labels (told state old) is ask);
+            lawful = lawful-append said more step.lawful (put_lawful round shard labels (told_talk state old) is ask);
             only = subst (λ (k : List (List Link)). All (IsOfCut k) (said ++ more)) (sym asked.cut) (All-append (IsOfCut old.cut) said more step.only (of_cut_put (has_shard old.sent shard) old.cut round shard labels in_cut));
             once = once_step;
             needed = needed_step;
@@ -247,13 +247,13 @@ module _ {L : Type 0} (state : L → LineState) (round shard : ℕ) (labels : Li
 
 -- ---- what a faithful line answers
 
-module _ {L : Type 0} (state : L → LineState) (round shard : ℕ) (labels : List ℕ) (old new : TalkState L) (said : List FrameValue) (exchanges : List Exchange) (step : IsInStep (told state old) said exchanges) (below : old.worker < MAX_WORKERS)
+module _ {L : Type 0} (state : L → LineState) (round shard : ℕ) (labels : List ℕ) (old new : TalkState L) (said : List FrameValue) (exchanges : List Exchange) (step : MatchesLine (told_talk state old) said exchanges) (below : old.worker < MAX_WORKERS)
     (faithful : ServesSoFar old.worker (state new.line)) where
   abbrev before : Talk
-  before = told state old
+  before = told_talk state old
 
   abbrev after : Talk
-  after = told state new
+  after = told_talk state new
 
   version : IsLawful (HelloFrame 1 before.worker)
   version = record { version = refl; worker = below }
@@ -266,7 +266,7 @@ module _ {L : Type 0} (state : L → LineState) (round shard : ℕ) (labels : Li
     pub lawful : AreLawful left
     pub replies : AreReplies empty_shelf (said ++ frames_put before round shard labels) (map AnswerFrame (answers_of exchanges) ++ left)
 
-  left_of : (bytes : List ℕ) → AreLawful (frames_put before round shard labels) → AskBrought state round shard labels bytes old new → Left bytes
+  left_of : (bytes : List ℕ) → AreLawful (frames_put before round shard labels) → Brings state round shard labels bytes old new → Left bytes
   left_of bytes lawful asked =
       let brought = all_brought state round shard labels bytes old new asked in
       let more : List FrameValue = frames_put before round shard labels in
@@ -290,7 +290,7 @@ module _ {L : Type 0} (state : L → LineState) (round shard : ℕ) (labels : Li
       }
 
   -- what came first begins with the hello
-  first_of : (bytes : List ℕ) → before.greeted ≡ false → Came bytes before.line after.line
+  first_of : (bytes : List ℕ) → before.greeted ≡ false → Receives bytes before.line after.line
       → (rest : List ℕ) × (replies : List FrameValue) × (bytes ++ rest ≡ texts_of (HelloFrame 1 before.worker ∷ replies)) × AreLawful replies
   first_of bytes quiet came =
       let none : before.line.got ≡ Some [] = step.gave.got ∙ ap (λ b. Some (texts_of (frames_got b before.worker (answers_of exchanges)))) quiet in
@@ -301,10 +301,10 @@ module _ {L : Type 0} (state : L → LineState) (round shard : ℕ) (labels : Li
 
   module _ (in_cut : shard < length before.cut) (is : IsShard shard (links_at before.cut shard)) (ask : IsAsk round shard labels) where
     -- a frame that came in place of a reply is the worker's reply to this ask
-    reply_of : (v : FrameValue) → IsLawful v → AskBrought state round shard labels (text_of v) old new → MayReply (Some (links_at before.cut shard)) round shard labels v
+    reply_of : (v : FrameValue) → IsLawful v → Brings state round shard labels (text_of v) old new → MayReply (Some (links_at before.cut shard)) round shard labels v
     reply_of v lawful brought =
         let links : List Link = links_at before.cut shard in
-        let first : List FrameValue = shard_once (has_shard before.sent shard) shard links in
+        let first : List FrameValue = shard_due (has_shard before.sent shard) shard links in
         let left = left_of (text_of v) (put_lawful round shard labels before is ask) brought in
         let (later, one, texts) = prefix_of_frames (v ∷ []) left.left left.rest (lawful, tt) left.lawful (ap (λ (t : List ℕ). t ++ left.rest) (append-nil (text_of v)) ∙ left.texts) in
         let are : AreReplies empty_shelf ((said ++ first) ++ AskFrame round shard labels ∷ []) (map AnswerFrame (answers_of exchanges) ++ v ∷ later) =
@@ -315,7 +315,7 @@ module _ {L : Type 0} (state : L → LineState) (round shard : ℕ) (labels : Li
         ap (λ (f : Shelf). f shard) (shelf_after-append empty_shelf said first) ∙ shelf_there (has_shard before.sent shard) (shelf_after empty_shelf said) shard links (step.shelves shard in_cut) in
         subst (λ (o : Option (List Link)). MayReply o round shard labels v) shelf (last_reply empty_shelf (said ++ first) round shard labels (map AnswerFrame (answers_of exchanges)) v later are count)
 
-    pub honest_answer : (a : AnswerValue) → Asked state round shard labels a old new → IsHonestAnswer before.cut round shard labels a
+    pub honest_answer : (a : AnswerValue) → AnswersOverLine state round shard labels a old new → IsHonestAnswer before.cut round shard labels a
     honest_answer a asked = elim (reply_of (AnswerFrame a) asked.lawful asked.brought) [
       | inl reply ↦ record { round_is = reply.round_is; shard_is = reply.shard_is; light = reply.light }
       | inr want ↦ cc
@@ -347,7 +347,7 @@ module _ {L : Type 0} (state : L → LineState) (round shard : ℕ) (labels : Li
             let left = left_of later.0 (put_lawful round shard labels before is ask) later.2 in
             bad_never later.0 left.rest left.left bad left.lawful left.texts
         | inr other ↦
-            no_reply other.0 other.2 (reply_of other.0 other.1 (subst (λ (t : List ℕ). AskBrought state round shard labels t old new) other.3 later.2))
+            no_reply other.0 other.2 (reply_of other.0 other.1 (subst (λ (t : List ℕ). Brings state round shard labels t old new) other.3 later.2))
       ]
     ]
     blameless WrongHello ends cause =

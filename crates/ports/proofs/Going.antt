@@ -1,16 +1,16 @@
 -- What was sent and got over several calls.
 use Rattle.std.proofs.Common.{ℕ, ◌+◌, List, [], ◌++◌, append-nil, subst, arith}
 use Rattle.std.proofs.KnownBytes.{Appends-nil, Appends-trans}
-use Rattle.ports.specs.Lines.{LineState, HasRoom, Went}
-use Rattle.ports.specs.Causes.{LineFailed, Came}
+use Rattle.ports.specs.Lines.{LineState, HasRoom, Transfers}
+use Rattle.ports.specs.Causes.{LineFailed, Receives}
 
 -- no call at all
-pub went_nowhere : (line : LineState) → Went 0 0 [] [] line line
+pub went_nowhere : (line : LineState) → Transfers 0 0 [] [] line line
 went_nowhere line = record { sent = λ e. Appends-nil line.sent; got = λ e. Appends-nil line.got; failures = omega arith; ends = omega arith }
 
 -- calls, and then more calls
 pub went_then : (f e f' e' : ℕ) (said came said' came' : List ℕ) (a b c : LineState)
-    → Went f e said came a b → Went f' e' said' came' b c → Went (f + f') (e + e') (said ++ said') (came ++ came') a c
+    → Transfers f e said came a b → Transfers f' e' said' came' b c → Transfers (f + f') (e + e') (said ++ said') (came ++ came') a c
 went_then f e f' e' said came said' came' a b c first second = record {
   sent = λ calm. Appends-trans _ _ _ said said' (first.sent (omega (arith, calm))) (second.sent (omega (arith, calm)));
   got = λ calm. Appends-trans _ _ _ came came' (first.got (omega (arith, calm))) (second.got (omega (arith, calm)));
@@ -19,17 +19,17 @@ went_then f e f' e' said came said' came' a b c first second = record {
 }
 
 -- calls that only got bytes, behind calls that sent some
-pub then_came : (a b c : LineState) (said came bytes : List ℕ) → Went 0 0 said came a b → Came bytes b c → Went 0 0 said (came ++ bytes) a c
+pub then_came : (a b c : LineState) (said came bytes : List ℕ) → Transfers 0 0 said came a b → Receives bytes b c → Transfers 0 0 said (came ++ bytes) a c
 then_came a b c said came bytes first second =
-    subst (λ (t : List ℕ). Went 0 0 t (came ++ bytes) a c) (append-nil said) (went_then 0 0 0 0 said came [] bytes a b c first second)
+    subst (λ (t : List ℕ). Transfers 0 0 t (came ++ bytes) a c) (append-nil said) (went_then 0 0 0 0 said came [] bytes a b c first second)
 
 -- room for one more count is kept by calls that pass
-pub room_kept : (a b : LineState) (said came : List ℕ) → HasRoom a → Went 0 0 said came a b → HasRoom b
+pub room_kept : (a b : LineState) (said came : List ℕ) → HasRoom a → Transfers 0 0 said came a b → HasRoom b
 room_kept a b said came room went = record { failures = omega (arith, room.failures, went.failures); ends = omega (arith, room.ends, went.ends) }
 
 -- one failed call, whatever came before it
-pub failed_of : (a b : LineState) (said came : List ℕ) → Went 1 0 said came a b → LineFailed a b
+pub failed_of : (a b : LineState) (said came : List ℕ) → Transfers 1 0 said came a b → LineFailed a b
 failed_of a b said came went = record { sent = λ calm. cc; got = λ calm. cc; failures = went.failures; ends = went.ends }
 
-pub then_failed : (a b c : LineState) (said came : List ℕ) → Went 0 0 said came a b → LineFailed b c → LineFailed a c
+pub then_failed : (a b c : LineState) (said came : List ℕ) → Transfers 0 0 said came a b → LineFailed b c → LineFailed a c
 then_failed a b c said came first second = failed_of a c (said ++ []) (came ++ []) (went_then 0 0 1 0 said came [] [] a b c first second)

@@ -9,13 +9,13 @@ use Rattle.frames.specs.FrameText.{text_of}
 use Rattle.frames.specs.ReadFault.{IsReadRefused, failures_of, ends_of}
 use Rattle.frames.specs.declared.fault.FrameFault.{FrameFault}
 use Rattle.frames.specs.declared.fault.FrameFault.TheVariants.{BadKind, BadLength, BadField, BadVersion, Ended, Torn, Device, Memory}
-use Rattle.ports.specs.Lines.{LineState, Went}
+use Rattle.ports.specs.Lines.{LineState, Transfers}
 use Rattle.ports.specs.Hearing.{source_of}
-use Rattle.ports.specs.Causes.{ReadBroke, Came, GreetingFault, AnswerFault, port_fault}
+use Rattle.ports.specs.Causes.{FailsToRead, Receives, GreetingFault, AnswerFault, port_fault}
 use Rattle.ports.proofs.Going.{failed_of}
 
 -- what was sent stands, and what the source gave was got
-pub went_of : (failed ended : ℕ) (bytes : List ℕ) (a b : LineState) → (b.failures ≡ a.failures → Appends a.sent b.sent []) → Gave failed ended bytes (source_of a) (source_of b) → Went failed ended [] bytes a b
+pub went_of : (failed ended : ℕ) (bytes : List ℕ) (a b : LineState) → (b.failures ≡ a.failures → Appends a.sent b.sent []) → Gave failed ended bytes (source_of a) (source_of b) → Transfers failed ended [] bytes a b
 went_of failed ended bytes a b sent gave = record {
   sent = λ calm. sent (omega (arith, gave.failures, calm));
   got = gave.given;
@@ -24,16 +24,16 @@ went_of failed ended bytes a b sent gave = record {
 }
 
 pub came_of : {A : Type 0} (result : Result (Frame A) FrameFault) (a b : LineState) → (b.failures ≡ a.failures → Appends a.sent b.sent [])
-    → IfOk result (λ f. Gave 0 0 (text_of (value_of f)) (source_of a) (source_of b)) → IfOk result (λ f. Came (text_of (value_of f)) a b)
+    → IfOk result (λ f. Gave 0 0 (text_of (value_of f)) (source_of a) (source_of b)) → IfOk result (λ f. Receives (text_of (value_of f)) a b)
 came_of (Ok f) a b sent gave = went_of 0 0 (text_of (value_of f)) a b sent gave
 came_of (Err fault) a b sent gave = tt
 
 pub broke_of : {A : Type 0} (result : Result (Frame A) FrameFault) (a b : LineState) → (b.failures ≡ a.failures → Appends a.sent b.sent [])
-    → IfErr result (λ fault. IsReadRefused fault (source_of a) (source_of b)) → IfErr result (λ fault. ReadBroke fault a b)
+    → IfErr result (λ fault. IsReadRefused fault (source_of a) (source_of b)) → IfErr result (λ fault. FailsToRead fault a b)
 broke_of (Ok f) a b sent refused = tt
 broke_of (Err fault) a b sent refused = (refused.bytes, refused.refused, went_of (failures_of fault) (ends_of fault) refused.bytes a b sent refused.gave)
 
-pub greeting_broke : (fault : FrameFault) (worker : ℕ) (a b : LineState) → ReadBroke fault a b → GreetingFault (port_fault fault) worker a b
+pub greeting_broke : (fault : FrameFault) (worker : ℕ) (a b : LineState) → FailsToRead fault a b → GreetingFault (port_fault fault) worker a b
 greeting_broke Ended worker a b broke = inr (broke.0, inl broke.1, broke.2)
 greeting_broke Torn worker a b broke = inr (broke.0, inr broke.1, broke.2)
 greeting_broke Device worker a b broke = inl (failed_of a b [] broke.0 broke.2)
@@ -43,7 +43,7 @@ greeting_broke BadLength worker a b broke = (broke.0, (BadLength, tt, broke.1), 
 greeting_broke BadField worker a b broke = (broke.0, (BadField, tt, broke.1), broke.2)
 greeting_broke BadVersion worker a b broke = (broke.0, (BadVersion, tt, broke.1), broke.2)
 
-pub answer_broke : (fault : FrameFault) (a b : LineState) → ReadBroke fault a b → AnswerFault (port_fault fault) a b
+pub answer_broke : (fault : FrameFault) (a b : LineState) → FailsToRead fault a b → AnswerFault (port_fault fault) a b
 answer_broke Ended a b broke = inr (broke.0, inl broke.1, broke.2)
 answer_broke Torn a b broke = inr (broke.0, inr broke.1, broke.2)
 answer_broke Device a b broke = inl (failed_of a b [] broke.0 broke.2)

@@ -12,33 +12,33 @@ use Rattle.frames.proofs.FrameStreams.{texts-append}
 use Rattle.ports.specs.declared.fault.PortFault.{PortFault}
 use Rattle.ports.specs.declared.fault.PortFault.TheVariants.{Down, Garbled, WrongHello, Gave, Memory, Closed}
 use Rattle.shard_set.specs.Shards.{has_shard}
-use Rattle.ports.specs.Lines.{LineState, Went}
-use Rattle.ports.specs.Talking.{Talk, TalkState, hello_once, shard_once, frames_put, AskPut, Asked}
-use Rattle.ports.specs.Causes.{Came, AnswerFault, Cause, InReply}
+use Rattle.ports.specs.Lines.{LineState, Transfers}
+use Rattle.ports.specs.Talking.{Talk, TalkState, hello_due, shard_due, frames_put, SendsAsk, AnswersOverLine}
+use Rattle.ports.specs.Causes.{Receives, AnswerFault, Cause, InReply}
 use Rattle.ports.proofs.Going.{went_then, then_failed}
 
 module _ (round shard : ℕ) (labels : List ℕ) (before : Talk) where
   -- the hello came, the shard and the ask were sent
   pub asked_so_far : (number : ℕ) (links : List Link) (r1 r2 r3 : LineState) → number ≡ shard → links ≡ links_at before.cut shard
-      → Came (hello_once before.greeted before.worker) before.line r1 → Went 0 0 (texts_of (shard_once (has_shard before.sent number) number links)) [] r1 r2
-      → Went 0 0 (text_of (AskFrame round shard labels)) [] r2 r3 → Went 0 0 (texts_of (frames_put before round shard labels)) (hello_once before.greeted before.worker) before.line r3
+      → Receives (hello_due before.greeted before.worker) before.line r1 → Transfers 0 0 (texts_of (shard_due (has_shard before.sent number) number links)) [] r1 r2
+      → Transfers 0 0 (text_of (AskFrame round shard labels)) [] r2 r3 → Transfers 0 0 (texts_of (frames_put before round shard labels)) (hello_due before.greeted before.worker) before.line r3
   asked_so_far number links r1 r2 r3 same same' first second third =
       let there : List Link = links_at before.cut shard in
-      let hello : List ℕ = hello_once before.greeted before.worker in
-      let brought : Went 0 0 (texts_of (shard_once (has_shard before.sent shard) shard there)) [] r1 r2 =
-      subst (λ (n : ℕ). Went 0 0 (texts_of (shard_once (has_shard before.sent n) n there)) [] r1 r2) same (subst (λ (ls : List Link). Went 0 0 (texts_of (shard_once (has_shard before.sent number) number ls)) [] r1 r2) same' second) in
-      let shards : List FrameValue = shard_once (has_shard before.sent shard) shard there in
+      let hello : List ℕ = hello_due before.greeted before.worker in
+      let brought : Transfers 0 0 (texts_of (shard_due (has_shard before.sent shard) shard there)) [] r1 r2 =
+      subst (λ (n : ℕ). Transfers 0 0 (texts_of (shard_due (has_shard before.sent n) n there)) [] r1 r2) same (subst (λ (ls : List Link). Transfers 0 0 (texts_of (shard_due (has_shard before.sent number) number ls)) [] r1 r2) same' second) in
+      let shards : List FrameValue = shard_due (has_shard before.sent shard) shard there in
       let whole = went_then 0 0 0 0 _ _ _ _ before.line r2 r3 (went_then 0 0 0 0 _ _ _ _ before.line r1 r2 first brought) third in
       let said : texts_of shards ++ text_of (AskFrame round shard labels) ≡ texts_of (frames_put before round shard labels) =
       sym (texts-append shards (AskFrame round shard labels ∷ []) ∙ ap (λ (t : List ℕ). texts_of shards ++ t) (append-nil (text_of (AskFrame round shard labels)))) in
       let came : (hello ++ []) ++ [] ≡ hello = append-nil (hello ++ []) ∙ append-nil hello in
-      subst (λ (t : List ℕ). Went 0 0 t hello before.line r3) said (subst (λ (t : List ℕ). Went 0 0 (texts_of shards ++ text_of (AskFrame round shard labels)) t before.line r3) came whole)
+      subst (λ (t : List ℕ). Transfers 0 0 t hello before.line r3) said (subst (λ (t : List ℕ). Transfers 0 0 (texts_of shards ++ text_of (AskFrame round shard labels)) t before.line r3) came whole)
 
 -- the line `r` was asked, and the reply, or what is at fault, came behind that
-module _ {L : Type 0} (state : L → LineState) (round shard : ℕ) (labels : List ℕ) (before : TalkState L) (r : L) (so_far : AskPut state round shard labels before r) (after : TalkState L) where
+module _ {L : Type 0} (state : L → LineState) (round shard : ℕ) (labels : List ℕ) (before : TalkState L) (r : L) (so_far : SendsAsk state round shard labels before r) (after : TalkState L) where
   pub asked_of : (result : Result AnswerValue PortFault) (number : ℕ) → number ≡ shard → ((s : ℕ) → has_shard after.sent s ≡ (s == number || has_shard before.sent s))
-      → after.greeted ≡ true → after.cut ≡ before.cut → after.worker ≡ before.worker → IfOk result (λ a. Came (text_of (AnswerFrame a)) (state r) (state after.line)) → IfOk result (λ a. IsAnswer a)
-      → IfOk result (λ a. Asked state round shard labels a before after)
+      → after.greeted ≡ true → after.cut ≡ before.cut → after.worker ≡ before.worker → IfOk result (λ a. Receives (text_of (AnswerFrame a)) (state r) (state after.line)) → IfOk result (λ a. IsAnswer a)
+      → IfOk result (λ a. AnswersOverLine state round shard labels a before after)
   asked_of (Ok a) number same sent greeted cut worker came lawful = record {
     brought = (r, so_far, came);
     lawful = lawful;

@@ -1,14 +1,14 @@
 -- Calls of a port, one after the other.
 use Rattle.std.proofs.Common.{ℕ, ◌+◌, ◌∙◌, refl, arith}
-use Rattle.ports.specs.Ports.{PortState, PortWent}
+use Rattle.ports.specs.Ports.{PortState, CountsAsks}
 
 -- no call at all
-pub port_went_nowhere : (port : PortState) → PortWent 0 0 0 port port
+pub port_went_nowhere : (port : PortState) → CountsAsks 0 0 0 port port
 port_went_nowhere port = record { cut = refl; worker = refl; asks = omega arith; failures = omega arith; wants = omega arith; opened = λ is. (is, refl, refl); closed = λ is. (is, refl); last = λ none. refl }
 
 -- calls, and then more calls
 pub port_went_then : (asked failed wanted asked' failed' wanted' : ℕ) (a b c : PortState)
-    → PortWent asked failed wanted a b → PortWent asked' failed' wanted' b c → PortWent (asked + asked') (failed + failed') (wanted + wanted') a c
+    → CountsAsks asked failed wanted a b → CountsAsks asked' failed' wanted' b c → CountsAsks (asked + asked') (failed + failed') (wanted + wanted') a c
 port_went_then asked failed wanted asked' failed' wanted' a b c first second = record {
   cut = second.cut ∙ first.cut;
   worker = second.worker ∙ first.worker;

@@ -14,12 +14,12 @@ use Rattle.frames.specs.Lawful.{IsShard, IsAsk}
 use Rattle.ports.specs.declared.fault.PortFault.{PortFault}
 use Rattle.ports.specs.declared.fault.PortFault.TheVariants.{Down, Garbled, WrongHello, Gave, Memory, Closed}
 use Rattle.shard_set.specs.Shards.{has_shard}
-use Rattle.ports.specs.Lines.{LineState, IsFresh, Tells, Counted, ServesSoFar}
+use Rattle.ports.specs.Lines.{LineState, IsFresh, TellsBytes, Counted, ServesSoFar}
 use Rattle.ports.specs.Ports.{IsHonestAnswer, failure_of, want_of}
-use Rattle.ports.specs.Causes.{WentDown, IsWanting, Cause, CountedFault, IsBlameless}
+use Rattle.ports.specs.Causes.{GoesDown, IsWanting, Cause, CountedFault, IsBlameless}
 use Rattle.ports.specs.Exchanges.{Exchange, exchange_of}
-use Rattle.ports.specs.Talking.{Talk, TalkState, told, shard_once, frames_put, AskBrought, AskEnded, Asked, IsOfCut, IsInStep}
-use Rattle.ports.specs.Wires.{WireState, last_ask, IsQuiet, IsCountedWire, IsCalm, WentOn, WireCause}
+use Rattle.ports.specs.Talking.{Talk, TalkState, told_talk, shard_due, frames_put, Brings, EndsAfterAsk, AnswersOverLine, IsOfCut, MatchesLine}
+use Rattle.ports.specs.Wires.{WireState, last_ask, IsQuiet, IsCountedWire, IsFaultless, IsTrueSoFar, WireCause}
 use Rattle.ports.proofs.Asking.{all_brought, step_more, honest_answer, blameless}
 
 told_none : (told : Option (List ℕ)) → IsSome told → IfSome told (λ bytes. bytes ≡ []) → told ≡ Some []
@@ -27,7 +27,7 @@ told_none None tells none = cc
 told_none (Some bytes) tells none = ap (λ t. Some t) none
 
 -- a talk that said nothing yet, over a fresh line that tells its bytes
-pub fresh_step : (talk : Talk) → IsFresh talk.line → Tells talk.line → talk.greeted ≡ false → ((s : ℕ) → has_shard talk.sent s ≡ false) → IsInStep talk [] []
+pub fresh_step : (talk : Talk) → IsFresh talk.line → TellsBytes talk.line → talk.greeted ≡ false → ((s : ℕ) → has_shard talk.sent s ≡ false) → MatchesLine talk [] []
 fresh_step talk fresh tells quiet none = record {
   calm = fresh.failures;
   sent = told_none talk.line.sent tells.sent fresh.sent;
@@ -60,20 +60,20 @@ not_closed state round shard labels before after fault cause same = subst (λ (f
 quiet_first : (failed ended : ℕ) (a b c : LineState) → Counted 0 0 a b → Counted failed ended b c → Counted failed ended a c
 quiet_first failed ended a b c first behind = (omega (arith, first.0, behind.0), omega (arith, first.1, behind.1))
 
-down_counted : (before after : LineState) → WentDown before after → CountedFault Down before after
+down_counted : (before after : LineState) → GoesDown before after → CountedFault Down before after
 down_counted before after down = elim down [
   | inl failed ↦ inl (failed.failures, failed.ends)
   | inr ended ↦ inr (ended.2.failures, ended.2.ends)
 ]
 
 module _ {L : Type 0} (state : L → LineState) (round shard : ℕ) (labels : List ℕ) (before after : TalkState L) where
-  brought_counted : (bytes : List ℕ) → AskBrought state round shard labels bytes before after → Counted 0 0 (state before.line) (state after.line)
+  brought_counted : (bytes : List ℕ) → Brings state round shard labels bytes before after → Counted 0 0 (state before.line) (state after.line)
   brought_counted bytes brought = (let first = brought.1 in let behind = brought.2 in (omega (arith, first.failures, behind.failures), omega (arith, first.ends, behind.ends)))
 
-  pub answer_counted : (a : AnswerValue) → Asked state round shard labels a before after → Counted 0 0 (state before.line) (state after.line)
+  pub answer_counted : (a : AnswerValue) → AnswersOverLine state round shard labels a before after → Counted 0 0 (state before.line) (state after.line)
   answer_counted a asked = brought_counted (text_of (AnswerFrame a)) asked.brought
 
-  ended_counted : (bytes : List ℕ) → AskEnded state round shard labels bytes before after → Counted 0 1 (state before.line) (state after.line)
+  ended_counted : (bytes : List ℕ) → EndsAfterAsk state round shard labels bytes before after → Counted 0 1 (state before.line) (state after.line)
   ended_counted bytes ended = (let first = ended.1 in let behind = ended.2 in (omega (arith, first.failures, behind.failures), omega (arith, first.ends, behind.ends)))
 
   wanting_counted : IsWanting state round shard labels before after → Counted 0 0 (state before.line) (state after.line)
@@ -145,10 +145,10 @@ module _ {L : Type 0} (state : L → LineState) where
 
 module _ {L : Type 0} (state : L → LineState) where
   -- a wire that asked nothing yet, over a fresh line that tells its bytes
-  pub fresh_calm : (wire : WireState L) (ends : ℕ) → IsFresh (state wire.talk.line) → Tells (state wire.talk.line) → (state wire.talk.line).ends ≡ ends → wire.talk.greeted ≡ false → ((s : ℕ) → has_shard wire.talk.sent s ≡ false)
-      → wire.asks ≡ 0 → wire.failures ≡ 0 → wire.wants ≡ 0 → wire.last ≡ (0, 0) → IsCalm state ends wire [] []
+  pub fresh_calm : (wire : WireState L) (ends : ℕ) → IsFresh (state wire.talk.line) → TellsBytes (state wire.talk.line) → (state wire.talk.line).ends ≡ ends → wire.talk.greeted ≡ false → ((s : ℕ) → has_shard wire.talk.sent s ≡ false)
+      → wire.asks ≡ 0 → wire.failures ≡ 0 → wire.wants ≡ 0 → wire.last ≡ (0, 0) → IsFaultless state ends wire [] []
   fresh_calm wire ends fresh tells ends_are quiet none asks failures wants last = record {
-    in_step = fresh_step (told state wire.talk) fresh tells quiet none;
+    in_step = fresh_step (told_talk state wire.talk) fresh tells quiet none;
     ends_are = ends_are;
     asks = asks;
     failures = failures;
@@ -156,16 +156,16 @@ module _ {L : Type 0} (state : L → LineState) where
     last = last;
   }
 
-  -- one that is open is calm
-  pub calm_open : (kind : PortFault → Type 0) (wire : WireState L) (ends : ℕ) (exchanges : List Exchange) → wire.is_open ≡ true → WentOn state kind wire ends exchanges
-      → (said : List FrameValue) × IsCalm state ends wire said exchanges
+  -- one that is open is faultless
+  pub calm_open : (kind : PortFault → Type 0) (wire : WireState L) (ends : ℕ) (exchanges : List Exchange) → wire.is_open ≡ true → IsTrueSoFar state kind wire ends exchanges
+      → (said : List FrameValue) × IsFaultless state ends wire said exchanges
   calm_open kind wire ends exchanges live went = elim went [
     | inl calm ↦ calm
     | inr failed ↦ cc
   ]
 
   -- one that is shut stays what it was
-  pub went_shut : (kind : PortFault → Type 0) (wire : WireState L) (ends : ℕ) (exchanges : List Exchange) → WentOn state kind wire ends exchanges → WentOn state kind (record wire { is_open = false }) ends exchanges
+  pub went_shut : (kind : PortFault → Type 0) (wire : WireState L) (ends : ℕ) (exchanges : List Exchange) → IsTrueSoFar state kind wire ends exchanges → IsTrueSoFar state kind (record wire { is_open = false }) ends exchanges
   went_shut kind wire ends exchanges went = elim went [
     | inl on ↦ let calm = on.1 in
         inl (on.0, record { in_step = calm.in_step; ends_are = calm.ends_are; asks = calm.asks; failures = calm.failures; wants = calm.wants; last = calm.last })
@@ -195,14 +195,14 @@ module _ {L : Type 0} (state : L → LineState) where
 
   module _ (round shard : ℕ) (labels : List ℕ) (old new : WireState L) (in_cut : shard < length old.talk.cut) (live : old.is_open ≡ true) (asks : new.asks ≡ old.asks + 1) (last : new.last ≡ (round, shard)) where
     -- it was answered
-    module _ (is : IsShard shard (links_at old.talk.cut shard)) (ask : IsAsk round shard labels) (a : AnswerValue) (asked : Asked state round shard labels a old.talk new.talk) where
-      pub answered : (kind kind' : PortFault → Type 0) (ends : ℕ) (exchanges : List Exchange) → new.failures ≡ old.failures → new.wants ≡ old.wants → WentOn state kind old ends exchanges
-          → WentOn state kind' new ends (exchanges ++ exchange_of round shard labels a ∷ [])
+    module _ (is : IsShard shard (links_at old.talk.cut shard)) (ask : IsAsk round shard labels) (a : AnswerValue) (asked : AnswersOverLine state round shard labels a old.talk new.talk) where
+      pub answered : (kind kind' : PortFault → Type 0) (ends : ℕ) (exchanges : List Exchange) → new.failures ≡ old.failures → new.wants ≡ old.wants → IsTrueSoFar state kind old ends exchanges
+          → IsTrueSoFar state kind' new ends (exchanges ++ exchange_of round shard labels a ∷ [])
       answered kind kind' ends exchanges failures wants went =
           let (said, calm) = calm_open kind old ends exchanges live went in
-          let first : List FrameValue = shard_once (has_shard old.talk.sent shard) shard (links_at old.talk.cut shard) in
+          let first : List FrameValue = shard_due (has_shard old.talk.sent shard) shard (links_at old.talk.cut shard) in
           inl (
-            said ++ frames_put (told state old.talk) round shard labels,
+            said ++ frames_put (told_talk state old.talk) round shard labels,
             record {
               in_step = step_more state round shard labels a old.talk new.talk asked in_cut is ask said exchanges calm.in_step;
               ends_are = omega (arith, (all_brought state round shard labels _ old.talk new.talk asked.brought).ends, calm.ends_are);
@@ -216,7 +216,7 @@ module _ {L : Type 0} (state : L → LineState) where
     -- it wasn't
     module _ (fault : PortFault) (cause : WireCause state fault round shard labels old new) where
       pub failed : (kind kind' : PortFault → Type 0) (ends : ℕ) (exchanges : List Exchange) → kind' fault → new.is_open ≡ false → new.talk.cut ≡ old.talk.cut → new.talk.worker ≡ old.talk.worker
-          → new.failures ≡ old.failures + failure_of fault → new.wants ≡ old.wants + want_of fault → WentOn state kind old ends exchanges → WentOn state kind' new ends exchanges
+          → new.failures ≡ old.failures + failure_of fault → new.wants ≡ old.wants + want_of fault → IsTrueSoFar state kind old ends exchanges → IsTrueSoFar state kind' new ends exchanges
       failed kind kind' ends exchanges is_kind closed cut worker failures wants went =
           let (said, calm) = calm_open kind old ends exchanges live went in
           let round_is : round ≡ new.last.0 = ap (λ (p : ℕ × ℕ). p.0) (sym last) in
@@ -246,14 +246,14 @@ module _ {L : Type 0} (state : L → LineState) where
   module _ (round shard : ℕ) (labels : List ℕ) (old : WireState L) (new : TalkState L) (in_cut : shard < length old.talk.cut) (live : old.is_open ≡ true) (is : IsShard shard (links_at old.talk.cut shard)) (ask : IsAsk round shard labels)
       (below : old.talk.worker < MAX_WORKERS) (kind : PortFault → Type 0) where
     -- what the line told by the end of the ask is enough
-    pub served_answer : (a : AnswerValue) → Asked state round shard labels a old.talk new → (ends : ℕ) (exchanges : List Exchange) → WentOn state kind old ends exchanges → ServesSoFar old.talk.worker (state new.line)
+    pub served_answer : (a : AnswerValue) → AnswersOverLine state round shard labels a old.talk new → (ends : ℕ) (exchanges : List Exchange) → IsTrueSoFar state kind old ends exchanges → ServesSoFar old.talk.worker (state new.line)
         → IsHonestAnswer old.talk.cut round shard labels a
     served_answer a asked ends exchanges went serves =
         let (said, calm) = calm_open kind old ends exchanges live went in
         honest_answer state round shard labels old.talk new said exchanges calm.in_step below serves in_cut is ask a asked
 
-    module _ (line line' : ℕ → Type 0) (kept : (w : ℕ) → line w → line' w) (serves : (w : ℕ) → line' w → ServesSoFar w (state new.line)) (honest : line old.talk.worker × ((ends : ℕ) × (exchanges : List Exchange) × WentOn state kind old ends exchanges)) where
-      pub light_answer : (a : AnswerValue) → Asked state round shard labels a old.talk new → IsHonestAnswer old.talk.cut round shard labels a
+    module _ (line line' : ℕ → Type 0) (kept : (w : ℕ) → line w → line' w) (serves : (w : ℕ) → line' w → ServesSoFar w (state new.line)) (honest : line old.talk.worker × ((ends : ℕ) × (exchanges : List Exchange) × IsTrueSoFar state kind old ends exchanges)) where
+      pub light_answer : (a : AnswerValue) → AnswersOverLine state round shard labels a old.talk new → IsHonestAnswer old.talk.cut round shard labels a
       light_answer a asked =
           let (carries, some) = honest in
           let (ends, exchanges, went) = some in

@@ -13,8 +13,8 @@ use Rattle.frames.specs.declared.fault.FrameFault.TheVariants.{BadKind, BadLengt
 use Rattle.frames.specs.declared.fault.FrameFault.TheVariants.{Memory as NoMemory}
 use Rattle.ports.specs.declared.fault.PortFault.{PortFault}
 use Rattle.ports.specs.declared.fault.PortFault.TheVariants.{Down, Garbled, WrongHello, Gave, Memory, Closed}
-use Rattle.ports.specs.Lines.{LineState, Went, Counted}
-use Rattle.ports.specs.Talking.{Talk, TalkState, told, hello_once, shard_once, AskBrought, AskEnded}
+use Rattle.ports.specs.Lines.{LineState, Transfers, Counted}
+use Rattle.ports.specs.Talking.{Talk, TalkState, told_talk, hello_due, shard_due, Brings, EndsAfterAsk}
 
 -- a fault that tells of bytes which no lawful frame begins with
 abbrev pub IsGarble : FrameFault → Type 0
@@ -44,28 +44,28 @@ IsCutOff bytes = StreamRefused Ended bytes ⊎ StreamRefused Torn bytes
 
 -- one call failed, and none found the end; nothing is said of the bytes
 abbrev pub LineFailed : LineState → LineState → Type 0
-LineFailed before after = Went 1 0 [] [] before after
+LineFailed before after = Transfers 1 0 [] [] before after
 
 -- the line failed; or these bytes came, no whole frame, and then the end, and nothing was sent
-abbrev pub WentDown : LineState → LineState → Type 0
-WentDown before after = LineFailed before after ⊎ ((bytes : List ℕ) × IsCutOff bytes × Went 0 1 [] bytes before after)
+abbrev pub GoesDown : LineState → LineState → Type 0
+GoesDown before after = LineFailed before after ⊎ ((bytes : List ℕ) × IsCutOff bytes × Transfers 0 1 [] bytes before after)
 
 -- these bytes came and nothing was sent
-abbrev pub Came : List ℕ → LineState → LineState → Type 0
-Came bytes before after = Went 0 0 [] bytes before after
+abbrev pub Receives : List ℕ → LineState → LineState → Type 0
+Receives bytes before after = Transfers 0 0 [] bytes before after
 
 -- these bytes came and nothing was sent; of the frame that they begin the body, or its list, found no memory
-abbrev pub CameUnkept : LineState → LineState → Type 0
-CameUnkept before after = (bytes : List ℕ) × StreamRefused NoMemory bytes × Came bytes before after
+abbrev pub ReceivesUnkept : LineState → LineState → Type 0
+ReceivesUnkept before after = (bytes : List ℕ) × StreamRefused NoMemory bytes × Receives bytes before after
 
 -- ---- by the step of the ask
 
 -- why no hello of the worker came
 abbrev pub GreetingFault : PortFault → ℕ → LineState → LineState → Type 0
-GreetingFault Down worker before after = WentDown before after
-GreetingFault Garbled worker before after = (bytes : List ℕ) × IsBad bytes × Came bytes before after
-GreetingFault WrongHello worker before after = (v : FrameValue) × IsLawful v × (v ≢ HelloFrame 1 worker) × Came (text_of v) before after
-GreetingFault Memory worker before after = CameUnkept before after
+GreetingFault Down worker before after = GoesDown before after
+GreetingFault Garbled worker before after = (bytes : List ℕ) × IsBad bytes × Receives bytes before after
+GreetingFault WrongHello worker before after = (v : FrameValue) × IsLawful v × (v ≢ HelloFrame 1 worker) × Receives (text_of v) before after
+GreetingFault Memory worker before after = ReceivesUnkept before after
 GreetingFault _ worker before after = ⊥
 
 -- why a frame wasn't sent: for want of memory it isn't made, and the line isn't called
@@ -76,10 +76,10 @@ SendingFault _ before after = ⊥
 
 -- why no answer came to what was sent
 abbrev pub AnswerFault : PortFault → LineState → LineState → Type 0
-AnswerFault Down before after = WentDown before after
-AnswerFault Garbled before after = (bytes : List ℕ) × IsGarbled bytes × Came bytes before after
-AnswerFault (Gave code) before after = (round shard : ℕ) × IsLawful (FaultFrame round shard code) × Came (text_of (FaultFrame round shard code)) before after
-AnswerFault Memory before after = CameUnkept before after
+AnswerFault Down before after = GoesDown before after
+AnswerFault Garbled before after = (bytes : List ℕ) × IsGarbled bytes × Receives bytes before after
+AnswerFault (Gave code) before after = (round shard : ℕ) × IsLawful (FaultFrame round shard code) × Receives (text_of (FaultFrame round shard code)) before after
+AnswerFault Memory before after = ReceivesUnkept before after
 AnswerFault _ before after = ⊥
 
 -- ---- of the whole ask
@@ -89,27 +89,27 @@ abbrev pub IsNoHello : PortFault → Talk → Talk → Type 0
 IsNoHello fault before after = (before.greeted ≡ false) × GreetingFault fault before.worker before.line after.line
 
 -- the hello came by now, these frames were put, and nothing else went out or came
-abbrev pub HasPut : List FrameValue → Talk → Talk → Type 0
-HasPut frames before after = Went 0 0 (texts_of frames) (hello_once before.greeted before.worker) before.line after.line
+abbrev pub Sends : List FrameValue → Talk → Talk → Type 0
+Sends frames before after = Transfers 0 0 (texts_of frames) (hello_due before.greeted before.worker) before.line after.line
 
 -- where memory was wanting in an ask: for the hello that came, for the frame of a shard that wasn't sent before, for the frame of the ask, or for the reply that came. In each case nothing failed and no end was found
 pub data IsWanting {L : Type 0} (state : L → LineState) (round shard : ℕ) (labels : List ℕ) (before after : TalkState L) : Type 0 where
-  InHello : IsNoHello Memory (told state before) (told state after) → IsWanting state round shard labels before after
-  InShard : has_shard before.sent shard ≡ false → HasPut [] (told state before) (told state after) → IsWanting state round shard labels before after
-  InAsk : HasPut (shard_once (has_shard before.sent shard) shard (links_at before.cut shard)) (told state before) (told state after) → IsWanting state round shard labels before after
-  InReply : (bytes : List ℕ) → StreamRefused NoMemory bytes → AskBrought state round shard labels bytes before after → IsWanting state round shard labels before after
+  InHello : IsNoHello Memory (told_talk state before) (told_talk state after) → IsWanting state round shard labels before after
+  InShard : has_shard before.sent shard ≡ false → Sends [] (told_talk state before) (told_talk state after) → IsWanting state round shard labels before after
+  InAsk : Sends (shard_due (has_shard before.sent shard) shard (links_at before.cut shard)) (told_talk state before) (told_talk state after) → IsWanting state round shard labels before after
+  InReply : (bytes : List ℕ) → StreamRefused NoMemory bytes → Brings state round shard labels bytes before after → IsWanting state round shard labels before after
 
 -- why an ask that was open got no answer: by the bytes that came in it, and by what the line counted. It is down where it failed, or ended in place of the hello, or of the reply once it was asked
 abbrev pub Cause : {L : Type 0} → (L → LineState) → PortFault → ℕ → ℕ → List ℕ → TalkState L → TalkState L → Type 0
 Cause state Down round shard labels before after =
     LineFailed (state before.line) (state after.line)
-    ⊎ (IsNoHello Down (told state before) (told state after) ⊎ ((bytes : List ℕ) × IsCutOff bytes × AskEnded state round shard labels bytes before after))
+    ⊎ (IsNoHello Down (told_talk state before) (told_talk state after) ⊎ ((bytes : List ℕ) × IsCutOff bytes × EndsAfterAsk state round shard labels bytes before after))
 Cause state Garbled round shard labels before after =
-    IsNoHello Garbled (told state before) (told state after)
-    ⊎ ((bytes : List ℕ) × IsGarbled bytes × AskBrought state round shard labels bytes before after)
-Cause state WrongHello round shard labels before after = IsNoHello WrongHello (told state before) (told state after)
+    IsNoHello Garbled (told_talk state before) (told_talk state after)
+    ⊎ ((bytes : List ℕ) × IsGarbled bytes × Brings state round shard labels bytes before after)
+Cause state WrongHello round shard labels before after = IsNoHello WrongHello (told_talk state before) (told_talk state after)
 Cause state (Gave code) round shard labels before after =
-    (r s : ℕ) × IsLawful (FaultFrame r s code) × AskBrought state round shard labels (text_of (FaultFrame r s code)) before after
+    (r s : ℕ) × IsLawful (FaultFrame r s code) × Brings state round shard labels (text_of (FaultFrame r s code)) before after
 Cause state Memory round shard labels before after = IsWanting state round shard labels before after
 Cause state Closed round shard labels before after = ⊥
 
@@ -135,5 +135,5 @@ port_fault NoMemory = Memory
 port_fault _ = Garbled
 
 -- no frame could be read: some bytes came, which are refused for this fault
-abbrev pub ReadBroke : FrameFault → LineState → LineState → Type 0
-ReadBroke fault before after = (bytes : List ℕ) × StreamRefused fault bytes × Went (failures_of fault) (ends_of fault) [] bytes before after
+abbrev pub FailsToRead : FrameFault → LineState → LineState → Type 0
+FailsToRead fault before after = (bytes : List ℕ) × StreamRefused fault bytes × Transfers (failures_of fault) (ends_of fault) [] bytes before after

@@ -3,6 +3,7 @@ use Rattle.std.specs.Prelude.{◌≡◌, ℕ, List, ◌++◌, take, drop, Bool, 
 use Rattle.frames.specs.FrameStream.{BeginsNone}
 use Rattle.worker_engine.specs.Serving.{Kept, shelf_of}
 use Rattle.worker_engine.specs.Session.{InSession}
+use Rattle.ports.specs.declared.line.Line as Line
 use Rattle.ports.specs.Causes.{IsBad}
 use Rattle.ports.specs.Lines.{LineState}
 
@@ -14,8 +15,8 @@ pub record SessionState : Type 0 where
   pub written : List ℕ
 
 -- the bytes that came and weren't heard
-abbrev pub unheard : SessionState → List ℕ
-unheard s = drop s.heard s.input
+abbrev pub rest_of : SessionState → List ℕ
+rest_of s = drop s.heard s.input
 
 -- whichever worker's session it was, it still is
 abbrev pub GoesOn : SessionState → SessionState → Type 0
@@ -24,7 +25,7 @@ GoesOn before after =
 
 -- a session that is over hears no more, whatever comes
 abbrev pub IsOver : Bool → SessionState → Type 0
-IsOver over s = over ≡ true → IsBad (unheard s)
+IsOver over s = over ≡ true → IsBad (rest_of s)
 
 -- the shards that the engine keeps, the bytes that were put and how many of them were heard, the bytes that the session wrote and how many of them were got, whether the session is over, and the counts
 pub record EngineLineState : Type 0 where
@@ -47,6 +48,10 @@ pub record IsEngineLine (worker : ℕ) (s : EngineLineState) : Type 0 where
   pub all : s.failures ≡ 0 → BeginsNone (drop s.heard s.input)
   pub over_is : s.failures ≡ 0 → s.over ≡ true → IsBad (drop s.heard s.input)
 
+-- as a line
+abbrev pub engine_line : Line.Ghosts EngineLineState
+engine_line = record { state = line_of; faithful = λ line worker. IsEngineLine worker line }
+
 -- bytes that were written stay, and more may stand behind them
-abbrev pub Grew : List ℕ → List ℕ → Type 0
-Grew old new = (more : List ℕ) × (new ≡ old ++ more)
+abbrev pub Extends : List ℕ → List ℕ → Type 0
+Extends old new = (more : List ℕ) × (new ≡ old ++ more)

@@ -14,6 +14,6 @@ pub data HeardFact : Type 0 where
   ServesFor : (worker : ℕ) → HeardFact
 
 -- the fact holds of the line
-abbrev pub Lasts : LineState → (ℕ → Type 0) → HeardFact → Type 0
-Lasts line faithful (WasSent failures bytes) = (failures ≤ line.failures) × (line.failures ≡ failures → Appends bytes line.sent [])
-Lasts line faithful (ServesFor worker) = faithful worker
+abbrev pub HoldsOf : LineState → (ℕ → Type 0) → HeardFact → Type 0
+HoldsOf line faithful (WasSent failures bytes) = (failures ≤ line.failures) × (line.failures ≡ failures → Appends bytes line.sent [])
+HoldsOf line faithful (ServesFor worker) = faithful worker

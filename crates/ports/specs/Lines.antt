@@ -17,7 +17,7 @@ pub record HasRoom (line : LineState) : Type 0 where
   pub ends : line.ends < 2 ^ 64 - 1
 
 -- the line tells what was sent and what was got
-pub record Tells (line : LineState) : Type 0 where
+pub record TellsBytes (line : LineState) : Type 0 where
   pub sent : IsSome line.sent
   pub got : IsSome line.got
 
@@ -28,7 +28,7 @@ pub record IsFresh (line : LineState) : Type 0 where
   pub failures : line.failures ≡ 0
 
 -- from `before` to `after` these bytes were sent and those got; so many calls failed, and so many found the end. Where one failed nothing is said of the bytes
-pub record Went (failed ended : ℕ) (said came : List ℕ) (before after : LineState) : Type 0 where
+pub record Transfers (failed ended : ℕ) (said came : List ℕ) (before after : LineState) : Type 0 where
   pub sent : failed ≡ 0 → Appends before.sent after.sent said
   pub got : failed ≡ 0 → Appends before.got after.got came
   pub failures : after.failures ≡ before.failures + failed
@@ -39,14 +39,14 @@ abbrev pub Counted : (failed ended : ℕ) → LineState → LineState → Type 0
 Counted failed ended before after = (after.failures ≡ before.failures + failed) × (after.ends ≡ before.ends + ended)
 
 -- one put: it sent all its bytes, or failed
-abbrev pub PutWent : {T : Type 0} → Result T LineFault → List ℕ → LineState → LineState → Type 0
-PutWent (Ok passed) bytes before after = Went 0 0 bytes [] before after
-PutWent (Err fault) bytes before after = Went 1 0 [] [] before after
+abbrev pub Puts : {T : Type 0} → Result T LineFault → List ℕ → LineState → LineState → Type 0
+Puts (Ok passed) bytes before after = Transfers 0 0 bytes [] before after
+Puts (Err fault) bytes before after = Transfers 1 0 [] [] before after
 
 -- one get: it got some bytes, or found the end, or failed
-abbrev pub GetWent : Result ℕ LineFault → List ℕ → LineState → LineState → Type 0
-GetWent (Ok n) into before after = (0 < n → Went 0 0 [] (take n into) before after) × (n ≡ 0 → Went 0 1 [] [] before after)
-GetWent (Err fault) into before after = Went 1 0 [] [] before after
+abbrev pub Gets : Result ℕ LineFault → List ℕ → LineState → LineState → Type 0
+Gets (Ok n) into before after = (0 < n → Transfers 0 0 [] (take n into) before after) × (n ≡ 0 → Transfers 0 1 [] [] before after)
+Gets (Err fault) into before after = Transfers 1 0 [] [] before after
 
 -- until the first failure, and where the line tells both, what was got begins what the worker's session may write for what was sent
 abbrev pub ServesSoFar : ℕ → LineState → Type 0

@@ -18,7 +18,7 @@ pub record PortState : Type 0 where
   pub last : ℕ × ℕ
 
 -- from `before` to `after` the port was asked so often, and so many asks failed, or found no memory: any of these closes it, and once closed it is asked no more. Where it wasn't asked, its last ask is the same
-pub record PortWent (asked failed wanted : ℕ) (before after : PortState) : Type 0 where
+pub record CountsAsks (asked failed wanted : ℕ) (before after : PortState) : Type 0 where
   pub cut : after.cut ≡ before.cut
   pub worker : after.worker ≡ before.worker
   pub asks : after.asks ≡ before.asks + asked
@@ -29,11 +29,11 @@ pub record PortWent (asked failed wanted : ℕ) (before after : PortState) : Typ
   pub last : asked ≡ 0 → after.last ≡ before.last
 
 -- one ask of a round for a shard, now the last one: it is answered, or it closes the port; a port that was closed only says so
-abbrev pub AskWent : {T : Type 0} → Result T PortFault → (round shard : ℕ) → PortState → PortState → Type 0
-AskWent (Ok answer) round shard before after = (after.is_open ≡ true) × PortWent 1 0 0 before after × (after.last ≡ (round, shard))
-AskWent (Err Closed) round shard before after = (before.is_open ≡ false) × PortWent 0 0 0 before after
-AskWent (Err Memory) round shard before after = (before.is_open ≡ true) × (after.is_open ≡ false) × PortWent 1 0 1 before after × (after.last ≡ (round, shard))
-AskWent (Err fault) round shard before after = (before.is_open ≡ true) × (after.is_open ≡ false) × PortWent 1 1 0 before after × (after.last ≡ (round, shard))
+abbrev pub AnswersAsk : {T : Type 0} → Result T PortFault → (round shard : ℕ) → PortState → PortState → Type 0
+AnswersAsk (Ok answer) round shard before after = (after.is_open ≡ true) × CountsAsks 1 0 0 before after × (after.last ≡ (round, shard))
+AnswersAsk (Err Closed) round shard before after = (before.is_open ≡ false) × CountsAsks 0 0 0 before after
+AnswersAsk (Err Memory) round shard before after = (before.is_open ≡ true) × (after.is_open ≡ false) × CountsAsks 1 0 1 before after × (after.last ≡ (round, shard))
+AnswersAsk (Err fault) round shard before after = (before.is_open ≡ true) × (after.is_open ≡ false) × CountsAsks 1 1 0 before after × (after.last ≡ (round, shard))
 
 -- by how much a fault makes the two counts rise
 abbrev pub failure_of : PortFault → ℕ

@@ -10,7 +10,7 @@ use Rattle.frames.specs.Lawful.{IsAnswer}
 use Rattle.frames.specs.FrameStream.{texts_of, AreLawful}
 use Rattle.worker_engine.specs.Serving.{Shelf, empty_shelf, shelf_with, shelf_after}
 use Rattle.shard_set.specs.Shards.{has_shard}
-use Rattle.ports.specs.Lines.{LineState, Went}
+use Rattle.ports.specs.Lines.{LineState, Transfers}
 use Rattle.ports.specs.Exchanges.{Exchange, IsAskedIn, answers_of, ask_frames}
 
 -- a talk: the line, the cut whose shards are asked, the number of the worker, whether its hello came, and the shards that were sent
@@ -25,40 +25,40 @@ pub record TalkState (L : Type 0) : Type 0 where
 abbrev pub Talk : Type 0
 Talk = TalkState LineState
 
-abbrev pub told : {L : Type 0} → (L → LineState) → TalkState L → Talk
-told state talk = record { line = state talk.line; cut = talk.cut; worker = talk.worker; greeted = talk.greeted; sent = talk.sent }
+abbrev pub told_talk : {L : Type 0} → (L → LineState) → TalkState L → Talk
+told_talk state talk = record { line = state talk.line; cut = talk.cut; worker = talk.worker; greeted = talk.greeted; sent = talk.sent }
 
 -- ---- one ask
 
 -- the hello, unless it came before
-abbrev pub hello_once : Bool → ℕ → List ℕ
-hello_once true worker = []
-hello_once false worker = text_of (HelloFrame 1 worker)
+abbrev pub hello_due : Bool → ℕ → List ℕ
+hello_due true worker = []
+hello_due false worker = text_of (HelloFrame 1 worker)
 
 -- the shard's frame, unless it was sent before
-abbrev pub shard_once : Bool → ℕ → List Link → List FrameValue
-shard_once true shard links = []
-shard_once false shard links = ShardFrame shard links ∷ []
+abbrev pub shard_due : Bool → ℕ → List Link → List FrameValue
+shard_due true shard links = []
+shard_due false shard links = ShardFrame shard links ∷ []
 
 -- the frames that an ask puts
 abbrev pub frames_put : Talk → ℕ → ℕ → List ℕ → List FrameValue
-frames_put talk round shard labels = shard_once (has_shard talk.sent shard) shard (links_at talk.cut shard) ++ AskFrame round shard labels ∷ []
+frames_put talk round shard labels = shard_due (has_shard talk.sent shard) shard (links_at talk.cut shard) ++ AskFrame round shard labels ∷ []
 
 -- up to this state of the line a first hello came and the frames of an ask were put, and no end was found
-abbrev pub AskPut : {L : Type 0} → (L → LineState) → ℕ → ℕ → List ℕ → TalkState L → L → Type 0
-AskPut state round shard labels before asked = Went 0 0 (texts_of (frames_put (told state before) round shard labels)) (hello_once before.greeted before.worker) (state before.line) (state asked)
+abbrev pub SendsAsk : {L : Type 0} → (L → LineState) → ℕ → ℕ → List ℕ → TalkState L → L → Type 0
+SendsAsk state round shard labels before asked = Transfers 0 0 (texts_of (frames_put (told_talk state before) round shard labels)) (hello_due before.greeted before.worker) (state before.line) (state asked)
 
 -- an ask was put, and behind that these bytes came
-abbrev pub AskBrought : {L : Type 0} → (L → LineState) → ℕ → ℕ → List ℕ → List ℕ → TalkState L → TalkState L → Type 0
-AskBrought state round shard labels bytes before after = (asked : _) × AskPut state round shard labels before asked × Went 0 0 [] bytes (state asked) (state after.line)
+abbrev pub Brings : {L : Type 0} → (L → LineState) → ℕ → ℕ → List ℕ → List ℕ → TalkState L → TalkState L → Type 0
+Brings state round shard labels bytes before after = (asked : _) × SendsAsk state round shard labels before asked × Transfers 0 0 [] bytes (state asked) (state after.line)
 
 -- the same, and then the line ended
-abbrev pub AskEnded : {L : Type 0} → (L → LineState) → ℕ → ℕ → List ℕ → List ℕ → TalkState L → TalkState L → Type 0
-AskEnded state round shard labels bytes before after = (asked : _) × AskPut state round shard labels before asked × Went 0 1 [] bytes (state asked) (state after.line)
+abbrev pub EndsAfterAsk : {L : Type 0} → (L → LineState) → ℕ → ℕ → List ℕ → List ℕ → TalkState L → TalkState L → Type 0
+EndsAfterAsk state round shard labels bytes before after = (asked : _) × SendsAsk state round shard labels before asked × Transfers 0 1 [] bytes (state asked) (state after.line)
 
 -- an ask that was answered: its frames went out and no others, and then the answer came; the hello came by now, the shard was sent by now, and the rest of the talk stands
-pub record Asked {L : Type 0} (state : L → LineState) (round shard : ℕ) (labels : List ℕ) (answer : AnswerValue) (before after : TalkState L) : Type 0 where
-  pub brought : AskBrought state round shard labels (text_of (AnswerFrame answer)) before after
+pub record AnswersOverLine {L : Type 0} (state : L → LineState) (round shard : ℕ) (labels : List ℕ) (answer : AnswerValue) (before after : TalkState L) : Type 0 where
+  pub brought : Brings state round shard labels (text_of (AnswerFrame answer)) before after
   pub lawful : IsAnswer answer
   pub sent : (s : ℕ) → has_shard after.sent s ≡ (s == shard || has_shard before.sent s)
   pub greeted : after.greeted ≡ true
@@ -103,7 +103,7 @@ FollowTheirShards shelf (AskFrame round shard labels ∷ frames) = IsSome (shelf
 FollowTheirShards shelf (v ∷ frames) = FollowTheirShards (shelf_with shelf v) frames
 
 -- nothing failed; just these frames were sent: shards of the cut, those of the set once each and no others, each of which was asked for, and, behind their shards, asks for such shards, just those of the exchanges, in their order; and the hello and just the answers of the exchanges were got
-pub record IsInStep (talk : Talk) (said : List FrameValue) (exchanges : List Exchange) : Type 0 where
+pub record MatchesLine (talk : Talk) (said : List FrameValue) (exchanges : List Exchange) : Type 0 where
   pub calm : talk.line.failures ≡ 0
   pub sent : talk.line.sent ≡ Some (texts_of said)
   pub lawful : AreLawful said

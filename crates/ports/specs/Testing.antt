@@ -4,7 +4,7 @@ use Rattle.std.specs.Io.{ReadsAtMost}
 use Rattle.ports.specs.declared.fused.Fuse.{Fuse}
 use Rattle.ports.specs.declared.fused.Fuse.TheVariants.{Calls, Bytes}
 use Rattle.ports.specs.declared.fault.LineFault.{LineFault}
-use Rattle.ports.specs.Lines.{LineState, GetWent}
+use Rattle.ports.specs.Lines.{LineState, Gets}
 
 -- ---- a line that stops
 
@@ -41,7 +41,7 @@ given_by (Err fault) = 0
 -- a get of the line behind, into the first `room` bytes of a buffer: what it gives stands there, and the bytes behind them stay
 pub record GotInto (room : ℕ) (result : Result ℕ LineFault) (old new : List ℕ) (before after : LineState) : Type 0 where
   pub bound : ReadsAtMost result (take room new)
-  pub went : GetWent result (take room new) before after
+  pub went : Gets result (take room new) before after
   pub behind : drop room new ≡ drop room old
 
 -- the line behind it, and its own stops counted with that line's failures
@@ -61,8 +61,8 @@ abbrev pub fresh_script : List ℕ → ScriptLineState
 fresh_script bytes = record { given = []; left = bytes; ends = 0 }
 
 -- what it tells: what was got, and not what was sent
-abbrev pub played : ScriptLineState → LineState
-played script = record { sent = None; got = Some script.given; failures = 0; ends = script.ends }
+abbrev pub line_of_script : ScriptLineState → LineState
+line_of_script script = record { sent = None; got = Some script.given; failures = 0; ends = script.ends }
 
 -- after a get of this many bytes
 abbrev pub after_get : ScriptLineState → ℕ → ScriptLineState

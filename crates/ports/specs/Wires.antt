@@ -4,10 +4,12 @@ use Rattle.limits.specs.declared.TheConstants.{MAX_WORKERS}
 use Rattle.link_key.specs.declared.links.Link.{Link}
 use Rattle.shard_set.specs.Shards.{has_shard}
 use Rattle.frames.specs.FrameValue.{FrameValue, AskFrame}
+use Rattle.ports.specs.declared.line.Line as Line
+use Rattle.ports.specs.declared.port.Port as Port
 use Rattle.ports.specs.Lines.{LineState, HasRoom, Counted}
 use Rattle.ports.specs.Exchanges.{Exchange, answers_of}
 use Rattle.ports.specs.Ports.{PortState, failure_of, want_of}
-use Rattle.ports.specs.Talking.{TalkState, told, HasGiven, IsInStep}
+use Rattle.ports.specs.Talking.{TalkState, told_talk, HasGiven, MatchesLine}
 use Rattle.ports.specs.declared.fault.PortFault.{PortFault}
 use Rattle.ports.specs.declared.fault.PortFault.TheVariants.{Closed}
 use Rattle.ports.specs.Causes.{Cause, CountedFault, IsBlameless}
@@ -46,7 +48,7 @@ port_of wire = record { cut = wire.talk.cut; worker = wire.talk.worker; is_open 
 
 -- ---- by what its line counts, whether or not it tells its bytes
 
--- no ask got a fault, and since the line told this no call failed and none found the end
+-- no ask that found it open got a fault, and since the line told this no call failed and none found the end
 pub record IsQuiet {L : Type 0} (state : L → LineState) (wire : WireState L) (start : LineState) : Type 0 where
   pub counted : Counted 0 0 start (state wire.talk.line)
   pub failures : wire.failures ≡ 0
@@ -60,7 +62,7 @@ pub record HasFaulted {L : Type 0} (state : L → LineState) (wire : WireState L
   pub failures : wire.failures ≡ failure_of fault
   pub wants : wire.wants ≡ want_of fault
 
--- why it is closed, over a line that told this when the wire was new: it was shut, or a fault closed it
+-- what its line counts, since it told this when the wire was new: nothing, and it is open or was shut; or what closed it
 abbrev pub IsCountedWire : {L : Type 0} → (L → LineState) → WireState L → LineState → Type 0
 IsCountedWire state wire start = IsQuiet state wire start ⊎ HasFaulted state wire start
 
@@ -68,7 +70,7 @@ IsCountedWire state wire start = IsQuiet state wire start ⊎ HasFaulted state w
 
 -- its line got just the answers of these exchanges
 abbrev pub WireExchanged : {L : Type 0} → (L → LineState) → WireState L → List Exchange → Type 0
-WireExchanged state wire exchanges = HasGiven (told state wire.talk) (answers_of exchanges)
+WireExchanged state wire exchanges = HasGiven (told_talk state wire.talk) (answers_of exchanges)
 
 -- why one of its asks gave no answer
 abbrev pub WireCause : {L : Type 0} → (L → LineState) → PortFault → (round shard : ℕ) → List ℕ → WireState L → WireState L → Type 0
@@ -81,19 +83,19 @@ last_ask last (AskFrame round shard labels ∷ frames) = last_ask (round, shard)
 last_ask last (v ∷ frames) = last_ask last frames
 
 -- over a line that was fresh and had found so many ends: nothing failed, and no more ends were found; just these frames were sent, shards of its cut, none twice, and the asks of the exchanges; and the hello and just the answers of the exchanges were got, one for each ask that it counts
-pub record IsCalm {L : Type 0} (state : L → LineState) (ends : ℕ) (wire : WireState L) (said : List FrameValue) (exchanges : List Exchange) : Type 0 where
-  pub in_step : IsInStep (told state wire.talk) said exchanges
+pub record IsFaultless {L : Type 0} (state : L → LineState) (ends : ℕ) (wire : WireState L) (said : List FrameValue) (exchanges : List Exchange) : Type 0 where
+  pub in_step : MatchesLine (told_talk state wire.talk) said exchanges
   pub ends_are : (state wire.talk.line).ends ≡ ends
   pub asks : wire.asks ≡ length exchanges
   pub failures : wire.failures ≡ 0
   pub wants : wire.wants ≡ 0
   pub last : wire.last ≡ last_ask (0, 0) said
 
--- its last ask, the first that got no answer and behind these exchanges, ended with a fault of this kind: why, by the wire before that ask, calm and open, and the wire behind it
+-- its last ask, the first that got no answer and behind these exchanges, ended with a fault of this kind: why, by the wire before that ask, faultless and open, and the wire behind it
 pub record HasFailed {L : Type 0} (state : L → LineState) (ends : ℕ) (exchanges : List Exchange) (kind : PortFault → Type 0) (wire : WireState L) : Type 0 where
   pub before : WireState L
   pub said : List FrameValue
-  pub calm : IsCalm state ends before said exchanges
+  pub calm : IsFaultless state ends before said exchanges
   pub was_open : before.is_open ≡ true
   pub same_cut : wire.talk.cut ≡ before.talk.cut
   pub same_worker : wire.talk.worker ≡ before.talk.worker
@@ -106,14 +108,18 @@ pub record HasFailed {L : Type 0} (state : L → LineState) (ends : ℕ) (exchan
   pub failures : wire.failures ≡ failure_of fault
   pub wants : wire.wants ≡ want_of fault
 
--- over a line that had found so many ends it answered just these exchanges, and is calm, open or shut; or a fault of this kind closed it
-abbrev pub WentOn : {L : Type 0} → (L → LineState) → (PortFault → Type 0) → WireState L → ℕ → List Exchange → Type 0
-WentOn state kind wire ends exchanges = ((said : List FrameValue) × IsCalm state ends wire said exchanges) ⊎ ((wire.is_open ≡ false) × HasFailed state ends exchanges kind wire)
+-- over a line that had found so many ends it answered just these exchanges, and is faultless, open or shut; or a fault of this kind closed it
+abbrev pub IsTrueSoFar : {L : Type 0} → (L → LineState) → (PortFault → Type 0) → WireState L → ℕ → List Exchange → Type 0
+IsTrueSoFar state kind wire ends exchanges = ((said : List FrameValue) × IsFaultless state ends wire said exchanges) ⊎ ((wire.is_open ≡ false) × HasFailed state ends exchanges kind wire)
 
--- what it told is true, over a line that had found so many ends when the wire was new: it answered just these exchanges, and is calm, or a fault closed it that has its cause
+-- what it told is true, over a line that had found so many ends when the wire was new: it answered just these exchanges, and is faultless, or a fault closed it that has its cause
 abbrev pub IsSoundWire : {L : Type 0} → (L → LineState) → WireState L → ℕ → List Exchange → Type 0
-IsSoundWire state wire ends exchanges = WentOn state (λ fault. fault ≢ Closed) wire ends exchanges
+IsSoundWire state wire ends exchanges = IsTrueSoFar state (λ fault. fault ≢ Closed) wire ends exchanges
 
--- its line is faithful for its worker: it is calm, or a fault closed it that is nobody's blame. How many ends the line had found, and what was exchanged, isn't told here: who asks that has the sound wire beside it
-abbrev pub IsHonestWire : {L : Type 0} → (L → LineState) → (L → ℕ → Type 0) → WireState L → Type 0
-IsHonestWire state faithful wire = faithful wire.talk.line wire.talk.worker × ((ends : ℕ) × (exchanges : List Exchange) × WentOn state IsBlameless wire ends exchanges)
+-- its line is faithful for its worker: it is faultless, or a fault closed it that is nobody's blame. How many ends the line had found, and what was exchanged, isn't told here: who asks that has the sound wire beside it
+abbrev pub IsHonestWire : {L : Type 0} → Line.Ghosts L → WireState L → Type 0
+IsHonestWire over wire = over.faithful wire.talk.line wire.talk.worker × ((ends : ℕ) × (exchanges : List Exchange) × IsTrueSoFar over.state IsBlameless wire ends exchanges)
+
+-- what wires over such lines tell as ports
+abbrev pub wire_port : {L : Type 0} → (A : Type 0) → Line.Ghosts L → Port.Ghosts (WireState L) A
+wire_port A over = record { state = port_of; honest = IsHonestWire over; exchanged = WireExchanged over.state; sound = IsSoundWire over.state }

@@ -1,7 +1,7 @@
 //! A line to an engine in memory.
 ghost use Rattle.std.specs.Prelude.{◌≡◌, ℕ, ◌+◌, ◌-◌, ◌<◌, ◌≤◌, ◌++◌, min, length, Ok, IfOk, IsErr};
 ghost use Rattle.std.specs.Io.{ReadsAtMost};
-ghost use Rattle.ports.specs.Lines.{HasRoom, IsFresh, PutWent, GetWent};
+ghost use Rattle.ports.specs.Lines.{HasRoom, IsFresh, Puts, Gets};
 ghost use Rattle.ports.specs.EngineLines.{line_of, IsEngineLine};
 ghost use Rattle.ports.specs.LineLaws.{engine_serves};
 
@@ -82,7 +82,7 @@ impl<A: Allocator + Copy> Line for EngineLine<A> {
 
     fn put(&mut self, bytes: &[u8]) -> Result<(), LineFault>
         requires { HasRoom (line_of self.old) }
-        ensures went { PutWent result bytes.now (line_of self.old) (line_of self.new) }
+        ensures went { Puts result bytes.now (line_of self.old) (line_of self.new) }
         ensures faithful { (worker : ℕ) → IsEngineLine worker self.old → IsEngineLine worker self.new }
 
         // It fails for good.
@@ -108,7 +108,7 @@ impl<A: Allocator + Copy> Line for EngineLine<A> {
         requires can { HasRoom (line_of self.old) }
         requires room { 0 < length into.old }
         ensures bound { ReadsAtMost result into.new }
-        ensures went { GetWent result into.new (line_of self.old) (line_of self.new) }
+        ensures went { Gets result into.new (line_of self.old) (line_of self.new) }
         ensures faithful { (worker : ℕ) → IsEngineLine worker self.old → IsEngineLine worker self.new }
 
         // As many of the bytes that were written as are left and fit, until the first failure.

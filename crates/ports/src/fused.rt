@@ -1,7 +1,7 @@
 //! A line over another that fails from a chosen call or byte on, for tests.
 ghost use Rattle.std.specs.Prelude.{◌≡◌, ℕ, ◌+◌, ◌<◌, ◌≤◌, true, false, length, IfOk, OnOk, IsErr};
 ghost use Rattle.std.specs.Io.{ReadsAtMost};
-ghost use Rattle.ports.specs.Lines.{HasRoom, PutWent, GetWent};
+ghost use Rattle.ports.specs.Lines.{HasRoom, Puts, Gets};
 ghost use Rattle.ports.specs.Testing.{stops_puts, stops_gets, most_got, after_call, given_by, GotInto, with_stops};
 ghost use Rattle.ports.specs.LineLaws.{fused_serves};
 
@@ -70,7 +70,7 @@ impl<L: Line> Line for FusedLine<L> {
     fn put(&mut self, bytes: &[u8]) -> Result<(), LineFault>
         requires { HasRoom (with_stops (L.state self.old.line) self.old.stopped) }
 
-        ensures went { PutWent result bytes.now (with_stops (L.state self.old.line) self.old.stopped)
+        ensures went { Puts result bytes.now (with_stops (L.state self.old.line) self.old.stopped)
             (with_stops (L.state self.new.line) self.new.stopped) }
         ensures faithful { (worker : ℕ) → L.faithful self.old.line worker → L.faithful self.new.line worker }
 
@@ -96,7 +96,7 @@ impl<L: Line> Line for FusedLine<L> {
         requires room { 0 < length into.old }
 
         ensures bound { ReadsAtMost result into.new }
-        ensures went { GetWent result into.new (with_stops (L.state self.old.line) self.old.stopped)
+        ensures went { Gets result into.new (with_stops (L.state self.old.line) self.old.stopped)
             (with_stops (L.state self.new.line) self.new.stopped) }
         ensures faithful { (worker : ℕ) → L.faithful self.old.line worker → L.faithful self.new.line worker }
 
@@ -138,7 +138,7 @@ fn get_some<L: Line>(line: &mut L, into: &mut [u8], most: usize) -> Result<usize
     requires fits { most ≤ length into.old }
     ensures bound { ReadsAtMost result into.new }
     ensures got { GotInto most result into.old into.new (L.state line.old) (L.state line.new) }
-    ensures went { GetWent result into.new (L.state line.old) (L.state line.new) }
+    ensures went { Gets result into.new (L.state line.old) (L.state line.new) }
     ensures faithful { (worker : ℕ) → L.faithful line.old worker → L.faithful line.new worker }
 {
     line.get(&mut into[..most])

@@ -1,7 +1,7 @@
 //! A line as a source of bytes.
 ghost use Rattle.std.specs.Prelude.{ℕ, ◌<◌, length};
 ghost use Rattle.ports.specs.Lines.{HasRoom};
-ghost use Rattle.ports.specs.Hearing.{HeardFact, Lasts, source_of};
+ghost use Rattle.ports.specs.Hearing.{HeardFact, HoldsOf, source_of};
 
 use crate::line::Line;
 use byte_streams::{Failed, Source};
@@ -20,7 +20,7 @@ impl<L: Line> Source for Heard<L> {
 
     ghost Fact = { HeardFact };
 
-    ghost lasts = { λ heard. Lasts (L.state heard.line) (L.faithful heard.line) };
+    ghost lasts = { λ heard. HoldsOf (L.state heard.line) (L.faithful heard.line) };
 
     ghost can_read = { λ heard. HasRoom (L.state heard.line) };
 

@@ -1,7 +1,7 @@
 //! Lines of bytes to a worker and back.
 ghost use Rattle.std.specs.Prelude.{ℕ, ◌<◌, length};
 ghost use Rattle.std.specs.Io.{ReadsAtMost};
-ghost use Rattle.ports.specs.Lines.{LineState, HasRoom, PutWent, GetWent, ServesSoFar};
+ghost use Rattle.ports.specs.Lines.{LineState, HasRoom, Puts, Gets, ServesSoFar};
 
 use crate::fault::LineFault;
 
@@ -27,7 +27,7 @@ pub trait Line {
     /// device.
     fn put(&mut self, bytes: &[u8]) -> Result<(), LineFault>
         requires { HasRoom (state self.old) }
-        ensures went { PutWent result bytes.now (state self.old) (state self.new) }
+        ensures went { Puts result bytes.now (state self.old) (state self.new) }
         ensures faithful { (worker : ℕ) → faithful self.old worker → faithful self.new worker };
 
     /// Gets some bytes to the beginning of `into`, waits for the first of them, and answers how many. 0 is
@@ -39,7 +39,7 @@ pub trait Line {
         requires can { HasRoom (state self.old) }
         requires room { 0 < length into.old }
         ensures bound { ReadsAtMost result into.new }
-        ensures went { GetWent result into.new (state self.old) (state self.new) }
+        ensures went { Gets result into.new (state self.old) (state self.new) }
         ensures faithful { (worker : ℕ) → faithful self.old worker → faithful self.new worker };
 
     // What a faithful line got, as far as it tells it, begins what the worker may write.

@@ -3,7 +3,7 @@ ghost use Rattle.std.specs.Prelude.{◌≡◌, ℕ, ◌+◌, ◌-◌, ◌<◌, �
 ghost use Rattle.link_key.specs.Link.{EndsUpTo};
 ghost use Rattle.link_key.specs.Cut.{links_at};
 ghost use Rattle.ports.specs.Exchanges.{Exchange, exchange_of};
-ghost use Rattle.ports.specs.Ports.{PortState, PortWent, AskWent, IsHonestAnswer};
+ghost use Rattle.ports.specs.Ports.{PortState, CountsAsks, AnswersAsk, IsHonestAnswer};
 
 use crate::fault::PortFault;
 use frames::Answer;
@@ -47,7 +47,7 @@ pub trait Port<A: Allocator> {
         requires ends { EndsUpTo (length labels.now) (links_at (state self.old).cut shard) }
         requires room { (state self.old).asks < 2 ^ 64 - 1 }
 
-        ensures went { AskWent result round shard (state self.old) (state self.new) }
+        ensures went { AnswersAsk result round shard (state self.old) (state self.new) }
         ensures honest_answer { IfOk result
             (λ a. honest self.old → IsHonestAnswer (state self.old).cut round shard labels.now a) }
 
@@ -66,7 +66,7 @@ pub trait Port<A: Allocator> {
     /// Closes it for good. It waits for nothing, and takes no memory.
     fn shut(&mut self)
         ensures shut { (state self.new).is_open ≡ false }
-        ensures went { PortWent 0 0 0 (state self.old) (state self.new) }
+        ensures went { CountsAsks 0 0 0 (state self.old) (state self.new) }
         ensures exchanged { (exchanges : List Exchange) → exchanged self.old exchanges → exchanged self.new exchanges }
         ensures honest { honest self.old → honest self.new }
         ensures sound { (ends : ℕ) (exchanges : List Exchange) → sound self.old ends exchanges

@@ -1,8 +1,8 @@
 //! A line that plays stored bytes, for tests.
 ghost use Rattle.std.specs.Prelude.{◌≡◌, ℕ, ◌+◌, ◌<◌, ◌≤◌, min, length, Ok, IsOk, vec_len};
 ghost use Rattle.std.specs.Io.{ReadsAtMost};
-ghost use Rattle.ports.specs.Lines.{HasRoom, PutWent, GetWent};
-ghost use Rattle.ports.specs.Testing.{fresh_script, played, after_get};
+ghost use Rattle.ports.specs.Lines.{HasRoom, Puts, Gets};
+ghost use Rattle.ports.specs.Testing.{fresh_script, line_of_script, after_get};
 
 use crate::fault::LineFault;
 use crate::line::Line;
@@ -45,13 +45,13 @@ impl<A: Allocator> ScriptLine<A> {
 }
 
 impl<A: Allocator> Line for ScriptLine<A> {
-    ghost state = { λ s. played s };
+    ghost state = { λ s. line_of_script s };
 
     ghost faithful = { λ _ _. ⊥ };
 
     fn put(&mut self, _bytes: &[u8]) -> Result<(), LineFault>
-        requires { HasRoom (played self.old) }
-        ensures went { PutWent result _bytes.now (played self.old) (played self.new) }
+        requires { HasRoom (line_of_script self.old) }
+        ensures went { Puts result _bytes.now (line_of_script self.old) (line_of_script self.new) }
         ensures faithful { ℕ → ⊥ → ⊥ }
         ensures passes { IsOk result }
         ensures unchanged { self.new ≡ self.old }
@@ -60,10 +60,10 @@ impl<A: Allocator> Line for ScriptLine<A> {
     }
 
     fn get(&mut self, into: &mut [u8]) -> Result<usize, LineFault>
-        requires can { HasRoom (played self.old) }
+        requires can { HasRoom (line_of_script self.old) }
         requires room { 0 < length into.old }
         ensures bound { ReadsAtMost result into.new }
-        ensures went { GetWent result into.new (played self.old) (played self.new) }
+        ensures went { Gets result into.new (line_of_script self.old) (line_of_script self.new) }
         ensures faithful { ℕ → ⊥ → ⊥ }
 
         // As many bytes as are left and fit.

@@ -7,7 +7,7 @@ ghost use Rattle.frames.specs.FrameStream.{texts_of, AreLawful, BeginsNone, IsTe
 ghost use Rattle.frames.specs.Refusals.{StreamRefused};
 ghost use Rattle.worker_engine.specs.Serving.{shelf_of, shelf_with, MayFollow, replies_in};
 ghost use Rattle.ports.specs.Causes.{IsGarble};
-ghost use Rattle.ports.specs.EngineLines.{unheard, GoesOn, IsOver, Grew};
+ghost use Rattle.ports.specs.EngineLines.{rest_of, GoesOn, IsOver, Extends};
 
 use frames::{Frame, FrameFault, encode, read_frame};
 use std::alloc::{AllocError, Allocator};
@@ -39,9 +39,9 @@ impl<A: Allocator + Copy> Session<A> {
     // More bytes come. Once the session is over nothing more is heard.
     pub fn take_in(&mut self, bytes: &[u8], over: bool) -> Result<bool, AllocError>
         ensures input { OnOk result (self.new.input ≡ self.old.input ++ bytes.now) }
-        ensures grew { Grew self.old.written self.new.written }
+        ensures grew { Extends self.old.written self.new.written }
         ensures session { OnOk result (GoesOn self.old self.new) }
-        ensures all { OnOk result (IsOver over self.old → BeginsNone (unheard self.new)) }
+        ensures all { OnOk result (IsOver over self.old → BeginsNone (rest_of self.new)) }
         ensures over { IfOk result (λ over_now. IsOver over self.old → IsOver over_now self.new) }
     {
         self.input.extend_from_slice(bytes)?;
@@ -54,9 +54,9 @@ impl<A: Allocator + Copy> Session<A> {
     // Hears all frames that came, and tells whether what is left is refused whatever follows it.
     fn hear_all(&mut self) -> Result<bool, AllocError>
         ensures input { self.new.input ≡ self.old.input }
-        ensures grew { Grew self.old.written self.new.written }
+        ensures grew { Extends self.old.written self.new.written }
         ensures session { OnOk result (GoesOn self.old self.new) }
-        ensures all { OnOk result (BeginsNone (unheard self.new)) }
+        ensures all { OnOk result (BeginsNone (rest_of self.new)) }
         ensures over { IfOk result (λ over. IsOver over self.new) }
     {
         loop {
@@ -128,7 +128,7 @@ fn write_reply<A: Allocator + Copy>(
 ) -> Result<(), AllocError>
     requires { AreLawful (replies_in reply) }
     ensures wrote { OnOk result (out.new.items ≡ out.old.items ++ texts_of (replies_in reply)) }
-    ensures grew { Grew out.old.items out.new.items }
+    ensures grew { Extends out.old.items out.new.items }
 {
     match reply {
         None => Ok(()),

@@ -5,9 +5,9 @@ ghost use Rattle.frames.specs.FrameText.{text_of};
 ghost use Rattle.frames.specs.Lawful.{IsAnswer, IsLawful};
 ghost use Rattle.frames.specs.FrameStream.{texts_of};
 ghost use Rattle.shard_set.specs.Shards.{has_shard};
-ghost use Rattle.ports.specs.Lines.{HasRoom, Went};
-ghost use Rattle.ports.specs.Causes.{Came, GreetingFault, SendingFault, AnswerFault, ReadBroke, port_fault};
-ghost use Rattle.ports.specs.Talking.{hello_once, shard_once};
+ghost use Rattle.ports.specs.Lines.{HasRoom, Transfers};
+ghost use Rattle.ports.specs.Causes.{Receives, GreetingFault, SendingFault, AnswerFault, FailsToRead, port_fault};
+ghost use Rattle.ports.specs.Talking.{hello_due, shard_due};
 
 use crate::fault::PortFault;
 use crate::heard::Heard;
@@ -27,7 +27,7 @@ pub fn greet<L: Line, A: Allocator + Copy>(
 ) -> Result<(), PortFault>
     requires { HasRoom (L.state heard.old.line) }
     ensures went { OnOk result
-        (Came (hello_once greeted worker) (L.state heard.old.line) (L.state heard.new.line)) }
+        (Receives (hello_due greeted worker) (L.state heard.old.line) (L.state heard.new.line)) }
     ensures fault { IfErr result (λ e. (greeted ≡ Bool.false)
         × GreetingFault e worker (L.state heard.old.line) (L.state heard.new.line)) }
     ensures faithful { (w : ℕ) → L.faithful heard.old.line w → L.faithful heard.new.line w }
@@ -63,8 +63,8 @@ pub fn send_shard<L: Line, A: Allocator + Copy>(
     requires can { HasRoom (L.state heard.old.line) }
     requires number { part.now.number < MAX_SHARDS }
     requires count { length part.now.links.now ≤ MAX_SHARD_LINKS }
-    ensures went { OnOk result (Went 0 0
-        (texts_of (shard_once (has_shard sent.old part.now.number) part.now.number part.now.links.now)) []
+    ensures went { OnOk result (Transfers 0 0
+        (texts_of (shard_due (has_shard sent.old part.now.number) part.now.number part.now.links.now)) []
         (L.state heard.old.line) (L.state heard.new.line)) }
     ensures sent { OnOk result ((s : ℕ)
         → has_shard sent.new s ≡ (s == part.now.number || has_shard sent.old s)) }
@@ -91,7 +91,7 @@ pub fn send_ask<L: Line, A: Allocator + Copy>(
 ) -> Result<(), PortFault>
     requires can { HasRoom (L.state heard.old.line) }
     requires shard { shard < MAX_SHARDS }
-    ensures went { OnOk result (Went 0 0 (text_of (AskFrame round shard labels.now)) []
+    ensures went { OnOk result (Transfers 0 0 (text_of (AskFrame round shard labels.now)) []
         (L.state heard.old.line) (L.state heard.new.line)) }
     ensures fault { IfErr result
         (λ e. SendingFault e (L.state heard.old.line) (L.state heard.new.line)) }
@@ -108,7 +108,7 @@ pub fn hear_answer<L: Line, A: Allocator + Copy>(
 ) -> Result<Answer<A>, PortFault>
     requires { HasRoom (L.state heard.old.line) }
     ensures went { IfOk result (λ a.
-        Came (text_of (AnswerFrame a)) (L.state heard.old.line) (L.state heard.new.line)) }
+        Receives (text_of (AnswerFrame a)) (L.state heard.old.line) (L.state heard.new.line)) }
     ensures lawful { IfOk result (λ a. IsAnswer a) }
     ensures fault { IfErr result
         (λ e. AnswerFault e (L.state heard.old.line) (L.state heard.new.line)) }
@@ -135,10 +135,10 @@ fn hear<L: Line, A: Allocator + Copy>(
 ) -> Result<Frame<A>, FrameFault>
     requires { HasRoom (L.state heard.old.line) }
     ensures went { IfOk result (λ f.
-        Came (text_of (value_of f)) (L.state heard.old.line) (L.state heard.new.line)) }
+        Receives (text_of (value_of f)) (L.state heard.old.line) (L.state heard.new.line)) }
     ensures lawful { IfOk result (λ f. IsLawful (value_of f)) }
     ensures broke { IfErr result
-        (λ fault. ReadBroke fault (L.state heard.old.line) (L.state heard.new.line)) }
+        (λ fault. FailsToRead fault (L.state heard.old.line) (L.state heard.new.line)) }
     ensures faithful { (w : ℕ) → L.faithful heard.old.line w → L.faithful heard.new.line w }
 {
     read_frame(alloc, heard)
@@ -148,7 +148,7 @@ fn hear<L: Line, A: Allocator + Copy>(
 fn send<L: Line>(heard: &mut Heard<L>, bytes: &[u8]) -> Result<(), PortFault>
     requires { HasRoom (L.state heard.old.line) }
     ensures went { OnOk result
-        (Went 0 0 bytes.now [] (L.state heard.old.line) (L.state heard.new.line)) }
+        (Transfers 0 0 bytes.now [] (L.state heard.old.line) (L.state heard.new.line)) }
     ensures fault { IfErr result
         (λ e. SendingFault e (L.state heard.old.line) (L.state heard.new.line)) }
     ensures faithful { (w : ℕ) → L.faithful heard.old.line w → L.faithful heard.new.line w }

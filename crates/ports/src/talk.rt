@@ -4,7 +4,7 @@ ghost use Rattle.frames.specs.Lawful.{IsShard, IsAsk};
 ghost use Rattle.link_key.specs.Cut.{links_at};
 ghost use Rattle.ports.specs.Lines.{HasRoom};
 ghost use Rattle.ports.specs.Causes.{Cause};
-ghost use Rattle.ports.specs.Talking.{Asked};
+ghost use Rattle.ports.specs.Talking.{AnswersOverLine};
 
 use crate::fault::PortFault;
 use crate::heard::Heard;
@@ -48,7 +48,7 @@ impl<'a, L: Line, A: Allocator + Copy> Talk<'a, L, A> {
         requires can { HasRoom (L.state self.old.line) }
         requires shard { shard < length self.old.cut }
         ensures asked { IfOk result
-            (λ a. Asked L.state round shard labels.now a self.old self.new) }
+            (λ a. AnswersOverLine L.state round shard labels.now a self.old self.new) }
         ensures cause { IfErr result
             (λ e. Cause L.state e round shard labels.now self.old self.new) }
         ensures cut { self.new.cut ≡ self.old.cut }

@@ -2,11 +2,11 @@
 ghost use Rattle.std.specs.Prelude.{◌≡◌, ℕ, ◌+◌, ◌-◌, ◌<◌, ◌≤◌, ◌^◌, true, false, List, [], ◌∷◌, ◌++◌, length, IfOk, IfErr, OnErr};
 ghost use Rattle.link_key.specs.Link.{EndsUpTo};
 ghost use Rattle.link_key.specs.Cut.{links_at};
-ghost use Rattle.ports.specs.Lines.{LineState, HasRoom, IsFresh, Tells, ServesSoFar};
+ghost use Rattle.ports.specs.Lines.{LineState, HasRoom, IsFresh, TellsBytes, ServesSoFar};
 ghost use Rattle.ports.specs.Exchanges.{Exchange, exchange_of};
-ghost use Rattle.ports.specs.Ports.{PortWent, AskWent, IsHonestAnswer, failure_of, want_of};
+ghost use Rattle.ports.specs.Ports.{CountsAsks, AnswersAsk, IsHonestAnswer, failure_of, want_of};
 ghost use Rattle.ports.specs.Causes.{IsBlameless};
-ghost use Rattle.ports.specs.Talking.{Asked};
+ghost use Rattle.ports.specs.Talking.{AnswersOverLine};
 ghost use Rattle.ports.specs.Wires.{port_of, IsNewWire, IsCountedWire, IsSoundWire, IsHonestWire, WireExchanged, WireCause};
 
 use crate::fault::PortFault;
@@ -60,10 +60,10 @@ impl<'a, L: Line, A: Allocator + Copy> Wire<'a, L, A> {
         ensures counted { IsCountedWire L.state result (L.state line) }
 
         // Over a fresh line that tells its bytes it is sound, and over one that is faithful for the worker honest.
-        ensures sound { IsFresh (L.state line) → Tells (L.state line)
+        ensures sound { IsFresh (L.state line) → TellsBytes (L.state line)
             → IsSoundWire L.state result (L.state line).ends [] }
-        ensures honest { IsFresh (L.state line) → Tells (L.state line) → L.faithful line worker
-            → IsHonestWire L.state L.faithful result }
+        ensures honest { IsFresh (L.state line) → TellsBytes (L.state line) → L.faithful line worker
+            → IsHonestWire L.Line result }
     {
         Wire {
             talk: Talk {
@@ -97,7 +97,7 @@ impl<'a, L: Line, A: Allocator + Copy> Wire<'a, L, A> {
 impl<'a, L: Line, A: Allocator + Copy> Port<A> for Wire<'a, L, A> {
     ghost state = { λ w. port_of w };
 
-    ghost honest = { λ w. IsHonestWire L.state L.faithful w };
+    ghost honest = { λ w. IsHonestWire L.Line w };
 
     ghost exchanged = { λ w. WireExchanged L.state w };
 
@@ -109,21 +109,21 @@ impl<'a, L: Line, A: Allocator + Copy> Port<A> for Wire<'a, L, A> {
         requires ends { EndsUpTo (length labels.now) (links_at self.old.talk.cut shard) }
         requires room { self.old.asks < 2 ^ 64 - 1 }
 
-        ensures went { AskWent result round shard (port_of self.old) (port_of self.new) }
-        ensures honest_answer { IfOk result (λ a. IsHonestWire L.state L.faithful self.old
+        ensures went { AnswersAsk result round shard (port_of self.old) (port_of self.new) }
+        ensures honest_answer { IfOk result (λ a. IsHonestWire L.Line self.old
             → IsHonestAnswer self.old.talk.cut round shard labels.now a) }
         ensures exchanged { IfOk result (λ a. (before : List Exchange) → WireExchanged L.state self.old before
             → WireExchanged L.state self.new (before ++ exchange_of round shard labels.now a ∷ [])) }
         ensures silent { self.old.is_open ≡ false → (exchanges : List Exchange)
             → WireExchanged L.state self.old exchanges → WireExchanged L.state self.new exchanges }
-        ensures honest { IsHonestWire L.state L.faithful self.old → IsHonestWire L.state L.faithful self.new }
+        ensures honest { IsHonestWire L.Line self.old → IsHonestWire L.Line self.new }
         ensures sound { IfOk result (λ a. (ends : ℕ) (before : List Exchange) → IsSoundWire L.state self.old ends before
             → IsSoundWire L.state self.new ends (before ++ exchange_of round shard labels.now a ∷ [])) }
         ensures sound_fault { OnErr result ((ends : ℕ) (exchanges : List Exchange)
             → IsSoundWire L.state self.old ends exchanges → IsSoundWire L.state self.new ends exchanges) }
 
         // An answer: which frames were sent for it, which bytes came behind them, and which shards are sent by now.
-        ensures asked { IfOk result (λ a. Asked L.state round shard labels.now a self.old.talk self.new.talk) }
+        ensures asked { IfOk result (λ a. AnswersOverLine L.state round shard labels.now a self.old.talk self.new.talk) }
 
         // Over a line that tells its bytes, known to be faithful or not: where what came by now begins what the
         // worker may write, the answer is honest.
@@ -143,7 +143,7 @@ impl<'a, L: Line, A: Allocator + Copy> Port<A> for Wire<'a, L, A> {
         ensures closed { self.old.is_open ≡ false → self.new ≡ self.old }
 
         // Over a faithful line: never garbled, no wrong hello, and no fault of the worker but want of memory.
-        ensures blameless { IfErr result (λ e. IsHonestWire L.state L.faithful self.old → IsBlameless e) }
+        ensures blameless { IfErr result (λ e. IsHonestWire L.Line self.old → IsBlameless e) }
     {
         if !self.is_open {
             return Err(PortFault::Closed);
@@ -164,10 +164,10 @@ impl<'a, L: Line, A: Allocator + Copy> Port<A> for Wire<'a, L, A> {
 
     fn shut(&mut self)
         ensures shut { self.new.is_open ≡ false }
-        ensures went { PortWent 0 0 0 (port_of self.old) (port_of self.new) }
+        ensures went { CountsAsks 0 0 0 (port_of self.old) (port_of self.new) }
         ensures exchanged { (exchanges : List Exchange)
             → WireExchanged L.state self.old exchanges → WireExchanged L.state self.new exchanges }
-        ensures honest { IsHonestWire L.state L.faithful self.old → IsHonestWire L.state L.faithful self.new }
+        ensures honest { IsHonestWire L.Line self.old → IsHonestWire L.Line self.new }
         ensures sound { (ends : ℕ) (exchanges : List Exchange)
             → IsSoundWire L.state self.old ends exchanges → IsSoundWire L.state self.new ends exchanges }
 

@@ -1,5 +1,6 @@
 -- What a line over a connection tells.
 use Rattle.std.specs.Prelude.{ℕ, None}
+use Rattle.ports.specs.declared.line.Line as Line
 use Rattle.ports.specs.Lines.{LineState}
 
 -- how many calls failed, and how many gets found the end
@@ -14,3 +15,7 @@ unused = record { failures = 0; ends = 0 }
 -- it tells nothing of its bytes
 abbrev pub line_of : TcpLineState → LineState
 line_of line = record { sent = None; got = None; failures = line.failures; ends = line.ends }
+
+-- as a line, which no contract knows to be faithful
+abbrev pub tcp_line : Line.Ghosts TcpLineState
+tcp_line = record { state = line_of; faithful = λ line worker. ⊥ }

@@ -1,16 +1,5 @@
-//! Lines to workers over TCP on this machine, and the threads of these workers.
-//!
-//! What is promised here:
-//!
-//! - A [`TcpLine`] counts each failure that it answers and each end, 0 at first. What a socket took and gave is
-//!   for the system to say, so it tells nothing of its bytes, and it is never known to be faithful.
-//! - [`Workers::start`] gives at most as many lines as were asked for, unused ones, and there are just as many
-//!   threads.
-//!
-//! Tests alone show that a call fails only where its stream did, that what one end writes the other reads, that
-//! [`pair`] tells a stranger, and that the worker at the far end of the line at a place has that place for its
-//! number. Of that number clauses say only that it is below [`limits::MAX_WORKERS`]: a session shows it to its stream
-//! alone, and a socket tells nothing of what it was given.
+//! Lines to workers over TCP on this machine, and the threads of these workers. A worker's thread ends once the near
+//! end of its stream is closed: drop the lines, and then call [`Workers::join`].
 //!
 //! ```text
 //!   Workers::start ── for each worker a listener on 127.0.0.1, and over it
@@ -20,8 +9,13 @@
 //!             lines, in order                       worker_engine::serve
 //! ```
 //!
-//! A worker's thread ends once the near end of its stream is closed: drop the lines, and then call
-//! [`Workers::join`].
+//! What it promises:
+//! - A [`TcpLine`] counts each failure that it answers and each end, 0 at first. What a socket took and gave is for the
+//!   system to say, so it tells nothing of its bytes, and it is never known to be faithful.
+//! - [`Workers::start`] gives at most as many lines as were asked for, unused ones, and there are just as many threads.
+//! - Tests alone show that a call fails only where its stream did, that what one end writes the other reads, that
+//!   [`pair`] tells a stranger, and that the worker of the line at a place has that place for its number; clauses say
+//!   of it only that it is below [`limits::MAX_WORKERS`].
 //!
 //! Where to start a change: `line` for what a line does, `pairs` for how a connection is made, `workers` for the
 //! threads and the numbers of workers.

@@ -1,7 +1,7 @@
 //! A line over a connection.
 ghost use Rattle.std.specs.Prelude.{◌≡◌, length};
 ghost use Rattle.std.specs.Io.{ReadsAtMost};
-ghost use Rattle.ports.specs.Lines.{HasRoom, PutWent, GetWent};
+ghost use Rattle.ports.specs.Lines.{HasRoom, Puts, Gets};
 ghost use Rattle.tcp_lines.specs.Lines.{line_of, unused};
 
 use byte_streams::{Source, put};

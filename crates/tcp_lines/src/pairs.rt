@@ -7,7 +7,7 @@ use std::net::{Net, TcpListener, TcpStream};
 use std::time::Duration;
 use thiserror::Error;
 
-// A listener of this machine answers at once, unless strangers have filled its queue: then no wait ends well.
+// A listener of this machine answers at once, unless strangers have filled its queue: then waiting longer seldom helps.
 const PATIENCE_SECONDS: u64 = 1;
 
 /// Why there is no pair.
@@ -19,8 +19,8 @@ pub enum PairFault {
     /// No connection could be accepted, or it not be set up.
     #[error("cannot accept")]
     NoAccept,
-    /// The connection that was accepted isn't the one just made: somebody else connected before. The one just
-    /// made is still due to be accepted, though closed, so each later pair of this listener finds a stranger too.
+    /// The connection that was accepted isn't the one just made: somebody else connected before. The one just made is
+    /// still due to be accepted, though closed, so each later pair of this listener is likely to find a stranger too.
     #[error("a stranger connected")]
     Stranger,
 }

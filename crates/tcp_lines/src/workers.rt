@@ -71,7 +71,7 @@ impl Workers {
 }
 
 // A pair over a listener of its own, which only this machine can connect to: it is open from just before its connect
-// until the pair is made, so that nobody else has the time to fill its queue, and a stranger costs one worker alone.
+// until the pair is made, so that others have little time to fill its queue, and a stranger costs one worker alone.
 fn own_pair<R: Net<Listener = TcpListener, Stream = TcpStream>>(
     rt: &R,
 ) -> Option<(TcpLine, TcpStream)>

@@ -2,20 +2,20 @@ use Rattle.boruvka.proofs.Endings.{over_lines, bound_lines, silent_lines, blamel
 use Rattle.boruvka.proofs.command.run_over.Goals as goal
 
 pub returns-clause-ends : goal.returns-clause-ends
-returns-clause-ends g c = over_lines _ _ _ _ _ _ _ _ _ c.run_lines.result c.without_lines-ended.ensures c.tell_end.ensures.status c.tell_end.ensures.reported
+returns-clause-ends g c = over_lines _ _ _ _ _ _ _ _ c.run_lines.result c.without_lines-ended.ensures c.tell_end.ensures.status c.tell_end.ensures.reported
     c.run_lines.ensures.ran c.run_lines.ensures.malformed c.run_lines.ensures.lawful c.run_lines.ensures.served c.run_lines.ensures.ends_well
 
 pub returns-clause-status : goal.returns-clause-status
-returns-clause-status g c = bound_lines _ _ _ _ _ _ _ _ (returns-clause-ends g c)
+returns-clause-status g c = bound_lines _ _ _ _ _ _ _ (returns-clause-ends g c)
 
 pub returns-clause-silent : goal.returns-clause-silent
-returns-clause-silent g c = silent_lines _ _ _ _ _ _ _ _ (returns-clause-ends g c)
+returns-clause-silent g c = silent_lines _ _ _ _ _ _ _ (returns-clause-ends g c)
 
 pub returns-clause-malformed : goal.returns-clause-malformed
-returns-clause-malformed g c = refused_lines _ _ _ _ _ _ _ _ (returns-clause-ends g c)
+returns-clause-malformed g c = refused_lines _ _ _ _ _ _ _ (returns-clause-ends g c)
 
 pub returns-clause-blameless : goal.returns-clause-blameless
-returns-clause-blameless g c = blameless_lines _ _ _ _ _ _ _ _ (returns-clause-ends g c)
+returns-clause-blameless g c = blameless_lines _ _ _ _ _ _ _ (returns-clause-ends g c)
 
 pub returns-clause-done : goal.returns-clause-done
-returns-clause-done g c = done_lines _ _ _ _ _ _ _ _ (returns-clause-ends g c)
+returns-clause-done g c = done_lines _ _ _ _ _ _ _ (returns-clause-ends g c)

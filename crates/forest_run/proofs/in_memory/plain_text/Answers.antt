@@ -22,7 +22,7 @@ returns-in_err-run_plain-clause-lawful g c =
 
 pub returns-clause-text : goal.returns-clause-text
 returns-clause-text g c =
-    text_in_memory (λ graph forest. IsPlainReport graph c.in_ok-run_plain.field-0) c.args.bytes.now _ _ _ (tells_held (Some c.new-text.result.items))
+    text_in_memory (λ graph forest. IsPlainReport graph forest c.in_ok-run_plain.field-0) c.args.bytes.now _ _ _ (tells_held (Some c.new-text.result.items))
     (tells_held (Some c.run_plain.new.sink.items)) refl (ap (λ (l : List ℕ). Some l) (search rules)) refl c.in_ok-run_plain.ensures.ran
 
 pub returns-clause-malformed : goal.returns-clause-malformed

@@ -2,9 +2,8 @@ use Rattle.std.proofs.Common.{◌∙◌, Vec, Ok, Err, ap, length}
 use Rattle.link_key.specs.Link.{EndsUpTo}
 use Rattle.link_key.specs.Cut.{joined}
 use Rattle.forest_run.specs.Cuttings.{IsCutOf}
-use Rattle.forest_run.specs.WiredLines.{LinesSolved}
-use Rattle.forest_run.specs.Outcomes.{IsLeast}
-use Rattle.forest_run.specs.LinesRun.{IsSpanning}
+use Rattle.forest_run.specs.WiredLines.{FindsOverLines}
+use Rattle.forest_run.specs.Outcomes.{IsSpanning, IsLeast}
 use Rattle.forest_run.proofs.Telling.{reads_the_file, first_of_failed, no_fault_of_lawful}
 use Rattle.forest_run.proofs.PlainRunning.{done}
 use Rattle.forest_run.proofs.LinesRunning.{had_setback, shards_ends, few_enough, same_length, spanning, few_links, least, lines_went, served_report, cut_unsolved, cut_served, solve_unsolved, solve_served, cut_unhindered, lines_broken_off, served_broken_off}
@@ -28,7 +27,7 @@ returns-in-Err-clause-ends_well g c = λ served bytes graph file means allowed.
 
 pub returns-in-Err-cut_links-clause-ran : goal.returns-in-Err-cut_links-clause-ran
 returns-in-Err-cut_links-clause-ran g c =
-    cut_unsolved g.L.Line.state g.L.Line.faithful c.args.cutting c.args.lines.items c.in-Ok.graph _ _ _ c.in-Ok.ensures.outcome c.in-Err-cut_links.fault
+    cut_unsolved g.row.A.Denot g.L.Line c.args.cutting c.args.lines.items c.in-Ok.graph _ _ _ c.in-Ok.ensures.outcome c.in-Err-cut_links.fault
     (rw c.links.ensures.links at c.in-Err-cut_links.ensures.refused)
 
 pub returns-in-Err-cut_links-clause-served : goal.returns-in-Err-cut_links-clause-served
@@ -55,14 +54,14 @@ solve_lines-requires-clause-ends g c κs within =
 pub returns-in-Err-solve_lines-clause-ran : goal.returns-in-Err-solve_lines-clause-ran
 returns-in-Err-solve_lines-clause-ran g c =
     let cut : IsCutOf c.args.cutting c.in-Ok.graph.links c.in-Ok-cut_links.cut = rw c.links.ensures.links at c.in-Ok-cut_links.ensures.cut in
-    rw c.run_fault.ensures
-    (solve_unsolved g.L.Line.state g.L.Line.faithful c.args.cutting c.args.lines.items c.in-Ok.graph _ _ _ c.in-Ok.ensures.outcome g.row.A.Denot c.in-Ok-cut_links.cut cut c.in-Err-solve_lines.fault
+    rw c.from.ensures
+    (solve_unsolved g.row.A.Denot g.L.Line c.args.cutting c.args.lines.items c.in-Ok.graph _ _ _ c.in-Ok.ensures.outcome c.in-Ok-cut_links.cut cut c.in-Err-solve_lines.fault
     (rw c.n.ensures.vertices at c.in-Err-solve_lines.ensures.fault))
 
 pub returns-in-Err-solve_lines-clause-served : goal.returns-in-Err-solve_lines-clause-served
 returns-in-Err-solve_lines-clause-served g c = λ served.
     let cut : IsCutOf c.args.cutting c.in-Ok.graph.links c.in-Ok-cut_links.cut = rw c.links.ensures.links at c.in-Ok-cut_links.ensures.cut in
-    rw c.run_fault.ensures
+    rw c.from.ensures
     (solve_served c.args.cutting c.in-Ok.graph _ _ _ c.in-Ok.ensures.outcome (Vec g.row.L.Denot g.row.A.Denot) c.in-Ok-cut_links.cut cut c.in-Err-solve_lines.fault (c.in-Err-solve_lines.ensures.served served))
 
 pub returns-in-Err-solve_lines-clause-malformed : goal.returns-in-Err-solve_lines-clause-malformed
@@ -75,21 +74,21 @@ pub returns-in-Ok-write_forest-clause-ran : goal.returns-in-Ok-write_forest-clau
 returns-in-Ok-write_forest-clause-ran g c =
     let solved = c.in-Ok-solve_lines.solved in
     let cut : IsCutOf c.args.cutting c.in-Ok.graph.links c.in-Ok-cut_links.cut = rw c.links.ensures.links at c.in-Ok-cut_links.ensures.cut in
-    let went : LinesSolved g.L.Line.state g.L.Line.faithful c.in-Ok.graph.vertices c.in-Ok-cut_links.cut c.args.lines.items solved.2.items solved.0 solved.1 = rw c.n.ensures.vertices at c.in-Ok-solve_lines.ensures.went in
+    let went : FindsOverLines g.row.A.Denot g.L.Line c.in-Ok.graph.vertices c.in-Ok-cut_links.cut c.args.lines.items solved.2.items solved.0 solved.1 = rw c.n.ensures.vertices at c.in-Ok-solve_lines.ensures.went in
     done IsSpanning _ c.in-Ok.graph solved.0 c.n-2.result _ _ _ _ c.in-Ok.ensures.outcome
-    (spanning g.L.Line.state g.L.Line.faithful c.in-Ok.graph.vertices c.in-Ok-cut_links.cut c.in-Ok.graph.links cut.whole c.args.lines.items solved.2.items solved.0 solved.1 went) c.n-2.ensures.vertices
+    (spanning g.L.Line c.in-Ok.graph.vertices c.in-Ok-cut_links.cut c.in-Ok.graph.links cut.whole c.args.lines.items solved.2.items solved.0 solved.1 went) c.n-2.ensures.vertices
     (c.in-Ok-write_forest.ensures.whole)
-    (lines_went g.L.Line.state g.L.Line.faithful c.args.cutting c.in-Ok.graph c.in-Ok-cut_links.cut cut c.args.lines.items solved.2.items solved.0 solved.1 went)
+    (lines_went g.L.Line c.args.cutting c.in-Ok.graph c.in-Ok-cut_links.cut cut c.args.lines.items solved.2.items solved.0 solved.1 went)
 
 pub returns-in-Ok-write_forest-clause-served : goal.returns-in-Ok-write_forest-clause-served
 returns-in-Ok-write_forest-clause-served g c = λ served.
     let solved = c.in-Ok-solve_lines.solved in
     let cut : IsCutOf c.args.cutting c.in-Ok.graph.links c.in-Ok-cut_links.cut = rw c.links.ensures.links at c.in-Ok-cut_links.ensures.cut in
-    let went : LinesSolved g.L.Line.state g.L.Line.faithful c.in-Ok.graph.vertices c.in-Ok-cut_links.cut c.args.lines.items solved.2.items solved.0 solved.1 = rw c.n.ensures.vertices at c.in-Ok-solve_lines.ensures.went in
+    let went : FindsOverLines g.row.A.Denot g.L.Line c.in-Ok.graph.vertices c.in-Ok-cut_links.cut c.args.lines.items solved.2.items solved.0 solved.1 = rw c.n.ensures.vertices at c.in-Ok-solve_lines.ensures.went in
     done IsLeast _ c.in-Ok.graph solved.0 c.n-2.result _ _ _ _ c.in-Ok.ensures.outcome
-    (least g.L.Line.state g.L.Line.faithful c.in-Ok.graph.vertices c.in-Ok-cut_links.cut c.in-Ok.graph.links cut.whole c.args.lines.items solved.2.items solved.0 solved.1 went served) c.n-2.ensures.vertices
+    (least g.L.Line c.in-Ok.graph.vertices c.in-Ok-cut_links.cut c.in-Ok.graph.links cut.whole c.args.lines.items solved.2.items solved.0 solved.1 went served) c.n-2.ensures.vertices
     (c.in-Ok-write_forest.ensures.whole)
-    (served_report g.L.Line.state g.L.Line.faithful c.args.cutting c.in-Ok.graph c.in-Ok-cut_links.cut cut c.args.lines.items solved.2.items solved.0 solved.1 went served)
+    (served_report g.L.Line c.args.cutting c.in-Ok.graph c.in-Ok-cut_links.cut cut c.args.lines.items solved.2.items solved.0 solved.1 went served)
 
 pub returns-in-Ok-write_forest-clause-malformed : goal.returns-in-Ok-write_forest-clause-malformed
 returns-in-Ok-write_forest-clause-malformed g c = λ bytes file nothing.
@@ -101,23 +100,23 @@ pub returns-clause-ran : goal.returns-clause-ran
 returns-clause-ran g c =
     let solved = c.in-Ok-solve_lines.solved in
     let cut : IsCutOf c.args.cutting c.in-Ok.graph.links c.in-Ok-cut_links.cut = rw c.links.ensures.links at c.in-Ok-cut_links.ensures.cut in
-    let went : LinesSolved g.L.Line.state g.L.Line.faithful c.in-Ok.graph.vertices c.in-Ok-cut_links.cut c.args.lines.items solved.2.items solved.0 solved.1 = rw c.n.ensures.vertices at c.in-Ok-solve_lines.ensures.went in
-    let few = few_links g.L.Line.state g.L.Line.faithful c.in-Ok.graph.vertices c.in-Ok-cut_links.cut c.in-Ok.graph.links cut.whole c.args.lines.items solved.2.items solved.0 solved.1 went in
-    lines_broken_off g.L.Line.state g.L.Line.faithful c.args.cutting c.in-Ok.graph c.args.lines.items solved.0 solved.1 solved.2 _ c.n-2.result _ _ _ _ c.in-Ok.ensures.outcome
-    (spanning g.L.Line.state g.L.Line.faithful c.in-Ok.graph.vertices c.in-Ok-cut_links.cut c.in-Ok.graph.links cut.whole c.args.lines.items solved.2.items solved.0 solved.1 went) (few_enough (length solved.0) (length c.in-Ok.graph.links) few c.links.ensures.few)
+    let went : FindsOverLines g.row.A.Denot g.L.Line c.in-Ok.graph.vertices c.in-Ok-cut_links.cut c.args.lines.items solved.2.items solved.0 solved.1 = rw c.n.ensures.vertices at c.in-Ok-solve_lines.ensures.went in
+    let few = few_links g.L.Line c.in-Ok.graph.vertices c.in-Ok-cut_links.cut c.in-Ok.graph.links cut.whole c.args.lines.items solved.2.items solved.0 solved.1 went in
+    lines_broken_off g.L.Line c.args.cutting c.in-Ok.graph c.args.lines.items solved.0 solved.1 solved.2 _ c.n-2.result _ _ _ _ c.in-Ok.ensures.outcome
+    (spanning g.L.Line c.in-Ok.graph.vertices c.in-Ok-cut_links.cut c.in-Ok.graph.links cut.whole c.args.lines.items solved.2.items solved.0 solved.1 went) (few_enough (length solved.0) (length c.in-Ok.graph.links) few c.links.ensures.few)
     c.n-2.ensures.vertices c.in-Err-write_forest.ensures.part
-    (lines_went g.L.Line.state g.L.Line.faithful c.args.cutting c.in-Ok.graph c.in-Ok-cut_links.cut cut c.args.lines.items solved.2.items solved.0 solved.1 went)
+    (lines_went g.L.Line c.args.cutting c.in-Ok.graph c.in-Ok-cut_links.cut cut c.args.lines.items solved.2.items solved.0 solved.1 went)
 
 pub returns-clause-served : goal.returns-clause-served
 returns-clause-served g c = λ served.
     let solved = c.in-Ok-solve_lines.solved in
     let cut : IsCutOf c.args.cutting c.in-Ok.graph.links c.in-Ok-cut_links.cut = rw c.links.ensures.links at c.in-Ok-cut_links.ensures.cut in
-    let went : LinesSolved g.L.Line.state g.L.Line.faithful c.in-Ok.graph.vertices c.in-Ok-cut_links.cut c.args.lines.items solved.2.items solved.0 solved.1 = rw c.n.ensures.vertices at c.in-Ok-solve_lines.ensures.went in
-    let few = few_links g.L.Line.state g.L.Line.faithful c.in-Ok.graph.vertices c.in-Ok-cut_links.cut c.in-Ok.graph.links cut.whole c.args.lines.items solved.2.items solved.0 solved.1 went in
+    let went : FindsOverLines g.row.A.Denot g.L.Line c.in-Ok.graph.vertices c.in-Ok-cut_links.cut c.args.lines.items solved.2.items solved.0 solved.1 = rw c.n.ensures.vertices at c.in-Ok-solve_lines.ensures.went in
+    let few = few_links g.L.Line c.in-Ok.graph.vertices c.in-Ok-cut_links.cut c.in-Ok.graph.links cut.whole c.args.lines.items solved.2.items solved.0 solved.1 went in
     served_broken_off c.args.cutting c.in-Ok.graph solved.0 solved.1 solved.2 _ c.n-2.result _ _ _ _ c.in-Ok.ensures.outcome
-    (least g.L.Line.state g.L.Line.faithful c.in-Ok.graph.vertices c.in-Ok-cut_links.cut c.in-Ok.graph.links cut.whole c.args.lines.items solved.2.items solved.0 solved.1 went served) (few_enough (length solved.0) (length c.in-Ok.graph.links) few c.links.ensures.few)
+    (least g.L.Line c.in-Ok.graph.vertices c.in-Ok-cut_links.cut c.in-Ok.graph.links cut.whole c.args.lines.items solved.2.items solved.0 solved.1 went served) (few_enough (length solved.0) (length c.in-Ok.graph.links) few c.links.ensures.few)
     c.n-2.ensures.vertices c.in-Err-write_forest.ensures.part
-    (served_report g.L.Line.state g.L.Line.faithful c.args.cutting c.in-Ok.graph c.in-Ok-cut_links.cut cut c.args.lines.items solved.2.items solved.0 solved.1 went served)
+    (served_report g.L.Line c.args.cutting c.in-Ok.graph c.in-Ok-cut_links.cut cut c.args.lines.items solved.2.items solved.0 solved.1 went served)
 
 pub returns-clause-malformed : goal.returns-clause-malformed
 returns-clause-malformed g c = λ bytes file nothing.

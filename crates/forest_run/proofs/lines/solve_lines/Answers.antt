@@ -17,13 +17,13 @@ pub returns-in_err-forest-clause-fault : goal.returns-in_err-forest-clause-fault
 returns-in_err-forest-clause-fault g c =
     let told = err_from_is_err_and c.from_residual-in_err-forest.result c.from_residual-in_err-forest.ensures.1 in
     let new : AreNewLanes c.args.lines.items c.args.cut.now c.deref_mut.result.now = rw c.deref_mut.ensures.value c.in_ok-lanes.ensures.lanes in
-    rw (told.1, told.2) (solve_fault g.L.Line.state g.L.Line.faithful c.args.n c.args.cut.now c.args.lines.items c.deref_mut.result.now c.solve.new.lanes new c.in_err-forest.field-0.0 c.in_err-forest.ensures.fault)
+    rw (told.1, told.2) (solve_fault g.L.Line c.args.n c.args.cut.now c.args.lines.items c.deref_mut.result.now c.solve.new.lanes new c.in_err-forest.field-0.0 c.in_err-forest.ensures.fault)
 
 pub returns-in_err-forest-clause-served : goal.returns-in_err-forest-clause-served
 returns-in_err-forest-clause-served g c =
     let told = err_from_is_err_and c.from_residual-in_err-forest.result c.from_residual-in_err-forest.ensures.1 in
     let new : AreNewLanes c.args.lines.items c.args.cut.now c.deref_mut.result.now = rw c.deref_mut.ensures.value c.in_ok-lanes.ensures.lanes in
-    rw (told.1, told.2) (λ served. c.in_err-forest.ensures.honest_fault (served_honest g.L.Line.state g.L.Line.faithful c.args.lines.items c.args.cut.now c.deref_mut.result.now new served))
+    rw (told.1, told.2) (λ served. c.in_err-forest.ensures.honest_fault (served_honest g.L.Line c.args.lines.items c.args.cut.now c.deref_mut.result.now new served))
 
 pub close_lanes-requires-clause-room : goal.close_lanes-requires-clause-room
 close_lanes-requires-clause-room g c =
@@ -39,5 +39,5 @@ returns-clause-went g c =
     let same = c.in_ok-forest.ensures.went.went.rounds.ports.same_lanes in
     let before = ap (λ xs. length xs) c.deref_mut.ensures.value in
     let back = written_back c.in_ok-lanes.lanes.len c.in_ok-lanes.lanes.items c.solve.new.lanes (omega (arith, same, before, c.in_ok-lanes.lanes.ok.0)) in
-    solve_went g.L.Line.state g.L.Line.faithful c.args.n c.args.cut.now c.args.lines.items c.deref_mut.result.now c.solve.new.lanes new c.in_ok-forest.forest c.in_ok-forest.report c.close_lanes.new.lines.items c.in_ok-forest.ensures.went
+    solve_went g.L.Line c.args.n c.args.cut.now c.args.lines.items c.deref_mut.result.now c.solve.new.lanes new c.in_ok-forest.forest c.in_ok-forest.report c.close_lanes.new.lines.items c.in_ok-forest.ensures.went
     (c.close_lanes.ensures.lines ∙ ap (λ xs. lines_of xs) back)

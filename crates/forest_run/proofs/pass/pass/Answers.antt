@@ -4,34 +4,34 @@ use Rattle.forest_run.proofs.Passing.{SamePort, same_asks, passed_none, passed_t
 use Rattle.forest_run.proofs.Lasting.{room_same, room_idle, same_bound}
 use Rattle.forest_run.proofs.pass.pass.Goals as goal
 
-pub returns-in_err-make_room-clause-went : goal.returns-in_err-make_room-clause-went
-returns-in_err-make_room-clause-went g c = passed_none g.P.Port.state g.P.Port.honest g.P.Port.sound g.P.Port.exchanged c.args.book.now _ _ (room_same _ _ c.make_room.ensures.lanes)
+pub returns-in_err-reserve_answers-clause-went : goal.returns-in_err-reserve_answers-clause-went
+returns-in_err-reserve_answers-clause-went g c = passed_none g.P.Port c.args.book.now _ _ (room_same _ _ c.reserve_answers.ensures.lanes)
 
-pub returns-in_err-make_room-clause-idle : goal.returns-in_err-make_room-clause-idle
-returns-in_err-make_room-clause-idle g c = room_idle c.args.lanes.now c.make_room.new.lanes c.make_room.ensures.lanes c.requires.idle
+pub returns-in_err-reserve_answers-clause-idle : goal.returns-in_err-reserve_answers-clause-idle
+returns-in_err-reserve_answers-clause-idle g c = room_idle c.args.lanes.now c.reserve_answers.new.lanes c.reserve_answers.ensures.lanes c.requires.idle
 
 pub open-requires-clause-seats : goal.open-requires-clause-seats
 open-requires-clause-seats g c =
-    let s = same_asks g.P.Port.state c.args.lanes.now c.make_room.new.lanes (room_same _ _ c.make_room.ensures.lanes) in
+    let s = same_asks g.P.Port.state c.args.lanes.now c.reserve_answers.new.lanes (room_same _ _ c.reserve_answers.ensures.lanes) in
     let e = s.1 in
     let n = c.count_open.ensures.count in
-    let l = each_length SamePort _ _ (room_same _ _ c.make_room.ensures.lanes) in
+    let l = each_length SamePort _ _ (room_same _ _ c.reserve_answers.ensures.lanes) in
     (omega arith, omega arith)
 
 pub returns-in_default-clause-went : goal.returns-in_default-clause-went
-returns-in_default-clause-went g c = passed_none g.P.Port.state g.P.Port.honest g.P.Port.sound g.P.Port.exchanged c.args.book.now _ _ (room_same _ _ c.make_room.ensures.lanes)
+returns-in_default-clause-went g c = passed_none g.P.Port c.args.book.now _ _ (room_same _ _ c.reserve_answers.ensures.lanes)
 
 pub returns-in_default-clause-idle : goal.returns-in_default-clause-idle
-returns-in_default-clause-idle g c = room_idle c.args.lanes.now c.make_room.new.lanes c.make_room.ensures.lanes c.requires.idle
+returns-in_default-clause-idle g c = room_idle c.args.lanes.now c.reserve_answers.new.lanes c.reserve_answers.ensures.lanes c.requires.idle
 
-pub ride-requires-clause-bound : goal.ride-requires-clause-bound
-ride-requires-clause-bound g c κs within =
-    same_bound g.P.Port.state c.args.book.now c.args.lanes.now c.make_room.new.lanes (room_same _ _ c.make_room.ensures.lanes) c.requires.bound
+pub run_ferries-requires-clause-bound : goal.run_ferries-requires-clause-bound
+run_ferries-requires-clause-bound g c κs within =
+    same_bound g.P.Port.state c.args.book.now c.args.lanes.now c.reserve_answers.new.lanes (room_same _ _ c.reserve_answers.ensures.lanes) c.requires.bound
 
-pub ride-requires-clause-idle : goal.ride-requires-clause-idle
-ride-requires-clause-idle g c κs within = room_idle c.args.lanes.now c.make_room.new.lanes c.make_room.ensures.lanes c.requires.idle
+pub run_ferries-requires-clause-idle : goal.run_ferries-requires-clause-idle
+run_ferries-requires-clause-idle g c κs within = room_idle c.args.lanes.now c.reserve_answers.new.lanes c.reserve_answers.ensures.lanes c.requires.idle
 
 pub returns-clause-went : goal.returns-clause-went
 returns-clause-went g c =
-    passed_then g.P.Port.state g.P.Port.honest g.P.Port.sound g.P.Port.exchanged c.args.book.now c.args.book.now c.ride.new.book c.args.lanes.now c.make_room.new.lanes c.ride.new.lanes
-    (passed_none g.P.Port.state g.P.Port.honest g.P.Port.sound g.P.Port.exchanged c.args.book.now _ _ (room_same _ _ c.make_room.ensures.lanes)) c.ride.ensures.went
+    passed_then g.P.Port c.args.book.now c.args.book.now c.run_ferries.new.book c.args.lanes.now c.reserve_answers.new.lanes c.run_ferries.new.lanes
+    (passed_none g.P.Port c.args.book.now _ _ (room_same _ _ c.reserve_answers.ensures.lanes)) c.run_ferries.ensures.went

@@ -1,15 +1,10 @@
 use Rattle.std.proofs.Common.{rules, refl, Ok, Err, ap, length, arith}
 use Rattle.forest_run.specs.Outcomes.{IsLeast}
 use Rattle.forest_run.proofs.Telling.{reads_the_file, first_of_failed, no_fault_of_lawful}
-use Rattle.forest_run.proofs.PlainRunning.{unread, unsolved, done, broken_off}
-use Rattle.forest_run.specs.PlainRun.{IsPlainReport}
-use Rattle.forest_run.specs.declared.report.Report.{Report}
-use Rattle.gr_text.specs.Graph.{GraphValue}
+use Rattle.forest_run.proofs.PlainRunning.{unread, unsolved, done, broken_off, plainly}
+use Rattle.forest_run.proofs.Again.{writes_again}
+use Rattle.forest_run.specs.PlainRun.{IsPlainReport, plain_report}
 use Rattle.forest_run.proofs.plain.run_plain.Goals as goal
-
--- what a plain run would have reported
-abbrev plain_report : GraphValue → Report
-plain_report graph = record { vertices = graph.vertices; links = length graph.links; rounds = 0; shards = 0; asked = 0; answered = 0; alone = 0; closed = 0 }
 
 pub returns-in-Err-clause-ran : goal.returns-in-Err-clause-ran
 returns-in-Err-clause-ran g c = unread c.in-Err.fault _ _ _ c.in-Err.ensures.outcome
@@ -33,7 +28,7 @@ pub returns-in-Ok-write_forest-clause-ran : goal.returns-in-Ok-write_forest-clau
 returns-in-Ok-write_forest-clause-ran g c =
     let forest = c.in-Ok-forest_of in
     done IsLeast _ _ forest.forest _ _ _ _ _ c.in-Ok.ensures.outcome (rw c.into_links-links.ensures.links at forest.ensures.forest) c.n-n.ensures.vertices
-    c.in-Ok-write_forest.ensures.whole (search rules)
+    c.in-Ok-write_forest.ensures.whole (plainly c.in-Ok.graph forest.forest _ (rw c.into_links-links.ensures.links at forest.ensures.least) (search rules))
 
 pub returns-in-Ok-write_forest-clause-malformed : goal.returns-in-Ok-write_forest-clause-malformed
 returns-in-Ok-write_forest-clause-malformed g c = λ bytes file nothing.
@@ -42,10 +37,15 @@ returns-in-Ok-write_forest-clause-malformed g c = λ bytes file nothing.
 pub returns-clause-ran : goal.returns-clause-ran
 returns-clause-ran g c =
     let forest = c.in-Ok-forest_of in
-    broken_off IsLeast (λ graph links report. IsPlainReport graph report) (plain_report c.in-Ok.graph) _ c.in-Ok.graph forest.forest _ _ _ _ _ c.in-Ok.ensures.outcome (rw c.into_links-links.ensures.links at forest.ensures.forest)
+    broken_off IsLeast IsPlainReport (plain_report c.in-Ok.graph forest.forest) _ c.in-Ok.graph forest.forest _ _ _ _ _ c.in-Ok.ensures.outcome (rw c.into_links-links.ensures.links at forest.ensures.forest)
     (omega (arith, forest.ensures.few, c.into_links-links.ensures.few, ap length c.into_links-links.ensures.links)) c.n-n.ensures.vertices
-    c.in-Err-write_forest.ensures.part refl
+    c.in-Err-write_forest.ensures.part (plainly c.in-Ok.graph forest.forest _ (rw c.into_links-links.ensures.links at forest.ensures.least) refl)
 
 pub returns-clause-malformed : goal.returns-clause-malformed
 returns-clause-malformed g c = λ bytes file nothing.
     absurd (nothing _ (reads_the_file bytes _ _ (Ok _) file.told file.no_failure c.in-Ok.ensures.outcome).1)
+
+-- ---- the text of a forest is written again
+
+pub returns-in-Ok-write_forest-clause-itself : goal.returns-in-Ok-write_forest-clause-itself
+returns-in-Ok-write_forest-clause-itself g c = writes_again _ _ _ (returns-in-Ok-write_forest-clause-ran g c)

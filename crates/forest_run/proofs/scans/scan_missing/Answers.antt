@@ -1,38 +1,34 @@
-use Rattle.std.proofs.Common.{rules, arith, ◌≡◌, true, ◌∙◌}
+use Rattle.std.proofs.Common.{rules, arith, ◌≡◌, true}
 use Rattle.round_core.specs.Page.{is_taken}
 use Rattle.forest_run.proofs.Scanning.{scanned_then, scanned_long, scanned_cut, stays_taken, all_taken, round_after}
 use borrow.Author.Count.{below_more}
-use Rattle.forest_run.specs.Scanned.{Scanned}
+use Rattle.forest_run.specs.Scanned.{ScansShards}
 use Rattle.forest_run.proofs.scans.scan_missing.Goals as goal
-use Rattle.forest_run.proofs.scans.scan_missing.Goals.{then-is_missing+in_ok-scan_one, else-is_missing}
+use Rattle.forest_run.proofs.scans.scan_missing.Goals.{then-is_missing+in_ok-scan_shard, else-is_missing}
 
 pub is_missing-requires : goal.is_missing-requires
 is_missing-requires g c =
     let e = scanned_cut _ _ _ c.loop-shard.invariant.scanned in
     rw e (omega arith)
 
-pub scan_one-requires-clause-shard : goal.scan_one-requires-clause-shard
-scan_one-requires-clause-shard g c κs within =
+pub scan_shard-requires-clause-shard : goal.scan_shard-requires-clause-shard
+scan_shard-requires-clause-shard g c κs within =
     let e = scanned_cut _ _ _ c.loop-shard.invariant.scanned in
     rw e (omega arith)
 
-pub scan_one-requires-clause-round : goal.scan_one-requires-clause-round
-scan_one-requires-clause-round g c κs within =
-    round_after _ _ c.args.labels.now _ c.loop-shard.invariant.scanned c.requires.round
-
-pub scan_one-requires-clause-cut : goal.scan_one-requires-clause-cut
-scan_one-requires-clause-cut g c κs within =
-    scanned_cut _ _ _ c.loop-shard.invariant.scanned ∙ c.requires.cut
+pub scan_shard-requires-clause-round : goal.scan_shard-requires-clause-round
+scan_shard-requires-clause-round g c κs within =
+    round_after _ _ _ c.loop-shard.invariant.scanned c.requires.round
 
 pub loop-shard-preserved : goal.loop-shard-preserved
 loop-shard-preserved g c = elim c.if-is_missing.branch [
-  | then-is_missing+in_ok-scan_one w ↦ (
+  | then-is_missing+in_ok-scan_shard w ↦ (
       let i = c.loop-shard.invariant in
-      let s : Scanned c.loop-shard.book w.scan_one.new.book 1 = search rules in
-      let t : is_taken w.scan_one.new.book c.loop-shard.shard ≡ true = search rules in
+      let s : ScansShards c.loop-shard.book w.scan_shard.new.book 1 = search rules in
+      let t : is_taken w.scan_shard.new.book c.loop-shard.shard ≡ true = search rules in
       rw (w.book-is, w.alone-is) (record {
         scanned = scanned_then _ _ _ _ _ i.scanned s;
-        done = below_more (λ k. is_taken w.scan_one.new.book k ≡ true) c.loop-shard.shard (λ k b. stays_taken _ _ _ k s (i.done k b)) t;
+        done = below_more (λ k. is_taken w.scan_shard.new.book k ≡ true) c.loop-shard.shard (λ k b. stays_taken _ _ _ k s (i.done k b)) t;
         few = omega arith;
       }))
   | else-is_missing w ↦ (

@@ -1,11 +1,11 @@
 use Rattle.std.proofs.Common.{◌≡◌, ◌≤◌, ◌<◌, ℕ, true}
 use Rattle.round_core.specs.Page.{is_taken}
-use Rattle.forest_run.specs.Scanned.{Scanned}
+use Rattle.forest_run.specs.Scanned.{ScansShards}
 use Rattle.forest_run.proofs.scans.scan_missing.Given as goal
 
 abbrev pub invariant-loop-shard : goal.invariant-loop-shard
 invariant-loop-shard g l = record {
-  scanned : Scanned l.fn.book l.book l.alone;
+  scanned : ScansShards l.fn.book l.book l.alone;
   done : (k : ℕ) → k < l.shard → is_taken l.book k ≡ true;
   few : l.alone ≤ l.shard;
 }

@@ -1,4 +1,4 @@
-use Rattle.std.proofs.Common.{◌≡◌, ◌≤◌, All, length, vec_len}
+use Rattle.std.proofs.Common.{◌≡◌, ◌≤◌, All, vec_len}
 use Rattle.std.specs.Vec.{vec_capacity}
 use Rattle.tcp_lines.specs.Lines.{unused}
 use Rattle.tcp_lines.proofs.workers.Workers.start.Given as goal
