@@ -200,11 +200,7 @@ fn offers_of<A: Allocator + Copy>(
     requires best { AreBest links.now labels.now 0 (length links.now) table.now }
     ensures light { IfOk result (AreLightOffers links.now labels.now) }
 {
-    let pairs = table.gather(links, labels)?;
-    match Offers::of_pairs(pairs) {
-        Some(offers) => Ok(offers),
-        None => unreachable!(),
-    }
+    Ok(Offers::of_known(table.gather(links, labels)?))
 }
 
 // The pass over the links from a place on before another.
