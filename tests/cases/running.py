@@ -16,7 +16,7 @@ SECONDS = 60
 
 SMALL_NET = b"c a small net\np sp 6 8\na 1 2 17\nc the usual shape\na 1 3 10\na 2 4 2\na 3 5 0\na 4 3 0\na 4 6 3\na 5 2 0\na 5 6 20\n"
 SMALL_FOREST = b"p sp 6 5\na 2 5 0\na 3 4 0\na 3 5 0\na 4 6 3\na 1 3 10\n"
-SMALL_REPORT = b"vertices=6 links=8 rounds=0 shards=0 asked=0 answered=0 alone=0 closed=0\n"
+SMALL_REPORT = b"vertices=6 links=8 rounds=0 shards=0 asked=0 answered=0 alone=0 closed=0 total=13\n"
 NO_MEMORY = b"boruvka: no memory\n"
 NOTHING_WRITTEN = b"boruvka: write failed after 0 bytes\n"
 
@@ -103,18 +103,23 @@ def drawn_graph(seed, vertices, arcs):
     return file.encode(), text.encode()
 
 
-REPORT = re.compile(rb"vertices=(\d+) links=(\d+) rounds=(\d+) shards=(\d+) asked=(\d+) answered=(\d+) alone=(\d+) closed=(\d+)\n")
+def total_of(text):
+    """What the links of a forest's text weigh together."""
+    return sum(int(line.split()[3]) for line in text.splitlines() if line.startswith(b"a "))
+
+
+REPORT = re.compile(rb"vertices=(\d+) links=(\d+) rounds=(\d+) shards=(\d+) asked=(\d+) answered=(\d+) alone=(\d+) closed=(\d+) total=(-?\d+)\n")
 
 
 class Report:
-    """The counts of a report line, between which the equations of every run over workers hold."""
+    """The counts of a report line, between which the equations of every run over workers hold, and the forest's total."""
 
     def __init__(self, line):
         found = REPORT.fullmatch(line)
         if not found:
             raise AssertionError(f"no report line: {line!r:.300}")
         counts = [int(it) for it in found.groups()]
-        self.vertices, self.links, self.rounds, self.shards, self.asked, self.answered, self.alone, self.closed = counts
+        self.vertices, self.links, self.rounds, self.shards, self.asked, self.answered, self.alone, self.closed, self.total = counts
 
     def expect_equations(self, shards, workers):
         """The equations, and that nothing is scanned alone while a line is open."""
@@ -128,3 +133,8 @@ class Report:
         for name, holds in equations.items():
             if not holds:
                 raise AssertionError(f"not so: {name}: {vars(self)}")
+
+    def expect_total(self, text):
+        """It is what the links of this text weigh together."""
+        if self.total != total_of(text):
+            raise AssertionError(f"the links weigh {total_of(text)}: {vars(self)}")

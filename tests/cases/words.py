@@ -1,7 +1,8 @@
 """Words, files and what is told of them: statuses 0 to 3 by the words, FILE and what the file says."""
 import os
+import random
 
-from cases.running import SMALL_FOREST, SMALL_NET, SMALL_REPORT, case, drawn_graph, expect, ran, written
+from cases.running import SMALL_FOREST, SMALL_NET, SMALL_REPORT, Report, case, drawn_graph, expect, ran, written
 
 
 @case
@@ -36,7 +37,33 @@ def a_file_whose_name_has_300_bytes(room):
 def drawn_graphs(_room):
     for seed, vertices, arcs in [(1, 3, 40), (2, 40, 30), (3, 300, 2000), (4, 5000, 60000)]:
         file, text = drawn_graph(seed, vertices, arcs)
-        expect(ran(["--plain"], file), 0, text, b"")
+        status, output, errors = ran(["--plain", "--report"], file)
+        expect((status, output, b""), 0, text, b"")
+        Report(errors).expect_total(text)
+
+
+@case
+def the_total_of_a_million_links(_room):
+    draw = random.Random(7)
+    weights = [draw.randint(-(2**31), 2**31 - 1) for _ in range(1_000_000)]
+    file = f"p sp 1000001 {len(weights)}\n" + "".join(f"a {v} {v + 1} {weight}\n" for v, weight in enumerate(weights, 1))
+    for words in [["--plain"], ["--shards", "2"]]:
+        status, output, errors = ran([*words, "--report"], file.encode())
+        if (status, output.count(b"\n"), Report(errors).total) != (0, 1_000_001, sum(weights)):
+            raise AssertionError(f"the links weigh {sum(weights)}: {status} {errors!r:.300}")
+        Report(errors).expect_total(output)
+
+
+@case
+def the_text_of_a_forest_is_written_again(_room):
+    _, text = drawn_graph(5, 400, 900)
+    for words in [["--plain"], []]:
+        status, output, errors = ran([*words, "--report"], text)
+        expect((status, output, b""), 0, text, b"")
+        report = Report(errors)
+        report.expect_total(text)
+        if report.links != text.count(b"a "):
+            raise AssertionError(f"all links of a forest's text are taken: {vars(report)}")
 
 
 @case

@@ -18,6 +18,7 @@ def expect_healthy(words, file, text, workers, shards):
     expect((status, output, b""), 0, text, b"")
     report = Report(errors)
     report.expect_equations(shards, workers)
+    report.expect_total(text)
     if report.closed or workers and report.alone:
         raise AssertionError(f"{workers} workers, {shards} shards: a worker failed: {vars(report)}")
     return report
@@ -31,13 +32,13 @@ def the_report_for_each_number_of_workers_and_shards(_room):
             Report(errors).expect_equations(shards, workers)
             # two rounds take links, and a third finds none; nothing fails
             asked, alone = (3 * shards, 0) if workers else (0, 3 * shards)
-            line = f"vertices=6 links=8 rounds=2 shards={shards} asked={asked} answered={asked} alone={alone} closed=0\n"
+            line = f"vertices=6 links=8 rounds=2 shards={shards} asked={asked} answered={asked} alone={alone} closed=0 total=13\n"
             expect((status, output, errors), 0, SMALL_FOREST, line.encode())
 
 
 @case
 def two_workers_and_sixty_four_shards_where_no_words_say_so(_room):
-    line = b"vertices=6 links=8 rounds=2 shards=64 asked=192 answered=192 alone=0 closed=0\n"
+    line = b"vertices=6 links=8 rounds=2 shards=64 asked=192 answered=192 alone=0 closed=0 total=13\n"
     expect(ran(["--report"], SMALL_NET), 0, SMALL_FOREST, line)
     expect(ran(["--report", "--workers", "2", "--shards", "64"], SMALL_NET), 0, SMALL_FOREST, line)
 
@@ -63,6 +64,7 @@ def small_graphs(_room):
             expect((status, output, b""), 0, text.encode(), b"")
             report = Report(errors)
             report.expect_equations(shards, workers)
+            report.expect_total(text.encode())
             if report.rounds != rounds:
                 raise AssertionError(f"{file!r}: {rounds} rounds take links: {vars(report)}")
         expect(ran(["--plain"], file.encode()), 0, text.encode(), b"")

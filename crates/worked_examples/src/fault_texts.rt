@@ -91,7 +91,8 @@ fn of_a_report(rt: HostRuntime) -> Result<(), Fail> {
         answered: 6,
         alone: 7,
         closed: 8,
+        total: -9,
     };
-    let text = "vertices=1 links=2 rounds=3 shards=4 asked=5 answered=6 alone=7 closed=8";
+    let text = "vertices=1 links=2 rounds=3 shards=4 asked=5 answered=6 alone=7 closed=8 total=-9";
     expect_text(&rt, rt.alloc(), &report, text)
 }

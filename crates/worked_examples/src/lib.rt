@@ -1,10 +1,6 @@
-//! Worked examples of files and forests, each a test that needs public calls alone; `worked_streams` has those of
+//! Worked examples of files and forests, each a test that needs public calls alone. `worked_streams` has those of
 //! streams and frames, `worked_rounds` of shards and their workers, `worked_runs` of wires, rounds and solvers,
 //! `worked_lines` of whole runs over lines, and `worked_sockets` of workers over sockets.
-//!
-//! What the contracts promise isn't tried again here. An example shows a call on its happy path with a value from
-//! outside, what no contract can see (that a call ends well with ample memory, whatever the size; printed texts; which
-//! blocks of memory live after a call), and what a call does over a stream or an allocator that fails.
 //!
 //! ```text
 //!   lists           links of arcs, labels, offers, forests; the forests of the worked graphs
@@ -12,15 +8,19 @@
 //!   drawn_texts     `.gr` texts in pieces and byte by byte, over drawn texts
 //!   reading         `.gr` texts, their faults, pieces and limits
 //!   writing         forest texts, how a sink is called, and how much of a text went out
-//!   plain_runs      a file to its forest text
-//!   totals          what forests weigh, and texts of forests as files
-//!   fault_texts     what each fault is told as
+//!   plain_runs      a file, and a forest's own text, to its forest text
+//!   totals          what forests weigh
+//!   fault_texts     what each fault, and a report, is told as
 //!   sizes           each call at and past the size of every inner piece
 //!   memory_of_graphs    what a reader asks for, by an allocator that refuses
 //! ```
 //!
-//! Where to start a change: a new public call gets its example in the file of its subject, here or in the other
-//! five crates, and one in that crate's `sizes` if it may answer want of memory. The worked graphs stand in `worked_graphs`.
+//! An example shows a call on its happy path with a value from outside, what no contract can see (that a call ends well
+//! with ample memory, whatever the size; printed texts; which blocks of memory live after a call), and what a call does
+//! over a stream or an allocator that fails.
+//!
+//! Where to start a change: a new public call gets its example in the file of its subject, and one in that crate's
+//! `sizes` if it may answer want of memory. The worked graphs stand in `worked_graphs`.
 #![tactic(auto)]
 
 #[cfg(test)]

@@ -52,3 +52,12 @@ fn offers_of_pairs(rt: HostRuntime) -> Result<(), Fail> {
     assert!(rt; Offers::of_pairs([(1, 0), (1, 2)].to_vec(rt.alloc())?).is_none());
     Ok(())
 }
+
+#[test]
+fn offers_that_are_known(rt: HostRuntime) -> Result<(), Fail> {
+    let first = Offers::of_pairs([(1, 0), (3, 2)].to_vec(rt.alloc())?).expect(&rt, "ascending");
+    let copy = Vec::from_slice(rt.alloc(), first.pairs())?;
+    let again = Offers::of_known(copy);
+    assert_eq!(rt; again.pairs(), [(1, 0), (3, 2)].as_slice());
+    Ok(())
+}

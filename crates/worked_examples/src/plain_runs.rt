@@ -7,9 +7,10 @@ use std::process::Abort;
 use std::test::Fail;
 use worked_graphs::{SMALL_NET, WORKED, Worked};
 
-// The run ends well with the forest's text, and counts vertices and links and nothing else.
-fn expect_text(rt: &impl Abort, alloc: Global, graph: Worked, links: u64) {
-    let mut source = graph.file;
+// The run over this file ends well with the forest's text, and counts vertices, links and what the forest weighs, and
+// nothing else.
+fn expect_text(rt: &impl Abort, alloc: Global, file: &[u8], graph: Worked, links: u64) {
+    let mut source = file;
     let mut sink = Vec::new(alloc);
     let report = Report {
         vertices: graph.n,
@@ -20,6 +21,7 @@ fn expect_text(rt: &impl Abort, alloc: Global, graph: Worked, links: u64) {
         answered: 0,
         alone: 0,
         closed: 0,
+        total: graph.total,
     };
     assert_eq!(rt; run_plain(alloc, &mut source, &mut sink), Ok(report));
     assert_eq!(rt; sink.as_slice(), graph.text);
@@ -32,7 +34,20 @@ const LINKS: [u64; 7] = [8, 0, 0, 3, 3, 7, 2];
 #[test]
 fn texts_of_the_worked_graphs(rt: HostRuntime) {
     for (graph, links) in WORKED.into_iter().zip(LINKS) {
-        expect_text(&rt, rt.alloc(), graph, links);
+        expect_text(&rt, rt.alloc(), graph.file, graph, links);
+    }
+}
+
+#[test]
+fn texts_of_forests_are_written_again(rt: HostRuntime) {
+    for graph in WORKED {
+        expect_text(
+            &rt,
+            rt.alloc(),
+            graph.text,
+            graph,
+            graph.forest.len() as u64,
+        );
     }
 }
 

@@ -31,6 +31,8 @@ pub struct Worked {
     pub forest: &'static [Row],
     /// The forest's text.
     pub text: &'static [u8],
+    /// What the forest weighs, added up by hand.
+    pub total: i128,
 }
 
 /// Six vertices and eight arcs, with comments between them.
@@ -49,6 +51,7 @@ pub const SMALL_NET: Worked = Worked {
     ],
     forest: &[(2, 5, 0), (3, 4, 0), (3, 5, 0), (4, 6, 3), (1, 3, 10)],
     text: b"p sp 6 5\na 2 5 0\na 3 4 0\na 3 5 0\na 4 6 3\na 1 3 10\n",
+    total: 13,
 };
 
 pub const NO_VERTICES: Worked = Worked {
@@ -57,6 +60,7 @@ pub const NO_VERTICES: Worked = Worked {
     arcs: &[],
     forest: &[],
     text: b"p sp 0 0\n",
+    total: 0,
 };
 
 pub const A_LOOP_ALONE: Worked = Worked {
@@ -65,6 +69,7 @@ pub const A_LOOP_ALONE: Worked = Worked {
     arcs: &[(1, 1, 5)],
     forest: &[],
     text: b"p sp 1 0\n",
+    total: 0,
 };
 
 pub const PARALLEL_ARCS: Worked = Worked {
@@ -73,6 +78,7 @@ pub const PARALLEL_ARCS: Worked = Worked {
     arcs: &[(1, 2, 7), (2, 1, 7), (1, 2, 4)],
     forest: &[(1, 2, 4)],
     text: b"p sp 2 1\na 1 2 4\n",
+    total: 4,
 };
 
 /// A triangle whose links differ in their ends alone.
@@ -82,6 +88,7 @@ pub const EQUAL_WEIGHTS: Worked = Worked {
     arcs: &[(1, 2, 5), (2, 3, 5), (1, 3, 5)],
     forest: &[(1, 2, 5), (1, 3, 5)],
     text: b"p sp 3 2\na 1 2 5\na 1 3 5\n",
+    total: 10,
 };
 
 /// Its components are pairs after one round, fours after two, and one after three.
@@ -107,6 +114,7 @@ pub const A_PATH_OF_EIGHT: Worked = Worked {
         (4, 5, 3),
     ],
     text: b"p sp 8 7\na 1 2 1\na 3 4 1\na 5 6 1\na 7 8 1\na 2 3 2\na 6 7 2\na 4 5 3\n",
+    total: 11,
 };
 
 /// Two components.
@@ -116,6 +124,7 @@ pub const A_NEGATIVE_WEIGHT: Worked = Worked {
     arcs: &[(1, 2, -3), (3, 4, 0)],
     forest: &[(1, 2, -3), (3, 4, 0)],
     text: b"p sp 4 2\na 1 2 -3\na 3 4 0\n",
+    total: -3,
 };
 
 /// All of them.

@@ -8,8 +8,8 @@ use Rattle.byte_streams.proofs.Streaming.{gave_to_end, took_told}
 use Rattle.gr_text.specs.ForestText.{forest_text}
 use Rattle.gr_text.specs.Graph.{GraphValue}
 use Rattle.link_key.specs.declared.links.Link.{Link}
-use Rattle.ports.specs.EngineLines.{EngineLineState, line_of, IsEngineLine}
-use Rattle.ports.specs.Lines.{IsFresh, Tells}
+use Rattle.ports.specs.EngineLines.{EngineLineState, line_of, engine_line, IsEngineLine}
+use Rattle.ports.specs.Lines.{IsFresh, TellsBytes}
 use Rattle.forest_run.specs.Files.{IsFileOf, IsForestTextOf}
 use Rattle.forest_run.specs.Outcomes.{streams, IsDone, IsLeast}
 use Rattle.forest_run.specs.LinesRun.{IsUnhindered}
@@ -18,16 +18,16 @@ use Rattle.forest_run.specs.declared.fault.RunFault.{RunFault}
 use Rattle.forest_run.specs.declared.fault.RunFault.TheVariants as fault
 
 abbrev pub AreEngines : List EngineLineState → Type 0
-AreEngines lines = AreServed line_of (λ line worker. IsEngineLine worker line) lines
+AreEngines lines = AreServed engine_line lines
 
 pub no_engines : AreEngines []
-no_engines = (All-nil (λ line. IsFresh (line_of line) × Tells (line_of line)), λ worker d b. absurd (omega arith))
+no_engines = (All-nil (λ line. IsFresh (line_of line) × TellsBytes (line_of line)), λ worker d b. absurd (omega arith))
 
 -- a line to an engine tells all its bytes, and one more stands for the worker of the next number
 pub engine_more : (lines : List EngineLineState) (line : EngineLineState) (number : ℕ) → number ≡ length lines → AreEngines lines → IsEngineLine number line → IsFresh (line_of line)
     → AreEngines (lines ++ line ∷ [])
 engine_more lines line number at served is fresh = (
-  All-push (λ l. IsFresh (line_of l) × Tells (line_of l)) lines line served.0 (fresh, record { sent = refl; got = refl }),
+  All-push (λ l. IsFresh (line_of l) × TellsBytes (line_of l)) lines line served.0 (fresh, record { sent = refl; got = refl }),
   λ worker d b. elim (cases_lt worker (length lines)) [
     | inl before ↦ subst (IsEngineLine worker) (sym (get_or_append_left lines (line ∷ []) d worker before)) (served.1 worker d before)
     | inr past ↦

@@ -5,7 +5,7 @@ ghost use Rattle.ports.specs.Lines.{HasRoom};
 ghost use Rattle.ports.specs.Testing.{with_stops};
 
 use crate::runs::run_of;
-use forest_run::{Cutting, plain_text};
+use forest_run::{Cutting, run_plain};
 use ports::{EngineLine, FusedLine};
 use std::alloc::{AllocError, Global};
 use std::process::Abort;
@@ -120,14 +120,16 @@ fn expect_same<R: Threads + Wait + Sync + Abort>(
 ) -> Result<(), Fail> {
     let drawn = drawn_file(alloc, draws)?;
     let file = drawn.file.as_slice();
-    let text = plain_text(alloc, file).map_err(|_| "a lawful file")?;
+    let mut source = file;
+    let mut text = Vec::new(alloc);
+    let alone = run_plain(alloc, &mut source, &mut text).map_err(|_| "a lawful file")?;
     let places = drawn_places(alloc, draws, drawn.links)?;
     let cutting = match draws.below(2) {
         0 => Cutting::Even(draws.below(12) + 1),
         _ => Cutting::At(places.as_slice()),
     };
     let lines = drawn_lines(alloc, draws)?;
-    let size = (drawn.vertices, u64::from(drawn.links));
+    let size = (drawn.vertices, u64::from(drawn.links), alone.total);
     run_of(rt, alloc, file, cutting, lines, text.as_slice(), size);
     Ok(())
 }

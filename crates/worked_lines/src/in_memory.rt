@@ -4,7 +4,7 @@ ghost use Rattle.std.specs.Prelude.{◌≡◌, ◌≤◌, None, length, All, IfO
 ghost use Rattle.limits.specs.declared.TheConstants.{MAX_WORKERS};
 ghost use Rattle.byte_streams.specs.Streams.{tells_held};
 ghost use Rattle.gr_text.specs.Graph.{GraphValue};
-ghost use Rattle.ports.specs.EngineLines.{line_of, IsEngineLine};
+ghost use Rattle.ports.specs.EngineLines.{line_of, engine_line};
 ghost use Rattle.ports.specs.Lines.{HasRoom};
 ghost use Rattle.forest_run.specs.Cuttings.{cut_refusal};
 ghost use Rattle.forest_run.specs.Files.{IsFileOf, IsForestTextOf};
@@ -25,7 +25,7 @@ pub(crate) fn engines<A: Allocator + Copy>(
     requires few { count ≤ MAX_WORKERS }
     ensures count { IfOk result (λ lines. length lines.items ≡ count) }
     ensures room { IfOk result (λ lines. All (λ line. HasRoom (line_of line)) lines.items) }
-    ensures served { IfOk result (λ lines. AreServed line_of (λ line worker. IsEngineLine worker line) lines.items) }
+    ensures served { IfOk result (λ lines. AreServed engine_line lines.items) }
 {
     let mut lines = Vec::new(alloc);
     for worker in 0..count {
@@ -36,8 +36,8 @@ pub(crate) fn engines<A: Allocator + Copy>(
 
 /// The text of the forest of a file whose bytes are in memory, found over so many workers in memory.
 ///
-/// It shows that the premise can be met under which [`run_lines`] promises the minimum spanning forest: its lines are
-/// new, and each carries its worker's session. A growth of the text that is refused is a failed write.
+/// It shows that the premise can be met under which [`run_lines`] promises the minimum spanning forest: the lines that
+/// `engines` makes are new, and each carries its worker's session. A growth of the text that is refused is a failed write.
 pub fn text_over_workers<A: Allocator + Copy + Send + Sync, R: Threads + Wait + Sync>(
     rt: &R,
     alloc: A,

@@ -37,8 +37,8 @@ fn lawful_counts(rt: &impl Abort, report: &Report, lines: usize) -> Counts {
     [rounds, shards, asked, answered, alone, closed]
 }
 
-// The counts of a run over these lines, which gives this text and finds so many vertices and links. It reads its whole
-// source, and gives as many lines back.
+// The counts of a run over these lines, which gives this text, finds so many vertices and links, and a forest of this
+// total. It reads its whole source, and gives as many lines back.
 pub(crate) fn run_of<L: Line + Send + Drop, R: Threads + Wait + Sync + Abort>(
     rt: &R,
     alloc: Global,
@@ -46,7 +46,7 @@ pub(crate) fn run_of<L: Line + Send + Drop, R: Threads + Wait + Sync + Abort>(
     cutting: Cutting,
     lines: Vec<L>,
     text: &[u8],
-    size: (u32, u64),
+    size: (u32, u64, i128),
 ) -> Counts
     requires few { length lines.items ≤ 64 }
     requires room { All (λ line. HasRoom (L.state line)) lines.items }
@@ -59,7 +59,7 @@ pub(crate) fn run_of<L: Line + Send + Drop, R: Threads + Wait + Sync + Abort>(
     assert_eq!(rt; sink.as_slice(), text);
     assert!(rt; source.is_empty());
     assert_eq!(rt; lines.len(), count);
-    assert_eq!(rt; (report.vertices, report.links), size);
+    assert_eq!(rt; (report.vertices, report.links, report.total), size);
     lawful_counts(rt, &report, count)
 }
 
@@ -75,7 +75,7 @@ pub(crate) fn run_of_worked<L: Line + Send + Drop, R: Threads + Wait + Sync + Ab
     requires room { All (λ line. HasRoom (L.state line)) lines.items }
 {
     let links = graph.arcs.iter().filter(|arc| arc.0 != arc.1).count();
-    let size = (graph.n, links as u64);
+    let size = (graph.n, links as u64, graph.total);
     run_of(rt, alloc, graph.file, cutting, lines, graph.text, size)
 }
 

@@ -1,7 +1,7 @@
 // Stored bytes in place of a worker: answers that are refused, and answers that lie.
 ghost use Rattle.std.specs.Prelude.{◌≡◌, length, All, IfOk};
 ghost use Rattle.ports.specs.Lines.{HasRoom};
-ghost use Rattle.ports.specs.Testing.{played};
+ghost use Rattle.ports.specs.Testing.{line_of_script};
 
 use crate::runs::{fault_of, run_of, run_of_worked};
 use forest_run::{Cutting, RunFault};
@@ -21,7 +21,7 @@ type Numbers = &'static [u32];
 // One line, over which come the hello of worker 0 and then these answers.
 fn script(alloc: Global, answers: &[Numbers]) -> Result<Vec<ScriptLine>, AllocError>
     ensures one { IfOk result (λ lines. length lines.items ≡ 1) }
-    ensures room { IfOk result (λ lines. All (λ line. HasRoom (played line)) lines.items) }
+    ensures room { IfOk result (λ lines. All (λ line. HasRoom (line_of_script line)) lines.items) }
 {
     let mut bytes = Vec::from_slice(alloc, &HELLO)?;
     for answer in answers {
@@ -68,7 +68,7 @@ fn an_offer_that_is_too_heavy(rt: HostRuntime) -> Result<(), Fail> {
         Cutting::Even(1),
         lines,
         b"p sp 3 2\na 1 2 5\na 2 3 5\n",
-        (3, 3),
+        (3, 3, 10),
     );
     assert_eq!(rt; counts, [1, 1, 2, 2, 0, 0]);
     Ok(())

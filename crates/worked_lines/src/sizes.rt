@@ -43,14 +43,15 @@ fn path_text(alloc: Global, head: &[u8], count: u32) -> Result<Vec<u8>, Fail> {
     Ok(text)
 }
 
-// The components are halved in each round: 40,000, 20,000, and so on to 625, 312, and to 4, 2, 1.
+// The components are halved in each round: 40,000, 20,000, and so on to 625, 312, and to 4, 2, 1. The product of 1 to n
+// can be halved as often as n has more than its binary digits add up to: 39,999 has ten ones.
 #[test]
 fn a_ring_of_forty_thousand_over_three_workers(rt: HostRuntime) -> Result<(), Fail> {
     let alloc = rt.alloc();
     let file = ring(alloc)?;
     let text = path_text(alloc, b"p sp 40000 39999\n", MANY)?;
     let lines = engines(alloc, 3)?;
-    let size = (MANY, u64::from(MANY));
+    let size = (MANY, u64::from(MANY), 39_989);
     let counts = run_of(
         &rt,
         alloc,
@@ -79,7 +80,7 @@ fn fan(alloc: Global) -> Result<Vec<u8>, Fail> {
     Ok(file)
 }
 
-// The coordinator scans the one shard itself. The components are 100, 50, 25, 12, 6, 3, 1.
+// The coordinator scans the one shard itself. The components are 100, 50, 25, 12, 6, 3, 1; and 99 has four ones.
 #[test]
 fn many_links_of_few_vertices_without_a_worker(rt: HostRuntime) -> Result<(), Fail> {
     let alloc = rt.alloc();
@@ -93,7 +94,7 @@ fn many_links_of_few_vertices_without_a_worker(rt: HostRuntime) -> Result<(), Fa
         Cutting::Even(1),
         lines,
         text.as_slice(),
-        (FEW, 9099),
+        (FEW, 9099, 95),
     );
     assert_eq!(rt; counts, [6, 1, 0, 0, 7, 0]);
     Ok(())

@@ -2,7 +2,8 @@
 ghost use Rattle.std.specs.Prelude.{◌≡◌, ◌<◌};
 ghost use Rattle.claim_board.specs.State.{AreSeats};
 
-use claim_board::{Board, BoardFault, Claim, MOST_SEATS, MOST_SHARDS, Seat};
+use claim_board::{Board, BoardFault, Claim, Seat};
+use limits::{MAX_SHARDS, MAX_WORKERS};
 use std::alloc::Global;
 use std::process::Abort;
 use std::sync::atomic::{AtomicU64, Ordering};
@@ -63,7 +64,7 @@ fn claim_all(board: &Board<Global>, seat: &mut Seat) -> u64
     ensures { (seat.new.board ≡ seat.old.board) × (seat.new.number ≡ seat.old.number) }
 {
     let mut wins = 0;
-    for shard in 0..MOST_SHARDS {
+    for shard in 0..MAX_SHARDS as u32 {
         if board.claim(seat, shard) == Claim::Won {
             wins += 1;
         }
@@ -94,10 +95,10 @@ fn claim_all_at_once<R: Threads + Sync>(rt: &R, board: &Board<Global>, seats: &m
 
 #[test]
 fn two_threads_share_all_shards(rt: HostRuntime) -> Result<(), Fail> {
-    let (board, mut seats) = Board::open(rt.alloc(), MOST_SHARDS, 2)?;
+    let (board, mut seats) = Board::open(rt.alloc(), MAX_SHARDS as u32, 2)?;
     let wins = claim_all_at_once(&rt, &board, &mut seats);
-    let mut holders = Vec::with_capacity(rt.alloc(), MOST_SHARDS as usize)?;
-    for shard in 0..MOST_SHARDS {
+    let mut holders = Vec::with_capacity(rt.alloc(), MAX_SHARDS)?;
+    for shard in 0..MAX_SHARDS as u32 {
         let mut holder = None;
         for seat in &seats {
             if seat.holds(shard) {
@@ -108,7 +109,7 @@ fn two_threads_share_all_shards(rt: HostRuntime) -> Result<(), Fail> {
     }
     let owners = board.close(seats)?;
     assert_eq!(rt; wins, 4096);
-    for shard in 0..MOST_SHARDS {
+    for shard in 0..MAX_SHARDS as u32 {
         let holder = holders.get(shard as usize).copied();
         assert_eq!(rt; Some(owners.of(shard)), holder);
         assert!(rt; owners.of(shard).is_some());
@@ -151,7 +152,7 @@ fn take_turns(board: &Board<Global>, seats: &mut Vec<Seat>, shards: u32, count: 
 
 // A board of this size has its seats in order, and closes with the owners that claims left.
 fn expect_board(rt: &impl Abort, alloc: Global, shards: u32, count: u32) -> Result<(), Fail> {
-    assert!(rt; 1 <= shards && shards <= MOST_SHARDS && 1 <= count && count <= MOST_SEATS);
+    assert!(rt; 1 <= shards && shards <= MAX_SHARDS as u32 && 1 <= count && count <= MAX_WORKERS);
     let (board, mut seats) = Board::open(alloc, shards, count)?;
     let in_order = seats.iter().enumerate().all(|(place, seat)| seat.number() as usize == place
         && !seat.holds(0));

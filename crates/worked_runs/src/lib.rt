@@ -11,8 +11,8 @@
 //! ```
 //!
 //! Each call that may answer want of memory is made at its bounds too: no vertex, one and two, no links, one shard and
-//! 4,096, a cut at no place and at 4,095, and more rounds than 14. A shard that is just full, of 16,777,216 links, is too large for
-//! a test here, and so are as many vertices as there may be, 67,108,864.
+//! 4,096, a cut at no place and at 4,095, and more rounds than 14. A shard that is just full, of 16,777,216 links, is
+//! too large for a test here, and so are as many vertices as there may be, 67,108,864.
 #![tactic(auto)]
 
 #[cfg(test)]

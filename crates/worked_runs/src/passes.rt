@@ -43,7 +43,7 @@ fn lanes<'a>(alloc: Global, cut: &'a Cut<'a>, count: u32) -> Result<Vec<Worker<'
 }
 
 // How often the workers of these lanes were asked, each of which is open.
-fn asks_of(rt: &impl Abort, lanes: Vec<Worker>) -> u64 {
+fn ask_count(rt: &impl Abort, lanes: Vec<Worker>) -> u64 {
     let mut asks = 0u64;
     for lane in lanes {
         assert!(rt; lane.port().is_open());
@@ -71,21 +71,23 @@ fn expect_run<R: Abort + Threads + Wait + Sync>(
     let (found, report) = solve(rt, alloc, n, &cut, lanes.as_mut_slice()).expect(rt, "a forest");
     let forest = links_of(alloc, n, forest)?.expect(rt, "arcs");
     assert!(rt; found.links() == forest.as_slice() && report == expected);
-    assert_eq!(rt; asks_of(rt, lanes), report.asked);
+    assert_eq!(rt; ask_count(rt, lanes), report.asked);
     Ok(())
 }
 
-// What a run reports that closed no port, and scanned shards alone only where it had no workers.
-fn report(vertices: u32, links: u64, rounds: u32, shards: u32, asked: u64, alone: u64) -> Report {
+// What a run reports that closed no port, and scanned shards alone only where it had no workers: of so many vertices and
+// links, rounds and shards, asks and scans, and a forest of this total.
+fn report(size: (u32, u64), cut: (u32, u32), work: (u64, u64), total: i128) -> Report {
     Report {
-        vertices,
-        links,
-        rounds,
-        shards,
-        asked,
-        answered: asked,
-        alone,
+        vertices: size.0,
+        links: size.1,
+        rounds: cut.0,
+        shards: cut.1,
+        asked: work.0,
+        answered: work.0,
+        alone: work.1,
         closed: 0,
+        total,
     }
 }
 
@@ -111,10 +113,20 @@ fn runs_over_lanes(rt: HostRuntime) -> Result<(), Fail> {
     let alloc = rt.alloc();
     let net = SMALL_NET;
     let runs: [(u32, &'static [Row], &'static [Row], Report); 4] = [
-        (2, net.arcs, net.forest, report(6, 8, 2, 2, 6, 0)),
-        (0, net.arcs, net.forest, report(6, 8, 2, 2, 0, 6)),
-        (64, &[], &[], report(0, 0, 0, 1, 1, 0)),
-        (0, &[], &[], report(0, 0, 0, 4096, 0, 4096)),
+        (
+            2,
+            net.arcs,
+            net.forest,
+            report((6, 8), (2, 2), (6, 0), net.total),
+        ),
+        (
+            0,
+            net.arcs,
+            net.forest,
+            report((6, 8), (2, 2), (0, 6), net.total),
+        ),
+        (64, &[], &[], report((0, 0), (0, 1), (1, 0), 0)),
+        (0, &[], &[], report((0, 0), (0, 4096), (0, 4096), 0)),
     ];
     for (workers, arcs, forest, expected) in runs {
         assert!(rt; workers <= 64);
@@ -122,6 +134,6 @@ fn runs_over_lanes(rt: HostRuntime) -> Result<(), Fail> {
     }
     let path = path(alloc, 10_000)?;
     let path = path.as_slice();
-    let expected = report(10_001, 10_000, 1, 4, 8, 0);
+    let expected = report((10_001, 10_000), (1, 4), (8, 0), 10_000);
     expect_run_of(&rt, alloc, 3, path, path, expected)
 }

@@ -109,6 +109,7 @@ fn all_answered(shards: u32) -> Report
         answered: asks,
         alone: 0,
         closed: 0,
+        total: SMALL_NET.total,
     }
 }
 
@@ -177,6 +178,7 @@ where
     add(&mut lines, line)?;
     let report = report_of(rt, alloc, 2, lines);
     assert_eq!(rt; (report.rounds, report.answered, report.alone), (2, 6, 0));
+    assert_eq!(rt; report.total, 13);
     assert!(rt; report.closed <= 1);
     assert_eq!(rt; report.asked, 6 + report.closed);
     workers.join(rt);

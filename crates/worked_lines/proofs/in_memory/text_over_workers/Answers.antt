@@ -13,5 +13,5 @@ returns-in_err-run_lines-clause-ends_well g c =
 
 pub returns-clause-text : goal.returns-clause-text
 returns-clause-text g c =
-    text_is (λ graph forest. IsServedReport c.args.cutting graph c.in_ok-run_lines.field-0.0) c.args.bytes.now _ _ _ (tells_held (Some c.new-text.result.items))
+    text_is (λ graph forest. IsServedReport c.args.cutting graph forest c.in_ok-run_lines.field-0.0) c.args.bytes.now _ _ _ (tells_held (Some c.new-text.result.items))
     (tells_held (Some c.run_lines.new.sink.items)) refl (ap (λ (l : List ℕ). Some l) (search rules)) refl (c.in_ok-run_lines.ensures.served c.in-Ok.ensures.served)
