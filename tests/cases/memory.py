@@ -20,15 +20,15 @@ def refused(room, words, source, first, last):
         return found, len(it.read())
 
 
-def each_refused(room, words, source, output, errors):
+def each_refused(room, words, source, output, errors, status=0):
     """Refuses each allocation in turn, alone and with all that follow, until none is left to refuse."""
     for is_alone in (False, True):
         first = 1
         while True:
             found, count = refused(room, words, source, first, first if is_alone else None)
             # a refused growth may be made good by a smaller one
-            if not count or is_alone and found[0] == 0:
-                expect(found, 0, output, errors)
+            if not count or is_alone and found[0] == status:
+                expect(found, status, output, errors)
             else:
                 expect(found, 4, b"", NO_MEMORY)
             if not count:
@@ -94,6 +94,15 @@ def each_allocation_of_a_run_over_workers_refused(room):
 @case
 def each_allocation_of_the_help_refused(room):
     each_refused(room, ["--help"], b"", ran(["--help"])[1], b"")
+
+
+@case
+def each_allocation_of_wrong_words_refused(room):
+    more = b"\n\nFor more information, try '--help'.\n"
+    workers = b"error: invalid value '65' for '--workers <N>': 65 is not in 0..=64"
+    shards = b"error: invalid value '0' for '--shards <S>': 0 is not in 1..=4096"
+    each_refused(room, ["--workers", "65"], SMALL_NET, b"", workers + more, 2)
+    each_refused(room, ["--shards", "0"], SMALL_NET, b"", shards + more, 2)
 
 
 def in_space(size, words, source=b""):
