@@ -3,9 +3,9 @@
  *
  * FAIL_CALL is the name of a call (listen, connect, accept, recv, send, read, write, thread, and others below),
  * FAIL_NUMBER the number of the first that fails, from 1, and FAIL_LAST that of the last (none: the first alone).
- * FAIL_HOW says how a recv, a send, a read or a write fails: "error" (none: this), "interrupted", or "end" (a recv or
- * a read gives 0 bytes, a send or a write takes none). A read or a write is one of a file or a stream here, and a
- * recv or a send one of a socket.
+ * FAIL_ERROR is the number of the error that it fails by (none: one that stands at the call), or 0, by which a recv
+ * or a read gives 0 bytes, and a send or a write takes none. A read or a write is one of a file or a stream here, and
+ * a recv or a send one of a socket. A close that fails has closed all the same, as Linux does.
  * A listen under the name "stranger" passes, but somebody else then connects first.
  * For each call that fails an 'x' goes to the descriptor TOLD. With SHORT each recv, read and send is of one byte.
  * With COUNTED an 'R' goes there for each read that asks for 64 KiB, an 'r' for each other, and a 'w' for each write.
@@ -18,17 +18,24 @@
 #include <arpa/inet.h>
 #include <dlfcn.h>
 #include <errno.h>
+#include <fcntl.h>
 #include <netinet/in.h>
+#include <poll.h>
 #include <pthread.h>
+#include <sched.h>
+#include <stdarg.h>
 #include <stdatomic.h>
 #include <stdlib.h>
 #include <string.h>
+#include <sys/ioctl.h>
 #include <sys/socket.h>
 #include <sys/stat.h>
 #include <unistd.h>
 
-static const char *chosen = "", *how = "error";
-static unsigned long first, last;
+#define NO_ERROR_CHOSEN 0xffffffffUL
+
+static const char *chosen = "";
+static unsigned long first, last, chosen_error;
 static atomic_ulong counted, started, joined;
 static int told = -1, is_short, is_counted;
 
@@ -43,7 +50,7 @@ __attribute__((constructor)) static void begin(void) {
     last = number("FAIL_LAST", first);
     is_short = getenv("SHORT") != 0;
     is_counted = getenv("COUNTED") != 0;
-    how = getenv("FAIL_HOW") ? getenv("FAIL_HOW") : how;
+    chosen_error = number("FAIL_ERROR", NO_ERROR_CHOSEN);
     chosen = getenv("FAIL_CALL") ? getenv("FAIL_CALL") : chosen;
 }
 
@@ -55,7 +62,8 @@ static void tell(const char *what) {
     }
 }
 
-static int fails(const char *name, int error) {
+/* whether this call fails, and then `errno` is the error that was chosen, or else the usual one */
+static int fails(const char *name, int usual) {
     if (!first || strcmp(name, chosen)) {
         return 0;
     }
@@ -64,12 +72,12 @@ static int fails(const char *name, int error) {
         return 0;
     }
     tell("x");
-    errno = strcmp(how, "interrupted") ? error : EINTR;
+    errno = chosen_error == NO_ERROR_CHOSEN ? usual : (int)chosen_error;
     return 1;
 }
 
 /* what a failing recv, send, read or write answers */
-static ssize_t failed(void) { return strcmp(how, "end") ? -1 : 0; }
+static ssize_t failed(void) { return errno ? -1 : 0; }
 
 static int is_socket(int fd) {
     struct stat it;
@@ -93,6 +101,36 @@ int socket(int domain, int type, int protocol) {
 
 int bind(int fd, const struct sockaddr *name, socklen_t size) {
     return fails("bind", EADDRINUSE) ? -1 : REAL(bind)(fd, name, size);
+}
+
+int open(const char *path, int flags, ...) {
+    va_list more;
+    va_start(more, flags);
+    mode_t mode = flags & O_CREAT ? va_arg(more, mode_t) : 0;
+    va_end(more);
+    return fails("open", EACCES) ? -1 : REAL(open)(path, flags, mode);
+}
+
+int close(int fd) {
+    int is_failing = fails("close", EIO), error = errno, answer = REAL(close)(fd);
+    if (is_failing) {
+        errno = error;
+        answer = -1;
+    }
+    return answer;
+}
+
+/* whether a socket waits or not is set so */
+int ioctl(int fd, unsigned long request, ...) {
+    va_list more;
+    va_start(more, request);
+    void *with = va_arg(more, void *);
+    va_end(more);
+    return fails("ioctl", ENOMEM) ? -1 : REAL(ioctl)(fd, request, with);
+}
+
+int poll(struct pollfd *asked, nfds_t count, int milliseconds) {
+    return fails("poll", ENOMEM) ? -1 : REAL(poll)(asked, count, milliseconds);
 }
 
 /* connects to a listener before anybody else does, and stays */
@@ -183,8 +221,12 @@ ssize_t write(int fd, const void *bytes, size_t count) {
     return REAL(write)(fd, bytes, count);
 }
 
+int sched_getaffinity(pid_t which, size_t size, cpu_set_t *set) {
+    return fails("sched_getaffinity", EINVAL) ? -1 : REAL(sched_getaffinity)(which, size, set);
+}
+
 int pthread_create(pthread_t *made, const pthread_attr_t *how_made, void *(*run)(void *), void *with) {
-    int answer = fails("thread", EAGAIN) ? EAGAIN : REAL(pthread_create)(made, how_made, run, with);
+    int answer = fails("thread", EAGAIN) ? errno : REAL(pthread_create)(made, how_made, run, with);
     started += !answer;
     return answer;
 }

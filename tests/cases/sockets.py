@@ -1,11 +1,15 @@
-"""Each call of a socket, and each start of a thread, failed in turn: the same bytes go out, and the report tells it."""
+"""Calls of sockets and starts of threads that fail for good, and what else sockets do: the same bytes go out, and the
+report tells it. What one failed call costs is in calls.py."""
 import sys
+from errno import EAGAIN, ECONNRESET, EINTR
 
 from cases.running import SMALL_FOREST, SMALL_NET, Program, Report, case, drawn_graph, expect, told_by
 from cases.workers import over
 
 WORKERS, SHARDS = 2, 4
 FAR = str(10**9)
+# in place of an error: a recv gives nothing, and a send takes nothing
+NOTHING = 0
 
 
 def failed_from(room, source, text, call, number, more, workers=WORKERS):
@@ -53,38 +57,16 @@ def expect_some(reports, least):
         raise AssertionError(f"only {len(reports)} calls failed: is the library preloaded?")
 
 
-def no_pair_lost_but_one(room, source, text):
-    """A pair that can't be made, or whose thread can't be started, is left out; the other answers all."""
-    for call in ["connect", "accept", "nodelay", "thread"]:
-        reports = each_failed(room, source, text, call)
-        expect_some(reports, WORKERS)
-        for report in reports:
-            if report.alone or report.closed:
-                raise AssertionError(f"{call}: no worker was left: {vars(report)}")
-
-
-def no_line_lost_but_one(room, source, text, how):
-    """A line is closed where a call on it fails, and the other answers what it didn't."""
-    for call in ["recv", "send"]:
-        reports = each_failed(room, source, text, call, FAIL_HOW=how)
-        expect_some(reports, 20)
-        for report in reports:
-            if report.alone or report.closed > 1:
-                raise AssertionError(f"{call} {how}: more than one line was lost: {vars(report)}")
-        if not any(report.closed for report in reports):
-            raise AssertionError(f"{call} {how}: no line was closed")
-
-
-def all_lost_from_there(room, source, text, how):
+def all_lost_from_there(room, source, text, error):
     """Where all later calls fail too, what no worker answered is scanned alone, once both lines are closed."""
     for call in ["recv", "send"]:
-        reports = each_failed(room, source, text, call, FAIL_HOW=how, FAIL_LAST=FAR)
+        reports = each_failed(room, source, text, call, FAIL_ERROR=str(error), FAIL_LAST=FAR)
         expect_some(reports, 20)
         for report in reports:
             if report.alone and report.closed != WORKERS:
-                raise AssertionError(f"{call} {how}: scanned alone beside an open line: {vars(report)}")
+                raise AssertionError(f"{call} {error}: scanned alone beside an open line: {vars(report)}")
         if (reports[0].closed, reports[0].answered) != (WORKERS, 0):
-            raise AssertionError(f"{call} {how}: an answer came over a dead line: {vars(reports[0])}")
+            raise AssertionError(f"{call} {error}: an answer came over a dead line: {vars(reports[0])}")
 
 
 def no_worker_left(room, call):
@@ -95,21 +77,8 @@ def no_worker_left(room, call):
 
 
 @case
-def each_call_that_makes_a_pair_fails(room):
-    no_pair_lost_but_one(room, SMALL_NET, SMALL_FOREST)
-
-
-@case
-def each_call_that_makes_a_listener_fails(room):
-    # (pairs have sockets and names too)
-    for call in ["socket", "setsockopt", "bind", "listen", "getsockname"]:
-        expect_some(each_failed(room, SMALL_NET, SMALL_FOREST, call), 1)
-        no_worker_left(room, call)
-
-
-@case
-def no_pair_and_no_thread_can_be_made(room):
-    for call in ["connect", "accept", "nodelay", "thread"]:
+def no_listener_no_pair_and_no_thread_can_be_made(room):
+    for call in ["socket", "setsockopt", "bind", "listen", "getsockname", "connect", "accept", "nodelay", "thread"]:
         for number in [1, 2]:
             failed_from(room, SMALL_NET, SMALL_FOREST, call, number, {"FAIL_LAST": FAR})
         no_worker_left(room, call)
@@ -126,24 +95,21 @@ def a_stranger_connects_first(room):
 
 
 @case
-def each_read_and_write_of_a_socket_fails(room):
-    for how in ["error", "interrupted", "end"]:
-        no_line_lost_but_one(room, SMALL_NET, SMALL_FOREST, how)
-
-
-@case
 def each_read_and_write_of_a_socket_fails_for_good(room):
-    for how in ["error", "end"]:
-        all_lost_from_there(room, SMALL_NET, SMALL_FOREST, how)
+    for error in [ECONNRESET, NOTHING]:
+        all_lost_from_there(room, SMALL_NET, SMALL_FOREST, error)
+    file, text = drawn_graph(7, 3000, 10_000)
+    all_lost_from_there(room, file, text, ECONNRESET)
 
 
 @case
 def a_failed_read_or_write_of_a_socket_is_not_tried_again(room):
-    for how in ["error", "interrupted"]:
+    for error in [ECONNRESET, EINTR, EAGAIN]:
+        how = {"FAIL_ERROR": str(error)}
         for call, last in [("recv", 4), ("send", 0)]:
             number, passed = 1, []
             while True:
-                failed, closed = expect_not_tried_again(room, call, number, {"FAIL_HOW": how})
+                failed, closed = expect_not_tried_again(room, call, number, how)
                 if not failed:
                     break
                 passed += [] if closed else [number]
@@ -153,7 +119,7 @@ def a_failed_read_or_write_of_a_socket_is_not_tried_again(room):
                 raise AssertionError(f"{call} {how}: {number - 1} calls failed, and no line was closed at {passed}")
             # with a byte at a time most calls are within a frame
             for number in [*range(1, 40), 222, 333, 444, 555, 666]:
-                if expect_not_tried_again(room, call, number, {"FAIL_HOW": how, "SHORT": "1"}) != (True, True):
+                if expect_not_tried_again(room, call, number, {**how, "SHORT": "1"}) != (True, True):
                     raise AssertionError(f"{call} {how}, a byte at a time: nothing was closed at {number}")
 
 
@@ -166,14 +132,6 @@ def nobody_else_is_listened_to(room):
         expect(found, 0, b"", b"")
         expect((told.strip(b"T"), b"", b""), wanted, b"", b"")
     failed_from(room, SMALL_NET, SMALL_FOREST, "none", 1, {}, workers=8)
-
-
-@case
-def each_call_fails_on_ten_thousand_arcs(room):
-    file, text = drawn_graph(7, 3000, 10_000)
-    no_pair_lost_but_one(room, file, text)
-    no_line_lost_but_one(room, file, text, "error")
-    all_lost_from_there(room, file, text, "error")
 
 
 @case

@@ -1,4 +1,5 @@
-"""Streams that fail or dribble: a full output, one whose reader goes away, closed descriptors, an input byte by byte."""
+"""Streams that fail or dribble: a full output, one whose reader goes away, closed descriptors, an input byte by byte.
+Each read and each write that fails once is in calls.py."""
 import fcntl
 import os
 import re
@@ -156,49 +157,6 @@ def an_input_that_comes_a_byte_at_a_time(_room):
                 time.sleep(0.001)
             output = started.communicate(timeout=SECONDS)[0]
         expect((started.returncode, output, b""), 0, SMALL_FOREST, b"")
-
-
-@case
-def each_read_of_a_file_and_of_standard_input_fails(room):
-    # once alone, and the read behind it would pass: it is told with the line that it would have gone on with
-    file, text = drawn_graph(16, 20_000, 15_000)
-    name = written(f"{room}/net.gr", file)
-    reads = -(-len(file) // READ_ROOM) + 1
-    if reads < 4:
-        raise AssertionError(f"only {reads} reads of {len(file)} bytes")
-    for words in MODES:
-        for shell in ['exec "$@" "$0"', 'exec "$@" < "$0"']:
-            for how in ["error", "interrupted"]:
-                for number in range(1, reads + 2):
-                    fails = {"FAIL_CALL": "read", "FAIL_NUMBER": str(number), "FAIL_HOW": how}
-                    found, told = told_by(room, ["sh", "-c", shell, name, Program.path, *words], b"", fails)
-                    line = file[: READ_ROOM * (number - 1)].count(b"\n") + 1
-                    errors = f"boruvka: line {line}: read failed\n".encode()
-                    wanted = ((3, b"", errors), b"x") if number <= reads else ((0, text, b""), b"")
-                    if (found, told) != wanted:
-                        raise AssertionError(f"{words} {shell} {how} {number}: wanted {wanted!r:.300}, found {found!r:.600}, told {told!r}")
-
-
-@case
-def each_write_of_a_forest_fails(room):
-    # once alone, and the write behind it would pass: what was taken before it is told, and nothing goes out after it
-    file, text = drawn_graph(17, 6000, 12_000)
-    for words in MODES:
-        for how in ["error", "interrupted", "end"]:
-            number, before = 1, b""
-            while True:
-                fails = {"FAIL_CALL": "write", "FAIL_NUMBER": str(number), "FAIL_HOW": how}
-                found, told = told_by(room, [Program.path, *words], file, fails)
-                if not told:
-                    break
-                output = found[1]
-                wanted = (3, text[: len(output)], f"boruvka: write failed after {len(output)} bytes\n".encode())
-                if (found, told) != (wanted, b"x") or number > 1 and len(output) < len(before) + LEAST_PIECE:
-                    raise AssertionError(f"{words} {how} {number}: found {found!r:.300}, told {told!r}, {len(before)} bytes before")
-                number, before = number + 1, output
-            expect(found, 0, text, b"")
-            if number < 5:
-                raise AssertionError(f"only {number - 1} writes failed: is the library preloaded?")
 
 
 @case

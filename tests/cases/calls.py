@@ -1,0 +1,302 @@
+"""Each call of the system that the program makes failed once, at each place up to the last, by each of many errors.
+
+A place is the number of a call among those of its name in one run. What a failed call may cost is what README.md says
+of it: FILE or a stream a status and a line, a worker nothing but that worker, and a close nothing.
+"""
+import re
+from errno import EAGAIN, ECONNRESET, EINPROGRESS, EINTR, EIO, EMFILE, ENOMEM, ENOSPC, EPIPE, errorcode
+
+from cases.running import (
+    NOTHING_WRITTEN,
+    SMALL_FOREST,
+    SMALL_NET,
+    Program,
+    Report,
+    case,
+    drawn_graph,
+    told_by,
+    written,
+)
+from cases.sockets import NOTHING
+from cases.streams import LEAST_PIECE, READ_ROOM
+from cases.workers import over
+
+ERRORS = [ECONNRESET, EINTR, EAGAIN, ENOMEM, EMFILE, EPIPE]
+
+# so many workers and shards; by one thread there are none
+PLAIN = (0, 0)
+OVER_WORKERS = [(2, 2), (3, 4)]
+
+# the calls that make a worker, but for its thread, and how many of each it takes
+MAKING = {
+    "socket": 2,
+    "setsockopt": 1,
+    "bind": 1,
+    "listen": 1,
+    "getsockname": 2,
+    "ioctl": 2,
+    "connect": 1,
+    "poll": 1,
+    "nodelay": 2,
+    "accept": 1,
+}
+# the library makes these again where they are interrupted, and no others
+TRIED_AGAIN = ["open", "poll", "accept"]
+
+
+def costs_nothing(call, error):
+    return call in TRIED_AGAIN and error == EINTR
+
+
+def words_for(size):
+    return ["--plain"] if size == PLAIN else over(*size)
+
+
+class Run:
+    """What a command did whose call of this name and number failed by this error, or those up to another number; how
+    many failed, and how many threads were joined. None was left, and no text for the user went to a socket."""
+
+    def __init__(self, room, command, source, call, number, error, last=None):
+        environment = {"FAIL_CALL": call, "FAIL_NUMBER": str(number), "FAIL_ERROR": str(error), "JOINED": "1"}
+        if last:
+            environment["FAIL_LAST"] = str(last)
+        self.found, told = told_by(room, command, source, environment, seconds=20)
+        self.number, self.error = number, error
+        self.what = f"{' '.join(command[1:])}: {call} {number} {errorcode.get(error, 'nothing')}"
+        telling = re.fullmatch(rb"(x*)(j*)", told)
+        if not telling:
+            raise AssertionError(f"{self.what}: told {told!r}: {self.found!r:.600}")
+        self.failed, self.threads = len(telling[1]), len(telling[2])
+
+    def expect(self, status, output, errors):
+        wanted = (status, output, errors)
+        if self.found != wanted:
+            raise AssertionError(f"{self.what}: wanted {wanted!r:.300}, found {self.found!r:.600}")
+
+    def expect_report(self, text, size):
+        """It wrote this text and ended well, and the equations of its report hold; it answers the report."""
+        self.expect(0, text, self.found[2])
+        report = Report(self.found[2])
+        report.expect_total(text)
+        if size != PLAIN:
+            report.expect_equations(size[1], size[0])
+        return report
+
+    def expect_workers(self, text, size, left, without=0):
+        """It ended well with so many workers left, and no line of theirs was closed. Each has a thread, and so has
+        each ferry of a round but one, `without` those that couldn't be started."""
+        report = self.expect_report(text, size)
+        rounds = 0 if size == PLAIN else report.rounds + 1
+        alone = 0 if left else rounds * size[1]
+        threads = left + rounds * max(0, left - 1) - without
+        if (report.alone, report.closed, self.threads) != (alone, 0, threads):
+            raise AssertionError(f"{self.what}: {left} workers are left and {threads} threads: {self.threads}, {vars(report)}")
+
+
+def each_place(room, command, source, call, errors):
+    """Fails a call of this name at one place after another, by these errors in turn, until none is left to fail, and
+    answers these runs. In the last no call failed."""
+    runs = []
+    while not runs or runs[-1].failed:
+        number = len(runs) + 1
+        runs.append(Run(room, command, source, call, number, errors[number % len(errors)]))
+    return runs
+
+
+def each_error(room, size, graph, call, errors, more=()):
+    """The runs over so many workers and shards in which a call of this name failed, for each error a list of them. On
+    the small net each place is failed by each error, and on others by one."""
+    file, _ = graph
+    command = [Program.path, *words_for(size), "--report", *more]
+    turns = [[it] for it in errors] if file == SMALL_NET else [errors]
+    return [each_place(room, command, b"" if more else file, call, turn) for turn in turns]
+
+
+def expect_places(runs, count):
+    if len(runs) - 1 != count:
+        raise AssertionError(f"{runs[-1].what}: {len(runs) - 1} calls failed in turn, and not {count}")
+
+
+def graphs():
+    return [(SMALL_NET, SMALL_FOREST), drawn_graph(7, 3000, 10_000)]
+
+
+@case
+def each_call_that_makes_a_worker_fails_by_each_error(room):
+    # it is left out, and the others answer all
+    for graph in graphs():
+        for size in OVER_WORKERS:
+            for call, count in MAKING.items():
+                # (EINPROGRESS tells of a connection that isn't begun)
+                errors = [*ERRORS, EINPROGRESS] if call == "connect" else ERRORS
+                for runs in each_error(room, size, graph, call, errors):
+                    expect_places(runs, count * size[0])
+                    for run in runs:
+                        is_lost = run.failed and not costs_nothing(call, run.error)
+                        run.expect_workers(graph[1], size, size[0] - is_lost)
+
+
+@case
+def no_socket_and_no_thread_by_one_thread(room):
+    for call in [*MAKING, "recv", "send", "thread"]:
+        for runs in each_error(room, PLAIN, (SMALL_NET, SMALL_FOREST), call, [ENOMEM]):
+            expect_places(runs, 0)
+            runs[0].expect_workers(SMALL_FOREST, PLAIN, 0)
+
+
+@case
+def each_thread_fails_to_start_by_each_error(room):
+    # that of a worker, which is left out, or of a ferry, whose round goes on without it
+    for graph in graphs():
+        for size in OVER_WORKERS:
+            workers = size[0]
+            for runs in each_error(room, size, graph, "thread", ERRORS):
+                expect_places(runs, runs[-1].threads)
+                for run in runs:
+                    is_lost = run.failed and run.number <= workers
+                    run.expect_workers(graph[1], size, workers - is_lost, run.failed - is_lost)
+
+
+@case
+def each_close_fails_by_each_error(room):
+    # of FILE, of what looks whether the standard descriptors are open, of each listener and of both ends of each line
+    for file, text in graphs():
+        name = written(f"{room}/net.gr", file)
+        for size in [PLAIN, *OVER_WORKERS]:
+            for runs in each_error(room, size, (file, text), "close", ERRORS, [name]):
+                expect_places(runs, 1 if size == PLAIN else 2 + 3 * size[0])
+                for run in runs:
+                    run.expect_workers(text, size, size[0])
+
+
+@case
+def each_read_and_write_of_a_line_fails_by_each_error(room):
+    # its line is closed, and the others answer what it didn't
+    for graph in graphs():
+        for size in OVER_WORKERS:
+            for call in ["recv", "send"]:
+                for runs in each_error(room, size, graph, call, [*ERRORS, NOTHING]):
+                    reports = [it.expect_report(graph[1], size) for it in runs]
+                    for run, report in zip(runs, reports):
+                        if report.alone or report.closed > run.failed:
+                            raise AssertionError(f"{run.what}: more than one line was lost: {vars(report)}")
+                    closed = sum(it.closed for it in reports)
+                    if len(runs) < 15 or closed < len(runs) // 2:
+                        raise AssertionError(f"{call}: {len(runs) - 1} calls failed, and {closed} lines were closed")
+
+
+@case
+def each_open_fails_by_each_error(room):
+    # of FILE first, and then of what looks whether the standard descriptors are open, without which no worker starts
+    for file, text in graphs():
+        name = written(f"{room}/net.gr", file)
+        unopened = f"boruvka: cannot open {name}\n".encode()
+        for size in [PLAIN, *OVER_WORKERS]:
+            for runs in each_error(room, size, (file, text), "open", ERRORS, [name]):
+                expect_places(runs, 1 if size == PLAIN else 2)
+                for run in runs:
+                    if not run.failed or costs_nothing("open", run.error):
+                        run.expect_workers(text, size, size[0])
+                    elif run.number == 1:
+                        run.expect(3, b"", unopened)
+                    else:
+                        run.expect_workers(text, size, 0)
+
+
+@case
+def what_holds_a_closed_descriptor_cannot_be_opened(room):
+    # then no socket gets its number, since none is made; where the open is tried again there are workers as ever
+    unread = b"boruvka: line 1: read failed\n"
+    rows = [
+        ("<&-", 2, unread),
+        (">&-", 2, NOTHING_WRITTEN),
+        ("<&- >&-", 3, unread),
+        (">&- 2>&-", 3, b""),
+        ("<&- >&- 2>&-", 3, b""),
+    ]
+    for closed, opens, errors in rows:
+        for size in OVER_WORKERS:
+            command = ["sh", "-c", f'exec "$0" "$@" {closed}', Program.path, *words_for(size)]
+            for error in ERRORS:
+                runs = each_place(room, command, SMALL_NET, "open", [error])
+                expect_places(runs, opens)
+                for run in runs:
+                    run.expect(3, b"", errors)
+                    if bool(run.threads) != (not run.failed or costs_nothing("open", error)):
+                        raise AssertionError(f"{run.what}: {run.threads} threads")
+
+
+@case
+def each_read_of_a_file_and_of_standard_input_fails(room):
+    # it is told with the line that it would have gone on with; the read behind it would pass
+    for file, text in [(SMALL_NET, SMALL_FOREST), drawn_graph(16, 20_000, 15_000)]:
+        name = written(f"{room}/net.gr", file)
+        reads = -(-len(file) // READ_ROOM) + 1
+        for size in [PLAIN, *OVER_WORKERS]:
+            for shell in ['exec "$@" "$0"', 'exec "$@" < "$0"']:
+                command = ["sh", "-c", shell, name, Program.path, *words_for(size)]
+                for error in [*ERRORS, EIO]:
+                    runs = each_place(room, command, b"", "read", [error])
+                    expect_places(runs, reads)
+                    for run in runs[:-1]:
+                        line = file[: READ_ROOM * (run.number - 1)].count(b"\n") + 1
+                        run.expect(3, b"", f"boruvka: line {line}: read failed\n".encode())
+                    runs[-1].expect(0, text, b"")
+
+
+@case
+def each_write_of_a_forest_fails(room):
+    # what was taken before it is told, and nothing goes out after it; the write behind it would pass
+    for file, text in [(SMALL_NET, SMALL_FOREST), drawn_graph(17, 6000, 12_000)]:
+        for size in [PLAIN, *OVER_WORKERS]:
+            for error in [*ERRORS, EIO, ENOSPC, NOTHING]:
+                runs = each_place(room, [Program.path, *words_for(size)], file, "write", [error])
+                before = -LEAST_PIECE
+                for run in runs[:-1]:
+                    output = run.found[1]
+                    run.expect(3, text[: len(output)], f"boruvka: write failed after {len(output)} bytes\n".encode())
+                    if len(output) < before + LEAST_PIECE or run.number == 1 and output:
+                        raise AssertionError(f"{run.what}: {len(output)} bytes went out, and {before} before the write before")
+                    before = len(output)
+                runs[-1].expect(0, text, b"")
+                if len(runs) - 1 <= len(text) // 8192:
+                    raise AssertionError(f"only {len(runs) - 1} writes of {len(text)} bytes")
+
+
+@case
+def what_standard_error_does_not_take_changes_no_status(room):
+    # (words, a file, the first and the last write that fail, status, output)
+    missing = f"{room}/none.gr"
+    rows = [
+        (["--report"], SMALL_NET, 2, 2, 0, SMALL_FOREST),
+        ([], SMALL_NET, 1, 2, 3, b""),
+        ([], b"p sp 2 2\na 1 2 5\n", 1, 1, 1, b""),
+        ([missing], b"", 1, 1, 3, b""),
+        (["--shards", "0"], b"", 1, 1, 2, b""),
+        (["--help"], b"", 1, 2, 3, b""),
+    ]
+    for more, file, first, last, status, output in rows:
+        for size in [PLAIN, *OVER_WORKERS]:
+            words = more if "--shards" in more else [*words_for(size), *more]
+            for error in [*ERRORS, EIO, NOTHING]:
+                run = Run(room, [Program.path, *words], file, "write", first, error, last)
+                run.expect(status, output, b"")
+                if run.failed != last - first + 1:
+                    raise AssertionError(f"{run.what}: {run.failed} writes failed")
+
+
+@case
+def each_call_of_a_scan_by_threads_fails(room):
+    # (the scan asks how many processors there are, which a file tells too)
+    size = (2, 1)
+    graph = drawn_graph(11, 700, 140_000)
+    for call in ["open", "sched_getaffinity", "thread", "close"]:
+        for runs in each_error(room, size, graph, call, ERRORS):
+            if len(runs) < 2:
+                raise AssertionError(f"{call}: no call failed")
+            for run in runs:
+                report = run.expect_report(graph[1], size)
+                # (the first open is of what looks whether the standard descriptors are open)
+                is_alone = call == "open" and run.number == 1 and not costs_nothing(call, run.error)
+                if report.closed or bool(report.alone) != is_alone:
+                    raise AssertionError(f"{run.what}: a worker was lost: {vars(report)}")
