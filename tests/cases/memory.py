@@ -1,23 +1,15 @@
 """Refused memory: each allocation in turn, alone and with all that follow; little address space."""
-import os
 import resource
 
-from cases.running import NO_MEMORY, SMALL_FOREST, SMALL_NET, SMALL_REPORT, Report, built, case, drawn_graph, expect, ran, written
+from cases.running import NO_MEMORY, SMALL_FOREST, SMALL_NET, SMALL_REPORT, Program, Report, case, drawn_graph, expect, ran, told_by, written
 from cases.workers import over
 
 
 def refused(room, words, source, first, last):
     """What the program did with the allocations from the first to the last refused, and how many were."""
-    reader, writer = os.pipe()
-    env = {**os.environ, "LD_PRELOAD": built(room, "refusing"), "REFUSED": str(writer), "REFUSE_FIRST": str(first)}
-    if last:
-        env["REFUSE_LAST"] = str(last)
-    try:
-        found = ran(words, source, env=env, pass_fds=[writer])
-    finally:
-        os.close(writer)
-    with os.fdopen(reader, "rb") as it:
-        return found, len(it.read())
+    environment = {"REFUSE_FIRST": str(first), **({"REFUSE_LAST": str(last)} if last else {})}
+    found, told = told_by(room, [Program.path, *words], source, environment, library="refusing")
+    return found, len(told)
 
 
 def each_refused(room, words, source, output, errors, status=0):

@@ -35,8 +35,9 @@ def case(function):
 
 
 def run(words, source=b"", output=subprocess.PIPE, seconds=SECONDS, **more):
-    """Status, standard output and standard error."""
-    ended = subprocess.run(words, input=source, stdout=output, stderr=subprocess.PIPE, timeout=seconds, **more)
+    """Status, standard output and standard error. The source is bytes, which go in by a pipe, or an open file."""
+    given = {"input": source} if isinstance(source, bytes) else {"stdin": source}
+    ended = subprocess.run(words, stdout=output, stderr=subprocess.PIPE, timeout=seconds, **given, **more)
     return ended.returncode, ended.stdout, ended.stderr
 
 
@@ -45,11 +46,12 @@ def ran(words, source=b"", output=subprocess.PIPE, **more):
     return run([Program.path, *words], source, output, **more)
 
 
-def told_by(room, words, source, environment, **more):
+def told_by(room, words, source, environment, library="failing", **more):
     """What was run with tests/failing.c preloaded did, and what that library told: an `x` for each call that failed,
-    a `T` for each text for the user that went to a socket, and a `J` where a thread wasn't joined at the end."""
+    a `T` for each text for the user that went to a socket, and a `J` where a thread wasn't joined at the end. With
+    tests/refusing.c it is an `x` for each allocation that was refused."""
     reader, writer = os.pipe()
-    env = {**os.environ, "LD_PRELOAD": built(room, "failing"), "TOLD": str(writer), **environment}
+    env = {**os.environ, "LD_PRELOAD": built(room, library), "TOLD": str(writer), "REFUSED": str(writer), **environment}
     try:
         found = run(words, source, env=env, pass_fds=[writer], **more)
     finally:
@@ -81,26 +83,44 @@ def written(path, source):
     return path
 
 
-def drawn_graph(seed, vertices, arcs):
-    """A file with loops, repeats and equal weights, and the text of its forest."""
-    draw = random.Random(seed)
-    rows = [(draw.randint(1, vertices), draw.randint(1, vertices), draw.randint(-50, 50)) for _ in range(arcs)]
-    file = f"p sp {vertices} {arcs}\n" + "".join(f"a {u} {v} {w}\n" for u, v, w in rows)
-    parent = list(range(vertices + 1))
+class Components:
+    """Which vertices are joined so far."""
 
-    def root(v):
+    def __init__(self, vertices):
+        self.parent = list(range(vertices + 1))
+
+    def root(self, v):
+        parent = self.parent
         while parent[v] != v:
             parent[v] = parent[parent[v]]
             v = parent[v]
         return v
 
-    taken = []
-    for weight, low, high in sorted((w, min(u, v), max(u, v)) for u, v, w in rows if u != v):
-        if root(low) != root(high):
-            parent[root(low)] = root(high)
-            taken.append((weight, low, high))
-    text = f"p sp {vertices} {len(taken)}\n" + "".join(f"a {low} {high} {weight}\n" for weight, low, high in taken)
-    return file.encode(), text.encode()
+    def join(self, u, v):
+        """Joins them, and answers whether they weren't joined before."""
+        u, v = self.root(u), self.root(v)
+        self.parent[u] = v
+        return u != v
+
+
+def forest_of(vertices, arcs):
+    """The links of the forest of these arcs (U, V, W), by Kruskal's algorithm: their keys, ascending."""
+    components = Components(vertices)
+    keys = sorted((w, min(u, v), max(u, v)) for u, v, w in arcs if u != v)
+    return [key for key in keys if components.join(*key[1:])]
+
+
+def forest_text(vertices, links):
+    """The text of a forest of these keys."""
+    return (f"p sp {vertices} {len(links)}\n" + "".join(f"a {low} {high} {weight}\n" for weight, low, high in links)).encode()
+
+
+def drawn_graph(seed, vertices, arcs):
+    """A file with loops, repeats and equal weights, and the text of its forest."""
+    draw = random.Random(seed)
+    rows = [(draw.randint(1, vertices), draw.randint(1, vertices), draw.randint(-50, 50)) for _ in range(arcs)]
+    file = f"p sp {vertices} {arcs}\n" + "".join(f"a {u} {v} {w}\n" for u, v, w in rows)
+    return file.encode(), forest_text(vertices, forest_of(vertices, rows))
 
 
 def total_of(text):

@@ -105,8 +105,7 @@ def a_standard_input_that_cannot_be_read(_room):
     # a descriptor that is open for writing alone
     for words in MODES:
         with open(os.devnull, "wb") as written_only:
-            ended = subprocess.run([Program.path, *words], stdin=written_only, stdout=subprocess.PIPE, stderr=subprocess.PIPE, timeout=SECONDS)
-        expect((ended.returncode, ended.stdout, ended.stderr), 3, b"", b"boruvka: line 1: read failed\n")
+            expect(ran(words, written_only), 3, b"", b"boruvka: line 1: read failed\n")
 
 
 @case
