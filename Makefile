@@ -1,6 +1,7 @@
 # `make help` says what each target does.
 
 PREFIX ?= /usr/local
+MINUTES ?= 5
 PROGRAM := crates/boruvka/out/boruvka
 BENCH := crates/bench/out/bench
 SOURCES := $(shell find crates -path '*/out' -prune -o -type f \( -name '*.rt' -o -name '*.antt' \) -print) crates.txt
@@ -9,12 +10,13 @@ UNDER := '$(subst ','\'',$(DESTDIR)$(PREFIX))'
 BIN := $(UNDER)/bin
 MAN := $(UNDER)/share/man/man1
 
-.PHONY: help run test wrong install uninstall bench clean
+.PHONY: help run test wrong soak install uninstall bench clean
 
 help:
 	@echo 'make run        proves and builds the program, and runs it on examples/small.gr'
 	@echo 'make test       the gate: all proofs from nothing, the wrong bodies of must-fail/, the tests, the program whole'
 	@echo 'make wrong      tries the wrong bodies of wrong-bodies/, many at a time'
+	@echo 'make soak       tries the program on drawn cases, MINUTES=$(MINUTES) long; needs Python 3 and a C compiler'
 	@echo 'make install    puts the proved program into PREFIX/bin, its manual page into PREFIX/share/man (PREFIX=$(PREFIX))'
 	@echo 'make uninstall  takes them away'
 	@echo 'make bench      times it beside a C++ program; needs Python 3, a C++17 compiler and GNU time'
@@ -28,6 +30,9 @@ test:
 
 wrong:
 	@python3 tests/wrong_bodies.py
+
+soak: $(PROGRAM)
+	@python3 tests/soak.py --minutes $(MINUTES) $(PROGRAM)
 
 install: $(PROGRAM)
 	install -d $(BIN) $(MAN)

@@ -1,0 +1,1 @@
+"""What tests/soak.py draws, and what it compares, by subject."""

@@ -1,0 +1,138 @@
+"""What a run has to answer of a text: the forest of what it means, or its first fault, from docs/GR_FORMAT.md alone."""
+import re
+from dataclasses import dataclass
+
+from cases.running import Components, forest_of, forest_text
+
+FIELD = re.compile(rb"[^ \t\r]+")
+DIGITS = re.compile(rb"[0-9]+")
+SIGNED = re.compile(rb"-?[0-9]+")
+MOST_VERTICES, MOST_ARCS = 2**26, 2**30
+LEAST_WEIGHT, MOST_WEIGHT = -(2**31), 2**31 - 1
+
+
+class Fault(Exception):
+    """The first fault of a text."""
+
+    def __init__(self, line, kind):
+        super().__init__(line, kind)
+        self.line, self.kind = line, kind
+
+
+def number_of(field):
+    """The number that a field writes. Twenty digits are past each limit, whatever follows them."""
+    digits = field.lstrip(b"-").lstrip(b"0")[:20]
+    return int(digits or b"0") * (-1 if field.startswith(b"-") else 1)
+
+
+class Graph:
+    """What the lines of a text said so far."""
+
+    def __init__(self):
+        self.vertices, self.stated, self.arcs = None, None, []
+
+    def fault_of(self, line):
+        """The kind of the fault of the next line, or None; then what it says is taken."""
+        fields = FIELD.findall(line)
+        if not fields or fields[0].startswith(b"c"):
+            return None
+        if fields[0] == b"p":
+            return self.fault_of_problem(fields)
+        if fields[0] == b"a":
+            return self.fault_of_arc(fields)
+        return "UnknownLine"
+
+    def fault_of_problem(self, fields):
+        if self.vertices is not None:
+            return "SecondProblem"
+        if len(fields) != 4 or fields[1] != b"sp" or not all(DIGITS.fullmatch(it) for it in fields[2:]):
+            return "BadProblem"
+        vertices, arcs = number_of(fields[2]), number_of(fields[3])
+        if vertices > MOST_VERTICES or arcs > MOST_ARCS:
+            return "TooLarge"
+        self.vertices, self.stated = vertices, arcs
+        return None
+
+    def fault_of_arc(self, fields):
+        if self.vertices is None:
+            return "NoProblemYet"
+        if len(self.arcs) == self.stated:
+            return "TooManyArcs"
+        if len(fields) != 4 or not all(DIGITS.fullmatch(it) for it in fields[1:3]) or not SIGNED.fullmatch(fields[3]):
+            return "BadArc"
+        u, v, weight = map(number_of, fields[1:])
+        if not (1 <= u <= self.vertices and 1 <= v <= self.vertices):
+            return "EndOutOfRange"
+        if not LEAST_WEIGHT <= weight <= MOST_WEIGHT:
+            return "WeightOutOfRange"
+        self.arcs.append((u, v, weight))
+        return None
+
+
+def judged(text, is_whole=True):
+    """The graph that a text means; raises its first fault. Of one that isn't whole only the ended lines are judged."""
+    *lines, rest = text.split(b"\n")
+    if rest and is_whole:
+        lines.append(rest)
+    graph = Graph()
+    for number, line in enumerate(lines, 1):
+        kind = graph.fault_of(line)
+        if kind:
+            raise Fault(number, kind)
+    if is_whole and graph.vertices is None:
+        raise Fault(len(lines) + 1, "MissingProblem")
+    if is_whole and len(graph.arcs) < graph.stated:
+        raise Fault(len(lines) + 1, "MissingArcs")
+    return graph
+
+
+@dataclass
+class Answer:
+    """What a run gives: its status, the two texts, and of a good end what a report tells beside them."""
+
+    status: int
+    output: bytes
+    errors: bytes
+    vertices: int = 0
+    links: int = 0
+    forest: tuple = ()
+
+
+def refusal(why, status=1):
+    return Answer(status, b"", f"boruvka: {why}\n".encode())
+
+
+def answer_to(text):
+    """What a run gives of a text where nothing fails."""
+    try:
+        graph = judged(text)
+    except Fault as it:
+        return refusal(f"line {it.line}: {it.kind}")
+    forest = forest_of(graph.vertices, graph.arcs)
+    links = sum(u != v for u, v, _ in graph.arcs)
+    return Answer(0, forest_text(graph.vertices, forest), b"", graph.vertices, links, forest)
+
+
+def answer_broken_off(text):
+    """What a run gives of a source whose read failed behind this text."""
+    try:
+        judged(text, is_whole=False)
+    except Fault as it:
+        return refusal(f"line {it.line}: {it.kind}")
+    ended = text.count(b"\n")
+    return refusal(f"line {ended + 1}: read failed", 3)
+
+
+def rounds_of(vertices, forest):
+    """How many of Borůvka's rounds take links. All that they pick are links of the forest, so these are enough."""
+    components, left, rounds = Components(vertices), forest, 0
+    while left:
+        picks = {}
+        for key in left:
+            for end in key[1:]:
+                picks.setdefault(components.root(end), key)
+        for _, low, high in picks.values():
+            components.join(low, high)
+        left = [key for key in left if components.root(key[1]) != components.root(key[2])]
+        rounds += 1
+    return rounds
