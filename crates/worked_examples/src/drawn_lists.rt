@@ -1,4 +1,4 @@
-// The solver beside a plain program, over drawn lists of arcs.
+// The solver beside a simple program, over drawn lists of arcs.
 ghost use Rattle.std.specs.Prelude.{◌≤◌, ◌<◌, ◌^◌};
 
 use link_key::{Link, forest_of, plain_forest};
@@ -7,7 +7,7 @@ use std::process::Abort;
 use std::test::Fail;
 use worked_graphs::{Row, links_of};
 
-// The links whose ends aren't joined by smaller ones, by the plain program: where two labels become one, each vertex
+// The links whose ends aren't joined by smaller ones, by the simple program: where two labels become one, each vertex
 // is looked at.
 fn slow_forest(
     rt: &impl Abort,
@@ -90,7 +90,7 @@ pub(crate) fn expect_forest(
     Ok(())
 }
 
-// The solver and the plain program give one forest of a drawn list, which is returned.
+// The solver and the simple program give one forest of a drawn list, which is returned.
 pub(crate) fn expect_one_forest(
     rt: &impl Abort,
     alloc: Global,

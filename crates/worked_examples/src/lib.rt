@@ -1,10 +1,11 @@
 //! Worked examples of files and forests, each a test that needs public calls alone. `worked_streams` has those of
 //! streams and frames, `worked_rounds` of shards and their workers, `worked_runs` of wires, rounds and solvers,
-//! `worked_lines` of whole runs over lines, and `worked_sockets` of workers over sockets.
+//! `worked_lines` of whole runs over lines, `worked_sockets` of workers over sockets, and `worked_failures` of each
+//! allocation refused in turn and of streams that fail at each byte.
 //!
 //! ```text
 //!   lists           links of arcs, labels, offers, forests; the forests of the worked graphs
-//!   drawn_lists     the solver beside a plain program, over drawn lists
+//!   drawn_lists     the solver beside a simple program, over drawn lists
 //!   drawn_texts     `.gr` texts in pieces and byte by byte, over drawn texts
 //!   reading         `.gr` texts, their faults, pieces and limits
 //!   writing         forest texts, how a sink is called, and how much of a text went out

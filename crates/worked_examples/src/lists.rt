@@ -4,7 +4,7 @@ use link_key::{Forest, Labels, Link, Offers};
 use std::test::Fail;
 use worked_graphs::{WORKED, links_of};
 
-// The plain program finds them too.
+// The simple program finds them too.
 #[test]
 fn forests_of_the_worked_graphs(rt: HostRuntime) -> Result<(), Fail> {
     for graph in WORKED {

@@ -1,0 +1,145 @@
+// Runs over the small net whose source fails at each byte, and whose sink fails, or takes nothing more, at each byte of
+// the forest's text.
+ghost use Rattle.std.specs.Prelude.{◌<◌, ◌≤◌, ◌-◌, ◌^◌};
+
+use crate::runs::worker;
+use byte_streams::{FusedSink, FusedSource, Sink, Source};
+use forest_run::{Cutting, RunFault, run_lines, run_plain};
+use gr_text::ReadFault;
+use std::alloc::Global;
+use std::process::Abort;
+use std::sync::Wait;
+use std::test::Fail;
+use std::thread::Threads;
+use worked_graphs::SMALL_NET;
+
+/// By one thread, or over two workers.
+#[derive(Clone, Copy)]
+enum Way {
+    OneThread,
+    TwoWorkers,
+}
+
+// Each way, over streams that give and take so many bytes at a time.
+const RUNS: [(Way, usize); 4] = [
+    (Way::OneThread, 1),
+    (Way::OneThread, 7),
+    (Way::TwoWorkers, 1),
+    (Way::TwoWorkers, 7),
+];
+
+// Why a run ends, if it doesn't end well.
+fn fault_of<S: Source, W: Sink, R: Threads + Wait + Sync + Abort>(
+    rt: &R,
+    alloc: Global,
+    way: Way,
+    source: &mut S,
+    sink: &mut W,
+) -> Result<Option<RunFault>, Fail>
+    requires can_read { S.can_read source.old }
+    requires can_write { W.can_write sink.old }
+{
+    match way {
+        Way::OneThread => Ok(run_plain(alloc, source, sink).err()),
+        Way::TwoWorkers => {
+            let lines = Vec::from_array(alloc, [worker(alloc, 0)?, worker(alloc, 1)?])?;
+            Ok(run_lines(rt, alloc, source, Cutting::Even(2), lines, sink).err())
+        }
+    }
+}
+
+// The source fails once so many bytes were given: the fault tells the line of the next byte, and nothing is written.
+// One that passes more bytes than there are gives the end.
+fn expect_read<R: Threads + Wait + Sync + Abort>(
+    rt: &R,
+    alloc: Global,
+    way: Way,
+    piece: usize,
+    passes: usize,
+) -> Result<(), Fail>
+    requires piece { 1 ≤ piece }
+{
+    let file = SMALL_NET.file;
+    let mut source = FusedSource::new(Vec::from_slice(alloc, file)?, passes, piece);
+    let mut sink = Vec::new(alloc);
+    let fault = fault_of(rt, alloc, way, &mut source, &mut sink)?;
+    if passes > file.len() {
+        assert!(rt; fault.is_none() && sink.as_slice() == SMALL_NET.text);
+        return Ok(());
+    }
+    let feeds = file[..passes].iter().filter(|it| **it == b'\n').count() as u64;
+    let failed = ReadFault::Source {
+        line: feeds.wrapping_add(1),
+    };
+    assert_eq!(rt; fault, Some(RunFault::Read(failed)), "after {passes} bytes");
+    assert!(rt; sink.is_empty());
+    Ok(())
+}
+
+#[test]
+fn a_source_that_fails_at_each_byte(rt: HostRuntime) -> Result<(), Fail> {
+    assert_eq!(rt; SMALL_NET.file.len(), 108);
+    for (way, piece) in RUNS {
+        assert!(rt; 1 <= piece);
+        for passes in 0..110usize {
+            expect_read(&rt, rt.alloc(), way, piece, passes)?;
+        }
+    }
+    Ok(())
+}
+
+// The sink, which has room for so many bytes, ends with these first bytes of the text; the fault tells how many they are.
+// Where the run ends well it has all of them.
+fn expect_written<R: Threads + Wait + Sync + Abort>(
+    rt: &R,
+    alloc: Global,
+    way: Way,
+    mut sink: FusedSink,
+    passes: usize,
+    ends_well: bool,
+) -> Result<(), Fail>
+    requires { sink.setbacks < 2 ^ 64 - 1 }
+{
+    let mut source = SMALL_NET.file;
+    let fault = fault_of(rt, alloc, way, &mut source, &mut sink)?;
+    let text = SMALL_NET.text;
+    let expected = if ends_well {
+        None
+    } else {
+        Some(RunFault::Write {
+            written: passes as u64,
+        })
+    };
+    assert_eq!(rt; fault, expected, "room for {passes} bytes");
+    assert_eq!(rt; sink.held(), &text[..passes.min(text.len())]);
+    Ok(())
+}
+
+// Room for just the text isn't enough for a sink that fails once it is full, since the flush fails.
+#[test]
+fn a_sink_that_fails_at_each_byte(rt: HostRuntime) -> Result<(), Fail> {
+    let alloc = rt.alloc();
+    assert_eq!(rt; SMALL_NET.text.len(), 50);
+    for (way, piece) in RUNS {
+        assert!(rt; 1 <= piece);
+        for passes in 0..52usize {
+            let sink = FusedSink::new(alloc, passes, piece)?;
+            expect_written(&rt, alloc, way, sink, passes, passes > 50)?;
+        }
+    }
+    Ok(())
+}
+
+// It is for one that takes nothing more, whose flush passes.
+#[test]
+fn a_sink_that_takes_nothing_more_at_each_byte(rt: HostRuntime) -> Result<(), Fail> {
+    let alloc = rt.alloc();
+    for (way, piece) in RUNS {
+        assert!(rt; 1 <= piece);
+        for passes in 0..52usize {
+            let sink = FusedSink::stopped(alloc, passes, piece)?;
+            expect_written(&rt, alloc, way, sink, passes, passes >= 50)?;
+        }
+    }
+    Ok(())
+}

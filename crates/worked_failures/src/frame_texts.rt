@@ -1,0 +1,181 @@
+// Frames that are written and read. A fault's bytes are made without memory.
+use crate::in_turn::{Memory, expect_each, or_refused};
+use crate::lists::links_of_six;
+use frames::{
+    Answer, Frame, FrameFault, decode_body, decode_head, encode, encode_ask, encode_ask_over,
+    encode_shard, fault_bytes, read_frame,
+};
+use link_key::{Labels, Offers, Shard};
+use std::alloc::{AllocError, Global};
+use std::process::Abort;
+use test_memory::{Refusals, Refusing};
+use worked_graphs::EQUAL_WEIGHTS;
+
+pub(crate) const HELLO: [u8; 11] = [1, 0, 0, 0, 6, 0, 1, 0, 0, 0, 0];
+
+// The triangle of equal weights as shard 0.
+pub(crate) const SHARD: [u8; 49] = [
+    2, 0, 0, 0, 44, 0, 0, 0, 0, 0, 0, 0, 3, 0, 0, 0, 1, 0, 0, 0, 2, 0, 0, 0, 5, 0, 0, 0, 2, 0, 0,
+    0, 3, 0, 0, 0, 5, 0, 0, 0, 1, 0, 0, 0, 3, 0, 0, 0, 5,
+];
+
+// The ask of round 1 for it, each vertex a component by itself.
+pub(crate) const ASK: [u8; 29] = [
+    3, 0, 0, 0, 24, 0, 0, 0, 1, 0, 0, 0, 0, 0, 0, 0, 3, 0, 0, 0, 1, 0, 0, 0, 2, 0, 0, 0, 3,
+];
+
+// Its answer.
+pub(crate) const ANSWER: [u8; 41] = [
+    4, 0, 0, 0, 36, 0, 0, 0, 1, 0, 0, 0, 0, 0, 0, 0, 3, 0, 0, 0, 1, 0, 0, 0, 0, 0, 0, 0, 2, 0, 0,
+    0, 0, 0, 0, 0, 3, 0, 0, 0, 2,
+];
+
+// The worker has no memory to answer the ask of round 1 for shard 0.
+pub(crate) const NO_MEMORY: [u8; 14] = [5, 0, 0, 0, 9, 0, 0, 0, 1, 0, 0, 0, 0, 1];
+
+// What is read of a frame's bytes is written as these bytes again.
+fn expect_again(
+    rt: &impl Abort,
+    memory: &Memory,
+    read: Result<Frame<&Memory>, FrameFault>,
+    bytes: &[u8],
+) -> Result<(), AllocError> {
+    let frame = or_refused(rt, read, FrameFault::Memory)?;
+    assert!(rt; frame.is_lawful());
+    let written = encode(memory, &frame)?;
+    assert!(rt; written.as_slice() == bytes);
+    Ok(())
+}
+
+#[derive(Clone, Copy)]
+enum Call {
+    ReadFrame(&'static [u8]),
+    DecodeBody(&'static [u8]),
+    EncodeShard,
+    EncodeAsk,
+    EncodeAskOver,
+    EncodeAnswer,
+}
+
+const CALLS: [Call; 14] = [
+    Call::ReadFrame(&HELLO),
+    Call::ReadFrame(&SHARD),
+    Call::ReadFrame(&ASK),
+    Call::ReadFrame(&ANSWER),
+    Call::ReadFrame(&NO_MEMORY),
+    Call::DecodeBody(&HELLO),
+    Call::DecodeBody(&SHARD),
+    Call::DecodeBody(&ASK),
+    Call::DecodeBody(&ANSWER),
+    Call::DecodeBody(&NO_MEMORY),
+    Call::EncodeShard,
+    Call::EncodeAsk,
+    Call::EncodeAskOver,
+    Call::EncodeAnswer,
+];
+
+// What is read is written again, and what is written is these bytes.
+fn make(rt: &impl Abort, alloc: Global, memory: &Memory, call: Call) -> Result<(), AllocError> {
+    match call {
+        Call::ReadFrame(bytes) => {
+            let mut source = bytes;
+            expect_again(rt, memory, read_frame(memory, &mut source), bytes)
+        }
+        Call::DecodeBody(bytes) => {
+            assert!(rt; bytes.len() > 5);
+            let (first, body) = bytes.split_at(5);
+            let mut head = [0; 5];
+            head.copy_from_slice(first);
+            let head = decode_head(&head).ok().expect(rt, "a head");
+            assert!(rt; body.len() == head.length as usize);
+            expect_again(rt, memory, decode_body(memory, head, body), bytes)
+        }
+        Call::EncodeShard => encode_triangle(rt, alloc, memory),
+        Call::EncodeAsk => {
+            let labels = Labels::apart(alloc, 3).expect(rt, "memory");
+            expect_text(rt, encode_ask(memory, 1, 0, &labels), &ASK)
+        }
+        Call::EncodeAskOver => {
+            let labels = Labels::apart(alloc, 3).expect(rt, "memory");
+            let mut text = Vec::new(memory);
+            encode_ask_over(&mut text, 1, 0, &labels)?;
+            expect_text(rt, Ok(text), &ASK)
+        }
+        Call::EncodeAnswer => encode_answer(rt, alloc, memory),
+    }
+}
+
+// The triangle's links as a shard.
+fn encode_triangle(rt: &impl Abort, alloc: Global, memory: &Memory) -> Result<(), AllocError> {
+    let links = links_of_six(rt, alloc, EQUAL_WEIGHTS.arcs);
+    assert!(rt; links.len() == 3);
+    let shard = Shard {
+        number: 0,
+        links: links.as_slice(),
+    };
+    expect_text(rt, encode_shard(memory, &shard), &SHARD)
+}
+
+// An answer of three offers.
+fn encode_answer(rt: &impl Abort, alloc: Global, memory: &Memory) -> Result<(), AllocError> {
+    let pairs = [(1, 0), (2, 0), (3, 2)].to_vec(alloc).expect(rt, "memory");
+    let frame = Frame::Answer(Answer {
+        round: 1,
+        shard: 0,
+        offers: Offers::of_pairs(pairs).expect(rt, "offers"),
+    });
+    assert!(rt; frame.is_lawful());
+    expect_text(rt, encode(memory, &frame), &ANSWER)
+}
+
+#[test]
+fn frames_that_are_read_and_written(rt: HostRuntime) {
+    for call in CALLS {
+        expect_each(
+            &rt,
+            rt.alloc(),
+            |memory: &Memory| -> Result<(), AllocError> { make(&rt, rt.alloc(), memory, call) },
+        );
+    }
+    assert_eq!(rt; fault_bytes(1, 0, 1), NO_MEMORY);
+}
+
+// A frame that is no lawful one is refused for its own reason, or for want of memory.
+#[test]
+fn frames_that_are_refused(rt: HostRuntime) {
+    let mut cut = ASK;
+    cut[28] = 4;
+    let mut kind = HELLO;
+    kind[0] = 7;
+    let mut version = HELLO;
+    version[6] = 3;
+    let refused: [(&[u8], FrameFault); 4] = [
+        (&cut, FrameFault::BadField),
+        (&ASK[..20], FrameFault::Torn),
+        (&kind, FrameFault::BadKind),
+        (&version, FrameFault::BadVersion),
+    ];
+    for (bytes, fault) in refused {
+        for number in 1..8u64 {
+            for refusals in [Refusals::only(number), Refusals::since(number)] {
+                let memory = Refusing::new(rt.alloc(), refusals);
+                let mut source = bytes;
+                let found = read_frame(&memory, &mut source).err();
+                let refused = memory.asked() >= number;
+                assert!(rt; found == Some(fault) || refused && found == Some(FrameFault::Memory));
+                assert_eq!(rt; memory.live(), 0);
+            }
+        }
+    }
+}
+
+// The text is these bytes.
+fn expect_text(
+    rt: &impl Abort,
+    text: Result<Vec<u8, &Memory>, AllocError>,
+    bytes: &[u8],
+) -> Result<(), AllocError> {
+    let text = text?;
+    assert!(rt; text.as_slice() == bytes);
+    Ok(())
+}

@@ -1,0 +1,38 @@
+//! Worked examples of what can fail: each call that may ask for memory is made with each of its allocations refused in
+//! turn, alone and with all that follow; and runs and sessions read from sources, and write into sinks, that fail at each
+//! byte. What an example is for, and where a new one goes, stands at the head of `worked_examples`; that the search for
+//! refusals finds what it should is tried in `worked_streams`.
+//!
+//! ```text
+//!   in_turn           the searches, and what a call may end with
+//!   lists             labels, cuts, forests
+//!   texts             files that are read whole, in pieces and from a source; sinks that are made
+//!   frame_texts       frames that are read and written
+//!   workers           scans, what a worker hears, its sessions
+//!   wires             a worker in memory, and asks over a wire to it
+//!   rounds            the board of claims, the book of a round, the solver
+//!   runs              whole runs
+//!   files, sessions   a source, and then a sink, that fails at each byte: of a run, and of a worker's session
+//! ```
+#![tactic(auto)]
+
+#[cfg(test)]
+mod files;
+#[cfg(test)]
+mod frame_texts;
+#[cfg(test)]
+mod in_turn;
+#[cfg(test)]
+mod lists;
+#[cfg(test)]
+mod rounds;
+#[cfg(test)]
+mod runs;
+#[cfg(test)]
+mod sessions;
+#[cfg(test)]
+mod texts;
+#[cfg(test)]
+mod wires;
+#[cfg(test)]
+mod workers;

@@ -1,0 +1,283 @@
+// The board of claims, the book of a round, and the solver. Claims, answers that are taken and what is judged before
+// anything grows need no memory.
+ghost use Rattle.std.specs.Prelude.{◌≡◌, ◌<◌, ◌≤◌, length, IfOk};
+ghost use Rattle.claim_board.specs.State.{AreSeats};
+ghost use Rattle.link_key.specs.Link.{EndsUpTo};
+ghost use Rattle.round_core.specs.Picks.{ArePicksOfHearings};
+
+use crate::in_turn::{Memory, expect_each, or_refused};
+use crate::lists::links_of_six;
+use claim_board::{Board, BoardFault, Claim, Seat};
+use frames::Answer;
+use link_key::{Cut, CutFault, Labels, Link, Offers};
+use round_core::{Picks, RoundBook, SolveFault, Solver, Turn, hook_relabel, solve_alone};
+use std::alloc::{AllocError, Global};
+use std::process::Abort;
+use worked_graphs::{
+    A_PATH_OF_EIGHT, EQUAL_WEIGHTS, SMALL_NET, all_have_labels, have_labels, links_of,
+};
+use worker_engine::scan;
+
+// A claim by the seat of this number.
+fn claim<'a>(
+    board: &Board<&'a Memory>,
+    seats: &mut Vec<Seat, &'a Memory>,
+    number: usize,
+    shard: u32,
+) -> Claim
+    requires seats { AreSeats board.now seats.old.items }
+    requires number { number < board.now.seats }
+    requires shard { shard < board.now.shards }
+    ensures { AreSeats board.now seats.new.items }
+{
+    board.claim(&mut seats[number], shard)
+}
+
+// Gives the shard back where the seat of this number holds it, and says whether it did.
+fn give_back<'a>(
+    board: &Board<&'a Memory>,
+    seats: &mut Vec<Seat, &'a Memory>,
+    number: usize,
+    shard: u32,
+) -> bool
+    requires seats { AreSeats board.now seats.old.items }
+    requires number { number < board.now.seats }
+    requires shard { shard < board.now.shards }
+    ensures { AreSeats board.now seats.new.items }
+{
+    let seat = &mut seats[number];
+    let holds = seat.holds(shard);
+    if holds {
+        board.give_back(seat, shard);
+    }
+    holds
+}
+
+// Two seats and two shards: the first is claimed by one, given back, and claimed by the other.
+fn expect_claims(rt: &impl Abort, memory: &Memory) -> Result<(), AllocError> {
+    let (board, mut seats) = match Board::open(memory, 2, 2) {
+        Ok(it) => it,
+        Err(fault) => {
+            assert!(rt; fault == BoardFault::Memory);
+            return Err(AllocError);
+        }
+    };
+    let asked = memory.asked();
+    let first = claim(&board, &mut seats, 0, 0);
+    let other = claim(&board, &mut seats, 1, 0);
+    let gave = give_back(&board, &mut seats, 0, 0);
+    let last = claim(&board, &mut seats, 1, 0);
+    assert!(rt; gave && (first, other, last) == (Claim::Won, Claim::Held(0), Claim::Won));
+    assert_eq!(rt; memory.asked(), asked);
+    let owners = or_refused(rt, board.close(seats), BoardFault::Memory)?;
+    assert!(rt; (owners.of(0), owners.of(1)) == (Some(1), None));
+    Ok(())
+}
+
+// The answer of a scan. It is taken without memory.
+fn answer<'a>(
+    memory: &'a Memory,
+    shard: u32,
+    links: &[Link],
+    labels: &Labels<&'a Memory>,
+) -> Result<Answer<&'a Memory>, AllocError>
+    requires few { length links.now ≤ 1024 }
+    requires ends { EndsUpTo (length labels.now) links.now }
+{
+    Ok(Answer {
+        round: 1,
+        shard,
+        offers: scan(memory, links, labels)?,
+    })
+}
+
+// The picks of a round over two shards that are scanned.
+fn picks_of_scans<'a>(
+    rt: &impl Abort,
+    memory: &'a Memory,
+    cut: &Cut<&'a Memory>,
+    labels: &Labels<&'a Memory>,
+) -> Result<Picks<&'a Memory>, AllocError>
+    ensures heard { IfOk result (ArePicksOfHearings labels.now) }
+    ensures each_vertex { IfOk result (λ picks. length picks ≡ length labels.now) }
+{
+    assert!(rt; all_have_labels(cut, labels.n()));
+    let mut book = RoundBook::open(memory, 1, cut, labels)?;
+    assert!(rt; book.len() == 2 && cut.len() == 2);
+    let (first, second) = (cut.shard(0).links, cut.shard(1).links);
+    assert!(rt; first.len() <= 1024 && have_labels(first, labels.n()));
+    assert!(rt; second.len() <= 1024 && have_labels(second, labels.n()));
+    let answers = (
+        answer(memory, 0, first, labels)?,
+        answer(memory, 1, second, labels)?,
+    );
+    let asked = memory.asked();
+    assert!(rt; book.take(0, answers.0).is_ok() && book.take(1, answers.1).is_ok());
+    assert!(rt; memory.asked() == asked && book.missing() == 0);
+    Ok(book.close())
+}
+
+// The solver's step by the picks of the cut's scans. Where it wants memory, it is as before; and where one allocation
+// alone was refused, the step is made once it is tried again.
+fn expect_step<'a>(
+    rt: &impl Abort,
+    memory: &'a Memory,
+    cut: &Cut<&'a Memory>,
+    solver: &mut Solver<&'a Memory>,
+    expected: Turn,
+    behind: &[u32],
+) -> Result<(), AllocError> {
+    let picks = picks_of_scans(rt, memory, cut, solver.labels())?;
+    let round = solver.round();
+    let before = solver.labels().as_slice().to_vec(memory)?;
+    let turn = match solver.step(&picks) {
+        Ok(turn) => turn,
+        Err(fault) => {
+            assert!(rt; fault == SolveFault::Memory && solver.round() == round);
+            assert!(rt; solver.labels().as_slice() == before.as_slice());
+            or_refused(rt, solver.step(&picks), SolveFault::Memory)?
+        }
+    };
+    assert!(rt; turn == expected && solver.labels().as_slice() == behind);
+    Ok(())
+}
+
+// The small net in two shards: two merging rounds, and the forest.
+fn expect_solved(rt: &impl Abort, alloc: Global, memory: &Memory) -> Result<(), AllocError> {
+    let links = links_of_six(rt, alloc, SMALL_NET.arcs);
+    let links = links.as_slice();
+    assert!(rt; links.len() == 8);
+    let cut = or_refused(rt, Cut::even(memory, links, 2), CutFault::Memory)?;
+    let mut solver = Solver::new(memory, 6)?;
+    let steps: [(Turn, [u32; 6]); 3] = [
+        (Turn::Merged(4), [1, 2, 1, 1, 2, 1]),
+        (Turn::Merged(1), [1; 6]),
+        (Turn::Done, [1; 6]),
+    ];
+    for (turn, behind) in steps {
+        expect_step(rt, memory, &cut, &mut solver, turn, &behind)?;
+    }
+    assert!(rt; all_have_labels(&cut, solver.labels().n()));
+    let found = match solver.finish(&cut) {
+        Ok(found) => found,
+        Err(fault) => {
+            assert!(rt; fault == SolveFault::Memory);
+            or_refused(rt, solver.finish(&cut), SolveFault::Memory)?
+        }
+    };
+    let forest = links_of_six(rt, alloc, SMALL_NET.forest);
+    assert!(rt; found.links() == forest.as_slice());
+    Ok(())
+}
+
+// The first round's labels.
+fn expect_relabelled(rt: &impl Abort, alloc: Global, memory: &Memory) -> Result<(), AllocError> {
+    let links = links_of_six(rt, alloc, SMALL_NET.arcs);
+    let links = links.as_slice();
+    assert!(rt; links.len() == 8);
+    let cut = or_refused(rt, Cut::even(memory, links, 2), CutFault::Memory)?;
+    let labels = Labels::apart(memory, 6)?;
+    let picks = picks_of_scans(rt, memory, &cut, &labels)?;
+    let made = hook_relabel(memory, &labels, &picks)?;
+    assert!(rt; made.as_slice() == [1, 2, 1, 1, 2, 1].as_slice());
+    Ok(())
+}
+
+// All rounds by one thread: the path of eight in three shards has three merging rounds.
+fn expect_alone(rt: &impl Abort, alloc: Global, memory: &Memory) -> Result<(), AllocError> {
+    let links = links_of(alloc, 8, A_PATH_OF_EIGHT.arcs).expect(rt, "memory");
+    let links = links.expect(rt, "arcs");
+    let links = links.as_slice();
+    assert!(rt; links.len() == 7);
+    let cut = or_refused(rt, Cut::even(memory, links, 3), CutFault::Memory)?;
+    assert!(rt; all_have_labels(&cut, 8));
+    let (found, rounds) = or_refused(rt, solve_alone(memory, 8, &cut), SolveFault::Memory)?;
+    assert!(rt; found.links().len() == 7 && rounds == 3);
+    assert!(rt;
+        found
+            .links()
+            .iter()
+            .zip(A_PATH_OF_EIGHT.forest)
+            .all(|(link, row)| (link.low, link.high, link.weight) == *row)
+    );
+    Ok(())
+}
+
+// The picks of a round over one shard whose only answer offers this.
+fn picks_of<'a>(
+    rt: &impl Abort,
+    memory: &'a Memory,
+    cut: &Cut<&'a Memory>,
+    labels: &Labels<&'a Memory>,
+    pair: (u32, u32),
+) -> Result<Picks<&'a Memory>, AllocError>
+    ensures heard { IfOk result (ArePicksOfHearings labels.now) }
+{
+    assert!(rt; all_have_labels(cut, labels.n()));
+    let mut book = RoundBook::open(memory, 1, cut, labels)?;
+    let offers = Offers::of_pairs([pair].to_vec(memory)?).expect(rt, "offers");
+    let answer = Answer {
+        round: 1,
+        shard: 0,
+        offers,
+    };
+    assert!(rt; book.len() == 1 && book.take(0, answer).is_ok() && book.missing() == 0);
+    Ok(book.close())
+}
+
+// The triangle's worker offers one link a round and hides the third. The step of a round past the bound and the end of
+// a solver that misses a link are told as that, before any memory is asked for.
+fn expect_lies(rt: &impl Abort, alloc: Global, memory: &Memory) -> Result<(), AllocError> {
+    let links = links_of_six(rt, alloc, EQUAL_WEIGHTS.arcs);
+    let links = links.as_slice();
+    assert!(rt; links.len() == 3);
+    let cut = or_refused(rt, Cut::even(memory, links, 1), CutFault::Memory)?;
+    let mut solver = Solver::new(memory, 3)?;
+    let picks = picks_of(rt, memory, &cut, solver.labels(), (1, 0))?;
+    let turn = or_refused(rt, solver.step(&picks), SolveFault::Memory)?;
+    assert!(rt; turn == Turn::Merged(1));
+    let picks = picks_of(rt, memory, &cut, solver.labels(), (3, 1))?;
+    let asked = memory.asked();
+    assert!(rt; solver.step(&picks) == Err(SolveFault::Rounds { round: 2 }));
+    assert!(rt; all_have_labels(&cut, solver.labels().n()));
+    let link = Link::of_arc(2, 3, 5).expect(rt, "a link");
+    assert!(rt; solver.finish(&cut).err() == Some(SolveFault::Missed { link }));
+    assert_eq!(rt; memory.asked(), asked);
+    Ok(())
+}
+
+#[derive(Clone, Copy)]
+enum Call {
+    Board,
+    Relabel,
+    Solver,
+    SolveAlone,
+    Lies,
+}
+
+const CALLS: [Call; 5] = [
+    Call::Board,
+    Call::Relabel,
+    Call::Solver,
+    Call::SolveAlone,
+    Call::Lies,
+];
+
+#[test]
+fn boards_books_and_solvers(rt: HostRuntime) {
+    for call in CALLS {
+        expect_each(
+            &rt,
+            rt.alloc(),
+            |memory: &Memory| -> Result<(), AllocError> {
+                match call {
+                    Call::Board => expect_claims(&rt, memory),
+                    Call::Relabel => expect_relabelled(&rt, rt.alloc(), memory),
+                    Call::Solver => expect_solved(&rt, rt.alloc(), memory),
+                    Call::SolveAlone => expect_alone(&rt, rt.alloc(), memory),
+                    Call::Lies => expect_lies(&rt, rt.alloc(), memory),
+                }
+            },
+        );
+    }
+}

@@ -1,0 +1,98 @@
+// Whole runs over the small net. (Rounds over lanes come with the run over workers: lanes in memory that is borrowed are
+// refused by the borrow checker today.)
+ghost use Rattle.std.specs.Prelude.{◌<◌, IfOk};
+ghost use Rattle.ports.specs.EngineLines.{line_of};
+ghost use Rattle.ports.specs.Lines.{HasRoom};
+
+use crate::in_turn::{Memory, expect_any, was_refused};
+use byte_streams::FusedSink;
+use forest_run::{Cutting, RunFault, run_lines, run_plain};
+use gr_text::ReadFault;
+use link_key::CutFault;
+use ports::EngineLine;
+use std::alloc::{AllocError, Allocator, Global};
+use std::process::Abort;
+use std::sync::Wait;
+use std::thread::Threads;
+use worked_graphs::SMALL_NET;
+
+// Whether a run that ended so wanted memory.
+fn wants_memory(fault: RunFault) -> bool {
+    fault == RunFault::Memory
+        || fault == RunFault::Read(ReadFault::Memory)
+        || fault == RunFault::Cut(CutFault::Memory)
+}
+
+// By one thread.
+fn expect_plain(rt: &impl Abort, alloc: Global, memory: &Memory) -> Result<(), AllocError> {
+    let mut source = SMALL_NET.file;
+    let mut sink = FusedSink::new(alloc, 100, 7)?;
+    match run_plain(memory, &mut source, &mut sink) {
+        Ok(report) => {
+            assert!(rt; sink.held() == SMALL_NET.text && report.total == 13);
+            Ok(())
+        }
+        Err(fault) => {
+            assert!(rt; was_refused(memory) && wants_memory(fault) && sink.held().is_empty());
+            Err(AllocError)
+        }
+    }
+}
+
+// A new line to the worker of this number, in memory.
+pub(crate) fn worker<A: Allocator + Copy>(
+    alloc: A,
+    number: u32,
+) -> Result<EngineLine<A>, AllocError>
+    requires number { number < 64 }
+    ensures room { IfOk result (λ line. HasRoom (line_of line)) }
+{
+    EngineLine::new(alloc, number)
+}
+
+// Over two workers, each in memory. Where one of them or its wire wants memory it is given up, and the run goes on.
+fn expect_over_workers<R: Threads + Wait + Sync + Abort>(
+    rt: &R,
+    alloc: Global,
+    memory: &Memory,
+) -> Result<(), AllocError> {
+    let Ok(lines) = Vec::from_array(memory, [worker(memory, 0)?, worker(memory, 1)?]) else {
+        return Err(AllocError);
+    };
+    let mut source = SMALL_NET.file;
+    let mut sink = FusedSink::new(alloc, 100, 7)?;
+    match run_lines(rt, memory, &mut source, Cutting::Even(2), lines, &mut sink) {
+        Ok((report, lines)) => {
+            assert!(rt; sink.held() == SMALL_NET.text && lines.len() == 2);
+            assert!(rt; (report.rounds, report.shards, report.total) == (2, 2, 13));
+            assert!(rt; report.closed == 0 || was_refused(memory));
+            Ok(())
+        }
+        Err(fault) => {
+            assert!(rt; was_refused(memory) && wants_memory(fault) && sink.held().is_empty());
+            Err(AllocError)
+        }
+    }
+}
+
+#[derive(Clone, Copy)]
+enum Call {
+    RunPlain,
+    RunLines,
+}
+
+#[test]
+fn whole_runs(rt: HostRuntime) {
+    for call in [Call::RunPlain, Call::RunLines] {
+        expect_any(
+            &rt,
+            rt.alloc(),
+            |memory: &Memory| -> Result<(), AllocError> {
+                match call {
+                    Call::RunPlain => expect_plain(&rt, rt.alloc(), memory),
+                    Call::RunLines => expect_over_workers(&rt, rt.alloc(), memory),
+                }
+            },
+        );
+    }
+}

@@ -1,0 +1,93 @@
+// A worker's session over a shard and an ask, whose source fails at each byte, and whose sink does.
+ghost use Rattle.std.specs.Prelude.{◌≡◌, ◌<◌, ◌≤◌, ◌-◌, ◌^◌};
+
+use crate::frame_texts::{ANSWER, ASK, HELLO, SHARD};
+use byte_streams::{FusedSink, FusedSource};
+use frames::FrameFault;
+use std::alloc::{AllocError, Global};
+use std::process::Abort;
+use std::test::Fail;
+use std::thread::Threads;
+use worker_engine::{ServeFault, Served, serve};
+
+// How the session ends without a failure.
+const SERVED: Result<Served, ServeFault> = Ok(Served {
+    frames: 2,
+    answers: 1,
+    faults: 0,
+});
+
+// Two texts, one behind the other.
+pub(crate) fn joined(alloc: Global, first: &[u8], second: &[u8]) -> Result<Vec<u8>, AllocError> {
+    let mut bytes = Vec::from_slice(alloc, first)?;
+    bytes.extend_from_slice(second)?;
+    Ok(bytes)
+}
+
+// The hello is written before anything is read, and the answer once the whole ask was.
+#[test]
+fn a_source_that_fails_at_each_byte(rt: HostRuntime) -> Result<(), Fail> {
+    let alloc = rt.alloc();
+    let both = joined(alloc, &HELLO, &ANSWER)?;
+    for piece in [1usize, 7] {
+        assert!(rt; 1 <= piece);
+        for passes in 0..80usize {
+            let mut source = FusedSource::new(joined(alloc, &SHARD, &ASK)?, passes, piece);
+            let mut sink = Vec::new(alloc);
+            let end = serve(&rt, alloc, 0, &mut source, &mut sink);
+            let expected = if passes > 78 {
+                SERVED
+            } else {
+                Err(ServeFault::Read(FrameFault::Device))
+            };
+            assert_eq!(rt; end, expected, "after {passes} bytes");
+            let written = if passes >= 78 {
+                both.as_slice()
+            } else {
+                &HELLO
+            };
+            assert!(rt; sink.as_slice() == written);
+        }
+    }
+    Ok(())
+}
+
+// A session into this sink, which has room for so many bytes.
+fn expect_written(
+    rt: &(impl Abort + Threads + Sync),
+    alloc: Global,
+    mut sink: FusedSink,
+    passes: usize,
+    expected: Result<Served, ServeFault>,
+) -> Result<(), Fail>
+    requires { sink.setbacks < 2 ^ 64 - 1 }
+{
+    let heard = joined(alloc, &SHARD, &ASK)?;
+    let both = joined(alloc, &HELLO, &ANSWER)?;
+    let mut source = heard.as_slice();
+    let end = serve(rt, alloc, 0, &mut source, &mut sink);
+    assert_eq!(rt; end, expected, "room for {passes} bytes");
+    assert!(rt; sink.held() == &both[..passes.min(both.len())]);
+    Ok(())
+}
+
+// Room for just the hello and the answer is enough, for a sink that fails behind it and for one that takes nothing more.
+#[test]
+fn a_sink_that_fails_at_each_byte(rt: HostRuntime) -> Result<(), Fail> {
+    let alloc = rt.alloc();
+    for piece in [1usize, 7] {
+        assert!(rt; 1 <= piece);
+        for passes in 0..54usize {
+            let expected = if passes >= 52 {
+                SERVED
+            } else {
+                Err(ServeFault::Write)
+            };
+            let failing = FusedSink::new(alloc, passes, piece)?;
+            expect_written(&rt, alloc, failing, passes, expected)?;
+            let stopped = FusedSink::stopped(alloc, passes, piece)?;
+            expect_written(&rt, alloc, stopped, passes, expected)?;
+        }
+    }
+    Ok(())
+}

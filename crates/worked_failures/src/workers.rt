@@ -1,0 +1,180 @@
+// What a worker does: scans, what its engine hears, and whole sessions.
+use crate::frame_texts::{ANSWER, ASK, HELLO, NO_MEMORY, SHARD};
+use crate::in_turn::{Memory, expect_any, expect_each, or_refused, was_refused};
+use crate::lists::links_of_six;
+use crate::sessions::joined;
+use frames::{FrameFault, encode, read_frame};
+use link_key::Labels;
+use std::alloc::{AllocError, Global};
+use std::process::Abort;
+use std::thread::Threads;
+use worked_graphs::{EQUAL_WEIGHTS, have_labels};
+use worker_engine::{Engine, ServeFault, Served, scan, scan_par, serve_upto};
+
+#[derive(Clone, Copy)]
+enum By {
+    OneThread,
+    Threads,
+}
+
+// The triangle's offers, each vertex a component by itself.
+fn expect_offers(
+    rt: &(impl Abort + Threads + Sync),
+    alloc: Global,
+    memory: &Memory,
+    by: By,
+) -> Result<(), AllocError> {
+    let links = links_of_six(rt, alloc, EQUAL_WEIGHTS.arcs);
+    let links = links.as_slice();
+    let labels = Labels::apart(alloc, 3).expect(rt, "memory");
+    assert!(rt; links.len() == 3 && have_labels(links, labels.n()));
+    let offers = match by {
+        By::OneThread => scan(memory, links, &labels)?,
+        By::Threads => scan_par(rt, memory, links, &labels)?,
+    };
+    assert!(rt; offers.pairs() == [(1, 0), (2, 0), (3, 2)].as_slice());
+    Ok(())
+}
+
+// What the engine replies to the frame with these bytes, as bytes.
+fn reply<'a>(
+    rt: &(impl Abort + Threads + Sync),
+    memory: &'a Memory,
+    by: By,
+    engine: &mut Engine<&'a Memory>,
+    heard: &[u8],
+) -> Result<Vec<u8, &'a Memory>, AllocError> {
+    let mut source = heard;
+    let frame = or_refused(rt, read_frame(memory, &mut source), FrameFault::Memory)?;
+    assert!(rt; frame.is_lawful());
+    let reply = match by {
+        By::OneThread => engine.hear(frame)?,
+        By::Threads => engine.hear_par(rt, frame)?,
+    };
+    match reply {
+        Some(frame) => {
+            assert!(rt; frame.is_lawful());
+            encode(memory, &frame)
+        }
+        None => Ok(Vec::new(memory)),
+    }
+}
+
+// The engine's reply is this one. Where one allocation alone is refused, it is as before, and replies so once it hears
+// the frame again.
+fn expect_reply<'a>(
+    rt: &(impl Abort + Threads + Sync),
+    memory: &'a Memory,
+    by: By,
+    engine: &mut Engine<&'a Memory>,
+    heard: &[u8],
+    expected: &[u8],
+) -> Result<(), AllocError> {
+    let told = match reply(rt, memory, by, engine, heard) {
+        Ok(told) => told,
+        Err(AllocError) => reply(rt, memory, by, engine, heard)?,
+    };
+    assert!(rt; told.as_slice() == expected);
+    Ok(())
+}
+
+// An engine hears a shard and an ask.
+fn expect_replies(
+    rt: &(impl Abort + Threads + Sync),
+    memory: &Memory,
+    by: By,
+) -> Result<(), AllocError> {
+    let mut engine = Engine::new(memory);
+    expect_reply(rt, memory, by, &mut engine, &SHARD, &[])?;
+    expect_reply(rt, memory, by, &mut engine, &ASK, &ANSWER)
+}
+
+#[derive(Clone, Copy)]
+enum Call {
+    Scan(By),
+    Hear(By),
+}
+
+#[test]
+fn scans_and_engines(rt: HostRuntime) {
+    for call in [
+        Call::Scan(By::OneThread),
+        Call::Scan(By::Threads),
+        Call::Hear(By::OneThread),
+        Call::Hear(By::Threads),
+    ] {
+        expect_each(
+            &rt,
+            rt.alloc(),
+            |memory: &Memory| -> Result<(), AllocError> {
+                match call {
+                    Call::Scan(by) => expect_offers(&rt, rt.alloc(), memory, by),
+                    Call::Hear(by) => expect_replies(&rt, memory, by),
+                }
+            },
+        );
+    }
+}
+
+// A session over the shard and the ask that hears less than so many frames ends so and has written these bytes; or it
+// wants memory and wrote no answer; or it told that it had no memory in the answer's place.
+fn expect_session(
+    rt: &(impl Abort + Threads + Sync),
+    alloc: Global,
+    memory: &Memory,
+    limit: u64,
+    expected: Result<Served, ServeFault>,
+    answer: &[u8],
+) -> Result<(), AllocError> {
+    let heard = joined(alloc, &SHARD, &ASK).expect(rt, "memory");
+    let mut source = heard.as_slice();
+    let mut sink = Vec::new(alloc);
+    let end = serve_upto(rt, memory, 0, &mut source, &mut sink, limit);
+    let (hello, told) = sink.split_at(sink.len().min(HELLO.len()));
+    if end == expected && told == answer {
+        assert!(rt; hello == HELLO.as_slice());
+        return Ok(());
+    }
+    assert!(rt; was_refused(memory));
+    if told == NO_MEMORY.as_slice() {
+        let in_its_place = match expected {
+            Ok(_) => Ok(Served {
+                frames: 2,
+                answers: 0,
+                faults: 1,
+            }),
+            Err(fault) => Err(fault),
+        };
+        assert_eq!(rt; end, in_its_place);
+        return Ok(());
+    }
+    assert!(rt; end == Err(ServeFault::Memory) || end == Err(ServeFault::Read(FrameFault::Memory)));
+    assert!(rt; told.is_empty() && (hello.is_empty() || hello == HELLO.as_slice()));
+    Err(AllocError)
+}
+
+// Without a limit that is reached, and with one of 1 and of 2 frames.
+#[test]
+fn sessions_over_the_triangle(rt: HostRuntime) {
+    let served = Ok(Served {
+        frames: 2,
+        answers: 1,
+        faults: 0,
+    });
+    let too_many = Err(ServeFault::TooMany);
+    let sessions: [(u64, Result<Served, ServeFault>, &[u8]); 4] = [
+        (u64::MAX, served, &ANSWER),
+        (3, served, &ANSWER),
+        (2, too_many, &ANSWER),
+        (1, too_many, &[]),
+    ];
+    for (limit, expected, answer) in sessions {
+        expect_any(
+            &rt,
+            rt.alloc(),
+            |memory: &Memory| -> Result<(), AllocError> {
+                expect_session(&rt, rt.alloc(), memory, limit, expected, answer)
+            },
+        );
+    }
+}
