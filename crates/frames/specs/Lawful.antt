@@ -1,9 +1,10 @@
 -- Lawful frames: the fields fit their widths, and say what they may say.
-use Rattle.std.specs.Prelude.{◌≡◌, ℕ, ◌<◌, ◌≤◌, ◌^◌, ◌*◌, List, length, All}
+use Rattle.std.specs.Prelude.{ℕ, ◌<◌, ◌≤◌, ◌^◌, ◌*◌, List, length, All}
 use Rattle.limits.specs.declared.TheConstants.{MAX_SHARDS, MAX_SHARD_LINKS, MAX_WORKERS}
 use Rattle.link_key.specs.declared.links.Link.{Link}
 use Rattle.link_key.specs.Labels.{AreLabels}
 use Rattle.link_key.specs.Offers.{AreOffers}
+use Rattle.frames.specs.declared.frame.TheConstants.{VERSION}
 use Rattle.frames.specs.AnswerValue.{AnswerValue}
 use Rattle.frames.specs.FrameValue.{FrameValue, HelloFrame, ShardFrame, AskFrame, AnswerFrame, FaultFrame}
 
@@ -11,9 +12,14 @@ use Rattle.frames.specs.FrameValue.{FrameValue, HelloFrame, ShardFrame, AskFrame
 abbrev pub IsU32 : ℕ → Type 0
 IsU32 n = n < 2 ^ 32
 
--- the first version, and one of the workers
+-- one of the versions, from the first to this one
+pub record IsVersion (v : ℕ) : Type 0 where
+  pub from_first : 1 ≤ v
+  pub to_this : v ≤ VERSION
+
+-- one of the versions, and one of the workers
 pub record IsHello (v w : ℕ) : Type 0 where
-  pub version : v ≡ 1
+  pub version : IsVersion v
   pub worker : w < MAX_WORKERS
 
 -- a shard of a cut; that the ends of its links ascend and are vertices is part of what a link is

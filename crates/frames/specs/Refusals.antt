@@ -5,15 +5,15 @@ use Rattle.std.specs.Int.{w16, w32, from_be_bytes}
 use Rattle.limits.specs.declared.TheConstants.{MAX_SHARDS, MAX_SHARD_LINKS, MAX_VERTICES}
 use Rattle.frames.specs.FrameValue.{FrameValue}
 use Rattle.link_key.specs.declared.links.Link.{Link}
-use Rattle.frames.specs.FrameText.{u32_text, link_text, kind_of, body_of}
-use Rattle.frames.specs.Lawful.{IsLawful}
+use Rattle.frames.specs.FrameText.{u32_text, kind_of, body_of}
+use Rattle.frames.specs.Lawful.{IsVersion, IsLawful}
 use Rattle.frames.specs.declared.fault.FrameFault.{FrameFault}
 use Rattle.frames.specs.declared.fault.FrameFault.TheVariants.{BadKind, BadLength, BadField, BadVersion, Ended, Torn, Device, Memory}
 
--- one of the five kinds
+-- one of the six kinds
 pub record IsKind (kind : ℕ) : Type 0 where
   pub from_one : 1 ≤ kind
-  pub to_five : kind ≤ 5
+  pub to_six : kind ≤ 6
 
 -- so many bytes, and behind them at most so many items of so many bytes each
 abbrev pub IsWithItems : (fixed item most len : ℕ) → Type 0
@@ -27,6 +27,7 @@ pub record IsPossible (kind len : ℕ) : Type 0 where
   pub ask : kind ≡ 3 → IsWithItems 12 4 MAX_VERTICES len
   pub answer : kind ≡ 4 → IsWithItems 12 8 (2 * MAX_SHARD_LINKS) len
   pub fault : kind ≡ 5 → len ≡ 9
+  pub wide : kind ≡ 6 → IsWithItems 8 16 MAX_SHARD_LINKS len
 
 -- why a head is refused
 abbrev pub HeadRefused : FrameFault → ℕ → ℕ → Type 0
@@ -34,19 +35,19 @@ HeadRefused BadKind kind len = ¬ IsKind kind
 HeadRefused BadLength kind len = IsKind kind × ¬ IsPossible kind len
 HeadRefused _ kind len = ⊥
 
--- twelve bytes that no link has
-abbrev pub IsNoLink : List ℕ → Type 0
-IsNoLink bytes = (l : Link) → link_text l ≢ bytes
+-- bytes that no link has in this spelling
+abbrev pub IsNoLink : (Link → List ℕ) → List ℕ → Type 0
+IsNoLink spelled bytes = (l : Link) → spelled l ≢ bytes
 
--- bytes that no list of links has
-abbrev pub AreNoLinks : List ℕ → Type 0
-AreNoLinks bytes = (links : List Link) → flat_map link_text links ≢ bytes
+-- bytes that no list of links has in this spelling
+abbrev pub AreNoLinks : (Link → List ℕ) → List ℕ → Type 0
+AreNoLinks spelled bytes = (links : List Link) → flat_map spelled links ≢ bytes
 
 -- why a list of links was not read
-abbrev pub LinksRefused : FrameFault → List ℕ → Type 0
-LinksRefused BadField bytes = AreNoLinks bytes
-LinksRefused Memory bytes = ⊤
-LinksRefused _ bytes = ⊥
+abbrev pub LinksRefused : FrameFault → (Link → List ℕ) → List ℕ → Type 0
+LinksRefused BadField spelled bytes = AreNoLinks spelled bytes
+LinksRefused Memory spelled bytes = ⊤
+LinksRefused _ spelled bytes = ⊥
 
 -- a lawful frame of this kind, with this body
 pub record IsFrameOf (v : FrameValue) (k : ℕ) (bytes : List ℕ) : Type 0 where
@@ -54,18 +55,18 @@ pub record IsFrameOf (v : FrameValue) (k : ℕ) (bytes : List ℕ) : Type 0 wher
   pub kind : kind_of v ≡ k
   pub body : body_of v ≡ bytes
 
--- a hello of another version than 1, whatever its worker
+-- a hello of none of the versions, whatever its worker
 abbrev pub IsOtherVersion : ℕ → List ℕ → Type 0
-IsOtherVersion kind body = (kind ≡ 1) × (from_be_bytes w16 (take 2 body) ≢ 1)
+IsOtherVersion kind body = (kind ≡ 1) × ¬ IsVersion (from_be_bytes w16 (take 2 body))
 
--- a shard's body whose number is lawful, and whose count is that of the links behind it
-pub record ShardBegun (body : List ℕ) : Type 0 where
+-- a shard's body whose number is lawful, and whose count is that of the links behind it, of so many bytes each
+pub record ShardBegun (size : ℕ) (body : List ℕ) : Type 0 where
   pub number : ℕ
   pub count : ℕ
   pub links : List ℕ
   pub split : body ≡ u32_text number ++ (u32_text count ++ links)
   pub in_range : number < MAX_SHARDS
-  pub counted : length links ≡ 12 * count
+  pub counted : length links ≡ size * count
 
 -- an ask's body whose shard is lawful, and whose count is that of the labels behind it
 pub record AskBegun (body : List ℕ) : Type 0 where
@@ -88,7 +89,7 @@ pub record AnswerBegun (body : List ℕ) : Type 0 where
 
 -- a body with a list, for which memory is taken, and lawful fields before the list
 abbrev pub IsListBegun : ℕ → List ℕ → Type 0
-IsListBegun kind body = ((kind ≡ 2) × ShardBegun body) ⊎ (((kind ≡ 3) × AskBegun body) ⊎ ((kind ≡ 4) × AnswerBegun body))
+IsListBegun kind body = ((kind ≡ 2) × ShardBegun 12 body) ⊎ (((kind ≡ 6) × ShardBegun 16 body) ⊎ (((kind ≡ 3) × AskBegun body) ⊎ ((kind ≡ 4) × AnswerBegun body)))
 
 -- why a body is refused: by its version, or else since no lawful frame has it; or memory for its list was wanting
 abbrev pub BodyRefused : FrameFault → ℕ → List ℕ → Type 0

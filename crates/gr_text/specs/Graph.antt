@@ -1,7 +1,7 @@
 -- The graph that a text means.
-use Rattle.std.specs.Prelude.{ℕ, ℤ, pos, neg_ℤ, ◌≤ℤ◌, ◌<ℤ◌, ◌≤◌, ◌^◌, ◌⊎◌, List, [], ◌∷◌, map, length}
+use Rattle.std.specs.Prelude.{ℕ, ℤ, ◌≤ℤ◌, ◌≤◌, ◌⊎◌, List, [], ◌∷◌, map, length}
 use Rattle.std.specs.List.{AllByRecursion}
-use Rattle.limits.specs.declared.TheConstants.{MAX_ARCS, MAX_VERTICES}
+use Rattle.limits.specs.declared.TheConstants.{MAX_ARCS, MAX_VERTICES, MAX_WEIGHT, MIN_WEIGHT}
 use Rattle.link_key.specs.Arc.{Arc}
 use Rattle.link_key.specs.Link.{AreLinksOf}
 use Rattle.link_key.specs.declared.links.Link.{Link}
@@ -15,9 +15,9 @@ pub record HasEnds (n : ℕ) (arc : Arc) : Type 0 where
   pub head_from_one : 1 ≤ arc.head
   pub head_in_range : arc.head ≤ n
 
--- a weight has 32 bits
+-- a weight is within the limits
 abbrev pub IsWeight : ℤ → Type 0
-IsWeight w = (neg_ℤ (pos (2 ^ 31)) ≤ℤ w) × (w <ℤ pos (2 ^ 31))
+IsWeight w = (MIN_WEIGHT ≤ℤ w) × (w ≤ℤ MAX_WEIGHT)
 
 abbrev pub IsArcOf : ℕ → Arc → Type 0
 IsArcOf n arc = HasEnds n arc × IsWeight arc.weight

@@ -1,17 +1,18 @@
 -- The usual form of an arc line, which is read at once.
-use Rattle.std.specs.Prelude.{◌≡◌, ◌≢◌, ℕ, ℤ, ◌+◌, ◌<◌, ◌≤◌, ◌⊎◌, List, [], ◌∷◌, ◌++◌, length, drop, codes}
+use Rattle.std.specs.Prelude.{◌≡◌, ◌≢◌, ℕ, ◌+◌, ◌<◌, ◌≤◌, ◌⊎◌, List, [], ◌∷◌, ◌++◌, length, drop, codes}
 use Rattle.std.specs.List.{AllByRecursion}
 use Rattle.gr_text.specs.Lines.{line_feed, ended}
 use Rattle.gr_text.specs.Fields.{IsDigit}
 use Rattle.gr_text.specs.Word.{KeepsNumber, KeepsSigned}
 use Rattle.gr_text.specs.PartialLine.{IsWhole}
 use Rattle.gr_text.specs.declared.words.LineFields.{LineFields}
+use Rattle.gr_text.specs.declared.words.Signed.{Signed}
 
--- one to ten digits
+-- one to nineteen digits
 pub record IsShort (field : List ℕ) : Type 0 where
   pub some : field ≢ []
   pub digits : AllByRecursion IsDigit field
-  pub few : length field ≤ 10
+  pub few : length field ≤ 19
 
 -- the same with at most one minus before them
 abbrev pub IsShortSigned : List ℕ → Type 0
@@ -36,7 +37,7 @@ abbrev pub HasShortBefore : ℕ → ℕ → ℕ → List ℕ → Type 0
 HasShortBefore kept place stop bytes = (place < length bytes) × BeginsWithShort kept stop bytes (drop (place + 1) bytes)
 
 -- the same of a number that may have a minus, then a line feed and what is left
-abbrev pub BeginsWithShortSigned : ℤ → List ℕ → List ℕ → Type 0
+abbrev pub BeginsWithShortSigned : Signed → List ℕ → List ℕ → Type 0
 BeginsWithShortSigned kept bytes rest = (field : List ℕ) × IsShortSigned field × KeepsSigned kept field × (bytes ≡ field ++ line_feed ∷ rest)
 
 -- the bytes are such a line, which is kept so, its line feed and what is left

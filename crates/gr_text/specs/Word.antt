@@ -1,24 +1,26 @@
 -- What is kept of a field while its bytes come, and of a line while its fields come.
-use Rattle.std.specs.Prelude.{◌≡◌, ◌≢◌, ℕ, ℤ, pos, neg_ℤ, ◌⊎◌, List, [], ◌∷◌, ◌++◌, codes, min}
+use Rattle.std.specs.Prelude.{◌≡◌, ◌≢◌, ℕ, ℤ, pos, neg_ℤ, ◌-◌, ◌^◌, ◌⊎◌, List, [], ◌∷◌, ◌++◌, codes, min}
 use Rattle.link_key.specs.Arc.{Arc}
 use Rattle.gr_text.specs.Fields.{Writes, WritesSigned}
 use Rattle.gr_text.specs.Statement.{Statement, Problem, ArcLine, AreSilent, FieldsSay, Says}
 use Rattle.gr_text.specs.declared.words.Word.{Word}
 use Rattle.gr_text.specs.declared.words.Word.TheVariants as word
+use Rattle.gr_text.specs.declared.words.Signed.{Signed}
+use Rattle.gr_text.specs.declared.words.Signed.TheVariants as signed
 use Rattle.gr_text.specs.declared.words.LineFields.{LineFields}
 use Rattle.gr_text.specs.declared.words.LineFields.TheVariants as line
 
 -- the largest number that is kept as it is; any greater one is kept as this
 abbrev pub cap : ℕ
-cap = 4294967295
+cap = 2 ^ 64 - 1
 
 abbrev pub IsCapped : ℕ → ℕ → Type 0
 IsCapped kept n = kept ≡ min n cap
 
--- the same with a sign
-abbrev pub IsCappedSigned : ℤ → ℤ → Type 0
-IsCappedSigned kept z = ((n : ℕ) × (z ≡ pos n) × (kept ≡ pos (min n cap)))
-    ⊎ ((n : ℕ) × (z ≡ neg_ℤ (pos n)) × (kept ≡ neg_ℤ (pos (min n cap))))
+-- the same with a minus or none
+abbrev pub IsCappedSigned : Signed → ℤ → Type 0
+IsCappedSigned (signed.Plus kept) z = (n : ℕ) × (z ≡ pos n) × IsCapped kept n
+IsCappedSigned (signed.Minus kept) z = (n : ℕ) × (z ≡ neg_ℤ (pos n)) × IsCapped kept n
 
 -- a field that begins with the letter c
 abbrev pub BeginsComment : List ℕ → Type 0
@@ -45,14 +47,14 @@ WordMeans word.Other bytes = (bytes ≢ []) × ((more : List ℕ) → ¬ (IsToke
 abbrev pub KeepsNumber : ℕ → List ℕ → Type 0
 KeepsNumber kept field = (n : ℕ) × Writes field n × IsCapped kept n
 
-abbrev pub KeepsSigned : ℤ → List ℕ → Type 0
+abbrev pub KeepsSigned : Signed → List ℕ → Type 0
 KeepsSigned kept field = (z : ℤ) × WritesSigned field z × IsCappedSigned kept z
 
 -- a line that states a problem, and one that gives an arc, of which these numbers are kept
 abbrev pub KeepsProblem : ℕ → ℕ → List ℕ → Type 0
 KeepsProblem n m line = (k l : ℕ) × Says line (Problem k l) × IsCapped n k × IsCapped m l
 
-abbrev pub KeepsArc : ℕ → ℕ → ℤ → List ℕ → Type 0
+abbrev pub KeepsArc : ℕ → ℕ → Signed → List ℕ → Type 0
 KeepsArc u v w line = (arc : Arc) × Says line (ArcLine arc) × IsCapped u arc.tail × IsCapped v arc.head × IsCappedSigned w arc.weight
 
 -- fields that begin with this one and whatever follows make no such statement

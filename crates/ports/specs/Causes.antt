@@ -1,8 +1,9 @@
 -- Why a wire gives no answer.
-use Rattle.std.specs.Prelude.{◌≡◌, ◌≢◌, ℕ, ◌⊎◌, ⊤, false, List, []}
+use Rattle.std.specs.Prelude.{◌≡◌, ◌≢◌, ℕ, ◌⊎◌, ⊤, Bool, false, None, List, []}
 use Rattle.frames.specs.FrameValue.{FrameValue, HelloFrame, AnswerFrame, FaultFrame}
-use Rattle.frames.specs.FrameText.{text_of}
+use Rattle.frames.specs.FrameText.{are_narrow, text_of}
 use Rattle.frames.specs.FrameStream.{texts_of}
+use Rattle.link_key.specs.declared.links.Link.{Link}
 use Rattle.link_key.specs.Cut.{links_at}
 use Rattle.shard_set.specs.Shards.{has_shard}
 use Rattle.frames.specs.Lawful.{IsLawful}
@@ -12,9 +13,9 @@ use Rattle.frames.specs.declared.fault.FrameFault.{FrameFault}
 use Rattle.frames.specs.declared.fault.FrameFault.TheVariants.{BadKind, BadLength, BadField, BadVersion, Ended, Torn, Device}
 use Rattle.frames.specs.declared.fault.FrameFault.TheVariants.{Memory as NoMemory}
 use Rattle.ports.specs.declared.fault.PortFault.{PortFault}
-use Rattle.ports.specs.declared.fault.PortFault.TheVariants.{Down, Garbled, WrongHello, Gave, Memory, Closed}
+use Rattle.ports.specs.declared.fault.PortFault.TheVariants.{Down, Garbled, WrongHello, Gave, Memory, TooOld, Closed}
 use Rattle.ports.specs.Lines.{LineState, Transfers, Counted}
-use Rattle.ports.specs.Talking.{Talk, TalkState, told_talk, hello_due, shard_due, Brings, EndsAfterAsk}
+use Rattle.ports.specs.Talking.{Talk, TalkState, HelloCame, HasFrames, told_talk, hello_due, shard_due, Brings, EndsAfterAsk}
 
 -- a fault that tells of bytes which no lawful frame begins with
 abbrev pub IsGarble : FrameFault → Type 0
@@ -64,7 +65,7 @@ ReceivesUnkept before after = (bytes : List ℕ) × StreamRefused NoMemory bytes
 abbrev pub GreetingFault : PortFault → ℕ → LineState → LineState → Type 0
 GreetingFault Down worker before after = GoesDown before after
 GreetingFault Garbled worker before after = (bytes : List ℕ) × IsBad bytes × Receives bytes before after
-GreetingFault WrongHello worker before after = (v : FrameValue) × IsLawful v × (v ≢ HelloFrame 1 worker) × Receives (text_of v) before after
+GreetingFault WrongHello worker before after = (v : FrameValue) × IsLawful v × ((version : ℕ) → v ≢ HelloFrame version worker) × Receives (text_of v) before after
 GreetingFault Memory worker before after = ReceivesUnkept before after
 GreetingFault _ worker before after = ⊥
 
@@ -73,6 +74,11 @@ abbrev pub SendingFault : PortFault → LineState → LineState → Type 0
 SendingFault Down before after = LineFailed before after
 SendingFault Memory before after = after ≡ before
 SendingFault _ before after = ⊥
+
+-- why a worker isn't sent a shard that it wasn't sent before: its version has no frame for it, which is so of the first one and a weight past 32 bits
+abbrev pub LacksFrame : PortFault → (version : ℕ) → (sent : Bool) → List Link → Type 0
+LacksFrame TooOld version sent links = (version ≡ 1) × (sent ≡ false) × (are_narrow links ≡ false)
+LacksFrame _ version sent links = ⊥
 
 -- why no answer came to what was sent
 abbrev pub AnswerFault : PortFault → LineState → LineState → Type 0
@@ -86,11 +92,17 @@ AnswerFault _ before after = ⊥
 
 -- before the hello, the first bytes are at fault
 abbrev pub IsNoHello : PortFault → Talk → Talk → Type 0
-IsNoHello fault before after = (before.greeted ≡ false) × GreetingFault fault before.worker before.line after.line
+IsNoHello fault before after = (before.version ≡ None) × GreetingFault fault before.worker before.line after.line
 
--- the hello came by now, these frames were put, and nothing else went out or came
+-- the hello of this version came by now, these frames were put, and nothing else went out or came
+pub record SendsTo (version : ℕ) (frames : List FrameValue) (before after : Talk) : Type 0 where
+  pub greeted : HelloCame version before.version after.version
+  pub went : Transfers 0 0 (texts_of frames) (hello_due before.version version before.worker) before.line after.line
+  pub has : HasFrames version frames
+
+-- the hello came by now, these frames were put, all of which its version has, and nothing else went out or came
 abbrev pub Sends : List FrameValue → Talk → Talk → Type 0
-Sends frames before after = Transfers 0 0 (texts_of frames) (hello_due before.greeted before.worker) before.line after.line
+Sends frames before after = (version : ℕ) × SendsTo version frames before after
 
 -- where memory was wanting in an ask: for the hello that came, for the frame of a shard that wasn't sent before, for the frame of the ask, or for the reply that came. In each case nothing failed and no end was found
 pub data IsWanting {L : Type 0} (state : L → LineState) (round shard : ℕ) (labels : List ℕ) (before after : TalkState L) : Type 0 where
@@ -98,6 +110,12 @@ pub data IsWanting {L : Type 0} (state : L → LineState) (round shard : ℕ) (l
   InShard : has_shard before.sent shard ≡ false → Sends [] (told_talk state before) (told_talk state after) → IsWanting state round shard labels before after
   InAsk : Sends (shard_due (has_shard before.sent shard) shard (links_at before.cut shard)) (told_talk state before) (told_talk state after) → IsWanting state round shard labels before after
   InReply : (bytes : List ℕ) → StreamRefused NoMemory bytes → Brings state round shard labels bytes before after → IsWanting state round shard labels before after
+
+-- the worker told the first version by now, the shard wasn't sent before, and no frame of that version has its links; nothing was put
+pub record IsTooOld (shard : ℕ) (before after : Talk) : Type 0 where
+  pub unsent : has_shard before.sent shard ≡ false
+  pub wide : are_narrow (links_at before.cut shard) ≡ false
+  pub sends : SendsTo 1 [] before after
 
 -- why an ask that was open got no answer: by the bytes that came in it, and by what the line counted. It is down where it failed, or ended in place of the hello, or of the reply once it was asked
 abbrev pub Cause : {L : Type 0} → (L → LineState) → PortFault → ℕ → ℕ → List ℕ → TalkState L → TalkState L → Type 0
@@ -111,6 +129,7 @@ Cause state WrongHello round shard labels before after = IsNoHello WrongHello (t
 Cause state (Gave code) round shard labels before after =
     (r s : ℕ) × IsLawful (FaultFrame r s code) × Brings state round shard labels (text_of (FaultFrame r s code)) before after
 Cause state Memory round shard labels before after = IsWanting state round shard labels before after
+Cause state TooOld round shard labels before after = IsTooOld shard (told_talk state before) (told_talk state after)
 Cause state Closed round shard labels before after = ⊥
 
 -- what a line counted in an ask that got no answer, whether or not it tells its bytes: it is down where one call failed, or one found the end; with any other fault neither

@@ -1,5 +1,6 @@
 -- Why the lines of this crate keep the law of lines: what a faithful one got begins what its worker's session may write. These are proofs, which each `impl` of `Line` gives for its law; no contract cites them.
 use Rattle.std.proofs.Common.{◌≡◌, ℕ, List, ◌++◌, take, drop, sym, ap, subst, ◌∙◌, take-append-drop, arith}
+use Rattle.frames.specs.declared.frame.TheConstants.{VERSION}
 use Rattle.worker_engine.specs.Serving.{shelf_of, Serves}
 use Rattle.worker_engine.proofs.Sessions.{session_serves}
 use Rattle.ports.specs.Lines.{LineState, ServesSoFar}
@@ -13,8 +14,8 @@ fused_serves worker line stopped serves calm = serves (omega arith)
 -- what was got begins what the session wrote
 pub engine_serves : (worker : ℕ) (s : EngineLineState) → IsEngineLine worker s → ServesSoFar worker (line_of s)
 engine_serves worker s is calm sent got sent_is got_is =
-    let all : Serves worker s.input s.written = session_serves worker (shelf_of s.kept) s.input s.written s.heard (is.session calm) (is.all calm) in
+    let all : Serves VERSION worker s.input s.written = session_serves worker (shelf_of s.kept) s.input s.written s.heard (is.session calm) (is.all calm) in
     let same_sent : s.input ≡ sent = cc in
     let same_got : take s.taken s.written ≡ got = cc in
     let written : s.written ≡ got ++ drop s.taken s.written = sym (take-append-drop s.taken s.written) ∙ ap (λ (t : List ℕ). t ++ drop s.taken s.written) same_got in
-    (drop s.taken s.written, subst (λ (t : List ℕ). Serves worker t (got ++ drop s.taken s.written)) same_sent (subst (Serves worker s.input) written all))
+    (VERSION, drop s.taken s.written, subst (λ (t : List ℕ). Serves VERSION worker t (got ++ drop s.taken s.written)) same_sent (subst (Serves VERSION worker s.input) written all))

@@ -1,24 +1,24 @@
 -- A talk with a worker over a line: what an ask says, and what was said and heard so far.
-use Rattle.std.specs.Prelude.{◌≡◌, ℕ, ◌+◌, ◌<◌, ⊤, Bool, true, false, ◌||◌, ◌==◌, if◌then◌else◌, List, [], ◌∷◌, ◌++◌, length, map, Some, None, IsSome}
+use Rattle.std.specs.Prelude.{◌≡◌, ℕ, ◌+◌, ◌<◌, ◌≤◌, ⊤, Bool, true, false, ◌||◌, ◌==◌, if◌then◌else◌, List, [], ◌∷◌, ◌++◌, length, map, Option, Some, None, IsSome, IfSome, MatchOption}
 use Rattle.std.specs.List.{All}
 use Rattle.link_key.specs.declared.links.Link.{Link}
 use Rattle.link_key.specs.Cut.{links_at}
 use Rattle.frames.specs.AnswerValue.{AnswerValue}
 use Rattle.frames.specs.FrameValue.{FrameValue, HelloFrame, ShardFrame, AskFrame, AnswerFrame}
-use Rattle.frames.specs.FrameText.{text_of}
-use Rattle.frames.specs.Lawful.{IsAnswer}
+use Rattle.frames.specs.FrameText.{version_of, text_of}
+use Rattle.frames.specs.Lawful.{IsVersion, IsAnswer}
 use Rattle.frames.specs.FrameStream.{texts_of, AreLawful}
 use Rattle.worker_engine.specs.Serving.{Shelf, empty_shelf, shelf_with, shelf_after}
 use Rattle.shard_set.specs.Shards.{has_shard}
 use Rattle.ports.specs.Lines.{LineState, Transfers}
 use Rattle.ports.specs.Exchanges.{Exchange, IsAskedIn, answers_of, ask_frames}
 
--- a talk: the line, the cut whose shards are asked, the number of the worker, whether its hello came, and the shards that were sent
+-- a talk: the line, the cut whose shards are asked, the number of the worker, the version that its hello told, once it came, and the shards that were sent
 pub record TalkState (L : Type 0) : Type 0 where
   pub line : L
   pub cut : List (List Link)
   pub worker : ℕ
-  pub greeted : Bool
+  pub version : Option ℕ
   pub sent : List ℕ
 
 -- a talk, with what its line tells in place of the line
@@ -26,14 +26,20 @@ abbrev pub Talk : Type 0
 Talk = TalkState LineState
 
 abbrev pub told_talk : {L : Type 0} → (L → LineState) → TalkState L → Talk
-told_talk state talk = record { line = state talk.line; cut = talk.cut; worker = talk.worker; greeted = talk.greeted; sent = talk.sent }
+told_talk state talk = record { line = state talk.line; cut = talk.cut; worker = talk.worker; version = talk.version; sent = talk.sent }
 
 -- ---- one ask
 
--- the hello, unless it came before
-abbrev pub hello_due : Bool → ℕ → List ℕ
-hello_due true worker = []
-hello_due false worker = text_of (HelloFrame 1 worker)
+-- the hello of this version, unless one came before
+abbrev pub hello_due : Option ℕ → ℕ → ℕ → List ℕ
+hello_due None version worker = text_of (HelloFrame version worker)
+hello_due (Some told) version worker = []
+
+-- by now the hello came, of this version
+pub record HelloCame (version : ℕ) (before after : Option ℕ) : Type 0 where
+  pub known : IsVersion version
+  pub told : after ≡ Some version
+  pub stays : (v : ℕ) → before ≡ Some v → v ≡ version
 
 -- the shard's frame, unless it was sent before
 abbrev pub shard_due : Bool → ℕ → List Link → List FrameValue
@@ -44,39 +50,52 @@ shard_due false shard links = ShardFrame shard links ∷ []
 abbrev pub frames_put : Talk → ℕ → ℕ → List ℕ → List FrameValue
 frames_put talk round shard labels = shard_due (has_shard talk.sent shard) shard (links_at talk.cut shard) ++ AskFrame round shard labels ∷ []
 
--- up to this state of the line a first hello came and the frames of an ask were put, and no end was found
-abbrev pub SendsAsk : {L : Type 0} → (L → LineState) → ℕ → ℕ → List ℕ → TalkState L → L → Type 0
-SendsAsk state round shard labels before asked = Transfers 0 0 (texts_of (frames_put (told_talk state before) round shard labels)) (hello_due before.greeted before.worker) (state before.line) (state asked)
+-- a worker of this version has all these frames
+abbrev pub HasFrames : ℕ → List FrameValue → Type 0
+HasFrames version frames = All (λ v. version_of v ≤ version) frames
+
+-- up to this state of the line a first hello of this version came and the frames of an ask were put, all of which the version has, and no end was found
+pub record SendsAsk {L : Type 0} (state : L → LineState) (round shard : ℕ) (labels : List ℕ) (version : ℕ) (before : TalkState L) (asked : L) : Type 0 where
+  pub went : Transfers 0 0 (texts_of (frames_put (told_talk state before) round shard labels)) (hello_due before.version version before.worker) (state before.line) (state asked)
+  pub has : HasFrames version (frames_put (told_talk state before) round shard labels)
+
+-- an ask was put, and behind that these bytes came, and so many ends were found
+pub record BringsUpTo {L : Type 0} (ends : ℕ) (state : L → LineState) (round shard : ℕ) (labels bytes : List ℕ) (before after : TalkState L) : Type 0 where
+  pub version : ℕ
+  pub greeted : HelloCame version before.version after.version
+  pub asked : L
+  pub sends : SendsAsk state round shard labels version before asked
+  pub came : Transfers 0 ends [] bytes (state asked) (state after.line)
 
 -- an ask was put, and behind that these bytes came
 abbrev pub Brings : {L : Type 0} → (L → LineState) → ℕ → ℕ → List ℕ → List ℕ → TalkState L → TalkState L → Type 0
-Brings state round shard labels bytes before after = (asked : _) × SendsAsk state round shard labels before asked × Transfers 0 0 [] bytes (state asked) (state after.line)
+Brings = BringsUpTo 0
 
 -- the same, and then the line ended
 abbrev pub EndsAfterAsk : {L : Type 0} → (L → LineState) → ℕ → ℕ → List ℕ → List ℕ → TalkState L → TalkState L → Type 0
-EndsAfterAsk state round shard labels bytes before after = (asked : _) × SendsAsk state round shard labels before asked × Transfers 0 1 [] bytes (state asked) (state after.line)
+EndsAfterAsk = BringsUpTo 1
 
 -- an ask that was answered: its frames went out and no others, and then the answer came; the hello came by now, the shard was sent by now, and the rest of the talk stands
 pub record AnswersOverLine {L : Type 0} (state : L → LineState) (round shard : ℕ) (labels : List ℕ) (answer : AnswerValue) (before after : TalkState L) : Type 0 where
   pub brought : Brings state round shard labels (text_of (AnswerFrame answer)) before after
   pub lawful : IsAnswer answer
   pub sent : (s : ℕ) → has_shard after.sent s ≡ (s == shard || has_shard before.sent s)
-  pub greeted : after.greeted ≡ true
   pub cut : after.cut ≡ before.cut
   pub worker : after.worker ≡ before.worker
 
 -- ---- the whole talk
 
 -- the hello and the answers, where the hello came
-abbrev pub frames_got : Bool → ℕ → List AnswerValue → List FrameValue
-frames_got true worker answers = HelloFrame 1 worker ∷ map AnswerFrame answers
-frames_got false worker answers = []
+abbrev pub frames_got : Option ℕ → ℕ → List AnswerValue → List FrameValue
+frames_got (Some version) worker answers = HelloFrame version worker ∷ map AnswerFrame answers
+frames_got None worker answers = []
 
 -- the line got the hello and just these answers, in their order
 pub record HasGiven (talk : Talk) (answers : List AnswerValue) : Type 0 where
-  pub got : talk.line.got ≡ Some (texts_of (frames_got talk.greeted talk.worker answers))
+  pub got : talk.line.got ≡ Some (texts_of (frames_got talk.version talk.worker answers))
   pub lawful : AreLawful (map AnswerFrame answers)
-  pub silent : talk.greeted ≡ false → answers ≡ []
+  pub known : IfSome talk.version IsVersion
+  pub silent : talk.version ≡ None → answers ≡ []
 
 -- a shard of the cut, with its links there, or an ask for one
 abbrev pub IsOfCut : List (List Link) → FrameValue → Type 0
@@ -102,7 +121,7 @@ FollowTheirShards shelf [] = ⊤
 FollowTheirShards shelf (AskFrame round shard labels ∷ frames) = IsSome (shelf shard) × FollowTheirShards shelf frames
 FollowTheirShards shelf (v ∷ frames) = FollowTheirShards (shelf_with shelf v) frames
 
--- nothing failed; just these frames were sent: shards of the cut, those of the set once each and no others, each of which was asked for, and, behind their shards, asks for such shards, just those of the exchanges, in their order; and the hello and just the answers of the exchanges were got
+-- nothing failed; just these frames were sent: shards of the cut, those of the set once each and no others, each of which was asked for, and, behind their shards, asks for such shards, just those of the exchanges, in their order; all of which the version of the worker has, and none before its hello came; and the hello and just the answers of the exchanges were got
 pub record MatchesLine (talk : Talk) (said : List FrameValue) (exchanges : List Exchange) : Type 0 where
   pub calm : talk.line.failures ≡ 0
   pub sent : talk.line.sent ≡ Some (texts_of said)
@@ -112,5 +131,6 @@ pub record MatchesLine (talk : Talk) (said : List FrameValue) (exchanges : List 
   pub needed : (s : ℕ) → has_shard talk.sent s ≡ true → IsAskedIn exchanges s
   pub asked : asks_among said ≡ ask_frames exchanges
   pub first : FollowTheirShards empty_shelf said
+  pub has : MatchOption talk.version (said ≡ []) (λ version. HasFrames version said)
   pub gave : HasGiven talk (answers_of exchanges)
   pub shelves : (s : ℕ) → s < length talk.cut → shelf_after empty_shelf said s ≡ (if has_shard talk.sent s then Some (links_at talk.cut s) else None)

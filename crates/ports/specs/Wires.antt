@@ -1,5 +1,5 @@
 -- A wire: a port over a line.
-use Rattle.std.specs.Prelude.{◌≡◌, ◌≢◌, ℕ, ◌+◌, ◌<◌, ◌≤◌, ◌⊎◌, Bool, true, false, List, [], ◌∷◌, length}
+use Rattle.std.specs.Prelude.{◌≡◌, ◌≢◌, ℕ, ◌+◌, ◌<◌, ◌≤◌, ◌⊎◌, Bool, true, false, List, [], ◌∷◌, length, None}
 use Rattle.limits.specs.declared.TheConstants.{MAX_WORKERS}
 use Rattle.link_key.specs.declared.links.Link.{Link}
 use Rattle.shard_set.specs.Shards.{has_shard}
@@ -34,7 +34,7 @@ pub record IsNewWire {L : Type 0} (line : L) (cut : List (List Link)) (worker : 
   pub line_is : wire.talk.line ≡ line
   pub cut_is : wire.talk.cut ≡ cut
   pub worker_is : wire.talk.worker ≡ worker
-  pub ungreeted : wire.talk.greeted ≡ false
+  pub ungreeted : wire.talk.version ≡ None
   pub nothing_sent : (s : ℕ) → has_shard wire.talk.sent s ≡ false
   pub opened : wire.is_open ≡ true
   pub asks : wire.asks ≡ 0

@@ -8,13 +8,13 @@ use Rattle.worker_engine.specs.Serving.{Shelf, IsReply, MayFollow, Serves}
 
 -- What may be written for a stream begins with what may be written for any prefix of it.
 abbrev pub PrefixHasPrefixReplies : Type 0
-PrefixHasPrefixReplies = (worker : ℕ) (prefix rest out : List ℕ) → Serves worker (prefix ++ rest) out
-    → (early : List ℕ) × (late : List ℕ) × (out ≡ early ++ late) × Serves worker prefix early
+PrefixHasPrefixReplies = (version worker : ℕ) (prefix rest out : List ℕ) → Serves version worker (prefix ++ rest) out
+    → (early : List ℕ) × (late : List ℕ) × (out ≡ early ++ late) × Serves version worker prefix early
 
 -- What may be written is the hello, and the texts of lawful frames.
 abbrev pub RepliesAreLawful : Type 0
-RepliesAreLawful = (worker : ℕ) (stream out : List ℕ) → Serves worker stream out
-    → (replies : List FrameValue) × AreLawful replies × (out ≡ text_of (HelloFrame 1 worker) ++ texts_of replies)
+RepliesAreLawful = (version worker : ℕ) (stream out : List ℕ) → Serves version worker stream out
+    → (replies : List FrameValue) × AreLawful replies × (out ≡ text_of (HelloFrame version worker) ++ texts_of replies)
 
 -- There is one reply to an ask, beside code 1.
 abbrev pub OneReply : Type 0

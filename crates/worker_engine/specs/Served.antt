@@ -3,6 +3,7 @@ use Rattle.std.specs.Prelude.{◌≡◌, ◌≢◌, ℕ, ◌+◌, ◌<◌, ◌�
 use Rattle.byte_streams.specs.Streams.{SourceState, Gave, SinkState, Took}
 use Rattle.link_key.specs.declared.links.Link.{Link}
 use Rattle.frames.specs.FrameValue.{FrameValue, ShardFrame, AskFrame, AnswerFrame, FaultFrame}
+use Rattle.frames.specs.declared.frame.TheConstants.{VERSION}
 use Rattle.frames.specs.FrameText.{text_of}
 use Rattle.frames.specs.FrameStream.{texts_of, AreLawful}
 use Rattle.frames.specs.Refusals.{StreamRefused}
@@ -33,12 +34,12 @@ abbrev pub faults_in : List FrameValue → ℕ
 faults_in [] = 0
 faults_in (v ∷ frames) = fault_bit v + faults_in frames
 
--- the whole lawful frames that a session heard, and what it owes for them
+-- the whole lawful frames that a session of this version heard, and what it owes for them
 pub record Heard (worker : ℕ) : Type 0 where
   pub frames : List FrameValue
   pub lawful : AreLawful frames
   pub out : List ℕ
-  pub serves : Serves worker (texts_of frames) out
+  pub serves : Serves VERSION worker (texts_of frames) out
 
 -- the counts are those of the frames heard, and of the answers and faults owed
 pub record AreCounts (worker : ℕ) (heard : Heard worker) (served : Served) : Type 0 where

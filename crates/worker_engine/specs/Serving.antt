@@ -1,5 +1,5 @@
 -- What a worker replies to the frames of a stream.
-use Rattle.std.specs.Prelude.{◌≡◌, ℕ, ◌+◌, ◌≤◌, ◌⊎◌, ⊤, IfSome, IsSome, ◌==◌, if◌then◌else◌, List, [], ◌∷◌, ◌++◌, length, Option, Some, None}
+use Rattle.std.specs.Prelude.{◌≡◌, ℕ, ◌+◌, ◌≤◌, nat_le, ◌⊎◌, ⊤, IfSome, IsSome, ◌==◌, if◌then◌else◌, List, [], ◌∷◌, ◌++◌, length, take_while, Option, Some, None}
 use Rattle.std.specs.Ordering.{nat_cmp}
 use Rattle.std.specs.BTreeMap.{is_at}
 use Rattle.std.specs.Map.{lookup}
@@ -10,7 +10,8 @@ use Rattle.round_theory.specs.Offers.{AreLightOffers}
 use Rattle.frames.specs.AnswerValue.{AnswerValue}
 use Rattle.frames.specs.FrameValue.{FrameValue, HelloFrame, ShardFrame, AskFrame, AnswerFrame, FaultFrame, value_of}
 use Rattle.frames.specs.declared.frame.Frame.{Frame}
-use Rattle.frames.specs.FrameText.{text_of}
+use Rattle.frames.specs.FrameText.{version_of, text_of}
+use Rattle.frames.specs.Lawful.{IsVersion}
 use Rattle.frames.specs.FrameStream.{texts_of, AreFramesOf}
 
 -- the links that are kept under each number
@@ -79,13 +80,18 @@ AreReplies shelf [] out = out ≡ []
 AreReplies shelf (v ∷ frames) out =
     (now : List FrameValue) × (later : List FrameValue) × (out ≡ now ++ later) × MayFollow shelf v now × AreReplies (shelf_with shelf v) frames later
 
--- what worker `worker` may write for a stream, from its hello on
-pub record Serves (worker : ℕ) (stream out : List ℕ) : Type 0 where
+-- the frames that a worker of this version hears: those before the first that its version hasn't, at which its session ends
+abbrev pub heard_by : ℕ → List FrameValue → List FrameValue
+heard_by version frames = take_while (λ v. nat_le (version_of v) version) frames
+
+-- what worker `worker` of this version may write for a stream, from its hello on
+pub record Serves (version worker : ℕ) (stream out : List ℕ) : Type 0 where
+  pub known : IsVersion version
   pub frames : List FrameValue
   pub replies : List FrameValue
-  pub heard : AreFramesOf stream frames
-  pub answered : AreReplies empty_shelf frames replies
-  pub written : out ≡ text_of (HelloFrame 1 worker) ++ texts_of replies
+  pub came : AreFramesOf stream frames
+  pub answered : AreReplies empty_shelf (heard_by version frames) replies
+  pub written : out ≡ text_of (HelloFrame version worker) ++ texts_of replies
 
 -- how many asks there are
 abbrev pub ask_bit : FrameValue → ℕ
