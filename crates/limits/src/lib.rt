@@ -28,3 +28,9 @@ pub const MAX_SHARD_LINKS: usize = 1 << 24;
 
 /// The most workers of a run, and so the most lines to workers.
 pub const MAX_WORKERS: u32 = 64;
+
+/// The least weight that a link may have: -2^63.
+pub const MIN_WEIGHT: i64 = i64::MIN;
+
+/// The greatest weight that a link may have: 2^63 - 1.
+pub const MAX_WEIGHT: i64 = i64::MAX;

@@ -4,7 +4,7 @@ use Rattle.std.specs.Ordering.{int_eq, ordering_then, ordering_reverse}
 use Rattle.std.specs.List.{IsAllAdjacentAnswer}
 use Rattle.std.specs.List.Sorted.{IsSorted}
 use Rattle.std.specs.Prelude.{FitsSigned}
-use Rattle.std.specs.Int.{w32}
+use Rattle.std.specs.Int.{w64}
 use Rattle.std.specs.Cmp.{IsTotalOrder}
 use Rattle.std.proofs.lemmas.Bool.Decides.{nat_tests, Decides-int_eq}
 use Rattle.std.proofs.lemmas.Cmp.{int_cmp_total, nat_cmp_total, on_total, then_total, tied_itself}
@@ -26,7 +26,7 @@ link_eq l m weight low high = λ i. record {
   from_one = is_prop→PathP (λ j. 1 ≤ low j) (λ j. le_prop) l.from_one m.from_one i;
   ascending = is_prop→PathP (λ j. low j < high j) (λ j. le_prop) l.ascending m.ascending i;
   in_limit = is_prop→PathP (λ j. high j ≤ 2 ^ 26) (λ j. le_prop) l.in_limit m.in_limit i;
-  weight_fits = is_prop→PathP (λ j. FitsSigned w32 (weight j)) (λ j. hlevel le_prop) l.weight_fits m.weight_fits i;
+  weight_fits = is_prop→PathP (λ j. FitsSigned w64 (weight j)) (λ j. hlevel le_prop) l.weight_fits m.weight_fits i;
 }
 
 pub key_cmp_total : IsTotalOrder key_cmp

@@ -1,5 +1,5 @@
 ghost use Rattle.std.specs.Prelude.{◌≡◌, ℕ, ◌<◌, ◌≤◌, ◌↔◌, IsNone, IfSome, min, max, FitsSigned};
-ghost use Rattle.std.specs.Int.{w32};
+ghost use Rattle.std.specs.Int.{w64};
 ghost use Rattle.limits.specs.declared.TheConstants.{MAX_VERTICES};
 
 use limits::MAX_VERTICES;
@@ -11,13 +11,13 @@ use limits::MAX_VERTICES;
 /// at most `MAX_VERTICES`.
 #[derive(Clone, Copy, Debug, PartialEq, Eq, PartialOrd, Ord, Hash)]
 pub struct Link {
-    pub weight: i32,
+    pub weight: i64,
     pub low: u32,
     pub high: u32,
     ghost from_one: { 1 ≤ low },
     ghost ascending: { low < high },
     ghost in_limit: { high ≤ MAX_VERTICES },
-    ghost weight_fits: { FitsSigned w32 weight },
+    ghost weight_fits: { FitsSigned w64 weight },
 }
 
 impl Link {
@@ -25,7 +25,7 @@ impl Link {
 
     /// The link of an arc from `u` to `v` of weight `w`, whose direction is forgotten; none for a loop, an arc from
     /// a vertex to itself. It takes no memory.
-    pub fn of_arc(u: u32, v: u32, w: i32) -> Option<Link>
+    pub fn of_arc(u: u32, v: u32, w: i64) -> Option<Link>
         requires tail_from_one { 1 ≤ u }
         requires tail_in_limit { u ≤ MAX_VERTICES }
         requires head_from_one { 1 ≤ v }
