@@ -1,8 +1,8 @@
 -- Each line is lawful after lawful ones or has a kind of fault, and so each text means a graph or has a first fault.
-use Rattle.std.proofs.Common.{◌≡◌, ℕ, ℤ, pos, neg_ℤ, ◌+◌, ◌^◌, ◌⊎◌, inl, inr, List, [], ◌∷◌, ◌++◌, refl, sym, subst, arith, append_assoc, append-nil, length}
+use Rattle.std.proofs.Common.{◌≡◌, ℕ, ℤ, ◌+◌, ◌⊎◌, inl, inr, List, [], ◌∷◌, ◌++◌, refl, sym, subst, arith, append_assoc, append-nil, length}
 use Rattle.std.proofs.lemmas.Bool.Decides.{leb_tells}
 use Rattle.std.proofs.lemmas.Int.{by_lt_z, ints}
-use Rattle.limits.specs.declared.TheConstants.{MAX_ARCS, MAX_VERTICES}
+use Rattle.limits.specs.declared.TheConstants.{MAX_ARCS, MAX_VERTICES, MAX_WEIGHT, MIN_WEIGHT}
 use Rattle.link_key.specs.Arc.{Arc}
 use Rattle.gr_text.specs.Lines.{with_last, AreLines}
 use Rattle.gr_text.specs.Statement.{Problem, ArcLine}
@@ -26,9 +26,9 @@ ends_or_not n arc = elim (both_or_not (within_or_not 1 n arc.tail) (within_or_no
 ]
 
 weight_or_not : (w : ℤ) → IsWeight w ⊎ ¬ (IsWeight w)
-weight_or_not w = by_lt_z w (neg_ℤ (pos (2 ^ 31)))
+weight_or_not w = by_lt_z w MIN_WEIGHT
     (λ under. inr (λ weight. omega (arith, ints, weight.0)))
-    (λ low. by_lt_z w (pos (2 ^ 31)) (λ high. inl (low, high)) (λ over. inr (λ weight. omega (arith, ints, weight.1))))
+    (λ low. by_lt_z MAX_WEIGHT w (λ over. inr (λ weight. omega (arith, ints, weight.1))) (λ high. inl (low, high)))
 
 -- what a line is after lawful ones
 abbrev Goes : List (List ℕ) → List ℕ → Type 0

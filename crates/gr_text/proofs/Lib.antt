@@ -1,6 +1,5 @@
 pub mod FieldBytes
 pub mod LineFields
-pub mod Signed
 pub mod Judging
 pub mod Unique
 pub mod Steps

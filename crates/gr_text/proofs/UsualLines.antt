@@ -1,14 +1,16 @@
 -- A usual arc line: its fields, its bytes, and that it is read whole.
-use Rattle.std.proofs.Common.{◌≡◌, ◌≢◌, ℕ, ℤ, suc, ◌+◌, ◌-◌, ◌<◌, ◌≤◌, inl, inr, List, [], ◌∷◌, ◌++◌, refl, ap, sym, ◌∙◌, subst, arith, append_assoc, append-nil, codes, length, take, drop, get_or}
+use Rattle.std.proofs.Common.{◌≡◌, ◌≢◌, ℕ, suc, ◌+◌, ◌-◌, ◌%◌, ◌^◌, ◌<◌, ◌≤◌, inl, inr, List, [], ◌∷◌, ◌++◌, refl, ap, sym, ◌∙◌, subst, arith, append_assoc, append-nil, codes, length, take, drop, get_or}
 use Rattle.std.specs.List.{AllByRecursion}
-use Rattle.std.proofs.lemmas.List.{take_more, take-append-drop, drop-append-le, take_rest}
+use Rattle.std.proofs.lemmas.List.{length-take-le, take_more, take-append-drop, drop-append-le, take_rest}
+use Rattle.std.proofs.Math.Nat.{pow-le-pow_right}
 use Rattle.std.proofs.Math.Seq.{take-append-add}
 use Rattle.gr_text.specs.Lines.{line_feed, IsLine, ended}
-use Rattle.gr_text.specs.Fields.{IsFieldByte, BeginsBlank, AreFields, IsDigit}
+use Rattle.gr_text.specs.Fields.{IsFieldByte, BeginsBlank, AreFields, IsDigit, number_of}
 use Rattle.gr_text.specs.Word.{KeepsSigned}
 use Rattle.gr_text.specs.PartialLine.{IsWhole}
 use Rattle.gr_text.specs.UsualArc.{IsShort, IsShortSigned, IsUsualArc, BeginsWithShort, HasShortBefore, HasNoShort}
 use Rattle.gr_text.specs.declared.words.LineFields.TheVariants.{ArcWhole}
+use Rattle.gr_text.specs.declared.words.Signed.{Signed}
 use Rattle.gr_text.proofs.Alls.{All-both, All-parts}
 use Rattle.gr_text.proofs.Unique.{prefix_unique}
 
@@ -80,7 +82,7 @@ usual_spelled line rest tail head weight is =
     ∙ ap (λ (xs : List ℕ). tail ++ 32 ∷ xs) (append_assoc head (32 ∷ weight) (line_feed ∷ rest)))
 
 -- What is read is such a line.
-pub usual_found : (bytes fields second third rest : List ℕ) (u v : ℕ) (w : ℤ) → bytes ≡ 97 ∷ 32 ∷ fields → BeginsWithShort u 32 fields second → BeginsWithShort v 32 second third
+pub usual_found : (bytes fields second third rest : List ℕ) (u v : ℕ) (w : Signed) → bytes ≡ 97 ∷ 32 ∷ fields → BeginsWithShort u 32 fields second → BeginsWithShort v 32 second third
     → ((field : List ℕ) × IsShortSigned field × KeepsSigned w field × (third ≡ field ++ line_feed ∷ rest))
     → (line : List ℕ) × IsUsualArc line × IsWhole (ArcWhole u v w) line × (bytes ≡ ended line ++ rest)
 usual_found bytes fields second third rest u v w begins (tail, short_tail, keeps_tail, is_tail) (head, short_head, keeps_head, is_head) (weight, short_weight, keeps_weight, is_weight) =
@@ -139,6 +141,23 @@ pub at_place : (xs : List ℕ) (i : ℕ) → i < length xs → xs ≡ take i xs 
 at_place xs i within =
     sym (take-append-drop (i + 1) xs) ∙ ap (λ (ys : List ℕ). ys ++ drop (i + 1) xs) (take_more xs i 0 within) ∙ append_assoc (take i xs) (get_or xs i 0 ∷ []) (drop (i + 1) xs)
 
+-- The bytes before `stop` are digits, one to nineteen, and what is kept of them is their number.
+pub short_before : (kept stop place : ℕ) (xs : List ℕ) → place < length xs → length xs ≤ 20 → 1 ≤ place → get_or xs place 0 ≡ stop
+    → AllByRecursion IsDigit (take place xs) → kept ≡ number_of (take place xs) % 2 ^ 64 → number_of (take place xs) < 10 ^ place
+    → HasShortBefore kept place stop xs
+short_before kept stop place xs within few some here digits is below =
+    let count : length (take place xs) ≡ place = length-take-le place xs (omega arith) in
+    let fits : 10 ^ place ≤ 10 ^ 19 = pow-le-pow_right (omega arith) {i = place} {j = 19} (omega arith) in
+    let not_empty : take place xs ≢ [] = λ none. (let zero : length (take place xs) ≡ 0 = ap length none in omega arith) in (
+      within,
+      (
+        take place xs,
+        record { some = not_empty; digits = digits; few = omega arith },
+        (number_of (take place xs), (not_empty, digits, refl), omega arith),
+        at_place xs place within ∙ ap (λ (b : ℕ). take place xs ++ b ∷ drop (place + 1) xs) here,
+      ),
+    )
+
 -- All are digits.
 pub never_all : (stop : ℕ) (xs : List ℕ) → ¬ (IsDigit stop) → AllByRecursion IsDigit xs → HasNoShort stop xs
 never_all stop xs no_digit all field rest short is =
@@ -165,16 +184,16 @@ begins_two (x ∷ []) a b some first second = absurd (omega arith)
 begins_two (x ∷ y ∷ xs) a b some first second =
     ap (λ (z : ℕ). z ∷ y ∷ xs) first ∙ ap (λ (z : ℕ). a ∷ z ∷ xs) second ∙ ap (λ (zs : List ℕ). a ∷ b ∷ zs) (sym (take_rest (x ∷ y ∷ xs) 2))
 
--- A number before `stop` stands in the text where it stands in its first eleven bytes.
-pub found_in_front : (kept stop place : ℕ) (xs : List ℕ) → HasShortBefore kept place stop (take 11 xs) → BeginsWithShort kept stop xs (drop (place + 1) xs)
+-- A number before `stop` stands in the text where it stands in its first twenty bytes.
+pub found_in_front : (kept stop place : ℕ) (xs : List ℕ) → HasShortBefore kept place stop (take 20 xs) → BeginsWithShort kept stop xs (drop (place + 1) xs)
 found_in_front kept stop place xs (within, (field, short, keeps, is)) =
-    let few : place + 1 ≤ length (take 11 xs) = omega arith in
-    let rest = drop-append-le (place + 1) (take 11 xs) (drop 11 xs) few in
-    let begins = ap (λ (ys : List ℕ). ys ++ drop 11 xs) is ∙ append_assoc field (stop ∷ drop (place + 1) (take 11 xs)) (drop 11 xs) ∙ ap (λ (ys : List ℕ). field ++ stop ∷ ys) (sym rest) in
-    subst (λ (ys : List ℕ). BeginsWithShort kept stop ys (drop (place + 1) ys)) (take-append-drop 11 xs) (field, short, keeps, begins)
+    let few : place + 1 ≤ length (take 20 xs) = omega arith in
+    let rest = drop-append-le (place + 1) (take 20 xs) (drop 20 xs) few in
+    let begins = ap (λ (ys : List ℕ). ys ++ drop 20 xs) is ∙ append_assoc field (stop ∷ drop (place + 1) (take 20 xs)) (drop 20 xs) ∙ ap (λ (ys : List ℕ). field ++ stop ∷ ys) (sym rest) in
+    subst (λ (ys : List ℕ). BeginsWithShort kept stop ys (drop (place + 1) ys)) (take-append-drop 20 xs) (field, short, keeps, begins)
 
-pub none_in_front : (stop : ℕ) (xs : List ℕ) → HasNoShort stop (take 11 xs) → HasNoShort stop xs
+pub none_in_front : (stop : ℕ) (xs : List ℕ) → HasNoShort stop (take 20 xs) → HasNoShort stop xs
 none_in_front stop xs none field rest short is =
-    let more = 10 - length field in
-    let eleven : 11 ≡ length field + suc more = omega (arith, short.few) in
-    none field (take more rest) short (ap (take 11) is ∙ ap (λ (k : ℕ). take k (field ++ stop ∷ rest)) eleven ∙ take-append-add field (stop ∷ rest) (suc more))
+    let more = 19 - length field in
+    let all : 20 ≡ length field + suc more = omega (arith, short.few) in
+    none field (take more rest) short (ap (take 20) is ∙ ap (λ (k : ℕ). take k (field ++ stop ∷ rest)) all ∙ take-append-add field (stop ∷ rest) (suc more))

@@ -5,7 +5,7 @@ use std::marker::Model;
 pub(crate) struct Arc {
     pub tail: u32,
     pub head: u32,
-    pub weight: i32,
+    pub weight: i64,
 }
 
 impl Model for Arc {

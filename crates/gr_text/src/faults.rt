@@ -21,7 +21,7 @@ pub enum GrKind {
     BadArc,
     /// An end of an arc isn't a vertex: 1 up to the number stated.
     EndOutOfRange,
-    /// A weight that doesn't fit 32 bits with a sign.
+    /// A weight below -2^63 or above 2^63 - 1.
     WeightOutOfRange,
     /// An arc line after as many as were stated.
     TooManyArcs,

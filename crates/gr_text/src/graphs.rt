@@ -9,7 +9,7 @@ use std::marker::Model;
 /// The graph of a text: its number of vertices, and a link for each arc line that is no loop.
 ///
 /// Vertices are numbered from 1. The links are those of the arcs with their direction forgotten; an arc
-/// that is given both ways gives two links. It takes 12 bytes a link, beside what its list has spare.
+/// that is given both ways gives two links. It takes 16 bytes a link, beside what its list has spare.
 #[derive(Drop)]
 pub struct Graph<A: Allocator = Global> {
     vertices: u32,

@@ -14,10 +14,10 @@
 //! - A text means one graph or has one first fault, and never both; a forest's text means just its links ([`laws`]).
 //!
 //! Where to start a change: what a line may say, `specs/Statement`, then `words`; what is wrong with a line, and which
-//! fault comes first, `specs/Fault`, then `verdicts`; the limits of vertices, arc lines and bytes, the crate `limits`;
-//! that of weights, `IsWeight` in `specs/Graph`, then `verdicts`. A byte goes into a `Word` (the field that is
-//! coming), a field into `LineFields` (those of its line), a line into `LinesSoFar` (what the whole lines say); an arc
-//! line in its usual form that lies whole in a piece is read at once, by `usual_line`.
+//! fault comes first, `specs/Fault`, then `verdicts`; the limits of vertices, arc lines, bytes and weights, the crate
+//! `limits`, and for wider numbers `cap` in `specs/Word`, then `words` and `verdicts`. A byte goes into a `Word` (the
+//! field that is coming), a field into `LineFields` (those of its line), a line into `LinesSoFar` (what the whole lines
+//! say); an arc line in its usual form that lies whole in a piece is read at once, by `usual_line`.
 #![tactic(auto)]
 
 mod arcs;

@@ -1,6 +1,6 @@
 //! A line of a forest's text. It is spelled from its last byte to its first, the order in which the
 //! digits of a number are found, so that each digit is written once, in its place.
-ghost use Rattle.std.specs.Prelude.{◌≡◌, ℕ, ◌+◌, ◌≤◌, ◌<◌, List, [], ◌∷◌, ◌++◌, length, drop, decimal};
+ghost use Rattle.std.specs.Prelude.{◌≡◌, ℕ, ◌+◌, ◌≤◌, ◌<◌, ◌^◌, List, [], ◌∷◌, ◌++◌, length, drop, decimal};
 ghost use Rattle.std.specs.Fmt.{signed_decimal};
 ghost use Rattle.gr_text.specs.ForestText.{header_of, link_line};
 
@@ -8,8 +8,8 @@ use itoa::write_digits;
 use link_key::Link;
 use std::marker::Model;
 
-/// The room for a line: two numbers of at most 20 digits and one of at most 11 bytes, with the
-/// letters, spaces and the line feed, are shorter.
+/// The room for a line: a vertex has at most 10 digits, a weight and a number of links at most 20 bytes, and with the
+/// letters, spaces and the line feed they are shorter.
 pub(crate) const LINE_ROOM: usize = 64;
 
 /// The end of a line, as far as it is spelled.
@@ -51,16 +51,17 @@ impl Spelled {
         requires { length self.old + 20 ≤ 64 }
         ensures digits { self.new ≡ decimal n ++ self.old }
         ensures longer { length self.new ≤ length self.old + 20 }
+        ensures few { n < 2 ^ 32 → length self.new ≤ length self.old + 10 }
     {
         self.start = write_digits(n, &mut self.bytes, self.start);
     }
 
-    fn put_signed(&mut self, n: i32)
+    fn put_signed(&mut self, n: i64)
         requires { length self.old + 20 ≤ 64 }
         ensures digits { self.new ≡ signed_decimal n ++ self.old }
-        ensures longer { length self.new ≤ length self.old + 11 }
+        ensures longer { length self.new ≤ length self.old + 20 }
     {
-        self.put_number(n.unsigned_abs() as u64);
+        self.put_number(n.unsigned_abs());
         if n < 0 {
             self.put(b"-");
         }

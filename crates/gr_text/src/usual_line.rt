@@ -1,17 +1,16 @@
 //! The usual form of an arc line, `a U V W`, which is read at once.
 ghost use Rattle.std.specs.Prelude.{◌≤◌, length, MatchOption};
 ghost use Rattle.gr_text.specs.Fields.{IsDigit};
-ghost use Rattle.gr_text.specs.Word.{IsCapped};
 ghost use Rattle.gr_text.specs.UsualArc.{BeginsWithShort, BeginsWithShortSigned, BeginsWithUsualArc, HasNoShort, HasNoShortSigned, HasNoUsualArc, HasShortBefore};
 
-use crate::words::LineFields;
+use crate::words::{LineFields, Signed};
 
-// The most bytes of a number in such a line, which has at most ten digits, and of the byte that stops it.
-const MOST_BYTES: usize = 11;
+// The most bytes of a number in such a line, which has at most nineteen digits, and of the byte that stops it.
+const MOST_BYTES: usize = 20;
 
 /// The line that the bytes begin with, where it is a usual arc line and its line feed is among them, and the bytes
-/// behind that: `a`, one space, one to ten digits, one space, one to ten digits, one space, a minus or none, and one
-/// to ten digits. The time is linear in that line.
+/// behind that: `a`, one space, one to nineteen digits, one space, one to nineteen digits, one space, a minus or none,
+/// and one to nineteen digits. The time is linear in that line.
 #[inline(always)]
 pub(crate) fn usual_arc(bytes: &[u8]) -> Option<(LineFields, &[u8])>
     ensures { MatchOption result (HasNoUsualArc bytes.now) (λ found. BeginsWithUsualArc found.0 bytes.now found.1.now) }
@@ -25,25 +24,25 @@ pub(crate) fn usual_arc(bytes: &[u8]) -> Option<(LineFields, &[u8])>
     Some((LineFields::ArcWhole(tail, head, weight), rest))
 }
 
-// The weight that the bytes before the first line feed write, where they are one to ten digits or a minus and such;
-// and the bytes behind the line feed.
+// The weight that the bytes before the first line feed write, where they are one to nineteen digits or a minus and
+// such; and the bytes behind the line feed.
 #[inline(always)]
-fn short_weight(bytes: &[u8]) -> Option<(i64, &[u8])>
+fn short_weight(bytes: &[u8]) -> Option<(Signed, &[u8])>
     ensures { MatchOption result (HasNoShortSigned bytes.now)
         (λ found. BeginsWithShortSigned found.0 bytes.now found.1.now) }
 {
     if let [b'-', digits @ ..] = bytes {
         let (size, rest) = short_number(digits, b'\n')?;
-        return Some((-i64::from(size), rest));
+        return Some((Signed::Minus(size), rest));
     }
     let (size, rest) = short_number(bytes, b'\n')?;
-    Some((i64::from(size), rest))
+    Some((Signed::Plus(size), rest))
 }
 
-// The number that the bytes before the first `stop` write, where they are one to ten digits; and the bytes behind
+// The number that the bytes before the first `stop` write, where they are one to nineteen digits; and the bytes behind
 // `stop`. Where the bytes are as many as it may have, no look is taken at each whether it is the last.
 #[inline(always)]
-fn short_number(bytes: &[u8], stop: u8) -> Option<(u32, &[u8])>
+fn short_number(bytes: &[u8], stop: u8) -> Option<(u64, &[u8])>
     requires { ¬ (IsDigit stop) }
     ensures { MatchOption result (HasNoShort stop bytes.now)
         (λ found. BeginsWithShort found.0 stop bytes.now found.1.now) }
@@ -57,7 +56,7 @@ fn short_number(bytes: &[u8], stop: u8) -> Option<(u32, &[u8])>
 
 // The same of the last bytes of a piece.
 #[inline(never)]
-fn last_short_number(bytes: &[u8], stop: u8) -> Option<(u32, &[u8])>
+fn last_short_number(bytes: &[u8], stop: u8) -> Option<(u64, &[u8])>
     requires stop { ¬ (IsDigit stop) }
     requires few { length bytes.now ≤ MOST_BYTES }
     ensures { MatchOption result (HasNoShort stop bytes.now)
@@ -67,9 +66,10 @@ fn last_short_number(bytes: &[u8], stop: u8) -> Option<(u32, &[u8])>
     Some((number, &bytes[place + 1..]))
 }
 
-// The number that the bytes before the first `stop` write, where they are one to ten digits; and the place of `stop`.
+// The number that the bytes before the first `stop` write, where they are one to nineteen digits; and the place of
+// `stop`. The last byte may be a twentieth digit and wrap: then there is no `stop`, and nothing is answered.
 #[inline(always)]
-fn number_before(bytes: &[u8], stop: u8) -> Option<(u32, usize)>
+fn number_before(bytes: &[u8], stop: u8) -> Option<(u64, usize)>
     requires stop { ¬ (IsDigit stop) }
     requires few { length bytes.now ≤ MOST_BYTES }
     ensures { MatchOption result (HasNoShort stop bytes.now)
@@ -78,19 +78,12 @@ fn number_before(bytes: &[u8], stop: u8) -> Option<(u32, usize)>
     let mut number: u64 = 0;
     for (place, &byte) in bytes.iter().enumerate() {
         if byte.is_ascii_digit() {
-            number = number * 10 + u64::from(byte - b'0');
+            number = number.wrapping_mul(10).wrapping_add(u64::from(byte - b'0'));
         } else if byte == stop && place > 0 {
-            return Some((capped(number), place));
+            return Some((number, place));
         } else {
             return None;
         }
     }
     None
-}
-
-#[inline(always)]
-fn capped(number: u64) -> u32
-    ensures { IsCapped result number }
-{
-    number.min(u64::from(u32::MAX)) as u32
 }

@@ -8,7 +8,7 @@ ghost use Rattle.gr_text.specs.Graph.{IsWeight};
 use crate::arcs::Arc;
 use crate::faults::GrKind;
 use crate::sizes::Size;
-use crate::words::LineFields;
+use crate::words::{LineFields, Signed};
 use limits::{MAX_ARCS, MAX_VERTICES};
 
 /// What a line does after those before it.
@@ -45,19 +45,19 @@ pub(crate) fn judge(size: Option<Size>, count: u32, line: LineFields) -> Verdict
     }
 }
 
-fn judge_problem(size: Option<Size>, n: u32, m: u32) -> Verdict
+fn judge_problem(size: Option<Size>, n: u64, m: u64) -> Verdict
     ensures fits { (count : ℕ) → FitsAfter result size count }
     ensures told { (count : ℕ) → JudgesEach result size count (KeepsProblem n m) }
 {
     if let Some(_) = size {
         return Verdict::Faulty(GrKind::SecondProblem);
     }
-    if n > MAX_VERTICES || m > MAX_ARCS {
+    if n > u64::from(MAX_VERTICES) || m > u64::from(MAX_ARCS) {
         return Verdict::Faulty(GrKind::TooLarge);
     }
     Verdict::Begins(Size {
-        vertices: n,
-        arcs: m,
+        vertices: n as u32,
+        arcs: m as u32,
     })
 }
 
@@ -72,7 +72,7 @@ fn bad_problem(size: Option<Size>) -> Verdict
 }
 
 #[inline(always)]
-fn judge_arc(size: Option<Size>, count: u32, u: u32, v: u32, w: i64) -> Verdict
+fn judge_arc(size: Option<Size>, count: u32, u: u64, v: u64, w: Signed) -> Verdict
     ensures fits { FitsAfter result size count }
     ensures told { JudgesEach result size count (KeepsArc u v w) }
 {
@@ -82,13 +82,14 @@ fn judge_arc(size: Option<Size>, count: u32, u: u32, v: u32, w: i64) -> Verdict
     if count >= size.arcs {
         return Verdict::Faulty(GrKind::TooManyArcs);
     }
-    if u < 1 || u > size.vertices || v < 1 || v > size.vertices {
+    let most = u64::from(size.vertices);
+    if u < 1 || u > most || v < 1 || v > most {
         return Verdict::Faulty(GrKind::EndOutOfRange);
     }
     match weight_of(w) {
         Some(weight) => Verdict::Adds(Arc {
-            tail: u,
-            head: v,
+            tail: u as u32,
+            head: v as u32,
             weight,
         }),
         None => Verdict::Faulty(GrKind::WeightOutOfRange),
@@ -96,10 +97,13 @@ fn judge_arc(size: Option<Size>, count: u32, u: u32, v: u32, w: i64) -> Verdict
 }
 
 #[inline(always)]
-fn weight_of(w: i64) -> Option<i32>
+fn weight_of(w: Signed) -> Option<i64>
     ensures { (z : ℤ) → IsCappedSigned w z → MatchOption result (¬ (IsWeight z)) (λ x. (x ≡ z) × IsWeight z) }
 {
-    i32::try_from(w).ok()
+    match w {
+        Signed::Plus(size) => i64::try_from(size).ok(),
+        Signed::Minus(size) => 0i64.checked_sub_unsigned(size),
+    }
 }
 
 fn bad_arc(size: Option<Size>, count: u32) -> Verdict

@@ -4,7 +4,7 @@ ghost use Rattle.gr_text.specs.Word.{WordMeans, LineMeans, IsCapped, KeepsNumber
 
 /// What is kept of a field while its bytes come, in constant memory.
 ///
-/// Numbers above `u32::MAX` are kept as that: any such number is past every limit, so its faults stay the
+/// Numbers above `u64::MAX` are kept as that: any such number is past every limit, so its faults stay the
 /// same. `Other` is a field that no line may have at any place, whatever bytes follow.
 #[derive(Clone, Copy)]
 pub(crate) enum Word {
@@ -21,13 +21,22 @@ pub(crate) enum Word {
     /// It begins with `c`.
     Comment,
     /// Digits alone, at least one.
-    Number(u32),
+    Number(u64),
     /// A minus alone.
     Minus,
     /// A minus and then digits, at least one.
-    Negative(u32),
+    Negative(u64),
     /// Anything else.
     Other,
+}
+
+/// What is kept of a number that may have a minus.
+#[derive(Clone, Copy)]
+pub(crate) enum Signed {
+    /// Digits alone.
+    Plus(u64),
+    /// A minus and then digits.
+    Minus(u64),
 }
 
 /// What is kept of a line while its fields come, in constant memory.
@@ -40,21 +49,22 @@ pub(crate) enum LineFields {
     Unknown,
     Problem,
     ProblemSp,
-    ProblemVertices(u32),
-    ProblemWhole(u32, u32),
+    ProblemVertices(u64),
+    ProblemWhole(u64, u64),
     BadProblem,
     Arc,
-    ArcTail(u32),
-    ArcEnds(u32, u32),
-    ArcWhole(u32, u32, i64),
+    ArcTail(u64),
+    ArcEnds(u64, u64),
+    ArcWhole(u64, u64, Signed),
     BadArc,
 }
 
-fn extended(kept: u32, digit: u8) -> u32
+fn extended(kept: u64, digit: u8) -> u64
     requires { IsDigit digit }
     ensures { (n : ℕ) → IsCapped kept n → IsCapped result (10 * n + (digit - 48)) }
 {
-    (u64::from(kept) * 10 + u64::from(digit - b'0')).min(u64::from(u32::MAX)) as u32
+    kept.saturating_mul(10)
+        .saturating_add(u64::from(digit - b'0'))
 }
 
 impl Word {
@@ -78,9 +88,9 @@ impl Word {
         ensures { (bytes : List ℕ) → WordMeans self bytes → WordMeans result (bytes ++ digit ∷ []) }
     {
         match self {
-            Word::Empty => Word::Number(u32::from(digit - b'0')),
+            Word::Empty => Word::Number(u64::from(digit - b'0')),
             Word::Number(kept) => Word::Number(extended(kept, digit)),
-            Word::Minus => Word::Negative(u32::from(digit - b'0')),
+            Word::Minus => Word::Negative(u64::from(digit - b'0')),
             Word::Negative(kept) => Word::Negative(extended(kept, digit)),
             Word::Comment => Word::Comment,
             _ => Word::Other,
@@ -109,7 +119,7 @@ impl Word {
 impl Word {
     // The number that the whole field writes.
     #[inline]
-    fn as_number(self) -> Option<u32>
+    fn as_number(self) -> Option<u64>
         ensures { (field : List ℕ) → WordMeans self field
             → MatchOption result ((n : ℕ) → ¬ (Writes field n)) (λ kept. KeepsNumber kept field) }
     {
@@ -121,13 +131,13 @@ impl Word {
 
     // The signed number that the whole field writes.
     #[inline]
-    fn as_signed(self) -> Option<i64>
+    fn as_signed(self) -> Option<Signed>
         ensures { (field : List ℕ) → WordMeans self field
             → MatchOption result ((z : ℤ) → ¬ (WritesSigned field z)) (λ kept. KeepsSigned kept field) }
     {
         match self {
-            Word::Number(kept) => Some(i64::from(kept)),
-            Word::Negative(kept) => Some(-i64::from(kept)),
+            Word::Number(kept) => Some(Signed::Plus(kept)),
+            Word::Negative(kept) => Some(Signed::Minus(kept)),
             _ => None,
         }
     }

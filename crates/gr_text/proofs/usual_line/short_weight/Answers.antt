@@ -1,6 +1,5 @@
 use Rattle.std.proofs.Common.{◌≡◌, ◌∷◌, List, ℕ, pos, neg_ℤ, inl, inr, refl, ap, ◌∙◌, get_or, rules}
 use Rattle.gr_text.proofs.UsualLines.{begins_one}
-use Rattle.gr_text.proofs.Signed.{kept_signed, kept_negative}
 use Rattle.gr_text.proofs.usual_line.short_weight.Goals as goal
 
 pub returns-in-45 : goal.returns-in-45
@@ -9,11 +8,11 @@ returns-in-45 c =
     let minus : get_or c.args.bytes.now 0 0 ≡ 45 = search rules in (
       45 ∷ field,
       inr (field, refl, short),
-      (neg_ℤ (pos n), inr (field, n, refl, writes, refl), inr (n, refl, kept_negative c.from.result c.in_ok-size.size n c.from.ensures capped)),
+      (neg_ℤ (pos n), inr (field, n, refl, writes, refl), (n, refl, capped)),
       begins_one c.args.bytes.now 45 c.in-45.len_at_least minus ∙ ap (λ (xs : List ℕ). 45 ∷ xs) is,
     )
 
 pub returns : goal.returns
 returns c =
     let (field, short, (n, writes, capped), is) = c.in_ok-size-2.ensures in
-    (field, inl short, (pos n, inl (n, writes, refl), inl (n, refl, kept_signed c.from-2.result c.in_ok-size-2.size n c.from-2.ensures capped)), is)
+    (field, inl short, (pos n, inl (n, writes, refl), (n, refl, capped)), is)

@@ -1,7 +1,4 @@
-use Rattle.std.proofs.Common.{◌≡◌, ℤ, get_or, subst, sym, rules, w64}
-use Rattle.std.proofs.lemmas.Int.{to_z-of_z}
-use mir.Val.{SFits}
-use Rattle.gr_text.specs.Word.{KeepsSigned}
+use Rattle.std.proofs.Common.{◌≡◌, get_or, rules}
 use Rattle.gr_text.proofs.UsualLines.{begins_two, never_head, never_weight, usual_found}
 use Rattle.gr_text.proofs.usual_line.usual_arc.Goals as goal
 
@@ -27,9 +24,6 @@ returns c =
     let bytes = c.args.bytes.now in
     let letter : get_or bytes 0 0 ≡ 97 = search rules in
     let space : get_or bytes 1 0 ≡ 32 = search rules in
-    let kept = c.in_ok-weight.weight in
-    let fits : SFits w64 kept = search rules in
-    let (weight, short, keeps, is) = c.in_ok-weight.ensures in
     usual_found bytes _ c.in_ok-tail.fields.now c.in_ok-head.fields.now c.in_ok-weight.rest.now c.in_ok-tail.tail c.in_ok-head.head _
     (begins_two bytes 97 32 c.in-97.len_at_least letter space) c.in_ok-tail.ensures c.in_ok-head.ensures
-    (weight, short, subst (λ (z : ℤ). KeepsSigned z weight) (sym (to_z-of_z w64 kept fits)) keeps, is)
+    c.in_ok-weight.ensures

@@ -1,9 +1,6 @@
-use Rattle.std.proofs.Common.{ℤ, subst, sym, refl, rules, w64}
-use Rattle.std.proofs.lemmas.Int.{to_z-of_z}
-use mir.Val.{SFits}
+use Rattle.std.proofs.Common.{subst, refl}
 use Rattle.gr_text.specs.Statement.{AreSilent}
 use Rattle.gr_text.specs.Sort.{Unknown}
-use Rattle.gr_text.specs.Word.{IsCappedSigned}
 use Rattle.gr_text.proofs.Judging.{told_of, no_problem, no_arc, silent_alone}
 use Rattle.gr_text.proofs.verdicts.judge.Goals as goal
 
@@ -29,6 +26,4 @@ returns-in-Arc-clause-told c = λ lines bytes counts (fields, are, means).
 pub returns-in-ArcWhole-clause-told : goal.returns-in-ArcWhole-clause-told
 returns-in-ArcWhole-clause-told c = λ lines bytes counts (fields, are, means).
     let (f, g, h, is, (u, wu, ku), (v, wv, kv), (w, ww, kw)) = rw c.in-ArcWhole.is at means in
-    let fits : SFits w64 c.in-ArcWhole.w = search rules in
-    let kept = subst (λ (z : ℤ). IsCappedSigned z w) (sym (to_z-of_z w64 c.in-ArcWhole.w fits)) kw in
-    c.judge_arc.ensures.told lines bytes counts (record { tail = u; head = v; weight = w }, (fields, are, (f, g, h, is, wu, wv, ww)), ku, kv, kept)
+    c.judge_arc.ensures.told lines bytes counts (record { tail = u; head = v; weight = w }, (fields, are, (f, g, h, is, wu, wv, ww)), ku, kv, kw)

@@ -11,3 +11,8 @@ pub returns-clause-longer : goal.returns-clause-longer
 returns-clause-longer c =
     let digits : length (decimal c.args.n) ≤ 20 = search (rules, length-decimal-le 20) in
     omega (arith, ap length c.self.view_is, ap length c.write_digits-self-inside.ensures.written, length-append {A = ℕ})
+
+pub returns-clause-few : goal.returns-clause-few
+returns-clause-few c = λ small.
+    let digits : length (decimal c.args.n) ≤ 10 = length-decimal-le 10 c.args.n (omega arith) (omega arith) (omega arith) in
+    omega (arith, ap length c.self.view_is, ap length c.write_digits-self-inside.ensures.written, length-append {A = ℕ})

@@ -2,18 +2,17 @@ use Rattle.std.proofs.Common.{pos, neg_ℤ, subst, inl, inr, refl}
 use Rattle.gr_text.specs.Word.{WordMeans}
 use Rattle.gr_text.specs.declared.words.Word.{Word}
 use Rattle.gr_text.proofs.FieldBytes.{kept_as_number, kept_as_negative}
-use Rattle.gr_text.proofs.Signed.{kept_signed, kept_negative}
 use Rattle.gr_text.proofs.words.Word.as_signed.Goals as goal
 
 pub returns-in-Number : goal.returns-in-Number
 returns-in-Number c = λ field means.
-    let kept = subst (λ (w : Word). WordMeans w field) c.in-Number.is means in
-    (pos kept.0, inl (kept.0, kept.1, refl), inl (kept.0, refl, kept_signed c.from.result c.in-Number.kept kept.0 c.from.ensures kept.2))
+    let (n, writes, capped) = subst (λ (w : Word). WordMeans w field) c.in-Number.is means in
+    (pos n, inl (n, writes, refl), (n, refl, capped))
 
 pub returns-in-Negative : goal.returns-in-Negative
 returns-in-Negative c = λ field means.
-    let kept = subst (λ (w : Word). WordMeans w field) c.in-Negative.is means in
-    (neg_ℤ (pos kept.1), inr (kept.0, kept.1, kept.2, kept.3, refl), inr (kept.1, refl, kept_negative c.from-in-Negative.result c.in-Negative.kept kept.1 c.from-in-Negative.ensures kept.4))
+    let (digits, n, is, writes, capped) = subst (λ (w : Word). WordMeans w field) c.in-Negative.is means in
+    (neg_ℤ (pos n), inr (digits, n, is, writes, refl), (n, refl, capped))
 
 pub returns-in_default : goal.returns-in_default
 returns-in_default c = λ field means z writes. elim writes [
