@@ -1,7 +1,8 @@
 -- What the fields of a body say of the frames that have it.
-use Rattle.std.proofs.Common.{◌≡◌, ℕ, ◌+◌, ◌*◌, ◌/◌, ◌<◌, ◌≤◌, List, [], ◌∷◌, ◌++◌, length, take, get_or, All, refl, sym, ap, subst, ◌∙◌, append-nil, arith, inl, inr}
+use Rattle.std.proofs.Common.{◌≡◌, ℕ, ◌+◌, ◌*◌, ◌/◌, ◌<◌, ◌≤◌, ◌≢◌, Bool, true, false, cond, List, [], ◌∷◌, ◌++◌, length, take, get_or, All, refl, sym, ap, subst, ◌∙◌, append-nil, arith, inl, inr}
 use Rattle.std.specs.Int.{w16, from_be_bytes}
 use Rattle.std.specs.List.{flat_map, AllByRecursion}
+use Rattle.std.proofs.lemmas.Bool.{true≢false}
 use Rattle.std.proofs.lemmas.List.{length-append, nil_from_length}
 use Rattle.std.proofs.lemmas.List.Elements.{recursion_from_All}
 use Rattle.limits.specs.declared.TheConstants.{MAX_SHARDS, MAX_SHARD_LINKS, MAX_VERTICES, MAX_WORKERS}
@@ -9,91 +10,143 @@ use Rattle.link_key.specs.declared.links.Link.{Link}
 use Rattle.link_key.specs.Labels.{AreLabels}
 use Rattle.link_key.specs.Offers.{Offer, AreOffers}
 use Rattle.frames.specs.FrameValue.{FrameValue, HelloFrame, ShardFrame, AskFrame, AnswerFrame, FaultFrame}
-use Rattle.frames.specs.FrameText.{u16_text, u32_text, link_text, offer_text}
-use Rattle.frames.specs.Lawful.{IsU32, IsShard}
+use Rattle.frames.specs.FrameText.{u16_text, u32_text, are_narrow, link_text, wide_link_text, links_text, offer_text}
+use Rattle.frames.specs.Lawful.{IsU32, IsVersion, IsShard}
 use Rattle.frames.specs.Refusals.{IsWithItems, IsOtherVersion, IsFrameOf, ShardBegun, IsListBegun, BodyRefused, LinksRefused}
 use Rattle.frames.specs.declared.fault.FrameFault.{FrameFault}
 use Rattle.frames.specs.declared.fault.FrameFault.TheVariants.{BadField, Memory}
-use Rattle.frames.proofs.Texts.{u16_length, u32_length, u16_prefix, u32_prefix, link_length, offer_length, items_length, items_same, offer_prefix, FitsOffer}
-use Rattle.frames.proofs.OneText.{two_prefix, labels_fit}
+use Rattle.frames.proofs.Texts.{u16_length, u32_length, u16_prefix, u32_prefix, link_length, wide_link_length, narrow_text, wide_text, offer_length, items_length, items_same, offer_prefix, FitsOffer}
+use Rattle.frames.proofs.OneText.{two_prefix, labels_fit, kind_by, alike, wide_same, shard_kind}
 
 -- ---- a hello
 
-pub hello_version : (version : ℕ) (body : List ℕ) → version ≡ from_be_bytes w16 (take 2 body) → version ≡ 1 → IsOtherVersion 1 body → ⊥
-hello_version version body value one other = other.1 (sym value ∙ one)
+pub hello_version : (version : ℕ) (body : List ℕ) → version ≡ from_be_bytes w16 (take 2 body) → IsVersion version → IsOtherVersion 1 body → ⊥
+hello_version version body value one other = other.1 (subst IsVersion value one)
 
-hello_unlike : (v : FrameValue) (version worker : ℕ) (body rest behind : List ℕ) → IsU32 worker → MAX_WORKERS ≤ worker → version ≡ 1
+hello_unlike : (v : FrameValue) (version worker : ℕ) (body rest behind : List ℕ) → IsU32 worker → MAX_WORKERS ≤ worker → IsVersion version
     → body ≡ u16_text version ++ rest → rest ≡ u32_text worker ++ behind → length body ≡ 6 → IsFrameOf v 1 body → ⊥
 hello_unlike (HelloFrame v w) version worker body rest behind wide high one first second len is =
     let none : behind ≡ [] = nil_from_length behind (omega (arith, ap length first, ap length second, length-append (u16_text version) rest, length-append (u32_text worker) behind, u16_length version, u32_length worker)) in
-    let fields = u16_prefix v version (u32_text w) rest (omega (arith, is.lawful.version)) (omega arith) (is.body ∙ first) in
+    let fields = u16_prefix v version (u32_text w) rest (omega (arith, is.lawful.version.to_this)) (omega (arith, one.to_this)) (is.body ∙ first) in
     let same = u32_prefix w worker [] behind (omega (arith, is.lawful.worker)) wide (append-nil (u32_text w) ∙ fields.1 ∙ second) in
     omega (arith, same.0, is.lawful.worker)
+hello_unlike (ShardFrame n ls) version worker body rest behind wide high one first second len is = shard_kind 1 n ls (omega arith) (omega arith) is.kind
 hello_unlike v version worker body rest behind wide high one first second len is = omega (arith, is.kind)
 
-pub hello_refused : (version worker : ℕ) (body rest behind : List ℕ) → IsU32 worker → MAX_WORKERS ≤ worker → version ≡ 1 → version ≡ from_be_bytes w16 (take 2 body)
+pub hello_refused : (version worker : ℕ) (body rest behind : List ℕ) → IsU32 worker → MAX_WORKERS ≤ worker → IsVersion version → version ≡ from_be_bytes w16 (take 2 body)
     → body ≡ u16_text version ++ rest → rest ≡ u32_text worker ++ behind → length body ≡ 6 → BodyRefused BadField 1 body
 hello_refused version worker body rest behind wide high one value first second len =
     (hello_version version body value one, λ v is. hello_unlike v version worker body rest behind wide high one first second len is)
 
-pub hello_found : (version worker : ℕ) (body rest behind : List ℕ) → worker < MAX_WORKERS → version ≡ 1
+pub hello_found : (version worker : ℕ) (body rest behind : List ℕ) → worker < MAX_WORKERS → IsVersion version
     → body ≡ u16_text version ++ rest → rest ≡ u32_text worker ++ behind → length body ≡ 6 → IsFrameOf (HelloFrame version worker) 1 body
 hello_found version worker body rest behind low one first second len =
     let none : behind ≡ [] = nil_from_length behind (omega (arith, ap length first, ap length second, length-append (u16_text version) rest, length-append (u32_text worker) behind, u16_length version, u32_length worker)) in
     let whole : rest ≡ u32_text worker = second ∙ ap (λ (t : List ℕ). u32_text worker ++ t) none ∙ append-nil (u32_text worker) in
     record { lawful = record { version = one; worker = low }; kind = refl; body = sym (first ∙ ap (λ (t : List ℕ). u16_text version ++ t) whole) }
 
--- ---- a shard
+-- ---- a shard, in either spelling
 
-shard_parts : (v : FrameValue) (n c : ℕ) (body rest links : List ℕ) → IsU32 n → IsU32 c → body ≡ u32_text n ++ rest → rest ≡ u32_text c ++ links
-    → IsFrameOf v 2 body → (ls : List Link) × IsShard n ls × (length ls ≡ c) × (flat_map link_text ls ≡ links)
-shard_parts (ShardFrame n' ls) n c body rest links wide wide' first second is =
-    let fields = two_prefix n' (length ls) n c (flat_map link_text ls) links (omega (arith, is.lawful.number)) (omega (arith, is.lawful.count)) wide wide' (is.body ∙ first ∙ ap (λ (t : List ℕ). u32_text n ++ t) second) in
-    (ls, subst (λ (k : ℕ). IsShard k ls) fields.0 is.lawful, fields.1, fields.2)
-shard_parts v n c body rest links wide wide' first second is = absurd (omega (arith, is.kind))
+-- how many bytes a link has in a spelling, and which
+abbrev pub size_by : Bool → ℕ
+size_by narrow = cond narrow 12 16
 
-pub shard_refused : (n c : ℕ) (body rest links : List ℕ) → IsU32 n → IsU32 c → body ≡ u32_text n ++ rest → rest ≡ u32_text c ++ links
-    → (n < MAX_SHARDS → c ≡ length links / 12 → ⊥) → BodyRefused BadField 2 body
-shard_refused n c body rest links wide wide' first second never = (
-  λ other. omega (arith, other.0),
+abbrev pub spelled_by : Bool → Link → List ℕ
+spelled_by true l = link_text l
+spelled_by false l = wide_link_text l
+
+text_by : (narrow : Bool) (links : List Link) → are_narrow links ≡ narrow → links_text links ≡ flat_map (spelled_by narrow) links
+text_by true links is = narrow_text links is
+text_by false links is = wide_text links is
+
+length_by : (narrow : Bool) (links : List Link) → length (flat_map (spelled_by narrow) links) ≡ size_by narrow * length links
+length_by true links = items_length link_text 12 link_length links
+length_by false links = items_length wide_link_text 16 wide_link_length links
+
+-- so many bytes are of so many links
+counted_by : (narrow : Bool) (len count : ℕ) → len ≡ size_by narrow * count → len / size_by narrow ≡ count
+counted_by true len count is = omega (arith, is)
+counted_by false len count is = omega (arith, is)
+
+no_hello : (narrow : Bool) (body : List ℕ) → IsOtherVersion (kind_by narrow) body → ⊥
+no_hello true body other = omega (arith, other.0)
+no_hello false body other = omega (arith, other.0)
+
+no_shard : (narrow : Bool) (kind : ℕ) → kind ≤ 5 → kind ≢ 2 → kind ≡ kind_by narrow → ⊥
+no_shard true kind to not_two is = not_two is
+no_shard false kind to not_two is = omega (arith, is)
+
+shard_parts : (narrow : Bool) (v : FrameValue) (n c : ℕ) (body rest links : List ℕ) → IsU32 n → IsU32 c → body ≡ u32_text n ++ rest → rest ≡ u32_text c ++ links
+    → IsFrameOf v (kind_by narrow) body → (ls : List Link) × IsShard n ls × (length ls ≡ c) × (are_narrow ls ≡ narrow) × (flat_map (spelled_by narrow) ls ≡ links)
+shard_parts narrow (ShardFrame n' ls) n c body rest links wide wide' first second is =
+    let fields = two_prefix n' (length ls) n c (links_text ls) links (omega (arith, is.lawful.number)) (omega (arith, is.lawful.count)) wide wide' (is.body ∙ first ∙ ap (λ (t : List ℕ). u32_text n ++ t) second) in
+    let spelling : are_narrow ls ≡ narrow = alike (are_narrow ls) narrow is.kind in
+    (ls, subst (λ (k : ℕ). IsShard k ls) fields.0 is.lawful, fields.1, spelling, sym (text_by narrow ls spelling) ∙ fields.2)
+shard_parts narrow (HelloFrame v w) n c body rest links wide wide' first second is = absurd (no_shard narrow 1 (omega arith) (omega arith) is.kind)
+shard_parts narrow (AskFrame r s ls) n c body rest links wide wide' first second is = absurd (no_shard narrow 3 (omega arith) (omega arith) is.kind)
+shard_parts narrow (AnswerFrame a) n c body rest links wide wide' first second is = absurd (no_shard narrow 4 (omega arith) (omega arith) is.kind)
+shard_parts narrow (FaultFrame r s code) n c body rest links wide wide' first second is = absurd (no_shard narrow 5 (omega arith) (omega arith) is.kind)
+
+pub shard_refused : (narrow : Bool) (n c : ℕ) (body rest links : List ℕ) → IsU32 n → IsU32 c → body ≡ u32_text n ++ rest → rest ≡ u32_text c ++ links
+    → (n < MAX_SHARDS → c ≡ length links / size_by narrow → ⊥) → BodyRefused BadField (kind_by narrow) body
+shard_refused narrow n c body rest links wide wide' first second never = (
+  no_hello narrow body,
   λ v is.
-      let (ls, lawful, count, same) = shard_parts v n c body rest links wide wide' first second is in
-      never lawful.number (omega (arith, ap length same, items_length link_text 12 link_length ls)),
+      let (ls, lawful, count, spelling, same) = shard_parts narrow v n c body rest links wide wide' first second is in
+      never lawful.number (sym (counted_by narrow (length links) c (sym (ap length same) ∙ length_by narrow ls ∙ ap (λ (k : ℕ). size_by narrow * k) count))),
 )
-
-pub shard_unlinked : (fault : FrameFault) (n c : ℕ) (body rest links : List ℕ) → IsU32 n → IsU32 c → body ≡ u32_text n ++ rest → rest ≡ u32_text c ++ links
-    → ShardBegun body → LinksRefused fault links → BodyRefused fault 2 body
-shard_unlinked BadField n c body rest links wide wide' first second begun none = (
-  λ other. omega (arith, other.0),
-  λ v is.
-      let (ls, lawful, count, same) = shard_parts v n c body rest links wide wide' first second is in
-      none ls same,
-)
-shard_unlinked Memory n c body rest links wide wide' first second begun none = inl (refl, begun)
-shard_unlinked _ n c body rest links wide wide' first second begun none = absurd none
 
 -- a shard's body of this length, with these fields before its links
-pub shard_begun : (n c : ℕ) (body rest links : List ℕ) → n < MAX_SHARDS → c ≡ length links / 12 → IsWithItems 8 12 MAX_SHARD_LINKS (length body)
-    → body ≡ u32_text n ++ rest → rest ≡ u32_text c ++ links → ShardBegun body
-shard_begun n c body rest links low counted (count, few, len) first second = record {
-  number = n;
-  count = c;
-  links = links;
-  split = first ∙ ap (λ (t : List ℕ). u32_text n ++ t) second;
-  in_range = low;
-  counted = omega (arith, counted, len, ap length first, ap length second, length-append (u32_text n) rest, length-append (u32_text c) links, u32_length n, u32_length c);
-}
+pub shard_begun : (narrow : Bool) (n c : ℕ) (body rest links : List ℕ) → n < MAX_SHARDS → c ≡ length links / size_by narrow → IsWithItems 8 (size_by narrow) MAX_SHARD_LINKS (length body)
+    → body ≡ u32_text n ++ rest → rest ≡ u32_text c ++ links → ShardBegun (size_by narrow) body × (c ≤ MAX_SHARD_LINKS)
+shard_begun narrow n c body rest links low counted (count, few, len) first second =
+    let long : length links ≡ size_by narrow * count = omega (arith, len, ap length first, ap length second, length-append (u32_text n) rest, length-append (u32_text c) links, u32_length n, u32_length c) in
+    let total : c ≡ count = counted ∙ counted_by narrow (length links) count long in (
+      record {
+        number = n;
+        count = c;
+        links = links;
+        split = first ∙ ap (λ (t : List ℕ). u32_text n ++ t) second;
+        in_range = low;
+        counted = long ∙ ap (λ (k : ℕ). size_by narrow * k) (sym total);
+      },
+      omega (arith, few, total),
+    )
 
-pub shard_found : (n c : ℕ) (ls : List Link) (body rest links : List ℕ) → n < MAX_SHARDS → c ≡ length links / 12 → IsWithItems 8 12 MAX_SHARD_LINKS (length body)
-    → body ≡ u32_text n ++ rest → rest ≡ u32_text c ++ links → flat_map link_text ls ≡ links → IsFrameOf (ShardFrame n ls) 2 body
-shard_found n c ls body rest links low counted (count, few, len) first second same =
-    let lens = items_length link_text 12 link_length ls in
-    let short : length links + 8 ≡ length body = omega (arith, ap length first, ap length second, length-append (u32_text n) rest, length-append (u32_text c) links, u32_length n, u32_length c) in
-    let total : length ls ≡ c = omega (arith, lens, ap length same) in
+list_begun : (narrow : Bool) (body : List ℕ) → ShardBegun (size_by narrow) body → IsListBegun (kind_by narrow) body
+list_begun true body begun = inl (refl, begun)
+list_begun false body begun = inr (inl (refl, begun))
+
+pub shard_unlinked : (narrow : Bool) (fault : FrameFault) (n c : ℕ) (body rest links : List ℕ) → IsU32 n → IsU32 c → body ≡ u32_text n ++ rest → rest ≡ u32_text c ++ links
+    → ShardBegun (size_by narrow) body → LinksRefused fault (spelled_by narrow) links → BodyRefused fault (kind_by narrow) body
+shard_unlinked narrow BadField n c body rest links wide wide' first second begun none = (
+  no_hello narrow body,
+  λ v is.
+      let (ls, lawful, count, spelling, same) = shard_parts narrow v n c body rest links wide wide' first second is in
+      none ls same,
+)
+shard_unlinked narrow Memory n c body rest links wide wide' first second begun none = list_begun narrow body begun
+shard_unlinked narrow _ n c body rest links wide wide' first second begun none = absurd none
+
+-- links whose weights all fit 32 bits, with weights of 64
+pub shard_of_another_kind : (n c : ℕ) (ls : List Link) (body rest links : List ℕ) → IsU32 n → IsU32 c → body ≡ u32_text n ++ rest → rest ≡ u32_text c ++ links
+    → flat_map wide_link_text ls ≡ links → are_narrow ls ≡ true → BodyRefused BadField 6 body
+shard_of_another_kind n c ls body rest links wide wide' first second spelled fit = (
+  no_hello false body,
+  λ v is.
+      let (ls', lawful, count, spelling, same) = shard_parts false v n c body rest links wide wide' first second is in
+      true≢false (sym fit ∙ ap are_narrow (wide_same ls ls' (spelled ∙ sym same)) ∙ spelling),
+)
+
+pub shard_found : (narrow : Bool) (n c : ℕ) (ls : List Link) (body rest links : List ℕ) → n < MAX_SHARDS → c ≡ length links / size_by narrow → IsWithItems 8 (size_by narrow) MAX_SHARD_LINKS (length body)
+    → body ≡ u32_text n ++ rest → rest ≡ u32_text c ++ links → flat_map (spelled_by narrow) ls ≡ links → are_narrow ls ≡ narrow → IsFrameOf (ShardFrame n ls) (kind_by narrow) body
+shard_found narrow n c ls body rest links low counted possible first second same spelling =
+    let begun = shard_begun narrow n c body rest links low counted possible first second in
+    let total : length ls ≡ c = sym (counted ∙ counted_by narrow (length links) (length ls) (sym (ap length same) ∙ length_by narrow ls)) in
     record {
-      lawful = record { number = low; count = omega (arith, lens, ap length same) };
-      kind = refl;
-      body = sym (first ∙ ap (λ (t : List ℕ). u32_text n ++ t) (second ∙ ap (λ (t : List ℕ). u32_text c ++ t) (sym same) ∙ ap (λ (k : ℕ). u32_text k ++ flat_map link_text ls) (sym total)));
+      lawful = record { number = low; count = omega (arith, begun.1, total) };
+      kind = ap kind_by spelling;
+      body = sym (first ∙ ap (λ (t : List ℕ). u32_text n ++ t) (second ∙ ap (λ (t : List ℕ). u32_text c ++ t) (sym same ∙ sym (text_by narrow ls spelling)) ∙ ap (λ (k : ℕ). u32_text k ++ links_text ls) (sym total)));
     }
 
 -- ---- an ask
@@ -105,12 +158,13 @@ ask_parts (AskFrame r' s' ls) r s c body rest rest' labels wide_r wide_s wide_c 
     let fields = two_prefix r' s' r s (u32_text (length ls) ++ flat_map u32_text ls) rest' is.lawful.round (omega (arith, is.lawful.shard)) wide_r wide_s (is.body ∙ first ∙ ap (λ (t : List ℕ). u32_text r ++ t) second) in
     let count = u32_prefix (length ls) c (flat_map u32_text ls) labels (omega (arith, is.lawful.labels.few_vertices)) wide_c (fields.2 ∙ third) in
     (ls, is.lawful.labels, count.0, omega (arith, fields.1, is.lawful.shard), count.1)
+ask_parts (ShardFrame n ls) r s c body rest rest' labels wide_r wide_s wide_c first second third is = absurd (shard_kind 3 n ls (omega arith) (omega arith) is.kind)
 ask_parts v r s c body rest rest' labels wide_r wide_s wide_c first second third is = absurd (omega (arith, is.kind))
 
 -- an ask's body of this length, with these fields before its labels
 pub ask_begun : (r s c : ℕ) (body rest rest' labels : List ℕ) → s < MAX_SHARDS → c ≡ length labels / 4 → IsWithItems 12 4 MAX_VERTICES (length body)
     → body ≡ u32_text r ++ rest → rest ≡ u32_text s ++ rest' → rest' ≡ u32_text c ++ labels → IsListBegun 3 body
-ask_begun r s c body rest rest' labels low counted (count, few, len) first second third = inr (inl (
+ask_begun r s c body rest rest' labels low counted (count, few, len) first second third = inr (inr (inl (
   refl,
   record {
     round = r;
@@ -121,7 +175,7 @@ ask_begun r s c body rest rest' labels low counted (count, few, len) first secon
     in_range = low;
     counted = omega (arith, counted, len, ap length first, ap length second, ap length third, length-append (u32_text r) rest, length-append (u32_text s) rest', length-append (u32_text c) labels, u32_length r, u32_length s, u32_length c);
   },
-))
+)))
 
 pub ask_refused : (r s c : ℕ) (body rest rest' labels : List ℕ) → IsU32 r → IsU32 s → IsU32 c
     → body ≡ u32_text r ++ rest → rest ≡ u32_text s ++ rest' → rest' ≡ u32_text c ++ labels
@@ -164,12 +218,13 @@ answer_parts (AnswerFrame a) r s c body rest rest' offers wide_r wide_s wide_c f
     let fields = two_prefix a.round a.shard r s (u32_text (length a.offers) ++ flat_map offer_text a.offers) rest' is.lawful.round is.lawful.shard wide_r wide_s (is.body ∙ first ∙ ap (λ (t : List ℕ). u32_text r ++ t) second) in
     let count = u32_prefix (length a.offers) c (flat_map offer_text a.offers) offers (omega (arith, is.lawful.count)) wide_c (fields.2 ∙ third) in
     (a.offers, is.lawful.ascending, recursion_from_All _ _ is.lawful.fit, count.0, count.1)
+answer_parts (ShardFrame n ls) r s c body rest rest' offers wide_r wide_s wide_c first second third is = absurd (shard_kind 4 n ls (omega arith) (omega arith) is.kind)
 answer_parts v r s c body rest rest' offers wide_r wide_s wide_c first second third is = absurd (omega (arith, is.kind))
 
 -- an answer's body of this length, with these fields before its offers
 pub answer_begun : (r s c : ℕ) (body rest rest' offers : List ℕ) → c ≡ length offers / 8 → IsWithItems 12 8 (2 * MAX_SHARD_LINKS) (length body)
     → body ≡ u32_text r ++ rest → rest ≡ u32_text s ++ rest' → rest' ≡ u32_text c ++ offers → IsListBegun 4 body
-answer_begun r s c body rest rest' offers counted (count, few, len) first second third = inr (inr (
+answer_begun r s c body rest rest' offers counted (count, few, len) first second third = inr (inr (inr (
   refl,
   record {
     round = r;
@@ -179,7 +234,7 @@ answer_begun r s c body rest rest' offers counted (count, few, len) first second
     split = first ∙ ap (λ (t : List ℕ). u32_text r ++ t) (second ∙ ap (λ (t : List ℕ). u32_text s ++ t) third);
     counted = omega (arith, counted, len, ap length first, ap length second, ap length third, length-append (u32_text r) rest, length-append (u32_text s) rest', length-append (u32_text c) offers, u32_length r, u32_length s, u32_length c);
   },
-))
+)))
 
 pub answer_refused : (r s c : ℕ) (body rest rest' offers : List ℕ) → IsU32 r → IsU32 s → IsU32 c
     → body ≡ u32_text r ++ rest → rest ≡ u32_text s ++ rest' → rest' ≡ u32_text c ++ offers
@@ -223,6 +278,7 @@ fault_unlike (FaultFrame r' s' c) r s code body rest rest' wide wide' first seco
     let fields = two_prefix r' s' r s (c ∷ []) rest' is.lawful.round is.lawful.shard wide wide' (is.body ∙ first ∙ ap (λ (t : List ℕ). u32_text r ++ t) second) in
     let same : c ≡ code = ap (λ (l : List ℕ). get_or l 0 0) fields.2 ∙ sym here in
     never (omega (arith, is.lawful.code_from_one)) (omega (arith, is.lawful.code_to_three))
+fault_unlike (ShardFrame n ls) r s code body rest rest' wide wide' first second here never is = shard_kind 5 n ls (omega arith) (omega arith) is.kind
 fault_unlike v r s code body rest rest' wide wide' first second here never is = omega (arith, is.kind)
 
 pub fault_refused : (r s code : ℕ) (body rest rest' : List ℕ) → IsU32 r → IsU32 s → body ≡ u32_text r ++ rest → rest ≡ u32_text s ++ rest'

@@ -1,18 +1,19 @@
 -- Lists of items, written and read.
-use Rattle.std.proofs.Common.{◌≡◌, ℕ, zero, suc, ◌+◌, ◌*◌, ◌/◌, ◌%◌, ◌^◌, ◌<◌, ◌≤◌, ℤ, List, [], ◌∷◌, ◌++◌, length, map, set, take, drop, get_or, All, sym, ap, subst, ◌∙◌, append_assoc, append-nil, arith}
+use Rattle.std.proofs.Common.{◌≡◌, ℕ, zero, suc, ◌+◌, ◌*◌, ◌/◌, ◌%◌, ◌^◌, ◌<◌, ◌≤◌, ℤ, Bool, true, false, ◌&&◌, IsTrue, List, [], ◌∷◌, ◌++◌, length, map, set, take, drop, get_or, All, refl, sym, ap, subst, ◌∙◌, append_assoc, append-nil, arith}
 use Rattle.std.specs.Int.{w32, from_be_bytes, cast_signed, cast_unsigned}
 use Rattle.std.specs.List.{flat_map, AllByRecursion}
 use Rattle.std.specs.Simd.{first_chunks}
+use Rattle.std.proofs.lemmas.Bool.{and_parts, and_from}
 use Rattle.std.proofs.lemmas.Int.{of_z-to_z}
 use Rattle.std.proofs.lemmas.List.{length-append, nil_from_length, take-append-drop, length-drop, length-take, take_more, take_more_set, map-append, take_all}
 use Rattle.std.proofs.lemmas.List.Elements.{All-append, All-cons, All-nil, All-from_recursion}
 use Rattle.std.proofs.lemmas.List.Folds.{flat_map-map}
 use Rattle.std.proofs.lemmas.Grind.{flat_map-append}
 use Rattle.link_key.specs.declared.links.Link.{Link}
-use Rattle.frames.specs.FrameText.{u32_text, i32_text, link_text, offer_text}
+use Rattle.frames.specs.FrameText.{u32_text, i32_text, i64_text, is_narrow, are_narrow, offer_text}
 use Rattle.frames.specs.Lawful.{IsU32}
 use Rattle.frames.specs.Refusals.{AreNoLinks, IsNoLink}
-use Rattle.frames.proofs.Texts.{IsBytes, IsBytes-drop, IsBytes-take, u32_length, u32_back, parts_same, link_length, FitsOffer}
+use Rattle.frames.proofs.Texts.{IsBytes, IsBytes-drop, IsBytes-take, u32_length, u32_back, i64_length, parts_same, FitsOffer}
 use Rattle.frames.proofs.OneText.{two_prefix}
 use Rattle.link_key.specs.Offers.{Offer}
 
@@ -52,46 +53,79 @@ numbers_are bytes numbers whole fits are = (
   subst (All IsU32) (sym are) (All-from_recursion IsU32 _ (numbers_fit (length bytes / 4) bytes fits)),
 )
 
+-- ---- links, written
+
+pub three_joined : (all a b c x y z : List ℕ) → all ≡ a ++ (b ++ (c ++ [])) → a ≡ x → b ≡ y → c ≡ z → all ≡ x ++ (y ++ z)
+three_joined all a b c x y z is first second third =
+    is ∙ ap (λ (t : List ℕ). t ++ (b ++ (c ++ []))) first ∙ ap (λ (t : List ℕ). x ++ (t ++ (c ++ []))) second ∙ ap (λ (t : List ℕ). x ++ (y ++ t)) (append-nil c ∙ third)
+
+-- ---- weights of 32 bits
+
+and-assoc : (a b c : Bool) → (a && (b && c)) ≡ ((a && b) && c)
+and-assoc true b c = refl
+and-assoc false b c = refl
+
+and-true : (a : Bool) → (a && true) ≡ a
+and-true true = refl
+and-true false = refl
+
+narrow-append : (links : List Link) (l : Link) → are_narrow (links ++ l ∷ []) ≡ (are_narrow links && is_narrow l)
+narrow-append [] l = and-true (is_narrow l)
+narrow-append (k ∷ links) l = ap (λ (b : Bool). is_narrow k && b) (narrow-append links l) ∙ and-assoc (is_narrow k) (are_narrow links) (is_narrow l)
+
+pub narrow_more : (links : List Link) (i : ℕ) (d : Link) → i < length links → are_narrow (take (i + 1) links) ≡ (are_narrow (take i links) && is_narrow (get_or links i d))
+narrow_more links i d more = ap are_narrow (take_more links i d more) ∙ narrow-append (take i links) (get_or links i d)
+
+pub narrow_at : (links : List Link) (i : ℕ) (d : Link) → IsTrue (are_narrow links) → i < length links → IsTrue (is_narrow (get_or links i d))
+narrow_at [] i d narrow within = absurd (omega arith)
+narrow_at (l ∷ links) zero d narrow within = (and_parts (is_narrow l) (are_narrow links) narrow).0
+narrow_at (l ∷ links) (suc i) d narrow within = narrow_at links i d (and_parts (is_narrow l) (are_narrow links) narrow).1 (omega arith)
+
+pub narrow_pushed : (new links : List Link) (l : Link) → new ≡ links ++ l ∷ [] → IsTrue (are_narrow links) → IsTrue (is_narrow l) → IsTrue (are_narrow new)
+narrow_pushed new links l is before this = ap are_narrow is ∙ narrow-append links l ∙ and_from (are_narrow links) (is_narrow l) before this
+
 -- ---- links, read
 
-pub link_unlike : (low high : ℕ) (bytes rest rest' : List ℕ) → IsU32 low → IsU32 high → bytes ≡ u32_text low ++ rest → rest ≡ u32_text high ++ rest'
-    → (1 ≤ low → low < high → high ≤ 2 ^ 26 → ⊥) → IsNoLink bytes
-link_unlike low high bytes rest rest' wide wide' first second never l same =
-    let ends = two_prefix l.low l.high low high (i32_text l.weight) rest' (omega (arith, l.ascending, l.in_limit)) (omega (arith, l.in_limit)) wide wide' (same ∙ first ∙ ap (λ (t : List ℕ). u32_text low ++ t) second) in
+pub link_unlike : (weighed : ℤ → List ℕ) (low high : ℕ) (bytes rest rest' : List ℕ) → IsU32 low → IsU32 high → bytes ≡ u32_text low ++ rest → rest ≡ u32_text high ++ rest'
+    → (1 ≤ low → low < high → high ≤ 2 ^ 26 → ⊥) → IsNoLink (λ l. u32_text l.low ++ (u32_text l.high ++ weighed l.weight)) bytes
+link_unlike weighed low high bytes rest rest' wide wide' first second never l same =
+    let ends = two_prefix l.low l.high low high (weighed l.weight) rest' (omega (arith, l.ascending, l.in_limit)) (omega (arith, l.in_limit)) wide wide' (same ∙ first ∙ ap (λ (t : List ℕ). u32_text low ++ t) second) in
     never (omega (arith, ends.0, l.from_one)) (omega (arith, ends.0, ends.1, l.ascending)) (omega (arith, ends.1, l.in_limit))
 
--- the bits of a weight that was made of bits
-bits_back : (bits : ℕ) (z : ℤ) → IsU32 bits → z ≡ cast_signed w32 bits → cast_unsigned w32 (cast_signed w32 (cast_unsigned w32 z)) ≡ bits
-bits_back bits z wide is =
-    ap (λ (k : ℤ). cast_unsigned w32 (cast_signed w32 (cast_unsigned w32 k))) is
-    ∙ ap (λ (k : ℕ). cast_unsigned w32 (cast_signed w32 k)) (of_z-to_z w32 bits wide) ∙ of_z-to_z w32 bits wide
-
+-- the weight is made of these bits
 pub link_back : (low high bits : ℕ) (z : ℤ) (bytes rest rest' rest'' : List ℕ) → IsU32 bits → z ≡ cast_signed w32 bits → length bytes ≡ 12
-    → bytes ≡ u32_text low ++ rest → rest ≡ u32_text high ++ rest' → rest' ≡ u32_text bits ++ rest''
-    → u32_text low ++ (u32_text high ++ u32_text (cast_unsigned w32 (cast_signed w32 (cast_unsigned w32 z)))) ≡ bytes
+    → bytes ≡ u32_text low ++ rest → rest ≡ u32_text high ++ rest' → rest' ≡ u32_text bits ++ rest'' → u32_text low ++ (u32_text high ++ i32_text z) ≡ bytes
 link_back low high bits z bytes rest rest' rest'' wide is len first second third =
     let none : rest'' ≡ [] = nil_from_length rest'' (omega (arith, ap length first, ap length second, ap length third, length-append (u32_text low) rest, length-append (u32_text high) rest', length-append (u32_text bits) rest'', u32_length low, u32_length high, u32_length bits)) in
     let last : rest' ≡ u32_text bits = third ∙ ap (λ (t : List ℕ). u32_text bits ++ t) none ∙ append-nil (u32_text bits) in
-    ap (λ (k : ℕ). u32_text low ++ (u32_text high ++ u32_text k)) (bits_back bits z wide is)
+    ap (λ (k : ℕ). u32_text low ++ (u32_text high ++ u32_text k)) (ap (cast_unsigned w32) is ∙ of_z-to_z w32 bits wide)
     ∙ ap (λ (t : List ℕ). u32_text low ++ (u32_text high ++ t)) (sym last) ∙ ap (λ (t : List ℕ). u32_text low ++ t) (sym second) ∙ sym first
 
--- behind links that were read, twelve bytes that no link has
-none_behind : (read links : List Link) (prefix behind : List ℕ) → length prefix ≡ 12 → IsNoLink prefix
-    → flat_map link_text links ≡ flat_map link_text read ++ (prefix ++ behind) → ⊥
-none_behind read [] prefix behind len none same =
-    omega (arith, ap length same, length-append (flat_map link_text read) (prefix ++ behind), length-append prefix behind)
-none_behind [] (l ∷ links) prefix behind len none same =
-    none l (parts_same (link_text l) prefix (flat_map link_text links) behind (link_length l ∙ sym len) same).0
-none_behind (r ∷ read) (l ∷ links) prefix behind len none same =
-    none_behind read links prefix behind len none
-    (parts_same (link_text l) (link_text r) (flat_map link_text links) (flat_map link_text read ++ (prefix ++ behind)) (link_length l ∙ sym (link_length r))
-    (same ∙ append_assoc (link_text r) (flat_map link_text read) (prefix ++ behind))).1
+pub wide_link_back : (low high : ℕ) (z : ℤ) (bytes rest rest' rest'' : List ℕ) → length bytes ≡ 16
+    → bytes ≡ u32_text low ++ rest → rest ≡ u32_text high ++ rest' → rest' ≡ i64_text z ++ rest'' → u32_text low ++ (u32_text high ++ i64_text z) ≡ bytes
+wide_link_back low high z bytes rest rest' rest'' len first second third =
+    let none : rest'' ≡ [] = nil_from_length rest'' (omega (arith, ap length first, ap length second, ap length third, length-append (u32_text low) rest, length-append (u32_text high) rest', length-append (i64_text z) rest'', u32_length low, u32_length high, i64_length z)) in
+    let last : rest' ≡ i64_text z = third ∙ ap (λ (t : List ℕ). i64_text z ++ t) none ∙ append-nil (i64_text z) in
+    ap (λ (t : List ℕ). u32_text low ++ (u32_text high ++ t)) (sym last) ∙ ap (λ (t : List ℕ). u32_text low ++ t) (sym second) ∙ sym first
 
-pub no_links_behind : (read : List Link) (bytes rest prefix behind : List ℕ) → flat_map link_text read ++ rest ≡ bytes → prefix ≡ take 12 rest → behind ≡ drop 12 rest → length prefix ≡ 12
-    → IsNoLink prefix → AreNoLinks bytes
-no_links_behind read bytes rest prefix behind so_far first second len none links same =
-    let split : rest ≡ prefix ++ behind = sym (take-append-drop 12 rest) ∙ ap (λ (t : List ℕ). t ++ drop 12 rest) (sym first) ∙ ap (λ (t : List ℕ). prefix ++ t) (sym second) in
-    none_behind read links prefix behind len none (same ∙ sym so_far ∙ ap (λ (t : List ℕ). flat_map link_text read ++ t) split)
+module _ (spelled : Link → List ℕ) (size : ℕ) (some : 0 < size) (each : (l : Link) → length (spelled l) ≡ size) where
+  -- behind links that were read, bytes that no link has
+  none_behind : (read links : List Link) (prefix behind : List ℕ) → length prefix ≡ size → IsNoLink spelled prefix
+      → flat_map spelled links ≡ flat_map spelled read ++ (prefix ++ behind) → ⊥
+  none_behind read [] prefix behind len none same =
+      omega (arith, some, ap length same, length-append (flat_map spelled read) (prefix ++ behind), length-append prefix behind)
+  none_behind [] (l ∷ links) prefix behind len none same =
+      none l (parts_same (spelled l) prefix (flat_map spelled links) behind (each l ∙ sym len) same).0
+  none_behind (r ∷ read) (l ∷ links) prefix behind len none same =
+      none_behind read links prefix behind len none
+      (parts_same (spelled l) (spelled r) (flat_map spelled links) (flat_map spelled read ++ (prefix ++ behind)) (each l ∙ sym (each r))
+      (same ∙ append_assoc (spelled r) (flat_map spelled read) (prefix ++ behind))).1
+
+  pub no_links_behind : (read : List Link) (bytes rest prefix behind : List ℕ) → flat_map spelled read ++ rest ≡ bytes → prefix ≡ take size rest → behind ≡ drop size rest
+      → length prefix ≡ size → IsNoLink spelled prefix → AreNoLinks spelled bytes
+  no_links_behind read bytes rest prefix behind so_far first second len none links same =
+      let split : rest ≡ prefix ++ behind = sym (take-append-drop size rest) ∙ ap (λ (t : List ℕ). t ++ drop size rest) (sym first) ∙ ap (λ (t : List ℕ). prefix ++ t) (sym second) in
+      none_behind read links prefix behind len none (same ∙ sym so_far ∙ ap (λ (t : List ℕ). flat_map spelled read ++ t) split)
 
 -- ---- offers, read
 

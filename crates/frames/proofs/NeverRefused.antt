@@ -1,64 +1,90 @@
 -- What begins with a lawful frame's text is not refused.
-use Rattle.std.proofs.Common.{◌≡◌, ℕ, [], ◌∷◌, ◌++◌, length, refl, sym, ap, subst, ◌∙◌, append_assoc, arith, inl, inr}
+use Rattle.std.proofs.Common.{◌≡◌, ℕ, ◌+◌, List, [], ◌∷◌, ◌++◌, length, refl, sym, ap, subst, ◌∙◌, append_assoc, arith, inl, inr}
 use Rattle.std.specs.Int.{w16, from_be_bytes}
 use Rattle.std.specs.List.{flat_map}
+use Rattle.std.proofs.lemmas.Bool.{cases_Bool, cond-true, cond-false}
 use Rattle.std.proofs.lemmas.List.{length-append, take_at}
+use Rattle.link_key.specs.declared.links.Link.{Link}
 use Rattle.frames.specs.FrameValue.{FrameValue, HelloFrame, ShardFrame, AskFrame, AnswerFrame, FaultFrame}
-use Rattle.frames.specs.FrameText.{u16_text, u32_text, link_text, offer_text, kind_of, body_of, text_of}
-use Rattle.frames.specs.Lawful.{IsLawful}
+use Rattle.frames.specs.FrameText.{u16_text, u32_text, are_narrow, links_text, offer_text, kind_of, body_of, text_of}
+use Rattle.frames.specs.Lawful.{IsVersion, IsLawful}
 use Rattle.frames.specs.OneText.{IsNeverRefused}
 use Rattle.frames.specs.Refusals.{IsPossible, IsOtherVersion, kind_at}
-use Rattle.frames.proofs.Texts.{u16_length, u32_length, u16_again, link_length, offer_length, items_length}
-use Rattle.frames.proofs.OneText.{body_short}
+use Rattle.frames.proofs.Texts.{u16_length, u32_length, u16_again, offer_length, items_length, narrow_length, wide_length}
+use Rattle.frames.proofs.OneText.{body_short, shard_kind}
 use Rattle.frames.proofs.Streams.{whole_body}
+
+shard_length : (n : ℕ) (ls : List Link) → length (body_of (ShardFrame n ls)) ≡ 8 + length (links_text ls)
+shard_length n ls = omega (arith, length-append (u32_text n) (u32_text (length ls) ++ links_text ls), length-append (u32_text (length ls)) (links_text ls), u32_length n, u32_length (length ls))
 
 possible_of : (v : FrameValue) → IsLawful v → IsPossible (kind_of v) (length (body_of v))
 possible_of (HelloFrame v w) lawful = record {
-  known = record { from_one = omega arith; to_five = omega arith };
+  known = record { from_one = omega arith; to_six = omega arith };
   hello = λ e. omega (arith, length-append (u16_text v) (u32_text w), u16_length v, u32_length w);
   shard = λ e. absurd (omega (arith, e));
   ask = λ e. absurd (omega (arith, e));
   answer = λ e. absurd (omega (arith, e));
   fault = λ e. absurd (omega (arith, e));
+  wide = λ e. absurd (omega (arith, e));
 }
-possible_of (ShardFrame n ls) lawful = record {
-  known = record { from_one = omega arith; to_five = omega arith };
-  hello = λ e. absurd (omega (arith, e));
-  shard = λ e. (length ls, lawful.count, omega (arith, length-append (u32_text n) (u32_text (length ls) ++ flat_map link_text ls), length-append (u32_text (length ls)) (flat_map link_text ls), u32_length n, u32_length (length ls), items_length link_text 12 link_length ls));
-  ask = λ e. absurd (omega (arith, e));
-  answer = λ e. absurd (omega (arith, e));
-  fault = λ e. absurd (omega (arith, e));
-}
+possible_of (ShardFrame n ls) lawful = elim (cases_Bool (are_narrow ls)) [
+  | inl narrow ↦
+      let kind : kind_of (ShardFrame n ls) ≡ 2 = cond-true (are_narrow ls) 2 6 narrow in
+      record {
+        known = record { from_one = omega (arith, kind); to_six = omega (arith, kind) };
+        hello = λ e. absurd (omega (arith, e, kind));
+        shard = λ e. (length ls, lawful.count, omega (arith, shard_length n ls, narrow_length ls narrow));
+        ask = λ e. absurd (omega (arith, e, kind));
+        answer = λ e. absurd (omega (arith, e, kind));
+        fault = λ e. absurd (omega (arith, e, kind));
+        wide = λ e. absurd (omega (arith, e, kind));
+      }
+  | inr wide ↦
+      let kind : kind_of (ShardFrame n ls) ≡ 6 = cond-false (are_narrow ls) 2 6 wide in
+      record {
+        known = record { from_one = omega (arith, kind); to_six = omega (arith, kind) };
+        hello = λ e. absurd (omega (arith, e, kind));
+        shard = λ e. absurd (omega (arith, e, kind));
+        ask = λ e. absurd (omega (arith, e, kind));
+        answer = λ e. absurd (omega (arith, e, kind));
+        fault = λ e. absurd (omega (arith, e, kind));
+        wide = λ e. (length ls, lawful.count, omega (arith, shard_length n ls, wide_length ls wide));
+      }
+]
 possible_of (AskFrame r s ls) lawful = record {
-  known = record { from_one = omega arith; to_five = omega arith };
+  known = record { from_one = omega arith; to_six = omega arith };
   hello = λ e. absurd (omega (arith, e));
   shard = λ e. absurd (omega (arith, e));
   ask = λ e. (length ls, lawful.labels.few_vertices, omega (arith, length-append (u32_text r) (u32_text s ++ (u32_text (length ls) ++ flat_map u32_text ls)), length-append (u32_text s) (u32_text (length ls) ++ flat_map u32_text ls), length-append (u32_text (length ls)) (flat_map u32_text ls), u32_length r, u32_length s, u32_length (length ls), items_length u32_text 4 u32_length ls));
   answer = λ e. absurd (omega (arith, e));
   fault = λ e. absurd (omega (arith, e));
+  wide = λ e. absurd (omega (arith, e));
 }
 possible_of (AnswerFrame a) lawful = record {
-  known = record { from_one = omega arith; to_five = omega arith };
+  known = record { from_one = omega arith; to_six = omega arith };
   hello = λ e. absurd (omega (arith, e));
   shard = λ e. absurd (omega (arith, e));
   ask = λ e. absurd (omega (arith, e));
   answer = λ e. (length a.offers, lawful.count, omega (arith, length-append (u32_text a.round) (u32_text a.shard ++ (u32_text (length a.offers) ++ flat_map offer_text a.offers)), length-append (u32_text a.shard) (u32_text (length a.offers) ++ flat_map offer_text a.offers), length-append (u32_text (length a.offers)) (flat_map offer_text a.offers), u32_length a.round, u32_length a.shard, u32_length (length a.offers), items_length offer_text 8 offer_length a.offers));
   fault = λ e. absurd (omega (arith, e));
+  wide = λ e. absurd (omega (arith, e));
 }
 possible_of (FaultFrame r s c) lawful = record {
-  known = record { from_one = omega arith; to_five = omega arith };
+  known = record { from_one = omega arith; to_six = omega arith };
   hello = λ e. absurd (omega (arith, e));
   shard = λ e. absurd (omega (arith, e));
   ask = λ e. absurd (omega (arith, e));
   answer = λ e. absurd (omega (arith, e));
   fault = λ e. omega (arith, length-append (u32_text r) (u32_text s ++ c ∷ []), length-append (u32_text s) (c ∷ []), u32_length r, u32_length s);
+  wide = λ e. absurd (omega (arith, e));
 }
 
--- a lawful hello is of the first version
-first_version : (v : FrameValue) → IsLawful v → IsOtherVersion (kind_of v) (body_of v) → ⊥
-first_version (HelloFrame v w) lawful other =
-    other.1 (ap (from_be_bytes w16) (take_at (u16_text v) (u32_text w) 2 (u16_length v)) ∙ u16_again v (omega (arith, lawful.version)) ∙ lawful.version)
-first_version v lawful other = omega (arith, other.0)
+-- a lawful hello is of one of the versions
+lawful_version : (v : FrameValue) → IsLawful v → IsOtherVersion (kind_of v) (body_of v) → ⊥
+lawful_version (HelloFrame v w) lawful other =
+    other.1 (subst IsVersion (sym (ap (from_be_bytes w16) (take_at (u16_text v) (u32_text w) 2 (u16_length v)) ∙ u16_again v (omega (arith, lawful.version.to_this)))) lawful.version)
+lawful_version (ShardFrame n ls) lawful other = shard_kind 1 n ls (omega arith) (omega arith) other.0
+lawful_version v lawful other = omega (arith, other.0)
 
 pub never_refused : IsNeverRefused
 never_refused v rest lawful =
@@ -70,6 +96,6 @@ never_refused v rest lawful =
       torn = λ torn. elim torn [ inl short ↦ omega (arith, short.1, whole.0.0.0) | inr short ↦ omega (arith, short.1, whole.0.1) ];
       kind = λ bad. bad.1 possible.known;
       length = λ bad. bad.1.1 whole.0.0.1;
-      version = λ bad. first_version v lawful (subst (λ (k : ℕ). IsOtherVersion k (body_of v)) whole.1 (subst (IsOtherVersion (kind_at (text_of v ++ rest))) whole.2 bad.1));
+      version = λ bad. lawful_version v lawful (subst (λ (k : ℕ). IsOtherVersion k (body_of v)) whole.1 (subst (IsOtherVersion (kind_at (text_of v ++ rest))) whole.2 bad.1));
       field = λ bad. bad.1.1 v (record { lawful = lawful; kind = sym whole.1; body = sym whole.2 });
     }

@@ -1,17 +1,18 @@
 -- Each lawful frame has one text: the kind and the length come first, so the bodies part where they end,
 -- and each body's fields part one after the other.
-use Rattle.std.proofs.Common.{◌≡◌, ℕ, suc, ◌+◌, ◌-◌, ◌^◌, ◌<◌, ◌≤◌, List, [], ◌∷◌, ◌++◌, length, get_or, sym, ap, ◌∙◌, append_assoc, arith}
+use Rattle.std.proofs.Common.{◌≡◌, ℕ, suc, ◌+◌, ◌-◌, ◌^◌, ◌<◌, ◌≤◌, ◌≢◌, Bool, true, false, cond, List, [], ◌∷◌, ◌++◌, length, get_or, refl, sym, ap, ◌∙◌, append_assoc, arith, inl, inr}
 use Rattle.std.specs.List.{flat_map, AllByRecursion}
+use Rattle.std.proofs.lemmas.Bool.{cases_Bool, cases_cond}
 use Rattle.std.proofs.lemmas.List.{length-append}
 use Rattle.std.proofs.lemmas.List.Elements.{recursion_from_All}
 use Rattle.link_key.specs.declared.links.Link.{Link}
 use Rattle.link_key.specs.Labels.{AreLabels}
 use Rattle.frames.specs.AnswerValue.{AnswerValue}
 use Rattle.frames.specs.FrameValue.{FrameValue, HelloFrame, ShardFrame, AskFrame, AnswerFrame, FaultFrame}
-use Rattle.frames.specs.FrameText.{u16_text, u32_text, link_text, offer_text, kind_of, body_of}
+use Rattle.frames.specs.FrameText.{u16_text, u32_text, are_narrow, link_text, wide_link_text, links_text, offer_text, kind_of, body_of}
 use Rattle.frames.specs.Lawful.{IsU32, IsShard, IsAsk, IsAnswer, IsLawful}
 use Rattle.frames.specs.OneText.{EachHasOneText}
-use Rattle.frames.proofs.Texts.{parts_same, u16_length, u32_length, u16_prefix, u32_prefix, link_prefix, offer_prefix, FitsWeight, FitsOffer, weights_fit, link_length, offer_length, items_length, items_same}
+use Rattle.frames.proofs.Texts.{parts_same, u16_length, u32_length, u16_prefix, u32_prefix, link_prefix, wide_link_prefix, offer_prefix, FitsNarrow, FitsWide, FitsOffer, narrow_fit, wide_fit, narrow_text, wide_text, links_length, link_length, wide_link_length, offer_length, items_length, items_same}
 
 -- ---- the fields of each body, given that they fit
 
@@ -41,11 +42,33 @@ labels_fit labels are = labels_below labels (λ k lt.
     let place : k + 1 - 1 ≡ k = omega arith in
     omega (arith, are.few_vertices, rw place at below))
 
-pub shard_same : (n n' : ℕ) (ls ls' : List Link) → IsShard n ls → IsU32 n' → length ls' < 2 ^ 32
+-- the kind of a shard tells the spelling of its links
+abbrev pub kind_by : Bool → ℕ
+kind_by narrow = cond narrow 2 6
+
+pub alike : (a b : Bool) → kind_by a ≡ kind_by b → a ≡ b
+alike true true same = refl
+alike true false same = absurd (omega (arith, same))
+alike false true same = absurd (omega (arith, same))
+alike false false same = refl
+
+pub narrow_same : (ls ls' : List Link) → are_narrow ls ≡ true → are_narrow ls' ≡ true → flat_map link_text ls ≡ flat_map link_text ls' → ls ≡ ls'
+narrow_same ls ls' narrow narrow' same = items_same link_text 12 FitsNarrow (omega arith) link_length link_prefix ls ls' (narrow_fit ls narrow) (narrow_fit ls' narrow') same
+
+pub wide_same : (ls ls' : List Link) → flat_map wide_link_text ls ≡ flat_map wide_link_text ls' → ls ≡ ls'
+wide_same ls ls' same = items_same wide_link_text 16 FitsWide (omega arith) wide_link_length wide_link_prefix ls ls' (wide_fit ls) (wide_fit ls') same
+
+links_same : (ls ls' : List Link) → are_narrow ls ≡ are_narrow ls' → links_text ls ≡ links_text ls' → ls ≡ ls'
+links_same ls ls' same_kind same = elim (cases_Bool (are_narrow ls)) [
+  | inl narrow ↦ narrow_same ls ls' narrow (sym same_kind ∙ narrow) (sym (narrow_text ls narrow) ∙ same ∙ narrow_text ls' (sym same_kind ∙ narrow))
+  | inr wide ↦ wide_same ls ls' (sym (wide_text ls wide) ∙ same ∙ wide_text ls' (sym same_kind ∙ wide))
+]
+
+pub shard_same : (n n' : ℕ) (ls ls' : List Link) → IsShard n ls → IsU32 n' → length ls' < 2 ^ 32 → kind_of (ShardFrame n ls) ≡ kind_of (ShardFrame n' ls')
     → body_of (ShardFrame n ls) ≡ body_of (ShardFrame n' ls') → (n ≡ n') × (ls ≡ ls')
-shard_same n n' ls ls' lawful wide short same =
-    let fields = two_prefix n (length ls) n' (length ls') (flat_map link_text ls) (flat_map link_text ls') (omega (arith, lawful.number)) (omega (arith, lawful.count)) wide short same in
-    (fields.0, items_same link_text 12 FitsWeight (omega arith) link_length link_prefix ls ls' (weights_fit ls) (weights_fit ls') fields.2)
+shard_same n n' ls ls' lawful wide short kind same =
+    let fields = two_prefix n (length ls) n' (length ls') (links_text ls) (links_text ls') (omega (arith, lawful.number)) (omega (arith, lawful.count)) wide short same in
+    (fields.0, links_same ls ls' (alike (are_narrow ls) (are_narrow ls') kind) fields.2)
 
 pub ask_same : (r r' s s' : ℕ) (ls ls' : List ℕ) → IsAsk r s ls → IsU32 r' → IsU32 s' → length ls' < 2 ^ 32 → AllByRecursion IsU32 ls'
     → body_of (AskFrame r s ls) ≡ body_of (AskFrame r' s' ls') → (r ≡ r') × (s ≡ s') × (ls ≡ ls')
@@ -69,12 +92,16 @@ fault_same r r' s s' c c' wide wide' wide_s wide_s' same =
 
 -- ---- bodies of one kind
 
+-- a shard has no other kind than its two
+pub shard_kind : (kind n : ℕ) (ls : List Link) → kind ≢ 2 → kind ≢ 6 → kind_of (ShardFrame n ls) ≡ kind → ⊥
+shard_kind kind n ls not_two not_six is = elim (cases_cond (are_narrow ls) 2 6 (kind_of (ShardFrame n ls)) refl) [ inl two ↦ not_two (sym is ∙ two) | inr six ↦ not_six (sym is ∙ six) ]
+
 bodies_same : (v w : FrameValue) → IsLawful v → IsLawful w → kind_of v ≡ kind_of w → body_of v ≡ body_of w → v ≡ w
 bodies_same (HelloFrame v w) (HelloFrame v' w') first second kind same =
-    let fields = hello_same v w v' w' (omega (arith, first.version)) (omega (arith, second.version)) (omega (arith, first.worker)) (omega (arith, second.worker)) same in
+    let fields = hello_same v w v' w' (omega (arith, first.version.to_this)) (omega (arith, second.version.to_this)) (omega (arith, first.worker)) (omega (arith, second.worker)) same in
     λ i. HelloFrame (fields.0 i) (fields.1 i)
 bodies_same (ShardFrame n ls) (ShardFrame n' ls') first second kind same =
-    let fields = shard_same n n' ls ls' first (omega (arith, second.number)) (omega (arith, second.count)) same in
+    let fields = shard_same n n' ls ls' first (omega (arith, second.number)) (omega (arith, second.count)) kind same in
     λ i. ShardFrame (fields.0 i) (fields.1 i)
 bodies_same (AskFrame r s ls) (AskFrame r' s' ls') first second kind same =
     let fields = ask_same r r' s s' ls ls' first second.round (omega (arith, second.shard)) (omega (arith, second.labels.few_vertices)) (labels_fit ls' second.labels) same in
@@ -84,6 +111,14 @@ bodies_same (AnswerFrame a) (AnswerFrame b) first second kind same =
 bodies_same (FaultFrame r s c) (FaultFrame r' s' c') first second kind same =
     let fields = fault_same r r' s s' c c' first.round second.round first.shard second.shard same in
     λ i. FaultFrame (fields.0 i) (fields.1 i) (fields.2 i)
+bodies_same (HelloFrame v w) (ShardFrame n ls) first second kind same = absurd (shard_kind 1 n ls (omega arith) (omega arith) (sym kind))
+bodies_same (AskFrame r s ls) (ShardFrame n ls') first second kind same = absurd (shard_kind 3 n ls' (omega arith) (omega arith) (sym kind))
+bodies_same (AnswerFrame a) (ShardFrame n ls) first second kind same = absurd (shard_kind 4 n ls (omega arith) (omega arith) (sym kind))
+bodies_same (FaultFrame r s c) (ShardFrame n ls) first second kind same = absurd (shard_kind 5 n ls (omega arith) (omega arith) (sym kind))
+bodies_same (ShardFrame n ls) (HelloFrame v w) first second kind same = absurd (shard_kind 1 n ls (omega arith) (omega arith) kind)
+bodies_same (ShardFrame n ls) (AskFrame r s ls') first second kind same = absurd (shard_kind 3 n ls (omega arith) (omega arith) kind)
+bodies_same (ShardFrame n ls) (AnswerFrame a) first second kind same = absurd (shard_kind 4 n ls (omega arith) (omega arith) kind)
+bodies_same (ShardFrame n ls) (FaultFrame r s c) first second kind same = absurd (shard_kind 5 n ls (omega arith) (omega arith) kind)
 bodies_same v w first second kind same = absurd (omega (arith, kind))
 
 -- ---- how long a lawful frame's body is
@@ -91,7 +126,7 @@ bodies_same v w first second kind same = absurd (omega (arith, kind))
 pub body_short : (v : FrameValue) → IsLawful v → IsU32 (length (body_of v))
 body_short (HelloFrame v w) lawful = omega (arith, length-append (u16_text v) (u32_text w), u16_length v, u32_length w)
 body_short (ShardFrame n ls) lawful =
-    omega (arith, length-append (u32_text n) (u32_text (length ls) ++ flat_map link_text ls), length-append (u32_text (length ls)) (flat_map link_text ls), u32_length n, u32_length (length ls), items_length link_text 12 link_length ls, lawful.count)
+    omega (arith, length-append (u32_text n) (u32_text (length ls) ++ links_text ls), length-append (u32_text (length ls)) (links_text ls), u32_length n, u32_length (length ls), links_length ls, lawful.count)
 body_short (AskFrame r s ls) lawful =
     omega (arith, length-append (u32_text r) (u32_text s ++ (u32_text (length ls) ++ flat_map u32_text ls)), length-append (u32_text s) (u32_text (length ls) ++ flat_map u32_text ls), length-append (u32_text (length ls)) (flat_map u32_text ls), u32_length r, u32_length s, u32_length (length ls), items_length u32_text 4 u32_length ls, lawful.labels.few_vertices)
 body_short (AnswerFrame a) lawful =

@@ -1,17 +1,17 @@
 -- Texts of one length part where they are joined, and a text of a number gives the number.
-use Rattle.std.proofs.Common.{◌≡◌, ℕ, ◌+◌, ◌*◌, ◌^◌, ◌<◌, ◌≤◌, ℤ, List, [], ◌∷◌, ◌++◌, length, get_or, take, drop, refl, sym, ap, ◌∙◌, append_assoc, arith, FitsSigned}
-use Rattle.std.specs.Int.{w16, w32, from_be_bytes, cast_unsigned, cast_signed}
+use Rattle.std.proofs.Common.{◌≡◌, ℕ, ◌+◌, ◌*◌, ◌^◌, ◌<◌, ◌≤◌, ℤ, pos, neg_ℤ, int_le, int_lt, ◌&&◌, true, false, IsTrue, List, [], ◌∷◌, ◌++◌, length, get_or, take, drop, refl, sym, ap, ◌∙◌, append_assoc, arith, FitsSigned}
+use Rattle.std.specs.Int.{w16, w32, w64, to_be_bytes, from_be_bytes, cast_unsigned, cast_signed}
 use Rattle.std.specs.List.{flat_map, AllByRecursion}
 use Rattle.std.proofs.Common.{inl, inr}
-use Rattle.std.proofs.lemmas.Bool.{cases_lt}
+use Rattle.std.proofs.lemmas.Bool.{cases_lt, cases_Bool, and_parts, cond-true, cond-false}
 use Rattle.std.proofs.lemmas.List.{take_at, drop_at, length-append, length-take, take-append-drop, get_or-drop, get_or-take, get_or_past}
-use Rattle.std.proofs.lemmas.Int.{to_z-of_z}
+use Rattle.std.proofs.lemmas.Int.{ints, to_z-of_z, of_z-to_z}
 use Rattle.std.proofs.Math.Facts.{Fits-of_z}
-use Rattle.std.proofs.lemmas.Nat.{be_bytes_2, be_bytes_4, from_be_bytes-to_be_bytes_2, from_be_bytes-to_be_bytes_4}
+use Rattle.std.proofs.lemmas.Nat.{be_bytes_2, be_bytes_4, be_bytes_8, from_be_bytes-to_be_bytes_2, from_be_bytes-to_be_bytes_4, from_be_bytes-to_be_bytes_8}
 use Rattle.link_key.specs.declared.links.Link.{Link}
 use Rattle.link_key.specs.Offers.{Offer}
 use Rattle.link_key.proofs.Keys.{link_eq}
-use Rattle.frames.specs.FrameText.{u16_text, u32_text, i32_text, link_text, offer_text}
+use Rattle.frames.specs.FrameText.{u16_text, u32_text, i32_text, i64_text, is_narrow, are_narrow, link_text, wide_link_text, links_text, offer_text}
 use Rattle.frames.specs.Lawful.{IsU32}
 
 -- two parts of one length
@@ -69,22 +69,62 @@ i32_prefix m n x y first second same =
     let both = u32_prefix (cast_unsigned w32 m) (cast_unsigned w32 n) x y (bits_below m first) (bits_below n second) same in
     (sym (to_z-of_z w32 m first) ∙ ap (cast_signed w32) both.0 ∙ to_z-of_z w32 n second, both.1)
 
+pub i64_length : (z : ℤ) → length (i64_text z) ≡ 8
+unfolding i64_text
+i64_length z = refl
+
+i64_again : (z : ℤ) → FitsSigned w64 z → cast_signed w64 (from_be_bytes w64 (i64_text z)) ≡ z
+unfolding i64_text
+i64_again z fits = ap (cast_signed w64) (from_be_bytes-to_be_bytes_8 (cast_unsigned w64 z) (omega (arith, Fits-of_z {w = w64} {z = z} fits))) ∙ to_z-of_z w64 z fits
+
+pub i64_prefix : (m n : ℤ) (x y : List ℕ) → FitsSigned w64 m → FitsSigned w64 n → i64_text m ++ x ≡ i64_text n ++ y → (m ≡ n) × (x ≡ y)
+i64_prefix m n x y first second same =
+    let parts = parts_same (i64_text m) (i64_text n) x y (i64_length m ∙ sym (i64_length n)) same in
+    (sym (i64_again m first) ∙ ap (λ (t : List ℕ). cast_signed w64 (from_be_bytes w64 t)) parts.0 ∙ i64_again n second, parts.1)
+
+-- ---- weights
+
+-- the weight fits the narrow text, and the wide one
+abbrev pub FitsNarrow : Link → Type 0
+FitsNarrow l = FitsSigned w32 l.weight
+
+abbrev pub FitsWide : Link → Type 0
+FitsWide l = FitsSigned w64 l.weight
+
+pub fits_by_test : (z : ℤ) → (int_le (neg_ℤ (pos (2 ^ 31))) z && int_lt z (pos (2 ^ 31))) ≡ true → FitsSigned w32 z
+fits_by_test z test =
+    let parts = and_parts (int_le (neg_ℤ (pos (2 ^ 31))) z) (int_lt z (pos (2 ^ 31))) test in
+    grind (arith, ints, parts.0, parts.1)
+
+pub test_by_fits : (z : ℤ) → FitsSigned w32 z → (int_le (neg_ℤ (pos (2 ^ 31))) z && int_lt z (pos (2 ^ 31))) ≡ true
+test_by_fits z fits = grind (arith, ints, fits)
+
+pub narrow_fit : (links : List Link) → IsTrue (are_narrow links) → AllByRecursion FitsNarrow links
+narrow_fit [] narrow = tt
+narrow_fit (l ∷ links) narrow =
+    let parts = and_parts (is_narrow l) (are_narrow links) narrow in
+    (fits_by_test l.weight parts.0, narrow_fit links parts.1)
+
+pub wide_fit : (links : List Link) → AllByRecursion FitsWide links
+wide_fit [] = tt
+wide_fit (l ∷ links) = (l.weight_fits, wide_fit links)
+
 -- ---- items of lists
 
--- the ends and the weight of a link fit their texts
-abbrev pub FitsWeight : Link → Type 0
-FitsWeight l = FitsSigned w32 l.weight
-
-pub weights_fit : (links : List Link) → AllByRecursion FitsWeight links
-weights_fit [] = tt
-weights_fit (l ∷ links) = (l.weight_fits, weights_fit links)
-
-pub link_prefix : (l m : Link) (x y : List ℕ) → FitsWeight l → FitsWeight m → link_text l ++ x ≡ link_text m ++ y → (l ≡ m) × (x ≡ y)
+pub link_prefix : (l m : Link) (x y : List ℕ) → FitsNarrow l → FitsNarrow m → link_text l ++ x ≡ link_text m ++ y → (l ≡ m) × (x ≡ y)
 link_prefix l m x y first second same =
     let apart : (k : Link) (z : List ℕ) → link_text k ++ z ≡ u32_text k.low ++ (u32_text k.high ++ (i32_text k.weight ++ z)) = λ k z. simp append_assoc in
     let low = u32_prefix l.low m.low _ _ (omega (arith, l.ascending, l.in_limit)) (omega (arith, m.ascending, m.in_limit)) (sym (apart l x) ∙ same ∙ apart m y) in
     let high = u32_prefix l.high m.high _ _ (omega (arith, l.in_limit)) (omega (arith, m.in_limit)) low.1 in
     let weight = i32_prefix l.weight m.weight x y first second high.1 in
+    (link_eq l m weight.0 low.0 high.0, weight.1)
+
+pub wide_link_prefix : (l m : Link) (x y : List ℕ) → FitsWide l → FitsWide m → wide_link_text l ++ x ≡ wide_link_text m ++ y → (l ≡ m) × (x ≡ y)
+wide_link_prefix l m x y first second same =
+    let apart : (k : Link) (z : List ℕ) → wide_link_text k ++ z ≡ u32_text k.low ++ (u32_text k.high ++ (i64_text k.weight ++ z)) = λ k z. simp append_assoc in
+    let low = u32_prefix l.low m.low _ _ (omega (arith, l.ascending, l.in_limit)) (omega (arith, m.ascending, m.in_limit)) (sym (apart l x) ∙ same ∙ apart m y) in
+    let high = u32_prefix l.high m.high _ _ (omega (arith, l.in_limit)) (omega (arith, m.in_limit)) low.1 in
+    let weight = i64_prefix l.weight m.weight x y first second high.1 in
     (link_eq l m weight.0 low.0 high.0, weight.1)
 
 abbrev pub FitsOffer : Offer → Type 0
@@ -99,6 +139,9 @@ offer_prefix o p x y first second same =
 pub link_length : (l : Link) → length (link_text l) ≡ 12
 link_length l = omega (arith, length-append (u32_text l.low) (u32_text l.high ++ i32_text l.weight), length-append (u32_text l.high) (i32_text l.weight), u32_length l.low, u32_length l.high, u32_length (cast_unsigned w32 l.weight))
 
+pub wide_link_length : (l : Link) → length (wide_link_text l) ≡ 16
+wide_link_length l = omega (arith, length-append (u32_text l.low) (u32_text l.high ++ i64_text l.weight), length-append (u32_text l.high) (i64_text l.weight), u32_length l.low, u32_length l.high, i64_length l.weight)
+
 pub offer_length : (o : Offer) → length (offer_text o) ≡ 8
 offer_length o = omega (arith, length-append (u32_text o.0) (u32_text o.1), u32_length o.0, u32_length o.1)
 
@@ -106,6 +149,22 @@ offer_length o = omega (arith, length-append (u32_text o.0) (u32_text o.1), u32_
 pub items_length : {X : Type 0} (text : X → List ℕ) (n : ℕ) → ((x : X) → length (text x) ≡ n) → (xs : List X) → length (flat_map text xs) ≡ n * length xs
 items_length text n each [] = omega arith
 items_length text n each (x ∷ xs) = omega (arith, length-append (text x) (flat_map text xs), each x, items_length text n each xs)
+
+-- the links of a shard in their spelling
+pub narrow_text : (links : List Link) → are_narrow links ≡ true → links_text links ≡ flat_map link_text links
+narrow_text links narrow = cond-true (are_narrow links) (flat_map link_text links) (flat_map wide_link_text links) narrow
+
+pub wide_text : (links : List Link) → are_narrow links ≡ false → links_text links ≡ flat_map wide_link_text links
+wide_text links wide = cond-false (are_narrow links) (flat_map link_text links) (flat_map wide_link_text links) wide
+
+pub narrow_length : (links : List Link) → are_narrow links ≡ true → length (links_text links) ≡ 12 * length links
+narrow_length links narrow = ap length (narrow_text links narrow) ∙ items_length link_text 12 link_length links
+
+pub wide_length : (links : List Link) → are_narrow links ≡ false → length (links_text links) ≡ 16 * length links
+wide_length links wide = ap length (wide_text links wide) ∙ items_length wide_link_text 16 wide_link_length links
+
+pub links_length : (links : List Link) → length (links_text links) ≤ 16 * length links
+links_length links = elim (cases_Bool (are_narrow links)) [ inl narrow ↦ omega (arith, narrow_length links narrow) | inr wide ↦ omega (arith, wide_length links wide) ]
 
 -- what a text gives back, a list of such texts gives back
 pub items_same : {X : Type 0} (text : X → List ℕ) (n : ℕ) (Fits : X → Type 0) → 0 < n → ((x : X) → length (text x) ≡ n)
@@ -140,3 +199,13 @@ pub u32_split : (bytes rest : List ℕ) → 4 ≤ length bytes → IsBytes bytes
 u32_split bytes rest enough fits behind =
     let prefix : u32_text (from_be_bytes w32 (take 4 bytes)) ≡ take 4 bytes = u32_back (take 4 bytes) (omega (arith, length-take 4 bytes)) (IsBytes-take 4 bytes fits) in
     sym (take-append-drop 4 bytes) ∙ ap (λ (t : List ℕ). take 4 bytes ++ t) (sym behind) ∙ ap (λ (t : List ℕ). t ++ rest) (sym prefix)
+
+pub i64_split : (bytes rest : List ℕ) → 8 ≤ length bytes → IsBytes bytes → rest ≡ drop 8 bytes → bytes ≡ i64_text (cast_signed w64 (from_be_bytes w64 (take 8 bytes))) ++ rest
+unfolding i64_text
+i64_split bytes rest enough fits behind =
+    let front : List ℕ = take 8 bytes in
+    let within : IsBytes front = IsBytes-take 8 bytes fits in
+    let prefix : to_be_bytes w64 (cast_unsigned w64 (cast_signed w64 (from_be_bytes w64 front))) ≡ front =
+    ap (to_be_bytes w64) (of_z-to_z w64 (from_be_bytes w64 front) (omega (arith, within 0, within 1, within 2, within 3, within 4, within 5, within 6, within 7)))
+    ∙ be_bytes_8 front _ (omega (arith, length-take 8 bytes)) within refl in
+    sym (take-append-drop 8 bytes) ∙ ap (λ (t : List ℕ). front ++ t) (sym behind) ∙ ap (λ (t : List ℕ). t ++ rest) (sym prefix)

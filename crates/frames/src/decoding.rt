@@ -6,19 +6,19 @@ ghost use Rattle.frames.specs.Refusals.{IsPossible, IsWithItems, IsFrameOf, Body
 
 use crate::fault::FrameFault;
 use crate::fields::{split_u16, split_u32};
-use crate::frame::{Answer, Frame, Links};
+use crate::frame::{Answer, Frame, Links, VERSION};
 use crate::head::Head;
-use crate::items::{links_of, numbers_of, offers_of, spells};
+use crate::items::{fit_32_bits, links_of, numbers_of, offers_of, spells, wide_links_of};
 use limits::{MAX_SHARD_LINKS, MAX_SHARDS, MAX_VERTICES, MAX_WORKERS};
 use link_key::{Labels, Offers};
 use std::alloc::Allocator;
 
 /// The frame of a head and its body.
 ///
-/// `BadVersion` where it is a hello of another version than 1, else `BadField` where no lawful frame
-/// has this body. One list is made beside the body's bytes, and looked at once more; a hello and a
-/// fault take no memory. `Memory` where that list's growth was refused, which is asked for only once
-/// the fields before the list were found lawful.
+/// `BadVersion` where it is a hello of another version than 1 and 2, else `BadField` where no lawful frame
+/// has this body. So is a shard of kind 6 whose weights all fit 32 bits, since such a shard has kind 2. One list
+/// is made beside the body's bytes, and looked at once more; a hello and a fault take no memory. `Memory` where
+/// that list's growth was refused, which is asked for only once the fields before the list were found lawful.
 pub fn decode_body<A: Allocator>(alloc: A, head: Head, body: &[u8]) -> Result<Frame<A>, FrameFault>
     requires length { length body.now ≡ head.length }
     requires possible { IsPossible head.kind head.length }
@@ -46,7 +46,8 @@ pub(crate) fn decode_body_after<A: Allocator>(
         2 => decode_shard(alloc, body),
         3 => decode_ask(alloc, body, last),
         4 => decode_answer(alloc, body),
-        _ => decode_fault(body),
+        5 => decode_fault(body),
+        _ => decode_wide_shard(alloc, body),
     }
 }
 
@@ -57,7 +58,7 @@ fn decode_hello<A: Allocator>(body: &[u8]) -> Result<Frame<A>, FrameFault>
 {
     let (version, rest) = split_u16(body);
     let (worker, _) = split_u32(rest);
-    if version != 1 {
+    if version == 0 || version > VERSION {
         return Err(FrameFault::BadVersion);
     }
     if worker >= MAX_WORKERS {
@@ -77,6 +78,25 @@ fn decode_shard<A: Allocator>(alloc: A, body: &[u8]) -> Result<Frame<A>, FrameFa
         return Err(FrameFault::BadField);
     }
     let links = Links::of_list(links_of(alloc, rest)?);
+    Ok(Frame::Shard { number, links })
+}
+
+// A shard of which some weight doesn't fit 32 bits; one whose weights all fit has another kind.
+fn decode_wide_shard<A: Allocator>(alloc: A, body: &[u8]) -> Result<Frame<A>, FrameFault>
+    requires { IsWithItems 8 16 MAX_SHARD_LINKS (length body.now) }
+    ensures frame { IfOk result (λ f. IsFrameOf (value_of f) 6 body.now) }
+    ensures refused { IfErr result (λ fault. BodyRefused fault 6 body.now) }
+{
+    let (number, rest) = split_u32(body);
+    let (count, rest) = split_u32(rest);
+    if number as usize >= MAX_SHARDS || count as usize != rest.len() / 16 {
+        return Err(FrameFault::BadField);
+    }
+    let links = wide_links_of(alloc, rest)?;
+    if fit_32_bits(links.as_slice()) {
+        return Err(FrameFault::BadField);
+    }
+    let links = Links::of_list(links);
     Ok(Frame::Shard { number, links })
 }
 

@@ -2,12 +2,12 @@
 ghost use Rattle.std.specs.Prelude.{◌≡◌, ◌+◌, ◌*◌, ◌<◌, ◌≤◌, ◌∷◌, ◌++◌, [], length, drop, IfOk, OnOk};
 ghost use Rattle.std.specs.List.{flat_map};
 ghost use Rattle.frames.specs.FrameValue.{value_of, HelloFrame, ShardFrame, AskFrame, AnswerFrame, FaultFrame};
-ghost use Rattle.frames.specs.FrameText.{u32_text, link_text, offer_text, text_of};
+ghost use Rattle.frames.specs.FrameText.{u32_text, are_narrow, link_text, wide_link_text, offer_text, text_of};
 ghost use Rattle.frames.specs.Lawful.{IsLawful};
 
 use crate::fields::{put_u16, put_u32};
 use crate::frame::{Answer, Frame};
-use crate::items::{put_links, put_numbers, put_offers, spells};
+use crate::items::{fit_32_bits, put_links, put_numbers, put_offers, put_wide_links, spells};
 use limits::{MAX_SHARD_LINKS, MAX_SHARDS, MAX_VERTICES};
 use link_key::{Labels, Link, Shard};
 use std::alloc::{AllocError, Allocator};
@@ -58,6 +58,9 @@ fn encode_hello<A: Allocator>(alloc: A, version: u16, worker: u32) -> Result<Vec
 
 /// The text of a shard's frame: the same as that of the frame which holds these links, without a
 /// copy of them. The only error is want of memory.
+///
+/// Each link has 12 bytes where all weights fit 32 bits, and 16 where one doesn't. One look at the weights tells
+/// which; then memory for the whole text is taken once.
 pub fn encode_shard<A: Allocator>(alloc: A, shard: &Shard) -> Result<Vec<u8, A>, AllocError>
     requires number { shard.now.number < MAX_SHARDS }
     requires count { length shard.now.links.now ≤ MAX_SHARD_LINKS }
@@ -65,10 +68,30 @@ pub fn encode_shard<A: Allocator>(alloc: A, shard: &Shard) -> Result<Vec<u8, A>,
         (λ text. text.items ≡ text_of (ShardFrame shard.now.number shard.now.links.now)) }
 {
     let count = shard.links.len() as u32;
-    let mut text = begin(alloc, 2, 8 + 12 * count)?;
-    put_u32(&mut text, shard.number)?;
+    if fit_32_bits(shard.links) {
+        let mut text = begin_shard(alloc, 2, 8 + 12 * count, shard.number, count)?;
+        put_links(&mut text, shard.links)?;
+        return Ok(text);
+    }
+    let mut text = begin_shard(alloc, 6, 8 + 16 * count, shard.number, count)?;
+    put_wide_links(&mut text, shard.links)?;
+    Ok(text)
+}
+
+// A text with room for a whole shard, and what stands before its links.
+fn begin_shard<A: Allocator>(
+    alloc: A,
+    kind: u8,
+    length: u32,
+    number: u32,
+    count: u32,
+) -> Result<Vec<u8, A>, AllocError>
+    ensures { IfOk result
+        (λ text. text.items ≡ ((kind ∷ u32_text length) ++ u32_text number) ++ u32_text count) }
+{
+    let mut text = begin(alloc, kind, length)?;
+    put_u32(&mut text, number)?;
     put_u32(&mut text, count)?;
-    put_links(&mut text, shard.links)?;
     Ok(text)
 }
 

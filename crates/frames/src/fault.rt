@@ -8,7 +8,7 @@ use thiserror::Error;
 /// Why no frame was read.
 #[derive(Clone, Copy, Debug, PartialEq, Eq, Error)]
 pub enum FrameFault {
-    /// The kind isn't 1 to 5.
+    /// The kind isn't 1 to 6.
     #[error("frame of an unknown kind")]
     BadKind,
     /// The length isn't one that the kind's bodies have.
@@ -17,7 +17,7 @@ pub enum FrameFault {
     /// A field of the body isn't lawful.
     #[error("frame with an unlawful field")]
     BadField,
-    /// A hello of another version than 1.
+    /// A hello of another version than 1 and 2.
     #[error("hello of another version")]
     BadVersion,
     /// The stream ended before the frame's first byte.

@@ -1,7 +1,7 @@
 //! The numbers that fields are, read from the beginning of a slice and written to the end of a vector.
 ghost use Rattle.std.specs.Prelude.{◌≡◌, ◌++◌, ◌≤◌, ◌+◌, length, take, OnOk};
 ghost use Rattle.std.specs.Int.{w16, w32, from_be_bytes};
-ghost use Rattle.frames.specs.FrameText.{u16_text, u32_text};
+ghost use Rattle.frames.specs.FrameText.{u16_text, u32_text, i64_text};
 ghost use Rattle.frames.specs.Lawful.{IsU32};
 
 use std::alloc::{AllocError, Allocator};
@@ -30,6 +30,18 @@ pub(crate) fn split_u32(bytes: &[u8]) -> (u32, &[u8])
     (number, rest)
 }
 
+// The signed eight-byte number at the beginning, and what follows it.
+pub(crate) fn split_i64(bytes: &[u8]) -> (i64, &[u8])
+    requires { 8 ≤ length bytes.now }
+    ensures parts { bytes.now ≡ i64_text result.0 ++ result.1.now }
+{
+    let (prefix, rest) = bytes.split_at(8);
+    let bits = u64::from_be_bytes([
+        prefix[0], prefix[1], prefix[2], prefix[3], prefix[4], prefix[5], prefix[6], prefix[7],
+    ]);
+    (bits.cast_signed(), rest)
+}
+
 // Writes a number at the end.
 #[tactic(auto, unfolding(crate::specs::FrameText::u32_text))]
 pub(crate) fn put_u32<A: Allocator>(text: &mut Vec<u8, A>, n: u32) -> Result<(), AllocError>
@@ -43,4 +55,11 @@ pub(crate) fn put_u16<A: Allocator>(text: &mut Vec<u8, A>, n: u16) -> Result<(),
     ensures { OnOk result (text.new.items ≡ text.old.items ++ u16_text n) }
 {
     text.extend_from_slice(&n.to_be_bytes())
+}
+
+#[tactic(auto, unfolding(crate::specs::FrameText::i64_text))]
+pub(crate) fn put_i64<A: Allocator>(text: &mut Vec<u8, A>, n: i64) -> Result<(), AllocError>
+    ensures { OnOk result (text.new.items ≡ text.old.items ++ i64_text n) }
+{
+    text.extend_from_slice(&n.cast_unsigned().to_be_bytes())
 }

@@ -5,7 +5,10 @@ use link_key::{Labels, Link, Offers};
 use std::alloc::{Allocator, Global};
 use std::marker::Model;
 
-/// The links of a shard's frame, which contracts see as a list: 12 bytes each, in any order, with repeats.
+/// The version that the workers of this crate tell. Version 1, whose weights all fit 32 bits, is lawful too.
+pub const VERSION: u16 = 2;
+
+/// The links of a shard's frame, which contracts see as a list: 16 bytes each in memory, in any order, with repeats.
 #[derive(Drop)]
 pub struct Links<A: Allocator = Global> {
     links: Vec<Link, A>,
@@ -66,7 +69,7 @@ impl<A: Allocator> Model for Answer<A> {
 /// [`Frame::is_lawful`] tells the frames that have a text.
 #[derive(Drop)]
 pub enum Frame<A: Allocator = Global> {
-    /// The first message of a worker, by which it tells its number.
+    /// The first message of a worker, by which it tells its version and its number.
     Hello {
         version: u16,
         worker: u32,

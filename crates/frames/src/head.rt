@@ -14,7 +14,7 @@ pub struct Head {
     pub length: u32,
 }
 
-/// The head that the first five bytes of a frame say. `BadKind` where the kind isn't 1 to 5, else
+/// The head that the first five bytes of a frame say. `BadKind` where the kind isn't 1 to 6, else
 /// `BadLength` where no body of that kind has that length. It takes no memory.
 pub fn decode_head(bytes: &[u8; 5]) -> Result<Head, FrameFault>
     ensures kind { IfOk result (λ head. head.kind ≡ kind_at bytes.now) }
@@ -26,7 +26,7 @@ pub fn decode_head(bytes: &[u8; 5]) -> Result<Head, FrameFault>
 {
     let kind = bytes[0];
     let (length, _) = split_u32(&bytes[1..]);
-    if kind == 0 || kind > 5 {
+    if kind == 0 || kind > 6 {
         return Err(FrameFault::BadKind);
     }
     if !is_possible(kind, length) {
@@ -45,7 +45,8 @@ fn is_possible(kind: u8, length: u32) -> bool
         2 => is_with_items(8, 12, MAX_SHARD_LINKS as u32, length),
         3 => is_with_items(12, 4, MAX_VERTICES, length),
         4 => is_with_items(12, 8, 2 * MAX_SHARD_LINKS as u32, length),
-        _ => length == 9,
+        5 => length == 9,
+        _ => is_with_items(8, 16, MAX_SHARD_LINKS as u32, length),
     }
 }
 

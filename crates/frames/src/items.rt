@@ -2,12 +2,12 @@
 ghost use Rattle.std.specs.Prelude.{◌≡◌, ◌++◌, ◌≤◌, ◌%◌, length, map, All, OnOk, IfOk, IfErr, IfSome, IfNone, IsTrue};
 ghost use Rattle.std.specs.Int.{w32, from_be_bytes};
 ghost use Rattle.std.specs.List.{flat_map};
-ghost use Rattle.frames.specs.FrameText.{u32_text, link_text, offer_text};
+ghost use Rattle.frames.specs.FrameText.{u32_text, is_narrow, are_narrow, link_text, wide_link_text, offer_text};
 ghost use Rattle.frames.specs.Lawful.{IsU32};
 ghost use Rattle.frames.specs.Refusals.{IsNoLink, LinksRefused};
 
 use crate::fault::FrameFault;
-use crate::fields::{put_u32, split_u32};
+use crate::fields::{put_i64, put_u32, split_i64, split_u32};
 use limits::MAX_VERTICES;
 use link_key::Link;
 use std::alloc::{AllocError, Allocator};
@@ -43,11 +43,30 @@ fn put_piece<A: Allocator>(text: &mut Vec<u8, A>, piece: &[u32]) -> Result<(), A
     text.extend_from_slice(cells[..piece.len()].as_flattened())
 }
 
-// Writes links at the end.
+/// Whether each weight fits 32 bits, so that a shard of these links has a frame in version 1. It looks at all of them, so
+/// that no look waits for the answer to the one before, and takes no memory.
+pub fn fit_32_bits(links: &[Link]) -> bool
+    ensures { result ≡ are_narrow links.now }
+{
+    let mut narrow = true;
+    for link in links {
+        narrow &= fits_32_bits(link);
+    }
+    narrow
+}
+
+fn fits_32_bits(link: &Link) -> bool
+    ensures { result ≡ is_narrow link.now }
+{
+    (-0x8000_0000 <= link.weight) & (link.weight < 0x8000_0000)
+}
+
+// Writes links at the end, with weights of 32 bits.
 pub(crate) fn put_links<A: Allocator>(
     text: &mut Vec<u8, A>,
     links: &[Link],
 ) -> Result<(), AllocError>
+    requires { IsTrue (are_narrow links.now) }
     ensures { OnOk result (text.new.items ≡ text.old.items ++ flat_map link_text links.now) }
 {
     for link in links {
@@ -56,12 +75,33 @@ pub(crate) fn put_links<A: Allocator>(
     Ok(())
 }
 
+// The fields are put all at once, so that room is asked for once a link.
 fn put_link<A: Allocator>(text: &mut Vec<u8, A>, link: &Link) -> Result<(), AllocError>
+    requires { IsTrue (is_narrow link.now) }
     ensures { OnOk result (text.new.items ≡ text.old.items ++ link_text link.now) }
 {
-    put_u32(text, link.low)?;
-    put_u32(text, link.high)?;
-    put_u32(text, link.weight.cast_unsigned())
+    let weight = link.weight as i32;
+    let fields = [
+        link.low.to_be_bytes(),
+        link.high.to_be_bytes(),
+        weight.cast_unsigned().to_be_bytes(),
+    ];
+    text.extend_from_slice(fields.as_flattened())
+}
+
+// Writes links at the end, with weights of 64 bits.
+pub(crate) fn put_wide_links<A: Allocator>(
+    text: &mut Vec<u8, A>,
+    links: &[Link],
+) -> Result<(), AllocError>
+    ensures { OnOk result (text.new.items ≡ text.old.items ++ flat_map wide_link_text links.now) }
+{
+    for link in links {
+        put_u32(text, link.low)?;
+        put_u32(text, link.high)?;
+        put_i64(text, link.weight)?;
+    }
+    Ok(())
 }
 
 // Writes offers at the end.
@@ -140,11 +180,12 @@ pub(crate) fn offers_of<A: Allocator>(
     Ok(offers)
 }
 
-// The links whose bytes these are; `BadField` where they are no links.
+// The links whose bytes these are, with weights of 32 bits; `BadField` where they are no links.
 pub(crate) fn links_of<A: Allocator>(alloc: A, bytes: &[u8]) -> Result<Vec<Link, A>, FrameFault>
     requires { length bytes.now % 12 ≡ 0 }
     ensures spelled { IfOk result (λ links. flat_map link_text links.items ≡ bytes.now) }
-    ensures refused { IfErr result (λ fault. LinksRefused fault bytes.now) }
+    ensures narrow { IfOk result (λ links. IsTrue (are_narrow links.items)) }
+    ensures refused { IfErr result (λ fault. LinksRefused fault link_text bytes.now) }
 {
     let mut links = Vec::with_capacity(alloc, bytes.len() / 12)?;
     let mut rest = bytes;
@@ -159,11 +200,12 @@ pub(crate) fn links_of<A: Allocator>(alloc: A, bytes: &[u8]) -> Result<Vec<Link,
     Ok(links)
 }
 
-// The link whose bytes these are.
+// The link whose bytes these are, with a weight of 32 bits.
 fn link_of(bytes: &[u8]) -> Option<Link>
     requires { length bytes.now ≡ 12 }
     ensures found { IfSome result (λ link. link_text link ≡ bytes.now) }
-    ensures none { IfNone result (IsNoLink bytes.now) }
+    ensures narrow { IfSome result (λ link. IsTrue (is_narrow link)) }
+    ensures none { IfNone result (IsNoLink link_text bytes.now) }
 {
     let (low, rest) = split_u32(bytes);
     let (high, rest) = split_u32(rest);
@@ -171,6 +213,43 @@ fn link_of(bytes: &[u8]) -> Option<Link>
     if low == 0 || low >= high || high > MAX_VERTICES {
         return None;
     }
-    let weight = bits.cast_signed();
+    let weight = i64::from(bits.cast_signed());
+    Some(Link { weight, low, high })
+}
+
+// The links whose bytes these are, with weights of 64 bits; `BadField` where they are no links.
+pub(crate) fn wide_links_of<A: Allocator>(
+    alloc: A,
+    bytes: &[u8],
+) -> Result<Vec<Link, A>, FrameFault>
+    requires { length bytes.now % 16 ≡ 0 }
+    ensures spelled { IfOk result (λ links. flat_map wide_link_text links.items ≡ bytes.now) }
+    ensures refused { IfErr result (λ fault. LinksRefused fault wide_link_text bytes.now) }
+{
+    let mut links = Vec::with_capacity(alloc, bytes.len() / 16)?;
+    let mut rest = bytes;
+    while !rest.is_empty() {
+        let (first, behind) = rest.split_at(16);
+        match wide_link_of(first) {
+            Some(link) => links.push(link)?,
+            None => return Err(FrameFault::BadField),
+        }
+        rest = behind;
+    }
+    Ok(links)
+}
+
+// The link whose bytes these are, with a weight of 64 bits.
+fn wide_link_of(bytes: &[u8]) -> Option<Link>
+    requires { length bytes.now ≡ 16 }
+    ensures found { IfSome result (λ link. wide_link_text link ≡ bytes.now) }
+    ensures none { IfNone result (IsNoLink wide_link_text bytes.now) }
+{
+    let (low, rest) = split_u32(bytes);
+    let (high, rest) = split_u32(rest);
+    let (weight, _) = split_i64(rest);
+    if low == 0 || low >= high || high > MAX_VERTICES {
+        return None;
+    }
     Some(Link { weight, low, high })
 }

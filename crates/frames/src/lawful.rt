@@ -1,9 +1,9 @@
 //! Whether a frame is lawful.
 ghost use Rattle.std.specs.Prelude.{◌↔◌, All, IsTrue};
 ghost use Rattle.frames.specs.FrameValue.{value_of};
-ghost use Rattle.frames.specs.Lawful.{IsU32, IsLawful, IsShard, IsAsk, IsAnswer, IsFault};
+ghost use Rattle.frames.specs.Lawful.{IsU32, IsLawful, IsHello, IsShard, IsAsk, IsAnswer, IsFault};
 
-use crate::frame::Frame;
+use crate::frame::{Frame, VERSION};
 use limits::{MAX_SHARD_LINKS, MAX_SHARDS, MAX_WORKERS};
 use link_key::{Labels, Link, Offers};
 use std::alloc::Allocator;
@@ -11,7 +11,7 @@ use std::alloc::Allocator;
 impl<A: Allocator> Frame<A> {
     /// Whether the frame says what a frame may say, so that it has a text.
     ///
-    /// A hello is of version 1 and of a worker below 64; a shard's number is below 4,096, with at most
+    /// A hello is of version 1 or 2 and of a worker below 64; a shard's number is below 4,096, with at most
     /// 2^24 links; an ask is for a shard below 4,096; an answer has at most 2^25 offers; a fault's code is
     /// 1, 2 or 3.
     ///
@@ -21,7 +21,7 @@ impl<A: Allocator> Frame<A> {
         ensures { IsTrue result ↔ IsLawful (value_of self.now) }
     {
         match self {
-            Frame::Hello { version, worker } => *version == 1 && *worker < MAX_WORKERS,
+            Frame::Hello { version, worker } => is_hello(*version, *worker),
             Frame::Shard { number, links } => is_shard(*number, links.as_slice()),
             Frame::Ask {
                 round,
@@ -32,6 +32,12 @@ impl<A: Allocator> Frame<A> {
             Frame::Fault { round, shard, code } => is_fault(*round, *shard, *code),
         }
     }
+}
+
+fn is_hello(version: u16, worker: u32) -> bool
+    ensures { IsTrue result ↔ IsHello version worker }
+{
+    1 <= version && version <= VERSION && worker < MAX_WORKERS
 }
 
 fn is_shard(number: u32, links: &[Link]) -> bool

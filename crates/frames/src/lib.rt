@@ -1,6 +1,11 @@
 //! The frames that a coordinator and its workers exchange, as bytes and back. A frame is a kind byte, the length of its
 //! body, and the body; whole numbers are big-endian, weights are signed in two's complement, and nothing stands between
-//! frames.
+//! frames. The kinds are 1 to 6: a hello, a shard, an ask, an answer, a fault, and a shard of which some weight doesn't
+//! fit 32 bits. Its weights have 64 bits, and those of kind 2 have 32.
+//!
+//! There are two versions, and a hello tells one of them: version 1 has the kinds 1 to 5, and version 2 has all. A frame
+//! has the same text under both. Nothing here knows which version a peer told: who sends has to keep kind 6 from a worker
+//! of version 1.
 //!
 //! ```text
 //!   Frame, Shard, Labels --encode, encode_shard, encode_ask, encode_ask_over-->  bytes  <--fault_bytes-- round, shard, code
@@ -35,6 +40,7 @@ pub mod laws;
 pub use decoding::decode_body;
 pub use encoding::{encode, encode_ask, encode_ask_over, encode_shard, fault_bytes};
 pub use fault::FrameFault;
-pub use frame::{Answer, Frame, Links};
+pub use frame::{Answer, Frame, Links, VERSION};
 pub use frame_reader::{read_frame, read_frame_after};
 pub use head::{Head, decode_head};
+pub use items::fit_32_bits;
