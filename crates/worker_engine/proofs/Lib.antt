@@ -5,6 +5,7 @@ pub mod Merging
 pub mod Tables
 pub mod Shelves
 pub mod Offering
+pub mod Versions
 pub mod Replying
 pub mod Sessions
 pub mod Steps

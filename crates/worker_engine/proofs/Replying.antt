@@ -15,7 +15,8 @@ use Rattle.frames.specs.Lawful.{IsLawful, IsAsk}
 use Rattle.frames.specs.FrameStream.{texts_of, AreLawful}
 use Rattle.frames.proofs.Texts.{parts_same}
 use Rattle.frames.proofs.FrameStreams.{texts-append, lawful-append, prefix_has_prefix_frames}
-use Rattle.worker_engine.specs.Serving.{Shelf, empty_shelf, shelf_with, shelf_after, AreShort, IsAnswerTo, IsReply, MayReply, AreReplyTo, MayFollow, AreReplies, Serves, ask_bit, asks_in}
+use Rattle.worker_engine.specs.Serving.{Shelf, empty_shelf, shelf_with, shelf_after, AreShort, IsAnswerTo, IsReply, MayReply, AreReplyTo, MayFollow, AreReplies, heard_by, Serves, ask_bit, asks_in}
+use Rattle.worker_engine.proofs.Versions.{heard_more, heard_lawful}
 use Rattle.worker_engine.proofs.Offering.{light_answer_is_lawful}
 
 -- what is written for frames that stand behind others comes behind what is written for those
@@ -76,17 +77,19 @@ no_more_replies shelf fs came (v ∷ more) are count =
     absurd (omega (arith, length-append came (v ∷ more), replies_count shelf fs (came ++ v ∷ more) are))
 
 -- what is written for a stream begins with what may be written for a prefix of it
-pub prefix_has_prefix_replies : (worker : ℕ) (prefix rest out : List ℕ) → Serves worker (prefix ++ rest) out
-    → (early : List ℕ) × (late : List ℕ) × (out ≡ early ++ late) × Serves worker prefix early
-prefix_has_prefix_replies worker prefix rest out serves =
-    let (some, more, is, are) = prefix_has_prefix_frames prefix rest serves.frames serves.heard in
-    let all : AreReplies empty_shelf (some ++ more) serves.replies = subst (λ (fs : List FrameValue). AreReplies empty_shelf fs serves.replies) is serves.answered in
-    let (early, late, split, first, second) = replies_split empty_shelf some more serves.replies all in
-    let hello : List ℕ = text_of (HelloFrame 1 worker) in (
+pub prefix_has_prefix_replies : (version worker : ℕ) (prefix rest out : List ℕ) → Serves version worker (prefix ++ rest) out
+    → (early : List ℕ) × (late : List ℕ) × (out ≡ early ++ late) × Serves version worker prefix early
+prefix_has_prefix_replies version worker prefix rest out serves =
+    let (some, more, is, are) = prefix_has_prefix_frames prefix rest serves.frames serves.came in
+    let (tail, heard) = heard_more version some more in
+    let begins : heard_by version serves.frames ≡ heard_by version some ++ tail = ap (heard_by version) is ∙ heard in
+    let all : AreReplies empty_shelf (heard_by version some ++ tail) serves.replies = subst (λ (fs : List FrameValue). AreReplies empty_shelf fs serves.replies) begins serves.answered in
+    let (early, late, split, first, second) = replies_split empty_shelf (heard_by version some) tail serves.replies all in
+    let hello : List ℕ = text_of (HelloFrame version worker) in (
       hello ++ texts_of early,
       texts_of late,
       serves.written ∙ ap (λ (rs : List FrameValue). hello ++ texts_of rs) split ∙ ap (λ (t : List ℕ). hello ++ t) (texts-append early late) ∙ sym (append_assoc hello (texts_of early) (texts_of late)),
-      record { frames = some; replies = early; heard = are; answered = first; written = refl },
+      record { known = serves.known; frames = some; replies = early; came = are; answered = first; written = refl },
     )
 
 -- one more frame is heard
@@ -145,8 +148,9 @@ replies_lawful shelf (v ∷ fs) out short lawful are =
     (replies_lawful (shelf_with shelf v) fs later (short_with shelf v short lawful.0) lawful.1 rest))
 
 -- what a session may write is a hello and lawful frames
-pub served_lawful : (worker : ℕ) (stream out : List ℕ) (serves : Serves worker stream out) → AreLawful serves.replies
-served_lawful worker stream out serves = replies_lawful empty_shelf serves.frames serves.replies (λ s. tt) serves.heard.lawful serves.answered
+pub served_lawful : (version worker : ℕ) (stream out : List ℕ) (serves : Serves version worker stream out) → AreLawful serves.replies
+served_lawful version worker stream out serves =
+    replies_lawful empty_shelf (heard_by version serves.frames) serves.replies (λ s. tt) (heard_lawful version serves.frames serves.came.lawful) serves.answered
 
 -- ---- there is one reply to an ask
 

@@ -1,5 +1,5 @@
 -- A pass over a shard's links, with a table of the best place for each label.
-use Rattle.std.proofs.Common.{◌≡◌, ◌≢◌, ℕ, ◌+◌, ◌-◌, ◌<◌, ◌≤◌, ◌^◌, ℤ, w32, to_z, of_z, List, length, get_or, set, replicate, true, false, is_le, Option, Some, None, Ordering, Less, Greater, nat_cmp, refl, sym, ap, ◌∙◌, subst, inl, inr, arith}
+use Rattle.std.proofs.Common.{◌≡◌, ◌≢◌, ℕ, ◌+◌, ◌-◌, ◌<◌, ◌≤◌, ◌^◌, ℤ, w64, to_z, of_z, List, length, get_or, set, replicate, true, false, is_le, Option, Some, None, Ordering, Less, Greater, nat_cmp, refl, sym, ap, ◌∙◌, subst, inl, inr, arith}
 use Rattle.std.specs.Int.Signed.{◌<ℤ◌, lt_z}
 use Rattle.std.specs.Ordering.{ordering_then}
 use Rattle.std.specs.Cmp.{int_cmp_is}
@@ -29,18 +29,18 @@ lighter_as a a' b b' a_is b_is test =
     let lt : a' <ℤ b' = omega (arith, ints, test) in
     subst (λ w. a <ℤ w) b_is (subst (λ w. w <ℤ b') a_is lt)
 
--- a weight that is kept is one of 32 bits
-pub said_weight : (links : List Link) (kept : Best) (best : Option ℕ) → Says links kept best → Link → to_z w32 (of_z w32 kept.weight) ≡ kept.weight
+-- a weight that is kept is one of 64 bits
+pub said_weight : (links : List Link) (kept : Best) (best : Option ℕ) → Says links kept best → Link → to_z w64 (of_z w64 kept.weight) ≡ kept.weight
 said_weight links kept best says x = go best says
   where
-    by : (w : ℤ) → kept.weight ≡ w → to_z w32 (of_z w32 w) ≡ w → to_z w32 (of_z w32 kept.weight) ≡ kept.weight
-    by w is fits = ap (λ k. to_z w32 (of_z w32 k)) is ∙ fits ∙ sym is
+    by : (w : ℤ) → kept.weight ≡ w → to_z w64 (of_z w64 w) ≡ w → to_z w64 (of_z w64 kept.weight) ≡ kept.weight
+    by w is fits = ap (λ k. to_z w64 (of_z w64 k)) is ∙ fits ∙ sym is
 
-    go : (best : Option ℕ) → Says links kept best → to_z w32 (of_z w32 kept.weight) ≡ kept.weight
+    go : (best : Option ℕ) → Says links kept best → to_z w64 (of_z w64 kept.weight) ≡ kept.weight
     go None says = by no_best.weight (ap (λ (b : Best). b.weight) says) refl
     go (Some p) says =
         let l : Link = get_or links p x in
-        by l.weight (says.2 l (get_or_default links p x l says.1)) (to_z-of_z w32 l.weight l.weight_fits)
+        by l.weight (says.2 l (get_or_default links p x l says.1)) (to_z-of_z w64 l.weight l.weight_fits)
 
 -- a table of nothing keeps the best places of no links
 pub best_of_none : (links : List Link) (labels : List ℕ) (from : ℕ) → AreBest links labels from from (replicate (length labels) no_best)
@@ -66,8 +66,8 @@ module _ (links : List Link) (labels : List ℕ) (from to c : ℕ) (kept : Best)
       go None says is = is
       go (Some place) says is = absurd (omega (arith, few, says.0, says.1, none))
 
-  -- its weight is one of 32 bits
-  pub kept_weight : Keeps links labels from to c kept → Link → to_z w32 (of_z w32 kept.weight) ≡ kept.weight
+  -- its weight is one of 64 bits
+  pub kept_weight : Keeps links labels from to c kept → Link → to_z w64 (of_z w64 kept.weight) ≡ kept.weight
   kept_weight keeps x = said_weight links kept keeps.best keeps.says x
 
 module _ (links : List Link) (labels : List ℕ) (c from at to : ℕ) (le : from ≤ at) (few : length links ≤ 2 ^ 24) (next : Best) (next_says : Says links next (Some next.place)) (x : Link) (read : x ≡ get_or links next.place x) (next_is : IsBestPlace links labels at to c next.place) (kept : Best) (keeps : Keeps links labels from at c kept) where

@@ -2,17 +2,19 @@
 use Rattle.std.proofs.Common.{◌≡◌, ℕ, ◌+◌, List, [], ◌∷◌, ◌++◌, length, drop, refl, sym, ap, subst, ◌∙◌, append_assoc, append-nil}
 use Rattle.std.proofs.lemmas.List.{length-append, drop_at}
 use Rattle.frames.specs.FrameValue.{FrameValue, HelloFrame}
+use Rattle.frames.specs.declared.frame.TheConstants.{VERSION}
 use Rattle.frames.specs.FrameText.{text_of}
 use Rattle.frames.specs.Lawful.{IsLawful}
 use Rattle.frames.specs.FrameStream.{texts_of, BeginsNone}
 use Rattle.frames.proofs.FrameStreams.{texts-append, texts-one, lawful-append}
-use Rattle.worker_engine.specs.Serving.{Shelf, empty_shelf, shelf_with, MayFollow, Serves}
+use Rattle.worker_engine.specs.Serving.{Shelf, empty_shelf, shelf_with, MayFollow, AreReplies, Serves}
 use Rattle.worker_engine.specs.Session.{InSession}
+use Rattle.worker_engine.proofs.Versions.{this_version, all_heard}
 use Rattle.worker_engine.proofs.Replying.{replies_more, shelf_after-append}
 
 -- nothing came yet
-pub session_starts : (worker : ℕ) → InSession worker empty_shelf [] (text_of (HelloFrame 1 worker)) 0
-session_starts worker = record { frames = []; replies = []; rest = []; lawful = tt; came = refl; heard_is = refl; shelf_is = refl; answered = refl; written = sym (append-nil (text_of (HelloFrame 1 worker))) }
+pub session_starts : (worker : ℕ) → InSession worker empty_shelf [] (text_of (HelloFrame VERSION worker)) 0
+session_starts worker = record { frames = []; replies = []; rest = []; lawful = tt; came = refl; heard_is = refl; shelf_is = refl; answered = refl; written = sym (append-nil (text_of (HelloFrame VERSION worker))) }
 
 -- more bytes come
 pub session_gets : (worker : ℕ) (shelf : Shelf) (input out more : List ℕ) (heard : ℕ) → InSession worker shelf input out heard → InSession worker shelf (input ++ more) out heard
@@ -50,16 +52,17 @@ session_hears worker shelf shelf' input out out' left heard heard' v now lawful 
       heard_is = count ∙ ap (λ (n : ℕ). n + length (text_of v)) session.heard_is ∙ sym (ap length joined ∙ length-append (texts_of session.frames) (text_of v));
       shelf_is = kept ∙ ap (λ (s : Shelf). shelf_with s v) session.shelf_is ∙ sym (shelf_after-append empty_shelf session.frames (v ∷ []));
       answered = replies_more session.frames session.replies now v session.answered (subst (λ (s : Shelf). MayFollow s v now) session.shelf_is may);
-      written = wrote ∙ ap (λ (t : List ℕ). t ++ texts_of now) session.written ∙ append_assoc (text_of (HelloFrame 1 worker)) (texts_of session.replies) (texts_of now)
-          ∙ ap (λ (t : List ℕ). text_of (HelloFrame 1 worker) ++ t) (sym (texts-append session.replies now));
+      written = wrote ∙ ap (λ (t : List ℕ). t ++ texts_of now) session.written ∙ append_assoc (text_of (HelloFrame VERSION worker)) (texts_of session.replies) (texts_of now)
+          ∙ ap (λ (t : List ℕ). text_of (HelloFrame VERSION worker) ++ t) (sym (texts-append session.replies now));
     }
 
 -- a session that heard all the frames that came wrote what it may write
-pub session_serves : (worker : ℕ) (shelf : Shelf) (input out : List ℕ) (heard : ℕ) → InSession worker shelf input out heard → BeginsNone (drop heard input) → Serves worker input out
+pub session_serves : (worker : ℕ) (shelf : Shelf) (input out : List ℕ) (heard : ℕ) → InSession worker shelf input out heard → BeginsNone (drop heard input) → Serves VERSION worker input out
 session_serves worker shelf input out heard session none = record {
+  known = this_version;
   frames = session.frames;
   replies = session.replies;
-  heard = record { lawful = session.lawful; rest = session.rest; split = session.came; no_more = subst BeginsNone (session_left worker shelf input out heard session) none };
-  answered = session.answered;
+  came = record { lawful = session.lawful; rest = session.rest; split = session.came; no_more = subst BeginsNone (session_left worker shelf input out heard session) none };
+  answered = subst (λ (fs : List FrameValue). AreReplies empty_shelf fs session.replies) (sym (all_heard session.frames)) session.answered;
   written = session.written;
 }

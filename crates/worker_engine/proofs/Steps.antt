@@ -7,6 +7,7 @@ use Rattle.link_key.specs.declared.links.Link.{Link}
 use Rattle.byte_streams.specs.Streams.{SourceState, Gave, SinkState, Took}
 use Rattle.byte_streams.proofs.Streaming.{gave_more, took_more}
 use Rattle.frames.specs.FrameValue.{FrameValue, HelloFrame, ShardFrame, AskFrame, AnswerFrame, FaultFrame}
+use Rattle.frames.specs.declared.frame.TheConstants.{VERSION}
 use Rattle.frames.specs.FrameText.{text_of}
 use Rattle.frames.specs.Lawful.{IsLawful}
 use Rattle.frames.specs.FrameStream.{texts_of, AreLawful}
@@ -21,10 +22,11 @@ use Rattle.worker_engine.specs.declared.session.Written.{Written}
 use Rattle.worker_engine.specs.declared.session.Written.TheVariants.{AFault}
 use Rattle.worker_engine.specs.Serving.{Shelf, empty_shelf, shelf_with, shelf_after, IsReply, MayReply, IsWantOfMemory, AreReplyTo, MayFollow, AreReplies, MayWantMemory}
 use Rattle.worker_engine.specs.Served.{answer_bit, answers_in, fault_bit, faults_in, Heard, EndsWell, EndsAtRead, EndsAtLimit, EndsBy, IsTold, Stepped, ask_in, StandsFor, WroteFor, CutFor, CutOff, CutReply, Failed, Ungreeted}
+use Rattle.worker_engine.proofs.Versions.{this_version, all_heard}
 use Rattle.worker_engine.proofs.Replying.{replies_more, shelf_after-append}
 
 hello_of : ℕ → List ℕ
-hello_of worker = text_of (HelloFrame 1 worker)
+hello_of worker = text_of (HelloFrame VERSION worker)
 
 -- whole lawful frames were heard, and what is owed for them was written
 pub record SoFar (worker : ℕ) (shelf : Shelf) (served : Served) (source source' : SourceState) (sink sink' : SinkState) : Type 0 where
@@ -37,15 +39,22 @@ pub record SoFar (worker : ℕ) (shelf : Shelf) (served : Served) (source source
   pub answers_are : served.answers ≡ answers_in replies
   pub faults_are : served.faults ≡ faults_in replies
   pub gave : Gave 0 0 (texts_of frames) source source'
-  pub took : Took 0 (text_of (HelloFrame 1 worker) ++ texts_of replies) sink sink'
+  pub took : Took 0 (text_of (HelloFrame VERSION worker) ++ texts_of replies) sink sink'
 
 -- frames and replies to them, as a session owes them
 abbrev heard_of : (worker : ℕ) (frames replies : List FrameValue) → AreLawful frames → AreReplies empty_shelf frames replies → Heard worker
 heard_of worker frames replies lawful answered = record {
   frames = frames;
   lawful = lawful;
-  out = text_of (HelloFrame 1 worker) ++ texts_of replies;
-  serves = record { frames = frames; replies = replies; heard = frames_of_texts frames lawful; answered = answered; written = refl };
+  out = text_of (HelloFrame VERSION worker) ++ texts_of replies;
+  serves = record {
+    known = this_version;
+    frames = frames;
+    replies = replies;
+    came = frames_of_texts frames lawful;
+    answered = subst (λ (fs : List FrameValue). AreReplies empty_shelf fs replies) (sym (all_heard frames)) answered;
+    written = refl;
+  };
 }
 
 pub answers-append : (fs gs : List FrameValue) → answers_in (fs ++ gs) ≡ answers_in fs + answers_in gs
@@ -95,8 +104,8 @@ module _ (worker : ℕ) (source source' source'' : SourceState) (sink sink' sink
       (gave_more 0 0 (texts_of frames) (text_of v) source source' source'' first second)
 
   -- what is owed with the reply to it
-  more_owed : (replies now : List FrameValue) → (text_of (HelloFrame 1 worker) ++ texts_of replies) ++ texts_of now ≡ text_of (HelloFrame 1 worker) ++ texts_of (replies ++ now)
-  more_owed replies now = append_assoc (text_of (HelloFrame 1 worker)) (texts_of replies) (texts_of now) ∙ ap (λ (t : List ℕ). text_of (HelloFrame 1 worker) ++ t) (sym (texts-append replies now))
+  more_owed : (replies now : List FrameValue) → (text_of (HelloFrame VERSION worker) ++ texts_of replies) ++ texts_of now ≡ text_of (HelloFrame VERSION worker) ++ texts_of (replies ++ now)
+  more_owed replies now = append_assoc (text_of (HelloFrame VERSION worker)) (texts_of replies) (texts_of now) ∙ ap (λ (t : List ℕ). text_of (HelloFrame VERSION worker) ++ t) (sym (texts-append replies now))
 
   -- and was heard
   pub so_far_more : (shelf shelf' : Shelf) (served served' : Served) (v : FrameValue) (written : Written) → IsLawful v
@@ -115,7 +124,7 @@ module _ (worker : ℕ) (source source' source'' : SourceState) (sink sink' sink
     faults_are = omega (arith, (replied step.now step.told).1, so_far.faults_are, faults-append so_far.replies step.now);
     gave = gave_frame so_far.frames v so_far.gave came;
     took = subst (λ (bytes : List ℕ). Took 0 bytes sink sink'') (more_owed so_far.replies step.now)
-        (took_more 0 (text_of (HelloFrame 1 worker) ++ texts_of so_far.replies) (texts_of step.now) sink sink' sink'' so_far.took step.took);
+        (took_more 0 (text_of (HelloFrame VERSION worker) ++ texts_of so_far.replies) (texts_of step.now) sink sink' sink'' so_far.took step.took);
   }
 
   -- or wasn't
@@ -125,7 +134,7 @@ module _ (worker : ℕ) (source source' source'' : SourceState) (sink sink' sink
   ends_at_frame limit shelf served v (Read fault) lawful so_far came failed = absurd failed
   ends_at_frame limit shelf served v TooMany lawful so_far came failed = absurd failed
   ends_at_frame limit shelf served v Write lawful so_far came failed =
-      let first : List ℕ = text_of (HelloFrame 1 worker) ++ texts_of so_far.replies in
+      let first : List ℕ = text_of (HelloFrame VERSION worker) ++ texts_of so_far.replies in
       let owed = more_owed so_far.replies failed.now in
       record {
         heard = heard_of worker (so_far.frames ++ v ∷ []) (so_far.replies ++ failed.now) (lawful-append so_far.frames (v ∷ []) so_far.lawful (lawful, tt))
@@ -138,12 +147,12 @@ module _ (worker : ℕ) (source source' source'' : SourceState) (sink sink' sink
       }
   ends_at_frame limit shelf served v Memory lawful so_far came ((number, links, is), took) =
       let nothing : MayFollow (shelf_after empty_shelf so_far.frames) v [] = subst (λ (f : FrameValue). MayFollow (shelf_after empty_shelf so_far.frames) f []) (sym is) refl in
-      let first : List ℕ = text_of (HelloFrame 1 worker) ++ texts_of so_far.replies in
+      let first : List ℕ = text_of (HelloFrame VERSION worker) ++ texts_of so_far.replies in
       let same : so_far.replies ++ [] ≡ so_far.replies = append-nil so_far.replies in
       record {
         heard = heard_of worker (so_far.frames ++ v ∷ []) (so_far.replies ++ []) (lawful-append so_far.frames (v ∷ []) so_far.lawful (lawful, tt))
             (replies_more so_far.frames so_far.replies [] v so_far.answered nothing);
-        written = text_of (HelloFrame 1 worker) ++ texts_of (so_far.replies ++ []);
+        written = text_of (HelloFrame VERSION worker) ++ texts_of (so_far.replies ++ []);
         cause = inr (refl, (so_far.frames, number, links, ap (λ (f : FrameValue). so_far.frames ++ f ∷ []) is));
         gave = gave_frame so_far.frames v so_far.gave came;
         took = subst (λ (bytes : List ℕ). Took 0 bytes sink sink'') (more_owed so_far.replies []) (took_more 0 first [] sink sink' sink'' so_far.took took);
@@ -151,7 +160,7 @@ module _ (worker : ℕ) (source source' source'' : SourceState) (sink sink' sink
 
 -- nothing was heard yet
 pub so_far_starts : (worker : ℕ) (served : Served) (source : SourceState) (sink sink' : SinkState) → served.frames ≡ 0 → served.answers ≡ 0 → served.faults ≡ 0
-    → Gave 0 0 [] source source → Took 0 (text_of (HelloFrame 1 worker)) sink sink' → SoFar worker empty_shelf served source source sink sink'
+    → Gave 0 0 [] source source → Took 0 (text_of (HelloFrame VERSION worker)) sink sink' → SoFar worker empty_shelf served source source sink sink'
 so_far_starts worker served source sink sink' frames answers faults gave took = record {
   frames = [];
   replies = [];
@@ -162,20 +171,20 @@ so_far_starts worker served source sink sink' frames answers faults gave took = 
   answers_are = answers;
   faults_are = faults;
   gave = gave;
-  took = subst (λ (bytes : List ℕ). Took 0 bytes sink sink') (sym (append-nil (text_of (HelloFrame 1 worker)))) took;
+  took = subst (λ (bytes : List ℕ). Took 0 bytes sink sink') (sym (append-nil (text_of (HelloFrame VERSION worker)))) took;
 }
 
 -- the hello wasn't written
 pub ends_at_hello : (worker limit : ℕ) (fault : ServeFault) (source : SourceState) (sink sink' : SinkState) → Gave 0 0 [] source source
-    → Ungreeted fault (text_of (HelloFrame 1 worker)) sink sink' → EndsBy worker limit fault source source sink sink'
+    → Ungreeted fault (text_of (HelloFrame VERSION worker)) sink sink' → EndsBy worker limit fault source source sink sink'
 ends_at_hello worker limit (Read fault) source sink sink' gave bad = absurd bad
 ends_at_hello worker limit TooMany source sink sink' gave bad = absurd bad
 ends_at_hello worker limit Write source sink sink' gave cut = record {
   heard = heard_of worker [] [] tt refl;
   count = cut.count;
-  short = subst (λ (n : ℕ). cut.count < n) (ap length (sym (append-nil (text_of (HelloFrame 1 worker))))) cut.short;
+  short = subst (λ (n : ℕ). cut.count < n) (ap length (sym (append-nil (text_of (HelloFrame VERSION worker))))) cut.short;
   gave = gave;
-  took = subst (λ (bytes : List ℕ). Took 1 (take cut.count bytes) sink sink') (sym (append-nil (text_of (HelloFrame 1 worker)))) cut.took;
+  took = subst (λ (bytes : List ℕ). Took 1 (take cut.count bytes) sink sink') (sym (append-nil (text_of (HelloFrame VERSION worker)))) cut.took;
 }
 ends_at_hello worker limit Memory source sink sink' gave took = record {
   heard = heard_of worker [] [] tt refl;

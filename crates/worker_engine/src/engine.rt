@@ -33,7 +33,7 @@ pub const NO_LABEL: u8 = 3;
 ///
 /// Beside each shard it keeps which of its links are live, by 4 bytes a link: after an answer those whose ends have one
 /// label are laid aside, and a scan passes over the live ones alone. It keeps the labels of its last answer too, 4
-/// bytes a vertex, beside 8 bytes and a bit a vertex for the table. Where the labels of an ask don't coarsen them, all
+/// bytes a vertex, beside 16 bytes and a bit a vertex for the table. Where the labels of an ask don't coarsen them, all
 /// links are live again.
 #[derive(Drop)]
 pub struct Engine<A: Allocator = Global> {

@@ -1,12 +1,12 @@
 //! What the definitions themselves promise, each as the contract of a function that does nothing.
 ghost use Rattle.worker_engine.specs.Laws.{CodeOneWhereKept, OneReply, PrefixHasPrefixReplies, RepliesAreLawful};
 
-/// What a session may write for a stream begins with what it may write for any prefix of the stream.
+/// What a session of any version may write for a stream begins with what it may write for any prefix of the stream.
 pub fn prefix_has_prefix_replies()
     ensures { PrefixHasPrefixReplies }
 {}
 
-/// What a session may write is its hello and the texts of lawful frames.
+/// What a session of any version may write is its hello and the texts of lawful frames.
 pub fn replies_are_lawful()
     ensures { RepliesAreLawful }
 {}

@@ -18,19 +18,19 @@ use std::thread::Threads;
 // that link stands. Most comparisons need the weight alone, and so no look at a link anywhere in the list.
 #[derive(Clone, Copy)]
 pub(crate) struct Best {
-    pub(crate) weight: i32,
+    pub(crate) weight: i64,
     pub(crate) place: u32,
 }
 
 // The weight and the place of no link: no weight is greater, and no shard has so many links.
-pub(crate) const NO_WEIGHT: i32 = i32::MAX;
+pub(crate) const NO_WEIGHT: i64 = i64::MAX;
 
 pub(crate) const NO_PLACE: u32 = u32::MAX;
 
 /// The light offers of a shard's links under the labels: for each label that has a link with exactly one end under
 /// it, the least such link, told by the first place where it stands.
 ///
-/// One pass over the links, and one over a table of the labels: for m links of n vertices O(m + n) time, 8 bytes and
+/// One pass over the links, and one over a table of the labels: for m links of n vertices O(m + n) time, 16 bytes and
 /// a bit a vertex for the table and 8 bytes for each offer. For scan after scan a [`Scanner`] keeps the table. The only
 /// error is want of memory.
 pub fn scan<A: Allocator + Copy, B: Allocator>(
@@ -48,7 +48,7 @@ pub fn scan<A: Allocator + Copy, B: Allocator>(
 /// The same offers as [`scan`] gives, by threads: the links are halved, at most as often as there are processors for, each
 /// part is scanned over a table of its own, and the tables are taken together.
 ///
-/// For m links of n vertices in p parts O(m / p + n p) time, and 8 bytes and a bit a vertex for each part's table. A part
+/// For m links of n vertices in p parts O(m / p + n p) time, and 16 bytes and a bit a vertex for each part's table. A part
 /// has at least as many links as there are vertices, and a list of few links, or one for which no thread can be made, is
 /// scanned by the caller's. The only error is want of memory.
 pub fn scan_par<R: Threads + Sync, A: Allocator + Copy + Send + Sync, B: Allocator>(

@@ -12,7 +12,7 @@ ghost use Rattle.worker_engine.specs.declared.session.Written.TheVariants.{AFaul
 
 use crate::engine::{Engine, NO_MEMORY};
 use byte_streams::{Sink, Source, put};
-use frames::{Frame, FrameFault, encode, fault_bytes, read_frame_after};
+use frames::{Frame, FrameFault, VERSION, encode, fault_bytes, read_frame_after};
 use limits::MAX_WORKERS;
 use std::alloc::Allocator;
 use std::thread::Threads;
@@ -61,10 +61,10 @@ pub(crate) enum Written {
 
 /// A worker's session that hears at most `frames` frames.
 ///
-/// It writes the hello of `worker`, and then hears frame after frame and writes one reply to each ask, until the
-/// source ends before a frame. It scans by threads, as [`scan_par`](crate::scan_par) does. An ask that finds no memory
-/// for its answer is replied to by a fault with the code [`NO_MEMORY`](crate::NO_MEMORY), which takes none, and the
-/// session goes on.
+/// It writes the hello of `worker`, which tells [`VERSION`](frames::VERSION), and then hears frame after frame, of each
+/// kind that this version has, and writes one reply to each ask, until the source ends before a frame. It scans by
+/// threads, as [`scan_par`](crate::scan_par) does. An ask that finds no memory for its answer is replied to by a fault
+/// with the code [`NO_MEMORY`](crate::NO_MEMORY), which takes none, and the session goes on.
 ///
 /// `Read` where no whole lawful frame could be read, `Write` at the first write that fails or takes nothing,
 /// `Memory` where the hello couldn't be made or a shard not be kept, `TooMany` once `frames` frames were heard,
@@ -155,7 +155,7 @@ impl Served {
     }
 }
 
-// Writes the hello.
+// Writes the hello of this version.
 fn greet<A: Allocator + Copy, W: Sink>(
     alloc: A,
     worker: u32,
@@ -163,11 +163,14 @@ fn greet<A: Allocator + Copy, W: Sink>(
 ) -> Result<(), ServeFault>
     requires worker { worker < MAX_WORKERS }
     requires can { W.can_write sink.old }
-    ensures greeted { OnOk result (Took 0 (text_of (HelloFrame 1 worker)) (W.state sink.old) (W.state sink.new)) }
-    ensures ungreeted { IfErr result (λ fault. Ungreeted fault (text_of (HelloFrame 1 worker)) (W.state sink.old) (W.state sink.new)) }
+    ensures greeted { OnOk result (Took 0 (text_of (HelloFrame VERSION worker)) (W.state sink.old) (W.state sink.new)) }
+    ensures ungreeted { IfErr result (λ fault. Ungreeted fault (text_of (HelloFrame VERSION worker)) (W.state sink.old) (W.state sink.new)) }
     ensures again { OnOk result (W.can_write sink.new) }
 {
-    let hello: Frame<A> = Frame::Hello { version: 1, worker };
+    let hello: Frame<A> = Frame::Hello {
+        version: VERSION,
+        worker,
+    };
     match encode(alloc, &hello) {
         Ok(text) => write_whole(sink, text.as_slice()),
         Err(_) => Err(ServeFault::Memory),

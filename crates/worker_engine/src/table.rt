@@ -15,7 +15,7 @@ use link_key::Link;
 use std::alloc::{AllocError, Allocator};
 use std::marker::Model;
 
-// So many labels share a note: what is kept for them fills a line of the processor's cache.
+// So many labels share a note: what is kept for them fills two lines of the processor's cache.
 pub(crate) const BLOCK: usize = 8;
 
 // What is kept for each label, and for each block of labels whether one of them was touched. Contracts see what is kept.
