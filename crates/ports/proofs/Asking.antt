@@ -1,9 +1,9 @@
 -- What was said and heard so far, ask by ask, and what a faithful line answers.
-use Rattle.std.proofs.Common.{◌≡◌, ◌≢◌, ℕ, ◌<◌, List, [], ◌∷◌, ◌++◌, length, drop, Some, refl, sym, ap, subst, ◌∙◌, append_assoc, append-nil, ⊎_elim, inl, inr, arith, eq-eqb, ne_eqb}
-use Rattle.std.specs.Prelude.{◌+◌, Option, None, Bool, true, false, ◌||◌, if◌then◌else◌, map}
+use Rattle.std.proofs.Common.{◌≡◌, ◌≢◌, ℕ, ◌<◌, List, [], ◌∷◌, ◌++◌, length, drop, Some, refl, sym, ap, subst, ◌∙◌, append_assoc, append-nil, ⊎_elim, inl, inr, arith, eq-eqb, ne_eqb, le-leb}
+use Rattle.std.specs.Prelude.{◌+◌, ◌≤◌, nat_le, cond, Option, None, IfSome, MatchOption, Bool, true, false, ◌||◌, if◌then◌else◌, map}
 use Rattle.std.proofs.lemmas.Bool.{cases_eq}
 use Rattle.std.proofs.lemmas.List.{map-append, length-map}
-use Rattle.std.proofs.lemmas.List.Elements.{All-nil, All-cons, All-append, Contains-append_left, Contains-append_right}
+use Rattle.std.proofs.lemmas.List.Elements.{All-nil, All-cons, All-head, All-tail, All-append, Contains-append_left, Contains-append_right}
 use Rattle.std.specs.List.{All}
 use Rattle.byte_streams.proofs.Streaming.{appends-told}
 use Rattle.limits.specs.declared.TheConstants.{MAX_WORKERS}
@@ -12,20 +12,21 @@ use Rattle.link_key.specs.Link.{EndsUpTo}
 use Rattle.link_key.specs.Cut.{links_at}
 use Rattle.frames.specs.AnswerValue.{AnswerValue}
 use Rattle.frames.specs.FrameValue.{FrameValue, HelloFrame, ShardFrame, AskFrame, AnswerFrame, FaultFrame}
-use Rattle.frames.specs.FrameText.{text_of}
-use Rattle.frames.specs.Lawful.{IsLawful, IsShard, IsAsk}
+use Rattle.frames.specs.FrameText.{version_of, text_of}
+use Rattle.frames.specs.Lawful.{IsVersion, IsLawful, IsShard, IsAsk}
 use Rattle.frames.specs.FrameStream.{texts_of, AreLawful}
-use Rattle.worker_engine.specs.Serving.{Shelf, empty_shelf, shelf_with, shelf_after, MayReply, AreReplies, asks_in}
+use Rattle.worker_engine.specs.Serving.{Shelf, empty_shelf, shelf_with, shelf_after, MayReply, AreReplies, heard_by, asks_in}
 use Rattle.frames.proofs.FrameStreams.{texts-append, lawful-append, lawful_back, prefix_of_frames, only_frames_of_texts}
 use Rattle.worker_engine.proofs.Replying.{asks-append, shelf_after-append, last_reply, served_lawful}
 use Rattle.ports.specs.declared.fault.PortFault.{PortFault}
-use Rattle.ports.specs.declared.fault.PortFault.TheVariants.{Down, Garbled, WrongHello, Gave, Memory, Closed}
+use Rattle.ports.specs.declared.fault.PortFault.TheVariants.{Down, Garbled, WrongHello, Gave, Memory, TooOld, Closed}
 use Rattle.shard_set.specs.Shards.{has_shard}
 use Rattle.ports.specs.Lines.{LineState, Transfers, ServesSoFar}
 use Rattle.ports.specs.Causes.{IsNoReply, Receives, Cause, IsBlameless}
 use Rattle.ports.specs.Ports.{IsHonestAnswer}
 use Rattle.ports.specs.Exchanges.{Exchange, exchange_of, IsAskedIn, answers_of}
-use Rattle.ports.specs.Talking.{Talk, TalkState, told_talk, hello_due, shard_due, frames_put, Brings, AnswersOverLine, frames_got, HasGiven, IsOfCut, times_sent, asks_among, FollowTheirShards, MatchesLine}
+use Rattle.ports.specs.Talking.{Talk, TalkState, HelloCame, HasFrames, told_talk, hello_due, shard_due, frames_put, Brings, AnswersOverLine, frames_got, HasGiven, IsOfCut, times_sent, asks_among, FollowTheirShards, MatchesLine}
+use Rattle.std.proofs.lemmas.List.Sums.{take_while-cons}
 use Rattle.ports.proofs.Going.{then_came}
 use Rattle.ports.proofs.Refused.{bad_never}
 
@@ -127,43 +128,66 @@ shelf_put false shelf shard s links round labels = refl
 -- ---- what was got
 
 -- behind what was got before, the hello comes before any other bytes
-got_more : (greeted : Bool) (worker : ℕ) (answers : List AnswerValue) (bytes : List ℕ) → (greeted ≡ false → answers ≡ [])
-    → texts_of (frames_got greeted worker answers) ++ (hello_due greeted worker ++ bytes) ≡ texts_of (HelloFrame 1 worker ∷ map AnswerFrame answers) ++ bytes
-got_more true worker answers bytes silent = refl
-got_more false worker answers bytes silent =
-    ap (λ (t : List ℕ). t ++ bytes) (sym (append-nil (text_of (HelloFrame 1 worker))))
-    ∙ ap (λ (as' : List AnswerValue). texts_of (HelloFrame 1 worker ∷ map AnswerFrame as') ++ bytes) (sym (silent refl))
+got_more : (told : Option ℕ) (version worker : ℕ) (answers : List AnswerValue) (bytes : List ℕ) → ((v : ℕ) → told ≡ Some v → v ≡ version) → (told ≡ None → answers ≡ [])
+    → texts_of (frames_got told worker answers) ++ (hello_due told version worker ++ bytes) ≡ texts_of (HelloFrame version worker ∷ map AnswerFrame answers) ++ bytes
+got_more (Some v) version worker answers bytes stays silent = ap (λ (w : ℕ). texts_of (HelloFrame w worker ∷ map AnswerFrame answers) ++ bytes) (stays v refl)
+got_more None version worker answers bytes stays silent =
+    ap (λ (t : List ℕ). t ++ bytes) (sym (append-nil (text_of (HelloFrame version worker))))
+    ∙ ap (λ (as' : List AnswerValue). texts_of (HelloFrame version worker ∷ map AnswerFrame as') ++ bytes) (sym (silent refl))
 
 answers_more : (answers : List AnswerValue) (a : AnswerValue) → map AnswerFrame (answers ++ a ∷ []) ≡ map AnswerFrame answers ++ AnswerFrame a ∷ []
 answers_more answers a = map-append AnswerFrame answers (a ∷ [])
 
-got_answer : (worker : ℕ) (answers : List AnswerValue) (a : AnswerValue)
-    → texts_of (HelloFrame 1 worker ∷ map AnswerFrame answers) ++ text_of (AnswerFrame a) ≡ texts_of (frames_got true worker (answers ++ a ∷ []))
-got_answer worker answers a =
-    ap (λ (t : List ℕ). texts_of (HelloFrame 1 worker ∷ map AnswerFrame answers) ++ t) (sym (append-nil (text_of (AnswerFrame a))))
-    ∙ sym (texts-append (HelloFrame 1 worker ∷ map AnswerFrame answers) (AnswerFrame a ∷ []))
-    ∙ ap (λ (fs : List FrameValue). texts_of (HelloFrame 1 worker ∷ fs)) (sym (answers_more answers a))
+got_answer : (version worker : ℕ) (answers : List AnswerValue) (a : AnswerValue)
+    → texts_of (HelloFrame version worker ∷ map AnswerFrame answers) ++ text_of (AnswerFrame a) ≡ texts_of (frames_got (Some version) worker (answers ++ a ∷ []))
+got_answer version worker answers a =
+    ap (λ (t : List ℕ). texts_of (HelloFrame version worker ∷ map AnswerFrame answers) ++ t) (sym (append-nil (text_of (AnswerFrame a))))
+    ∙ sym (texts-append (HelloFrame version worker ∷ map AnswerFrame answers) (AnswerFrame a ∷ []))
+    ∙ ap (λ (fs : List FrameValue). texts_of (HelloFrame version worker ∷ fs)) (sym (answers_more answers a))
+
+-- ---- what the worker's version has
+
+-- what was put before is of this version too: before the hello nothing was
+had_before : (told : Option ℕ) (version : ℕ) (said : List FrameValue) → ((v : ℕ) → told ≡ Some v → v ≡ version) → MatchOption told (said ≡ []) (λ v. HasFrames v said) → HasFrames version said
+had_before None version said stays none = subst (HasFrames version) (sym none) (All-nil (λ (v : FrameValue). version_of v ≤ version))
+had_before (Some v) version said stays has = subst (λ (w : ℕ). HasFrames w said) (stays v refl) has
+
+-- a version that has all frames hears all
+all_heard : (version : ℕ) (frames : List FrameValue) → HasFrames version frames → heard_by version frames ≡ frames
+all_heard version [] has = refl
+all_heard version (v ∷ frames) has =
+    let fits : FrameValue → Type 0 = λ v. version_of v ≤ version in
+    take_while-cons (λ (f : FrameValue). nat_le (version_of f) version) v frames
+    ∙ ap (λ (b : Bool). cond b (v ∷ heard_by version frames) []) (le-leb (version_of v) version (All-head fits v frames has))
+    ∙ ap (λ (fs : List FrameValue). v ∷ fs) (all_heard version frames (All-tail fits v frames has))
 
 -- what an ask brought, and what it put before that
-pub all_brought : {L : Type 0} (state : L → LineState) (round shard : ℕ) (labels bytes : List ℕ) (old new : TalkState L) → Brings state round shard labels bytes old new
-    → Transfers 0 0 (texts_of (frames_put (told_talk state old) round shard labels)) (hello_due old.greeted old.worker ++ bytes) (state old.line) (state new.line)
-all_brought state round shard labels bytes old new brought = then_came (state old.line) (state brought.0) (state new.line) _ _ bytes brought.1 brought.2
+pub all_brought : {L : Type 0} (state : L → LineState) (round shard : ℕ) (labels bytes : List ℕ) (old new : TalkState L) (brought : Brings state round shard labels bytes old new)
+    → Transfers 0 0 (texts_of (frames_put (told_talk state old) round shard labels)) (hello_due old.version brought.version old.worker ++ bytes) (state old.line) (state new.line)
+all_brought state round shard labels bytes old new brought = then_came (state old.line) (state brought.asked) (state new.line) _ _ bytes brought.sends.went brought.came
 
 -- ---- an ask that was answered
 
 module _ {L : Type 0} (state : L → LineState) (round shard : ℕ) (labels : List ℕ) (a : AnswerValue) (old new : TalkState L) (asked : AnswersOverLine state round shard labels a old new) where
-  brought : Transfers 0 0 (texts_of (frames_put (told_talk state old) round shard labels)) (hello_due old.greeted old.worker ++ text_of (AnswerFrame a)) (state old.line) (state new.line)
+  abbrev version : ℕ
+  version = asked.brought.version
+
+  greeted : HelloCame version old.version new.version
+  greeted = asked.brought.greeted
+
+  brought : Transfers 0 0 (texts_of (frames_put (told_talk state old) round shard labels)) (hello_due old.version version old.worker ++ text_of (AnswerFrame a)) (state old.line) (state new.line)
   brought = all_brought state round shard labels (text_of (AnswerFrame a)) old new asked.brought
 
   -- the answer is added at the end of those given
   pub gave_more : (answers : List AnswerValue) → HasGiven (told_talk state old) answers → HasGiven (told_talk state new) (answers ++ a ∷ [])
   gave_more answers given =
-      let got : (state new.line).got ≡ Some (texts_of (frames_got true old.worker (answers ++ a ∷ []))) =
+      let got : (state new.line).got ≡ Some (texts_of (frames_got (Some version) old.worker (answers ++ a ∷ []))) =
       appends-told (state old.line).got (state new.line).got _ _ given.got (brought.got refl)
-      ∙ ap (λ t. Some t) (got_more old.greeted old.worker answers (text_of (AnswerFrame a)) given.silent ∙ got_answer old.worker answers a) in
+      ∙ ap (λ t. Some t) (got_more old.version version old.worker answers (text_of (AnswerFrame a)) greeted.stays given.silent ∙ got_answer version old.worker answers a) in
       record {
-        got = got ∙ ap (λ w. Some (texts_of (frames_got true w (answers ++ a ∷ [])))) (sym asked.worker) ∙ ap (λ g. Some (texts_of (frames_got g new.worker (answers ++ a ∷ [])))) (sym asked.greeted);
+        got = got ∙ ap (λ w. Some (texts_of (frames_got (Some version) w (answers ++ a ∷ [])))) (sym asked.worker) ∙ ap (λ (told : Option ℕ). Some (texts_of (frames_got told new.worker (answers ++ a ∷ [])))) (sym greeted.told);
         lawful = subst AreLawful (sym (answers_more answers a)) (lawful-append (map AnswerFrame answers) (AnswerFrame a ∷ []) given.lawful (asked.lawful, tt));
+        known = subst (λ (told : Option ℕ). IfSome told IsVersion) (sym greeted.told) greeted.known;
         silent = λ e. cc;
       }
 
@@ -241,11 +265,16 @@ module _ {L : Type 0} (state : L → LineState) (round shard : ℕ) (labels : Li
                 ∙ (ap (λ (fs : List FrameValue). fs ++ AskFrame round shard labels ∷ []) step.asked
                 ∙ sym (map-append (λ (e : Exchange). AskFrame e.round e.shard e.labels) exchanges (exchange_of round shard labels a ∷ []))));
             first = follows-append empty_shelf said more step.first (follows_put (has_shard old.sent shard) (shelf_after empty_shelf said) shard (links_at old.cut shard) round labels (step.shelves shard in_cut));
+            has = subst (λ (told : Option ℕ). MatchOption told (said ++ more ≡ []) (λ v. HasFrames v (said ++ more))) (sym greeted.told)
+                (All-append (λ (v : FrameValue). version_of v ≤ version) said more (had_before old.version version said greeted.stays step.has) asked.brought.sends.has);
             gave = exchanged_more exchanges step.gave;
             shelves = subst (λ (k : List (List Link)). (s : ℕ) → s < length k → shelf_after empty_shelf (said ++ more) s ≡ (if has_shard new.sent s then Some (links_at k s) else None)) (sym asked.cut) shelves_step;
           }
 
 -- ---- what a faithful line answers
+
+same_version : (v w worker : ℕ) (fs gs : List FrameValue) → HelloFrame v worker ∷ fs ≡ HelloFrame w worker ∷ gs → v ≡ w
+same_version v w worker fs gs same = cc
 
 module _ {L : Type 0} (state : L → LineState) (round shard : ℕ) (labels : List ℕ) (old new : TalkState L) (said : List FrameValue) (exchanges : List Exchange) (step : MatchesLine (told_talk state old) said exchanges) (below : old.worker < MAX_WORKERS)
     (faithful : ServesSoFar old.worker (state new.line)) where
@@ -255,8 +284,8 @@ module _ {L : Type 0} (state : L → LineState) (round shard : ℕ) (labels : Li
   abbrev after : Talk
   after = told_talk state new
 
-  version : IsLawful (HelloFrame 1 before.worker)
-  version = record { version = refl; worker = below }
+  hello_is : (version : ℕ) → IsVersion version → IsLawful (HelloFrame version before.worker)
+  hello_is version known = record { version = known; worker = below }
 
   -- what came behind the hello and the answers before begins the texts of the replies that are left
   record Left (bytes : List ℕ) : Type 0 where
@@ -270,34 +299,38 @@ module _ {L : Type 0} (state : L → LineState) (round shard : ℕ) (labels : Li
   left_of bytes lawful asked =
       let brought = all_brought state round shard labels bytes old new asked in
       let more : List FrameValue = frames_put before round shard labels in
-      let hello : List FrameValue = HelloFrame 1 before.worker ∷ map AnswerFrame (answers_of exchanges) in
+      let version : ℕ = asked.version in
+      let hello : List FrameValue = HelloFrame version before.worker ∷ map AnswerFrame (answers_of exchanges) in
       let sent_is : after.line.sent ≡ Some (texts_of (said ++ more)) =
       appends-told before.line.sent after.line.sent (texts_of said) (texts_of more) step.sent (brought.sent refl) ∙ ap (λ t. Some t) (sym (texts-append said more)) in
       let got_is : after.line.got ≡ Some (texts_of hello ++ bytes) =
-      appends-told before.line.got after.line.got _ _ step.gave.got (brought.got refl) ∙ ap (λ t. Some t) (got_more before.greeted before.worker (answers_of exchanges) bytes step.gave.silent) in
-      let (rest, serves) = faithful (omega (arith, brought.failures, step.calm)) (texts_of (said ++ more)) (texts_of hello ++ bytes) sent_is got_is in
-      let lawful_replies : AreLawful serves.replies = served_lawful before.worker (texts_of (said ++ more)) ((texts_of hello ++ bytes) ++ rest) serves in
-      let frames : serves.frames ≡ said ++ more = only_frames_of_texts (said ++ more) serves.frames (lawful-append said more step.lawful lawful) serves.heard in
-      let whole : texts_of hello ++ (bytes ++ rest) ≡ texts_of (HelloFrame 1 before.worker ∷ serves.replies) = sym (append_assoc (texts_of hello) bytes rest) ∙ serves.written in
-      let (left, is, texts) = prefix_of_frames hello (HelloFrame 1 before.worker ∷ serves.replies) (bytes ++ rest) (version, step.gave.lawful) (version, lawful_replies) whole in
+      appends-told before.line.got after.line.got _ _ step.gave.got (brought.got refl) ∙ ap (λ t. Some t) (got_more before.version version before.worker (answers_of exchanges) bytes asked.greeted.stays step.gave.silent) in
+      let (served, rest, serves) = faithful (omega (arith, brought.failures, step.calm)) (texts_of (said ++ more)) (texts_of hello ++ bytes) sent_is got_is in
+      let lawful_replies : AreLawful serves.replies = served_lawful served before.worker (texts_of (said ++ more)) ((texts_of hello ++ bytes) ++ rest) serves in
+      let frames : serves.frames ≡ said ++ more = only_frames_of_texts (said ++ more) serves.frames (lawful-append said more step.lawful lawful) serves.came in
+      let whole : texts_of hello ++ (bytes ++ rest) ≡ texts_of (HelloFrame served before.worker ∷ serves.replies) = sym (append_assoc (texts_of hello) bytes rest) ∙ serves.written in
+      let (left, is, texts) = prefix_of_frames hello (HelloFrame served before.worker ∷ serves.replies) (bytes ++ rest) (hello_is version asked.greeted.known, step.gave.lawful) (hello_is served serves.known, lawful_replies) whole in
+      let same : served ≡ version = same_version served version before.worker serves.replies (map AnswerFrame (answers_of exchanges) ++ left) is in
+      let had : HasFrames version (said ++ more) = All-append (λ (v : FrameValue). version_of v ≤ version) said more (had_before before.version version said asked.greeted.stays step.has) asked.sends.has in
+      let heard : heard_by served serves.frames ≡ said ++ more = ap (λ (v : ℕ). heard_by v serves.frames) same ∙ ap (heard_by version) frames ∙ all_heard version (said ++ more) had in
       let replies : serves.replies ≡ map AnswerFrame (answers_of exchanges) ++ left = ap (drop 1) is in
       record {
         left = left;
         rest = rest;
         texts = texts;
         lawful = lawful_back (map AnswerFrame (answers_of exchanges)) left (subst AreLawful replies lawful_replies);
-        replies = subst (λ (fs : List FrameValue). AreReplies empty_shelf fs (map AnswerFrame (answers_of exchanges) ++ left)) frames (subst (AreReplies empty_shelf serves.frames) replies serves.answered);
+        replies = subst (λ (fs : List FrameValue). AreReplies empty_shelf fs (map AnswerFrame (answers_of exchanges) ++ left)) heard (subst (AreReplies empty_shelf (heard_by served serves.frames)) replies serves.answered);
       }
 
   -- what came first begins with the hello
-  first_of : (bytes : List ℕ) → before.greeted ≡ false → Receives bytes before.line after.line
-      → (rest : List ℕ) × (replies : List FrameValue) × (bytes ++ rest ≡ texts_of (HelloFrame 1 before.worker ∷ replies)) × AreLawful replies
+  first_of : (bytes : List ℕ) → before.version ≡ None → Receives bytes before.line after.line
+      → (version : ℕ) × (rest : List ℕ) × (replies : List FrameValue) × (bytes ++ rest ≡ texts_of (HelloFrame version before.worker ∷ replies)) × AreLawful (HelloFrame version before.worker ∷ replies)
   first_of bytes quiet came =
       let none : before.line.got ≡ Some [] = step.gave.got ∙ ap (λ b. Some (texts_of (frames_got b before.worker (answers_of exchanges)))) quiet in
       let sent_is : after.line.sent ≡ Some (texts_of said ++ []) = appends-told before.line.sent after.line.sent (texts_of said) [] step.sent (came.sent refl) in
       let got_is : after.line.got ≡ Some bytes = appends-told before.line.got after.line.got [] bytes none (came.got refl) in
-      let (rest, serves) = faithful (omega (arith, came.failures, step.calm)) (texts_of said ++ []) bytes sent_is got_is in
-      (rest, serves.replies, serves.written, served_lawful before.worker (texts_of said ++ []) (bytes ++ rest) serves)
+      let (served, rest, serves) = faithful (omega (arith, came.failures, step.calm)) (texts_of said ++ []) bytes sent_is got_is in
+      (served, rest, serves.replies, serves.written, (hello_is served serves.known, served_lawful served before.worker (texts_of said ++ []) (bytes ++ rest) serves))
 
   module _ (in_cut : shard < length before.cut) (is : IsShard shard (links_at before.cut shard)) (ask : IsAsk round shard labels) where
     -- a frame that came in place of a reply is the worker's reply to this ask
@@ -336,12 +369,13 @@ module _ {L : Type 0} (state : L → LineState) (round shard : ℕ) (labels : Li
     pub blameless : (fault : PortFault) → EndsUpTo (length labels) (links_at before.cut shard) → Cause state fault round shard labels old new → IsBlameless fault
     blameless Down ends cause = tt
     blameless Memory ends cause = tt
+    blameless TooOld ends cause = tt
     blameless Closed ends cause = tt
     blameless Garbled ends cause = elim cause [
       | inl first ↦
           let (bytes, bad, came) = first.1 in
-          let (rest, replies, same, lawful) = first_of bytes first.0 came in
-          bad_never bytes rest (HelloFrame 1 before.worker ∷ replies) bad (version, lawful) same
+          let (served, rest, replies, same, lawful) = first_of bytes first.0 came in
+          bad_never bytes rest (HelloFrame served before.worker ∷ replies) bad lawful same
       | inr later ↦ elim (later.1) [
         | inl bad ↦
             let left = left_of later.0 (put_lawful round shard labels before is ask) later.2 in
@@ -352,9 +386,9 @@ module _ {L : Type 0} (state : L → LineState) (round shard : ℕ) (labels : Li
     ]
     blameless WrongHello ends cause =
         let (v, lawful, other, came) = cause.1 in
-        let (rest, replies, same, all_lawful) = first_of (text_of v) cause.0 came in
-        let (hs, one, texts) = prefix_of_frames (v ∷ []) (HelloFrame 1 before.worker ∷ replies) rest (lawful, tt) (version, all_lawful) (ap (λ (t : List ℕ). t ++ rest) (append-nil (text_of v)) ∙ same) in
-        other cc
+        let (served, rest, replies, same, all_lawful) = first_of (text_of v) cause.0 came in
+        let (hs, one, texts) = prefix_of_frames (v ∷ []) (HelloFrame served before.worker ∷ replies) rest (lawful, tt) all_lawful (ap (λ (t : List ℕ). t ++ rest) (append-nil (text_of v)) ∙ same) in
+        other served cc
     blameless (Gave code) ends cause =
         elim (reply_of (FaultFrame cause.0 cause.1 code) cause.2 cause.3) [
           | inl reply ↦ absurd (reply.1 ends)

@@ -5,6 +5,7 @@ use Rattle.ports.specs.EngineLines.{EngineLineState, IsEngineLine, Extends}
 use Rattle.std.specs.Prelude.{Bool, true, false, Result, Ok, Err, IfOk, OnOk}
 use Rattle.frames.specs.FrameValue.{HelloFrame}
 use Rattle.frames.specs.FrameText.{text_of}
+use Rattle.frames.specs.declared.frame.TheConstants.{VERSION}
 use Rattle.worker_engine.proofs.Sessions.{session_starts}
 use Rattle.frames.specs.Refusals.{StreamRefused}
 use Rattle.frames.specs.declared.fault.FrameFault.{FrameFault}
@@ -48,7 +49,7 @@ pub taken_stays : (taken : ℕ) (a b : List ℕ) → taken ≤ length a → Exte
 taken_stays taken a b within grew = ap (take taken) grew.1 ∙ take-append-le taken a grew.0 within
 
 -- an engine that keeps nothing, before a byte came
-pub engine_line_starts : (worker : ℕ) (s : EngineLineState) → s.kept ≡ [] → s.input ≡ [] → s.written ≡ text_of (HelloFrame 1 worker) → s.heard ≡ 0 → s.over ≡ false → IsEngineLine worker s
+pub engine_line_starts : (worker : ℕ) (s : EngineLineState) → s.kept ≡ [] → s.input ≡ [] → s.written ≡ text_of (HelloFrame VERSION worker) → s.heard ≡ 0 → s.over ≡ false → IsEngineLine worker s
 engine_line_starts worker s kept none hello heard over = record {
   session = λ calm. rw (kept, none, hello, heard) (session_starts worker);
   all = λ calm. rw (none, heard) none_begins_none;

@@ -12,7 +12,7 @@ use Rattle.frames.specs.FrameValue.{FrameValue, HelloFrame, ShardFrame, AskFrame
 use Rattle.frames.specs.FrameText.{text_of}
 use Rattle.frames.specs.Lawful.{IsShard, IsAsk}
 use Rattle.ports.specs.declared.fault.PortFault.{PortFault}
-use Rattle.ports.specs.declared.fault.PortFault.TheVariants.{Down, Garbled, WrongHello, Gave, Memory, Closed}
+use Rattle.ports.specs.declared.fault.PortFault.TheVariants.{Down, Garbled, WrongHello, Gave, Memory, TooOld, Closed}
 use Rattle.shard_set.specs.Shards.{has_shard}
 use Rattle.ports.specs.Lines.{LineState, IsFresh, TellsBytes, Counted, ServesSoFar}
 use Rattle.ports.specs.Ports.{IsHonestAnswer, failure_of, want_of}
@@ -27,7 +27,7 @@ told_none None tells none = cc
 told_none (Some bytes) tells none = ap (λ t. Some t) none
 
 -- a talk that said nothing yet, over a fresh line that tells its bytes
-pub fresh_step : (talk : Talk) → IsFresh talk.line → TellsBytes talk.line → talk.greeted ≡ false → ((s : ℕ) → has_shard talk.sent s ≡ false) → MatchesLine talk [] []
+pub fresh_step : (talk : Talk) → IsFresh talk.line → TellsBytes talk.line → talk.version ≡ None → ((s : ℕ) → has_shard talk.sent s ≡ false) → MatchesLine talk [] []
 fresh_step talk fresh tells quiet none = record {
   calm = fresh.failures;
   sent = told_none talk.line.sent tells.sent fresh.sent;
@@ -37,7 +37,8 @@ fresh_step talk fresh tells quiet none = record {
   needed = λ s there. absurd (let nothing = none s in cc);
   asked = refl;
   first = tt;
-  gave = record { got = rw quiet (told_none talk.line.got tells.got fresh.got); lawful = tt; silent = λ e. refl };
+  gave = record { got = rw quiet (told_none talk.line.got tells.got fresh.got); lawful = tt; known = rw quiet tt; silent = λ e. refl };
+  has = rw quiet refl;
   shelves = λ s within. sym (ap (λ b. if b then Some (links_at talk.cut s) else None) (none s));
 }
 
@@ -68,18 +69,18 @@ down_counted before after down = elim down [
 
 module _ {L : Type 0} (state : L → LineState) (round shard : ℕ) (labels : List ℕ) (before after : TalkState L) where
   brought_counted : (bytes : List ℕ) → Brings state round shard labels bytes before after → Counted 0 0 (state before.line) (state after.line)
-  brought_counted bytes brought = (let first = brought.1 in let behind = brought.2 in (omega (arith, first.failures, behind.failures), omega (arith, first.ends, behind.ends)))
+  brought_counted bytes brought = (let first = brought.sends.went in let behind = brought.came in (omega (arith, first.failures, behind.failures), omega (arith, first.ends, behind.ends)))
 
   pub answer_counted : (a : AnswerValue) → AnswersOverLine state round shard labels a before after → Counted 0 0 (state before.line) (state after.line)
   answer_counted a asked = brought_counted (text_of (AnswerFrame a)) asked.brought
 
   ended_counted : (bytes : List ℕ) → EndsAfterAsk state round shard labels bytes before after → Counted 0 1 (state before.line) (state after.line)
-  ended_counted bytes ended = (let first = ended.1 in let behind = ended.2 in (omega (arith, first.failures, behind.failures), omega (arith, first.ends, behind.ends)))
+  ended_counted bytes ended = (let first = ended.sends.went in let behind = ended.came in (omega (arith, first.failures, behind.failures), omega (arith, first.ends, behind.ends)))
 
   wanting_counted : IsWanting state round shard labels before after → Counted 0 0 (state before.line) (state after.line)
   wanting_counted (IsWanting.InHello none) = (let went = none.1.2 in (went.failures, went.ends))
-  wanting_counted (IsWanting.InShard unsent put) = (put.failures, put.ends)
-  wanting_counted (IsWanting.InAsk put) = (put.failures, put.ends)
+  wanting_counted (IsWanting.InShard unsent put) = (put.1.went.failures, put.1.went.ends)
+  wanting_counted (IsWanting.InAsk put) = (put.1.went.failures, put.1.went.ends)
   wanting_counted (IsWanting.InReply bytes none brought) = brought_counted bytes brought
 
   -- each cause of a fault has its counts
@@ -98,6 +99,7 @@ module _ {L : Type 0} (state : L → LineState) (round shard : ℕ) (labels : Li
   cause_counted WrongHello cause = (let went = cause.1.3 in (went.failures, went.ends))
   cause_counted (Gave code) cause = brought_counted _ cause.3
   cause_counted Memory cause = wanting_counted cause
+  cause_counted TooOld cause = (cause.sends.went.failures, cause.sends.went.ends)
   cause_counted Closed cause = cause
 
 module _ {L : Type 0} (state : L → LineState) (old new : WireState L) (start : LineState) (live : old.is_open ≡ true) where
@@ -129,6 +131,7 @@ module _ {L : Type 0} (state : L → LineState) (old new : WireState L) (start :
       fault_since WrongHello first behind = quiet_first 0 0 start (state old.talk.line) (state new.talk.line) first behind
       fault_since (Gave code) first behind = quiet_first 0 0 start (state old.talk.line) (state new.talk.line) first behind
       fault_since Memory first behind = quiet_first 0 0 start (state old.talk.line) (state new.talk.line) first behind
+      fault_since TooOld first behind = quiet_first 0 0 start (state old.talk.line) (state new.talk.line) first behind
       fault_since Closed first behind = behind
 
 module _ {L : Type 0} (state : L → LineState) where
@@ -145,7 +148,7 @@ module _ {L : Type 0} (state : L → LineState) where
 
 module _ {L : Type 0} (state : L → LineState) where
   -- a wire that asked nothing yet, over a fresh line that tells its bytes
-  pub fresh_calm : (wire : WireState L) (ends : ℕ) → IsFresh (state wire.talk.line) → TellsBytes (state wire.talk.line) → (state wire.talk.line).ends ≡ ends → wire.talk.greeted ≡ false → ((s : ℕ) → has_shard wire.talk.sent s ≡ false)
+  pub fresh_calm : (wire : WireState L) (ends : ℕ) → IsFresh (state wire.talk.line) → TellsBytes (state wire.talk.line) → (state wire.talk.line).ends ≡ ends → wire.talk.version ≡ None → ((s : ℕ) → has_shard wire.talk.sent s ≡ false)
       → wire.asks ≡ 0 → wire.failures ≡ 0 → wire.wants ≡ 0 → wire.last ≡ (0, 0) → IsFaultless state ends wire [] []
   fresh_calm wire ends fresh tells ends_are quiet none asks failures wants last = record {
     in_step = fresh_step (told_talk state wire.talk) fresh tells quiet none;

@@ -9,7 +9,7 @@ use crate::fault::LineFault;
 use crate::line::Line;
 use crate::memory::give;
 use crate::session::Session;
-use frames::{Frame, encode};
+use frames::{Frame, VERSION, encode};
 use limits::MAX_WORKERS;
 use std::alloc::{AllocError, Allocator};
 use std::marker::Model;
@@ -58,7 +58,13 @@ impl<A: Allocator + Copy> EngineLine<A> {
         ensures fresh { IfOk result (λ s. IsFresh (line_of s)) }
         ensures no_end { IfOk result (λ s. s.ends ≡ 0) }
     {
-        let out = encode(alloc, &Frame::<A>::Hello { version: 1, worker })?;
+        let out = encode(
+            alloc,
+            &Frame::<A>::Hello {
+                version: VERSION,
+                worker,
+            },
+        )?;
         Ok(EngineLine {
             session: Session {
                 alloc,

@@ -1,49 +1,54 @@
 //! The steps of an ask over a line: hear the hello, send the shard, send the ask, hear the answer.
-ghost use Rattle.std.specs.Prelude.{◌≡◌, ℕ, ◌<◌, ◌≤◌, ◌==◌, ◌||◌, Bool, [], length, IfOk, OnOk, IfErr};
+ghost use Rattle.std.specs.Prelude.{◌≡◌, ℕ, ◌<◌, ◌≤◌, ◌==◌, ◌||◌, [], length, Some, None, IfSome, IfOk, OnOk, IfErr};
 ghost use Rattle.frames.specs.FrameValue.{AskFrame, AnswerFrame, value_of};
 ghost use Rattle.frames.specs.FrameText.{text_of};
-ghost use Rattle.frames.specs.Lawful.{IsAnswer, IsLawful};
+ghost use Rattle.frames.specs.Lawful.{IsVersion, IsAnswer, IsLawful};
 ghost use Rattle.frames.specs.FrameStream.{texts_of};
 ghost use Rattle.shard_set.specs.Shards.{has_shard};
 ghost use Rattle.ports.specs.Lines.{HasRoom, Transfers};
-ghost use Rattle.ports.specs.Causes.{Receives, GreetingFault, SendingFault, AnswerFault, FailsToRead, port_fault};
-ghost use Rattle.ports.specs.Talking.{hello_due, shard_due};
+ghost use Rattle.ports.specs.Causes.{Receives, GreetingFault, SendingFault, LacksFrame, AnswerFault, FailsToRead, port_fault};
+ghost use Rattle.ports.specs.Talking.{HasFrames, hello_due, shard_due};
 
 use crate::fault::PortFault;
 use crate::heard::Heard;
 use crate::line::Line;
-use frames::{Answer, Frame, FrameFault, encode_ask_over, encode_shard, read_frame};
+use frames::{
+    Answer, Frame, FrameFault, VERSION, encode_ask_over, encode_shard, fit_32_bits, read_frame,
+};
 use limits::{MAX_SHARD_LINKS, MAX_SHARDS};
 use link_key::{Labels, Shard};
 use shard_set::ShardSet;
 use std::alloc::Allocator;
 
-// Hears the hello of the worker, unless it came before.
+// The version that the worker's hello told; hears the hello, unless it came before.
 pub fn greet<L: Line, A: Allocator + Copy>(
     alloc: A,
     heard: &mut Heard<L>,
-    greeted: bool,
+    told: Option<u16>,
     worker: u32,
-) -> Result<(), PortFault>
-    requires { HasRoom (L.state heard.old.line) }
-    ensures went { OnOk result
-        (Receives (hello_due greeted worker) (L.state heard.old.line) (L.state heard.new.line)) }
-    ensures fault { IfErr result (λ e. (greeted ≡ Bool.false)
+) -> Result<u16, PortFault>
+    requires room { HasRoom (L.state heard.old.line) }
+    requires known { IfSome told IsVersion }
+    ensures went { IfOk result (λ version.
+        Receives (hello_due told version worker) (L.state heard.old.line) (L.state heard.new.line)) }
+    ensures known { IfOk result (λ version. IsVersion version) }
+    ensures stays { IfOk result (λ version. (v : ℕ) → told ≡ Some v → v ≡ version) }
+    ensures fault { IfErr result (λ e. (told ≡ None)
         × GreetingFault e worker (L.state heard.old.line) (L.state heard.new.line)) }
     ensures faithful { (w : ℕ) → L.faithful heard.old.line w → L.faithful heard.new.line w }
 {
-    if greeted {
-        return Ok(());
+    if let Some(version) = told {
+        return Ok(version);
     }
     match hear(alloc, heard) {
         Ok(
             Frame::Hello {
-                version: _,
+                version,
                 worker: number,
             },
         ) => {
             if number == worker {
-                Ok(())
+                Ok(version)
             } else {
                 Err(PortFault::WrongHello)
             }
@@ -51,6 +56,19 @@ pub fn greet<L: Line, A: Allocator + Copy>(
         Ok(_) => Err(PortFault::WrongHello),
         Err(fault) => Err(fault_of(fault)),
     }
+}
+
+// Whether a worker of this version has a frame for the shard, unless it was sent before.
+pub fn check_version(version: u16, sent: &ShardSet, part: &Shard) -> Result<(), PortFault>
+    requires { IsVersion version }
+    ensures has { OnOk result (HasFrames version
+        (shard_due (has_shard sent.now part.now.number) part.now.number part.now.links.now)) }
+    ensures fault { IfErr result (λ e. LacksFrame e version (has_shard sent.now part.now.number) part.now.links.now) }
+{
+    if version == VERSION || sent.has(part.number) || fit_32_bits(part.links) {
+        return Ok(());
+    }
+    Err(PortFault::TooOld)
 }
 
 // Sends the shard, unless it was sent before.

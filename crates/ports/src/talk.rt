@@ -9,32 +9,36 @@ ghost use Rattle.ports.specs.Talking.{AnswersOverLine};
 use crate::fault::PortFault;
 use crate::heard::Heard;
 use crate::line::Line;
-use crate::steps::{greet, hear_answer, send_ask, send_shard};
+use crate::steps::{check_version, greet, hear_answer, send_ask, send_shard};
 use frames::Answer;
 use link_key::{Cut, Labels};
 use shard_set::ShardSet;
 use std::alloc::Allocator;
 use std::marker::Model;
 
-/// A talk with a worker over a line that it owns: the cut whose shards are asked, whether the hello came,
-/// which shards were sent, a bit each, and the text of the last ask, whose labels the next one may have too.
+/// A talk with a worker over a line that it owns: the cut whose shards are asked, the version that its hello told, once it
+/// came, which shards were sent, a bit each, and the text of the last ask, whose labels the next one may have too.
 #[derive(Drop)]
 pub struct Talk<'a, L, A: Allocator> {
     pub alloc: A,
     pub heard: Heard<L>,
     pub cut: &'a Cut<'a, A>,
     pub worker: u32,
-    pub greeted: bool,
+    pub version: Option<u16>,
     pub sent: ShardSet,
     pub text: Vec<u8, A>,
 }
 
 impl<'a, L, A: Allocator> Model for Talk<'a, L, A> {
+    ghost use Rattle.std.specs.Prelude.{IfSome};
+    ghost use Rattle.frames.specs.Lawful.{IsVersion};
     ghost use Rattle.ports.specs.Talking.{TalkState};
 
     ghost Value = { TalkState L };
 
-    ghost view = { λ s. record { line = s.heard.line; cut = s.cut.now; worker = s.worker; greeted = s.greeted; sent = s.sent } };
+    ghost view = { λ s. record { line = s.heard.line; cut = s.cut.now; worker = s.worker; version = s.version; sent = s.sent } };
+
+    ghost invariant = { λ s. IfSome s.version IsVersion };
 }
 
 impl<'a, L: Line, A: Allocator + Copy> Talk<'a, L, A> {
@@ -62,8 +66,9 @@ impl<'a, L: Line, A: Allocator + Copy> Talk<'a, L, A> {
         let _labels = labels.as_slice();
         let _few = self.cut.len();
         let part = self.cut.shard(shard);
-        greet(self.alloc, &mut self.heard, self.greeted, self.worker)?;
-        self.greeted = true;
+        let version = greet(self.alloc, &mut self.heard, self.version, self.worker)?;
+        self.version = Some(version);
+        check_version(version, &self.sent, &part)?;
         send_shard(self.alloc, &mut self.heard, &mut self.sent, &part)?;
         send_ask(&mut self.heard, &mut self.text, round, shard, labels)?;
         hear_answer(self.alloc, &mut self.heard)

@@ -71,7 +71,7 @@ impl<'a, L: Line, A: Allocator + Copy> Wire<'a, L, A> {
                 heard: Heard { line },
                 cut,
                 worker,
-                greeted: false,
+                version: None,
                 sent: ShardSet::empty(),
                 text: Vec::new(alloc),
             },
@@ -198,7 +198,11 @@ fn failure_of(fault: PortFault) -> u64
 {
     match fault {
         PortFault::Memory | PortFault::Closed => 0,
-        PortFault::Down | PortFault::Garbled | PortFault::WrongHello | PortFault::Gave(_) => 1,
+        PortFault::Down
+        | PortFault::Garbled
+        | PortFault::WrongHello
+        | PortFault::Gave(_)
+        | PortFault::TooOld => 1,
     }
 }
 
