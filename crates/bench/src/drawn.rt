@@ -33,7 +33,7 @@ pub(crate) fn drawn_links(alloc: Global, count: u32, vertices: u32) -> Result<Ve
         let head = (state >> 33) as u32 % vertices + 1;
         state = next(state);
         let weight = (state >> 48) as u16;
-        if let Some(link) = Link::of_arc(tail, head, weight as i32) {
+        if let Some(link) = Link::of_arc(tail, head, i64::from(weight)) {
             links.push(link)?;
         }
     }

@@ -20,7 +20,7 @@ pub(crate) fn read(alloc: Global, text: &[u8]) -> Result<Vec<Link>, AllocError> 
                 number = 0;
             }
             b'\n' => {
-                if let Some(link) = link_of(ends.0, ends.1, number.cast_signed()) {
+                if let Some(link) = link_of(ends.0, ends.1, i64::from(number.cast_signed())) {
                     links.push(link)?;
                 }
                 number = 0;
@@ -35,22 +35,22 @@ pub(crate) fn read(alloc: Global, text: &[u8]) -> Result<Vec<Link>, AllocError> 
 }
 
 // The link of an arc; none for a loop, or where an end is no vertex.
-pub(crate) fn link_of(u: u32, v: u32, weight: i32) -> Option<Link> {
+pub(crate) fn link_of(u: u32, v: u32, weight: i64) -> Option<Link> {
     if u < 1 || u > 1 << 26 || v < 1 || v > 1 << 26 {
         return None;
     }
     Link::of_arc(u, v, weight)
 }
 
-// The forest's links as arcs: their keys as numbers of 64 bits, sorted by std, and joined by union-find.
+// The forest's links as arcs, of weights of 32 bits: their keys as numbers of 64 bits, sorted by std, and joined by union-find.
 pub(crate) fn solve(
     alloc: Global,
     n: u32,
     links: &[Link],
-) -> Result<Vec<(u32, u32, i32)>, AllocError> {
+) -> Result<Vec<(u32, u32, i64)>, AllocError> {
     let mut keys = Vec::with_capacity(alloc, links.len())?;
     for link in links {
-        let weight = link.weight.wrapping_sub(i32::MIN).cast_unsigned();
+        let weight = (link.weight as i32).wrapping_sub(i32::MIN).cast_unsigned();
         let ends = u64::from(link.low - 1).wrapping_shl(DISTANCE_BITS)
             | u64::from(link.high - link.low - 1);
         keys.push(u64::from(weight).wrapping_shl(LOW_BITS + DISTANCE_BITS) | ends)?;
@@ -63,7 +63,8 @@ pub(crate) fn solve(
         let high = (*key % (1 << DISTANCE_BITS)) as u32 + 1 + low;
         let weight = (key.wrapping_shr(LOW_BITS + DISTANCE_BITS) % (1 << 32)) as u32;
         if is_joined(parents.as_mut_slice(), low, high) {
-            taken.push((low, high, weight.cast_signed().wrapping_add(i32::MIN)))?;
+            let weight = weight.cast_signed().wrapping_add(i32::MIN);
+            taken.push((low, high, i64::from(weight)))?;
         }
     }
     Ok(taken)

@@ -104,8 +104,8 @@ fn hub_links(alloc: Global) -> Result<Vec<Link>, AllocError> {
             .wrapping_add(hub)
             .wrapping_add(1);
         let weight = match number {
-            0 => i32::MIN,
-            1 => i32::MAX,
+            0 => -0x8000_0000,
+            1 => 0x7fff_ffff,
             _ => 0,
         };
         if let Some(link) = link_of(hub, leaf, weight) {

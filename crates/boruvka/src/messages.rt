@@ -47,8 +47,8 @@ fn push_total(line: &mut ArrayString<LINE_ROOM>, total: i128)
     line.push_str(digits.format(total));
 }
 
-// Appends a weight, which has at most eleven characters.
-fn push_weight(line: &mut ArrayString<LINE_ROOM>, weight: i32)
+// Appends a weight, which has at most twenty characters.
+fn push_weight(line: &mut ArrayString<LINE_ROOM>, weight: i64)
     requires { array_string_len line.old + 40 ≤ LINE_ROOM }
     ensures text { line.new.bytes ≡ line.old.bytes ++ signed_decimal weight }
     ensures short { array_string_len line.new ≤ array_string_len line.old + 40 }

@@ -10,7 +10,7 @@ use Rattle.round_core.specs.Page.{Page, refusal, is_taken, LightOffersAreTaken}
 use Rattle.round_core.specs.declared.refusals.Refusal.{Refusal}
 use Rattle.ports.specs.declared.port.Port as Port
 use Rattle.ports.specs.declared.fault.PortFault.{PortFault}
-use Rattle.ports.specs.declared.fault.PortFault.TheVariants.{Down, Garbled, WrongHello, Gave, Memory, Closed}
+use Rattle.ports.specs.declared.fault.PortFault.TheVariants.{Down, Garbled, WrongHello, Gave, Memory, TooOld, Closed}
 use Rattle.ports.specs.Ports.{CountsAsks, AnswersAsk, IsHonestAnswer}
 use Rattle.ports.specs.Exchanges.{Exchange, exchange_of}
 use Rattle.forest_run.specs.Lanes.{count_if}
@@ -153,6 +153,7 @@ module _ {P A : Type 0} (port : Port.Ghosts P A) (page : Page) (a : P) (round sh
   -- there is no answer
   pub failed_one : (b : P) (fault : PortFault) → AnswersAsk {T = AnswerValue} (Err fault) round shard (port.state a) (port.state b) → (port.honest a → port.honest b)
       → ((ends : ℕ) (others : List Exchange) → port.sound a ends others → port.sound b ends others) → AnswersAsks port (TakesExchange page) (ClosesPort page) a b []
+  failed_one b TooOld went stays sounds = closed_one b 1 0 refl went.2 went.3 went.1 stays sounds
   failed_one b Closed went stays sounds = absurd (let e = went.0 in cc)
   failed_one b Memory went stays sounds = closed_one b 0 1 refl went.2 went.3 went.1 stays sounds
   failed_one b Down went stays sounds = closed_one b 1 0 refl went.2 went.3 went.1 stays sounds
