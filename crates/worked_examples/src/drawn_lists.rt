@@ -57,7 +57,7 @@ fn drawn_arcs(
     seed: u64,
     n: u32,
     count: u32,
-    weights: &[i32; 5],
+    weights: &[i64; 5],
 ) -> Result<Vec<Row>, AllocError>
     requires some { 0 < n }
     requires few { n ≤ 2 ^ 26 }
@@ -104,7 +104,7 @@ pub(crate) fn expect_one_forest(
 }
 
 // The same of 300 drawn lists of sixty arcs with these weights.
-fn expect_forests(rt: &impl Abort, alloc: Global, weights: &[i32; 5]) -> Result<(), Fail> {
+fn expect_forests(rt: &impl Abort, alloc: Global, weights: &[i64; 5]) -> Result<(), Fail> {
     for seed in 0..300u32 {
         let n = seed % 39 + 2;
         let arcs = drawn_arcs(alloc, u64::from(seed), n, 60, weights)?;
@@ -123,7 +123,12 @@ fn drawn_lists_of_extreme_weights(rt: HostRuntime) -> Result<(), Fail> {
     expect_forests(
         &rt,
         rt.alloc(),
-        &[i32::MIN, i32::MIN + 1, 0, i32::MAX - 1, i32::MAX],
+        &[-0x8000_0000, -0x7fff_ffff, 0, 0x7fff_fffe, 0x7fff_ffff],
+    )?;
+    expect_forests(
+        &rt,
+        rt.alloc(),
+        &[i64::MIN, i64::MIN + 1, 0, i64::MAX - 1, i64::MAX],
     )
 }
 

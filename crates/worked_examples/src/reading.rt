@@ -73,7 +73,22 @@ fn tells_what_is_wrong_with_an_arc_line(rt: HostRuntime) {
         ),
         (b"p sp 2 1\na 0 2 5".as_slice(), 2, GrKind::EndOutOfRange),
         (
-            b"p sp 2 1\na 1 2 2147483648".as_slice(),
+            b"p sp 2 1\na 1 2 9223372036854775808".as_slice(),
+            2,
+            GrKind::WeightOutOfRange,
+        ),
+        (
+            b"p sp 2 1\na 1 2 -9223372036854775809\n".as_slice(),
+            2,
+            GrKind::WeightOutOfRange,
+        ),
+        (
+            b"p sp 2 1\na 1 2 18446744073709551617\n".as_slice(),
+            2,
+            GrKind::WeightOutOfRange,
+        ),
+        (
+            b"p sp 2 1\na 1 2 -340282366920938463463374607431768211457\n".as_slice(),
             2,
             GrKind::WeightOutOfRange,
         ),
@@ -87,12 +102,15 @@ fn tells_what_is_wrong_with_an_arc_line(rt: HostRuntime) {
 
 #[test]
 fn reads_weights_loops_and_repeats(rt: HostRuntime) {
-    let text = b"p sp 2 5\na 1 2 -2147483648\na 1 1 5\na 2 1 2147483647\na 2 1 -0\na 1 2 0";
+    let text =
+        b"p sp 2 7\na 1 2 -9223372036854775808\na 1 1 5\na 2 1 9223372036854775807\na 2 1 2147483648\na 2 1 -00000000002147483649\na 2 1 -0\na 1 2 0";
     let graph = parse(rt.alloc(), text).ok().expect(&rt, "a graph");
     assert_eq!(rt; graph.n(), 2);
     let rows = [
-        (1, 2, -2147483648),
-        (1, 2, 2147483647),
+        (1, 2, -9223372036854775808),
+        (1, 2, 9223372036854775807),
+        (1, 2, 2147483648),
+        (1, 2, -2147483649),
         (1, 2, 0),
         (1, 2, 0),
     ];

@@ -28,7 +28,7 @@ const MOST: u32 = 1 << 26;
 // Adds the arcs of a path from vertex 1 to n, each as heavy as its first vertex: in key order, and each one in the forest.
 fn put_path(arcs: &mut Vec<Row>, n: u32) -> Result<(), AllocError> {
     for v in 1..n {
-        arcs.push((v, v.wrapping_add(1), v.cast_signed()))?;
+        arcs.push((v, v.wrapping_add(1), i64::from(v)))?;
     }
     Ok(())
 }
@@ -92,11 +92,11 @@ fn forests_of_paths(rt: HostRuntime) -> Result<(), Fail> {
 fn forests_of_links_with_long_keys(rt: HostRuntime) -> Result<(), Fail> {
     for n in SIZES {
         let mut wanted = Vec::new(rt.alloc());
-        wanted.push((1, LAST, i32::MIN))?;
-        wanted.push((LAST - 1, LAST, -i32::MAX))?;
+        wanted.push((1, LAST, i64::MIN))?;
+        wanted.push((LAST - 1, LAST, -i64::MAX))?;
         put_path(&mut wanted, n)?;
         let mut arcs = wanted.clone()?;
-        arcs.push((1, LAST, i32::MAX))?;
+        arcs.push((1, LAST, i64::MAX))?;
         expect_links(&rt, rt.alloc(), LAST, arcs.as_slice(), wanted.as_slice())?;
     }
     Ok(())
@@ -110,7 +110,7 @@ fn halving_path(alloc: Global, rounds: u32) -> Result<Vec<Row>, AllocError> {
         let step = 1u32.wrapping_shl(weight);
         let mut v = step;
         for _ in 0..1u32.wrapping_shl(rounds.wrapping_sub(weight).wrapping_sub(1)) {
-            arcs.push((v, v.wrapping_add(1), weight.cast_signed()))?;
+            arcs.push((v, v.wrapping_add(1), i64::from(weight)))?;
             v = v.wrapping_add(step).wrapping_add(step);
         }
     }

@@ -19,11 +19,11 @@ fn totals_of_the_worked_graphs(rt: HostRuntime) -> Result<(), Fail> {
 fn a_total_of_many_links(rt: HostRuntime) -> Result<(), Fail> {
     let mut links = Vec::new(rt.alloc());
     for v in 1..100_001u32 {
-        if let Some(link) = Link::of_arc(v, v + 1, i32::MIN) {
+        if let Some(link) = Link::of_arc(v, v + 1, i64::MIN) {
             links.push(link)?;
         }
     }
     let forest = Forest::of_list(links).expect(&rt, "ascending");
-    assert_eq!(rt; forest.total(), -214_748_364_800_000);
+    assert_eq!(rt; forest.total(), -922_337_203_685_477_580_800_000);
     Ok(())
 }

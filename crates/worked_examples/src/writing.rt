@@ -62,10 +62,12 @@ fn expect_text(rt: &impl Abort, alloc: Global, n: u32, forest: &Forest, text: &[
 #[test]
 fn writes_small_forests(rt: HostRuntime) -> Result<(), Fail> {
     let signs = [
+        (7, 8, -9223372036854775808),
         (5, 6, -2147483648),
         (1, 2, -3),
         (3, 4, 0),
         (67108863, 67108864, 2147483647),
+        (67108862, 67108864, 9223372036854775807),
     ];
     let rows = [
         (0, [].as_slice(), b"p sp 0 0\n".as_slice()),
@@ -73,7 +75,7 @@ fn writes_small_forests(rt: HostRuntime) -> Result<(), Fail> {
         (
             67108864,
             signs.as_slice(),
-            b"p sp 67108864 4\na 5 6 -2147483648\na 1 2 -3\na 3 4 0\na 67108863 67108864 2147483647\n".as_slice(),
+            b"p sp 67108864 6\na 7 8 -9223372036854775808\na 5 6 -2147483648\na 1 2 -3\na 3 4 0\na 67108863 67108864 2147483647\na 67108862 67108864 9223372036854775807\n".as_slice(),
         ),
     ];
     for (n, links, text) in rows {

@@ -11,7 +11,7 @@ use std::process::Abort;
 use test_memory::{Refusals, Refusing};
 use worked_graphs::EQUAL_WEIGHTS;
 
-pub(crate) const HELLO: [u8; 11] = [1, 0, 0, 0, 6, 0, 1, 0, 0, 0, 0];
+pub(crate) const HELLO: [u8; 11] = [1, 0, 0, 0, 6, 0, 2, 0, 0, 0, 0];
 
 // The triangle of equal weights as shard 0.
 pub(crate) const SHARD: [u8; 49] = [

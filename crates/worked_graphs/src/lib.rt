@@ -16,7 +16,7 @@ use link_key::{Cut, Link};
 use std::alloc::{AllocError, Allocator};
 
 /// An arc, or a link: two ends and a weight.
-pub type Row = (u32, u32, i32);
+pub type Row = (u32, u32, i64);
 
 /// A graph with its forest.
 #[derive(Clone, Copy)]

@@ -5,7 +5,7 @@ ghost use Rattle.ports.specs.EngineLines.{line_of};
 ghost use Rattle.ports.specs.Lines.{HasRoom};
 ghost use Rattle.ports.specs.Testing.{with_stops};
 
-use crate::runs::run_of_worked;
+use crate::runs::{run_of, run_of_worked};
 use forest_run::Cutting;
 use ports::{EngineLine, Line, LineFault};
 use std::alloc::Global;
@@ -159,5 +159,80 @@ fn nine_lines_that_wait_for_all(rt: HostRuntime) -> Result<(), Fail> {
     let lines = nine_gates(alloc, &asked)?;
     let counts = run_of_worked(&rt, alloc, &SMALL_NET, Cutting::Even(18), lines);
     assert_eq!(rt; counts, [2, 18, 54, 54, 0, 0]);
+    Ok(())
+}
+
+/// A line to a worker in memory, which tells the first version in its hello where it is an old one. Another waits, before
+/// its first byte, until the old one's hello was asked for. It tells no bytes, since it changes one.
+#[derive(Drop)]
+struct Versioned<'a> {
+    line: EngineLine<Global>,
+    greeted: &'a AtomicU64,
+    is_old: bool,
+    got: usize,
+}
+
+// The place of the version's second byte in a stream that begins with a hello.
+const VERSION_AT: usize = 6;
+
+impl<'a> Line for Versioned<'a> {
+    ghost use Rattle.std.specs.Prelude.{None};
+
+    ghost state = { λ s. record { sent = None; got = None; failures = (line_of s.line).failures; ends = (line_of s.line).ends } };
+
+    ghost faithful = { λ _ _. ⊥ };
+
+    fn put(&mut self, bytes: &[u8]) -> Result<(), LineFault> {
+        self.line.put(bytes)
+    }
+
+    fn get(&mut self, into: &mut [u8]) -> Result<usize, LineFault> {
+        if !self.is_old {
+            reaches(self.greeted, 1);
+            return self.line.get(into);
+        }
+        self.greeted.fetch_add(1, SeqCst);
+        let count = self.line.get(into)?;
+        if self.got <= VERSION_AT {
+            if let Some(version) = into[..count].get_mut(VERSION_AT.wrapping_sub(self.got)) {
+                *version = 1;
+            }
+            self.got = self.got.wrapping_add(count);
+        }
+        Ok(count)
+    }
+
+    ghost serves = { λ _ _ faithful. absurd faithful };
+}
+
+// The first worker has the first version, and the first of two shards a weight past 32 bits: the worker is closed, and the
+// forest is that of the file.
+#[test]
+fn workers_of_two_versions(rt: HostRuntime) -> Result<(), Fail> {
+    let alloc = rt.alloc();
+    let greeted = AtomicU64::new(0);
+    let old = Versioned {
+        line: EngineLine::new(alloc, 0)?,
+        greeted: &greeted,
+        is_old: true,
+        got: 0,
+    };
+    let new = Versioned {
+        line: EngineLine::new(alloc, 1)?,
+        greeted: &greeted,
+        is_old: false,
+        got: 0,
+    };
+    let lines = Vec::from_array(alloc, [old, new])?;
+    let counts = run_of(
+        &rt,
+        alloc,
+        b"p sp 3 2\na 1 2 2147483648\na 2 3 5\n",
+        Cutting::Even(2),
+        lines,
+        b"p sp 3 2\na 2 3 5\na 1 2 2147483648\n",
+        (3, 2, 2147483653),
+    );
+    assert_eq!(rt; (counts[0], counts[5]), (1, 1));
     Ok(())
 }

@@ -91,3 +91,34 @@ fn answers_past_the_bound(rt: HostRuntime) -> Result<(), Fail> {
     assert_eq!(rt; fault, Some(RunFault::Rounds { round: 2 }));
     Ok(())
 }
+
+// A worker of the first version, which has no frame for a weight past 32 bits: it is closed before the shard is sent, and
+// the coordinator scans alone; with another shard, which fits, it answers that one first.
+#[test]
+fn a_worker_of_the_first_version(rt: HostRuntime) -> Result<(), Fail> {
+    let text = b"p sp 2 1\na 1 2 2147483648\n";
+    let lines = script(rt.alloc(), &[])?;
+    let counts = run_of(
+        &rt,
+        rt.alloc(),
+        text,
+        Cutting::Even(1),
+        lines,
+        text,
+        (2, 1, 2147483648),
+    );
+    assert_eq!(rt; counts, [1, 1, 1, 0, 2, 1]);
+    let text = b"p sp 3 2\na 1 2 5\na 2 3 2147483648\n";
+    let lines = script(rt.alloc(), &[&[28, 1, 0, 2, 1, 0, 2, 0]])?;
+    let counts = run_of(
+        &rt,
+        rt.alloc(),
+        text,
+        Cutting::Even(2),
+        lines,
+        text,
+        (3, 2, 2147483653),
+    );
+    assert_eq!(rt; counts, [1, 2, 2, 1, 3, 1]);
+    Ok(())
+}

@@ -12,7 +12,20 @@ use std::test::Fail;
 use std::thread::Threads;
 use worker_engine::{Engine, ServeFault, Served, serve, serve_upto};
 
-const HELLO: [u8; 11] = [1, 0, 0, 0, 6, 0, 1, 0, 0, 0, 0];
+// What a worker of the first version says, and one of this version.
+const FIRST_HELLO: [u8; 11] = [1, 0, 0, 0, 6, 0, 1, 0, 0, 0, 0];
+
+const HELLO: [u8; 11] = [1, 0, 0, 0, 6, 0, 2, 0, 0, 0, 0];
+
+// Shard 0 with the link of 1 and 2 of weight 2^31, and its answer to the short ask.
+const SHARD64: [u8; 29] = [
+    6, 0, 0, 0, 24, 0, 0, 0, 0, 0, 0, 0, 1, 0, 0, 0, 1, 0, 0, 0, 2, 0, 0, 0, 0, 128, 0, 0, 0,
+];
+
+const SHORT_ANSWER: [u8; 33] = [
+    4, 0, 0, 0, 28, 0, 0, 0, 1, 0, 0, 0, 0, 0, 0, 0, 2, 0, 0, 0, 1, 0, 0, 0, 0, 0, 0, 0, 2, 0, 0,
+    0, 0,
+];
 
 const SHARD: [u8; 49] = [
     2, 0, 0, 0, 44, 0, 0, 0, 0, 0, 0, 0, 3, 0, 0, 0, 1, 0, 0, 0, 2, 0, 0, 0, 5, 0, 0, 0, 2, 0, 0,
@@ -107,12 +120,21 @@ fn expect_session(
 #[test]
 fn sessions_over_the_triangle(rt: HostRuntime) -> Result<(), Fail> {
     let torn = Err(ServeFault::Read(FrameFault::Torn));
-    let sessions: [(&[&[u8]], Result<Served, ServeFault>, &[&[u8]]); 7] = [
+    let sessions: [(&[&[u8]], Result<Served, ServeFault>, &[&[u8]]); 8] = [
         (&[&SHARD, &ASK], served(2, 1, 0), &[&HELLO, &ANSWER]),
         (&[&SHARD, &ASK[..10]], torn, &[&HELLO]),
         (&[&ASK], served(1, 0, 1), &[&HELLO, &NOT_HELD]),
         (&[&SHARD, &SHORT_ASK], served(2, 0, 1), &[&HELLO, &NO_LABEL]),
-        (&[&HELLO, &SHARD, &ASK], served(3, 1, 0), &[&HELLO, &ANSWER]),
+        (
+            &[&FIRST_HELLO, &SHARD, &ASK],
+            served(3, 1, 0),
+            &[&HELLO, &ANSWER],
+        ),
+        (
+            &[&SHARD64, &SHORT_ASK],
+            served(2, 1, 0),
+            &[&HELLO, &SHORT_ANSWER],
+        ),
         (
             &[&SHARD, &ASK, &ANOTHER_SHARD, &ASK, &SHARD, &SHARD, &ASK],
             served(7, 3, 0),
@@ -184,7 +206,7 @@ fn an_engine_hears_each_kind_of_frame(rt: HostRuntime) -> Result<(), Fail> {
         (&SHARD, None),
         (&ASK, Some(&ANSWER)),
         (&SHORT_ASK, Some(&NO_LABEL)),
-        (&HELLO, None),
+        (&FIRST_HELLO, None),
         (&ANSWER, None),
         (&NOT_HELD, None),
         (&ASK, Some(&ANSWER)),

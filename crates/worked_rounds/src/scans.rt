@@ -155,7 +155,7 @@ pub(crate) fn many_links(rt: &impl Abort, alloc: Global) -> Result<Vec<Link>, Al
         let tail = j.wrapping_mul(7919) % MANY + 1;
         let head = j.wrapping_mul(j) % 9973 + 1;
         let weight = j.wrapping_mul(31) % 17;
-        arcs.push((tail, head, weight.cast_signed().wrapping_sub(8)))?;
+        arcs.push((tail, head, i64::from(weight) - 8))?;
     }
     Ok(links_of(alloc, MANY, arcs.as_slice())?.expect(rt, "arcs"))
 }
@@ -181,7 +181,7 @@ fn near_links(rt: &impl Abort, alloc: Global) -> Result<Vec<Link>, AllocError> {
     for i in 0..NEAR_LINKS {
         let low = i % 1000 + 1;
         let weight = i.wrapping_mul(7919) % 101;
-        arcs.push((low, low + i % 7 + 1, weight.cast_signed()))?;
+        arcs.push((low, low + i % 7 + 1, i64::from(weight)))?;
     }
     Ok(links_of(alloc, NEAR, arcs.as_slice())?.expect(rt, "arcs"))
 }

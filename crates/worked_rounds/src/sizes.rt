@@ -53,7 +53,7 @@ pub(crate) fn falling<A: Allocator>(
     let mut links = Vec::with_capacity(alloc, to.saturating_sub(from) as usize)?;
     for i in from..to {
         let low = i % path + 1;
-        let weight = i.cast_signed().wrapping_neg();
+        let weight = -i64::from(i);
         if let Some(link) = Link::of_arc(low, low + 1, weight) {
             links.push(link)?;
         }

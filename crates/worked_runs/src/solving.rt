@@ -210,7 +210,7 @@ fn doubling_path(alloc: Global) -> Result<Vec<Row>, AllocError> {
     for weight in 0..16u32 {
         for pair in 0..32_768u32 >> weight {
             let v = pair.wrapping_mul(2).wrapping_add(1).wrapping_shl(weight);
-            arcs.push((v, v.wrapping_add(1), weight.cast_signed()))?;
+            arcs.push((v, v.wrapping_add(1), i64::from(weight)))?;
         }
     }
     Ok(arcs)

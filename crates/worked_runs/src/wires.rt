@@ -30,7 +30,7 @@ const HELLO: [u8; 11] = [1, 0, 0, 0, 6, 0, 1, 0, 0, 0, 0];
 const NOT_HELD: [u8; 14] = [5, 0, 0, 0, 9, 0, 0, 0, 1, 0, 0, 0, 5, 2];
 
 // A head of no kind.
-const NO_KIND: [u8; 5] = [6, 0, 0, 0, 0];
+const NO_KIND: [u8; 5] = [7, 0, 0, 0, 0];
 
 // The triangle's offers, where each vertex is a component by itself.
 const OFFERS: Reply = Ok(&[(1, 0), (2, 0), (3, 2)]);
@@ -210,6 +210,41 @@ fn a_script_in_place_of_a_worker(rt: HostRuntime) -> Result<(), Fail> {
     Ok(())
 }
 
+// The offers of two shards: of the link of 1 and 2, and of that of 2 and 3, whose weight is past 32 bits.
+const NARROW: Reply = Ok(&[(1, 0), (2, 0)]);
+
+const WIDE: Reply = Ok(&[(2, 0), (3, 0)]);
+
+// Both shards to a worker of the first version, which answers the one that fits 32 bits, and to an engine. Once a shard
+// needs the second version, a wire over the first is closed, before or behind an answer.
+#[test]
+fn shards_of_64_bits(rt: HostRuntime) -> Result<(), Fail> {
+    let alloc = rt.alloc();
+    let graph: (u32, &[Row], u32) = (3, &[(1, 2, 5), (2, 3, 2147483648)], 2);
+    const TOO_OLD: Reply = Err(PortFault::TooOld);
+    let answer = [
+        4, 0, 0, 0, 28, 0, 0, 0, 1, 0, 0, 0, 0, 0, 0, 0, 2, 0, 0, 0, 1, 0, 0, 0, 0, 0, 0, 0, 2, 0,
+        0, 0, 0,
+    ];
+    let steps = [
+        Step::Ask(1, 0, NARROW),
+        Step::Ask(1, 1, TOO_OLD),
+        Step::Ask(1, 0, CLOSED),
+    ];
+    let line = ScriptLine::new(script(alloc, &[&HELLO, &answer])?);
+    expect_steps(&rt, alloc, graph, line, 0, &steps, 2)?;
+    let line = ScriptLine::new(script(alloc, &[&HELLO, &answer])?);
+    expect_steps(&rt, alloc, graph, line, 0, &steps[1..], 1)?;
+    let line = EngineLine::new(alloc, 0)?;
+    let steps = [
+        Step::Ask(1, 0, NARROW),
+        Step::Ask(1, 1, WIDE),
+        Step::Ask(2, 1, WIDE),
+    ];
+    expect_steps(&rt, alloc, graph, line, 0, &steps, 3)?;
+    Ok(())
+}
+
 /// An engine's line that remembers how long each of its first eight puts was.
 #[derive(Drop)]
 struct Listening {
@@ -276,7 +311,7 @@ fn a_wire_at_ten_thousand_links(rt: HostRuntime) -> Result<(), Fail> {
     offers.push((1, 0))?;
     for i in 0..MANY {
         let low = i.wrapping_add(1);
-        arcs.push((low, low.wrapping_add(1), low.cast_signed()))?;
+        arcs.push((low, low.wrapping_add(1), i64::from(low)))?;
         offers.push((low.wrapping_add(1), i))?;
     }
     let reply: Reply = Ok(offers.as_slice());
@@ -331,11 +366,13 @@ const ASKED: [u8; 50] = [
 fn a_session_that_is_over(rt: HostRuntime) -> Result<(), Fail> {
     let alloc = rt.alloc();
     // A hello of seven bytes, one of another version, and the first three bytes of a frame, which may go on.
-    let sessions: [(&[u8], usize); 6] = [
+    let sessions: [(&[u8], usize); 8] = [
         (&[], 33),
         (&NO_KIND, 0),
         (&[1, 0, 0, 0, 7], 0),
-        (&[1, 0, 0, 0, 6, 0, 2, 0, 0, 0, 0], 0),
+        (&[1, 0, 0, 0, 6, 0, 3, 0, 0, 0, 0], 0),
+        (&[1, 0, 0, 0, 6, 0, 2, 0, 0, 0, 0], 33),
+        (&[6, 0, 0, 0, 0], 0),
         (&[2, 0, 0], 0),
         (&HELLO, 33),
     ];
@@ -360,6 +397,7 @@ fn what_faults_are_told_as(rt: HostRuntime) -> Result<(), Fail> {
         (PortFault::Gave(2), "worker gave code 2"),
         (PortFault::Memory, "no memory"),
         (PortFault::Closed, "port is closed"),
+        (PortFault::TooOld, "worker is too old for 64-bit weights"),
     ];
     for (fault, text) in texts {
         let told = format!(in alloc; "{fault}")?;

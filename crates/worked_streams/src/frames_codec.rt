@@ -1,7 +1,7 @@
 // Frames and their bytes, and each refusal.
 use byte_streams::FusedSource;
 use frames::{
-    Answer, Frame, FrameFault, Head, Links, decode_body, decode_head, encode, encode_ask,
+    Answer, Frame, FrameFault, Head, Links, VERSION, decode_body, decode_head, encode, encode_ask,
     encode_ask_over, encode_shard, fault_bytes, read_frame, read_frame_after,
 };
 use link_key::{Labels, Link, Offers, Shard};
@@ -23,6 +23,11 @@ const ASK: [u8; 29] = [
 const ANSWER: [u8; 41] = [
     4, 0, 0, 0, 36, 0, 0, 0, 1, 0, 0, 0, 0, 0, 0, 0, 3, 0, 0, 0, 1, 0, 0, 0, 0, 0, 0, 0, 2, 0, 0,
     0, 0, 0, 0, 0, 3, 0, 0, 0, 2,
+];
+
+// Shard 0 with the link of 1 and 2 of weight 2^31.
+const SHARD64: [u8; 29] = [
+    6, 0, 0, 0, 24, 0, 0, 0, 0, 0, 0, 0, 1, 0, 0, 0, 1, 0, 0, 0, 2, 0, 0, 0, 0, 128, 0, 0, 0,
 ];
 
 const FAULT: [u8; 14] = [5, 0, 0, 0, 9, 0, 0, 0, 1, 0, 0, 0, 5, 2];
@@ -53,16 +58,21 @@ fn expect_text(rt: &impl Abort, alloc: Global, frame: &Frame, bytes: &[u8]) -> R
 }
 
 #[test]
-fn hello_of_worker_0(rt: HostRuntime) -> Result<(), Fail> {
-    let frame = Frame::Hello {
-        version: 1,
-        worker: 0,
-    };
-    expect_text(&rt, rt.alloc(), &frame, &HELLO)?;
-    match read_frame(rt.alloc(), &mut HELLO.as_slice())? {
-        Frame::Hello { version, worker } => assert_eq!(rt; (version, worker), (1, 0)),
-        _ => assert!(rt; false),
+fn hellos_of_worker_0(rt: HostRuntime) -> Result<(), Fail> {
+    for of in [1u16, 2] {
+        let frame = Frame::Hello {
+            version: of,
+            worker: 0,
+        };
+        let mut bytes = HELLO;
+        bytes[6] = of as u8;
+        expect_text(&rt, rt.alloc(), &frame, &bytes)?;
+        match read_frame(rt.alloc(), &mut bytes.as_slice())? {
+            Frame::Hello { version, worker } => assert_eq!(rt; (version, worker), (of, 0)),
+            _ => assert!(rt; false),
+        }
     }
+    assert_eq!(rt; VERSION, 2);
     Ok(())
 }
 
@@ -94,6 +104,74 @@ fn shard_of_a_triangle(rt: HostRuntime) -> Result<(), Fail> {
         links: Links::of_list(links),
     };
     expect_text(&rt, rt.alloc(), &frame, &SHARD)
+}
+
+// The one link of weights past 32 bits, at each end of them, and beside one that fits.
+#[test]
+fn shards_of_64_bits(rt: HostRuntime) -> Result<(), Fail> {
+    let rows: [(&[(u32, u32, i64)], &[u8]); 3] = [
+        (&[(1, 2, 2147483648)], &SHARD64),
+        (
+            &[(1, 2, -2147483649)],
+            &[
+                6, 0, 0, 0, 24, 0, 0, 0, 0, 0, 0, 0, 1, 0, 0, 0, 1, 0, 0, 0, 2, 255, 255, 255, 255,
+                127, 255, 255, 255,
+            ],
+        ),
+        (
+            &[(1, 2, -1), (2, 3, i64::MIN)],
+            &[
+                6, 0, 0, 0, 40, 0, 0, 0, 0, 0, 0, 0, 2, 0, 0, 0, 1, 0, 0, 0, 2, 255, 255, 255, 255,
+                255, 255, 255, 255, 0, 0, 0, 2, 0, 0, 0, 3, 128, 0, 0, 0, 0, 0, 0, 0,
+            ],
+        ),
+    ];
+    for (arcs, bytes) in rows {
+        let mut links = Vec::new(rt.alloc());
+        for &(tail, head, weight) in arcs {
+            assert!(rt; 1 <= tail && tail <= 3 && 1 <= head && head <= 3);
+            links.push(Link::of_arc(tail, head, weight).expect(&rt, "no loop"))?;
+        }
+        match read_frame(rt.alloc(), &mut &bytes[..])? {
+            Frame::Shard {
+                number,
+                links: read,
+            } => {
+                assert_eq!(rt; number, 0);
+                assert_eq!(rt; read.as_slice(), links.as_slice());
+            }
+            _ => assert!(rt; false),
+        }
+        let frame = Frame::Shard {
+            number: 0,
+            links: Links::of_list(links),
+        };
+        expect_text(&rt, rt.alloc(), &frame, bytes)?;
+    }
+    Ok(())
+}
+
+// The least and the greatest weight of 32 bits: a shard of them is one of version 1.
+#[test]
+fn shards_of_the_last_weights_of_32_bits(rt: HostRuntime) -> Result<(), Fail> {
+    let rows: [(i64, [u8; 4]); 2] = [
+        (-2147483648, [128, 0, 0, 0]),
+        (2147483647, [127, 255, 255, 255]),
+    ];
+    for (weight, end) in rows {
+        let mut bytes = [
+            2, 0, 0, 0, 20, 0, 0, 0, 0, 0, 0, 0, 1, 0, 0, 0, 1, 0, 0, 0, 2,
+        ]
+        .to_vec(rt.alloc())?;
+        bytes.extend_from_slice(&end)?;
+        let links = [Link::of_arc(1, 2, weight).expect(&rt, "no loop")].to_vec(rt.alloc())?;
+        let frame = Frame::Shard {
+            number: 0,
+            links: Links::of_list(links),
+        };
+        expect_text(&rt, rt.alloc(), &frame, bytes.as_slice())?;
+    }
+    Ok(())
 }
 
 #[test]
@@ -272,11 +350,22 @@ fn fields_that_are_refused(rt: HostRuntime) -> Result<(), Fail> {
         &rt,
         rt.alloc(),
         FrameFault::BadVersion,
-        &[(&HELLO, &[(6, 2)])],
+        &[
+            (&HELLO, &[(6, 3)]),
+            (&HELLO, &[(6, 0)]),
+            (&HELLO, &[(5, 1)]),
+        ],
     )?;
-    let rows: [(&[u8], &[(usize, u8)]); 17] = [
+    let rows: [(&[u8], &[(usize, u8)]); 22] = [
         (&HELLO, &[(10, 64)]),
         (&FAULT, &[(13, 4)]),
+        // Weights of 64 bits that all fit 32: 5, and the least and the greatest that do.
+        (&SHARD64, &[(25, 0), (28, 5)]),
+        (&SHARD64, &[(25, 127), (26, 255), (27, 255), (28, 255)]),
+        (&SHARD64, &[(21, 255), (22, 255), (23, 255), (24, 255)]),
+        // The rules of a shard.
+        (&SHARD64, &[(7, 16)]),
+        (&SHARD64, &[(12, 2)]),
         // There are 4,096 shards, numbered from 0.
         (&SHARD, &[(7, 16)]),
         (&ASK, &[(11, 16)]),
@@ -311,7 +400,11 @@ fn heads(rt: HostRuntime) {
         ([4, 16, 0, 0, 12], Ok(0x1000_000c)),
         ([5, 0, 0, 0, 9], Ok(9)),
         ([0, 0, 0, 0, 9], Err(FrameFault::BadKind)),
-        ([6, 0, 0, 0, 0], Err(FrameFault::BadKind)),
+        ([6, 16, 0, 0, 8], Ok(0x1000_0008)),
+        ([7, 0, 0, 0, 0], Err(FrameFault::BadKind)),
+        ([6, 0, 0, 0, 0], Err(FrameFault::BadLength)),
+        ([6, 0, 0, 0, 20], Err(FrameFault::BadLength)),
+        ([6, 16, 0, 0, 24], Err(FrameFault::BadLength)),
         ([1, 0, 0, 0, 7], Err(FrameFault::BadLength)),
         ([2, 12, 0, 0, 20], Err(FrameFault::BadLength)),
         ([3, 16, 0, 0, 16], Err(FrameFault::BadLength)),

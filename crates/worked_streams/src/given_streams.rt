@@ -59,7 +59,7 @@ fn frames_that_follow_each_other_are_read_one_by_one(rt: HostRuntime) -> Result<
 // Bytes that end, or a read that fails once so many were given, and what is told.
 #[test]
 fn each_fault_is_told_where_it_comes(rt: HostRuntime) -> Result<(), Fail> {
-    let rows: [(&[u8], usize, FrameFault); 20] = [
+    let rows: [(&[u8], usize, FrameFault); 21] = [
         // A stream that ends is torn but between frames.
         (&[], 100, FrameFault::Ended),
         (&HELLO[..3], 100, FrameFault::Torn),
@@ -77,13 +77,14 @@ fn each_fault_is_told_where_it_comes(rt: HostRuntime) -> Result<(), Fail> {
         (&HELLO, 9, FrameFault::Device),
         (&HELLO, 10, FrameFault::Device),
         // A bad head is told by its kind and then its length.
-        (&[6, 0, 0, 0, 6], 100, FrameFault::BadKind),
+        (&[7, 0, 0, 0, 6], 100, FrameFault::BadKind),
+        (&[6, 0, 0, 0, 6], 100, FrameFault::BadLength),
         (&[0, 0, 0, 0, 7], 100, FrameFault::BadKind),
         (&[1, 0, 0, 0, 7], 100, FrameFault::BadLength),
         (&[4, 0, 0, 0, 13], 100, FrameFault::BadLength),
         // A bad body by its version and then its fields.
         (
-            &[1, 0, 0, 0, 6, 0, 2, 0, 0, 0, 64],
+            &[1, 0, 0, 0, 6, 0, 3, 0, 0, 0, 64],
             100,
             FrameFault::BadVersion,
         ),

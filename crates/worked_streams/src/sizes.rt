@@ -59,7 +59,7 @@ fn path(rt: &impl Abort, alloc: Global, count: u32) -> Result<Vec<Link>, Fail> {
     let mut links = Vec::new(alloc);
     for before in 0..count {
         let weight = i32::MIN.wrapping_sub(before.cast_signed());
-        if let Some(link) = Link::of_arc(before + 1, before + 2, weight) {
+        if let Some(link) = Link::of_arc(before + 1, before + 2, i64::from(weight)) {
             links.push(link)?;
         }
     }
@@ -70,7 +70,7 @@ fn expect_shard(rt: &impl Abort, alloc: Global, number: u32, count: u32) -> Resu
     let links = path(rt, alloc, count)?;
     let mut numbers = Vec::from_slice(alloc, &[number, count])?;
     for link in &links {
-        numbers.extend_from_slice(&[link.low, link.high, link.weight.cast_unsigned()])?;
+        numbers.extend_from_slice(&[link.low, link.high, (link.weight as i32).cast_unsigned()])?;
     }
     let bytes = frame_bytes(rt, alloc, 2, numbers.as_slice())?;
     let shard = Shard {
