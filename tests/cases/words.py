@@ -43,9 +43,29 @@ def drawn_graphs(_room):
 
 
 @case
+def weights_of_64_bits(_room):
+    for seed, most in [(11, 2**31), (12, 2**33), (13, 2**63 - 1)]:
+        file, text = drawn_graph(seed, 700, 6000, most)
+        for words in [["--plain"], [], ["--workers", "3", "--shards", "5"], ["--workers", "0", "--shards", "3"]]:
+            status, output, errors = ran([*words, "--report"], file)
+            expect((status, output, b""), 0, text, b"")
+            Report(errors).expect_total(text)
+
+
+@case
+def the_first_weights_past_64_bits(_room):
+    for words in [["--plain"], []]:
+        for weight in [-(2**63), 2**63 - 1, 2**31, -(2**31) - 1]:
+            file = b"p sp 2 1\na 1 2 %d\n" % weight
+            expect(ran(words, file), 0, file, b"")
+        for weight in [-(2**63) - 1, 2**63, 2**64, 10**40]:
+            expect(ran(words, b"p sp 2 1\na 1 2 %d\n" % weight), 1, b"", b"boruvka: line 2: WeightOutOfRange\n")
+
+
+@case
 def the_total_of_a_million_links(_room):
     draw = random.Random(7)
-    weights = [draw.randint(-(2**31), 2**31 - 1) for _ in range(1_000_000)]
+    weights = [draw.randint(-(2**63), 2**63 - 1) for _ in range(1_000_000)]
     file = f"p sp 1000001 {len(weights)}\n" + "".join(f"a {v} {v + 1} {weight}\n" for v, weight in enumerate(weights, 1))
     for words in [["--plain"], ["--shards", "2"]]:
         status, output, errors = ran([*words, "--report"], file.encode())

@@ -58,6 +58,8 @@ WEIGHTS = {
     "few": lambda draw, at: draw.randint(-2, 2),
     "small": lambda draw, at: draw.randint(-50, 50),
     "any": lambda draw, at: draw.randint(LEAST_WEIGHT, MOST_WEIGHT),
+    "narrow": lambda draw, at: draw.randint(-(2**31), 2**31 - 1),
+    "about 32 bits": lambda draw, at: draw.choice([-(2**31) - 1, -(2**31), 0, 2**31 - 1, 2**31, 2**32]),
     "limits": lambda draw, at: draw.choice([LEAST_WEIGHT, LEAST_WEIGHT + 1, 0, MOST_WEIGHT - 1, MOST_WEIGHT]),
     "zeros": lambda draw, at: ((at + 1) & -(at + 1)).bit_length(),  # (of the place: on a ring the most rounds)
     "rising": lambda draw, at: at,
@@ -143,7 +145,7 @@ def spelled(draw, vertices, arcs):
 BYTES = b"0123456789-+ \t\r\n\n  pac.ex\0\v\f\x1c\x85\xa0\xff"
 LINES = b"""
 c|p|a|x|P sp 2 1|p sp 2 1|p max 2 1|p sp 2|p sp 2 1 0|p sp -1 0|p sp 2 1 c|a 1 2 3|a 1 2|a 1 2 3 4|a 0 1 1
-a 1 2 99999999999|a 9999999999 1 x|a 1 1 -2147483649|aa 1 2 3|pp sp 1 1|sp 1 1|e 1 2 3|a,1,2,3|A 1 2 3|1 2 3|\t|\xc2\xa0
+a 1 2 99999999999|a 9999999999 1 x|a 1 1 -9223372036854775809|a 1 2 9223372036854775808|aa 1 2 3|pp sp 1 1|sp 1 1|e 1 2 3|a,1,2,3|A 1 2 3|1 2 3|\t|\xc2\xa0
 """.replace(b"\n", b"|").split(b"|")
 WORDS = b"- --1 -+1 +1 1- 1.0 1e1 0x1 1_0 c p a sp \xd9\xa3 \xc2\xb2 \0 1\0 1\x7f 1\xa0".split(b" ") + [b"\v1", b"1\f"]
 BOUNDS = [0, 1, MOST_VERTICES, MOST_ARCS, 2**31, 2**32, 2**63, 2**64, 10**19, 10**40]

@@ -8,7 +8,7 @@ FIELD = re.compile(rb"[^ \t\r]+")
 DIGITS = re.compile(rb"[0-9]+")
 SIGNED = re.compile(rb"-?[0-9]+")
 MOST_VERTICES, MOST_ARCS = 2**26, 2**30
-LEAST_WEIGHT, MOST_WEIGHT = -(2**31), 2**31 - 1
+LEAST_WEIGHT, MOST_WEIGHT = -(2**63), 2**63 - 1
 
 
 class Fault(Exception):
