@@ -55,8 +55,9 @@ kind_of (AskFrame round shard labels) = 3
 kind_of (AnswerFrame answer) = 4
 kind_of (FaultFrame round shard code) = 5
 
--- the first version that has such a frame
+-- the first version that has such a frame; a hello is of the version that it tells
 abbrev pub version_of : FrameValue → ℕ
+version_of (HelloFrame version worker) = version
 version_of (ShardFrame number links) = if are_narrow links then 1 else 2
 version_of v = 1
 

@@ -1,7 +1,15 @@
 // What the definitions themselves promise, each as the contract of a function that does nothing.
+ghost use Rattle.std.specs.Prelude.{◌≡◌};
 ghost use Rattle.frames.specs.OneText.{EachHasOneText, IsNeverRefused};
 ghost use Rattle.frames.specs.FrameStream.{PrefixHasPrefixFrames, FramesAreOne};
 ghost use Rattle.frames.specs.ReadFault.{RefusalIsOfTheStream};
+
+use crate::frame::VERSION;
+
+/// This version's number; contracts cite its name.
+pub fn this_version_is_two()
+    ensures { VERSION ≡ 2 }
+{}
 
 /// Each lawful frame has one text, and no frame's text begins another's.
 pub fn each_has_one_text()

@@ -63,6 +63,6 @@ session_serves worker shelf input out heard session none = record {
   frames = session.frames;
   replies = session.replies;
   came = record { lawful = session.lawful; rest = session.rest; split = session.came; no_more = subst BeginsNone (session_left worker shelf input out heard session) none };
-  answered = subst (λ (fs : List FrameValue). AreReplies empty_shelf fs session.replies) (sym (all_heard session.frames)) session.answered;
+  answered = subst (λ (fs : List FrameValue). AreReplies empty_shelf fs session.replies) (sym (all_heard session.frames session.lawful)) session.answered;
   written = session.written;
 }

@@ -52,7 +52,7 @@ heard_of worker frames replies lawful answered = record {
     frames = frames;
     replies = replies;
     came = frames_of_texts frames lawful;
-    answered = subst (λ (fs : List FrameValue). AreReplies empty_shelf fs replies) (sym (all_heard frames)) answered;
+    answered = subst (λ (fs : List FrameValue). AreReplies empty_shelf fs replies) (sym (all_heard frames lawful)) answered;
     written = refl;
   };
 }

@@ -1,36 +1,36 @@
 -- The frames that a worker of a version hears.
-use Rattle.std.proofs.Common.{◌≡◌, ℕ, Bool, true, false, cond, List, [], ◌∷◌, ◌++◌, refl, sym, ap, subst, ◌∙◌, lit≤}
+use Rattle.std.proofs.Common.{◌≡◌, ℕ, Bool, true, false, cond, List, [], ◌∷◌, ◌++◌, refl, sym, ap, subst, ◌∙◌, lit≤, le-leb}
 use Rattle.std.specs.Prelude.{nat_le, if◌then◌else◌}
 use Rattle.std.proofs.lemmas.List.Sums.{take_while-cons}
 use Rattle.frames.specs.FrameValue.{FrameValue, HelloFrame, ShardFrame, AskFrame, AnswerFrame, FaultFrame}
 use Rattle.frames.specs.declared.frame.TheConstants.{VERSION}
 use Rattle.frames.specs.FrameText.{are_narrow, version_of}
-use Rattle.frames.specs.Lawful.{IsVersion}
+use Rattle.frames.specs.Lawful.{IsVersion, IsLawful}
 use Rattle.frames.specs.FrameStream.{AreLawful}
 use Rattle.worker_engine.specs.Serving.{heard_by}
 
 pub this_version : IsVersion VERSION
 this_version = record { from_first = lit≤ tt; to_this = lit≤ tt }
 
--- this version has each frame
-has_each : (v : FrameValue) → nat_le (version_of v) VERSION ≡ true
-has_each (ShardFrame number links) = by (are_narrow links)
+-- this version has each lawful frame
+has_each : (v : FrameValue) → IsLawful v → nat_le (version_of v) VERSION ≡ true
+has_each (ShardFrame number links) lawful = by (are_narrow links)
   where
     by : (narrow : Bool) → nat_le (if narrow then 1 else 2) VERSION ≡ true
     by true = refl
     by false = refl
-has_each (HelloFrame version worker) = refl
-has_each (AskFrame round shard labels) = refl
-has_each (AnswerFrame answer) = refl
-has_each (FaultFrame round shard code) = refl
+has_each (HelloFrame version worker) lawful = le-leb version VERSION lawful.version.to_this
+has_each (AskFrame round shard labels) lawful = refl
+has_each (AnswerFrame answer) lawful = refl
+has_each (FaultFrame round shard code) lawful = refl
 
 -- so a worker of this version hears all frames
-pub all_heard : (frames : List FrameValue) → heard_by VERSION frames ≡ frames
-all_heard [] = refl
-all_heard (v ∷ frames) =
+pub all_heard : (frames : List FrameValue) → AreLawful frames → heard_by VERSION frames ≡ frames
+all_heard [] lawful = refl
+all_heard (v ∷ frames) lawful =
     take_while-cons (λ (f : FrameValue). nat_le (version_of f) VERSION) v frames
-    ∙ ap (λ (b : Bool). cond b (v ∷ heard_by VERSION frames) []) (has_each v)
-    ∙ ap (λ (fs : List FrameValue). v ∷ fs) (all_heard frames)
+    ∙ ap (λ (b : Bool). cond b (v ∷ heard_by VERSION frames) []) (has_each v lawful.0)
+    ∙ ap (λ (fs : List FrameValue). v ∷ fs) (all_heard frames lawful.1)
 
 -- the next frame is heard where the version has it, and else no more are
 heard_next : (version : ℕ) (v : FrameValue) (frames : List FrameValue) → heard_by version (v ∷ frames) ≡ cond (nat_le (version_of v) version) (v ∷ heard_by version frames) []

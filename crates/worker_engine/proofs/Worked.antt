@@ -1,14 +1,17 @@
--- What may be written for an ask, shown for two links of a triangle.
+-- What may be written for an ask, shown for two links of a triangle, and what a worker of version 1 may write.
 use Rattle.std.proofs.Common.{◌≡◌, ℕ, ◌≤◌, ◌⊎◌, ◌↔◌, Some, List, [], ◌∷◌, refl, ap, ◌∙◌, inl, inr, arith, lit≤, lit<}
 use Rattle.std.proofs.lemmas.List.Elements.{All-from_recursion}
 use Rattle.link_key.specs.declared.links.Link.{Link}
 use Rattle.link_key.specs.Link.{EndsUpTo}
 use Rattle.round_theory.specs.Examples.{link_1_2, apart, first_part}
-use Rattle.round_theory.proofs.Worked.{first_light}
-use Rattle.frames.specs.FrameValue.{FrameValue, AskFrame, AnswerFrame, FaultFrame}
-use Rattle.worker_engine.specs.Serving.{empty_shelf, IsAnswerTo, MayReply, MayFollow}
+use Rattle.round_theory.proofs.Worked.{first_light, apart_labels}
+use Rattle.frames.specs.FrameValue.{FrameValue, ShardFrame, AskFrame, AnswerFrame, FaultFrame}
+use Rattle.frames.specs.Lawful.{IsVersion, IsShard, IsAsk}
+use Rattle.frames.specs.FrameStream.{AreLawful}
+use Rattle.frames.proofs.FrameStreams.{frames_of_texts}
+use Rattle.worker_engine.specs.Serving.{empty_shelf, IsAnswerTo, MayReply, MayFollow, heard_by}
 use Rattle.worker_engine.proofs.Replying.{one_answer, kept_reply}
-use Rattle.worker_engine.specs.Examples.{one_shard, the_answer, AnswerOrCodeOne, CodeThreeOrCodeOne}
+use Rattle.worker_engine.specs.Examples.{one_shard, the_answer, AnswerOrCodeOne, CodeThreeOrCodeOne, sent_and_asked, wide_link, FirstVersionAnswers, FirstVersionEnds}
 
 -- every end has a label
 part_ends : EndsUpTo 3 first_part.shard
@@ -68,3 +71,31 @@ not_kept_out round shard labels out = (there, λ is. (FaultFrame round shard 2, 
     there : MayFollow empty_shelf (AskFrame round shard labels) out → out ≡ FaultFrame round shard 2 ∷ []
     there (v, one, inl is) = one ∙ ap (λ (w : FrameValue). w ∷ []) is
     there (v, one, inr is) = absurd is
+
+first_version_known : IsVersion 1
+first_version_known = record { from_first = lit≤ tt; to_this = lit≤ tt }
+
+sent_lawful : AreLawful sent_and_asked
+sent_lawful = (record { number = lit< tt; count = lit≤ tt }, (record { round = lit< tt; shard = lit< tt; labels = apart_labels }, tt))
+
+-- all weights fit 32 bits, so it hears both frames
+pub first_version_answers : FirstVersionAnswers
+first_version_answers = record {
+  known = first_version_known;
+  frames = sent_and_asked;
+  replies = AnswerFrame the_answer ∷ [];
+  came = frames_of_texts sent_and_asked sent_lawful;
+  answered = ([], AnswerFrame the_answer ∷ [], refl, refl, (AnswerFrame the_answer ∷ [], [], refl, (AnswerFrame the_answer, refl, inl answer_is), refl));
+  written = refl;
+}
+
+-- one doesn't, so it hears none
+pub first_version_ends : FirstVersionEnds
+first_version_ends = record {
+  known = first_version_known;
+  frames = ShardFrame 1 (wide_link ∷ []) ∷ sent_and_asked;
+  replies = [];
+  came = frames_of_texts (ShardFrame 1 (wide_link ∷ []) ∷ sent_and_asked) (record { number = lit< tt; count = lit≤ tt }, sent_lawful);
+  answered = refl;
+  written = refl;
+}

@@ -1,9 +1,13 @@
 -- Worked examples of what may be written for an ask: by a worker that keeps two links of a triangle as shard 0, and by one that keeps nothing.
-use Rattle.std.specs.Prelude.{◌≡◌, ◌⊎◌, ◌↔◌, List, [], ◌∷◌}
+use Rattle.std.specs.Prelude.{◌≡◌, ◌⊎◌, ◌↔◌, ℕ, pos, ◌^◌, List, [], ◌∷◌, ◌++◌}
+use Rattle.std.proofs.Common.{lit≤, lit<}
+use Rattle.link_key.specs.declared.links.Link.{Link}
 use Rattle.round_theory.specs.Examples.{apart, first_part}
 use Rattle.frames.specs.AnswerValue.{AnswerValue}
-use Rattle.frames.specs.FrameValue.{FrameValue, ShardFrame, AskFrame, AnswerFrame, FaultFrame}
-use Rattle.worker_engine.specs.Serving.{Shelf, empty_shelf, shelf_with, MayFollow}
+use Rattle.frames.specs.FrameValue.{FrameValue, HelloFrame, ShardFrame, AskFrame, AnswerFrame, FaultFrame}
+use Rattle.frames.specs.FrameText.{text_of}
+use Rattle.frames.specs.FrameStream.{texts_of}
+use Rattle.worker_engine.specs.Serving.{Shelf, empty_shelf, shelf_with, MayFollow, Serves}
 
 -- the two links are kept as shard 0
 abbrev pub one_shard : Shelf
@@ -29,3 +33,19 @@ CodeTwoAlone = (out : List FrameValue) → MayFollow one_shard (AskFrame 1 7 apa
 
 abbrev pub CodeTwoAtFirst : Type 0
 CodeTwoAtFirst = (out : List FrameValue) → MayFollow empty_shelf (AskFrame 1 0 apart) out ↔ (out ≡ FaultFrame 1 0 2 ∷ [])
+
+-- the two links are sent, and then asked for
+abbrev pub sent_and_asked : List FrameValue
+sent_and_asked = ShardFrame 0 first_part.shard ∷ (AskFrame 1 0 apart ∷ [])
+
+-- a worker of version 1 may answer that
+abbrev pub FirstVersionAnswers : Type 0
+FirstVersionAnswers = Serves 1 0 (texts_of sent_and_asked) (text_of (HelloFrame 1 0) ++ texts_of (AnswerFrame the_answer ∷ []))
+
+-- a link whose weight doesn't fit 32 bits
+abbrev pub wide_link : Link
+wide_link = record { weight = pos (2 ^ 31); low = 1; high = 2; from_one = lit≤ tt; ascending = lit< tt; in_limit = lit≤ tt; weight_fits = record { sfits = lit< tt } }
+
+-- sent before them, it ends such a worker's session: the hello alone may be written
+abbrev pub FirstVersionEnds : Type 0
+FirstVersionEnds = Serves 1 0 (texts_of (ShardFrame 1 (wide_link ∷ []) ∷ sent_and_asked)) (text_of (HelloFrame 1 0) ++ texts_of [])

@@ -1,6 +1,6 @@
 //! What may be written for an ask, shown for two links of a triangle: more than one reply exactly where code 1 may
-//! stand.
-ghost use Rattle.worker_engine.specs.Examples.{AnswerOrCodeOne, CodeThreeOrCodeOne, CodeTwoAlone, CodeTwoAtFirst};
+//! stand. And what a worker of version 1 may write.
+ghost use Rattle.worker_engine.specs.Examples.{AnswerOrCodeOne, CodeThreeOrCodeOne, CodeTwoAlone, CodeTwoAtFirst, FirstVersionAnswers, FirstVersionEnds};
 
 /// A shard that is kept may be answered, or told as code 1.
 pub fn kept_shard()
@@ -16,4 +16,11 @@ pub fn kept_shard_without_labels()
 pub fn shard_not_kept()
     ensures beside_another { CodeTwoAlone }
     ensures at_first { CodeTwoAtFirst }
+{}
+
+/// A worker of version 1 answers for a shard whose weights all fit 32 bits, and hears nothing from one on of which a
+/// weight doesn't.
+pub fn first_version()
+    ensures answers { FirstVersionAnswers }
+    ensures ends { FirstVersionEnds }
 {}
