@@ -111,12 +111,14 @@ fn solve_lines<
 ///
 /// The links are cut as `cutting` says, and the worker at line i, numbered from 0, is asked for the light offers of one
 /// shard after another, as [`solve`] says. A line that fails, over which something else than an answer comes, or an
-/// answer that the round's book refuses, or one of whose asks finds no memory, is given up for good, and its shards are
-/// asked of the others; where none is left they are scanned here. So a failing line is never the run's fault. A line
-/// that was new and tells its bytes is given up for a fault only where its last ask counted a failure or an end, or
-/// brought bytes that fit the fault, and no ask before did. Where all lines carry the sessions of their workers the
-/// links are the minimum spanning forest, and no line is given up but one that is down, or for want of memory here or
-/// at its worker; whatever comes over them, the links close no cycle and span those of the file.
+/// answer that the round's book refuses, one of whose asks finds no memory, or whose worker told a version that has no
+/// frame for a shard, is given up for good, and its shards are asked of the others; where none is left they are scanned
+/// here. So a failing line is never the run's fault. A line that was new and tells its bytes is given up for a fault
+/// only where its last ask counted a failure or an end, brought bytes that fit the fault, or needed a frame that its
+/// worker's version hasn't, and no ask before did. Where all lines carry the sessions of their workers the links are
+/// the minimum spanning forest, and no line is given up but one that is down, whose worker is too old for a shard, or
+/// for want of memory here or at its worker; whatever comes over them, the links close no cycle and span those of the
+/// file.
 ///
 /// It waits for the workers' answers. The forest is whole before the first byte is written; after a fault the lines are
 /// dropped. It takes a list of the links, the places of the cut, 600 bytes and 4 a vertex for each line, and what

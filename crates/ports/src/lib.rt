@@ -6,7 +6,7 @@
 //!              |
 //!            Wire                           is it open? counts
 //!            Talk::ask                      one ask: hello, shard, ask, answer
-//!            steps                          greet, send_shard, send_ask, hear_answer
+//!            steps                          greet, check_version, send_shard, send_ask, hear_answer
 //!              |                 \
 //!         Line::put           Heard, a source that owns the line: frames are read of it
 //!              |                 /
@@ -16,7 +16,8 @@
 //!
 //! What it promises:
 //! - Over a fresh line that tells its bytes and is faithful for its worker a wire is honest: each answer is light for
-//!   the round, the shard and the labels that were asked, and the only faults are the line's own and want of memory.
+//!   the round, the shard and the labels that were asked, and the only faults are the line's own, want of memory, and a
+//!   worker too old for a shard with a weight past 32 bits.
 //! - Over any line a fault has its cause in the bytes of that ask, or in what the line counted.
 //! - An open wire over a line that was fresh and tells its bytes sent each shard once, before its first ask, and the
 //!   asks, and got the hello and the answers, and nothing else.

@@ -142,7 +142,8 @@ impl<'a, L: Line, A: Allocator + Copy> Port<A> for Wire<'a, L, A> {
         // A closed wire does nothing.
         ensures closed { self.old.is_open ≡ false → self.new ≡ self.old }
 
-        // Over a faithful line: never garbled, no wrong hello, and no fault of the worker but want of memory.
+        // Over a faithful line: never garbled, no wrong hello, and of the worker no fault but want of memory, unless it is
+        // too old.
         ensures blameless { IfErr result (λ e. IsHonestWire L.Line self.old → IsBlameless e) }
     {
         if !self.is_open {

@@ -141,7 +141,7 @@ pub const WORKED: [Worked; 7] = [
 /// The links of the arcs, loops left out and repeats kept, in the arcs' order; none where an end of an arc is no
 /// vertex from 1 to n, or n is more than [`MAX_VERTICES`] and there is an arc.
 ///
-/// The only error is want of memory. For m arcs O(m) time, and 12 bytes for each link.
+/// The only error is want of memory. For m arcs O(m) time, and 16 bytes for each link.
 pub fn links_of<A: Allocator>(
     alloc: A,
     n: u32,
