@@ -1,4 +1,6 @@
-ghost use Rattle.std.specs.Prelude.{◌≡◌, ℕ, ◌+◌, ◌<◌, ◌≤◌, ◌^◌, ◌↔◌, length, slice_index, IsSome, IfSome, IfOk, IsTrue};
+ghost use Rattle.std.specs.Prelude.{◌≡◌, ℕ, ◌+◌, ◌<◌, ◌≤◌, ◌^◌, ◌↔◌, length, map, slice_index, IsSome, IfSome, IfOk, IsTrue};
+ghost use Rattle.std.specs.Int.{w32, to_be_bytes};
+ghost use Rattle.std.specs.List.{flat_map};
 ghost use Rattle.link_key.specs.Labels.{label_of, IsLabelled, AreLabels, AreApart, Coarsens};
 
 use limits::MAX_VERTICES;
@@ -8,21 +10,25 @@ use std::marker::Model;
 /// Labels of the vertices 1 to n of a graph: vertices with one label are one component.
 ///
 /// A label is from 1 to its vertex, and a label's label is itself, so each component is named by one of its
-/// vertices. At most `MAX_VERTICES` vertices, 4 bytes each.
+/// vertices. At most `MAX_VERTICES` vertices, 4 bytes each, and 4 more where their bytes were kept beside them by
+/// [`Labels::spell`].
 #[derive(Drop)]
 pub struct Labels<A: Allocator = Global> {
     labels: Vec<u32, A>,
+    cells: Option<Vec<[u8; 4], A>>,
 }
 
 impl<A: Allocator> Model for Labels<A> {
-    ghost use Rattle.std.specs.Prelude.{ℕ, List};
+    ghost use Rattle.std.specs.Prelude.{◌≡◌, ℕ, List, map, IfSome};
+    ghost use Rattle.std.specs.Int.{w32, to_be_bytes};
     ghost use Rattle.link_key.specs.Labels.{AreLabels};
 
     ghost Value = { List ℕ };
 
     ghost view = { λ s. s.labels.items };
 
-    ghost invariant = { λ s. AreLabels s.labels.items };
+    ghost invariant = { λ s. AreLabels s.labels.items
+        × IfSome s.cells (λ cells. cells.items ≡ map (to_be_bytes w32) s.labels.items) };
 }
 
 impl<A: Allocator + Copy> Labels<A> {
@@ -35,7 +41,22 @@ impl<A: Allocator + Copy> Labels<A> {
         for v in 1..n + 1 {
             labels.push(v)?;
         }
-        Ok(Labels { labels })
+        Ok(Labels::of_known(labels))
+    }
+
+    /// Keeps the bytes of the labels beside them, for [`Labels::spelled`]: once, for all who send these labels. Where
+    /// they are kept already it does nothing. The only error is want of memory; then they are not kept.
+    ///
+    /// One pass, and 4 bytes a vertex.
+    pub fn spell(&mut self) -> Result<(), AllocError>
+        ensures { self.new ≡ self.old }
+    {
+        if self.cells.is_none() {
+            let alloc = *self.labels.allocator();
+            let cells = cells_of(alloc, self.labels.as_slice())?;
+            self.cells = Some(cells);
+        }
+        Ok(())
     }
 }
 
@@ -48,7 +69,7 @@ impl<A: Allocator> Labels<A> {
         ensures same_labels { IfSome result (λ made. made ≡ labels.items) }
     {
         if are_labels(labels.as_slice()) {
-            Some(Labels { labels })
+            Some(Labels::of_known(labels))
         } else {
             None
         }
@@ -60,7 +81,10 @@ impl<A: Allocator> Labels<A> {
         requires { AreLabels labels.items }
         ensures { result ≡ labels.items }
     {
-        Labels { labels }
+        Labels {
+            labels,
+            cells: None,
+        }
     }
 
     /// The label of vertex `v`.
@@ -90,6 +114,16 @@ impl<A: Allocator> Labels<A> {
         self.labels.as_slice()
     }
 
+    /// The bytes of the labels in order, four of each with the most significant first, where [`Labels::spell`] kept them.
+    pub fn spelled(&self) -> Option<&[u8]>
+        ensures { IfSome result (λ bytes. bytes.now ≡ flat_map (to_be_bytes w32) self.now) }
+    {
+        match &self.cells {
+            Some(cells) => Some(cells.as_slice().as_flattened()),
+            None => None,
+        }
+    }
+
     /// Whether these labels coarsen `finer`: both are of the same number of vertices, and vertices of one label in `finer`
     /// have one label in these. So the components of `finer` are whole parts of these ones; labels coarsen themselves.
     ///
@@ -102,6 +136,17 @@ impl<A: Allocator> Labels<A> {
         let finer = finer.as_slice();
         labels.len() == finer.len() && are_coarser(labels, finer)
     }
+}
+
+// The four bytes of each label, the most significant first.
+fn cells_of<A: Allocator>(alloc: A, labels: &[u32]) -> Result<Vec<[u8; 4], A>, AllocError>
+    ensures { IfOk result (λ cells. cells.items ≡ map (to_be_bytes w32) labels.now) }
+{
+    let mut cells = Vec::with_capacity(alloc, labels.len())?;
+    for label in labels {
+        cells.push_reserved(label.to_be_bytes());
+    }
+    Ok(cells)
 }
 
 // How many labels are compared at once.
