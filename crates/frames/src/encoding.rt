@@ -1,5 +1,5 @@
 //! Frames as bytes.
-ghost use Rattle.std.specs.Prelude.{◌≡◌, ◌+◌, ◌*◌, ◌<◌, ◌≤◌, ◌∷◌, ◌++◌, [], length, drop, IfOk, OnOk};
+ghost use Rattle.std.specs.Prelude.{◌≡◌, ◌+◌, ◌*◌, ◌<◌, ◌≤◌, ◌∷◌, ◌++◌, [], length, drop, IfSome, IfOk, OnOk};
 ghost use Rattle.std.specs.List.{flat_map};
 ghost use Rattle.frames.specs.FrameValue.{value_of, HelloFrame, ShardFrame, AskFrame, AnswerFrame, FaultFrame};
 ghost use Rattle.frames.specs.FrameText.{u32_text, are_narrow, link_text, wide_link_text, offer_text, text_of};
@@ -132,6 +132,23 @@ pub fn encode_ask_over<A: Allocator, B: Allocator>(
     text.clear();
     text.reserve(ASK_HEAD + 4 * labels.n() as usize)?;
     put_ask(text, round, shard, labels)
+}
+
+/// The text of the frame that [`encode_ask`] encodes, in two parts, where the labels keep their bytes
+/// ([`Labels::spell`]): what stands before those bytes, and the bytes, which the labels lend. It takes no memory and
+/// looks at no label.
+pub fn ask_parts<'a, B: Allocator>(
+    round: u32,
+    shard: u32,
+    labels: &'a Labels<B>,
+) -> Option<([u8; 17], &'a [u8])>
+    requires { shard < MAX_SHARDS }
+    ensures { IfSome result (λ parts. parts.0 ++ parts.1.now ≡ text_of (AskFrame round shard labels.now)) }
+{
+    match labels.spelled() {
+        Some(bytes) => Some((ask_head(round, shard, labels.n()), bytes)),
+        None => None,
+    }
 }
 
 // How many bytes stand before the labels of an ask.

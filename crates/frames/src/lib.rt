@@ -38,7 +38,7 @@ mod lawful;
 pub mod laws;
 
 pub use decoding::decode_body;
-pub use encoding::{encode, encode_ask, encode_ask_over, encode_shard, fault_bytes};
+pub use encoding::{ask_parts, encode, encode_ask, encode_ask_over, encode_shard, fault_bytes};
 pub use fault::FrameFault;
 pub use frame::{Answer, Frame, Links, VERSION};
 pub use frame_reader::{read_frame, read_frame_after};

@@ -1,8 +1,11 @@
 -- What was sent and got over several calls.
-use Rattle.std.proofs.Common.{ℕ, ◌+◌, List, [], ◌++◌, append-nil, subst, arith}
+use Rattle.std.proofs.Common.{◌≡◌, ℕ, ◌+◌, List, [], ◌++◌, append-nil, sym, subst, arith}
+use Rattle.std.specs.Prelude.{Result, Ok, Err, IfErr}
 use Rattle.std.proofs.KnownBytes.{Appends-nil, Appends-trans}
+use Rattle.ports.specs.declared.fault.PortFault.{PortFault}
+use Rattle.ports.specs.declared.fault.PortFault.TheVariants.{Down}
 use Rattle.ports.specs.Lines.{LineState, HasRoom, Transfers}
-use Rattle.ports.specs.Causes.{LineFailed, Receives}
+use Rattle.ports.specs.Causes.{LineFailed, Receives, SendingFault}
 
 -- no call at all
 pub went_nowhere : (line : LineState) → Transfers 0 0 [] [] line line
@@ -33,3 +36,10 @@ failed_of a b said came went = record { sent = λ calm. cc; got = λ calm. cc; f
 
 pub then_failed : (a b c : LineState) (said came : List ℕ) → Transfers 0 0 said came a b → LineFailed b c → LineFailed a c
 then_failed a b c said came first second = failed_of a c (said ++ []) (came ++ []) (went_then 0 0 1 0 said came [] [] a b c first second)
+
+-- a part that wasn't put, behind one that was
+pub down_later : (r : Result (Unit {0}) PortFault) (a b c : LineState) (said came : List ℕ) → Transfers 0 0 said came a b
+    → IfErr r (λ e. e ≡ Down) → IfErr r (λ e. SendingFault e b c) → IfErr r (λ e. SendingFault e a c)
+down_later (Ok put) a b c said came went down fault = tt
+down_later (Err e) a b c said came went down fault =
+    subst (λ (f : PortFault). SendingFault f a c) (sym down) (then_failed a b c said came went (subst (λ (f : PortFault). SendingFault f b c) down fault))

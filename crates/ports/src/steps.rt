@@ -1,5 +1,5 @@
 //! The steps of an ask over a line: hear the hello, send the shard, send the ask, hear the answer.
-ghost use Rattle.std.specs.Prelude.{◌≡◌, ℕ, ◌<◌, ◌≤◌, ◌==◌, ◌||◌, [], length, Some, None, IfSome, IfOk, OnOk, IfErr};
+ghost use Rattle.std.specs.Prelude.{◌≡◌, ℕ, ◌<◌, ◌≤◌, ◌==◌, ◌||◌, [], ◌++◌, length, Some, None, IfSome, IfOk, OnOk, IfErr};
 ghost use Rattle.frames.specs.FrameValue.{AskFrame, AnswerFrame, value_of};
 ghost use Rattle.frames.specs.FrameText.{text_of};
 ghost use Rattle.frames.specs.Lawful.{IsVersion, IsAnswer, IsLawful};
@@ -13,7 +13,8 @@ use crate::fault::PortFault;
 use crate::heard::Heard;
 use crate::line::Line;
 use frames::{
-    Answer, Frame, FrameFault, VERSION, encode_ask_over, encode_shard, fit_32_bits, read_frame,
+    Answer, Frame, FrameFault, VERSION, ask_parts, encode_ask_over, encode_shard, fit_32_bits,
+    read_frame,
 };
 use limits::{MAX_SHARD_LINKS, MAX_SHARDS};
 use link_key::{Labels, Shard};
@@ -99,7 +100,11 @@ pub fn send_shard<L: Line, A: Allocator + Copy>(
     Ok(())
 }
 
-// Sends the ask. Its text takes the place of that of the last one.
+// From so many bytes of labels on an ask goes out by two puts.
+const LONG: usize = 1 << 16;
+
+// Sends the ask. Many labels that keep their bytes lend them to it, behind a put of what stands before them. Else its
+// text takes the place of that of the last one, and goes out by one put.
 pub fn send_ask<L: Line, A: Allocator + Copy>(
     heard: &mut Heard<L>,
     text: &mut Vec<u8, A>,
@@ -115,6 +120,11 @@ pub fn send_ask<L: Line, A: Allocator + Copy>(
         (λ e. SendingFault e (L.state heard.old.line) (L.state heard.new.line)) }
     ensures faithful { (w : ℕ) → L.faithful heard.old.line w → L.faithful heard.new.line w }
 {
+    if let Some(parts) = ask_parts(round, shard, labels) {
+        if parts.1.len() >= LONG {
+            return send_both(heard, &parts.0, parts.1);
+        }
+    }
     encode_ask_over(text, round, shard, labels)?;
     send(heard, text.as_slice())
 }
@@ -169,12 +179,26 @@ fn send<L: Line>(heard: &mut Heard<L>, bytes: &[u8]) -> Result<(), PortFault>
         (Transfers 0 0 bytes.now [] (L.state heard.old.line) (L.state heard.new.line)) }
     ensures fault { IfErr result
         (λ e. SendingFault e (L.state heard.old.line) (L.state heard.new.line)) }
+    ensures down { IfErr result (λ e. e ≡ PortFault.Down) }
     ensures faithful { (w : ℕ) → L.faithful heard.old.line w → L.faithful heard.new.line w }
 {
     match heard.line.put(bytes) {
         Ok(()) => Ok(()),
         Err(_) => Err(PortFault::Down),
     }
+}
+
+// Sends a text in two parts, by a put for each.
+fn send_both<L: Line>(heard: &mut Heard<L>, front: &[u8], rest: &[u8]) -> Result<(), PortFault>
+    requires { HasRoom (L.state heard.old.line) }
+    ensures went { OnOk result
+        (Transfers 0 0 (front.now ++ rest.now) [] (L.state heard.old.line) (L.state heard.new.line)) }
+    ensures fault { IfErr result
+        (λ e. SendingFault e (L.state heard.old.line) (L.state heard.new.line)) }
+    ensures faithful { (w : ℕ) → L.faithful heard.old.line w → L.faithful heard.new.line w }
+{
+    send(heard, front)?;
+    send(heard, rest)
 }
 
 // What a wire answers where no frame could be read.

@@ -17,7 +17,8 @@ use std::alloc::Allocator;
 use std::marker::Model;
 
 /// A talk with a worker over a line that it owns: the cut whose shards are asked, the version that its hello told, once it
-/// came, which shards were sent, a bit each, and the text of the last ask, whose labels the next one may have too.
+/// came, which shards were sent, a bit each, and the text of the last ask that went out by one put, whose labels the next
+/// one may have too.
 #[derive(Drop)]
 pub struct Talk<'a, L, A: Allocator> {
     pub alloc: A,

@@ -23,10 +23,11 @@ use std::marker::Model;
 
 /// A port that asks a worker over a line, which it owns.
 ///
-/// At its first ask it hears the worker's hello. It sends a shard before its first ask, and never again; it
-/// sends each frame whole, by one `put`, and turns the labels of a round into bytes at the first ask under them alone.
-/// Every fault closes it for good, want of memory too. It keeps 512 bytes for the shards that were sent, whatever the
-/// cut, and 4 bytes a vertex for the labels of its last ask.
+/// At its first ask it hears the worker's hello. It sends a shard before its first ask, and never again; it sends each
+/// frame whole, by one `put`, or, where the labels of an ask keep their bytes ([`Labels::spell`]) and these are 64 KiB or
+/// more, by two, of which the second has just those bytes. Other labels it turns into bytes at the first ask under them
+/// alone. Every fault closes it for good, want of memory too. It keeps 512 bytes for the shards that were sent, whatever
+/// the cut, and 4 bytes a vertex for the labels of the last ask that it turned into bytes.
 #[derive(Drop)]
 pub struct Wire<'a, L: Line, A: Allocator> {
     talk: Talk<'a, L, A>,
