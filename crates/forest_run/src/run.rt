@@ -39,6 +39,8 @@ fn turn<'a, A: Allocator + Copy + Send + Sync, P: Port<A> + Send + Drop, R: Thre
     ensures fault { IfErr result (IsTurnFault P.Port cut.now solver.old lanes.old lanes.new) }
     ensures idle { All IsIdle lanes.new }
 {
+    // Without memory for the bytes of the labels, each wire turns the labels into bytes for itself.
+    let _ = solver.spell_labels();
     let (picks, alone) = picks_of_round(rt, alloc, solver.round(), cut, solver.labels(), lanes)?;
     let turn = solver.step(&picks)?;
     Ok((turn, alone))

@@ -115,6 +115,14 @@ impl<A: Allocator + Copy> Solver<A> {
         Ok(Turn::Merged(count))
     }
 
+    /// Keeps the bytes of the labels beside them ([`Labels::spell`]), for all who are asked under them, until a step makes
+    /// others: 4 bytes a vertex. The only error is want of memory; then they are not kept.
+    pub fn spell_labels(&mut self) -> Result<(), AllocError>
+        ensures { self.new ≡ self.old }
+    {
+        self.labels.spell()
+    }
+
     /// The links taken, as a forest, where they join the ends of each link of the cut. Else the first link of the cut,
     /// in its order, whose ends they don't join; that is looked for before memory is asked for.
     ///
