@@ -1,5 +1,5 @@
 -- Picks that grow by one link at a time.
-use Rattle.std.proofs.Common.{◌≡◌, ◌≢◌, ℕ, zero, suc, ◌+◌, ◌-◌, ◌<◌, ◌≤◌, ◌⊎◌, List, [], ◌∷◌, ◌++◌, length, get_or, set, Contains, Some, None, refl, sym, ap, ◌∙◌, subst, inl, inr, arith}
+use Rattle.std.proofs.Common.{◌≡◌, ◌≢◌, ℕ, zero, suc, ◌-◌, ◌<◌, ◌≤◌, ◌⊎◌, List, [], ◌∷◌, ◌++◌, length, get_or, set, Contains, Some, None, refl, sym, ap, ◌∙◌, subst, inl, inr, arith}
 use Rattle.std.specs.Prelude.{Option, MatchOption, IsSomeAnd}
 use Rattle.std.proofs.lemmas.Bool.{cases_eq}
 use Rattle.std.proofs.lemmas.List.Elements.{Contains-append_left, Contains-push, Contains-push_cases, All-contains, All-get_or}
@@ -11,7 +11,7 @@ use Rattle.link_key.proofs.Members.{contains_none}
 use Rattle.std.proofs.lemmas.List.{get_or_default, length-set, get_or-set_same, get_or-set_other}
 use Rattle.round_theory.specs.LinkSet.{LinkSet, Either, SameLinks}
 use Rattle.round_theory.specs.Labelling.{IsVertex}
-use Rattle.round_theory.specs.Offers.{Leaves, IsLeastLeaving, NoneLeaves, IsLesser}
+use Rattle.round_theory.specs.Offers.{Leaves, IsLeastLeaving, IsLesser}
 use Rattle.round_theory.proofs.Leaving.{leaves_end, leaves_low, leaves_high}
 use Rattle.round_theory.proofs.Rounds.{least_leaving_alike}
 use Rattle.round_theory.proofs.Unions.{least_of_both, least_of_first, least_of_second}

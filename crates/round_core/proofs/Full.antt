@@ -1,6 +1,6 @@
 -- A book's answers: each shard that was taken has one, so those of a book that misses no shard are of all its links.
-use Rattle.std.proofs.Common.{◌≡◌, ◌≢◌, ℕ, zero, suc, ◌+◌, ◌<◌, ◌≤◌, ◌⊎◌, ◌==◌, ◌↔◌, Bool, true, false, not, cond, List, [], ◌∷◌, ◌++◌, length, map, get_or, set, Contains, Some, None, Ok, Err, refl, sym, ap, ◌∙◌, subst, inl, inr, arith, length-append}
-use Rattle.std.specs.Prelude.{Option, Result, IfErr, OnOk, All, AllPairs, Any, count_by, flat_map}
+use Rattle.std.proofs.Common.{◌≡◌, ◌≢◌, ℕ, zero, suc, ◌+◌, ◌<◌, ◌==◌, ◌↔◌, Bool, true, false, not, cond, List, [], ◌∷◌, ◌++◌, length, get_or, set, Contains, Some, None, Ok, Err, refl, sym, ap, ◌∙◌, subst, inl, inr, arith, length-append}
+use Rattle.std.specs.Prelude.{Option, Result, IfErr, OnOk, Any, count_by}
 use Rattle.std.specs.List.{list_all}
 use Rattle.std.specs.Result.{is_err}
 use Rattle.std.proofs.lemmas.Bool.{cases_eq, eqb-true}
@@ -9,14 +9,12 @@ use Rattle.std.proofs.lemmas.List.Elements.{Contains-get_or, Contains-push, Cont
 use Rattle.std.proofs.lemmas.List.Quantifiers.{all_pairs_push}
 use Rattle.std.proofs.lemmas.List.Sums.{sum_by-cons, sum_by-set}
 use Rattle.link_key.specs.declared.links.Link.{Link}
-use Rattle.link_key.specs.Link.{EndsUpTo}
 use Rattle.link_key.specs.Cut.{joined, links_at}
 use Rattle.frames.specs.AnswerValue.{AnswerValue}
-use Rattle.round_theory.specs.Labelling.{IsVertex}
-use Rattle.round_theory.specs.Offers.{IsLeastLeaving, NoneLeaves, Hearing, IsNamed, HaveLinksOf, AreLightOffers, AreAllLight}
+use Rattle.round_theory.specs.Offers.{Hearing, IsNamed, AreLightOffers, AreAllLight}
 use Rattle.round_theory.proofs.Cutting.{any_from, flat_map_contains, light_offers_suffice}
 use Rattle.round_theory.proofs.Leaving.{least_leaving_exists}
-use Rattle.round_core.specs.Picks.{pick_of, IsPickOf, ArePicks, AreNoPicks}
+use Rattle.round_core.specs.Picks.{pick_of, IsPickOf}
 use Rattle.round_core.specs.Page.{Page, is_taken, missing, is_offer, refusal, heard, hearing_of, hearings, IsAnswered, IsRight, IsPage, IsBook, FullBookHasAllLinks, FullBookIsLeast}
 use Rattle.round_core.specs.declared.refusals.Refusal.{Refusal}
 use Rattle.round_core.specs.declared.refusals.Refusal.TheVariants.{Stale, Stranger, Double, NotALink}

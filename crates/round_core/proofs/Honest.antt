@@ -1,18 +1,16 @@
 -- Light offers are taken.
-use Rattle.std.proofs.Common.{◌≡◌, ◌≢◌, ℕ, zero, suc, ◌+◌, ◌<◌, ◌==◌, Bool, true, false, not, cond, ◌&&◌, List, [], ◌∷◌, length, get_or, Some, None, refl, sym, ◌∙◌, subst, inl, inr, arith, eq-eqb, ne_eqb}
+use Rattle.std.proofs.Common.{◌≡◌, ℕ, suc, true, List, [], ◌∷◌, get_or, Some, refl, inl, inr, arith, eq-eqb, ne_eqb}
 use Rattle.std.specs.Prelude.{All, slice_get}
 use Rattle.std.specs.List.{list_all}
 use Rattle.std.proofs.lemmas.List.{get_or_default}
-use Rattle.std.proofs.lemmas.List.Elements.{All-from_recursion, recursion_from_All}
 use Rattle.std.proofs.lemmas.Option.{slice_get-get_or}
 use Rattle.link_key.specs.declared.links.Link.{Link}
 use Rattle.link_key.specs.Labels.{label_of}
 use Rattle.link_key.specs.Offers.{Offer}
 use Rattle.link_key.specs.Cut.{links_at}
-use Rattle.frames.specs.AnswerValue.{AnswerValue}
 use Rattle.round_theory.specs.Offers.{Leaves, OffersLeaving}
 use Rattle.round_theory.proofs.LightOffers.{light_offers_leave}
-use Rattle.round_core.specs.Page.{Page, is_taken, is_leaving, is_offer, refusal, LightOffersAreTaken}
+use Rattle.round_core.specs.Page.{is_leaving, is_offer, LightOffersAreTaken}
 
 leaving_is : (labels : List ℕ) (c : ℕ) (l : Link) → Leaves labels l c → is_leaving labels c l ≡ true
 leaving_is labels c l (inl (low, high)) = rw (eq-eqb (label_of labels l.low) c low, ne_eqb (label_of labels l.high) c high) refl

@@ -1,4 +1,5 @@
 pub mod Counts
+pub mod PickNumbers
 pub mod Books
 pub mod Honest
 pub mod HookWalks

@@ -1,16 +1,16 @@
 -- A solver that takes the picks of a round.
-use Rattle.std.proofs.Common.{◌≡◌, ◌≢◌, ℕ, zero, suc, ◌+◌, ◌-◌, ◌<◌, ◌≤◌, ◌^◌, max, ◌↔◌, Bool, true, false, List, [], ◌∷◌, ◌++◌, length, get_or, Contains, Some, None, refl, sym, ap, ◌∙◌, subst, inl, inr, arith}
-use Rattle.std.specs.Prelude.{Option, All, AllPairs}
+use Rattle.std.proofs.Common.{◌≡◌, ◌≢◌, ℕ, ◌+◌, ◌<◌, ◌≤◌, ◌^◌, max, ◌↔◌, Bool, true, false, List, [], ◌∷◌, ◌++◌, length, get_or, Contains, Some, None, refl, sym, ◌∙◌, subst, inl, inr, arith}
+use Rattle.std.specs.Prelude.{Option}
 use Rattle.std.specs.List.{AllByRecursion}
 use Rattle.std.proofs.lemmas.Bool.{cases_lt}
 use Rattle.std.proofs.lemmas.Nat.{pow_below}
-use Rattle.std.proofs.lemmas.List.Elements.{Contains-get_or, All-append, All-contains}
+use Rattle.std.proofs.lemmas.List.Elements.{Contains-get_or, All-append}
 use Rattle.link_key.specs.declared.links.Link.{Link}
 use Rattle.link_key.specs.Link.{EndsUpTo}
 use Rattle.link_key.specs.Labels.{label_of, AreApart}
-use Rattle.link_key.proofs.Members.{contains_none, contains_head}
+use Rattle.link_key.proofs.Members.{contains_none}
 use Rattle.round_theory.specs.LinkSet.{LinkSet, IsPartOf, SameLinks}
-use Rattle.round_theory.specs.Labelling.{IsVertex, IsLabelling, IsWalkOver, JoinsOver, IsRelabelling}
+use Rattle.round_theory.specs.Labelling.{IsLabelling, JoinsOver, IsRelabelling}
 use Rattle.round_theory.specs.Offers.{IsPick, Hearing, IsNamed}
 use Rattle.round_theory.proofs.Relabelling.{apart_by_no_links}
 use Rattle.round_theory.proofs.RoundSteps.{all_pairs_append}

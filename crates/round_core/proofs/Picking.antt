@@ -11,7 +11,7 @@ use Rattle.link_key.specs.declared.links.Link.{Link}
 use Rattle.link_key.specs.Labels.{label_of, AreLabels}
 use Rattle.link_key.proofs.Keys.{link_dec, link_eq}
 use Rattle.link_key.proofs.Spans.{both_first, both_second}
-use Rattle.link_key.proofs.Members.{contains_none, contains_cases}
+use Rattle.link_key.proofs.Members.{contains_none}
 use Rattle.round_theory.specs.Labelling.{IsVertex}
 use Rattle.round_theory.specs.Offers.{IsLeastLeaving, Hearing, IsNamed}
 use Rattle.round_theory.proofs.Leaving.{leaves_end, leaves_apart}
@@ -187,21 +187,18 @@ give_place picks bound links l here are = record {
     ]
 
 -- a place whose pick was given before, or that has none, gives no link
-pub not_given : (picks : List (Option Link)) (i : ℕ) (l : Link) (x : Option Link) (r : Bool) → i < length picks → x ≡ get_or picks i x → x ≡ Some l → (r ≡ true) ↔ IsFirstPickedAt picks l i → r ≡ false
+pub not_given : (picks : List (Option Link)) (i : ℕ) (l : Link) (r : Bool) → get_or picks i None ≡ Some l → (r ≡ true) ↔ IsFirstPickedAt picks l i → r ≡ false
     → (m : Link) → ¬ (IsFirstPickedAt picks m i)
-not_given picks i l x r within at is decides fails m first =
-    let both : Some l ≡ Some m = sym is ∙ at ∙ get_or_default picks i x None within ∙ first.here in
+not_given picks i l r is decides fails m first =
+    let both : Some l ≡ Some m = sym is ∙ first.here in
     let same : l ≡ m = cc in
     let wrong : false ≡ true = sym fails ∙ decides.1 (subst (λ k. IsFirstPickedAt picks k i) (sym same) first) in
     absurd (cc)
 
-pub none_given : (picks : List (Option Link)) (i : ℕ) (x : Option Link) → i < length picks → x ≡ get_or picks i x → x ≡ None → (m : Link) → ¬ (IsFirstPickedAt picks m i)
-none_given picks i x within at is m first =
-    let wrong : None ≡ Some m = sym is ∙ at ∙ get_or_default picks i x None within ∙ first.here in
+pub none_given : (picks : List (Option Link)) (i : ℕ) → get_or picks i None ≡ None → (m : Link) → ¬ (IsFirstPickedAt picks m i)
+none_given picks i is m first =
+    let wrong : None ≡ Some m = sym is ∙ first.here in
     absurd (cc)
-
-pub pick_here : (picks : List (Option Link)) (i : ℕ) (l : Link) (x : Option Link) → i < length picks → x ≡ get_or picks i x → x ≡ Some l → get_or picks i None ≡ Some l
-pick_here picks i l x within at is = get_or_default picks i None x within ∙ sym at ∙ is
 
 -- a link that is picked is so somewhere first
 pick_dec : (x : Option Link) (l : Link) → (x ≡ Some l) ⊎ (x ≢ Some l)

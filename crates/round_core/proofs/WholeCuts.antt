@@ -1,13 +1,13 @@
 -- The picks of a whole cut, whose links are counted one by one.
-use Rattle.std.proofs.Common.{◌≡◌, ◌≢◌, ℕ, zero, suc, ◌+◌, ◌<◌, ◌≤◌, ◌↔◌, List, [], ◌∷◌, ◌++◌, length, get_or, take, Contains, Some, None, refl, sym, ap, ◌∙◌, subst, arith}
-use Rattle.std.specs.Prelude.{Option, All, Any, flat_map}
+use Rattle.std.proofs.Common.{◌≡◌, ℕ, zero, suc, ◌+◌, ◌<◌, List, [], ◌∷◌, ◌++◌, length, take, Contains, Some, None, sym, ap, ◌∙◌, subst, arith}
+use Rattle.std.specs.Prelude.{Option, Any}
 use Rattle.std.proofs.lemmas.List.{flat_map_more, take_more}
 use Rattle.std.proofs.lemmas.List.Elements.{All-from_recursion}
 use Rattle.link_key.specs.declared.links.Link.{Link}
 use Rattle.link_key.specs.Labels.{label_of}
 use Rattle.link_key.specs.Cut.{joined, links_at}
 use Rattle.link_key.proofs.Members.{contains_head}
-use Rattle.round_theory.specs.Offers.{Leaves, IsLeastLeaving, Hearing, Names, IsNamed, HaveLinksOf, AreLightOffers, AreAllLight}
+use Rattle.round_theory.specs.Offers.{Hearing, Names, IsNamed, HaveLinksOf, AreLightOffers, AreAllLight}
 use Rattle.round_theory.proofs.Cutting.{any_from, light_offers_suffice}
 use Rattle.round_theory.proofs.Leaving.{leaves_apart}
 use Rattle.round_theory.proofs.LightOffers.{light_offers_exist}

@@ -1,4 +1,5 @@
 pub mod Picks
+pub mod PickNumbers
 pub mod Page
 pub mod Hooks
 pub mod Solver

@@ -10,8 +10,7 @@ ghost use Rattle.round_core.specs.Picks.{ArePicks, ArePicksOfHearings};
 ghost use Rattle.round_core.specs.Solver.{vertices, HasRoundsOf, IsRoundOf};
 ghost use Rattle.round_core.specs.declared.solver.SolveFault.TheVariants.{Memory};
 
-use crate::book::none_yet;
-use crate::picks::{Picks, count};
+use crate::picks::Picks;
 use crate::solver::{SolveFault, Solver, Turn};
 use limits::MAX_VERTICES;
 use link_key::{Cut, Forest, Labels, Link};
@@ -26,7 +25,7 @@ use std::alloc::{AllocError, Allocator};
 /// There are at most log2 n + 1 rounds, the last of which picks nothing. For m links in s shards a round costs
 /// O(m + s + n log n) time: each link of each shard counts for both of the components that it leaves, and
 /// [`hook_relabel`](crate::hook_relabel) makes the new labels. Memory: a vertex takes 4 bytes for its label, 16 for its
-/// pick and what `hook_relabel` needs; each link taken 12 bytes, and at the end 12 more in the forest.
+/// pick and what `hook_relabel` needs; each link taken 16 bytes, and at the end 16 more in the forest.
 pub fn solve_alone<A: Allocator + Copy>(
     alloc: A,
     n: u32,
@@ -71,25 +70,26 @@ fn pick_all<A: Allocator + Copy>(
     ensures least { IfOk result (ArePicks labels.now (Contains (joined cut.now))) }
     ensures heard { IfOk result (ArePicksOfHearings labels.now) }
 {
-    let mut best = none_yet(alloc, labels.n())?;
+    let mut picks = Picks::none(alloc, labels.n())?;
     for number in 0..cut.len() {
-        count_leaving(&mut best, labels.as_slice(), cut.shard(number).links);
+        count_leaving(&mut picks, labels.as_slice(), cut.shard(number).links);
     }
-    Ok(Picks { best })
+    Ok(picks)
 }
 
 // Counts each link of a shard that leaves a component, for both of its components.
-fn count_leaving(best: &mut [Option<Link>], labels: &[u32], links: &[Link])
+fn count_leaving<A: Allocator>(picks: &mut Picks<A>, labels: &[u32], links: &[Link])
     requires labels { AreLabels labels.now }
     requires ends { EndsUpTo (length labels.now) links.now }
-    requires each_vertex { length best.old ≡ length labels.now }
-    ensures { (seen : List TheLink) → ArePicks labels.now (Contains seen) best.old → ArePicks labels.now (Contains (seen ++ links.now)) best.new }
+    requires each_vertex { length picks.old ≡ length labels.now }
+    ensures each_vertex { length picks.new ≡ length picks.old }
+    ensures picks { (seen : List TheLink) → ArePicks labels.now (Contains seen) picks.old → ArePicks labels.now (Contains (seen ++ links.now)) picks.new }
 {
     for link in links {
         let low = labels[link.low as usize - 1];
         let high = labels[link.high as usize - 1];
         if low != high {
-            count(best, labels, *link);
+            picks.count(labels, *link);
         }
     }
 }

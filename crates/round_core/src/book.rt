@@ -7,7 +7,7 @@ ghost use Rattle.round_theory.specs.Offers.{IsNamed};
 ghost use Rattle.round_core.specs.Page.{Page, opened, is_taken, missing, is_leaving, is_offer, refusal, heard, hearings, named_links, IsPage};
 ghost use Rattle.round_core.specs.Picks.{ArePicks, AreNoPicks};
 
-use crate::picks::{Picks, count};
+use crate::picks::Picks;
 use crate::refusals::Refusal;
 use frames::Answer;
 use limits::MAX_SHARDS;
@@ -28,7 +28,7 @@ pub struct RoundBook<'a, A: Allocator = Global> {
     labels: &'a Labels<A>,
     taken: Vec<bool, A>,
     answers: Vec<Answer<A>, A>,
-    best: Vec<Option<Link>, A>,
+    picks: Picks<A>,
 }
 
 impl<'a, A: Allocator> Model for RoundBook<'a, A> {
@@ -39,7 +39,7 @@ impl<'a, A: Allocator> Model for RoundBook<'a, A> {
 
     ghost view = { λ s. record { round = s.round; cut = s.cut.now; labels = s.labels.now; taken = s.taken.items; answers = s.answers.items } };
 
-    ghost invariant = { λ s. IsBook (record { round = s.round; cut = s.cut.now; labels = s.labels.now; taken = s.taken.items; answers = s.answers.items }) (vec_capacity s.answers) s.best.items };
+    ghost invariant = { λ s. IsBook (record { round = s.round; cut = s.cut.now; labels = s.labels.now; taken = s.taken.items; answers = s.answers.items }) (vec_capacity s.answers) s.picks };
 }
 
 impl<'a, A: Allocator + Copy> RoundBook<'a, A> {
@@ -56,14 +56,14 @@ impl<'a, A: Allocator + Copy> RoundBook<'a, A> {
         let shards = cut.len() as usize;
         let taken = vec![in alloc; false; shards]?;
         let answers = Vec::with_capacity(alloc, shards)?;
-        let best = none_yet(alloc, labels.n())?;
+        let picks = Picks::none(alloc, labels.n())?;
         Ok(RoundBook {
             round,
             cut,
             labels,
             taken,
             answers,
-            best,
+            picks,
         })
     }
 }
@@ -172,29 +172,14 @@ impl<'a, A: Allocator> RoundBook<'a, A> {
             labels,
             taken: _,
             answers,
-            mut best,
+            mut picks,
         } = self;
         for answer in &answers {
             let links = cut.shard(answer.shard).links;
-            count_all(&mut best, labels.as_slice(), links, answer.offers.pairs());
+            count_all(&mut picks, labels.as_slice(), links, answer.offers.pairs());
         }
-        Picks { best }
+        picks
     }
-}
-
-// No pick for each of n labels.
-pub(crate) fn none_yet<A: Allocator + Copy>(
-    alloc: A,
-    n: u32,
-) -> Result<Vec<Option<Link>, A>, AllocError>
-    ensures each_vertex { IfOk result (λ best. length best.items ≡ n) }
-    ensures none { IfOk result (λ best. AreNoPicks best.items) }
-{
-    let mut best = Vec::with_capacity(alloc, n as usize)?;
-    for _ in 0..n {
-        best.push(None)?;
-    }
-    Ok(best)
 }
 
 // Whether each pair is the place of a link with exactly one end under the label.
@@ -232,15 +217,21 @@ fn leaves(labels: &[u32], link: Link, label: u32) -> bool
 }
 
 // Counts each offered link of a shard for both of its components.
-fn count_all(best: &mut [Option<Link>], labels: &[u32], links: &[Link], pairs: &[(u32, u32)])
+fn count_all<A: Allocator>(
+    picks: &mut Picks<A>,
+    labels: &[u32],
+    links: &[Link],
+    pairs: &[(u32, u32)],
+)
     requires labels { AreLabels labels.now }
     requires ends { EndsUpTo (length labels.now) links.now }
-    requires each_vertex { length best.old ≡ length labels.now }
+    requires each_vertex { length picks.old ≡ length labels.now }
     requires offers { list_all (is_offer links.now labels.now) pairs.now ≡ true }
-    ensures { (seen : List TheLink) → ArePicks labels.now (Contains seen) best.old
-        → ArePicks labels.now (Contains (seen ++ named_links links.now pairs.now)) best.new }
+    ensures each_vertex { length picks.new ≡ length picks.old }
+    ensures picks { (seen : List TheLink) → ArePicks labels.now (Contains seen) picks.old
+        → ArePicks labels.now (Contains (seen ++ named_links links.now pairs.now)) picks.new }
 {
     for (_, place) in pairs {
-        count(best, labels, links[*place as usize]);
+        picks.count(labels, links[*place as usize]);
     }
 }

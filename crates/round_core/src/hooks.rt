@@ -29,22 +29,22 @@ pub fn hook_relabel<A: Allocator + Copy>(
 {
     let old = labels.as_slice();
     let mut components = Components::apart(alloc, labels.n())?;
-    hook_all(&mut components, old, picks.as_slice());
+    hook_all(&mut components, old, picks);
     let least = least_members(alloc, old, &components)?;
     Ok(Labels::of_known(least))
 }
 
 // Makes the components of the ends of each pick one, where each old label is a component by itself.
-fn hook_all<A: Allocator>(components: &mut Components<A>, labels: &[u32], picks: &[Option<Link>])
+fn hook_all<A: Allocator>(components: &mut Components<A>, labels: &[u32], picks: &Picks<A>)
     requires labels { AreLabels labels.now }
     requires ends { (l : TheLink) → Picked picks.now l → l.high ≤ length labels.now }
     requires each_label { length components.old ≡ length labels.now + 1 }
     requires apart { EachIndex components.old (λ v. slice_index components.old v ≡ v) }
     ensures { AreJoined labels.now (Picked picks.now) components.new }
 {
-    for pick in picks {
-        if let Some(link) = pick {
-            hook(components, labels, *link);
+    for place in 0..picks.len() {
+        if let Some(link) = picks.at(place) {
+            hook(components, labels, link);
         }
     }
 }

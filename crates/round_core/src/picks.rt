@@ -1,30 +1,54 @@
-ghost use Rattle.std.specs.Prelude.{◌≡◌, ◌≢◌, ℕ, List, ◌+◌, ◌-◌, ◌<◌, ◌≤◌, ◌↔◌, [], ◌∷◌, ◌++◌, length, slice_index_or, Some, None, IsTrue, IsSomeAnd, MatchOption, Contains};
+ghost use Rattle.std.specs.Prelude.{◌≡◌, ◌≢◌, ℕ, List, ◌+◌, ◌-◌, ◌<◌, ◌≤◌, ◌↔◌, [], ◌∷◌, ◌++◌, length, slice_index_or, All, Some, None, IsTrue, IfOk, Contains};
 ghost use Rattle.link_key.specs.declared.links.Link.{Link as TheLink};
-ghost use Rattle.link_key.specs.Link.{EndsUpTo};
 ghost use Rattle.link_key.specs.Labels.{label_of, AreLabels};
-ghost use Rattle.round_theory.specs.Offers.{IsLesser};
 ghost use Rattle.round_core.specs.Picks.{pick_of, AreNoPicks, ArePicks};
+ghost use Rattle.round_core.specs.PickNumbers.{IsKeyNumber, IsPickNumber, pick_in};
 
 use link_key::Link;
-use std::alloc::{Allocator, Global};
+use std::alloc::{AllocError, Allocator, Global};
 use std::marker::Model;
+
+// The number of no pick, past those of all keys.
+const NO_PICK: u128 = u128::MAX;
+
+// A unit of the weight's number, and one of the lower end, in a key's number.
+const PER_WEIGHT: u128 = 1 << 64;
+
+const PER_LOW: u128 = 1 << 32;
+
+// How far 0 is above the least weight.
+const ABOVE_LEAST: i128 = 1 << 63;
 
 /// The picks of a round: for each label the least of all offered links with exactly one end under it. An offered link
 /// counts for both of its components.
 ///
-/// 16 bytes a vertex.
+/// 16 bytes a vertex: a pick is kept as the number of its key, so that a link is counted without a branch.
 #[derive(Drop)]
 pub struct Picks<A: Allocator = Global> {
-    pub(crate) best: Vec<Option<Link>, A>,
+    numbers: Vec<u128, A>,
 }
 
 impl<A: Allocator> Model for Picks<A> {
-    ghost use Rattle.std.specs.Prelude.{List, Option};
+    ghost use Rattle.std.specs.Prelude.{List, Option, All, map};
     ghost use Rattle.link_key.specs.declared.links.Link.{Link};
+    ghost use Rattle.round_core.specs.PickNumbers.{pick_in, IsPickNumber};
 
     ghost Value = { List (Option Link) };
 
-    ghost view = { λ s. s.best.items };
+    ghost view = { λ s. map pick_in s.numbers.items };
+
+    ghost invariant = { λ s. All IsPickNumber s.numbers.items };
+}
+
+impl<A: Allocator + Copy> Picks<A> {
+    // No pick for each of n labels.
+    pub(crate) fn none(alloc: A, n: u32) -> Result<Self, AllocError>
+        ensures each_vertex { IfOk result (λ picks. length picks ≡ n) }
+        ensures none { IfOk result AreNoPicks }
+    {
+        let numbers = vec![in alloc; NO_PICK; n as usize]?;
+        Ok(Picks { numbers })
+    }
 }
 
 impl<A: Allocator> Picks<A> {
@@ -34,46 +58,78 @@ impl<A: Allocator> Picks<A> {
         requires to_n { label ≤ length self.now }
         ensures { result ≡ pick_of self.now label }
     {
-        self.best[label as usize - 1]
+        self.at(label as usize - 1)
     }
 
     /// Whether no label has a pick.
     pub fn is_empty(&self) -> bool
         ensures { IsTrue result ↔ AreNoPicks self.now }
     {
-        self.best.iter().all(|pick| pick.is_none())
+        are_no_picks(self.numbers.as_slice())
     }
 
-    // The picks in the order of the vertices.
-    pub(crate) fn as_slice(&self) -> &[Option<Link>]
-        ensures { result.now ≡ self.now }
+    // The number of vertices.
+    pub(crate) fn len(&self) -> usize
+        ensures { result ≡ length self.now }
     {
-        self.best.as_slice()
+        self.numbers.len()
+    }
+
+    // The pick of the vertex that so many vertices stand before.
+    #[inline]
+    pub(crate) fn at(&self, before: usize) -> Option<Link>
+        requires { before < length self.now }
+        ensures { result ≡ slice_index_or self.now before None }
+    {
+        pick_of_number(self.numbers[before])
+    }
+
+    // Counts a link for both of the components that it leaves.
+    #[inline]
+    pub(crate) fn count(&mut self, labels: &[u32], link: Link)
+        requires labels { AreLabels labels.now }
+        requires ends { link.high ≤ length labels.now }
+        requires each_vertex { length self.old ≡ length labels.now }
+        requires leaving { label_of labels.now link.low ≢ label_of labels.now link.high }
+        ensures each_vertex { length self.new ≡ length self.old }
+        ensures picks { (seen : List TheLink) → ArePicks labels.now (Contains seen) self.old → ArePicks labels.now (Contains (seen ++ link ∷ [])) self.new }
+    {
+        let number = key_number(link);
+        let low = labels[link.low as usize - 1] as usize - 1;
+        let high = labels[link.high as usize - 1] as usize - 1;
+        self.numbers[low] = self.numbers[low].min(number);
+        self.numbers[high] = self.numbers[high].min(number);
     }
 }
 
-// Of the best link so far and another one the lesser.
-#[inline]
-pub(crate) fn lesser(best: Option<Link>, link: Link) -> Option<Link>
-    ensures { IsSomeAnd result (λ least. MatchOption best (least ≡ link) (λ l. IsLesser l link least)) }
+// Whether each number is that of no pick.
+fn are_no_picks(numbers: &[u128]) -> bool
+    ensures { IsTrue result ↔ All (λ k. k ≡ NO_PICK) numbers.now }
 {
-    match best {
-        Some(earlier) => Some(if link < earlier { link } else { earlier }),
-        None => Some(link),
-    }
+    numbers.iter().all(|number| *number == NO_PICK)
 }
 
-// Counts a link for both of the components that it leaves.
+// The number of a link's key. Numbers compare as keys do.
 #[inline]
-pub(crate) fn count(best: &mut [Option<Link>], labels: &[u32], link: Link)
-    requires labels { AreLabels labels.now }
-    requires ends { link.high ≤ length labels.now }
-    requires each_vertex { length best.old ≡ length labels.now }
-    requires leaving { label_of labels.now link.low ≢ label_of labels.now link.high }
-    ensures { (seen : List TheLink) → ArePicks labels.now (Contains seen) best.old → ArePicks labels.now (Contains (seen ++ link ∷ [])) best.new }
+fn key_number(link: Link) -> u128
+    ensures { IsKeyNumber link result }
 {
-    let low = labels[link.low as usize - 1] as usize - 1;
-    let high = labels[link.high as usize - 1] as usize - 1;
-    best[low] = lesser(best[low], link);
-    best[high] = lesser(best[high], link);
+    let weight = (i128::from(link.weight) + ABOVE_LEAST) as u128;
+    weight * PER_WEIGHT + u128::from(link.low) * PER_LOW + u128::from(link.high)
+}
+
+// The pick that a number tells.
+#[inline]
+fn pick_of_number(number: u128) -> Option<Link>
+    requires { IsPickNumber number }
+    ensures { result ≡ pick_in number }
+{
+    if number == NO_PICK {
+        return None;
+    }
+    Some(Link {
+        weight: ((number / PER_WEIGHT) as i128 - ABOVE_LEAST) as i64,
+        low: (number / PER_LOW % PER_LOW) as u32,
+        high: (number % PER_LOW) as u32,
+    })
 }

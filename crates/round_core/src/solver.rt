@@ -54,7 +54,7 @@ impl From<AllocError> for SolveFault {
 /// [`laws::rounds_end_with_forest`](crate::laws::rounds_end_with_forest) says. It believes no count of rounds: a round with
 /// picks that comes past the bound is refused.
 ///
-/// 4 bytes a vertex, and 12 bytes for each link taken.
+/// 4 bytes a vertex, and 16 bytes for each link taken.
 #[derive(Drop)]
 pub struct Solver<A: Allocator = Global> {
     labels: Labels<A>,
@@ -107,7 +107,7 @@ impl<A: Allocator + Copy> Solver<A> {
         }
         let alloc = *self.taken.allocator();
         let labels = hook_relabel(alloc, &self.labels, picks)?;
-        let mut links = picked_links(alloc, self.labels.as_slice(), picks.as_slice())?;
+        let mut links = picked_links(alloc, self.labels.as_slice(), picks)?;
         let count = links.len() as u32;
         self.taken.append(&mut links)?;
         self.labels = labels;
@@ -127,7 +127,7 @@ impl<A: Allocator + Copy> Solver<A> {
     /// in its order, whose ends they don't join; that is looked for before memory is asked for.
     ///
     /// It looks at each link of the cut once, and sorts the links taken: for m links of n vertices O(m + n log n) time,
-    /// and 12 bytes for each link taken.
+    /// and 16 bytes for each link taken.
     pub fn finish(&self, cut: &Cut<A>) -> Result<Forest<A>, SolveFault>
         requires ends { All (EndsUpTo (vertices self.now)) cut.now }
         ensures forest { IfOk result (IsFinished self.now (joined cut.now)) }
@@ -170,7 +170,7 @@ fn is_past_bound(round: u32, n: u32) -> bool
 fn picked_links<A: Allocator + Copy>(
     alloc: A,
     labels: &[u32],
-    picks: &[Option<Link>],
+    picks: &Picks<A>,
 ) -> Result<Vec<Link, A>, AllocError>
     requires labels { AreLabels labels.now }
     requires picks { ArePicksOfHearings labels.now picks.now }
@@ -178,8 +178,8 @@ fn picked_links<A: Allocator + Copy>(
     ensures few { IfOk result (λ links. length links.items ≤ length picks.now) }
 {
     let mut links = Vec::new(alloc);
-    for (place, pick) in picks.iter().enumerate() {
-        if let Some(link) = *pick {
+    for place in 0..picks.len() {
+        if let Some(link) = picks.at(place) {
             if is_first(labels, picks, place, link) {
                 links.push(link)?;
             }
@@ -189,7 +189,7 @@ fn picked_links<A: Allocator + Copy>(
 }
 
 // Whether no lesser label picks the link: only the labels of its two ends do.
-fn is_first(labels: &[u32], picks: &[Option<Link>], place: usize, link: Link) -> bool
+fn is_first<A: Allocator>(labels: &[u32], picks: &Picks<A>, place: usize, link: Link) -> bool
     requires labels { AreLabels labels.now }
     requires picks { ArePicksOfHearings labels.now picks.now }
     requires here { slice_index_or picks.now place None ≡ Some link }
@@ -198,7 +198,7 @@ fn is_first(labels: &[u32], picks: &[Option<Link>], place: usize, link: Link) ->
     let low = labels[link.low as usize - 1];
     let high = labels[link.high as usize - 1];
     let lesser = low.min(high) as usize - 1;
-    lesser == place || !is_pick(picks[lesser], link)
+    lesser == place || !is_pick(picks.at(lesser), link)
 }
 
 // Whether the pick is the link.

@@ -1,5 +1,4 @@
-use Rattle.std.proofs.Common.{◌≡◌, ◌<◌, ◌++◌, List, length, take, Contains, sym, ap, ◌∙◌, subst, take_all, arith}
-use Rattle.std.proofs.lemmas.List.{with_items_is}
+use Rattle.std.proofs.Common.{◌≡◌, ◌<◌, ◌++◌, List, length, take, Contains, sym, ◌∙◌, subst, take_all, arith}
 use Rattle.link_key.specs.declared.links.Link.{Link}
 use Rattle.link_key.specs.Cut.{joined, links_at}
 use Rattle.round_core.specs.Picks.{ArePicks}
@@ -10,8 +9,8 @@ use Rattle.round_core.proofs.alone.pick_all.Goals as goal
 
 pub loop-number-init : goal.loop-number-init
 loop-number-init g c =
-    let long = c.in_ok-best.ensures.each_vertex ∙ c.n.ensures.vertices in
-    record { each_vertex = long; picks = no_picks c.args.labels.now c.in_ok-best.best.items long c.in_ok-best.ensures.none }
+    let long = c.in_ok-picks.ensures.each_vertex ∙ c.n.ensures.vertices in
+    record { each_vertex = long; picks = no_picks c.args.labels.now c.in_ok-picks.picks long c.in_ok-picks.ensures.none }
 
 pub count_leaving-requires-clause-ends : goal.count_leaving-requires-clause-ends
 count_leaving-requires-clause-ends g c =
@@ -19,7 +18,7 @@ count_leaving-requires-clause-ends g c =
     rw (c.as_slice.ensures.labels, c.shard.ensures.links) (shard_ends (length c.args.labels.now) c.args.cut.now c.loop-number.number c.requires.ends within)
 
 pub count_leaving-requires-clause-each_vertex : goal.count_leaving-requires-clause-each_vertex
-count_leaving-requires-clause-each_vertex g c = rw (c.deref_mut.ensures.value, c.as_slice.ensures.labels) c.loop-number.invariant.each_vertex
+count_leaving-requires-clause-each_vertex g c = rw c.as_slice.ensures.labels c.loop-number.invariant.each_vertex
 
 pub loop-number-preserved : goal.loop-number-preserved
 loop-number-preserved g c =
@@ -27,19 +26,18 @@ loop-number-preserved g c =
     let labels = c.args.labels.now in
     let number = c.loop-number.number in
     let within : number < length cut = omega (arith, c.loop-number-test.true, c.len-number-end.ensures.shards) in
-    let items = with_items_is c.loop-number.best c.count_leaving.new.best (c.count_leaving.auto.best ∙ c.deref_mut.ensures.len) in
-    let before : ArePicks c.as_slice.result.now (Contains (joined (take number cut))) c.deref_mut.result.now = rw (c.as_slice.ensures.labels, c.deref_mut.ensures.value) c.loop-number.invariant.picks in
-    let counted : ArePicks c.as_slice.result.now (Contains (joined (take number cut) ++ c.shard.result.links.now)) c.count_leaving.new.best = c.count_leaving.ensures (joined (take number cut)) before in
-    let here : ArePicks labels (Contains (joined (take number cut) ++ links_at cut number)) c.count_leaving.new.best = rw (← c.as_slice.ensures.labels, ← c.shard.ensures.links) counted in
-    rw items (record {
-      each_vertex = c.count_leaving.auto.best ∙ ap length c.deref_mut.ensures.value ∙ c.loop-number.invariant.each_vertex;
-      picks = subst (λ (xs : List Link). ArePicks labels (Contains xs) c.count_leaving.new.best) (sym (one_more_shard cut number within)) here;
-    })
+    let before : ArePicks c.as_slice.result.now (Contains (joined (take number cut))) c.loop-number.picks = rw c.as_slice.ensures.labels c.loop-number.invariant.picks in
+    let counted : ArePicks c.as_slice.result.now (Contains (joined (take number cut) ++ c.shard.result.links.now)) c.count_leaving.new.picks = c.count_leaving.ensures.picks (joined (take number cut)) before in
+    let here : ArePicks labels (Contains (joined (take number cut) ++ links_at cut number)) c.count_leaving.new.picks = rw (← c.as_slice.ensures.labels, ← c.shard.ensures.links) counted in
+    record {
+      each_vertex = c.count_leaving.ensures.each_vertex ∙ c.loop-number.invariant.each_vertex;
+      picks = subst (λ (xs : List Link). ArePicks labels (Contains xs) c.count_leaving.new.picks) (sym (one_more_shard cut number within)) here;
+    }
 
 pub returns : goal.returns
 returns g c =
     let cut = c.args.cut.now in
     let labels = c.args.labels.now in
     let all : take c.loop-number.number cut ≡ cut = take_all c.loop-number.number cut (omega (arith, c.loop-number-test.false, c.len-number-end.ensures.shards)) in
-    let are : ArePicks labels (Contains (joined cut)) c.loop-number.best.items = subst (λ (xs : List (List Link)). ArePicks labels (Contains (joined xs)) c.loop-number.best.items) all c.loop-number.invariant.picks in
-    record { least = are; heard = picks_of_hearings (joined cut) labels c.loop-number.best.items are }
+    let are : ArePicks labels (Contains (joined cut)) c.loop-number.picks = subst (λ (xs : List (List Link)). ArePicks labels (Contains (joined xs)) c.loop-number.picks) all c.loop-number.invariant.picks in
+    record { least = are; heard = picks_of_hearings (joined cut) labels c.loop-number.picks are }

@@ -5,7 +5,7 @@ use Rattle.round_core.specs.Picks.{ArePicks}
 use Rattle.round_core.proofs.book.count_all.Given as goal
 
 abbrev pub invariant-loop-place : goal.invariant-loop-place
-invariant-loop-place l = record {
-  each_vertex : length l.best ≡ length l.labels;
-  picks : (seen : List Link) → ArePicks l.labels (Contains seen) l.initial.best → ArePicks l.labels (Contains (seen ++ named_links l.links (take l.place-index l.pairs))) l.best;
+invariant-loop-place g l = record {
+  each_vertex : length l.picks ≡ length l.labels;
+  picks : (seen : List Link) → ArePicks l.labels (Contains seen) l.initial.picks → ArePicks l.labels (Contains (seen ++ named_links l.links (take l.place-index l.pairs))) l.picks;
 }

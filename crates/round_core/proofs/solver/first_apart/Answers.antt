@@ -1,5 +1,4 @@
-use Rattle.std.proofs.Common.{sym, ap, ◌∙◌, cond, ◌+◌, Some, None, arith}
-use Rattle.round_core.specs.Solver.{missed}
+use Rattle.std.proofs.Common.{sym, ap, ◌∙◌, cond, ◌+◌, Some, None}
 use Rattle.round_core.proofs.Missing.{missed_more, missed_at_front, apart_is, not_apart_is}
 use Rattle.round_core.proofs.solver.first_apart.Goals as goal
 

@@ -1,5 +1,4 @@
-use Rattle.std.proofs.Common.{◌≡◌, ◌≢◌, Bool, true, false, List, sym, subst, arith}
-use Rattle.std.specs.Prelude.{AllPairs}
+use Rattle.std.proofs.Common.{◌≡◌, true, false, List, subst}
 use Rattle.std.specs.List.Sorted.{IsPermutation}
 use Rattle.link_key.specs.declared.links.Link.{Link}
 use Rattle.link_key.specs.Link.{IsAscending}

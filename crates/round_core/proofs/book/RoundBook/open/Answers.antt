@@ -1,4 +1,4 @@
-use Rattle.std.proofs.Common.{◌≡◌, ◌≤◌, length, replicate, false, ◌∙◌, ap, arith}
+use Rattle.std.proofs.Common.{◌≡◌, replicate, false, ◌∙◌, ap, arith}
 use Rattle.round_core.proofs.Books.{book_opened}
 use Rattle.round_core.proofs.book.RoundBook.open.Goals as goal
 
@@ -10,5 +10,5 @@ invariant_of-result g c =
     (taken ∙ ap (λ k. replicate k false) c.len-shards.ensures.shards)
     c.in_ok-answers.ensures.items
     (omega (arith, c.in_ok-answers.ensures.exact, c.len-shards.ensures.shards))
-    (c.in_ok-best.ensures.each_vertex ∙ c.n.ensures.vertices)
-    c.in_ok-best.ensures.none
+    (c.in_ok-picks.ensures.each_vertex ∙ c.n.ensures.vertices)
+    c.in_ok-picks.ensures.none

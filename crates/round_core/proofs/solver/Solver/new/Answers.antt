@@ -1,4 +1,3 @@
-use Rattle.std.proofs.Common.{arith}
 use Rattle.round_core.proofs.Merging.{at_start}
 use Rattle.round_core.proofs.solver.Solver.new.Goals as goal
 

@@ -1,0 +1,40 @@
+-- Picks as numbers that compare as the keys of the picked links do: the weight, counted from the least one on, the lower end and the higher end, one behind the other.
+use Rattle.std.specs.Prelude.{◌≡◌, ℕ, ◌-◌, ◌/◌, ◌%◌, ◌^◌, ◌<◌, ◌≤◌, ◌⊎◌, pos, ◌+ℤ◌, ◌-ℤ◌, Option, Some, None, FitsSigned}
+use Rattle.std.specs.Int.{w64}
+use Rattle.std.proofs.Common.{inl, inr}
+use Rattle.std.proofs.lemmas.Bool.{cases_lt}
+use Rattle.std.proofs.lemmas.Int.{ints}
+use Rattle.std.proofs.Common.{arith}
+use Rattle.limits.specs.declared.TheConstants.{MAX_VERTICES}
+use Rattle.link_key.specs.declared.links.Link.{Link}
+use Rattle.link_key.specs.WideKey.{wide_key}
+
+-- the number of the link's key: the key as one signed number, counted from the least one of 128 bits on
+abbrev pub IsKeyNumber : Link → ℕ → Type 0
+IsKeyNumber l k = pos k ≡ wide_key l +ℤ pos (2 ^ 127)
+
+-- the number of no pick, past those of all keys
+abbrev pub no_pick : ℕ
+no_pick = 2 ^ 128 - 1
+
+-- the number of a pick: that of a link's key, or that of no pick
+abbrev pub IsPickNumber : ℕ → Type 0
+IsPickNumber k = (k ≡ no_pick) ⊎ ((l : Link) × IsKeyNumber l k)
+
+-- a weight, counted from the least one on, has 64 bits
+pub weight_fits : (above : ℕ) → above < 2 ^ 64 → FitsSigned w64 (pos above -ℤ pos (2 ^ 63))
+weight_fits above few = omega (arith, ints)
+
+-- the link of a weight, counted from the least one on, and of two ends, where they are a link's
+abbrev pub link_of : (above low high : ℕ) → (above < 2 ^ 64) ⊎ (2 ^ 64 ≤ above) → (0 < low) ⊎ (low ≤ 0) → (low < high) ⊎ (high ≤ low) → (MAX_VERTICES < high) ⊎ (high ≤ MAX_VERTICES) → Option Link
+link_of above low high (inl few) (inl from_one) (inl ascending) (inr in_limit) =
+    Some (record { weight = pos above -ℤ pos (2 ^ 63); low = low; high = high; from_one = from_one; ascending = ascending; in_limit = in_limit; weight_fits = weight_fits above few })
+link_of above low high _ _ _ _ = None
+
+-- the pick that a number tells: the link whose key has the number, if there is one
+unfoldable pub pick_in : ℕ → Option Link
+pick_in k =
+    let above : ℕ = k / 2 ^ 64 in
+    let low : ℕ = k / 2 ^ 32 % 2 ^ 32 in
+    let high : ℕ = k % 2 ^ 32 in
+    link_of above low high (cases_lt above (2 ^ 64)) (cases_lt 0 low) (cases_lt low high) (cases_lt MAX_VERTICES high)
