@@ -8,3 +8,4 @@ pub mod Streams
 pub mod NeverRefused
 pub mod FrameStreams
 pub mod Refusing
+pub mod NextFrames

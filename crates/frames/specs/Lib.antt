@@ -6,3 +6,4 @@ pub mod Refusals
 pub mod OneText
 pub mod FrameStream
 pub mod ReadFault
+pub mod NextFrame

@@ -1,6 +1,5 @@
 //! Frames from bytes.
 ghost use Rattle.std.specs.Prelude.{◌≡◌, ◌*◌, length, IfOk, IfErr};
-ghost use Rattle.link_key.specs.Labels.{AreLabels};
 ghost use Rattle.frames.specs.FrameValue.{value_of};
 ghost use Rattle.frames.specs.Refusals.{IsPossible, IsWithItems, IsFrameOf, BodyRefused};
 
@@ -8,7 +7,7 @@ use crate::fault::FrameFault;
 use crate::fields::{split_u16, split_u32};
 use crate::frame::{Answer, Frame, Links, VERSION};
 use crate::head::Head;
-use crate::items::{fit_32_bits, links_of, numbers_of, offers_of, spells, wide_links_of};
+use crate::items::{fit_32_bits, links_of, numbers_of, offers_of, wide_links_of};
 use limits::{MAX_SHARD_LINKS, MAX_SHARDS, MAX_VERTICES, MAX_WORKERS};
 use link_key::{Labels, Offers};
 use std::alloc::Allocator;
@@ -25,26 +24,10 @@ pub fn decode_body<A: Allocator>(alloc: A, head: Head, body: &[u8]) -> Result<Fr
     ensures frame { IfOk result (λ f. IsFrameOf (value_of f) head.kind body.now) }
     ensures refused { IfErr result (λ fault. BodyRefused fault head.kind body.now) }
 {
-    decode_body_after(alloc, head, body, &[])
-}
-
-// The same, behind an ask of these labels: where the body is that of another one of them, they are copied.
-pub(crate) fn decode_body_after<A: Allocator>(
-    alloc: A,
-    head: Head,
-    body: &[u8],
-    last: &[u32],
-) -> Result<Frame<A>, FrameFault>
-    requires labels { AreLabels last.now }
-    requires length { length body.now ≡ head.length }
-    requires possible { IsPossible head.kind head.length }
-    ensures frame { IfOk result (λ f. IsFrameOf (value_of f) head.kind body.now) }
-    ensures refused { IfErr result (λ fault. BodyRefused fault head.kind body.now) }
-{
     match head.kind {
         1 => decode_hello(body),
         2 => decode_shard(alloc, body),
-        3 => decode_ask(alloc, body, last),
+        3 => decode_ask(alloc, body),
         4 => decode_answer(alloc, body),
         5 => decode_fault(body),
         _ => decode_wide_shard(alloc, body),
@@ -100,9 +83,8 @@ fn decode_wide_shard<A: Allocator>(alloc: A, body: &[u8]) -> Result<Frame<A>, Fr
     Ok(Frame::Shard { number, links })
 }
 
-fn decode_ask<A: Allocator>(alloc: A, body: &[u8], last: &[u32]) -> Result<Frame<A>, FrameFault>
-    requires labels { AreLabels last.now }
-    requires length { IsWithItems 12 4 MAX_VERTICES (length body.now) }
+fn decode_ask<A: Allocator>(alloc: A, body: &[u8]) -> Result<Frame<A>, FrameFault>
+    requires { IsWithItems 12 4 MAX_VERTICES (length body.now) }
     ensures frame { IfOk result (λ f. IsFrameOf (value_of f) 3 body.now) }
     ensures refused { IfErr result (λ fault. BodyRefused fault 3 body.now) }
 {
@@ -111,14 +93,6 @@ fn decode_ask<A: Allocator>(alloc: A, body: &[u8], last: &[u32]) -> Result<Frame
     let (count, rest) = split_u32(rest);
     if shard as usize >= MAX_SHARDS || count as usize != rest.len() / 4 {
         return Err(FrameFault::BadField);
-    }
-    if spells(rest, last) {
-        let labels = Labels::of_known(Vec::from_slice(alloc, last)?);
-        return Ok(Frame::Ask {
-            round,
-            shard,
-            labels,
-        });
     }
     let numbers = numbers_of(alloc, rest)?;
     match Labels::of_list(numbers) {

@@ -1,16 +1,17 @@
 //! Frames from a stream of bytes.
 ghost use Rattle.std.specs.Prelude.{◌≡◌, ℕ, List, ◌+◌, ◌<◌, ◌≤◌, ◌^◌, ◌++◌, length, IfOk, IfErr, OnOk, vec_len};
 ghost use Rattle.byte_streams.specs.Streams.{Gave};
-ghost use Rattle.link_key.specs.Labels.{AreLabels};
 ghost use Rattle.frames.specs.FrameValue.{value_of};
 ghost use Rattle.frames.specs.FrameText.{text_of};
 ghost use Rattle.frames.specs.Lawful.{IsLawful};
+ghost use Rattle.frames.specs.Refusals.{IsPossible};
 ghost use Rattle.frames.specs.ReadFault.{IsReadRefused, IsCutShort};
+ghost use Rattle.frames.specs.NextFrame.{BodyCame, IsBodyRefused};
 
-use crate::decoding::decode_body_after;
+use crate::decoding::decode_body;
 use crate::fault::FrameFault;
 use crate::frame::Frame;
-use crate::head::decode_head;
+use crate::head::{Head, decode_head};
 use byte_streams::{FillFault, Source, fill};
 use std::alloc::Allocator;
 
@@ -45,35 +46,31 @@ pub fn read_frame<A: Allocator + Copy, S: Source>(
     ensures lasts { (fact : S.Fact) → S.lasts source.old fact → S.lasts source.new fact }
     ensures again { OnOk result (S.can_read source.new) }
 {
-    read_frame_after(alloc, source, &[])
+    let bytes = read_head(source)?;
+    let head = decode_head(&bytes)?;
+    read_rest(alloc, source, head)
 }
 
-/// The next frame of a stream, as [`read_frame`] has it, behind an ask under these labels.
-///
-/// Where it is another ask under them, they are seen to be the same by one look at their bytes, and copied: whether they
-/// are labels isn't judged again.
-pub fn read_frame_after<A: Allocator + Copy, S: Source>(
+// The frame whose head came.
+pub(crate) fn read_rest<A: Allocator + Copy, S: Source>(
     alloc: A,
     source: &mut S,
-    last: &[u32],
+    head: Head,
 ) -> Result<Frame<A>, FrameFault>
-    requires labels { AreLabels last.now }
     requires can { S.can_read source.old }
-    ensures lawful { IfOk result (λ f. IsLawful (value_of f)) }
-    ensures text { IfOk result
-        (λ f. Gave 0 0 (text_of (value_of f)) (S.state source.old) (S.state source.new)) }
+    requires possible { IsPossible head.kind head.length }
+    ensures came { IfOk result
+        (λ f. BodyCame (value_of f) head.kind head.length (S.state source.old) (S.state source.new)) }
     ensures refused { IfErr result
-        (λ fault. IsReadRefused fault (S.state source.old) (S.state source.new)) }
+        (λ fault. IsBodyRefused fault head.kind head.length (S.state source.old) (S.state source.new)) }
     ensures lasts { (fact : S.Fact) → S.lasts source.old fact → S.lasts source.new fact }
     ensures again { OnOk result (S.can_read source.new) }
 {
-    let bytes = read_head(source)?;
-    let head = decode_head(&bytes)?;
     let body = read_body(alloc, source, head.length)?;
-    decode_body_after(alloc, head, body.as_slice(), last)
+    decode_body(alloc, head, body.as_slice())
 }
 
-fn read_head<S: Source>(source: &mut S) -> Result<[u8; 5], FrameFault>
+pub(crate) fn read_head<S: Source>(source: &mut S) -> Result<[u8; 5], FrameFault>
     requires { S.can_read source.old }
     ensures came { IfOk result
         (λ bytes. Gave 0 0 bytes (S.state source.old) (S.state source.new)) }
@@ -92,7 +89,7 @@ fn read_head<S: Source>(source: &mut S) -> Result<[u8; 5], FrameFault>
 }
 
 // The next `len` bytes.
-fn read_body<A: Allocator, S: Source>(
+pub(crate) fn read_body<A: Allocator, S: Source>(
     alloc: A,
     source: &mut S,
     len: u32,
@@ -133,7 +130,19 @@ fn read_more<A: Allocator, S: Source>(
 {
     let start = body.len();
     body.resize(start + count, 0)?;
-    match fill(source, &mut body[start..]) {
+    read_bytes(source, &mut body[start..])
+}
+
+// The next bytes of a body, as many as there is room for.
+pub(crate) fn read_bytes<S: Source>(source: &mut S, bytes: &mut [u8]) -> Result<(), FrameFault>
+    requires { S.can_read source.old }
+    ensures came { OnOk result (Gave 0 0 bytes.new (S.state source.old) (S.state source.new)) }
+    ensures short { IfErr result
+        (λ fault. IsCutShort fault (length bytes.new) (S.state source.old) (S.state source.new)) }
+    ensures lasts { (fact : S.Fact) → S.lasts source.old fact → S.lasts source.new fact }
+    ensures again { OnOk result (S.can_read source.new) }
+{
+    match fill(source, bytes) {
         Ok(()) => Ok(()),
         Err(FillFault::Failed(_)) => Err(FrameFault::Device),
         Err(FillFault::Ended(_)) => Err(FrameFault::Torn),

@@ -36,11 +36,13 @@ mod head;
 mod items;
 mod lawful;
 pub mod laws;
+mod next_frame;
 
 pub use decoding::decode_body;
 pub use encoding::{ask_parts, encode, encode_ask, encode_ask_over, encode_shard, fault_bytes};
 pub use fault::FrameFault;
 pub use frame::{Answer, Frame, Links, VERSION};
-pub use frame_reader::{read_frame, read_frame_after};
+pub use frame_reader::read_frame;
 pub use head::{Head, decode_head};
 pub use items::fit_32_bits;
+pub use next_frame::{NextFrame, read_next};

@@ -1,4 +1,4 @@
-use Rattle.std.proofs.Common.{◌≡◌, arith, rules, refl}
+use Rattle.std.proofs.Common.{arith, refl}
 use Rattle.frames.proofs.decoding.decode_ask.Goals.{then-shard-ge-MAX_SHARDS-via-then-shard-ge-MAX_SHARDS, then-shard-ge-MAX_SHARDS-via-else-shard-ge-MAX_SHARDS+then-count-rest}
 use Rattle.std.proofs.lemmas.Result.{err_from_is_err_and}
 use Rattle.frames.proofs.Decoded.{ask_refused, ask_begun, ask_found, ask_unlabelled}
@@ -24,15 +24,7 @@ returns-in-None-clause-refused g c =
 
 pub returns-in_err-numbers-clause-refused : goal.returns-in_err-numbers-clause-refused
 returns-in_err-numbers-clause-refused g c =
-    let p = err_from_is_err_and c.from_residual-in_err-numbers.result c.from_residual-in_err-numbers.ensures.1 in
+    let p = err_from_is_err_and c.from_residual.result c.from_residual.ensures.1 in
     rw (p.1, p.2)
-    (ask_begun _ _ c.split_u32-count.result.0 _ _ _ _ c.if-shard-ge-MAX_SHARDS.false c.if-count-rest.false c.requires.length
+    (ask_begun _ _ c.split_u32-count.result.0 _ _ _ _ c.if-shard-ge-MAX_SHARDS.false c.if-count-rest.false c.requires
     c.split_u32-round.ensures.parts c.split_u32-shard.ensures.parts c.split_u32-count.ensures.parts)
-
-pub returns-then-spells-clause-frame : goal.returns-then-spells-clause-frame
-returns-then-spells-clause-frame g c =
-    let labels_are : c.of_known-labels.result ≡ c.args.last.now = search rules in
-    rw labels_are
-    (ask_found _ _ c.split_u32-count.result.0 _ _ _ _ _ c.split_u32-round.ensures.fits c.if-shard-ge-MAX_SHARDS.false c.if-count-rest.false
-    c.split_u32-round.ensures.parts c.split_u32-shard.ensures.parts c.split_u32-count.ensures.parts
-    (c.spells.ensures c.if-spells.true) c.requires.labels)

@@ -1,0 +1,164 @@
+-- A frame behind an ask, from its head and its body.
+use Rattle.std.proofs.Common.{◌≡◌, ℕ, ◌+◌, ◌*◌, ◌/◌, ◌%◌, ◌<◌, ◌≤◌, ◌⊎◌, ◌^◌, List, [], ◌∷◌, ◌++◌, length, take, drop, get_or, All, Option, Vec, refl, sym, ap, subst, ◌∙◌, inl, inr, append_assoc, append-nil, arith}
+use Rattle.std.specs.Prelude.{Result, Ok, Err, OnOk, is_ok, if◌then◌else◌}
+use Rattle.std.specs.List.{flat_map}
+use Rattle.std.proofs.Math.Seq.{take-add}
+use Rattle.std.proofs.lemmas.Bool.{cases_lt}
+use Rattle.std.proofs.lemmas.List.{length-append, nil_from_length, get_or_default}
+use Rattle.std.proofs.lemmas.List.Elements.{All-append, All-take}
+use Rattle.std.proofs.lemmas.Grind.{flat_map-append}
+use Rattle.byte_streams.specs.Streams.{SourceState, Gave}
+use Rattle.byte_streams.proofs.Streaming.{gave_more}
+use Rattle.limits.specs.declared.TheConstants.{MAX_SHARDS, MAX_VERTICES}
+use Rattle.link_key.specs.Labels.{AreLabels}
+use Rattle.frames.specs.FrameValue.{FrameValue, AskFrame}
+use Rattle.frames.specs.FrameText.{u32_text, text_of}
+use Rattle.frames.specs.Lawful.{IsU32, IsLawful}
+use Rattle.frames.specs.Refusals.{IsPossible, IsFrameOf, BodyRefused}
+use Rattle.frames.specs.ReadFault.{failures_of, ends_of, IsReadRefused, CutsShort, IsCutShort}
+use Rattle.frames.specs.NextFrame.{next_value, numbers_told, BodyCame, IsBodyRefused, IsStopped}
+use Rattle.frames.specs.declared.next_frame.NextFrame.{NextFrame}
+use Rattle.frames.specs.declared.fault.FrameFault.{FrameFault}
+use Rattle.frames.specs.declared.fault.FrameFault.TheVariants.{BadField, Memory}
+use Rattle.frames.proofs.Streams.{frame_gave, cut_more, cut_refused, body_refused}
+use Rattle.frames.proofs.Texts.{u32_length, items_length}
+use Rattle.frames.proofs.Decoded.{ask_refused, ask_begun, ask_found, ask_unlabelled}
+
+-- ---- a head and what came behind it
+
+pub frame_behind : (v : FrameValue) (kind len : ℕ) (bytes : List ℕ) (s t u : SourceState) → bytes ≡ kind ∷ u32_text len → Gave 0 0 bytes s t → BodyCame v kind len t u
+    → IsLawful v × Gave 0 0 (text_of v) s u
+frame_behind v kind len bytes s t u head first came =
+    (came.is.lawful, frame_gave v kind len bytes came.body s t u first came.gave head came.counted came.is)
+
+pub refused_behind : (fault : FrameFault) (kind len : ℕ) (bytes : List ℕ) (s t u : SourceState) → IsU32 len → IsPossible kind len → bytes ≡ kind ∷ u32_text len
+    → Gave 0 0 bytes s t → IsBodyRefused fault kind len t u → IsReadRefused fault s u
+refused_behind fault kind len bytes s t u wide possible head first (inl cut) = cut_refused fault kind len bytes s t u wide possible head first cut
+refused_behind fault kind len bytes s t u wide possible head first (inr whole) =
+    body_refused fault kind len bytes whole.body s t u wide possible whole.counted head first whole.gave whole.refused
+
+pub whole_came : (v : FrameValue) (kind len : ℕ) (body : List ℕ) (s t : SourceState) → length body ≡ len → Gave 0 0 body s t → IsFrameOf v kind body → BodyCame v kind len s t
+whole_came v kind len body s t counted gave is = record { body = body; counted = counted; gave = gave; is = is }
+
+pub whole_refused : (fault : FrameFault) (kind len : ℕ) (body : List ℕ) (s t : SourceState) → length body ≡ len → Gave 0 0 body s t → BodyRefused fault kind body → IsBodyRefused fault kind len s t
+whole_refused fault kind len body s t counted gave refused = inr (record { body = body; counted = counted; gave = gave; refused = refused })
+
+-- ---- the numbers of an ask, a piece at a time
+
+-- numbers and the next ones, the same that stand there
+pub same_more : (last piece : List ℕ) (came k n : ℕ) → n ≡ k → flat_map u32_text (take n (drop came last)) ≡ piece
+    → flat_map u32_text (take (came + k) last) ≡ flat_map u32_text (take came last) ++ piece
+same_more last piece came k n is same =
+    ap (flat_map u32_text) (take-add came k last) ∙ flat_map-append u32_text (take came last) (take k (drop came last))
+    ∙ ap (λ (t : List ℕ). flat_map u32_text (take came last) ++ t) (ap (λ (m : ℕ). flat_map u32_text (take m (drop came last))) (sym is) ∙ same)
+
+-- numbers of four bytes
+pub all_fit : (numbers : List ℕ) → ((i : ℕ) → get_or numbers i 0 < 2 ^ 32) → All IsU32 numbers
+all_fit numbers fit = λ k d within. subst IsU32 (get_or_default numbers k 0 d within) (fit k)
+
+pub first_fit : (numbers : List ℕ) (n : ℕ) → ((i : ℕ) → get_or numbers i 0 < 2 ^ 32) → All IsU32 (take n numbers)
+first_fit numbers n fit = All-take IsU32 n numbers (all_fit numbers fit)
+
+-- numbers and more of them
+pub other_fit : (new old more : List ℕ) → new ≡ old ++ more → All IsU32 more → All IsU32 old → All IsU32 new
+other_fit new old more is fits before = subst (All IsU32) (sym is) (All-append IsU32 old more before fits)
+
+pub pushed_fit : {T E : Type 0} (result : Result T E) (new old piece : List ℕ) → OnOk result ((more : List ℕ) × (new ≡ old ++ more) × (flat_map u32_text more ≡ piece) × All IsU32 more)
+    → OnOk result (All IsU32 old → All IsU32 new)
+pushed_fit (Ok passed) new old piece (more, is, spelled, fits) = other_fit new old more is fits
+pushed_fit (Err fault) new old piece none = tt
+
+pub pushed : {T E : Type 0} (result : Result T E) (new old read numbers piece : List ℕ) → new ≡ (if is_ok result then old ++ read else old) → read ≡ numbers
+    → (flat_map u32_text numbers ≡ piece) × All IsU32 numbers → OnOk result ((more : List ℕ) × (new ≡ old ++ more) × (flat_map u32_text more ≡ piece) × All IsU32 more)
+pushed (Ok passed) new old read numbers piece is same are = (numbers, is ∙ ap (λ (t : List ℕ). old ++ t) same, are.0, are.1)
+pushed (Err fault) new old read numbers piece is same are = tt
+
+-- how many bytes numbers have
+pub bytes_of : (numbers : List ℕ) → length (flat_map u32_text numbers) ≡ 4 * length numbers
+bytes_of numbers = omega (arith, items_length u32_text 4 u32_length numbers)
+
+-- so many bytes, and then some of the next
+pub stopped_in : (fault : FrameFault) (count len : ℕ) (body : List ℕ) (x y z : SourceState) → length body + count ≤ len → Gave 0 0 body x y → IsCutShort fault count y z → IsStopped fault len x z
+stopped_in fault count len body x y z within first cut =
+    let all = cut_more fault count len body x y z within first cut in
+    record { bytes = all.bytes; gave = all.gave; within = omega (arith, all.short); short = inr all.short; cause = all.cause }
+
+-- so many bytes, and no memory
+pub stopped_at : (len : ℕ) (body piece : List ℕ) (x y z : SourceState) → length body + length piece ≤ len → Gave 0 0 body x y → Gave 0 0 piece y z → IsStopped Memory len x z
+stopped_at len body piece x y z within first second = record {
+  bytes = body ++ piece;
+  gave = gave_more 0 0 body piece x y z first second;
+  within = omega (arith, length-append body piece);
+  short = inl refl;
+  cause = inr (inr refl);
+}
+
+-- ---- the twelve bytes before them
+
+module _ (fields rest rest' none : List ℕ) (r s c n : ℕ) (twelve : length fields ≡ 12) (wide_r : IsU32 r) (wide_s : IsU32 s) (wide_c : IsU32 c)
+    (first : fields ≡ u32_text r ++ rest) (second : rest ≡ u32_text s ++ rest') (third : rest' ≡ u32_text c ++ none) where
+  ask_body : (labels : List ℕ) → fields ++ labels ≡ u32_text r ++ (u32_text s ++ (u32_text c ++ labels))
+  ask_body labels =
+      let empty : none ≡ [] = nil_from_length none (omega (arith, ap length first, ap length second, ap length third, length-append (u32_text r) rest, length-append (u32_text s) rest', length-append (u32_text c) none, u32_length r, u32_length s, u32_length c)) in
+      let count : rest' ≡ u32_text c = third ∙ ap (λ (t : List ℕ). u32_text c ++ t) empty ∙ append-nil (u32_text c) in
+      let all : fields ≡ u32_text r ++ (u32_text s ++ u32_text c) = first ∙ ap (λ (t : List ℕ). u32_text r ++ t) (second ∙ ap (λ (t : List ℕ). u32_text s ++ t) count) in
+      ap (λ (t : List ℕ). t ++ labels) all ∙ append_assoc (u32_text r) (u32_text s ++ u32_text c) labels ∙ ap (λ (t : List ℕ). u32_text r ++ t) (append_assoc (u32_text s) (u32_text c) labels)
+
+  with_fields : (labels : List ℕ) → length labels ≡ 4 * n → length (fields ++ labels) ≡ 12 + 4 * n
+  with_fields labels count = omega (arith, length-append fields labels)
+
+  -- fields that no ask has
+  pub ask_unlawful : (labels : List ℕ) (x y z : SourceState) → length labels ≡ 4 * n → Gave 0 0 fields x y → Gave 0 0 labels y z → (s < MAX_SHARDS → c ≡ n → ⊥)
+      → IsBodyRefused BadField 3 (12 + 4 * n) x z
+  ask_unlawful labels x y z count came behind never =
+      whole_refused BadField 3 (12 + 4 * n) (fields ++ labels) x z (with_fields labels count) (gave_more 0 0 fields labels x y z came behind)
+      (ask_refused r s c (fields ++ labels) (u32_text s ++ (u32_text c ++ labels)) (u32_text c ++ labels) labels wide_r wide_s wide_c (ask_body labels) refl refl
+      (λ low counted. never low (omega (arith, counted, count))))
+
+  module _ (low : s < MAX_SHARDS) (counted : c ≡ n) (few : n ≤ MAX_VERTICES) where
+    -- less than all labels came, or memory was wanting
+    pub ask_stopped : (fault : FrameFault) (x y z : SourceState) → Gave 0 0 fields x y → IsStopped fault (4 * n) y z → IsBodyRefused fault 3 (12 + 4 * n) x z
+    ask_stopped fault x y z came stopped = elim (cases_lt (length stopped.bytes) (4 * n)) [
+      | inl short ↦ inl (cut_more fault (4 * n) (12 + 4 * n) fields x y z (omega arith) came (record { bytes = stopped.bytes; gave = stopped.gave; short = short; cause = stopped.cause }))
+      | inr all ↦ elim stopped.short [
+        | inl memory ↦ whole memory (omega (arith, all, stopped.within))
+        | inr short ↦ absurd (omega arith)
+      ]
+    ]
+      where
+        whole : fault ≡ Memory → length stopped.bytes ≡ 4 * n → IsBodyRefused fault 3 (12 + 4 * n) x z
+        whole memory count =
+            let gave : Gave 0 0 stopped.bytes y z = subst (λ (f : FrameFault). Gave (failures_of f) (ends_of f) stopped.bytes y z) memory stopped.gave in
+            subst (λ (f : FrameFault). IsBodyRefused f 3 (12 + 4 * n) x z) (sym memory)
+            (whole_refused Memory 3 (12 + 4 * n) (fields ++ stopped.bytes) x z (with_fields stopped.bytes count) (gave_more 0 0 fields stopped.bytes x y z came gave)
+            (ask_begun r s c (fields ++ stopped.bytes) (u32_text s ++ (u32_text c ++ stopped.bytes)) (u32_text c ++ stopped.bytes) stopped.bytes low (omega (arith, counted, count))
+            (n, few, with_fields stopped.bytes count) (ask_body stopped.bytes) refl refl))
+
+    -- labels came
+    ask_came : (v : FrameValue) (ls : List ℕ) (x y z : SourceState) → v ≡ AskFrame r s ls → AreLabels ls → length ls ≡ n → Gave 0 0 fields x y → Gave 0 0 (flat_map u32_text ls) y z
+        → BodyCame v 3 (12 + 4 * n) x z
+    ask_came v ls x y z is labels count came behind =
+        let text : List ℕ = flat_map u32_text ls in
+        subst (λ (w : FrameValue). BodyCame w 3 (12 + 4 * n) x z) (sym is)
+        (whole_came (AskFrame r s ls) 3 (12 + 4 * n) (fields ++ text) x z (with_fields text (omega (arith, bytes_of ls, count))) (gave_more 0 0 fields text x y z came behind)
+        (ask_found r s c (fields ++ text) (u32_text s ++ (u32_text c ++ text)) (u32_text c ++ text) text ls wide_r low (omega (arith, counted, count, bytes_of ls)) (ask_body text) refl refl refl labels))
+
+    -- numbers came that are no labels
+    no_ask_came : (fault : FrameFault) (ls : List ℕ) (x y z : SourceState) → fault ≡ BadField → All IsU32 ls → (AreLabels ls → ⊥) → length ls ≡ n → Gave 0 0 fields x y
+        → Gave 0 0 (flat_map u32_text ls) y z → IsBodyRefused fault 3 (12 + 4 * n) x z
+    no_ask_came fault ls x y z is fit never count came behind =
+        let text : List ℕ = flat_map u32_text ls in
+        subst (λ (f : FrameFault). IsBodyRefused f 3 (12 + 4 * n) x z) (sym is)
+        (whole_refused BadField 3 (12 + 4 * n) (fields ++ text) x z (with_fields text (omega (arith, bytes_of ls, count))) (gave_more 0 0 fields text x y z came behind)
+        (ask_unlabelled r s c (fields ++ text) (u32_text s ++ (u32_text c ++ text)) (u32_text c ++ text) text ls wide_r wide_s wide_c (ask_body text) refl refl refl fit never))
+
+    module _ {A : Type 0} (last : List ℕ) (are : AreLabels last) (numbers : Option (Vec ℕ A)) (x y z : SourceState) (count : length (numbers_told last numbers) ≡ n) (came : Gave 0 0 fields x y)
+        (behind : Gave 0 0 (flat_map u32_text (numbers_told last numbers)) y z) where
+      pub ask_told : (next : NextFrame A)
+          → ((before : List ℕ) → AreLabels before → (next_value before next ≡ AskFrame r s (numbers_told before numbers)) × AreLabels (numbers_told before numbers))
+          → BodyCame (next_value last next) 3 (12 + 4 * n) x z
+      ask_told next is = let (same, labels) = is last are in ask_came (next_value last next) (numbers_told last numbers) x y z same labels count came behind
+
+      pub no_ask_told : (fault : FrameFault) → All IsU32 (numbers_told last numbers) → (fault ≡ BadField) × ((before : List ℕ) → ¬ AreLabels (numbers_told before numbers))
+          → IsBodyRefused fault 3 (12 + 4 * n) x z
+      no_ask_told fault fit (is, never) = no_ask_came fault (numbers_told last numbers) x y z is fit (never last) count came behind

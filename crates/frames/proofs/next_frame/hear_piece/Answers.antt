@@ -1,0 +1,23 @@
+use Rattle.std.proofs.Common.{◌≡◌, ◌+◌, ◌-◌, ◌/◌, length, take, sym, subst, All, arith, rules}
+use Rattle.frames.specs.Lawful.{IsU32}
+use Rattle.frames.proofs.NextFrames.{same_more, first_fit, other_fit, pushed_fit}
+use Rattle.frames.proofs.next_frame.hear_piece.Goals as goal
+
+pub returns-then-spells-clause-heard : goal.returns-then-spells-clause-heard
+returns-then-spells-clause-heard g c =
+    let k = length c.args.piece.now / 4 in
+    rw c.in-None.is (same_more c.args.last.now c.args.piece.now c.args.came k (c.args.came + k - c.args.came) (omega arith) (c.spells.ensures c.if-spells.true))
+
+pub returns-then-spells-clause-fit : goal.returns-then-spells-clause-fit
+returns-then-spells-clause-fit g c =
+    rw c.in-None.is (λ before. first_fit c.args.last.now (c.args.came + length c.args.piece.now / 4) (λ i. omega (arith, c.type_inv.last i)))
+
+pub returns-in-Some-clause-fit : goal.returns-in-Some-clause-fit
+returns-in-Some-clause-fit g c =
+    rw c.in-Some.is (pushed_fit c.push_numbers.result c.push_numbers.new.numbers.items c.in-Some.list.items c.args.piece.now c.push_numbers.ensures)
+
+pub returns-in_ok-push_numbers-in-None-clause-fit : goal.returns-in_ok-push_numbers-in-None-clause-fit
+returns-in_ok-push_numbers-in-None-clause-fit g c =
+    let p = c.in_ok-push_numbers-in-None.ensures in
+    let begun : c.extend_from_slice.new.self.items ≡ take c.args.came c.args.last.now = search rules in
+    λ before. other_fit c.push_numbers-in-None.new.numbers.items c.extend_from_slice.new.self.items p.0 p.1 p.3 (subst (All IsU32) (sym begun) (first_fit c.args.last.now c.args.came (λ i. omega (arith, c.type_inv.last i))))

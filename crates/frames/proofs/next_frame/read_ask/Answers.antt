@@ -1,0 +1,46 @@
+use Rattle.std.proofs.Common.{◌+◌, ◌*◌, length, inl, arith, rules}
+use Rattle.std.proofs.lemmas.Result.{IfOk-weaker, IfErr-weaker, err_from_is_err_and}
+use Rattle.frames.proofs.Streams.{cut_more}
+use Rattle.frames.proofs.NextFrames.{all_fit, ask_unlawful, ask_stopped, ask_told, no_ask_told}
+use Rattle.frames.proofs.next_frame.read_ask.Goals.{then-shard-ge-MAX_SHARDS-via-then-shard-ge-MAX_SHARDS, then-shard-ge-MAX_SHARDS-via-else-shard-ge-MAX_SHARDS+then-count-last}
+use Rattle.frames.proofs.next_frame.read_ask.Goals as goal
+
+pub returns-in_err-read_body-clause-refused : goal.returns-in_err-read_body-clause-refused
+returns-in_err-read_body-clause-refused g c =
+    let p = err_from_is_err_and c.from_residual-in_err-read_body.result c.from_residual-in_err-read_body.ensures.1 in
+    rw (p.1, p.2) (inl (cut_more _ (4 * length c.args.last.now) (12 + 4 * length c.args.last.now) c.read_bytes.new.bytes _ _ _ (search rules) c.in_ok-read_bytes.ensures.came c.in_err-read_body.ensures.short))
+
+pub returns-then-shard-ge-MAX_SHARDS-clause-refused : goal.returns-then-shard-ge-MAX_SHARDS-clause-refused
+returns-then-shard-ge-MAX_SHARDS-clause-refused g c =
+    ask_unlawful c.read_bytes.new.bytes _ _ _ c.split_u32-round.result.0 c.split_u32-shard.result.0 c.split_u32-count.result.0 (length c.args.last.now) (search rules)
+    c.split_u32-round.ensures.fits c.split_u32-shard.ensures.fits c.split_u32-count.ensures.fits c.split_u32-round.ensures.parts c.split_u32-shard.ensures.parts c.split_u32-count.ensures.parts
+    c.in_ok-read_body.field-0.items _ _ _ c.in_ok-read_body.ensures.len c.in_ok-read_bytes.ensures.came c.in_ok-read_body.ensures.came
+    (λ low counted. elim c.then-shard-ge-MAX_SHARDS.branch [ then-shard-ge-MAX_SHARDS-via-then-shard-ge-MAX_SHARDS w ↦ omega arith | then-shard-ge-MAX_SHARDS-via-else-shard-ge-MAX_SHARDS+then-count-last w ↦ w.if-count-last.true counted ])
+
+pub returns-in_err-numbers-clause-refused : goal.returns-in_err-numbers-clause-refused
+returns-in_err-numbers-clause-refused g c =
+    let p = err_from_is_err_and c.from_residual-in_err-numbers.result c.from_residual-in_err-numbers.ensures.1 in
+    rw (p.1, p.2) (ask_stopped c.read_bytes.new.bytes _ _ _ c.split_u32-round.result.0 c.split_u32-shard.result.0 c.split_u32-count.result.0 (length c.args.last.now) (search rules)
+    c.split_u32-round.ensures.fits c.split_u32-shard.ensures.fits c.split_u32-count.ensures.fits c.split_u32-round.ensures.parts c.split_u32-shard.ensures.parts c.split_u32-count.ensures.parts
+    c.if-shard-ge-MAX_SHARDS.false c.if-count-last.false c.requires.labels.few_vertices _ _ _ _ c.in_ok-read_bytes.ensures.came c.in_err-numbers.ensures.stopped)
+
+pub returns-clause-came : goal.returns-clause-came
+returns-clause-came g c =
+    IfOk-weaker _ _ _
+    (λ next is.
+    ask_told c.read_bytes.new.bytes _ _ _ c.split_u32-round.result.0 c.split_u32-shard.result.0 c.split_u32-count.result.0 (length c.args.last.now) (search rules)
+    c.split_u32-round.ensures.fits c.split_u32-shard.ensures.fits c.split_u32-count.ensures.fits c.split_u32-round.ensures.parts c.split_u32-shard.ensures.parts c.split_u32-count.ensures.parts
+    c.if-shard-ge-MAX_SHARDS.false c.if-count-last.false c.requires.labels.few_vertices
+    c.args.last.now c.requires.labels c.in_ok-numbers.numbers _ _ _ c.in_ok-numbers.ensures.counted c.in_ok-read_bytes.ensures.came c.in_ok-numbers.ensures.came next is)
+    c.ask_of.ensures.ask
+
+pub returns-clause-refused : goal.returns-clause-refused
+returns-clause-refused g c =
+    IfErr-weaker _ _ _
+    (λ fault is.
+    no_ask_told c.read_bytes.new.bytes _ _ _ c.split_u32-round.result.0 c.split_u32-shard.result.0 c.split_u32-count.result.0 (length c.args.last.now) (search rules)
+    c.split_u32-round.ensures.fits c.split_u32-shard.ensures.fits c.split_u32-count.ensures.fits c.split_u32-round.ensures.parts c.split_u32-shard.ensures.parts c.split_u32-count.ensures.parts
+    c.if-shard-ge-MAX_SHARDS.false c.if-count-last.false c.requires.labels.few_vertices
+    c.args.last.now c.requires.labels c.in_ok-numbers.numbers _ _ _ c.in_ok-numbers.ensures.counted c.in_ok-read_bytes.ensures.came c.in_ok-numbers.ensures.came
+    fault (c.in_ok-numbers.ensures.fit (all_fit c.args.last.now (λ i. omega (arith, c.type_inv.last i)))) is)
+    c.ask_of.ensures.refused

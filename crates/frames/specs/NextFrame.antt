@@ -1,0 +1,46 @@
+-- A frame behind an ask, whose labels may come again.
+use Rattle.std.specs.Prelude.{◌≡◌, ℕ, ◌<◌, ◌≤◌, ◌⊎◌, List, length, Option, Some, None, Vec}
+use Rattle.byte_streams.specs.Streams.{SourceState, Gave}
+use Rattle.frames.specs.FrameValue.{FrameValue, AskFrame, value_of}
+use Rattle.frames.specs.Refusals.{IsFrameOf, BodyRefused}
+use Rattle.frames.specs.ReadFault.{failures_of, ends_of, CutsShort, IsCutShort}
+use Rattle.frames.specs.declared.fault.FrameFault.{FrameFault}
+use Rattle.frames.specs.declared.fault.FrameFault.TheVariants.{Memory}
+use Rattle.frames.specs.declared.next_frame.NextFrame.{NextFrame}
+use Rattle.frames.specs.declared.next_frame.NextFrame.TheVariants.{AskAgain, Other}
+
+-- what the next frame says, behind an ask under these labels
+abbrev pub next_value : {A : Type 0} → List ℕ → NextFrame A → FrameValue
+next_value last (AskAgain round shard) = AskFrame round shard last
+next_value last (Other frame) = value_of frame
+
+-- numbers that came: the same as these, or others
+abbrev pub numbers_told : {A : Type 0} → List ℕ → Option (Vec ℕ A) → List ℕ
+numbers_told same None = same
+numbers_told same (Some numbers) = numbers.items
+
+-- a body of so many bytes came, which is that of the frame
+pub record BodyCame (v : FrameValue) (kind len : ℕ) (before after : SourceState) : Type 0 where
+  pub body : List ℕ
+  pub counted : length body ≡ len
+  pub gave : Gave 0 0 body before after
+  pub is : IsFrameOf v kind body
+
+-- a body of so many bytes came, and it is refused
+pub record IsWholeRefused (fault : FrameFault) (kind len : ℕ) (before after : SourceState) : Type 0 where
+  pub body : List ℕ
+  pub counted : length body ≡ len
+  pub gave : Gave 0 0 body before after
+  pub refused : BodyRefused fault kind body
+
+-- behind a head, less than its body came, or a body that is refused
+abbrev pub IsBodyRefused : FrameFault → ℕ → ℕ → SourceState → SourceState → Type 0
+IsBodyRefused fault kind len before after = IsCutShort fault len before after ⊎ IsWholeRefused fault kind len before after
+
+-- no more than `len` bytes came, and fewer unless memory was wanting
+pub record IsStopped (fault : FrameFault) (len : ℕ) (before after : SourceState) : Type 0 where
+  pub bytes : List ℕ
+  pub gave : Gave (failures_of fault) (ends_of fault) bytes before after
+  pub within : length bytes ≤ len
+  pub short : (fault ≡ Memory) ⊎ (length bytes < len)
+  pub cause : CutsShort fault

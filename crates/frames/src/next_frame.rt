@@ -1,0 +1,231 @@
+//! The next frame of a stream behind an ask, whose labels mostly come again.
+//!
+//! A run asks for each of its shards under the same labels. So the bytes of an ask of as many labels are compared with
+//! those of the last ones as they come, a piece at a time in one buffer: while they are the same, nothing is stored, and
+//! whether they are labels isn't judged again.
+ghost use Rattle.std.specs.Prelude.{◌≡◌, ℕ, ◌+◌, ◌*◌, ◌/◌, ◌%◌, ◌^◌, ◌<◌, ◌≤◌, List, ◌++◌, length, map, take, All, IfOk, IfErr, OnOk};
+ghost use Rattle.std.specs.Int.{w32, from_be_bytes};
+ghost use Rattle.std.specs.List.{flat_map};
+ghost use Rattle.byte_streams.specs.Streams.{Gave};
+ghost use Rattle.link_key.specs.Labels.{AreLabels};
+ghost use Rattle.frames.specs.FrameValue.{AskFrame};
+ghost use Rattle.frames.specs.FrameText.{u32_text, text_of};
+ghost use Rattle.frames.specs.Lawful.{IsU32, IsLawful};
+ghost use Rattle.frames.specs.Refusals.{IsPossible};
+ghost use Rattle.frames.specs.ReadFault.{IsReadRefused};
+ghost use Rattle.frames.specs.NextFrame.{next_value, numbers_told, BodyCame, IsBodyRefused, IsStopped};
+ghost use Rattle.frames.specs.declared.fault.FrameFault.TheVariants.{BadField};
+
+use crate::fault::FrameFault;
+use crate::fields::split_u32;
+use crate::frame::Frame;
+use crate::frame_reader::{read_body, read_bytes, read_head, read_rest};
+use crate::head::{Head, decode_head};
+use crate::items::spells;
+use byte_streams::Source;
+use limits::MAX_SHARDS;
+use link_key::Labels;
+use std::alloc::{AllocError, Allocator, Global};
+
+// How many labels are compared at a time, on the stack.
+const PIECE: usize = 4096;
+
+/// What comes behind an ask: another one under its labels, or any frame as a whole.
+#[derive(Drop)]
+pub enum NextFrame<A: Allocator = Global> {
+    /// An ask under the labels of the one before.
+    AskAgain {
+        round: u32,
+        shard: u32,
+    },
+
+    /// Any frame, with all that it says.
+    Other(Frame<A>),
+}
+
+/// The next frame of a stream, as [`read_frame`](crate::read_frame) has it, behind an ask under these labels.
+///
+/// Another ask under them takes no memory, and one look at its bytes. Where its labels are as many and others, they are
+/// given room for all of them at the first piece of 4,096 that differs; `Memory` where that was refused. Every other
+/// frame is read as `read_frame` reads it, with its room.
+pub fn read_next<A: Allocator + Copy, S: Source>(
+    alloc: A,
+    source: &mut S,
+    last: &[u32],
+) -> Result<NextFrame<A>, FrameFault>
+    requires labels { AreLabels last.now }
+    requires can { S.can_read source.old }
+
+    // The text of the frame was taken, and nothing else.
+    ensures lawful { IfOk result (λ next. IsLawful (next_value last.now next)) }
+    ensures text { IfOk result
+        (λ next. Gave 0 0 (text_of (next_value last.now next)) (S.state source.old) (S.state source.new)) }
+
+    // What came was refused; a failure and an end are told apart, and each is counted once.
+    ensures refused { IfErr result
+        (λ fault. IsReadRefused fault (S.state source.old) (S.state source.new)) }
+
+    ensures lasts { (fact : S.Fact) → S.lasts source.old fact → S.lasts source.new fact }
+    ensures again { OnOk result (S.can_read source.new) }
+{
+    let bytes = read_head(source)?;
+    let head = decode_head(&bytes)?;
+    read_behind(alloc, source, head, last)
+}
+
+// The frame whose head came.
+fn read_behind<A: Allocator + Copy, S: Source>(
+    alloc: A,
+    source: &mut S,
+    head: Head,
+    last: &[u32],
+) -> Result<NextFrame<A>, FrameFault>
+    requires labels { AreLabels last.now }
+    requires can { S.can_read source.old }
+    requires possible { IsPossible head.kind head.length }
+    ensures came { IfOk result (λ next. BodyCame (next_value last.now next) head.kind head.length (S.state source.old) (S.state source.new)) }
+    ensures refused { IfErr result (λ fault. IsBodyRefused fault head.kind head.length (S.state source.old) (S.state source.new)) }
+    ensures lasts { (fact : S.Fact) → S.lasts source.old fact → S.lasts source.new fact }
+    ensures again { OnOk result (S.can_read source.new) }
+{
+    if head.kind == 3 && head.length as usize == 12 + 4 * last.len() {
+        return read_ask(alloc, source, last);
+    }
+    let frame = read_rest(alloc, source, head)?;
+    Ok(NextFrame::Other(frame))
+}
+
+// An ask of as many labels. Its fields are judged first, since want of memory is told only behind lawful ones; where
+// they aren't lawful the labels are taken all the same, for a stream may end in them.
+fn read_ask<A: Allocator + Copy, S: Source>(
+    alloc: A,
+    source: &mut S,
+    last: &[u32],
+) -> Result<NextFrame<A>, FrameFault>
+    requires labels { AreLabels last.now }
+    requires can { S.can_read source.old }
+    ensures came { IfOk result (λ next. BodyCame (next_value last.now next) 3 (12 + 4 * length last.now) (S.state source.old) (S.state source.new)) }
+    ensures refused { IfErr result (λ fault. IsBodyRefused fault 3 (12 + 4 * length last.now) (S.state source.old) (S.state source.new)) }
+    ensures lasts { (fact : S.Fact) → S.lasts source.old fact → S.lasts source.new fact }
+    ensures again { OnOk result (S.can_read source.new) }
+{
+    let mut fields = [0; 12];
+    read_bytes(source, &mut fields)?;
+    let (round, rest) = split_u32(&fields);
+    let (shard, rest) = split_u32(rest);
+    let (count, _) = split_u32(rest);
+    if shard as usize >= MAX_SHARDS || count as usize != last.len() {
+        read_body(alloc, source, 4 * last.len() as u32)?;
+        return Err(FrameFault::BadField);
+    }
+    let numbers = read_numbers(alloc, source, last)?;
+    ask_of(round, shard, numbers)
+}
+
+// The ask for these numbers, or for those of the one before; `BadField` where they are no labels.
+fn ask_of<A: Allocator>(
+    round: u32,
+    shard: u32,
+    numbers: Option<Vec<u32, A>>,
+) -> Result<NextFrame<A>, FrameFault>
+    ensures ask { IfOk result (λ next. (last : List ℕ) → AreLabels last
+        → (next_value last next ≡ AskFrame round shard (numbers_told last numbers)) × AreLabels (numbers_told last numbers)) }
+    ensures refused { IfErr result (λ fault. (fault ≡ BadField) × ((last : List ℕ) → ¬ AreLabels (numbers_told last numbers))) }
+{
+    let Some(numbers) = numbers else {
+        return Ok(NextFrame::AskAgain { round, shard });
+    };
+    match Labels::of_list(numbers) {
+        Some(labels) => Ok(NextFrame::Other(Frame::Ask {
+            round,
+            shard,
+            labels,
+        })),
+        None => Err(FrameFault::BadField),
+    }
+}
+
+// The next numbers of a stream, as many as these; none where they are the same.
+fn read_numbers<A: Allocator + Copy, S: Source>(
+    alloc: A,
+    source: &mut S,
+    last: &[u32],
+) -> Result<Option<Vec<u32, A>>, FrameFault>
+    requires few { length last.now < 2 ^ 30 }
+    requires can { S.can_read source.old }
+    ensures counted { IfOk result (λ numbers. length (numbers_told last.now numbers) ≡ length last.now) }
+    ensures came { IfOk result
+        (λ numbers. Gave 0 0 (flat_map u32_text (numbers_told last.now numbers)) (S.state source.old) (S.state source.new)) }
+    ensures fit { IfOk result (λ numbers. All IsU32 last.now → All IsU32 (numbers_told last.now numbers)) }
+    ensures stopped { IfErr result
+        (λ fault. IsStopped fault (4 * length last.now) (S.state source.old) (S.state source.new)) }
+    ensures lasts { (fact : S.Fact) → S.lasts source.old fact → S.lasts source.new fact }
+    ensures again { OnOk result (S.can_read source.new) }
+{
+    let mut buffer = [0; 4 * PIECE];
+    let mut numbers = None;
+    let mut came = 0;
+    while came < last.len() {
+        let count = (last.len() - came).min(PIECE);
+        let piece = &mut buffer[..4 * count];
+        read_bytes(source, piece)?;
+        hear_piece(alloc, &mut numbers, last, came, piece)?;
+        came += count;
+    }
+    Ok(numbers)
+}
+
+// Hears the bytes of the next numbers, behind those that came before. At the first that differ from the ones that stand
+// there in `last`, room is made for all.
+fn hear_piece<A: Allocator>(
+    alloc: A,
+    numbers: &mut Option<Vec<u32, A>>,
+    last: &[u32],
+    came: usize,
+    piece: &[u8],
+) -> Result<(), AllocError>
+    requires whole { length piece.now % 4 ≡ 0 }
+    requires fits { length piece.now ≤ 4 * PIECE }
+    requires within { came + length piece.now / 4 ≤ length last.now }
+    ensures heard { OnOk result (flat_map u32_text (numbers_told (take (came + length piece.now / 4) last.now) numbers.new)
+        ≡ flat_map u32_text (numbers_told (take came last.now) numbers.old) ++ piece.now) }
+    ensures fit { OnOk result (All IsU32 (numbers_told (take came last.now) numbers.old)
+        → All IsU32 (numbers_told (take (came + length piece.now / 4) last.now) numbers.new)) }
+{
+    match numbers {
+        Some(list) => push_numbers(list, piece),
+        None => {
+            if spells(piece, &last[came..came + piece.len() / 4]) {
+                return Ok(());
+            }
+            let mut list = Vec::with_capacity(alloc, last.len())?;
+            list.extend_from_slice(&last[..came])?;
+            push_numbers(&mut list, piece)?;
+            *numbers = Some(list);
+            Ok(())
+        }
+    }
+}
+
+// Puts the numbers of these bytes at the end.
+fn push_numbers<A: Allocator>(numbers: &mut Vec<u32, A>, piece: &[u8]) -> Result<(), AllocError>
+    requires whole { length piece.now % 4 ≡ 0 }
+    requires fits { length piece.now ≤ 4 * PIECE }
+    ensures { OnOk result ((more : List ℕ) × (numbers.new.items ≡ numbers.old.items ++ more)
+        × (flat_map u32_text more ≡ piece.now) × All IsU32 more) }
+{
+    let (cells, _) = piece.as_chunks::<4>();
+    let mut words = [0; PIECE];
+    let read = &mut words[..cells.len()];
+    read_cells(cells, read);
+    numbers.extend_from_slice(read)
+}
+
+fn read_cells(cells: &[[u8; 4]], numbers: &mut [u32])
+    requires { length cells.now ≡ length numbers.old }
+    ensures { numbers.new ≡ map (from_be_bytes w32) cells.now }
+{
+    for i in 0..cells.len() {
+        numbers[i] = u32::from_be_bytes(cells[i]);
+    }
+}
