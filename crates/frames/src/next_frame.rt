@@ -34,10 +34,7 @@ const PIECE: usize = 4096;
 #[derive(Drop)]
 pub enum NextFrame<A: Allocator = Global> {
     /// An ask under the labels of the one before.
-    AskAgain {
-        round: u32,
-        shard: u32,
-    },
+    AskAgain { round: u32, shard: u32 },
 
     /// Any frame, with all that it says.
     Other(Frame<A>),

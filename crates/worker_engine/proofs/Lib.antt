@@ -3,10 +3,12 @@ pub mod Scans
 pub mod Laid
 pub mod Merging
 pub mod Tables
+pub mod Ends
 pub mod Shelves
 pub mod Offering
 pub mod Versions
 pub mod Replying
 pub mod Sessions
 pub mod Steps
+pub mod Hearing
 pub mod Worked

@@ -1,6 +1,6 @@
 -- What is kept, without what is live of it.
 use Rattle.std.proofs.Common.{◌≡◌, ℕ, List, [], ◌∷◌, length, Bool, true, false, cond, Option, Some, None, Less, Equal, Greater, nat_cmp, refl, sym, ap, ◌∙◌, subst, inl, inr, arith}
-use Rattle.std.specs.Prelude.{IfSome, ◌==◌}
+use Rattle.std.specs.Prelude.{IfSome, IsSome, Result, Ok, Err, OnErr, ◌==◌}
 use Rattle.std.specs.Ordering.{is_eq}
 use Rattle.std.specs.Cmp.{nat_cmp_is}
 use Rattle.std.specs.Option.{option_map}
@@ -28,6 +28,11 @@ shelf_some shards s held found = shelf_at shards s ∙ ap (λ o. option_map link
 
 pub shelf_none : (shards : List (ℕ × Holding)) (s : ℕ) → None ≡ lookup (is_at (nat_cmp s)) shards → shelf_of (kept_in shards) s ≡ None
 shelf_none shards s none = shelf_at shards s ∙ ap (λ o. option_map links_of o) (sym none)
+
+pub held_at : {T E : Type 0} (result : Result T E) (shards : List (ℕ × Holding)) (s : ℕ) (held : Holding) → Some held ≡ lookup (is_at (nat_cmp s)) shards
+    → OnErr result (IsSome (shelf_of (kept_in shards) s))
+held_at (Ok x) shards s held found = tt
+held_at (Err e) shards s held found = subst (λ (o : Option (List Link)). IsSome o) (sym (shelf_some shards s held found)) refl
 
 -- a value with the same links is written
 pub kept_same : (test : ℕ → Bool) (shards : List (ℕ × Holding)) (held new : Holding) → Some held ≡ lookup test shards → new.links ≡ held.links → kept_in (set_value test shards new) ≡ kept_in shards

@@ -5,8 +5,9 @@ use Rattle.std.proofs.lemmas.List.{length-append}
 use Rattle.std.proofs.Math.Seq.{take-append-add}
 use Rattle.link_key.specs.declared.links.Link.{Link}
 use Rattle.byte_streams.specs.Streams.{SourceState, Gave, SinkState, Took}
-use Rattle.byte_streams.proofs.Streaming.{gave_more, took_more}
-use Rattle.frames.specs.FrameValue.{FrameValue, HelloFrame, ShardFrame, AskFrame, AnswerFrame, FaultFrame}
+use Rattle.byte_streams.proofs.Streaming.{gave_more, took_nothing, took_more}
+use Rattle.frames.specs.FrameValue.{FrameValue, HelloFrame, ShardFrame, AskFrame, AnswerFrame, FaultFrame, value_of}
+use Rattle.frames.specs.declared.frame.Frame.{Frame}
 use Rattle.frames.specs.declared.frame.TheConstants.{VERSION}
 use Rattle.frames.specs.FrameText.{text_of}
 use Rattle.frames.specs.Lawful.{IsLawful}
@@ -19,9 +20,11 @@ use Rattle.worker_engine.specs.declared.session.Served.{Served}
 use Rattle.worker_engine.specs.declared.session.ServeFault.{ServeFault}
 use Rattle.worker_engine.specs.declared.session.ServeFault.TheVariants.{Read, Write, Memory, TooMany}
 use Rattle.worker_engine.specs.declared.session.Written.{Written}
-use Rattle.worker_engine.specs.declared.session.Written.TheVariants.{AFault}
+use Rattle.worker_engine.specs.declared.session.Written.TheVariants.{Nothing, AFault}
+use Rattle.worker_engine.specs.declared.engine.hearing.Owed.{Owed}
+use Rattle.worker_engine.specs.declared.engine.hearing.Owed.TheVariants.{Reply, NoMemoryForAsk, NoMemoryForShard}
 use Rattle.worker_engine.specs.Serving.{Shelf, empty_shelf, shelf_with, shelf_after, IsReply, MayReply, IsWantOfMemory, AreReplyTo, MayFollow, AreReplies, MayWantMemory}
-use Rattle.worker_engine.specs.Served.{answer_bit, answers_in, fault_bit, faults_in, Heard, EndsWell, EndsAtRead, EndsAtLimit, EndsBy, IsTold, Stepped, ask_in, StandsFor, WroteFor, CutFor, CutOff, CutReply, Failed, Ungreeted}
+use Rattle.worker_engine.specs.Served.{answer_bit, answers_in, fault_bit, faults_in, Heard, EndsWell, EndsAtRead, EndsAtLimit, EndsBy, IsTold, Stepped, ask_in, IsOwed, StandsFor, WroteFor, CutFor, CutOff, CutReply, Failed, Ungreeted}
 use Rattle.worker_engine.proofs.Versions.{this_version, all_heard}
 use Rattle.worker_engine.proofs.Replying.{replies_more, shelf_after-append}
 
@@ -316,6 +319,57 @@ failed_at_want (Ok w) f shelf r t s s' ask wants write cut = tt
 failed_at_want (Err e) f shelf r t s s' ask wants write cut =
     let failed : CutReply f shelf s s' = record { now = FaultFrame r t 1 ∷ []; may = may_want shelf f r t ask wants; cut = subst (λ (b : List ℕ). CutOff b s s') (sym (texts-one (FaultFrame r t 1))) cut } in
     subst (λ (x : ServeFault). Failed x f shelf s s') (sym write) failed
+
+-- ---- what is owed for a frame
+
+-- nothing
+pub stepped_with_none : {A : Type 0} (f : FrameValue) (shelf shelf' : Shelf) (owed : Owed A) (s : SinkState) → owed ≡ Reply None → IsOwed f shelf shelf' owed → Stepped f Nothing shelf shelf' s s
+stepped_with_none f shelf shelf' owed s is owes =
+    let (kept, none, lawful) = subst (IsOwed f shelf shelf') is owes in
+    record { now = []; kept = kept; may = may_be_none shelf f none; told = refl; took = took_nothing s }
+
+module _ {A : Type 0} (owed : Owed A) (reply : Frame A) (is : owed ≡ Reply (Some reply)) where
+  pub owed_reply : (f : FrameValue) (shelf shelf' : Shelf) → IsOwed f shelf shelf' owed → (shelf' ≡ shelf_with shelf f) × AreReplyTo shelf f (value_of reply ∷ []) × AreLawful (value_of reply ∷ [])
+  owed_reply f shelf shelf' owes = subst (IsOwed f shelf shelf') is owes
+
+  -- a reply
+  pub stepped_with_reply : (result : Result Written ServeFault) (s s' : SinkState) → IfOk result (λ w. WroteFor (value_of reply) w s s')
+      → IfOk result (λ w. (f : FrameValue) (shelf shelf' : Shelf) → IsOwed f shelf shelf' owed → Stepped f w shelf shelf' s s')
+  stepped_with_reply (Ok w) s s' wrote = λ f shelf shelf' owes.
+      let (kept, replied, lawful) = owed_reply f shelf shelf' owes in
+      stepped_for (Ok w) f (value_of reply) shelf shelf' s s' kept replied wrote
+  stepped_with_reply (Err e) s s' wrote = tt
+
+  pub failed_with_reply : (result : Result Written ServeFault) (s s' : SinkState) → IfErr result (λ e. e ≡ Write) → OnErr result (CutFor (value_of reply) s s')
+      → IfErr result (λ e. (f : FrameValue) (shelf shelf' : Shelf) → IsOwed f shelf shelf' owed → Failed e f shelf s s')
+  failed_with_reply (Ok w) s s' write cut = tt
+  failed_with_reply (Err e) s s' write cut = λ f shelf shelf' owes.
+      failed_for (Err e) f (value_of reply) shelf s s' (owed_reply f shelf shelf' owes).1 write cut
+
+-- word that an ask found no memory
+module _ {A : Type 0} (owed : Owed A) (r t : ℕ) (is : owed ≡ NoMemoryForAsk r t) where
+  owed_want : (f : FrameValue) (shelf shelf' : Shelf) → IsOwed f shelf shelf' owed → (shelf' ≡ shelf) × (ask_in f ≡ Some (r, t)) × MayWantMemory shelf f
+  owed_want f shelf shelf' owes = subst (IsOwed f shelf shelf') is owes
+
+  pub stepped_with_want : (result : Result Written ServeFault) (s s' : SinkState) → IfOk result (λ w. w ≡ AFault) → OnOk result (Took 0 (text_of (FaultFrame r t 1)) s s')
+      → IfOk result (λ w. (f : FrameValue) (shelf shelf' : Shelf) → IsOwed f shelf shelf' owed → Stepped f w shelf shelf' s s')
+  stepped_with_want (Ok w) s s' told took = λ f shelf shelf' owes.
+      let (same, ask, wants) = owed_want f shelf shelf' owes in
+      stepped_at_want (Ok w) f shelf shelf' r t s s' ask same wants told took
+  stepped_with_want (Err e) s s' told took = tt
+
+  pub failed_with_want : (result : Result Written ServeFault) (s s' : SinkState) → IfErr result (λ e. e ≡ Write) → OnErr result (CutOff (text_of (FaultFrame r t 1)) s s')
+      → IfErr result (λ e. (f : FrameValue) (shelf shelf' : Shelf) → IsOwed f shelf shelf' owed → Failed e f shelf s s')
+  failed_with_want (Ok w) s s' write cut = tt
+  failed_with_want (Err e) s s' write cut = λ f shelf shelf' owes.
+      let (same, ask, wants) = owed_want f shelf shelf' owes in
+      failed_at_want (Err e) f shelf r t s s' ask wants write cut
+
+-- word that a shard found no memory
+pub failed_with_shard : {A : Type 0} (f : FrameValue) (shelf shelf' : Shelf) (owed : Owed A) (s : SinkState) → owed ≡ NoMemoryForShard → IsOwed f shelf shelf' owed → Failed Memory f shelf s s
+failed_with_shard f shelf shelf' owed s is owes =
+    let (same, none, wants) = subst (IsOwed f shelf shelf') is owes in
+    (shard_wants shelf f none wants, took_nothing s)
 
 -- no frame was read
 module _ (worker limit : ℕ) (source source' source'' : SourceState) (sink sink' : SinkState) (shelf : Shelf) (served : Served) (fault : FrameFault)

@@ -1,10 +1,13 @@
 -- Links of a shard that are laid aside, since they leave no label.
-use Rattle.std.specs.Prelude.{◌≡◌, ℕ, ◌+◌, ◌<◌, ◌≤◌, List, [], ◌∷◌, length, map, slice_index_or, IfSome}
+use Rattle.std.specs.Prelude.{◌≡◌, ℕ, ◌+◌, ◌<◌, ◌≤◌, ◌↔◌, List, [], ◌∷◌, length, map, slice_index_or, Option, None, Some, IfSome}
 use Rattle.std.specs.Ordering.{nat_cmp}
 use Rattle.std.specs.BTreeMap.{is_at}
 use Rattle.std.specs.Map.{lookup}
 use Rattle.link_key.specs.declared.links.Link.{Link}
+use Rattle.link_key.specs.Link.{EndsUpTo}
 use Rattle.link_key.specs.Labels.{label_of}
+use Rattle.link_key.specs.Offers.{Offer}
+use Rattle.round_theory.specs.Offers.{AreLightOffers}
 use Rattle.limits.specs.declared.TheConstants.{MAX_SHARD_LINKS}
 use Rattle.worker_engine.specs.Serving.{Kept}
 
@@ -36,6 +39,15 @@ pub record HasPlaces (links : List Link) (places : List ℕ) (live : ℕ) : Type
   pub few_links : length links ≤ MAX_SHARD_LINKS
   pub each : length places ≡ length links
   pub front : live ≤ length places
+
+-- a number that tells which numbers of vertices the ends of the links keep to
+abbrev pub IsGreatestEnd : List Link → ℕ → Type 0
+IsGreatestEnd links greatest = (n : ℕ) → EndsUpTo n links ↔ (greatest ≤ n)
+
+-- the light offers of the links, where each end has a label; none where one has no label
+abbrev pub AreOffersOf : List Link → List ℕ → Option (List Offer) → Type 0
+AreOffersOf links labels None = ¬ EndsUpTo (length labels) links
+AreOffersOf links labels (Some offers) = EndsUpTo (length labels) links × AreLightOffers links labels offers
 
 -- each link that isn't live is quiet
 abbrev pub IsLive : List ℕ → Holding → Type 0

@@ -5,6 +5,7 @@ use Rattle.link_key.specs.declared.links.Link.{Link}
 use Rattle.frames.specs.FrameValue.{FrameValue, ShardFrame, AskFrame, AnswerFrame, FaultFrame}
 use Rattle.frames.specs.declared.frame.TheConstants.{VERSION}
 use Rattle.frames.specs.FrameText.{text_of}
+use Rattle.frames.specs.Lawful.{IsLawful}
 use Rattle.frames.specs.FrameStream.{texts_of, AreLawful}
 use Rattle.frames.specs.Refusals.{StreamRefused}
 use Rattle.frames.specs.ReadFault.{failures_of, ends_of}
@@ -15,7 +16,9 @@ use Rattle.worker_engine.specs.declared.session.ServeFault.{ServeFault}
 use Rattle.worker_engine.specs.declared.session.ServeFault.TheVariants.{Read, Write, Memory, TooMany}
 use Rattle.worker_engine.specs.declared.session.Written.{Written}
 use Rattle.worker_engine.specs.declared.session.Written.TheVariants.{Nothing, AnAnswer, AFault}
-use Rattle.worker_engine.specs.Serving.{Shelf, shelf_with, MayFollow, Serves}
+use Rattle.worker_engine.specs.declared.engine.hearing.Owed.{Owed}
+use Rattle.worker_engine.specs.declared.engine.hearing.Owed.TheVariants.{Reply, NoMemoryForAsk, NoMemoryForShard}
+use Rattle.worker_engine.specs.Serving.{Shelf, shelf_with, AreReplyTo, MayWantMemory, replies_in, MayFollow, Serves}
 
 -- how many answers there are, and how many faults
 abbrev pub answer_bit : FrameValue → ℕ
@@ -114,6 +117,19 @@ pub record Stepped (v : FrameValue) (written : Written) (shelf shelf' : Shelf) (
 abbrev pub ask_in : FrameValue → Option (ℕ × ℕ)
 ask_in (AskFrame round shard labels) = Some (round, shard)
 ask_in v = None
+
+-- what is owed for a frame: the reply to it, once it was heard; or word that an ask or a shard found no memory, and wasn't heard
+abbrev pub IsOwed : {A : Type 0} → FrameValue → Shelf → Shelf → Owed A → Type 0
+IsOwed v shelf shelf' (Reply reply) = (shelf' ≡ shelf_with shelf v) × AreReplyTo shelf v (replies_in reply) × AreLawful (replies_in reply)
+IsOwed v shelf shelf' (NoMemoryForAsk round shard) = (shelf' ≡ shelf) × (ask_in v ≡ Some (round, shard)) × MayWantMemory shelf v
+IsOwed v shelf shelf' NoMemoryForShard = (shelf' ≡ shelf) × (ask_in v ≡ None) × MayWantMemory shelf v
+
+-- the next frame came, and that is owed for it
+pub record HearsNext {A : Type 0} (owed : Owed A) (shelf shelf' : Shelf) (source source' : SourceState) : Type 0 where
+  pub v : FrameValue
+  pub lawful : IsLawful v
+  pub gave : Gave 0 0 (text_of v) source source'
+  pub owes : IsOwed v shelf shelf' owed
 
 -- what stands for a reply: itself, or a fault for want of memory in place of an answer
 abbrev pub StandsFor : FrameValue → FrameValue → Type 0

@@ -1,20 +1,21 @@
 //! A worker's engine: it keeps shards and replies to asks.
 ghost use Rattle.std.specs.Prelude.{◌≡◌, ℕ, List, ◌≤◌, ◌↔◌, [], length, Some, IsSome, IfSome, IfOk, IfErr, OnOk, OnErr, IsTrue, true};
-ghost use Rattle.link_key.specs.Link.{EndsUpTo};
-ghost use Rattle.link_key.specs.Labels.{AreLabels};
+ghost use Rattle.link_key.specs.declared.links.Link.{Link};
 ghost use Rattle.frames.specs.FrameValue.{value_of, ShardFrame, FaultFrame};
 ghost use Rattle.frames.specs.Lawful.{IsLawful, IsShard, IsAsk};
 ghost use Rattle.frames.specs.FrameStream.{AreLawful};
-ghost use Rattle.worker_engine.specs.Parts.{CanScan};
 ghost use Rattle.worker_engine.specs.Serving.{shelf_of, shelf_with, IsReply, MayWantMemory, AreReplyTo, replies_in};
-ghost use Rattle.worker_engine.specs.Live.{kept_in, AreLive, IsLive, IsAllLive, AreAllLive, AreAllUnder};
+ghost use Rattle.worker_engine.specs.Live.{kept_in, AreOffersOf, IsAllLive, AreAllLive, AreAllUnder};
 
+mod hearing;
 mod threads;
 
 use crate::held::Held;
 use crate::scanning::Scanner;
 use frames::{Answer, Frame, Links};
-use link_key::{Labels, Link};
+pub(crate) use hearing::Owed;
+use limits::MAX_SHARD_LINKS;
+use link_key::{Labels, Offers};
 use std::alloc::{AllocError, Allocator, Global};
 use std::collections::BTreeMap;
 use std::marker::Model;
@@ -32,13 +33,13 @@ pub const NO_LABEL: u8 = 3;
 /// scan. Contracts see which links it keeps under which number.
 ///
 /// Beside each shard it keeps which of its links are live, by 4 bytes a link: after an answer those whose ends have one
-/// label are laid aside, and a scan passes over the live ones alone. It keeps the labels of its last answer too, 4
+/// label are laid aside, and a scan passes over the live ones alone. It keeps the labels of the last ask too, 4
 /// bytes a vertex, beside 16 bytes and a bit a vertex for the table. Where the labels of an ask don't coarsen them, all
 /// links are live again.
 #[derive(Drop)]
 pub struct Engine<A: Allocator = Global> {
     shards: BTreeMap<u32, Held<A>, A>,
-    // those of the last answer; at first of no vertices
+    // those of the last ask; at first of no vertices
     labels: Labels<A>,
     scanner: Scanner<A>,
 }
@@ -92,18 +93,11 @@ impl<A: Allocator + Copy> Engine<A> {
                 shard,
                 labels,
             } => {
-                let reply = self.reply(round, shard, labels)?;
+                let reply = self.reply(Ask { round, shard }, labels)?;
                 Ok(Some(reply))
             }
             Frame::Hello { .. } | Frame::Answer(_) | Frame::Fault { .. } => Ok(None),
         }
-    }
-
-    // The labels of the last answer.
-    pub(crate) fn labels(&self) -> &[u32]
-        ensures { AreLabels result.now }
-    {
-        self.labels.as_slice()
     }
 
     // Keeps a shard's links under its number, in place of earlier ones.
@@ -117,76 +111,91 @@ impl<A: Allocator + Copy> Engine<A> {
         Ok(())
     }
 
-    // The reply to an ask. Links are laid aside once it is made.
-    fn reply(&mut self, round: u32, shard: u32, labels: Labels<A>) -> Result<Frame<A>, AllocError>
-        requires { IsAsk round shard labels }
-        ensures reply { IfOk result (λ reply. IsReply (shelf_of self.old shard) round shard labels (value_of reply)) }
+    // The reply to an ask, whose labels are kept.
+    fn reply(&mut self, ask: Ask, labels: Labels<A>) -> Result<Frame<A>, AllocError>
+        requires { IsAsk ask.round ask.shard labels }
+        ensures reply { IfOk result (λ reply. IsReply (shelf_of self.old ask.shard) ask.round ask.shard labels (value_of reply)) }
         ensures lawful { IfOk result (λ reply. IsLawful (value_of reply)) }
-        ensures shelf { OnOk result (self.new ≡ self.old) }
-        ensures unchanged { OnErr result (self.new ≡ self.old) }
-        ensures held { OnErr result (IsSome (shelf_of self.old shard)) }
+        ensures unchanged { self.new ≡ self.old }
+        ensures held { OnErr result (IsSome (shelf_of self.old ask.shard)) }
     {
-        let asked = match look_up(&self.shards, &self.labels, round, shard, &labels) {
-            Ok(asked) => asked,
-            Err(fault) => return Ok(fault),
-        };
-        let coarser = asked.coarser;
-        let offers = self.scanner.scan_live(asked.links, asked.live, &labels)?;
-        lay_aside(&mut self.shards, shard, &labels, coarser);
+        make_live(&mut self.shards, &labels, &self.labels);
         self.labels = labels;
-        Ok(Frame::Answer(Answer {
-            round,
-            shard,
-            offers,
-        }))
+        reply_under(&mut self.shards, &mut self.scanner, &self.labels, ask)
     }
 }
 
-// What an ask scans: the links of its shard, the live places among them, none where all are live, and whether its labels
-// coarsen those of the last answer.
-#[derive(Drop)]
-struct Asked<'a> {
-    links: &'a [Link],
-    live: Option<&'a [u32]>,
-    coarser: bool,
-}
-
-// What an ask scans, or the fault that is owed for it.
-fn look_up<'a, A: Allocator>(
-    shards: &'a BTreeMap<u32, Held<A>, A>,
-    last_labels: &Labels<A>,
+// An ask, without its labels.
+#[derive(Clone, Copy)]
+struct Ask {
     round: u32,
     shard: u32,
-    labels: &Labels<A>,
-) -> Result<Asked<'a>, Frame<A>>
-    requires ask { IsAsk round shard labels.now }
-    requires live { AreAllUnder last_labels.now shards.now.entries }
-    ensures owed { IfErr result (λ fault. IsReply (shelf_of (kept_in shards.now.entries) shard) round shard labels.now (value_of fault)) }
-    ensures lawful { IfErr result (λ fault. IsLawful (value_of fault)) }
-    ensures found { IfOk result (λ asked. shelf_of (kept_in shards.now.entries) shard ≡ Some asked.links.now) }
-    ensures can { IfOk result (λ asked. CanScan asked.links.now labels.now asked.live) }
-    ensures live { IfOk result (λ asked. IsTrue asked.coarser → AreAllUnder labels.now shards.now.entries) }
-{
-    let Some(held) = shards.get(&shard) else {
-        return Err(fault(round, shard, NOT_HELD));
-    };
-    let links = held.links();
-    if !have_ends_up_to(links, labels.n()) {
-        return Err(fault(round, shard, NO_LABEL));
-    }
-    let coarser = labels.coarsens(last_labels);
-    let live = live_places(held, coarser);
-    Ok(Asked {
-        links,
-        live,
-        coarser,
-    })
 }
 
-fn fault<A: Allocator>(round: u32, shard: u32, code: u8) -> Frame<A>
-    ensures { value_of result ≡ FaultFrame round shard code }
+impl Ask {
+    // The reply with these offers; a fault where an end of a link has no label.
+    fn reply_with<A: Allocator>(self, offers: Option<Offers<A>>) -> Frame<A>
+        ensures { (links : List Link) (labels : List ℕ) → length links ≤ MAX_SHARD_LINKS → IsAsk self.round self.shard labels
+            → AreOffersOf links labels offers → IsReply (Some links) self.round self.shard labels (value_of result) × IsLawful (value_of result) }
+    {
+        let Ask { round, shard } = self;
+        match offers {
+            Some(offers) => Frame::Answer(Answer {
+                round,
+                shard,
+                offers,
+            }),
+            None => self.fault(NO_LABEL),
+        }
+    }
+
+    // A fault of it.
+    fn fault<A: Allocator>(self, code: u8) -> Frame<A>
+        ensures { value_of result ≡ FaultFrame self.round self.shard code }
+    {
+        Frame::Fault {
+            round: self.round,
+            shard: self.shard,
+            code,
+        }
+    }
+}
+
+// The reply to an ask under the labels that the shards are live under.
+fn reply_under<A: Allocator + Copy>(
+    shards: &mut BTreeMap<u32, Held<A>, A>,
+    scanner: &mut Scanner<A>,
+    labels: &Labels<A>,
+    ask: Ask,
+) -> Result<Frame<A>, AllocError>
+    requires ask { IsAsk ask.round ask.shard labels.now }
+    requires live { AreAllUnder labels.now shards.old.entries }
+    ensures reply { IfOk result (λ reply. IsReply (shelf_of (kept_in shards.old.entries) ask.shard) ask.round ask.shard labels.now (value_of reply)) }
+    ensures lawful { IfOk result (λ reply. IsLawful (value_of reply)) }
+    ensures kept { kept_in shards.new.entries ≡ kept_in shards.old.entries }
+    ensures live { AreAllUnder labels.now shards.new.entries }
+    ensures held { OnErr result (IsSome (shelf_of (kept_in shards.old.entries) ask.shard)) }
 {
-    Frame::Fault { round, shard, code }
+    let Some(held) = shards.get_mut(&ask.shard) else {
+        return Ok(ask.fault(NOT_HELD));
+    };
+    let offers = held.offers(scanner, labels)?;
+    Ok(ask.reply_with(offers))
+}
+
+// Makes all links of all shards live, but where labels coarsen those that the shards are live under.
+fn make_live<A: Allocator>(
+    shards: &mut BTreeMap<u32, Held<A>, A>,
+    labels: &Labels<A>,
+    last: &Labels<A>,
+)
+    requires { AreAllUnder last.now shards.old.entries }
+    ensures kept { kept_in shards.new.entries ≡ kept_in shards.old.entries }
+    ensures live { AreAllUnder labels.now shards.new.entries }
+{
+    if !labels.coarsens(last) {
+        make_all_live(shards);
+    }
 }
 
 // Makes all links of all shards live.
@@ -202,54 +211,4 @@ fn make_all_live<A: Allocator>(shards: &mut BTreeMap<u32, Held<A>, A>)
             true
         },
     );
-}
-
-// The live places of a shard under labels that may coarsen those of the last answer; none where all links are live.
-fn live_places<A: Allocator>(held: &Held<A>, coarser: bool) -> Option<&[u32]>
-    ensures { (labels : List ℕ) → (IsTrue coarser → IsLive labels held.now)
-        → IfSome result (λ places. AreLive held.now.links labels 0 (length held.now.links) places.now) }
-{
-    if coarser { held.live() } else { None }
-}
-
-// Lays the links of a shard aside whose ends have one label. Where the labels don't coarsen those of the last answer,
-// all links of all shards are live before.
-fn lay_aside<A: Allocator>(
-    shards: &mut BTreeMap<u32, Held<A>, A>,
-    shard: u32,
-    labels: &Labels<A>,
-    coarser: bool,
-)
-    requires ends { IfSome (shelf_of (kept_in shards.old.entries) shard) (EndsUpTo (length labels.now)) }
-    requires live { IsTrue coarser → AreAllUnder labels.now shards.old.entries }
-    ensures kept { kept_in shards.new.entries ≡ kept_in shards.old.entries }
-    ensures live { AreAllUnder labels.now shards.new.entries }
-{
-    if coarser {
-        lay_one_aside(shards, shard, labels);
-    } else {
-        make_all_live(shards);
-        lay_one_aside(shards, shard, labels);
-    }
-}
-
-fn lay_one_aside<A: Allocator>(
-    shards: &mut BTreeMap<u32, Held<A>, A>,
-    shard: u32,
-    labels: &Labels<A>,
-)
-    requires ends { IfSome (shelf_of (kept_in shards.old.entries) shard) (EndsUpTo (length labels.now)) }
-    requires live { AreAllUnder labels.now shards.old.entries }
-    ensures kept { kept_in shards.new.entries ≡ kept_in shards.old.entries }
-    ensures live { AreAllUnder labels.now shards.new.entries }
-{
-    if let Some(held) = shards.get_mut(&shard) {
-        held.lay_aside(labels);
-    }
-}
-
-fn have_ends_up_to(links: &[Link], n: u32) -> bool
-    ensures { IsTrue result ↔ EndsUpTo n links.now }
-{
-    links.iter().all(|link| link.high <= n)
 }

@@ -2,7 +2,7 @@
 //! for each label that a link of a shard leaves, the first place of the least such link.
 //!
 //! ```text
-//!   Source --read_frame_after--> Frame --Engine::hear_par--> reply --encode, fault_bytes, put--> Sink
+//!   Source --read_next--> NextFrame --Engine::hear_next--> reply --encode, fault_bytes, put--> Sink
 //!                                            |
 //!                                 links, Labels --Scanner::scan_par--> Offers
 //! ```

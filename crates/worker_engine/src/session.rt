@@ -4,15 +4,15 @@ ghost use Rattle.byte_streams.specs.Streams.{Took};
 ghost use Rattle.frames.specs.FrameValue.{FrameValue, value_of, HelloFrame, FaultFrame};
 ghost use Rattle.frames.specs.FrameText.{text_of};
 ghost use Rattle.frames.specs.Lawful.{IsLawful};
-ghost use Rattle.worker_engine.specs.Serving.{shelf_of};
-ghost use Rattle.worker_engine.specs.Served.{EndsWell, EndsBy, IsTold, answers_in, faults_in, answer_bit, fault_bit, ask_in, Stepped, WroteFor, CutFor, CutOff, Failed, Ungreeted};
+ghost use Rattle.worker_engine.specs.Serving.{Shelf};
+ghost use Rattle.worker_engine.specs.Served.{EndsWell, EndsBy, IsTold, answers_in, faults_in, answer_bit, fault_bit, IsOwed, Stepped, WroteFor, CutFor, CutOff, Failed, Ungreeted};
 ghost use Rattle.worker_engine.specs.declared.session.ServeFault.TheVariants.{Read, Write};
 ghost use Rattle.frames.specs.declared.fault.FrameFault.TheVariants.{Ended};
 ghost use Rattle.worker_engine.specs.declared.session.Written.TheVariants.{AFault};
 
-use crate::engine::{Engine, NO_MEMORY};
+use crate::engine::{Engine, NO_MEMORY, Owed};
 use byte_streams::{Sink, Source, put};
-use frames::{Frame, FrameFault, VERSION, encode, fault_bytes, read_frame_after};
+use frames::{Frame, FrameFault, VERSION, encode, fault_bytes};
 use limits::MAX_WORKERS;
 use std::alloc::Allocator;
 use std::thread::Threads;
@@ -95,11 +95,11 @@ pub fn serve_upto<R: Threads + Sync, A: Allocator + Copy + Send + Sync, S: Sourc
         faults: 0,
     };
     while served.frames < frames {
-        let frame = match read_frame_after(alloc, source, engine.labels()) {
-            Ok(frame) => frame,
+        let owed = match engine.hear_next(rt, alloc, source) {
+            Ok(owed) => owed,
             Err(fault) => return stopped(served, fault),
         };
-        let written = hear(rt, alloc, &mut engine, frame, sink)?;
+        let written = write_owed(alloc, owed, sink)?;
         served.count(written);
     }
     Err(ServeFault::TooMany)
@@ -192,39 +192,25 @@ fn write_whole<W: Sink>(sink: &mut W, text: &[u8]) -> Result<(), ServeFault>
     }
 }
 
-// Hears a frame and writes what is owed for it. A fault needs no memory.
-fn hear<R: Threads + Sync, A: Allocator + Copy + Send + Sync, W: Sink>(
-    rt: &R,
+// Writes what is owed for a frame. A fault needs no memory.
+fn write_owed<A: Allocator + Copy, W: Sink>(
     alloc: A,
-    engine: &mut Engine<A>,
-    frame: Frame<A>,
+    owed: Owed<A>,
     sink: &mut W,
 ) -> Result<Written, ServeFault>
-    requires lawful { IsLawful (value_of frame) }
+    requires owed { (v : FrameValue) × (shelf : Shelf) × (shelf' : Shelf) × IsOwed v shelf shelf' owed }
     requires can { W.can_write sink.old }
-    ensures stepped { IfOk result (λ written. Stepped (value_of frame) written (shelf_of engine.old) (shelf_of engine.new)
-        (W.state sink.old) (W.state sink.new)) }
-    ensures failed { IfErr result (λ fault. Failed fault (value_of frame) (shelf_of engine.old) (W.state sink.old) (W.state sink.new)) }
+    ensures stepped { IfOk result (λ written. (v : FrameValue) (shelf shelf' : Shelf) → IsOwed v shelf shelf' owed
+        → Stepped v written shelf shelf' (W.state sink.old) (W.state sink.new)) }
+    ensures failed { IfErr result (λ fault. (v : FrameValue) (shelf shelf' : Shelf) → IsOwed v shelf shelf' owed
+        → Failed fault v shelf (W.state sink.old) (W.state sink.new)) }
     ensures again { OnOk result (W.can_write sink.new) }
 {
-    let ask = asked(&frame);
-    match engine.hear_par(rt, frame) {
-        Ok(None) => Ok(Written::Nothing),
-        Ok(Some(reply)) => write_reply(alloc, &reply, sink),
-        Err(_) => match ask {
-            Some((round, shard)) => write_fault(sink, round, shard, NO_MEMORY),
-            None => Err(ServeFault::Memory),
-        },
-    }
-}
-
-// The round and the shard of an ask.
-fn asked<A: Allocator>(frame: &Frame<A>) -> Option<(u32, u32)>
-    ensures { result ≡ ask_in (value_of frame.now) }
-{
-    match frame {
-        Frame::Ask { round, shard, .. } => Some((*round, *shard)),
-        _ => None,
+    match owed {
+        Owed::Reply(None) => Ok(Written::Nothing),
+        Owed::Reply(Some(reply)) => write_reply(alloc, &reply, sink),
+        Owed::NoMemoryForAsk { round, shard } => write_fault(sink, round, shard, NO_MEMORY),
+        Owed::NoMemoryForShard => Err(ServeFault::Memory),
     }
 }
 

@@ -4,11 +4,15 @@ ghost use Rattle.frames.specs.FrameValue.{value_of};
 ghost use Rattle.frames.specs.Lawful.{IsLawful, IsAsk};
 ghost use Rattle.frames.specs.FrameStream.{AreLawful};
 ghost use Rattle.worker_engine.specs.Serving.{shelf_of, shelf_with, IsReply, MayWantMemory, AreReplyTo, replies_in};
+ghost use Rattle.worker_engine.specs.Live.{kept_in, AreAllUnder};
 
-use super::{Engine, lay_aside, look_up};
-use frames::{Answer, Frame};
+use super::{Ask, Engine, NOT_HELD, make_live};
+use crate::held::Held;
+use crate::scanning::Scanner;
+use frames::Frame;
 use link_key::Labels;
 use std::alloc::{AllocError, Allocator};
+use std::collections::BTreeMap;
 use std::thread::Threads;
 
 impl<A: Allocator + Copy + Send + Sync> Engine<A> {
@@ -35,7 +39,7 @@ impl<A: Allocator + Copy + Send + Sync> Engine<A> {
                 shard,
                 labels,
             } => {
-                let told = self.reply_par(rt, round, shard, labels)?;
+                let told = self.reply_par(rt, Ask { round, shard }, labels)?;
                 Ok(Some(told))
             }
             _ => self.hear(frame),
@@ -46,31 +50,40 @@ impl<A: Allocator + Copy + Send + Sync> Engine<A> {
     fn reply_par<R: Threads + Sync>(
         &mut self,
         rt: &R,
-        round: u32,
-        shard: u32,
+        ask: Ask,
         labels: Labels<A>,
     ) -> Result<Frame<A>, AllocError>
-        requires { IsAsk round shard labels }
-        ensures reply { IfOk result (λ reply. IsReply (shelf_of self.old shard) round shard labels (value_of reply)) }
+        requires { IsAsk ask.round ask.shard labels }
+        ensures reply { IfOk result (λ reply. IsReply (shelf_of self.old ask.shard) ask.round ask.shard labels (value_of reply)) }
         ensures lawful { IfOk result (λ reply. IsLawful (value_of reply)) }
-        ensures shelf { OnOk result (self.new ≡ self.old) }
-        ensures unchanged { OnErr result (self.new ≡ self.old) }
-        ensures held { OnErr result (IsSome (shelf_of self.old shard)) }
+        ensures unchanged { self.new ≡ self.old }
+        ensures held { OnErr result (IsSome (shelf_of self.old ask.shard)) }
     {
-        let asked = match look_up(&self.shards, &self.labels, round, shard, &labels) {
-            Ok(asked) => asked,
-            Err(fault) => return Ok(fault),
-        };
-        let coarser = asked.coarser;
-        let offers = self
-            .scanner
-            .scan_live_par(rt, asked.links, asked.live, &labels)?;
-        lay_aside(&mut self.shards, shard, &labels, coarser);
+        make_live(&mut self.shards, &labels, &self.labels);
         self.labels = labels;
-        Ok(Frame::Answer(Answer {
-            round,
-            shard,
-            offers,
-        }))
+        reply_under_par(rt, &mut self.shards, &mut self.scanner, &self.labels, ask)
     }
+}
+
+// The reply to an ask, as `reply_under` gives it, by threads.
+pub(super) fn reply_under_par<R: Threads + Sync, A: Allocator + Copy + Send + Sync>(
+    rt: &R,
+    shards: &mut BTreeMap<u32, Held<A>, A>,
+    scanner: &mut Scanner<A>,
+    labels: &Labels<A>,
+    ask: Ask,
+) -> Result<Frame<A>, AllocError>
+    requires ask { IsAsk ask.round ask.shard labels.now }
+    requires live { AreAllUnder labels.now shards.old.entries }
+    ensures reply { IfOk result (λ reply. IsReply (shelf_of (kept_in shards.old.entries) ask.shard) ask.round ask.shard labels.now (value_of reply)) }
+    ensures lawful { IfOk result (λ reply. IsLawful (value_of reply)) }
+    ensures kept { kept_in shards.new.entries ≡ kept_in shards.old.entries }
+    ensures live { AreAllUnder labels.now shards.new.entries }
+    ensures held { OnErr result (IsSome (shelf_of (kept_in shards.old.entries) ask.shard)) }
+{
+    let Some(held) = shards.get_mut(&ask.shard) else {
+        return Ok(ask.fault(NOT_HELD));
+    };
+    let offers = held.offers_par(rt, scanner, labels)?;
+    Ok(ask.reply_with(offers))
 }
