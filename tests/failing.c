@@ -6,7 +6,9 @@
  * FAIL_ERROR is the number of the error that it fails by (none: one that stands at the call), or 0, by which a recv
  * or a read gives 0 bytes, and a send or a write takes none. A read or a write is one of a file or a stream here, and
  * a recv or a send one of a socket. A close that fails has closed all the same, as Linux does.
- * A listen under the name "stranger" passes, but somebody else then connects first.
+ * A listen under the name "stranger" passes, but somebody else then connects first. A poll under the name "hangup"
+ * passes and tells that the connection has ended, though its socket names no error; under the name "getsockopt" it does
+ * too, and then the call fails that asks for the error.
  * For each call that fails an 'x' goes to the descriptor TOLD. With SHORT each recv, read and send is of one byte.
  * With COUNTED an 'R' goes there for each read that asks for 64 KiB, an 'r' for each other, and a 'w' for each write.
  * Where a socket listens on more than the loopback address, an 'A' goes there.
@@ -38,6 +40,7 @@ static const char *chosen = "";
 static unsigned long first, last, chosen_error;
 static atomic_ulong counted, started, joined;
 static int told = -1, is_short, is_counted;
+static _Thread_local int is_hung_up;
 
 static unsigned long number(const char *name, unsigned long otherwise) {
     const char *text = getenv(name);
@@ -62,19 +65,23 @@ static void tell(const char *what) {
     }
 }
 
-/* whether this call fails, and then `errno` is the error that was chosen, or else the usual one */
-static int fails(const char *name, int usual) {
+/* whether this call is one of those that were chosen */
+static int is_chosen(const char *name) {
     if (!first || strcmp(name, chosen)) {
         return 0;
     }
     unsigned long at = atomic_fetch_add(&counted, 1) + 1;
-    if (at < first || at > last) {
-        return 0;
-    }
+    return at >= first && at <= last;
+}
+
+/* a call fails, and then `errno` is the error that was chosen, or else the usual one */
+static int fail(int usual) {
     tell("x");
     errno = chosen_error == NO_ERROR_CHOSEN ? usual : (int)chosen_error;
     return 1;
 }
+
+static int fails(const char *name, int usual) { return is_chosen(name) && fail(usual); }
 
 /* what a failing recv, send, read or write answers */
 static ssize_t failed(void) { return errno ? -1 : 0; }
@@ -130,7 +137,20 @@ int ioctl(int fd, unsigned long request, ...) {
 }
 
 int poll(struct pollfd *asked, nfds_t count, int milliseconds) {
-    return fails("poll", ENOMEM) ? -1 : REAL(poll)(asked, count, milliseconds);
+    if (fails("poll", ENOMEM)) {
+        return -1;
+    }
+    int answer = REAL(poll)(asked, count, milliseconds);
+    is_hung_up = answer > 0 && is_chosen("getsockopt");
+    if (is_hung_up || (answer > 0 && fails("hangup", 0))) {
+        asked->revents |= POLLHUP;
+    }
+    return answer;
+}
+
+/* what a connection has failed by */
+int getsockopt(int fd, int level, int option, void *value, socklen_t *size) {
+    return is_hung_up && fail(ENOBUFS) ? -1 : REAL(getsockopt)(fd, level, option, value, size);
 }
 
 /* connects to a listener before anybody else does, and stays */

@@ -37,11 +37,14 @@ MAKING = {
     "ioctl": 2,
     "connect": 1,
     "poll": 1,
+    "hangup": 1,
+    "getsockopt": 1,
     "nodelay": 2,
     "accept": 1,
 }
-# the library makes these again where they are interrupted, and no others
-TRIED_AGAIN = ["open", "poll", "accept"]
+# the library makes these again where they are interrupted, and no others: a connection is waited for anew, also where
+# what asks for its error is interrupted
+TRIED_AGAIN = ["open", "poll", "getsockopt", "accept"]
 
 
 def costs_nothing(call, error):

@@ -115,12 +115,16 @@ def forest_text(vertices, links):
     return (f"p sp {vertices} {len(links)}\n" + "".join(f"a {low} {high} {weight}\n" for weight, low, high in links)).encode()
 
 
+def file_of(vertices, arcs):
+    """A file with these arcs (U, V, W)."""
+    return (f"p sp {vertices} {len(arcs)}\n" + "".join(f"a {u} {v} {w}\n" for u, v, w in arcs)).encode()
+
+
 def drawn_graph(seed, vertices, arcs, most=50):
     """A file with loops, repeats and equal weights, none further from 0 than `most`, and the text of its forest."""
     draw = random.Random(seed)
     rows = [(draw.randint(1, vertices), draw.randint(1, vertices), draw.randint(-most, most)) for _ in range(arcs)]
-    file = f"p sp {vertices} {arcs}\n" + "".join(f"a {u} {v} {w}\n" for u, v, w in rows)
-    return file.encode(), forest_text(vertices, forest_of(vertices, rows))
+    return file_of(vertices, rows), forest_text(vertices, forest_of(vertices, rows))
 
 
 def total_of(text):

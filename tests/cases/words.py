@@ -2,7 +2,20 @@
 import os
 import random
 
-from cases.running import SMALL_FOREST, SMALL_NET, SMALL_REPORT, Report, case, drawn_graph, expect, ran, written
+from cases.running import (
+    SMALL_FOREST,
+    SMALL_NET,
+    SMALL_REPORT,
+    Report,
+    case,
+    drawn_graph,
+    expect,
+    file_of,
+    forest_of,
+    forest_text,
+    ran,
+    written,
+)
 
 
 @case
@@ -53,6 +66,20 @@ def weights_of_64_bits(_room):
 
 
 @case
+def weights_at_the_limits(_room):
+    # the least and the greatest, with equal ones, and those about the limits of 32 bits
+    weights = [-(2**63), -(2**63) + 1, -(2**31) - 1, -(2**31), -1, 0, 2**31 - 1, 2**31, 2**63 - 2, 2**63 - 1]
+    for seed, some in [(14, weights), (15, weights[:1] + weights[-1:]), (16, weights[-1:]), (17, weights[:1])]:
+        draw = random.Random(seed)
+        rows = [(draw.randint(1, 300), draw.randint(1, 300), draw.choice(some)) for _ in range(1500)]
+        file, text = file_of(300, rows), forest_text(300, forest_of(300, rows))
+        for words in [["--plain"], [], ["--workers", "3", "--shards", "5"], ["--workers", "0", "--shards", "3"]]:
+            status, output, errors = ran([*words, "--report"], file)
+            expect((status, output, b""), 0, text, b"")
+            Report(errors).expect_total(text)
+
+
+@case
 def the_first_weights_past_64_bits(_room):
     for words in [["--plain"], []]:
         for weight in [-(2**63), 2**63 - 1, 2**31, -(2**31) - 1]:
@@ -62,16 +89,35 @@ def the_first_weights_past_64_bits(_room):
             expect(ran(words, b"p sp 2 1\na 1 2 %d\n" % weight), 1, b"", b"boruvka: line 2: WeightOutOfRange\n")
 
 
+def expect_total_of_a_million(room, vertices, rows, links):
+    """The program gives these keys for the forest of a million links, and Python's sum of their weights for its total."""
+    name = written(f"{room}/net.gr", file_of(vertices, rows))
+    text, total = forest_text(vertices, links), sum(weight for weight, _, _ in links)
+    for words in [["--plain"], ["--workers", "2", "--shards", "2"]]:
+        status, output, errors = ran([*words, "--report", name])
+        expect((status, output, b""), 0, text, b"")
+        report = Report(errors)
+        if (report.vertices, report.links, report.total) != (vertices, 1_000_000, total):
+            raise AssertionError(f"{words}: {vertices} vertices, 1,000,000 links and a total of {total}: {vars(report)}")
+
+
 @case
-def the_total_of_a_million_links(_room):
+def the_total_of_a_path_of_a_million_links(room):
+    # all of them are in the forest
     draw = random.Random(7)
-    weights = [draw.randint(-(2**63), 2**63 - 1) for _ in range(1_000_000)]
-    file = f"p sp 1000001 {len(weights)}\n" + "".join(f"a {v} {v + 1} {weight}\n" for v, weight in enumerate(weights, 1))
-    for words in [["--plain"], ["--shards", "2"]]:
-        status, output, errors = ran([*words, "--report"], file.encode())
-        if (status, output.count(b"\n"), Report(errors).total) != (0, 1_000_001, sum(weights)):
-            raise AssertionError(f"the links weigh {sum(weights)}: {status} {errors!r:.300}")
-        Report(errors).expect_total(output)
+    rows = [(v, v + 1, draw.randint(-(2**63), 2**63 - 1)) for v in range(1, 1_000_001)]
+    expect_total_of_a_million(room, 1_000_001, rows, sorted((weight, u, v) for u, v, weight in rows))
+
+
+@case
+def the_total_of_a_million_drawn_links_of_63_bits(room):
+    # (2^18 vertices; v is drawn around u, so that no link is a loop)
+    draw = random.Random(63)
+    rows = []
+    for _ in range(1_000_000):
+        u, step, weight = draw.getrandbits(18), draw.randint(1, 2**18 - 1), draw.getrandbits(63)
+        rows.append((u + 1, (u + step) % 2**18 + 1, weight))
+    expect_total_of_a_million(room, 2**18, rows, forest_of(2**18, rows))
 
 
 @case

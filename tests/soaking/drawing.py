@@ -216,7 +216,7 @@ def within_memory(text):
 
 # Modes and failures
 
-MAKERS = ["socket", "bind", "listen", "getsockname", "setsockopt", "nodelay", "connect", "accept", "thread", "stranger"]
+MAKERS = ["socket", "bind", "listen", "getsockname", "setsockopt", "nodelay", "connect", "hangup", "getsockopt", "accept", "thread", "stranger"]
 STREAMS, SOCKETS = ["read", "write"], ["recv", "send"]
 
 
