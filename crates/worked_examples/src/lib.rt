@@ -10,6 +10,7 @@
 //!   reading         `.gr` texts, their faults, pieces and limits
 //!   writing         forest texts, how a sink is called, and how much of a text went out
 //!   plain_runs      a file, and a forest's own text, to its forest text
+//!   again           a forest's text, run again: the premise of that promise is met
 //!   totals          what forests weigh
 //!   fault_texts     what each fault, and a report, is told as
 //!   sizes           each call at and past the size of every inner piece
@@ -23,6 +24,10 @@
 //! Where to start a change: a new public call gets its example in the file of its subject, and one in that crate's
 //! `sizes` if it may answer want of memory. The worked graphs stand in `worked_graphs`.
 #![tactic(auto)]
+
+mod again;
+
+pub use again::text_again;
 
 #[cfg(test)]
 mod drawn_lists;

@@ -1,4 +1,5 @@
 // Files to the texts of their forests.
+use crate::again::text_again;
 use byte_streams::{FusedSink, FusedSource};
 use forest_run::{Report, RunFault, plain_text, run_plain};
 use gr_text::{GrFault, GrKind, ReadFault};
@@ -29,7 +30,7 @@ fn expect_text(rt: &impl Abort, alloc: Global, file: &[u8], graph: Worked, links
 }
 
 // Their links, repeats counted and loops left out.
-const LINKS: [u64; 7] = [8, 0, 0, 3, 3, 7, 2];
+const LINKS: [u64; 8] = [8, 0, 0, 3, 3, 7, 2, 8];
 
 #[test]
 fn texts_of_the_worked_graphs(rt: HostRuntime) {
@@ -48,6 +49,17 @@ fn texts_of_forests_are_written_again(rt: HostRuntime) {
             graph,
             graph.forest.len() as u64,
         );
+    }
+}
+
+// The same by the call whose contract says by definitions which text it is, and what is reported.
+#[test]
+fn texts_that_are_run_again(rt: HostRuntime) {
+    for graph in WORKED {
+        let (text, report) = text_again(rt.alloc(), graph.file).expect(&rt, "a forest");
+        assert_eq!(rt; text.as_slice(), graph.text);
+        let links = graph.forest.len() as u64;
+        assert_eq!(rt; (report.links, report.total), (links, graph.total));
     }
 }
 

@@ -127,8 +127,34 @@ pub const A_NEGATIVE_WEIGHT: Worked = Worked {
     total: -3,
 };
 
+/// The small net with weights past 32 bits on three of its last four arcs, both limits among them: its forest's links are
+/// the same, and the first half of its arcs fits 32 bits.
+pub const WIDE_WEIGHTS: Worked = Worked {
+    n: 6,
+    file: b"p sp 6 8\na 1 2 17\na 1 3 10\na 2 4 2\na 3 5 0\na 4 3 0\na 4 6 2147483648\na 5 2 -9223372036854775808\na 5 6 9223372036854775807\n",
+    arcs: &[
+        (1, 2, 17),
+        (1, 3, 10),
+        (2, 4, 2),
+        (3, 5, 0),
+        (4, 3, 0),
+        (4, 6, 2147483648),
+        (5, 2, -9223372036854775808),
+        (5, 6, 9223372036854775807),
+    ],
+    forest: &[
+        (2, 5, -9223372036854775808),
+        (3, 4, 0),
+        (3, 5, 0),
+        (1, 3, 10),
+        (4, 6, 2147483648),
+    ],
+    text: b"p sp 6 5\na 2 5 -9223372036854775808\na 3 4 0\na 3 5 0\na 1 3 10\na 4 6 2147483648\n",
+    total: -9223372034707292150,
+};
+
 /// All of them.
-pub const WORKED: [Worked; 7] = [
+pub const WORKED: [Worked; 8] = [
     SMALL_NET,
     NO_VERTICES,
     A_LOOP_ALONE,
@@ -136,6 +162,7 @@ pub const WORKED: [Worked; 7] = [
     EQUAL_WEIGHTS,
     A_PATH_OF_EIGHT,
     A_NEGATIVE_WEIGHT,
+    WIDE_WEIGHTS,
 ];
 
 /// The links of the arcs, loops left out and repeats kept, in the arcs' order; none where an end of an arc is no

@@ -1,0 +1,17 @@
+-- A forest's text that was run again.
+use Rattle.std.specs.Prelude.{◌≡◌, ℕ, List, length}
+use Rattle.link_key.specs.Least.{sum_of_weights}
+use Rattle.link_key.specs.declared.links.Link.{Link}
+use Rattle.gr_text.specs.Graph.{GraphValue}
+use Rattle.gr_text.specs.ForestText.{forest_text}
+use Rattle.forest_run.specs.Files.{HasForest}
+use Rattle.forest_run.specs.declared.report.Report.{Report}
+
+-- the text is that of the forest that these bytes give; the run that wrote it counted the forest's links, and no others, and their total
+pub record IsWrittenAgain (bytes text : List ℕ) (report : Report) : Type 0 where
+  pub graph : GraphValue
+  pub forest : List Link
+  pub least : HasForest bytes graph forest
+  pub itself : text ≡ forest_text graph.vertices forest
+  pub links : report.links ≡ length forest
+  pub total : report.total ≡ sum_of_weights forest
