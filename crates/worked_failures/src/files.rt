@@ -1,5 +1,5 @@
-// Runs over the small net whose source fails at each byte, and whose sink fails, or takes nothing more, at each byte of
-// the forest's text.
+// Runs over the small net, also with weights past 32 bits, whose source fails at each byte, and whose sink fails, or takes
+// nothing more, at each byte of the forest's text.
 ghost use Rattle.std.specs.Prelude.{◌<◌, ◌≤◌, ◌-◌, ◌^◌};
 
 use crate::runs::worker;
@@ -11,7 +11,7 @@ use std::process::Abort;
 use std::sync::Wait;
 use std::test::Fail;
 use std::thread::Threads;
-use worked_graphs::SMALL_NET;
+use worked_graphs::{SMALL_NET, WIDE_WEIGHTS, Worked};
 
 /// By one thread, or over two workers.
 #[derive(Clone, Copy)]
@@ -53,18 +53,19 @@ fn fault_of<S: Source, W: Sink, R: Threads + Wait + Sync + Abort>(
 fn expect_read<R: Threads + Wait + Sync + Abort>(
     rt: &R,
     alloc: Global,
+    graph: &Worked,
     way: Way,
     piece: usize,
     passes: usize,
 ) -> Result<(), Fail>
     requires piece { 1 ≤ piece }
 {
-    let file = SMALL_NET.file;
+    let file = graph.file;
     let mut source = FusedSource::new(Vec::from_slice(alloc, file)?, passes, piece);
     let mut sink = Vec::new(alloc);
     let fault = fault_of(rt, alloc, way, &mut source, &mut sink)?;
     if passes > file.len() {
-        assert!(rt; fault.is_none() && sink.as_slice() == SMALL_NET.text);
+        assert!(rt; fault.is_none() && sink.as_slice() == graph.text);
         return Ok(());
     }
     let feeds = file[..passes].iter().filter(|it| **it == b'\n').count() as u64;
@@ -78,11 +79,13 @@ fn expect_read<R: Threads + Wait + Sync + Abort>(
 
 #[test]
 fn a_source_that_fails_at_each_byte(rt: HostRuntime) -> Result<(), Fail> {
-    assert_eq!(rt; SMALL_NET.file.len(), 108);
-    for (way, piece) in RUNS {
-        assert!(rt; 1 <= piece);
-        for passes in 0..110usize {
-            expect_read(&rt, rt.alloc(), way, piece, passes)?;
+    for (graph, length) in [(SMALL_NET, 108), (WIDE_WEIGHTS, 121)] {
+        assert_eq!(rt; graph.file.len(), length);
+        for (way, piece) in RUNS {
+            assert!(rt; 1 <= piece);
+            for passes in 0..length.wrapping_add(2) {
+                expect_read(&rt, rt.alloc(), &graph, way, piece, passes)?;
+            }
         }
     }
     Ok(())
@@ -93,6 +96,7 @@ fn a_source_that_fails_at_each_byte(rt: HostRuntime) -> Result<(), Fail> {
 fn expect_written<R: Threads + Wait + Sync + Abort>(
     rt: &R,
     alloc: Global,
+    graph: &Worked,
     way: Way,
     mut sink: FusedSink,
     passes: usize,
@@ -100,9 +104,9 @@ fn expect_written<R: Threads + Wait + Sync + Abort>(
 ) -> Result<(), Fail>
     requires { sink.setbacks < 2 ^ 64 - 1 }
 {
-    let mut source = SMALL_NET.file;
+    let mut source = graph.file;
     let fault = fault_of(rt, alloc, way, &mut source, &mut sink)?;
-    let text = SMALL_NET.text;
+    let text = graph.text;
     let expected = if ends_well {
         None
     } else {
@@ -115,16 +119,21 @@ fn expect_written<R: Threads + Wait + Sync + Abort>(
     Ok(())
 }
 
+// How long the forests' texts are.
+const LENGTHS: [(Worked, usize); 2] = [(SMALL_NET, 50), (WIDE_WEIGHTS, 78)];
+
 // Room for just the text isn't enough for a sink that fails once it is full, since the flush fails.
 #[test]
 fn a_sink_that_fails_at_each_byte(rt: HostRuntime) -> Result<(), Fail> {
     let alloc = rt.alloc();
-    assert_eq!(rt; SMALL_NET.text.len(), 50);
-    for (way, piece) in RUNS {
-        assert!(rt; 1 <= piece);
-        for passes in 0..52usize {
-            let sink = FusedSink::new(alloc, passes, piece)?;
-            expect_written(&rt, alloc, way, sink, passes, passes > 50)?;
+    for (graph, length) in LENGTHS {
+        assert_eq!(rt; graph.text.len(), length);
+        for (way, piece) in RUNS {
+            assert!(rt; 1 <= piece);
+            for passes in 0..length.wrapping_add(2) {
+                let sink = FusedSink::new(alloc, passes, piece)?;
+                expect_written(&rt, alloc, &graph, way, sink, passes, passes > length)?;
+            }
         }
     }
     Ok(())
@@ -134,11 +143,13 @@ fn a_sink_that_fails_at_each_byte(rt: HostRuntime) -> Result<(), Fail> {
 #[test]
 fn a_sink_that_takes_nothing_more_at_each_byte(rt: HostRuntime) -> Result<(), Fail> {
     let alloc = rt.alloc();
-    for (way, piece) in RUNS {
-        assert!(rt; 1 <= piece);
-        for passes in 0..52usize {
-            let sink = FusedSink::stopped(alloc, passes, piece)?;
-            expect_written(&rt, alloc, way, sink, passes, passes >= 50)?;
+    for (graph, length) in LENGTHS {
+        for (way, piece) in RUNS {
+            assert!(rt; 1 <= piece);
+            for passes in 0..length.wrapping_add(2) {
+                let sink = FusedSink::stopped(alloc, passes, piece)?;
+                expect_written(&rt, alloc, &graph, way, sink, passes, passes >= length)?;
+            }
         }
     }
     Ok(())

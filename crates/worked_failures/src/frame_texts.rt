@@ -9,7 +9,7 @@ use link_key::{Labels, Offers, Shard};
 use std::alloc::{AllocError, Global};
 use std::process::Abort;
 use test_memory::{Refusals, Refusing};
-use worked_graphs::EQUAL_WEIGHTS;
+use worked_graphs::{EQUAL_WEIGHTS, Row};
 
 pub(crate) const HELLO: [u8; 11] = [1, 0, 0, 0, 6, 0, 2, 0, 0, 0, 0];
 
@@ -17,6 +17,24 @@ pub(crate) const HELLO: [u8; 11] = [1, 0, 0, 0, 6, 0, 2, 0, 0, 0, 0];
 pub(crate) const SHARD: [u8; 49] = [
     2, 0, 0, 0, 44, 0, 0, 0, 0, 0, 0, 0, 3, 0, 0, 0, 1, 0, 0, 0, 2, 0, 0, 0, 5, 0, 0, 0, 2, 0, 0,
     0, 3, 0, 0, 0, 5, 0, 0, 0, 1, 0, 0, 0, 3, 0, 0, 0, 5,
+];
+
+// The triangle with weights past 32 bits, both limits among them, and it as shard 0. Its answer is that of equal weights.
+pub(crate) const WIDE_ARCS: [Row; 3] = [
+    (1, 2, -9223372036854775808),
+    (2, 3, 9223372036854775807),
+    (1, 3, 2147483648),
+];
+
+pub(crate) const SHARD64: [u8; 61] = [
+    6, 0, 0, 0, 56, 0, 0, 0, 0, 0, 0, 0, 3, 0, 0, 0, 1, 0, 0, 0, 2, 128, 0, 0, 0, 0, 0, 0, 0, 0, 0,
+    0, 2, 0, 0, 0, 3, 127, 255, 255, 255, 255, 255, 255, 255, 0, 0, 0, 1, 0, 0, 0, 3, 0, 0, 0, 0,
+    128, 0, 0, 0,
+];
+
+// A shard of one link whose weight fits 32 bits, as if it didn't.
+const NEEDLESS: [u8; 29] = [
+    6, 0, 0, 0, 24, 0, 0, 0, 0, 0, 0, 0, 1, 0, 0, 0, 1, 0, 0, 0, 2, 0, 0, 0, 0, 0, 0, 0, 5,
 ];
 
 // The ask of round 1 for it, each vertex a component by itself.
@@ -52,23 +70,27 @@ enum Call {
     ReadFrame(&'static [u8]),
     DecodeBody(&'static [u8]),
     EncodeShard,
+    EncodeShard64,
     EncodeAsk,
     EncodeAskOver,
     EncodeAnswer,
 }
 
-const CALLS: [Call; 14] = [
+const CALLS: [Call; 17] = [
     Call::ReadFrame(&HELLO),
     Call::ReadFrame(&SHARD),
+    Call::ReadFrame(&SHARD64),
     Call::ReadFrame(&ASK),
     Call::ReadFrame(&ANSWER),
     Call::ReadFrame(&NO_MEMORY),
     Call::DecodeBody(&HELLO),
     Call::DecodeBody(&SHARD),
+    Call::DecodeBody(&SHARD64),
     Call::DecodeBody(&ASK),
     Call::DecodeBody(&ANSWER),
     Call::DecodeBody(&NO_MEMORY),
     Call::EncodeShard,
+    Call::EncodeShard64,
     Call::EncodeAsk,
     Call::EncodeAskOver,
     Call::EncodeAnswer,
@@ -90,7 +112,8 @@ fn make(rt: &impl Abort, alloc: Global, memory: &Memory, call: Call) -> Result<(
             assert!(rt; body.len() == head.length as usize);
             expect_again(rt, memory, decode_body(memory, head, body), bytes)
         }
-        Call::EncodeShard => encode_triangle(rt, alloc, memory),
+        Call::EncodeShard => encode_triangle(rt, alloc, memory, EQUAL_WEIGHTS.arcs, &SHARD),
+        Call::EncodeShard64 => encode_triangle(rt, alloc, memory, &WIDE_ARCS, &SHARD64),
         Call::EncodeAsk => {
             let labels = Labels::apart(alloc, 3).expect(rt, "memory");
             expect_text(rt, encode_ask(memory, 1, 0, &labels), &ASK)
@@ -105,15 +128,21 @@ fn make(rt: &impl Abort, alloc: Global, memory: &Memory, call: Call) -> Result<(
     }
 }
 
-// The triangle's links as a shard.
-fn encode_triangle(rt: &impl Abort, alloc: Global, memory: &Memory) -> Result<(), AllocError> {
-    let links = links_of_six(rt, alloc, EQUAL_WEIGHTS.arcs);
+// A triangle's links as a shard.
+fn encode_triangle(
+    rt: &impl Abort,
+    alloc: Global,
+    memory: &Memory,
+    arcs: &[Row],
+    bytes: &[u8],
+) -> Result<(), AllocError> {
+    let links = links_of_six(rt, alloc, arcs);
     assert!(rt; links.len() == 3);
     let shard = Shard {
         number: 0,
         links: links.as_slice(),
     };
-    expect_text(rt, encode_shard(memory, &shard), &SHARD)
+    expect_text(rt, encode_shard(memory, &shard), bytes)
 }
 
 // An answer of three offers.
@@ -149,11 +178,13 @@ fn frames_that_are_refused(rt: HostRuntime) {
     kind[0] = 7;
     let mut version = HELLO;
     version[6] = 3;
-    let refused: [(&[u8], FrameFault); 4] = [
+    let refused: [(&[u8], FrameFault); 6] = [
         (&cut, FrameFault::BadField),
         (&ASK[..20], FrameFault::Torn),
         (&kind, FrameFault::BadKind),
         (&version, FrameFault::BadVersion),
+        (&NEEDLESS, FrameFault::BadField),
+        (&SHARD64[..60], FrameFault::Torn),
     ];
     for (bytes, fault) in refused {
         for number in 1..8u64 {

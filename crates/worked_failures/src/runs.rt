@@ -1,20 +1,21 @@
-// Whole runs over the small net. (Rounds over lanes come with the run over workers: lanes in memory that is borrowed are
-// refused by the borrow checker today.)
+// Whole runs over the small net, also with weights past 32 bits. (Rounds over lanes come with the run over workers: lanes
+// in memory that is borrowed are refused by the borrow checker today.)
 ghost use Rattle.std.specs.Prelude.{◌<◌, IfOk};
 ghost use Rattle.ports.specs.EngineLines.{line_of};
 ghost use Rattle.ports.specs.Lines.{HasRoom};
 
 use crate::in_turn::{Memory, expect_any, was_refused};
+use crate::wires::FIRST_HELLO;
 use byte_streams::FusedSink;
 use forest_run::{Cutting, RunFault, run_lines, run_plain};
 use gr_text::ReadFault;
 use link_key::CutFault;
-use ports::EngineLine;
+use ports::{EngineLine, ScriptLine};
 use std::alloc::{AllocError, Allocator, Global};
 use std::process::Abort;
 use std::sync::Wait;
 use std::thread::Threads;
-use worked_graphs::SMALL_NET;
+use worked_graphs::{SMALL_NET, WIDE_WEIGHTS, Worked};
 
 // Whether a run that ended so wanted memory.
 fn wants_memory(fault: RunFault) -> bool {
@@ -24,12 +25,17 @@ fn wants_memory(fault: RunFault) -> bool {
 }
 
 // By one thread.
-fn expect_plain(rt: &impl Abort, alloc: Global, memory: &Memory) -> Result<(), AllocError> {
-    let mut source = SMALL_NET.file;
+fn expect_plain(
+    rt: &impl Abort,
+    alloc: Global,
+    memory: &Memory,
+    graph: Worked,
+) -> Result<(), AllocError> {
+    let mut source = graph.file;
     let mut sink = FusedSink::new(alloc, 100, 7)?;
     match run_plain(memory, &mut source, &mut sink) {
         Ok(report) => {
-            assert!(rt; sink.held() == SMALL_NET.text && report.total == 13);
+            assert!(rt; sink.held() == graph.text && report.total == graph.total);
             Ok(())
         }
         Err(fault) => {
@@ -55,17 +61,42 @@ fn expect_over_workers<R: Threads + Wait + Sync + Abort>(
     rt: &R,
     alloc: Global,
     memory: &Memory,
+    graph: Worked,
 ) -> Result<(), AllocError> {
     let Ok(lines) = Vec::from_array(memory, [worker(memory, 0)?, worker(memory, 1)?]) else {
         return Err(AllocError);
     };
-    let mut source = SMALL_NET.file;
+    let mut source = graph.file;
     let mut sink = FusedSink::new(alloc, 100, 7)?;
     match run_lines(rt, memory, &mut source, Cutting::Even(2), lines, &mut sink) {
         Ok((report, lines)) => {
-            assert!(rt; sink.held() == SMALL_NET.text && lines.len() == 2);
-            assert!(rt; (report.rounds, report.shards, report.total) == (2, 2, 13));
+            assert!(rt; sink.held() == graph.text && lines.len() == 2);
+            assert!(rt; (report.rounds, report.shards, report.total) == (2, 2, graph.total));
             assert!(rt; report.closed == 0 || was_refused(memory));
+            Ok(())
+        }
+        Err(fault) => {
+            assert!(rt; was_refused(memory) && wants_memory(fault) && sink.held().is_empty());
+            Err(AllocError)
+        }
+    }
+}
+
+// Over a worker of the first version, which is too old for the weights, and answers nothing.
+fn expect_over_an_old_worker<R: Threads + Wait + Sync + Abort>(
+    rt: &R,
+    alloc: Global,
+    memory: &Memory,
+) -> Result<(), AllocError> {
+    let mut lines = Vec::new(memory);
+    lines.push(ScriptLine::new(FIRST_HELLO.to_vec(memory)?))?;
+    let mut source = WIDE_WEIGHTS.file;
+    let mut sink = FusedSink::new(alloc, 100, 7)?;
+    match run_lines(rt, memory, &mut source, Cutting::Even(1), lines, &mut sink) {
+        Ok((report, _)) => {
+            assert!(rt; sink.held() == WIDE_WEIGHTS.text && report.total == WIDE_WEIGHTS.total);
+            assert!(rt; (report.rounds, report.asked, report.answered) == (2, 1, 0));
+            assert!(rt; (report.alone, report.closed) == (3, 1));
             Ok(())
         }
         Err(fault) => {
@@ -77,20 +108,28 @@ fn expect_over_workers<R: Threads + Wait + Sync + Abort>(
 
 #[derive(Clone, Copy)]
 enum Call {
-    RunPlain,
-    RunLines,
+    RunPlain(Worked),
+    RunLines(Worked),
+    OldWorker,
 }
 
 #[test]
 fn whole_runs(rt: HostRuntime) {
-    for call in [Call::RunPlain, Call::RunLines] {
+    for call in [
+        Call::RunPlain(SMALL_NET),
+        Call::RunPlain(WIDE_WEIGHTS),
+        Call::RunLines(SMALL_NET),
+        Call::RunLines(WIDE_WEIGHTS),
+        Call::OldWorker,
+    ] {
         expect_any(
             &rt,
             rt.alloc(),
             |memory: &Memory| -> Result<(), AllocError> {
                 match call {
-                    Call::RunPlain => expect_plain(&rt, rt.alloc(), memory),
-                    Call::RunLines => expect_over_workers(&rt, rt.alloc(), memory),
+                    Call::RunPlain(graph) => expect_plain(&rt, rt.alloc(), memory, graph),
+                    Call::RunLines(graph) => expect_over_workers(&rt, rt.alloc(), memory, graph),
+                    Call::OldWorker => expect_over_an_old_worker(&rt, rt.alloc(), memory),
                 }
             },
         );

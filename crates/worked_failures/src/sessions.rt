@@ -1,7 +1,8 @@
-// A worker's session over a shard and an ask, whose source fails at each byte, and whose sink does.
+// A worker's session over a shard and an ask, whose source fails at each byte, and whose sink does; and over a shard of
+// weights past 32 bits.
 ghost use Rattle.std.specs.Prelude.{◌≡◌, ◌<◌, ◌≤◌, ◌-◌, ◌^◌};
 
-use crate::frame_texts::{ANSWER, ASK, HELLO, SHARD};
+use crate::frame_texts::{ANSWER, ASK, HELLO, SHARD, SHARD64};
 use byte_streams::{FusedSink, FusedSource};
 use frames::FrameFault;
 use std::alloc::{AllocError, Global};
@@ -24,24 +25,32 @@ pub(crate) fn joined(alloc: Global, first: &[u8], second: &[u8]) -> Result<Vec<u
     Ok(bytes)
 }
 
+// The shard and how many bytes it has together with the ask, and how many bytes a source and a sink take at a time.
+const SESSIONS: [(&[u8], usize, usize); 4] = [
+    (&SHARD, 78, 1),
+    (&SHARD, 78, 7),
+    (&SHARD64, 90, 1),
+    (&SHARD64, 90, 7),
+];
+
 // The hello is written before anything is read, and the answer once the whole ask was.
 #[test]
 fn a_source_that_fails_at_each_byte(rt: HostRuntime) -> Result<(), Fail> {
     let alloc = rt.alloc();
     let both = joined(alloc, &HELLO, &ANSWER)?;
-    for piece in [1usize, 7] {
+    for (shard, most, piece) in SESSIONS {
         assert!(rt; 1 <= piece);
-        for passes in 0..80usize {
-            let mut source = FusedSource::new(joined(alloc, &SHARD, &ASK)?, passes, piece);
+        for passes in 0..92usize {
+            let mut source = FusedSource::new(joined(alloc, shard, &ASK)?, passes, piece);
             let mut sink = Vec::new(alloc);
             let end = serve(&rt, alloc, 0, &mut source, &mut sink);
-            let expected = if passes > 78 {
+            let expected = if passes > most {
                 SERVED
             } else {
                 Err(ServeFault::Read(FrameFault::Device))
             };
             assert_eq!(rt; end, expected, "after {passes} bytes");
-            let written = if passes >= 78 {
+            let written = if passes >= most {
                 both.as_slice()
             } else {
                 &HELLO
@@ -52,17 +61,18 @@ fn a_source_that_fails_at_each_byte(rt: HostRuntime) -> Result<(), Fail> {
     Ok(())
 }
 
-// A session into this sink, which has room for so many bytes.
+// A session over this shard into this sink, which has room for so many bytes.
 fn expect_written(
     rt: &(impl Abort + Threads + Sync),
     alloc: Global,
+    shard: &[u8],
     mut sink: FusedSink,
     passes: usize,
     expected: Result<Served, ServeFault>,
 ) -> Result<(), Fail>
     requires { sink.setbacks < 2 ^ 64 - 1 }
 {
-    let heard = joined(alloc, &SHARD, &ASK)?;
+    let heard = joined(alloc, shard, &ASK)?;
     let both = joined(alloc, &HELLO, &ANSWER)?;
     let mut source = heard.as_slice();
     let end = serve(rt, alloc, 0, &mut source, &mut sink);
@@ -75,7 +85,7 @@ fn expect_written(
 #[test]
 fn a_sink_that_fails_at_each_byte(rt: HostRuntime) -> Result<(), Fail> {
     let alloc = rt.alloc();
-    for piece in [1usize, 7] {
+    for (shard, _, piece) in SESSIONS {
         assert!(rt; 1 <= piece);
         for passes in 0..54usize {
             let expected = if passes >= 52 {
@@ -84,9 +94,9 @@ fn a_sink_that_fails_at_each_byte(rt: HostRuntime) -> Result<(), Fail> {
                 Err(ServeFault::Write)
             };
             let failing = FusedSink::new(alloc, passes, piece)?;
-            expect_written(&rt, alloc, failing, passes, expected)?;
+            expect_written(&rt, alloc, shard, failing, passes, expected)?;
             let stopped = FusedSink::stopped(alloc, passes, piece)?;
-            expect_written(&rt, alloc, stopped, passes, expected)?;
+            expect_written(&rt, alloc, shard, stopped, passes, expected)?;
         }
     }
     Ok(())

@@ -1,5 +1,5 @@
 // What a worker does: scans, what its engine hears, and whole sessions.
-use crate::frame_texts::{ANSWER, ASK, HELLO, NO_MEMORY, SHARD};
+use crate::frame_texts::{ANSWER, ASK, HELLO, NO_MEMORY, SHARD, SHARD64, WIDE_ARCS};
 use crate::in_turn::{Memory, expect_any, expect_each, or_refused, was_refused};
 use crate::lists::links_of_six;
 use crate::sessions::joined;
@@ -8,7 +8,7 @@ use link_key::Labels;
 use std::alloc::{AllocError, Global};
 use std::process::Abort;
 use std::thread::Threads;
-use worked_graphs::{EQUAL_WEIGHTS, have_labels};
+use worked_graphs::{EQUAL_WEIGHTS, Row, have_labels};
 use worker_engine::{Engine, ServeFault, Served, scan, scan_par, serve_upto};
 
 #[derive(Clone, Copy)]
@@ -17,14 +17,15 @@ enum By {
     Threads,
 }
 
-// The triangle's offers, each vertex a component by itself.
+// A triangle's offers, each vertex a component by itself.
 fn expect_offers(
     rt: &(impl Abort + Threads + Sync),
     alloc: Global,
     memory: &Memory,
     by: By,
+    arcs: &[Row],
 ) -> Result<(), AllocError> {
-    let links = links_of_six(rt, alloc, EQUAL_WEIGHTS.arcs);
+    let links = links_of_six(rt, alloc, arcs);
     let links = links.as_slice();
     let labels = Labels::apart(alloc, 3).expect(rt, "memory");
     assert!(rt; links.len() == 3 && have_labels(links, labels.n()));
@@ -78,66 +79,77 @@ fn expect_reply<'a>(
     Ok(())
 }
 
-// An engine hears a shard and an ask.
+// An engine hears a triangle's shard and an ask.
 fn expect_replies(
     rt: &(impl Abort + Threads + Sync),
     memory: &Memory,
     by: By,
+    shard: &[u8],
 ) -> Result<(), AllocError> {
     let mut engine = Engine::new(memory);
-    expect_reply(rt, memory, by, &mut engine, &SHARD, &[])?;
+    expect_reply(rt, memory, by, &mut engine, shard, &[])?;
     expect_reply(rt, memory, by, &mut engine, &ASK, &ANSWER)
 }
 
 #[derive(Clone, Copy)]
 enum Call {
-    Scan(By),
-    Hear(By),
+    Scan(By, &'static [Row]),
+    Hear(By, &'static [u8]),
 }
 
 #[test]
 fn scans_and_engines(rt: HostRuntime) {
     for call in [
-        Call::Scan(By::OneThread),
-        Call::Scan(By::Threads),
-        Call::Hear(By::OneThread),
-        Call::Hear(By::Threads),
+        Call::Scan(By::OneThread, EQUAL_WEIGHTS.arcs),
+        Call::Scan(By::OneThread, &WIDE_ARCS),
+        Call::Scan(By::Threads, EQUAL_WEIGHTS.arcs),
+        Call::Scan(By::Threads, &WIDE_ARCS),
+        Call::Hear(By::OneThread, &SHARD),
+        Call::Hear(By::OneThread, &SHARD64),
+        Call::Hear(By::Threads, &SHARD),
+        Call::Hear(By::Threads, &SHARD64),
     ] {
         expect_each(
             &rt,
             rt.alloc(),
             |memory: &Memory| -> Result<(), AllocError> {
                 match call {
-                    Call::Scan(by) => expect_offers(&rt, rt.alloc(), memory, by),
-                    Call::Hear(by) => expect_replies(&rt, memory, by),
+                    Call::Scan(by, arcs) => expect_offers(&rt, rt.alloc(), memory, by, arcs),
+                    Call::Hear(by, shard) => expect_replies(&rt, memory, by, shard),
                 }
             },
         );
     }
 }
 
-// A session over the shard and the ask that hears less than so many frames ends so and has written these bytes; or it
-// wants memory and wrote no answer; or it told that it had no memory in the answer's place.
+/// A session over a shard and the ask, at its limit of frames: how it ends, and what it writes behind its hello.
+#[derive(Clone, Copy)]
+struct Session {
+    shard: &'static [u8],
+    limit: u64,
+    end: Result<Served, ServeFault>,
+    answer: &'static [u8],
+}
+
+// The session goes so; or it wants memory and wrote no answer; or it told that it had no memory in the answer's place.
 fn expect_session(
     rt: &(impl Abort + Threads + Sync),
     alloc: Global,
     memory: &Memory,
-    limit: u64,
-    expected: Result<Served, ServeFault>,
-    answer: &[u8],
+    session: Session,
 ) -> Result<(), AllocError> {
-    let heard = joined(alloc, &SHARD, &ASK).expect(rt, "memory");
+    let heard = joined(alloc, session.shard, &ASK).expect(rt, "memory");
     let mut source = heard.as_slice();
     let mut sink = Vec::new(alloc);
-    let end = serve_upto(rt, memory, 0, &mut source, &mut sink, limit);
+    let end = serve_upto(rt, memory, 0, &mut source, &mut sink, session.limit);
     let (hello, told) = sink.split_at(sink.len().min(HELLO.len()));
-    if end == expected && told == answer {
+    if end == session.end && told == session.answer {
         assert!(rt; hello == HELLO.as_slice());
         return Ok(());
     }
     assert!(rt; was_refused(memory));
     if told == NO_MEMORY.as_slice() {
-        let in_its_place = match expected {
+        let in_its_place = match session.end {
             Ok(_) => Ok(Served {
                 frames: 2,
                 answers: 0,
@@ -153,7 +165,7 @@ fn expect_session(
     Err(AllocError)
 }
 
-// Without a limit that is reached, and with one of 1 and of 2 frames.
+// Without a limit that is reached, and with one of 1 and of 2 frames, over either triangle.
 #[test]
 fn sessions_over_the_triangle(rt: HostRuntime) {
     let served = Ok(Served {
@@ -162,19 +174,27 @@ fn sessions_over_the_triangle(rt: HostRuntime) {
         faults: 0,
     });
     let too_many = Err(ServeFault::TooMany);
-    let sessions: [(u64, Result<Served, ServeFault>, &[u8]); 4] = [
+    let limits: [(u64, Result<Served, ServeFault>, &[u8]); 4] = [
         (u64::MAX, served, &ANSWER),
         (3, served, &ANSWER),
         (2, too_many, &ANSWER),
         (1, too_many, &[]),
     ];
-    for (limit, expected, answer) in sessions {
-        expect_any(
-            &rt,
-            rt.alloc(),
-            |memory: &Memory| -> Result<(), AllocError> {
-                expect_session(&rt, rt.alloc(), memory, limit, expected, answer)
-            },
-        );
+    for shard in [SHARD.as_slice(), &SHARD64] {
+        for (limit, end, answer) in limits {
+            let session = Session {
+                shard,
+                limit,
+                end,
+                answer,
+            };
+            expect_any(
+                &rt,
+                rt.alloc(),
+                |memory: &Memory| -> Result<(), AllocError> {
+                    expect_session(&rt, rt.alloc(), memory, session)
+                },
+            );
+        }
     }
 }
