@@ -103,15 +103,30 @@ def what_is_refused_is_refused_before_workers_are_asked(_room):
         expect(ran([*words, "none.gr"]), 3, b"", b"boruvka: cannot open none.gr\n")
 
 
+def many_links(path, count, last):
+    """A file of so many links between two vertices: all weigh 3 but the last, which is this arc line."""
+    with open(path, "wb") as it:
+        it.write(b"p sp 2 %d\n" % count)
+        for _ in range((count - 1) // 16384):
+            it.write(b"a 1 2 3\n" * 16384)
+        it.write(b"a 1 2 3\n" * ((count - 1) % 16384) + last)
+    return path
+
+
 @case
 def one_shard_of_more_links_than_a_shard_may_have(room):
-    with open(f"{room}/wide.gr", "wb") as it:
-        it.write(b"p sp 2 16777217\n")
-        for _ in range(1024):
-            it.write(b"a 1 2 3\n" * 16384)
-        it.write(b"a 1 2 3\n")
-    expect(ran([*over(1, 1), "wide.gr"], cwd=room), 1, b"", b"boruvka: cut refused: ShardTooLarge\n")
-    os.remove(f"{room}/wide.gr")
+    name = many_links(f"{room}/wide.gr", 2**24 + 1, b"a 1 2 3\n")
+    expect(ran([*over(1, 1), name]), 1, b"", b"boruvka: cut refused: ShardTooLarge\n")
+    os.remove(name)
+
+
+@case
+def shards_that_are_just_full(room):
+    # two of links that fit 32 bits, and one with a weight that doesn't, so that each link takes sixteen bytes of its frame
+    for shards, last in [(2, b"a 1 2 2\n"), (1, b"a 1 2 -2147483649\n")]:
+        name = many_links(f"{room}/full.gr", shards * 2**24, last)
+        expect_healthy([name], b"", b"p sp 2 1\n" + last, 1, shards)
+        os.remove(name)
 
 
 @case
@@ -204,12 +219,8 @@ def as_many_vertices_as_there_can_be(_room):
 
 @case
 def more_than_two_to_the_25_links(room):
-    with open(f"{room}/wide.gr", "wb") as it:
-        it.write(b"p sp 2 33554433\n")
-        for _ in range(1024):
-            it.write(b"a 1 2 3\n" * 32768)
-        it.write(b"a 1 2 2\n")
+    name = many_links(f"{room}/wide.gr", 2**25 + 1, b"a 1 2 2\n")
     text = b"p sp 2 1\na 1 2 2\n"
-    expect(ran(["--plain", f"{room}/wide.gr"]), 0, text, b"")
-    expect_healthy([f"{room}/wide.gr"], b"", text, 1, 3)
-    os.remove(f"{room}/wide.gr")
+    expect(ran(["--plain", name]), 0, text, b"")
+    expect_healthy([name], b"", text, 1, 3)
+    os.remove(name)
