@@ -1,0 +1,43 @@
+-- The codes of refusals, and their texts.
+use Rattle.std.specs.Prelude.{ℕ, ℤ, negsuc, List, codes}
+use Rattle.gr_text.specs.declared.faults.GrKind.TheVariants.{UnknownLine, NoProblemYet, SecondProblem, BadProblem, TooLarge, BadArc, EndOutOfRange, WeightOutOfRange, TooManyArcs, MissingProblem, MissingArcs}
+use Rattle.boruvka_c.specs.declared.refusals.Refusal.{Refusal}
+use Rattle.boruvka_c.specs.declared.refusals.Refusal.TheVariants.{NoMemory, BadEnd, TooManyVertices, TooManyLinks, TooLong, Line}
+
+-- the codes -1 to -16, as the header has them (`negsuc k` is -(k + 1))
+abbrev pub code_of : Refusal → ℤ
+code_of NoMemory = negsuc 0
+code_of BadEnd = negsuc 1
+code_of TooManyVertices = negsuc 2
+code_of TooManyLinks = negsuc 3
+code_of TooLong = negsuc 4
+code_of (Line UnknownLine) = negsuc 5
+code_of (Line NoProblemYet) = negsuc 6
+code_of (Line SecondProblem) = negsuc 7
+code_of (Line BadProblem) = negsuc 8
+code_of (Line TooLarge) = negsuc 9
+code_of (Line BadArc) = negsuc 10
+code_of (Line EndOutOfRange) = negsuc 11
+code_of (Line WeightOutOfRange) = negsuc 12
+code_of (Line TooManyArcs) = negsuc 13
+code_of (Line MissingProblem) = negsuc 14
+code_of (Line MissingArcs) = negsuc 15
+
+-- their texts; of a faulty line the name that the program gives it
+abbrev pub text_of : Refusal → List ℕ
+text_of NoMemory = codes "no memory"
+text_of BadEnd = codes "an end is no vertex"
+text_of TooManyVertices = codes "too many vertices"
+text_of TooManyLinks = codes "too many links"
+text_of TooLong = codes "file is too long"
+text_of (Line UnknownLine) = codes "UnknownLine"
+text_of (Line NoProblemYet) = codes "NoProblemYet"
+text_of (Line SecondProblem) = codes "SecondProblem"
+text_of (Line BadProblem) = codes "BadProblem"
+text_of (Line TooLarge) = codes "TooLarge"
+text_of (Line BadArc) = codes "BadArc"
+text_of (Line EndOutOfRange) = codes "EndOutOfRange"
+text_of (Line WeightOutOfRange) = codes "WeightOutOfRange"
+text_of (Line TooManyArcs) = codes "TooManyArcs"
+text_of (Line MissingProblem) = codes "MissingProblem"
+text_of (Line MissingArcs) = codes "MissingArcs"

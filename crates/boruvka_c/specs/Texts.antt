@@ -1,0 +1,65 @@
+-- Texts in the caller's memory.
+use Rattle.std.specs.Prelude.{◌≡◌, ◌≢◌, ℕ, ℤ, pos, ◌≤ℤ◌, ◌⊎◌, List, [], ◌∷◌, ◌++◌, take, drop, length, codes}
+use Rattle.gr_text.specs.Fault.{IsFirstFault}
+use Rattle.gr_text.specs.declared.faults.GrKind.{GrKind}
+use Rattle.gr_text.specs.declared.faults.ReadFault.TheVariants as read
+use Rattle.forest_run.specs.Files.{IsForestTextOf, IsFaultInMemory}
+use Rattle.forest_run.specs.declared.fault.RunFault.{RunFault}
+use Rattle.forest_run.specs.declared.fault.RunFault.TheVariants as run
+use Rattle.boruvka_c.specs.declared.faults.Fault.{Fault}
+use Rattle.boruvka_c.specs.declared.refusals.Refusal.{Refusal}
+use Rattle.boruvka_c.specs.declared.refusals.Refusal.TheVariants.{NoMemory, TooLong, Line}
+use Rattle.boruvka_c.specs.Refusals.{code_of, text_of}
+
+-- a room once these bytes were put into it, as many as it has room for
+abbrev pub filled : List ℕ → List ℕ → List ℕ
+filled bytes room = take (length room) bytes ++ drop (length bytes) room
+
+-- ---- what is told
+
+-- a refusal with its line, or with 0
+abbrev pub fault_at : Refusal → ℕ → Fault
+fault_at why line = record { kind = code_of why; line = line }
+
+abbrev pub no_fault : Fault
+no_fault = record { kind = pos 0; line = 0 }
+
+-- what is told of a run over bytes in memory: the fault of a line, too long a text, or want of memory
+abbrev pub told_fault : RunFault → Fault
+told_fault (run.Read (read.Gr f)) = fault_at (Line f.kind) f.line
+told_fault (run.Read read.TooLong) = fault_at TooLong 0
+told_fault other = fault_at NoMemory 0
+
+-- this is the text of a refusal's code, or of a number that is none
+abbrev pub IsTextOfCode : ℤ → List ℕ → Type 0
+IsTextOfCode code text = ((why : Refusal) × (code ≡ code_of why) × (text ≡ text_of why))
+    ⊎ (((why : Refusal) → code ≢ code_of why) × (text ≡ codes "no refusal"))
+
+-- the code's text with a 0 behind it was put into the room, and the answer is how long the text is
+pub record TellsRefusal (code : ℤ) (before after : List ℕ) (answer : ℕ) : Type 0 where
+  pub text : List ℕ
+  pub text_is : IsTextOfCode code text
+  pub put : after ≡ filled (text ++ 0 ∷ []) before
+  pub counted : answer ≡ length text
+
+-- ---- the forest of a text
+
+-- the text of the forest that these bytes give was put into the room, and the answer is how long it is
+pub record WritesForestText (bytes before after : List ℕ) (answer : ℤ) : Type 0 where
+  pub text : List ℕ
+  pub text_is : IsForestTextOf bytes text
+  pub put : after ≡ filled text before
+  pub counted : answer ≡ pos (length text)
+
+-- a fault that these bytes have in memory is told, and the answer is its code
+abbrev pub RefusesText : List ℕ → ℤ → Fault → Type 0
+RefusesText bytes answer fault = (why : RunFault) × IsFaultInMemory bytes why × (fault ≡ told_fault why) × (answer ≡ fault.kind)
+
+-- the first fault of these bytes is told, or want of memory
+abbrev pub TellsFirstFault : List ℕ → Fault → Type 0
+TellsFirstFault bytes fault = ((kind : GrKind) × IsFirstFault bytes fault.line kind × (fault.kind ≡ code_of (Line kind)))
+    ⊎ (fault ≡ fault_at NoMemory 0)
+
+-- the answer is no refusal but want of memory
+abbrev pub WantsMemoryAtMost : ℤ → Type 0
+WantsMemoryAtMost answer = (pos 0 ≤ℤ answer) ⊎ (answer ≡ code_of NoMemory)

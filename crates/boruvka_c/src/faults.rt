@@ -1,0 +1,58 @@
+//! What C learns of a refusal.
+ghost use Rattle.std.specs.Prelude.{◌≡◌, ℕ, List, [], ◌∷◌, ◌++◌};
+ghost use Rattle.boruvka_c.specs.Texts.{told_fault, IsTextOfCode, TellsRefusal};
+
+use crate::refusals::Refusal;
+use crate::room::fill;
+use forest_run::RunFault;
+use gr_text::ReadFault;
+
+/// Why a text gives no forest, `struct boruvka_fault`: the code of the refusal, and the line of a text that is faulty,
+/// from 1; else 0. Both are 0 where there is a forest.
+#[repr(C)]
+#[derive(Clone, Copy)]
+pub struct Fault {
+    pub kind: i64,
+    pub line: u64,
+}
+
+impl Fault {
+    // That there is a forest.
+    pub(crate) const NONE: Fault = Fault { kind: 0, line: 0 };
+
+    // What is told of a run over bytes in memory that has no forest.
+    pub(crate) fn of_run(why: RunFault) -> Fault
+        ensures { result ≡ told_fault why }
+    {
+        let (why, line) = match why {
+            RunFault::Read(ReadFault::Gr(fault)) => (Refusal::Line(fault.kind), fault.line),
+            RunFault::Read(ReadFault::TooLong) => (Refusal::TooLong, 0),
+            _ => (Refusal::NoMemory, 0),
+        };
+        Fault {
+            kind: why.code(),
+            line,
+        }
+    }
+}
+
+// The text of a refusal's code, or of a number that is none, and a 0.
+fn text_of_number(code: i64) -> &'static [u8]
+    ensures { (text : List ℕ) × IsTextOfCode code text × (result.now ≡ text ++ 0 ∷ []) }
+{
+    match Refusal::of_code(code) {
+        Some(why) => why.text(),
+        None => b"no refusal\0",
+    }
+}
+
+/// Puts the text of a refusal's code, and a 0 behind it, into the caller's room, as far as it has room, and answers how
+/// many bytes the text has. Of a number that is no such code the text is `no refusal`. It takes no memory.
+#[unsafe(no_mangle)]
+pub extern "C" fn boruvka_fault_text(kind: i64, into: &mut [u8]) -> usize
+    ensures { TellsRefusal kind into.old into.new result }
+{
+    let text = text_of_number(kind);
+    fill(into, text);
+    text.len() - 1
+}

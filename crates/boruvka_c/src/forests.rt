@@ -1,0 +1,55 @@
+//! The forest of links in the caller's memory.
+ghost use Rattle.std.specs.Prelude.{◌≡◌, ◌≤◌, ◌≤ℤ◌, pos, IfOk, IfErr, OnErr};
+ghost use Rattle.std.specs.Int.Signed.{◌<ℤ◌};
+ghost use Rattle.boruvka_c.specs.Links.{HoldsForest, IsLinksRefusal, FindsForest, RefusesLinks};
+
+use crate::given::{GivenLink, have_ends, links_of, put_first};
+use crate::refusals::Refusal;
+use limits::{MAX_ARCS, MAX_VERTICES};
+use link_key::forest_of;
+use std::alloc::Global;
+
+// Puts the forest of the links first, and says how many they are.
+fn find_forest(alloc: Global, n: u32, links: &mut [GivenLink]) -> Result<usize, Refusal>
+    ensures found { IfOk result (λ count. HoldsForest links.old links.new count) }
+    ensures few { IfOk result (λ count. count ≤ MAX_ARCS) }
+    ensures refused { IfErr result (λ why. IsLinksRefusal n links.old why) }
+    ensures untouched { OnErr result (links.new ≡ links.old) }
+{
+    if n > MAX_VERTICES {
+        return Err(Refusal::TooManyVertices);
+    }
+    if links.len() > MAX_ARCS as usize {
+        return Err(Refusal::TooManyLinks);
+    }
+    if !have_ends(n, links) {
+        return Err(Refusal::BadEnd);
+    }
+    let Ok(list) = links_of(alloc, n, links) else {
+        return Err(Refusal::NoMemory);
+    };
+    let Ok(forest) = forest_of(alloc, n, list) else {
+        return Err(Refusal::NoMemory);
+    };
+    put_first(links, forest.links());
+    Ok(forest.links().len())
+}
+
+/// Puts the minimum spanning forest of a graph with the vertices 1 to `n` first among its links, in the order of their
+/// keys, and answers how many links it has; or answers the code of a [`Refusal`], which is negative.
+///
+/// The links may come in any order, with their ends in either order, as loops and more than once. It takes the time of
+/// [`forest_of`], two passes over the links beside, and its memory, with 16 bytes a link for the list that it works in.
+#[unsafe(no_mangle)]
+pub extern "C" fn boruvka_forest(alloc: Global, n: u32, links: &mut [GivenLink]) -> i64
+    ensures found { pos 0 ≤ℤ result → FindsForest links.old links.new result }
+
+    // Too many vertices, or else too many links, or else an end that is no vertex; only where none of these is, memory.
+    ensures refused { result <ℤ pos 0 → RefusesLinks n links.old result }
+    ensures untouched { result <ℤ pos 0 → links.new ≡ links.old }
+{
+    match find_forest(alloc, n, links) {
+        Ok(count) => count as i64,
+        Err(why) => why.code(),
+    }
+}

@@ -1,0 +1,43 @@
+//! The forest for programs in C, and in whatever calls C: a static library of four calls over [`link_key::forest_of`]
+//! and [`forest_run::plain_text`], in the caller's memory. `include/boruvka.h` is its header.
+//!
+//! ```text
+//!   links  --given-->  Vec<Link>  --forest_of-->  Forest  --given-->  the first of the links     boruvka_forest
+//!   text   --forest_run::plain_text-->  the forest's text  --room-->  the caller's room         boruvka_forest_text
+//!   a code --refusals-->  its text  --room-->  the caller's room                                boruvka_fault_text
+//! ```
+//!
+//! What it promises:
+//! - A call answers exactly the forest, as its definition in `link_key` and `forest_run` says, or a refusal with its
+//!   cause; where it refuses, the caller's links and room stay as they were.
+//! - Nothing is written past what a caller gave.
+//!
+//! Where to start a change: a call's meaning, `specs/Links` and `specs/Texts`; a refusal, its code and its text,
+//! `specs/Refusals`, then `refusals`, and the header; whatever C could see of a change, `VERSION` too.
+#![tactic(auto)]
+
+ghost use Rattle.std.specs.Prelude.{◌≡◌};
+
+mod faults;
+mod forests;
+mod given;
+mod refusals;
+mod room;
+mod texts;
+
+pub use faults::{Fault, boruvka_fault_text};
+pub use forests::boruvka_forest;
+pub use given::GivenLink;
+pub use refusals::Refusal;
+pub use texts::boruvka_forest_text;
+
+/// The version of these calls: another one where a call, a code or a struct means something else.
+pub const VERSION: u32 = 1;
+
+/// The [`VERSION`] that was built, so that a caller can compare it with that of its header.
+#[unsafe(no_mangle)]
+pub extern "C" fn boruvka_version() -> u32
+    ensures { result ≡ VERSION }
+{
+    VERSION
+}

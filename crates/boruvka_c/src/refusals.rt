@@ -1,0 +1,116 @@
+//! Why a call gives no forest, each reason with a code and a text.
+ghost use Rattle.std.specs.Prelude.{◌≡◌, ◌≢◌, ◌++◌, [], ◌∷◌, MatchOption};
+ghost use Rattle.boruvka_c.specs.declared.refusals.Refusal.{Refusal};
+ghost use Rattle.boruvka_c.specs.Refusals.{code_of, text_of};
+
+use gr_text::GrKind;
+
+/// Why a call gives no forest.
+#[derive(Clone, Copy)]
+pub enum Refusal {
+    /// Memory was refused.
+    NoMemory,
+    /// An end of a link isn't a vertex: 1 up to their number.
+    BadEnd,
+    /// There are more than 2^26 vertices.
+    TooManyVertices,
+    /// There are more than 2^30 links.
+    TooManyLinks,
+    /// A text has more than 2^40 bytes.
+    TooLong,
+    /// A line of a text has a fault.
+    Line(GrKind),
+}
+
+// The code of what is wrong with a line.
+fn code_of_line(kind: GrKind) -> i64
+    ensures { result ≡ code_of (Refusal.Line kind) }
+{
+    match kind {
+        GrKind::UnknownLine => -6,
+        GrKind::NoProblemYet => -7,
+        GrKind::SecondProblem => -8,
+        GrKind::BadProblem => -9,
+        GrKind::TooLarge => -10,
+        GrKind::BadArc => -11,
+        GrKind::EndOutOfRange => -12,
+        GrKind::WeightOutOfRange => -13,
+        GrKind::TooManyArcs => -14,
+        GrKind::MissingProblem => -15,
+        GrKind::MissingArcs => -16,
+    }
+}
+
+// The name of what is wrong with a line, and a 0.
+fn text_of_line(kind: GrKind) -> &'static [u8]
+    ensures { result.now ≡ text_of (Refusal.Line kind) ++ 0 ∷ [] }
+{
+    match kind {
+        GrKind::UnknownLine => b"UnknownLine\0",
+        GrKind::NoProblemYet => b"NoProblemYet\0",
+        GrKind::SecondProblem => b"SecondProblem\0",
+        GrKind::BadProblem => b"BadProblem\0",
+        GrKind::TooLarge => b"TooLarge\0",
+        GrKind::BadArc => b"BadArc\0",
+        GrKind::EndOutOfRange => b"EndOutOfRange\0",
+        GrKind::WeightOutOfRange => b"WeightOutOfRange\0",
+        GrKind::TooManyArcs => b"TooManyArcs\0",
+        GrKind::MissingProblem => b"MissingProblem\0",
+        GrKind::MissingArcs => b"MissingArcs\0",
+    }
+}
+
+impl Refusal {
+    // Its code, a negative number.
+    pub(crate) fn code(self) -> i64
+        ensures { result ≡ code_of self }
+    {
+        match self {
+            Refusal::NoMemory => -1,
+            Refusal::BadEnd => -2,
+            Refusal::TooManyVertices => -3,
+            Refusal::TooManyLinks => -4,
+            Refusal::TooLong => -5,
+            Refusal::Line(kind) => code_of_line(kind),
+        }
+    }
+
+    // The refusal that has this code.
+    pub(crate) fn of_code(code: i64) -> Option<Refusal>
+        ensures { MatchOption result ((why : Refusal) → code ≢ code_of why) (λ why. code ≡ code_of why) }
+    {
+        Some(match code {
+            -1 => Refusal::NoMemory,
+            -2 => Refusal::BadEnd,
+            -3 => Refusal::TooManyVertices,
+            -4 => Refusal::TooManyLinks,
+            -5 => Refusal::TooLong,
+            -6 => Refusal::Line(GrKind::UnknownLine),
+            -7 => Refusal::Line(GrKind::NoProblemYet),
+            -8 => Refusal::Line(GrKind::SecondProblem),
+            -9 => Refusal::Line(GrKind::BadProblem),
+            -10 => Refusal::Line(GrKind::TooLarge),
+            -11 => Refusal::Line(GrKind::BadArc),
+            -12 => Refusal::Line(GrKind::EndOutOfRange),
+            -13 => Refusal::Line(GrKind::WeightOutOfRange),
+            -14 => Refusal::Line(GrKind::TooManyArcs),
+            -15 => Refusal::Line(GrKind::MissingProblem),
+            -16 => Refusal::Line(GrKind::MissingArcs),
+            _ => return None,
+        })
+    }
+
+    // Its text, and a 0.
+    pub(crate) fn text(self) -> &'static [u8]
+        ensures { result.now ≡ text_of self ++ 0 ∷ [] }
+    {
+        match self {
+            Refusal::NoMemory => b"no memory\0",
+            Refusal::BadEnd => b"an end is no vertex\0",
+            Refusal::TooManyVertices => b"too many vertices\0",
+            Refusal::TooManyLinks => b"too many links\0",
+            Refusal::TooLong => b"file is too long\0",
+            Refusal::Line(kind) => text_of_line(kind),
+        }
+    }
+}
