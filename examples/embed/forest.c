@@ -1,0 +1,25 @@
+/* The minimum spanning forest of a small net that lies in memory, written as `boruvka` writes it.
+ *
+ *     cc -o forest forest.c $(pkg-config --cflags --libs boruvka) && ./forest */
+#include <boruvka.h>
+#include <inttypes.h>
+#include <stdio.h>
+
+enum { VERTICES = 6 };
+
+int main(void) {
+    /* weight and two ends, in either order */
+    struct boruvka_link links[] = {{17, 1, 2}, {10, 1, 3}, {2, 2, 4}, {0, 3, 5}, {0, 4, 3}, {3, 4, 6}, {0, 5, 2}, {20, 5, 6}};
+    const int64_t count = boruvka_forest(VERTICES, links, sizeof links / sizeof *links);
+    if (count < 0) {
+        char text[64];
+        boruvka_fault_text(count, text, sizeof text);
+        fprintf(stderr, "forest: %s\n", text);
+        return 1;
+    }
+    printf("p sp %d %" PRId64 "\n", VERTICES, count);
+    for (int64_t i = 0; i < count; i++) {
+        printf("a %" PRIu32 " %" PRIu32 " %" PRId64 "\n", links[i].low, links[i].high, links[i].weight);
+    }
+    return 0;
+}

@@ -1,0 +1,48 @@
+"""The minimum spanning forest of a small net that lies in memory, written as `boruvka` writes it.
+
+usage: python3 forest.py [PREFIX/lib/libboruvka.so]
+"""
+import ctypes
+import sys
+from array import array
+
+
+class Link(ctypes.Structure):
+    """`struct boruvka_link`, as numpy's dtype [("weight", "i8"), ("low", "u4"), ("high", "u4")] lays one out."""
+
+    _fields_ = [("weight", ctypes.c_int64), ("low", ctypes.c_uint32), ("high", ctypes.c_uint32)]
+
+
+def loaded(path):
+    library = ctypes.CDLL(path)
+    library.boruvka_forest.argtypes = [ctypes.c_uint32, ctypes.c_void_p, ctypes.c_size_t]
+    library.boruvka_forest.restype = ctypes.c_int64
+    library.boruvka_fault_text.argtypes = [ctypes.c_int64, ctypes.c_char_p, ctypes.c_size_t]
+    library.boruvka_fault_text.restype = ctypes.c_size_t
+    return library
+
+
+def forest(library, n, links):
+    """The forest of links in a writable buffer, as an array or numpy has it: they are first in it then."""
+    size = ctypes.sizeof(Link)
+    held = (Link * (memoryview(links).nbytes // size)).from_buffer(links)
+    count = library.boruvka_forest(n, ctypes.addressof(held), len(held))
+    if count < 0:
+        text = ctypes.create_string_buffer(64)
+        library.boruvka_fault_text(count, text, len(text))
+        raise ValueError(text.value.decode())
+    return held[:count]
+
+
+def main(words):
+    net = [(17, 1, 2), (10, 1, 3), (2, 2, 4), (0, 3, 5), (0, 4, 3), (3, 4, 6), (0, 5, 2), (20, 5, 6)]
+    # a link is two words of 64 bits: its weight, and its ends
+    links = array("q", [word for weight, low, high in net for word in (weight, low | high << 32)])
+    found = forest(loaded(words[0] if words else "libboruvka.so"), 6, links)
+    print(f"p sp 6 {len(found)}")
+    for link in found:
+        print(f"a {link.low} {link.high} {link.weight}")
+
+
+if __name__ == "__main__":
+    main(sys.argv[1:])

@@ -1,0 +1,70 @@
+/* boruvka.h: minimum spanning forests in the caller's memory.
+ *
+ * What each call answers is proved, in the crate boruvka_c of the repository. A proof ends where C begins, so a caller
+ * has to see to this:
+ * - A pointer is never null, not even one to no elements, and points to so many elements as are told behind it, aligned
+ *   as their type is. Each may be read and written by the call, and is touched by nothing else meanwhile; what two
+ *   parameters point to doesn't overlap. `text` alone is only read, and may be shared.
+ * - malloc, realloc and free are of one allocator, and a block of theirs is aligned to each power of two up to 16 that
+ *   divides its size.
+ * - No call is made from a signal handler, or from the forked child of a process with threads.
+ * - A call has 128 KiB of stack, and an x86-64 processor of the level v2.
+ * Threads may call at once, each over memory of its own: nothing is kept between calls. */
+#ifndef BORUVKA_H
+#define BORUVKA_H
+
+#include <stddef.h>
+#include <stdint.h>
+
+#ifdef __cplusplus
+extern "C" {
+#endif
+
+#define BORUVKA_VERSION 1              /* of these calls; boruvka_version answers that of the library */
+#define BORUVKA_MAX_VERTICES 67108864  /* 2^26 */
+#define BORUVKA_MAX_LINKS 1073741824   /* 2^30 */
+
+/* A link between two vertices. Links are ordered by weight, then by the lower end, then by the higher end. */
+struct boruvka_link {
+    int64_t weight;
+    uint32_t low, high;
+};
+
+/* Why there is no forest: negative answers. From -6 on a line of a text has the fault of that name (docs/GR_FORMAT.md). */
+enum boruvka_refusal {
+    BORUVKA_NO_MEMORY = -1,
+    BORUVKA_BAD_END = -2, /* an end of a link is 0, or greater than n */
+    BORUVKA_TOO_MANY_VERTICES = -3,
+    BORUVKA_TOO_MANY_LINKS = -4,
+    BORUVKA_TOO_LONG = -5, /* a text has more than 2^40 bytes */
+    BORUVKA_UNKNOWN_LINE = -6, BORUVKA_NO_PROBLEM_YET = -7, BORUVKA_SECOND_PROBLEM = -8, BORUVKA_BAD_PROBLEM = -9,
+    BORUVKA_TOO_LARGE = -10, BORUVKA_BAD_ARC = -11, BORUVKA_END_OUT_OF_RANGE = -12, BORUVKA_WEIGHT_OUT_OF_RANGE = -13,
+    BORUVKA_TOO_MANY_ARCS = -14, BORUVKA_MISSING_PROBLEM = -15, BORUVKA_MISSING_ARCS = -16
+};
+
+/* What boruvka_forest_text tells: its refusal and the line, from 1, of a faulty text, else 0. Both are 0 at a forest. */
+struct boruvka_fault {
+    int64_t kind;
+    uint64_t line;
+};
+
+/* Puts the minimum spanning forest of these m links between the vertices 1 to n first among them, in order, lower ends
+ * first, and answers how many links it has; those behind stay as they were. The links may come in any order, with their
+ * ends in either order, as loops and more than once. A refusal leaves all as they were. */
+int64_t boruvka_forest(uint32_t n, struct boruvka_link *links, size_t m);
+
+/* Puts the text of the minimum spanning forest of a .gr text into `into`, and answers how many bytes it has. Where that
+ * is more than `room`, the first `room` bytes are there. A refusal is told in `fault` too, and leaves `into` as it was. */
+int64_t boruvka_forest_text(const uint8_t *text, size_t length, uint8_t *into, size_t room, struct boruvka_fault *fault);
+
+/* Puts the text of a refusal, and a 0 behind it, into `into`, as far as there is room, and answers its length without
+ * the 0: at most 19 today. */
+size_t boruvka_fault_text(int64_t kind, char *into, size_t room);
+
+uint32_t boruvka_version(void);
+
+#ifdef __cplusplus
+}
+#endif
+
+#endif
