@@ -4,26 +4,33 @@ PREFIX ?= /usr/local
 MINUTES ?= 5
 PROGRAM := crates/boruvka/out/boruvka
 BENCH := crates/bench/out/bench
+LIBRARY := crates/boruvka_c/out/libboruvka
 SOURCES := $(shell find crates -path '*/out' -prune -o -type f \( -name '*.rt' -o -name '*.antt' \) -print) crates.txt
 # (paths that may have a space, in single quotes for the shell)
 UNDER := '$(subst ','\'',$(DESTDIR)$(PREFIX))'
 BIN := $(UNDER)/bin
 MAN := $(UNDER)/share/man/man1
+INCLUDE := $(UNDER)/include
+LIB := $(UNDER)/lib
 
-.PHONY: help run test wrong soak install uninstall bench clean
+.PHONY: help run lib test wrong soak install uninstall bench clean
 
 help:
 	@echo 'make run        proves and builds the program, and runs it on examples/small.gr'
+	@echo 'make lib        proves and builds libboruvka.a and libboruvka.so, beside it; needs a C compiler and its ar'
 	@echo 'make test       the gate: all proofs from nothing, the wrong bodies of must-fail/, the tests, the program whole'
 	@echo 'make wrong      tries the wrong bodies of wrong-bodies/, many at a time'
 	@echo 'make soak       tries the program on drawn cases, MINUTES=$(MINUTES) long; needs Python 3 and a C compiler'
-	@echo 'make install    puts the proved program into PREFIX/bin, its manual page into PREFIX/share/man (PREFIX=$(PREFIX))'
+	@echo 'make install    puts the proved program into PREFIX/bin, its manual page into PREFIX/share/man, the libraries into'
+	@echo '                PREFIX/lib with their boruvka.pc, the header into PREFIX/include (PREFIX=$(PREFIX))'
 	@echo 'make uninstall  takes them away'
 	@echo 'make bench      times it beside a C++ program; needs Python 3, a C++17 compiler and GNU time'
 	@echo 'make clean      removes what was built and what checks kept (out/ of each crate): the next run proves all anew'
 
 run: $(PROGRAM)
 	@$(PROGRAM) examples/small.gr
+
+lib: $(LIBRARY).a $(LIBRARY).so
 
 test:
 	@python3 tests/gate.py
@@ -34,13 +41,18 @@ wrong:
 soak: $(PROGRAM)
 	@python3 tests/soak.py --minutes $(MINUTES) $(PROGRAM)
 
-install: $(PROGRAM)
-	install -d $(BIN) $(MAN)
+install: $(PROGRAM) lib
+	install -d $(BIN) $(MAN) $(INCLUDE) $(LIB)/pkgconfig
 	install -m 755 $(PROGRAM) $(BIN)/boruvka
 	install -m 644 man/boruvka.1 $(MAN)/boruvka.1
+	install -m 644 include/boruvka.h $(INCLUDE)/boruvka.h
+	install -m 644 $(LIBRARY).a $(LIB)/libboruvka.a
+	install -m 755 $(LIBRARY).so $(LIB)/libboruvka.so
+	{ printf 'prefix=%s\n' '$(subst ','\'',$(PREFIX))'; cat include/boruvka.pc; } > $(LIB)/pkgconfig/boruvka.pc
 
 uninstall:
-	rm -f $(BIN)/boruvka $(MAN)/boruvka.1
+	rm -f $(BIN)/boruvka $(MAN)/boruvka.1 $(INCLUDE)/boruvka.h
+	rm -f $(LIB)/libboruvka.a $(LIB)/libboruvka.so $(LIB)/pkgconfig/boruvka.pc
 
 bench: $(PROGRAM) $(BENCH)
 	python3 benches/run.py $(PROGRAM) $(BENCH)
@@ -56,3 +68,15 @@ $(PROGRAM): $(SOURCES)
 $(BENCH): $(SOURCES)
 	@python3 tools/prove.py bench
 	@touch $(BENCH)
+
+# The library's crate over what the program's build left, and with it the toolchain's few lines over malloc and free.
+$(LIBRARY).a: $(SOURCES) $(PROGRAM)
+	@mkdir -p $(@D)
+	@cd $(@D)/.. && rt lib > out/log 2>&1 || { cat out/log >&2; exit 1; }
+	@cd $(@D) && ar x "$$(dirname "$$(rt doc)")/c/liblibc_c.a" heap.pic.o && cp libboruvka_c.a made.a && ar qs made.a heap.pic.o
+	@cd $(@D) && mv made.a $(@F) && rm -f heap.pic.o log
+
+$(LIBRARY).so: $(LIBRARY).a
+	@echo '{ global: boruvka_*; local: *; };' > $(@D)/names
+	@$(CC) -shared -o $@ -Wl,--whole-archive $< -Wl,--no-whole-archive -Wl,--version-script=$(@D)/names -Wl,-soname,$(@F) -Wl,-z,defs
+	@rm -f $(@D)/names

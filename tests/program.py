@@ -18,7 +18,7 @@ import time
 
 sys.dont_write_bytecode = True
 
-from cases import words, streams, workers, sockets, pairs, calls, memory, documents, headline  # noqa: F401, I001 (they run in this order)
+from cases import words, streams, workers, sockets, pairs, calls, memory, embedding, documents, headline  # noqa: F401, I001 (they run in this order)
 from cases.running import CASES, Program
 
 

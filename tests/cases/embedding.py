@@ -1,0 +1,150 @@
+"""The built libraries: their names, the examples of examples/embed, and tests/cases/embedding.c over them, whose lists and
+texts are compared with the program's answers and with the forests that are computed here."""
+import os
+import re
+import shlex
+import shutil
+import subprocess
+import sys
+
+from cases.running import ROOT, SMALL_FOREST, SMALL_NET, Program, case, drawn_graph, expect, ran, run, told_by
+
+LIBRARIES = f"{ROOT}/crates/boruvka_c/out"
+INCLUDE = f"-I{ROOT}/include"
+NAMES = {"boruvka_fault_text", "boruvka_forest", "boruvka_forest_text", "boruvka_version"}
+MINUTES = 30
+ENVIRONMENT = {it: word for it, word in os.environ.items() if it not in ("MAKEFLAGS", "MAKELEVEL", "MFLAGS", "DESTDIR")}
+# What is wrong with each of these texts, by the names of docs/GR_FORMAT.md, and where.
+FAULTY = [
+    (b"x\n", "UnknownLine", 1), (b"c\na 1 2 3\n", "NoProblemYet", 2), (b"p sp 2 0\np sp 2 0\n", "SecondProblem", 2),
+    (b"p sp two 0\n", "BadProblem", 1), (b"p sp 67108865 0\n", "TooLarge", 1), (b"p sp 2 1\na 1 2\n", "BadArc", 2),
+    (b"p sp 2 1\na 1 3 1\n", "EndOutOfRange", 2), (b"p sp 2 1\na 1 2 9223372036854775808\n", "WeightOutOfRange", 2),
+    (b"p sp 2 0\na 1 2 3\n", "TooManyArcs", 2), (b"", "MissingProblem", 1), (b"p sp 2 1\n", "MissingArcs", 2),
+]
+
+
+def compiler():
+    return next((it for it in (os.environ.get("CC"), "cc", "gcc", "clang") if it and shutil.which(it)), None)
+
+
+def libraries():
+    """Builds the libraries, where they aren't built, and answers their paths."""
+    words = ["make", "-s", "-C", ROOT, "-o", Program.path, f"PROGRAM={Program.path}", "lib"]
+    expect(run(words, env=ENVIRONMENT, seconds=60 * MINUTES), 0, b"", b"")
+    return f"{LIBRARIES}/libboruvka.a", f"{LIBRARIES}/libboruvka.so"
+
+
+def caller(room):
+    """The program of tests/cases/embedding.c; built once."""
+    made = f"{room}/../embedding"
+    if not os.path.exists(made):
+        words = [compiler(), "-O1", "-Wall", "-Wextra", "-Werror", INCLUDE, "-o", made, f"{ROOT}/tests/cases/embedding.c", libraries()[0], "-lpthread"]
+        expect(run(words), 0, b"", b"")
+    return made
+
+
+def listed(source):
+    """The arcs of a text as the caller reads a list of links."""
+    lines = [it.split() for it in source.decode().splitlines()]
+    arcs = [it[1:] for it in lines if it and it[0] == "a"]
+    vertices = next(it[2] for it in lines if it and it[0] == "p")
+    return "".join(" ".join(it) + "\n" for it in [[vertices, str(len(arcs))], *arcs]).encode()
+
+
+def expect_text(room, source, forest):
+    """The forest's text in rooms of several sizes, of which none is passed."""
+    for size in {0, 1, len(forest) - 1, len(forest), len(forest) + 9}:
+        expect(run([caller(room), "text", str(size)], source), 0, forest[:size], b"%d 0 0 no refusal\n" % len(forest))
+
+
+@case
+def the_libraries_have_just_their_names(room):
+    archive, shared = libraries()
+    if shutil.which("nm"):
+        found = subprocess.run(["nm", "-D", "--defined-only", shared], check=True, capture_output=True, text=True).stdout
+        expect((set(re.findall(r" [A-Z] (\S+)", found)), b"", b""), NAMES, b"", b"")
+        found = subprocess.run(["nm", "--defined-only", archive], check=True, capture_output=True, text=True).stdout
+        expect((set(re.findall(r" [A-Z] (?!rattle_)(\S+)", found)), b"", b""), NAMES, b"", b"")
+
+
+@case
+def the_examples_of_other_languages(room):
+    archive, shared = libraries()
+    embed = f"{ROOT}/examples/embed"
+    expect(run([compiler(), "-std=c99", "-pedantic", "-Wall", "-Wextra", "-Werror", INCLUDE, "-o", f"{room}/of_c", f"{embed}/forest.c", archive]), 0, b"", b"")
+    expect(run([f"{room}/of_c"]), 0, SMALL_FOREST, b"")
+    expect(run([compiler(), INCLUDE, "-o", f"{room}/of_c_shared", f"{embed}/forest.c", f"-L{LIBRARIES}", "-Wl,-rpath," + LIBRARIES, "-lboruvka"]), 0, b"", b"")
+    expect(run([f"{room}/of_c_shared"]), 0, SMALL_FOREST, b"")
+    if shutil.which("rustc"):
+        expect(run(["rustc", "--edition", "2024", "-D", "warnings", "-L", LIBRARIES, "-o", f"{room}/of_rust", f"{embed}/forest.rs"]), 0, b"", b"")
+        expect(run([f"{room}/of_rust"]), 0, SMALL_FOREST, b"")
+    expect(run([sys.executable, "-B", f"{embed}/forest.py", shared]), 0, SMALL_FOREST, b"")
+
+
+@case
+def the_libraries_are_installed_and_taken_away(room):
+    libraries()
+    prefix = f"{room}/a prefix"
+    words = ["make", "-s", "-C", ROOT, "-o", Program.path, f"PROGRAM={Program.path}", f"PREFIX={prefix}"]
+    expect(run([*words, "install"], env=ENVIRONMENT), 0, b"", b"")
+    flags = [f"-I{prefix}/include", f"-L{prefix}/lib", f"-Wl,-rpath,{prefix}/lib", "-lboruvka"]
+    if shutil.which("pkg-config"):
+        env = {**ENVIRONMENT, "PKG_CONFIG_PATH": f"{prefix}/lib/pkgconfig"}
+        told = subprocess.run(["pkg-config", "--cflags", "--libs", "boruvka"], env=env, check=True, capture_output=True, text=True).stdout
+        expect((shlex.split(told), b"", b""), [flags[0], flags[1], flags[3]], b"", b"")
+    expect(run([compiler(), "-o", f"{room}/of_c", f"{ROOT}/examples/embed/forest.c", *flags]), 0, b"", b"")
+    expect(run([f"{room}/of_c"]), 0, SMALL_FOREST, b"")
+    expect(run([*words, "uninstall"], env=ENVIRONMENT), 0, b"", b"")
+    expect(([it for _, _, files in os.walk(prefix) for it in files], b"", b""), [], b"", b"")
+
+
+@case
+def lists_and_texts_have_the_programs_forests(room):
+    expect(run([caller(room), "list"], listed(SMALL_NET)), 0, SMALL_FOREST, b"")
+    expect_text(room, SMALL_NET, SMALL_FOREST)
+    for seed, vertices, arcs in [(1, 1, 3), (2, 9, 0), (3, 40, 30), (4, 300, 900), (5, 50, 4000), (6, 5000, 9000)]:
+        source, forest = drawn_graph(seed, vertices, arcs)
+        expect(ran(["--plain"], source), 0, forest, b"")
+        expect(run([caller(room), "list"], listed(source)), 0, forest, b"")
+        expect_text(room, source, forest)
+
+
+@case
+def faulty_texts_are_told_as_the_program_tells_them(room):
+    with open(f"{ROOT}/include/boruvka.h", encoding="utf-8") as it:
+        codes = {name.replace("_", "").lower(): int(code) for name, code in re.findall(r"BORUVKA_(\w+) = (-\d+)", it.read())}
+    for source, kind, line in FAULTY:
+        code = codes[kind.lower()]
+        expect(ran(["--plain"], source), 1, b"", b"boruvka: line %d: %s\n" % (line, kind.encode()))
+        expect(run([caller(room), "text", "100"], source), 0, b"", b"%d %d %d %s\n" % (code, code, line, kind.encode()))
+
+
+@case
+def calls_at_their_limits(room):
+    status, output, errors = run([caller(room), "limits"])
+    expect((status, b"", errors), 0, b"", b"")
+    texts = dict(it.split(" ", 1) for it in output.decode().splitlines())
+    kinds = [str(-it) for it in range(1, 17)]
+    expect((len({texts[it] for it in kinds}), "no refusal" in {texts[it] for it in kinds}, texts["-1"]), 16, False, "no memory")
+
+
+@case
+def ten_million_links_and_four_threads(room):
+    expect(run([caller(room), "threads"]), 0, b"", b"")
+    expect(run([caller(room), "many"], seconds=300), 0, b"", b"")
+
+
+@case
+def refused_memory_is_told_and_nothing_changed(room):
+    for is_alone in (False, True):
+        first, refused = 1, True
+        while refused:
+            environment = {"REFUSE_FIRST": str(first), **({"REFUSE_LAST": str(first)} if is_alone else {})}
+            found, told = told_by(room, [caller(room), "memory"], b"", environment, library="refusing")
+            refused = bool(told)
+            # a refused growth may be made good by a smaller one
+            wanted = found[1] if refused and is_alone else b"some refused\n" if refused else b"answered\n"
+            expect(found, 0, wanted, b"")
+            first += 1
+        if first < 10:
+            raise AssertionError(f"only {first - 2} allocations were refused: is the library preloaded?")
