@@ -4,6 +4,7 @@ use Rattle.limits.specs.declared.TheConstants.{MAX_ARCS, MAX_VERTICES}
 use Rattle.link_key.specs.Arc.{Arc}
 use Rattle.link_key.specs.Link.{AreLinksOf}
 use Rattle.link_key.specs.Forest.{IsForestOf}
+use Rattle.link_key.specs.Least.{sum_of_weights, IsLightest}
 use Rattle.link_key.specs.declared.links.Link.{Link}
 use Rattle.gr_text.specs.Graph.{HasEnds}
 use Rattle.boruvka_c.specs.declared.given.GivenLink.{GivenLink}
@@ -26,30 +27,32 @@ given_of l = record { weight = l.weight; low = l.low; high = l.high }
 abbrev pub HaveEnds : ℕ → List GivenLink → Type 0
 HaveEnds n given = All (λ l. HasEnds n (arc_of l)) given
 
--- the minimum spanning forest of the links that were given, in the order of their keys, stands first, and behind it what stood there
+-- the minimum spanning forest of the links that were given, in the order of their keys, stands first, and behind it
+-- what stood there; no spanning forest weighs less
 pub record HoldsForest (before after : List GivenLink) (count : ℕ) : Type 0 where
   pub links : List Link
   pub forest : List Link
   pub are_links : AreLinksOf (arcs_of before) links
-  pub least : IsForestOf links forest
+  pub forest_is : IsForestOf links forest
+  pub lightest : IsLightest links (sum_of_weights forest)
   pub first : after ≡ map given_of forest ++ drop (length forest) before
   pub counted : count ≡ length forest
 
--- no more vertices and links than there may be
-abbrev pub AreFew : ℕ → List GivenLink → Type 0
-AreFew n given = (n ≤ MAX_VERTICES) × (length given ≤ MAX_ARCS)
+-- links that have a forest: no more vertices and links than there may be, and no end that is no vertex
+abbrev pub AreRight : ℕ → List GivenLink → Type 0
+AreRight n given = (n ≤ MAX_VERTICES) × (length given ≤ MAX_ARCS) × HaveEnds n given
 
--- why links have no forest: the first of these causes, and want of memory where there is none of them
+-- why links have no forest: the first of these causes, or want of memory where there is none of them
 abbrev pub IsLinksRefusal : ℕ → List GivenLink → Refusal → Type 0
 IsLinksRefusal n given TooManyVertices = MAX_VERTICES < n
 IsLinksRefusal n given TooManyLinks = (n ≤ MAX_VERTICES) × (MAX_ARCS < length given)
-IsLinksRefusal n given BadEnd = AreFew n given × ¬ (HaveEnds n given)
-IsLinksRefusal n given NoMemory = AreFew n given × HaveEnds n given
+IsLinksRefusal n given BadEnd = (n ≤ MAX_VERTICES) × (length given ≤ MAX_ARCS) × ¬ (HaveEnds n given)
+IsLinksRefusal n given NoMemory = AreRight n given
 IsLinksRefusal n given other = ⊥
 
 -- the answer is how many links the forest has, which stands first
-abbrev pub FindsForest : List GivenLink → List GivenLink → ℤ → Type 0
-FindsForest before after answer = (count : ℕ) × (answer ≡ pos count) × HoldsForest before after count
+abbrev pub FindsForest : ℕ → List GivenLink → List GivenLink → ℤ → Type 0
+FindsForest n before after answer = AreRight n before × ((count : ℕ) × (answer ≡ pos count) × HoldsForest before after count)
 
 -- the answer is the code of why there is none
 abbrev pub RefusesLinks : ℕ → List GivenLink → ℤ → Type 0

@@ -1,7 +1,7 @@
 //! The forest of links in the caller's memory.
-ghost use Rattle.std.specs.Prelude.{◌≡◌, ◌≤◌, ◌≤ℤ◌, pos, IfOk, IfErr, OnErr};
+ghost use Rattle.std.specs.Prelude.{◌≡◌, ◌≤◌, ◌≤ℤ◌, pos, IfOk, IfErr, OnOk, OnErr};
 ghost use Rattle.std.specs.Int.Signed.{◌<ℤ◌};
-ghost use Rattle.boruvka_c.specs.Links.{HoldsForest, IsLinksRefusal, FindsForest, RefusesLinks};
+ghost use Rattle.boruvka_c.specs.Links.{AreRight, HoldsForest, IsLinksRefusal, FindsForest, RefusesLinks};
 
 use crate::given::{GivenLink, have_ends, links_of, put_first};
 use crate::refusals::Refusal;
@@ -11,6 +11,7 @@ use std::alloc::Global;
 
 // Puts the forest of the links first, and says how many they are.
 fn find_forest(alloc: Global, n: u32, links: &mut [GivenLink]) -> Result<usize, Refusal>
+    ensures right { OnOk result (AreRight n links.old) }
     ensures found { IfOk result (λ count. HoldsForest links.old links.new count) }
     ensures few { IfOk result (λ count. count ≤ MAX_ARCS) }
     ensures refused { IfErr result (λ why. IsLinksRefusal n links.old why) }
@@ -42,7 +43,7 @@ fn find_forest(alloc: Global, n: u32, links: &mut [GivenLink]) -> Result<usize, 
 /// [`forest_of`], two passes over the links beside, and its memory, with 16 bytes a link for the list that it works in.
 #[unsafe(no_mangle)]
 pub extern "C" fn boruvka_forest(alloc: Global, n: u32, links: &mut [GivenLink]) -> i64
-    ensures found { pos 0 ≤ℤ result → FindsForest links.old links.new result }
+    ensures found { pos 0 ≤ℤ result → FindsForest n links.old links.new result }
 
     // Too many vertices, or else too many links, or else an end that is no vertex; only where none of these is, memory.
     ensures refused { result <ℤ pos 0 → RefusesLinks n links.old result }

@@ -12,14 +12,14 @@ loop-arc-preserved c =
     let given = c.args.given.now in
     let before = l.invariant in
     elim c.match-to_link.branch [
-      in-Some+in_ok-push-in-Some w ↦
-        let link = w.in-Some.link in
-        let said = w.in-Some.ensures in
-        rw (w.links-is, w.in_ok-push-in-Some.ensures.items) (
-          links_at_link given l.arc-index _ l.links.items link c.loop-arc-test.true before.0 (λ same. let never : true ≡ false = said.none_for_a_loop.1 same in cc) said.key,
-          omega (arith, before.1, length_push l.links.items link),
-          All-push (λ (m : Link). m.high ≤ c.args.n) l.links.items link before.2 said.end,
-        )
+      | in-Some+in_ok-push-in-Some w ↦
+          let link = w.in-Some.link in
+          let said = w.in-Some.ensures in
+          rw (w.links-is, w.in_ok-push-in-Some.ensures.items) (
+            links_at_link given l.arc-index _ l.links.items link c.loop-arc-test.true before.0 (λ same. let never : true ≡ false = said.none_for_a_loop.1 same in cc) said.key,
+            omega (arith, before.1, length_push l.links.items link),
+            All-push (λ (m : Link). m.high ≤ c.args.n) l.links.items link before.2 said.end,
+          )
       | in-None w ↦
-        rw w.links-is (links_at_loop given l.arc-index _ l.links.items c.loop-arc-test.true before.0 (w.in-None.ensures.none_for_a_loop.0 (search rules)), omega (arith, before.1), before.2)
+          rw w.links-is (links_at_loop given l.arc-index _ l.links.items c.loop-arc-test.true before.0 (w.in-None.ensures.none_for_a_loop.0 (search rules)), omega (arith, before.1), before.2)
     ]
