@@ -1,4 +1,5 @@
 """Runs over workers: the forest is the same whatever their number and that of the shards, and the report's equations hold."""
+import filecmp
 import os
 import random
 import resource
@@ -215,6 +216,25 @@ def as_many_vertices_as_there_can_be(_room):
     expect(ran(["--plain"], file), 0, file, b"")
     file = b"p sp 67108864 0\n"
     expect_healthy([], file, file, 1, 1)
+
+
+@case
+def an_answer_of_as_many_offers_as_there_can_be(room):
+    # each of 2^25 vertices picks the link to its neighbour, all of them in one shard: the file is its own forest
+    vertices = 2**25
+    name, output = f"{room}/pairs.gr", f"{room}/forest.gr"
+    with open(name, "wb") as it:
+        it.write(b"p sp %d %d\n" % (vertices, vertices // 2))
+        for at in range(0, vertices, 2**16):
+            it.write("".join([f"a {v} {v + 1} 5\n" for v in range(at + 1, at + 2**16, 2)]).encode())
+    with open(output, "wb") as it:
+        status, _, errors = ran([*over(1, 1), "--report", name], output=it)
+    line = b"vertices=33554432 links=16777216 rounds=1 shards=1 asked=2 answered=2 alone=0 closed=0 total=83886080\n"
+    expect((status, b"", errors), 0, b"", line)
+    if not filecmp.cmp(name, output, shallow=False):
+        raise AssertionError("the forest of pairs is another text than theirs")
+    os.remove(name)
+    os.remove(output)
 
 
 @case
