@@ -121,7 +121,8 @@ def expect_places(runs, count):
 
 
 def graphs():
-    return [(SMALL_NET, SMALL_FOREST), drawn_graph(7, 3000, 10_000)]
+    # (shards of the second go out with weights of 64 bits)
+    return [(SMALL_NET, SMALL_FOREST), drawn_graph(7, 3000, 10_000, 2**40)]
 
 
 @case

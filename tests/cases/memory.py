@@ -81,6 +81,8 @@ def each_allocation_of_a_named_file_refused(room):
 def each_allocation_of_a_run_over_workers_refused(room):
     each_refused_over_workers(room, SMALL_NET, SMALL_FOREST, 2, 4)
     each_refused_over_workers(room, SMALL_NET, SMALL_FOREST, 0, 2)
+    # (with weights of 64 bits)
+    each_refused_over_workers(room, *drawn_graph(9, 6, 9, 2**40), 2, 2)
 
 
 @case
