@@ -16,12 +16,11 @@ const HELLO: [u8; 11] = [1, 0, 0, 0, 6, 0, 1, 0, 0, 0, 0];
 const ANSWER: u8 = 4;
 
 /// The numbers of an answer: how many bytes follow, its round and its shard, how many offers it has, and these.
-type Numbers = &'static [u32];
+pub(crate) type Numbers = &'static [u32];
 
-// One line, over which come the hello of worker 0 and then these answers.
-fn script(alloc: Global, answers: &[Numbers]) -> Result<Vec<ScriptLine>, AllocError>
-    ensures one { IfOk result (λ lines. length lines.items ≡ 1) }
-    ensures room { IfOk result (λ lines. All (λ line. HasRoom (line_of_script line)) lines.items) }
+// A line over which come the hello of worker 0, of the first version, and then these answers.
+pub(crate) fn script_line(alloc: Global, answers: &[Numbers]) -> Result<ScriptLine, AllocError>
+    ensures room { IfOk result (λ line. HasRoom (line_of_script line)) }
 {
     let mut bytes = Vec::from_slice(alloc, &HELLO)?;
     for answer in answers {
@@ -30,8 +29,16 @@ fn script(alloc: Global, answers: &[Numbers]) -> Result<Vec<ScriptLine>, AllocEr
             bytes.extend_from_slice(&number.to_be_bytes())?;
         }
     }
+    Ok(ScriptLine::new(bytes))
+}
+
+// That line alone.
+fn script(alloc: Global, answers: &[Numbers]) -> Result<Vec<ScriptLine>, AllocError>
+    ensures one { IfOk result (λ lines. length lines.items ≡ 1) }
+    ensures room { IfOk result (λ lines. All (λ line. HasRoom (line_of_script line)) lines.items) }
+{
     let mut lines = Vec::new(alloc);
-    lines.push(ScriptLine::new(bytes))?;
+    lines.push(script_line(alloc, answers)?)?;
     Ok(lines)
 }
 
