@@ -2,7 +2,7 @@
 // gives up at some size is proved as well as one that doesn't. What is expected is written by a formula, here.
 //
 // Labels are turned into bytes 1,024 at a time. A body is read in pieces of 65,536 bytes: 12 and 4 for each label are
-// just so many for 16,381 labels; 8 and 12 for each link, and 12 and 8 for each offer, come to no whole piece.
+// just so many for 16,381 labels; 8 and 12 or 16 for each link, and 12 and 8 for each offer, come to no whole piece.
 use byte_streams::FusedSource;
 use frames::{
     Answer, Frame, Links, decode_body, decode_head, encode, encode_ask, encode_ask_over,
@@ -53,26 +53,64 @@ fn expect_text(rt: &impl Abort, alloc: Global, frame: &Frame, bytes: &[u8]) -> R
     Ok(())
 }
 
-// The links of a path from vertex 1 on. The first has the least weight, and the others those from the greatest down.
-fn path(rt: &impl Abort, alloc: Global, count: u32) -> Result<Vec<Link>, Fail> {
+// So many numbers have 32 bits.
+const HALF: u64 = 1 << 32;
+
+// How many bits the weights of a shard have.
+#[derive(Clone, Copy)]
+enum Weights {
+    Of32,
+    Of64,
+}
+
+// The links of a path from vertex 1 on, and their shard's numbers. The first has the least weight of so many bits, and the
+// others those from the greatest down. A weight of 64 bits is two numbers, the higher first.
+fn path(
+    rt: &impl Abort,
+    alloc: Global,
+    weights: Weights,
+    number: u32,
+    count: u32,
+) -> Result<(Vec<Link>, Vec<u32>), Fail> {
     assert!(rt; count <= 1 << 24);
     let mut links = Vec::new(alloc);
+    let mut numbers = Vec::from_slice(alloc, &[number, count])?;
     for before in 0..count {
-        let weight = i32::MIN.wrapping_sub(before.cast_signed());
-        if let Some(link) = Link::of_arc(before + 1, before + 2, i64::from(weight)) {
+        let (low, high) = (before + 1, before + 2);
+        let narrow = i32::MIN.wrapping_sub(before.cast_signed());
+        let wide = i64::MIN.wrapping_sub(i64::from(before));
+        let weight = match weights {
+            Weights::Of32 => {
+                numbers.extend_from_slice(&[low, high, narrow.cast_unsigned()])?;
+                i64::from(narrow)
+            }
+            Weights::Of64 => {
+                let bits = wide.cast_unsigned();
+                let (upper, lower) = ((bits / HALF) as u32, (bits % HALF) as u32);
+                numbers.extend_from_slice(&[low, high, upper, lower])?;
+                wide
+            }
+        };
+        if let Some(link) = Link::of_arc(low, high, weight) {
             links.push(link)?;
         }
     }
-    Ok(links)
+    Ok((links, numbers))
 }
 
-fn expect_shard(rt: &impl Abort, alloc: Global, number: u32, count: u32) -> Result<(), Fail> {
-    let links = path(rt, alloc, count)?;
-    let mut numbers = Vec::from_slice(alloc, &[number, count])?;
-    for link in &links {
-        numbers.extend_from_slice(&[link.low, link.high, (link.weight as i32).cast_unsigned()])?;
-    }
-    let bytes = frame_bytes(rt, alloc, 2, numbers.as_slice())?;
+fn expect_shard(
+    rt: &impl Abort,
+    alloc: Global,
+    weights: Weights,
+    number: u32,
+    count: u32,
+) -> Result<(), Fail> {
+    let (links, numbers) = path(rt, alloc, weights, number, count)?;
+    let kind = match weights {
+        Weights::Of32 => 2,
+        Weights::Of64 => 6,
+    };
+    let bytes = frame_bytes(rt, alloc, kind, numbers.as_slice())?;
     let shard = Shard {
         number,
         links: links.as_slice(),
@@ -94,10 +132,18 @@ fn shards_of_so_many_links(rt: HostRuntime) -> Result<(), Fail> {
     for count in [
         0, 1, 5_460, 5_461, 5_462, 10_000, 12_000, 21_845, 21_846, 100_001,
     ] {
-        expect_shard(&rt, rt.alloc(), 7, count)?;
+        expect_shard(&rt, rt.alloc(), Weights::Of32, 7, count)?;
     }
-    expect_shard(&rt, rt.alloc(), 0, 1)?;
-    expect_shard(&rt, rt.alloc(), 4095, 1)
+    for count in [
+        1, 4_095, 4_096, 4_097, 8_191, 8_192, 10_000, 12_000, 16_384, 16_385, 100_001,
+    ] {
+        expect_shard(&rt, rt.alloc(), Weights::Of64, 7, count)?;
+    }
+    for weights in [Weights::Of32, Weights::Of64] {
+        expect_shard(&rt, rt.alloc(), weights, 0, 1)?;
+        expect_shard(&rt, rt.alloc(), weights, 4095, 1)?;
+    }
+    Ok(())
 }
 
 // Each vertex has its own label.
