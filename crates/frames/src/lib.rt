@@ -10,7 +10,7 @@
 //! ```text
 //!   Frame, Shard, Labels --encode, encode_shard, encode_ask, encode_ask_over-->  bytes  <--fault_bytes-- round, shard, code
 //!                                                                 |
-//!                                                    read_frame, read_frame_after (a Source of bytes)
+//!                                                    read_frame, read_next (a Source of bytes)
 //!                                                   /                              \
 //!                       5 bytes --decode_head--> Head                body --decode_body--> Frame
 //! ```
@@ -18,12 +18,14 @@
 //! What it promises:
 //! - The encoders give exactly the text of a lawful frame, and a lawful frame has one text.
 //! - [`read_frame`] that answers a frame took exactly its text, and answers else the first refusal that fits; so do
-//!   [`decode_head`] and [`decode_body`] for the two parts of a frame.
+//!   [`decode_head`] and [`decode_body`] for the two parts of a frame, and [`read_next`] behind an ask, which says of
+//!   another ask under the same labels no more than that, and stores none.
 //! - No frame's text begins another's, so a stream of frames reads in one way (`laws`).
 //!
 //! Where to start a change: the grammar stands in `specs/FrameText`, what a lawful frame says in `specs/Lawful`, and
 //! the refusals with their order in `specs/Refusals`. `fields` and `items` have one function for each field and list,
-//! `encoding` and `decoding` one for each kind, built of them.
+//! `encoding` and `decoding` one for each kind, built of them. `frame_reader` takes a frame from a stream, and
+//! `next_frame` an ask by pieces (`specs/NextFrame`).
 #![tactic(auto)]
 
 mod decoding;

@@ -4,13 +4,16 @@ ghost use Rattle.std.specs.Prelude.{◌-◌, ◌<◌, ◌^◌};
 use crate::scans::{By, many_labels, many_links, plain_offers, reply_by};
 use crate::sizes::{apart, falling, falling_offers};
 use byte_streams::{FusedSink, FusedSource};
-use frames::{Answer, Frame, FrameFault, encode, encode_ask, encode_shard, read_frame};
+use frames::{
+    Answer, Frame, FrameFault, encode, encode_ask, encode_shard, fault_bytes, read_frame,
+};
 use link_key::{Labels, Link, Offers, Shard};
 use std::alloc::{AllocError, Global};
 use std::process::Abort;
 use std::test::Fail;
 use std::thread::Threads;
-use worker_engine::{Engine, ServeFault, Served, serve, serve_upto};
+use worked_graphs::have_labels;
+use worker_engine::{Engine, ServeFault, Served, scan, serve, serve_upto};
 
 // What a worker of the first version says, and one of this version.
 const FIRST_HELLO: [u8; 11] = [1, 0, 0, 0, 6, 0, 1, 0, 0, 0, 0];
@@ -305,4 +308,80 @@ fn sessions_over_many_links(rt: HostRuntime) -> Result<(), Fail> {
         expect_answers(&rt, alloc, links.as_slice(), &labels, expected)?;
     }
     Ok(())
+}
+
+// Each of 20,001 vertices has its own label, but this one, which has that of the vertex before; vertex 0 is none.
+fn labels_but(rt: &impl Abort, alloc: Global, vertex: u32) -> Result<Labels, Fail> {
+    let mut list = Vec::with_capacity(alloc, 20_001)?;
+    for before in 0..20_001u32 {
+        let own = before + 1;
+        list.push(if own == vertex { before } else { own })?;
+    }
+    Ok(Labels::of_list(list).expect(rt, "labels"))
+}
+
+// The text of a shard.
+fn shard_text(
+    rt: &impl Abort,
+    alloc: Global,
+    number: u32,
+    links: &[Link],
+) -> Result<Vec<u8>, Fail> {
+    let shard = Shard { number, links };
+    assert!(rt; number < 4096 && shard.links.len() <= 1 << 24);
+    Ok(encode_shard(alloc, &shard)?)
+}
+
+// The text of the answer of a shard of these links, by a scan of its own.
+fn answer_text(
+    rt: &impl Abort,
+    alloc: Global,
+    round: u32,
+    shard: u32,
+    links: &[Link],
+    labels: &Labels,
+) -> Result<Vec<u8>, Fail> {
+    assert!(rt; links.len() <= 1 << 24 && have_labels(links, labels.n()));
+    let offers = scan(alloc, links, labels)?;
+    let answer = Frame::Answer(Answer {
+        round,
+        shard,
+        offers,
+    });
+    assert!(rt; answer.is_lawful());
+    Ok(encode(alloc, &answer)?)
+}
+
+// Two shards are asked for again and again, under labels that come again, that differ in the last, a middle or the first
+// piece alone, that coarsen those before and that don't. Each answer is that of a scan of its own; so is each behind asks
+// of a shard that isn't held.
+#[test]
+fn asks_under_labels_that_change(rt: HostRuntime) -> Result<(), Fail> {
+    let alloc = rt.alloc();
+    let first = falling(alloc, 20_001, 0, 20_000)?;
+    let second = falling(alloc, 20_001, 7, 31_000)?;
+    let mut heard = shard_text(&rt, alloc, 3, first.as_slice())?;
+    heard.extend_from_slice(shard_text(&rt, alloc, 4, second.as_slice())?.as_slice())?;
+    let mut written = Vec::from_slice(alloc, &HELLO)?;
+    let vertices: [u32; 10] = [0, 0, 20_001, 20_001, 10_000, 0, 2, 2, 0, 20_001];
+    for vertex in vertices {
+        let labels = labels_but(&rt, alloc, vertex)?;
+        for (shard, links) in [(3, &first), (4, &second)] {
+            heard.extend_from_slice(encode_ask(alloc, vertex, 9, &labels)?.as_slice())?;
+            written.extend_from_slice(&fault_bytes(vertex, 9, 2))?;
+            assert!(rt; shard < 4096);
+            heard.extend_from_slice(encode_ask(alloc, vertex, shard, &labels)?.as_slice())?;
+            let text = answer_text(&rt, alloc, vertex, shard, links.as_slice(), &labels)?;
+            written.extend_from_slice(text.as_slice())?;
+        }
+    }
+    let ends = served(42, 20, 20);
+    expect_session(
+        &rt,
+        alloc,
+        &[heard.as_slice()],
+        None,
+        ends,
+        &[written.as_slice()],
+    )
 }

@@ -1,8 +1,9 @@
 // Frames and their bytes, and each refusal.
+use crate::next_frames::told;
 use byte_streams::FusedSource;
 use frames::{
     Answer, Frame, FrameFault, Head, Links, VERSION, decode_body, decode_head, encode, encode_ask,
-    encode_ask_over, encode_shard, fault_bytes, read_frame, read_frame_after,
+    encode_ask_over, encode_shard, fault_bytes, read_frame, read_next,
 };
 use link_key::{Labels, Link, Offers, Shard};
 use std::alloc::{AllocError, Global};
@@ -260,21 +261,13 @@ fn an_ask_behind_another(rt: HostRuntime) -> Result<(), Fail> {
     for list in lasts {
         let last = labels_of(&rt, rt.alloc(), list)?;
         let mut source = ASK.as_slice();
-        match read_frame_after(rt.alloc(), &mut source, last.as_slice())? {
-            Frame::Ask {
-                round,
-                shard,
-                labels,
-            } => {
-                assert_eq!(rt; (round, shard), (1, 0));
-                assert_eq!(rt; labels.as_slice(), [1, 2, 3].as_slice());
-            }
-            _ => assert!(rt; false),
-        }
+        let next = read_next(rt.alloc(), &mut source, last.as_slice())?;
+        let text = told(&rt, rt.alloc(), &next, &last)?;
+        assert_eq!(rt; text.as_slice(), ASK.as_slice());
         assert!(rt; source.is_empty());
         let mut wrong = ASK;
         wrong[24] = 3;
-        match read_frame_after(rt.alloc(), &mut wrong.as_slice(), last.as_slice()) {
+        match read_next(rt.alloc(), &mut wrong.as_slice(), last.as_slice()) {
             Ok(_) => assert!(rt; false),
             Err(fault) => assert_eq!(rt; fault, FrameFault::BadField),
         }

@@ -6,6 +6,7 @@
 //!   given_streams                frames of a source that tells only what it gave
 //!   frames_codec                 frames and their bytes, each refusal, and what it is told as
 //!   memory_of_frames             which blocks of memory frames take, and which live after one is read
+//!   next_frames                  a frame behind an ask, whose labels come again or differ in one place
 //!   refused_in_turn              work whose allocations are refused in turn, with a flaw and without one
 //!   sizes                        frames at the size of every inner piece, beside it and past it
 //! ```
@@ -19,6 +20,8 @@ mod frames_codec;
 mod given_streams;
 #[cfg(test)]
 mod memory_of_frames;
+#[cfg(test)]
+mod next_frames;
 #[cfg(test)]
 mod refused_in_turn;
 #[cfg(test)]

@@ -3,10 +3,11 @@
 //
 // Labels are turned into bytes 1,024 at a time. A body is read in pieces of 65,536 bytes: 12 and 4 for each label are
 // just so many for 16,381 labels; 8 and 12 or 16 for each link, and 12 and 8 for each offer, come to no whole piece.
+use crate::next_frames::told;
 use byte_streams::FusedSource;
 use frames::{
     Answer, Frame, Links, decode_body, decode_head, encode, encode_ask, encode_ask_over,
-    encode_shard, read_frame, read_frame_after,
+    encode_shard, read_frame, read_next,
 };
 use link_key::{Labels, Link, Offers, Shard};
 use std::alloc::Global;
@@ -170,8 +171,8 @@ fn expect_ask(rt: &impl Abort, alloc: Global, before: u32, count: u32) -> Result
     let alone = encode_ask(alloc, 5, 4095, &labels)?;
     assert!(rt; alone.as_slice() == bytes.as_slice(), "{count} labels");
     for behind in [&last, &labels] {
-        let again = read_frame_after(alloc, &mut text.as_slice(), behind.as_slice())?;
-        let same = text_of(rt, alloc, &again)?;
+        let again = read_next(alloc, &mut text.as_slice(), behind.as_slice())?;
+        let same = told(rt, alloc, &again, behind)?;
         assert!(rt;
             same.as_slice() == bytes.as_slice(),
             "{count} labels behind {}",
