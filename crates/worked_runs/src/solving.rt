@@ -10,7 +10,12 @@ use worked_graphs::{A_PATH_OF_EIGHT, EQUAL_WEIGHTS, Row, SMALL_NET, all_have_lab
 /// A round: the order in which its shards are scanned, what it does, and the labels behind it.
 type Step<'a> = (&'a [u32], Turn, &'a [u32]);
 
-// A round whose shards are scanned in this order.
+// How many bytes of the labels are kept, where they are.
+fn bytes_kept(labels: &Labels) -> Option<usize> {
+    labels.spelled().map(|bytes| bytes.len())
+}
+
+// A round whose shards are scanned in this order. The labels keep their bytes from its beginning until others are made.
 fn step(
     rt: &impl Abort,
     alloc: Global,
@@ -18,8 +23,17 @@ fn step(
     order: &[u32],
     solver: &mut Solver,
 ) -> Result<Turn, Fail> {
+    let before = solver.labels().as_slice().to_vec(alloc)?;
+    solver.spell_labels()?;
+    assert!(rt; solver.labels().as_slice() == before.as_slice());
+    assert_eq!(rt;
+        bytes_kept(solver.labels()),
+        Some(before.len().wrapping_mul(4))
+    );
     let picks = picks_of_scans(rt, alloc, cut, solver.round(), solver.labels(), order)?;
-    Ok(solver.step(&picks).expect(rt, "a turn"))
+    let turn = solver.step(&picks).expect(rt, "a turn");
+    assert!(rt; turn == Turn::Done || bytes_kept(solver.labels()).is_none());
+    Ok(turn)
 }
 
 // From vertices that are apart these rounds lead to this forest of the cut's links.

@@ -299,6 +299,113 @@ fn each_shard_is_sent_before_its_first_ask_alone(rt: HostRuntime) -> Result<(), 
     Ok(())
 }
 
+/// An engine's line that counts its puts, and remembers a sum that tells of all bytes put and of their order.
+#[derive(Drop)]
+struct Summing {
+    line: EngineLine<Global>,
+    sum: u64,
+    puts: usize,
+}
+
+impl Line for Summing {
+    ghost use Rattle.ports.specs.EngineLines.{line_of, IsEngineLine};
+    ghost use Rattle.ports.specs.LineLaws.{engine_serves};
+
+    ghost state = { λ s. line_of s.line };
+
+    ghost faithful = { λ s worker. IsEngineLine worker s.line };
+
+    fn put(&mut self, bytes: &[u8]) -> Result<(), LineFault> {
+        self.sum = sum_behind(self.sum, bytes);
+        self.puts = self.puts.wrapping_add(1);
+        self.line.put(bytes)
+    }
+
+    fn get(&mut self, into: &mut [u8]) -> Result<usize, LineFault> {
+        self.line.get(into)
+    }
+
+    ghost serves = { λ s worker is. engine_serves worker s.line is };
+}
+
+// The sum of the bytes put so far, of which these are the last.
+fn sum_behind(sum: u64, bytes: &[u8]) -> u64 {
+    let mut sum = sum;
+    for byte in bytes {
+        sum = (sum ^ u64::from(*byte)).wrapping_mul(1_099_511_628_211);
+    }
+    sum
+}
+
+// Two asks under these labels of vertices that are apart, of which the first and the last are linked, over a new wire
+// are answered so. What its line is then.
+fn ask_twice<L: Line + Drop>(
+    rt: &impl Abort,
+    alloc: Global,
+    labels: &Labels,
+    line: L,
+    replies: (Reply, Reply),
+) -> Result<L, Fail>
+    requires { HasRoom (L.state line) }
+{
+    let links = links_of(alloc, labels.n(), &[(1, labels.n(), 7)])?.expect(rt, "arcs");
+    assert!(rt; links.len() <= 1 << 30);
+    let cut = Cut::even(alloc, links.as_slice(), 1).expect(rt, "a cut");
+    let mut wire = Wire::new(alloc, line, &cut, 0);
+    let steps = [Step::Ask(1, 0, replies.0), Step::Ask(2, 0, replies.1)];
+    take_steps(rt, &mut wire, &cut, labels, &steps);
+    Ok(wire.into_line())
+}
+
+// How many puts two asks under these labels are, and the sum of their bytes.
+fn puts_under(rt: &impl Abort, alloc: Global, labels: &Labels) -> Result<(usize, u64), Fail> {
+    let line = Summing {
+        line: EngineLine::new(alloc, 0)?,
+        sum: 0,
+        puts: 0,
+    };
+    let offers = [(1, 0), (labels.n(), 0)];
+    let line = ask_twice(rt, alloc, labels, line, (Ok(&offers), Ok(&offers)))?;
+    Ok((line.puts, line.sum))
+}
+
+// The shard and each ask is a put; an ask whose labels keep their bytes is two from 64 KiB of labels on. The bytes are
+// the same.
+#[test]
+fn labels_with_and_without_their_bytes(rt: HostRuntime) -> Result<(), Fail> {
+    let alloc = rt.alloc();
+    for (n, puts) in [(2, 3), (16_383, 3), (16_384, 5), (16_385, 5), (40_000, 5)] {
+        let mut labels = Labels::apart(alloc, n)?;
+        let (turned, bytes) = puts_under(&rt, alloc, &labels)?;
+        labels.spell()?;
+        assert_eq!(rt; puts_under(&rt, alloc, &labels)?, (puts, bytes));
+        assert_eq!(rt; turned, 3);
+    }
+    Ok(())
+}
+
+// The calls of two asks under labels of 64 KiB that keep their bytes: the hello's head and body, the shard, the ask's two
+// parts, the answer's head and body; and then the ask's two and the answer's.
+#[test]
+fn a_line_that_stops_between_the_parts_of_an_ask(rt: HostRuntime) -> Result<(), Fail> {
+    let alloc = rt.alloc();
+    let mut labels = Labels::apart(alloc, 16_384)?;
+    labels.spell()?;
+    let offers = [(1, 0), (16_384, 0)];
+    for calls in 0..12u64 {
+        let line = FusedLine::after_calls(EngineLine::new(alloc, 0)?, calls);
+        let replies: (Reply, Reply) = if calls < 7 {
+            (DOWN, CLOSED)
+        } else if calls < 11 {
+            (Ok(&offers), DOWN)
+        } else {
+            (Ok(&offers), Ok(&offers))
+        };
+        ask_twice(&rt, alloc, &labels, line, replies)?;
+    }
+    Ok(())
+}
+
 const MANY: u32 = 10_000;
 
 // A path of 10,000 links, each as heavy as its lower end: the first vertex is offered the first link, and each other
