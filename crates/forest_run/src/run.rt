@@ -96,8 +96,8 @@ fn merge_rounds<
 /// waits for the ports' answers. At the end, after a fault too, each lane holds its port as the asks left it, without a
 /// seat or kept answers.
 ///
-/// A run takes the solver's memory, that of one round at a time, and in each lane room for an answer of each shard. It
-/// has at most log2 n merging rounds, and one more.
+/// A run takes the solver's memory, with the bytes of its labels where there is memory for them, that of one round at a
+/// time, and in each lane room for an answer of each shard. It has at most log2 n merging rounds, and one more.
 ///
 /// The faults: a round with picks past the bound; once a round has no picks, the first link of the cut whose ends the links
 /// taken don't join; want of memory.
