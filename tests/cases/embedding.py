@@ -75,6 +75,9 @@ def the_examples_of_other_languages(room):
     expect(run([f"{room}/of_c"]), 0, SMALL_FOREST, b"")
     expect(run([compiler(), INCLUDE, "-o", f"{room}/of_c_shared", f"{embed}/forest.c", f"-L{LIBRARIES}", "-Wl,-rpath," + LIBRARIES, "-lboruvka"]), 0, b"", b"")
     expect(run([f"{room}/of_c_shared"]), 0, SMALL_FOREST, b"")
+    if shutil.which("c++"):
+        expect(run(["c++", "-x", "c++", "-pedantic", "-Wall", "-Werror", INCLUDE, "-o", f"{room}/of_cpp", f"{embed}/forest.c", "-x", "none", archive]), 0, b"", b"")
+        expect(run([f"{room}/of_cpp"]), 0, SMALL_FOREST, b"")
     if shutil.which("rustc"):
         expect(run(["rustc", "--edition", "2024", "-D", "warnings", "-L", LIBRARIES, "-o", f"{room}/of_rust", f"{embed}/forest.rs"]), 0, b"", b"")
         expect(run([f"{room}/of_rust"]), 0, SMALL_FOREST, b"")
