@@ -138,6 +138,24 @@ fn judged_answers(rt: HostRuntime) -> Result<(), Fail> {
     Ok(expect_judged(&rt, alloc, &book, &[(1, 0, &light, Err(Refusal::Double))])?)
 }
 
+// What the judge allows is taken without a second look, and can't be taken again.
+#[test]
+fn an_answer_that_was_judged(rt: HostRuntime) -> Result<(), Fail> {
+    let alloc = rt.alloc();
+    let links = links_of(alloc, 3, EQUAL_WEIGHTS.arcs)?.expect(&rt, "arcs");
+    assert!(rt; links.len() <= 1 << 30);
+    let cut = Cut::even(alloc, links.as_slice(), 1).expect(&rt, "a cut");
+    let labels = Labels::apart(alloc, 3)?;
+    assert!(rt; all_have_labels(&cut, labels.n()));
+    let mut book = RoundBook::open(alloc, 1, &cut, &labels)?;
+    let light = [(1, 0), (2, 0), (3, 2)];
+    let first = answer(&rt, alloc, 1, 0, &light)?;
+    assert!(rt; first.shard == 0 && 0 < book.len() && book.judge(0, &first).is_ok());
+    book.take_allowed(first);
+    assert!(rt; 0 < book.len() && !book.is_missing(0) && book.missing() == 0);
+    Ok(expect_judged(&rt, alloc, &book, &[(1, 0, &light, Err(Refusal::Double))])?)
+}
+
 // In the path's first round each vertex picks the link to its neighbour.
 fn are_pairs(picks: &Picks) -> bool
     requires { length picks.now ≡ 8 }
