@@ -1,5 +1,5 @@
 -- A frame behind an ask, from its head and its body.
-use Rattle.std.proofs.Common.{◌≡◌, ℕ, ◌+◌, ◌*◌, ◌/◌, ◌%◌, ◌<◌, ◌≤◌, ◌⊎◌, ◌^◌, List, [], ◌∷◌, ◌++◌, length, take, drop, get_or, All, Option, Vec, refl, sym, ap, subst, ◌∙◌, inl, inr, append_assoc, append-nil, arith}
+use Rattle.std.proofs.Common.{◌≡◌, ℕ, ◌+◌, ◌*◌, ◌<◌, ◌≤◌, ◌^◌, List, [], ◌∷◌, ◌++◌, length, take, drop, get_or, All, Option, Vec, refl, sym, ap, subst, ◌∙◌, inl, inr, append_assoc, append-nil, arith}
 use Rattle.std.specs.Prelude.{Result, Ok, Err, OnOk, is_ok, if◌then◌else◌}
 use Rattle.std.specs.List.{flat_map}
 use Rattle.std.proofs.Math.Seq.{take-add}
@@ -15,7 +15,7 @@ use Rattle.frames.specs.FrameValue.{FrameValue, AskFrame}
 use Rattle.frames.specs.FrameText.{u32_text, text_of}
 use Rattle.frames.specs.Lawful.{IsU32, IsLawful}
 use Rattle.frames.specs.Refusals.{IsPossible, IsFrameOf, BodyRefused}
-use Rattle.frames.specs.ReadFault.{failures_of, ends_of, IsReadRefused, CutsShort, IsCutShort}
+use Rattle.frames.specs.ReadFault.{failures_of, ends_of, IsReadRefused, IsCutShort}
 use Rattle.frames.specs.NextFrame.{next_value, numbers_told, BodyCame, IsBodyRefused, IsStopped}
 use Rattle.frames.specs.declared.next_frame.NextFrame.{NextFrame}
 use Rattle.frames.specs.declared.fault.FrameFault.{FrameFault}

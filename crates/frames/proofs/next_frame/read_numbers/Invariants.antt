@@ -1,5 +1,5 @@
 -- What came is the numbers so far, and no read failed or found the end.
-use Rattle.std.proofs.Common.{◌≡◌, ◌*◌, ◌-◌, ◌≤◌, length, take, All}
+use Rattle.std.proofs.Common.{◌≡◌, ◌-◌, ◌≤◌, length, take, All}
 use Rattle.std.specs.List.{flat_map}
 use Rattle.byte_streams.specs.Streams.{Gave}
 use Rattle.frames.specs.FrameText.{u32_text}
