@@ -1,5 +1,5 @@
 //! A worker's engine: it keeps shards and replies to asks.
-ghost use Rattle.std.specs.Prelude.{◌≡◌, ℕ, List, ◌≤◌, ◌↔◌, [], length, Some, IsSome, IfSome, IfOk, IfErr, OnOk, OnErr, IsTrue, true};
+ghost use Rattle.std.specs.Prelude.{◌≡◌, ℕ, List, ◌≤◌, [], length, Some, IsSome, IfOk, OnOk, OnErr, true};
 ghost use Rattle.link_key.specs.declared.links.Link.{Link};
 ghost use Rattle.frames.specs.FrameValue.{value_of, ShardFrame, FaultFrame};
 ghost use Rattle.frames.specs.Lawful.{IsLawful, IsShard, IsAsk};

@@ -2,7 +2,7 @@
 //!
 //! A link whose ends have one label leaves no component, and never will under labels that coarsen these. Such links are
 //! laid aside: only the places at the front of a list are live.
-ghost use Rattle.std.specs.Prelude.{◌≡◌, ℕ, ◌≤◌, ◌↔◌, List, length, take, IfSome, IfOk, OnOk, OnErr, IsTrue};
+ghost use Rattle.std.specs.Prelude.{◌≡◌, ℕ, ◌≤◌, ◌↔◌, List, length, take, IfSome, IfOk, IsTrue};
 ghost use Rattle.link_key.specs.Link.{EndsUpTo};
 ghost use Rattle.link_key.specs.Labels.{AreLabels};
 ghost use Rattle.worker_engine.specs.Live.{AreLive, LeaveNoneOut, IsLive, IsAllLive, IsGreatestEnd, AreOffersOf};
