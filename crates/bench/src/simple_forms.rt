@@ -50,7 +50,8 @@ pub(crate) fn solve(
 ) -> Result<Vec<(u32, u32, i64)>, AllocError> {
     let mut keys = Vec::with_capacity(alloc, links.len())?;
     for link in links {
-        let weight = (link.weight as i32).wrapping_sub(i32::MIN).cast_unsigned();
+        let weight = i32::try_from(link.weight).unwrap_or(i32::MAX);
+        let weight = weight.wrapping_sub(i32::MIN).cast_unsigned();
         let ends = u64::from(link.low - 1).wrapping_shl(DISTANCE_BITS)
             | u64::from(link.high - link.low - 1);
         keys.push(u64::from(weight).wrapping_shl(LOW_BITS + DISTANCE_BITS) | ends)?;
