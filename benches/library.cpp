@@ -42,9 +42,12 @@ static Graph read_graph(const char* name) {
     return graph;
 }
 
-static bool is_below(const Link& one, const Link& other) {
-    return std::tie(one.weight, one.low, one.high) < std::tie(other.weight, other.low, other.high);
-}
+// A type, so that the comparison stands in the sort's own code.
+struct IsBelow {
+    bool operator()(const Link& one, const Link& other) const {
+        return std::tie(one.weight, one.low, one.high) < std::tie(other.weight, other.low, other.high);
+    }
+};
 
 static bool is_equal(const Link& one, const Link& other) {
     return std::tie(one.weight, one.low, one.high) == std::tie(other.weight, other.low, other.high);
@@ -76,7 +79,7 @@ public:
 
 // Kruskal's forest, put first in the list.
 static size_t by_sorting(uint32_t n, std::vector<Link>& links) {
-    std::sort(links.begin(), links.end(), is_below);
+    std::sort(links.begin(), links.end(), IsBelow());
     Components components(n);
     size_t taken = 0;
     for (const Link& link : links)
