@@ -28,3 +28,4 @@ mod Composing
 pub mod Stages
 pub mod Opened
 pub mod Filling
+pub mod Distinct
