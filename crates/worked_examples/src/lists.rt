@@ -1,8 +1,18 @@
 // Links of arcs, labels, offers and forests, and the forests of the worked graphs.
+ghost use Rattle.std.specs.Prelude.{IsTrue};
+ghost use Rattle.link_key.specs.Least.{AreDistinct};
+
 use crate::drawn_lists::expect_one_forest;
 use link_key::{Forest, Labels, Link, Offers};
 use std::test::Fail;
 use worked_graphs::{WORKED, links_of};
+
+// Whether the lower ends of the links ascend, so that no two links are one.
+pub(crate) fn have_lows_ascending(links: &[Link]) -> bool
+    ensures { IsTrue result → AreDistinct links.now }
+{
+    links.is_sorted_by(|earlier, later| earlier.low < later.low)
+}
 
 // The simple program finds them too.
 #[test]
@@ -30,6 +40,17 @@ fn ascending_lists(rt: HostRuntime) -> Result<(), Fail> {
     let forest = Forest::of_list(ascending).expect(&rt, "ascending");
     assert_eq!(rt; forest.links(), wanted.as_slice());
     assert!(rt; Forest::of_list(repeated).is_none());
+    Ok(())
+}
+
+// Links of the vertices 1 to 4 in the order of their lower ends.
+#[test]
+fn distinct_lists(rt: HostRuntime) -> Result<(), Fail> {
+    let links = links_of(rt.alloc(), 4, &[(1, 4, 0), (3, 2, 5), (3, 4, -7)])?.expect(&rt, "arcs");
+    let wanted = links_of(rt.alloc(), 4, &[(3, 4, -7), (1, 4, 0), (2, 3, 5)])?.expect(&rt, "arcs");
+    assert!(&rt; have_lows_ascending(links.as_slice()));
+    let forest = Forest::of_distinct(rt.alloc(), links)?;
+    assert_eq!(rt; forest.links(), wanted.as_slice());
     Ok(())
 }
 

@@ -2,6 +2,7 @@
 // call works in, less one, themselves and one more, and far past them. A body that gives up at some size is proved as
 // well as one that doesn't. What is expected is written by a formula, here.
 use crate::drawn_lists::expect_forest;
+use crate::lists::have_lows_ascending;
 use forest_run::{plain_text, run_plain};
 use gr_text::{
     FusedSource, GrReader, Graph, MAX_BYTES, parse, read_graph, read_graph_upto, write_forest,
@@ -192,6 +193,43 @@ fn files_in_pieces(rt: HostRuntime) -> Result<(), Fail> {
         assert_eq!(rt; reader.line(), 10_002);
         let fed = reader.finish()?;
         expect_graph(&rt, &fed, n, links.as_slice());
+    }
+    Ok(())
+}
+
+// A path whose weights are drawn from so many, the least being the least weight there is; as a forest it is what std's
+// sort gives.
+fn expect_distinct(rt: &impl Abort, alloc: Global, n: u32, weights: u64) -> Result<(), Fail> {
+    let mut arcs = Vec::new(alloc);
+    let mut weight = 0u64;
+    for v in 1..n {
+        weight = weight
+            .wrapping_mul(6364136223846793005)
+            .wrapping_add(1442695040888963407);
+        let drawn = weight.checked_rem(weights).unwrap_or(weight);
+        arcs.push((
+            v,
+            v.wrapping_add(1),
+            i64::MIN.wrapping_add(drawn.cast_signed()),
+        ))?;
+    }
+    let links = links_of(alloc, n, arcs.as_slice())?.expect(rt, "arcs");
+    let mut wanted = links.clone()?;
+    wanted.sort_unstable();
+    assert!(rt; have_lows_ascending(links.as_slice()));
+    let forest = Forest::of_distinct(alloc, links)?;
+    assert_eq!(rt; forest.links(), wanted.as_slice());
+    Ok(())
+}
+
+// Weights of three digits, whose keys fit 64 bits; of all 64, which leave no room for the ends where there are two links
+// or more; and of 41, with which the first digits of keys are often the same.
+#[test]
+fn distinct_links(rt: HostRuntime) -> Result<(), Fail> {
+    for n in SIZES {
+        for weights in [1_000, 0, 1 << 41] {
+            expect_distinct(&rt, rt.alloc(), n, weights)?;
+        }
     }
     Ok(())
 }
