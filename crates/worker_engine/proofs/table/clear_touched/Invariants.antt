@@ -1,17 +1,9 @@
-use Rattle.std.proofs.Common.{◌≤◌, length}
-use Rattle.worker_engine.proofs.Tables.{Untouched, IsReached, AreNone}
+use Rattle.std.proofs.Common.{◌*◌}
+use Rattle.worker_engine.specs.Tables.{AreNoted, AreNone}
 use Rattle.worker_engine.proofs.table.clear_touched.Given as goal
 
-abbrev pub invariant-loop-before : goal.invariant-loop-before
-invariant-loop-before l = record {
-  behind : l.from ≤ l.before;
-  none : AreNone l.bests l.before;
-  untouched : Untouched l.bests l.touched;
-}
-
-abbrev pub invariant-loop-block : goal.invariant-loop-block
-invariant-loop-block l = record {
-  reached : IsReached (length l.bests) l.block l.from;
-  none : AreNone l.bests l.from;
-  untouched : Untouched l.bests l.touched;
+abbrev pub invariant-loop-part : goal.invariant-loop-part
+invariant-loop-part l = record {
+  noted : AreNoted l.bests l.blocks l.parts;
+  none : AreNone l.bests 0 (64 * l.part);
 }
