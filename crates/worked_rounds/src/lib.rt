@@ -8,6 +8,7 @@
 //!   scans                        a worker's scan, by one thread and by threads, and links that are laid aside
 //!   engine                       what a worker hears, and whole sessions
 //!   sizes                        scans and engines at each size at which something in them changes
+//!   touched                      scans of a few links under many labels, one after the other
 //!   fault_texts                  what each fault of a session is told as
 //!   refusals                     work whose allocations are refused in turn
 //!   memory_counts                an allocator that counts its blocks
@@ -40,3 +41,5 @@ mod scans;
 mod shard_sets;
 #[cfg(test)]
 mod sizes;
+#[cfg(test)]
+mod touched;

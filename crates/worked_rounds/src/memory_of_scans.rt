@@ -46,7 +46,7 @@ fn blocks(
     Ok((by_one.given(), by_threads.given()))
 }
 
-// A table is two blocks. Links are scanned by threads wherever there are processors for it, and a part has at least as
+// A table is three blocks. Links are scanned by threads wherever there are processors for it, and a part has at least as
 // many links as there are vertices, so that its table costs no more than its links.
 #[test]
 fn a_table_for_each_part(rt: HostRuntime) -> Result<(), Fail> {
@@ -55,7 +55,7 @@ fn a_table_for_each_part(rt: HostRuntime) -> Result<(), Fail> {
         let links = falling(alloc, n, 0, count)?;
         let labels = apart(&rt, alloc, n)?;
         let (by_one, by_threads) = blocks(&rt, alloc, links.as_slice(), &labels)?;
-        let more = parts(&rt, most).wrapping_sub(1).wrapping_mul(2);
+        let more = parts(&rt, most).wrapping_sub(1).wrapping_mul(3);
         assert_eq!(rt;
             by_threads,
             by_one.wrapping_add(more),
@@ -74,12 +74,22 @@ fn offers_of_none<A: Allocator + Copy>(
     Ok(offers.pairs().len())
 }
 
-// A scanner asks for its table once, and again only where there are more labels.
+// A scanner asks for its table once, and again only where there are more labels. The block of notes of the parts that
+// 7 labels take has room for those of 100.
 #[test]
 fn the_table_of_a_scan_is_used_again(rt: HostRuntime) -> Result<(), Fail> {
     let memory = Refusing::new(rt.alloc(), Refusals::none());
     let mut scanner = Scanner::new(&memory);
-    for (n, given) in [(7, 2), (7, 2), (3, 2), (0, 2), (7, 2), (100, 4), (50, 4)] {
+    for (n, given) in [
+        (7, 3),
+        (7, 3),
+        (3, 3),
+        (0, 3),
+        (7, 3),
+        (100, 5),
+        (50, 5),
+        (1000, 8),
+    ] {
         let labels = apart(&rt, rt.alloc(), n)?;
         let offers = offers_of_none(&mut scanner, &labels)?;
         assert_eq!(rt; (offers, memory.given()), (0, given));
@@ -127,8 +137,8 @@ fn blocks_of_asks(
 // left to be scanned at the second.
 #[test]
 fn links_laid_aside_are_scanned_no_more(rt: HostRuntime) -> Result<(), Fail> {
-    let by_one = [3, 0, 0, 1];
-    let by_halves = [5, 4, 0, 5];
+    let by_one = [4, 0, 0, 1];
+    let by_halves = [7, 6, 0, 7];
     let taken = blocks_of_asks(&rt, rt.alloc(), By::OneThread)?;
     assert_eq!(rt; taken.as_slice(), by_one.as_slice());
     let expected = if parts(&rt, 2) == 2 {

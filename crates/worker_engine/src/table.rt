@@ -116,8 +116,9 @@ impl<A: Allocator + Copy> Table<A> {
     {
         let bests = self.bests.as_slice();
         let parts = self.parts.as_slice();
+        let count = bests.len().div_ceil(PART);
         let mut pairs = Vec::new(*self.bests.allocator());
-        for part in 0..bests.len().div_ceil(PART) {
+        for part in 0..count {
             if parts[part] {
                 gather_part(bests, self.blocks.as_slice(), part, &mut pairs)?;
             }

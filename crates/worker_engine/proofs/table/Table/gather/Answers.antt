@@ -18,7 +18,7 @@ loop-part-preserved g c =
       | then-parts-part+in_ok-gather_part w ↦ rw w.pairs-is w.in_ok-gather_part.ensures.on
       | else-parts-part w ↦
           let noted : HaveNotes 64 bests parts = rw (c.as_slice-bests.ensures.value, c.as_slice-parts.ensures.value) c.self.invariant.by_part in
-          let off : get_or parts part true ≡ false = sym (get_or_default parts part false true (omega (arith, c.loop-part-test.true, c.div_ceil-part-end.ensures, noted.room))) ∙ w.if-parts-part.false in
+          let off : get_or parts part true ≡ false = sym (get_or_default parts part false true (omega (arith, c.loop-part-test.true, c.div_ceil-count.ensures, noted.room))) ∙ w.if-parts-part.false in
           rw w.pairs-is (places_skip_none bests (64 * part) (64 * (part + 1)) c.loop-part.pairs.items (omega arith) (unset_none 64 (omega arith) bests parts part noted off) c.loop-part.invariant)
     ]
 
@@ -28,4 +28,4 @@ returns g c =
     let links = c.args.links.now in
     let labels = c.args.labels.now in
     let are : AreBest links labels 0 (length links) bests = subst (AreBest links labels 0 (length links)) (sym (c.as_slice-bests.ensures.value ∙ c.self.view_is)) c.requires.best in
-    record { light = places_are_light links labels bests c.requires.few_links c.requires.ends c.requires.labels are (64 * c.loop-part.part + 1) c.loop-part.pairs.items (omega (arith, c.loop-part-test.false, c.div_ceil-part-end.ensures)) c.loop-part.invariant }
+    record { light = places_are_light links labels bests c.requires.few_links c.requires.ends c.requires.labels are (64 * c.loop-part.part + 1) c.loop-part.pairs.items (omega (arith, c.loop-part-test.false, c.div_ceil-count.ensures)) c.loop-part.invariant }
