@@ -97,7 +97,7 @@ fn the_table_of_a_scan_is_used_again(rt: HostRuntime) -> Result<(), Fail> {
     Ok(())
 }
 
-// A shard's list is kept without a copy: beside it there is a list of places, and for the first one a part of a map.
+// A shard's list is kept without a copy: it takes no memory, but for a part of a map for the first one.
 #[test]
 fn a_shard_is_kept_without_a_copy(rt: HostRuntime) -> Result<(), Fail> {
     let memory = Refusing::new(rt.alloc(), Refusals::none());
@@ -107,7 +107,7 @@ fn a_shard_is_kept_without_a_copy(rt: HostRuntime) -> Result<(), Fail> {
         let before = memory.given();
         keep(&rt, By::OneThread, &mut engine, number, links)?;
         let taken = memory.given().wrapping_sub(before);
-        assert_eq!(rt; taken, if number == 0 { 2 } else { 1 });
+        assert_eq!(rt; taken, if number == 0 { 1 } else { 0 });
     }
     Ok(())
 }
@@ -148,5 +148,47 @@ fn links_laid_aside_are_scanned_no_more(rt: HostRuntime) -> Result<(), Fail> {
     };
     let taken = blocks_of_asks(&rt, rt.alloc(), By::Threads)?;
     assert_eq!(rt; taken.as_slice(), expected.as_slice());
+    Ok(())
+}
+
+// How many blocks an engine asks for at asks of links between three vertices, where some are refused: under the labels of
+// each by itself, twice under those of two components, and under those of one. It answers as a scan does each time.
+fn blocks_of_coarser_asks(
+    rt: &(impl Abort + Threads + Sync),
+    alloc: Global,
+    by: By,
+    refusals: Refusals,
+) -> Result<(Vec<u64>, Vec<u64>), Fail> {
+    let memory = Refusing::new(alloc, refusals);
+    let links = falling(alloc, 3, 0, 2000)?;
+    let mut engine = Engine::new(&memory);
+    keep(rt, by, &mut engine, 0, falling(&memory, 3, 0, 2000)?)?;
+    let mut before = Vec::new(alloc);
+    let mut taken = Vec::new(alloc);
+    for list in [[1, 2, 3], [1, 1, 3], [1, 1, 3], [1, 1, 1]] {
+        let expected = Labels::of_list(list.to_vec(alloc)?).expect(rt, "labels");
+        let labels = Labels::of_list(list.to_vec(&memory)?).expect(rt, "labels");
+        let asked = memory.asked();
+        let offers = answered(rt, by, &mut engine, 0, labels)?;
+        before.push(asked)?;
+        taken.push(memory.asked().wrapping_sub(asked))?;
+        assert!(rt; links.len() <= 1 << 24 && have_labels(links.as_slice(), expected.n()));
+        let expected = scan(alloc, links.as_slice(), &expected)?;
+        assert_eq!(rt; offers.pairs(), expected.pairs());
+    }
+    Ok((before, taken))
+}
+
+// The live links are listed, in one block, once some are laid aside. Where that one is refused, all stay live, and the
+// next ask asks for it again.
+#[test]
+fn live_links_are_listed_once(rt: HostRuntime) -> Result<(), Fail> {
+    for by in [By::OneThread, By::Threads] {
+        let (before, taken) = blocks_of_coarser_asks(&rt, rt.alloc(), by, Refusals::none())?;
+        assert_eq!(rt; taken.as_slice(), [3, 2, 1, 0].as_slice());
+        let list = before.get(1).expect(&rt, "a second ask").wrapping_add(2);
+        let (_, taken) = blocks_of_coarser_asks(&rt, rt.alloc(), by, Refusals::only(list))?;
+        assert_eq!(rt; taken.as_slice(), [3, 2, 2, 0].as_slice());
+    }
     Ok(())
 }

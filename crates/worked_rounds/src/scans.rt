@@ -297,6 +297,23 @@ fn many_links_laid_aside(rt: HostRuntime) -> Result<(), Fail> {
     Ok(())
 }
 
+// As components grow, fewer and fewer of the links are live: first so many that they are scanned by threads, then few.
+#[test]
+fn many_live_links_by_threads(rt: HostRuntime) -> Result<(), Fail> {
+    let alloc = rt.alloc();
+    let links = near_links(&rt, alloc)?;
+    let mut engine = Engine::new(alloc);
+    let mut scanner = Scanner::new(alloc);
+    keep(&rt, By::Threads, &mut engine, 0, links.clone()?)?;
+    for size in [1, 2, 4, 8, 8, 16, 1010, 4] {
+        let labels = neighbours(&rt, alloc, NEAR, size)?;
+        let expected = scanned(&rt, alloc, &mut scanner, links.as_slice(), &labels)?;
+        let offers = answered(&rt, By::Threads, &mut engine, 0, labels)?;
+        assert_eq!(rt; offers.pairs(), expected.pairs());
+    }
+    Ok(())
+}
+
 #[test]
 fn links_laid_aside_are_live_again(rt: HostRuntime) -> Result<(), Fail> {
     let alloc = rt.alloc();

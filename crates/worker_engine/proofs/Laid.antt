@@ -4,7 +4,7 @@ use Rattle.std.proofs.lemmas.Bool.{cases_lt}
 use Rattle.std.proofs.lemmas.List.{get_or_default, take_more_set}
 use Rattle.link_key.specs.declared.links.Link.{Link}
 use Rattle.link_key.specs.Labels.{label_of, Coarsens}
-use Rattle.worker_engine.specs.Live.{IsQuiet, AreQuiet, AreLive, LeaveNoneOut}
+use Rattle.worker_engine.specs.Live.{IsQuiet, AreQuiet, AreLive}
 use Rattle.worker_engine.proofs.BestSoFar.{one_read}
 
 -- what is quiet stays so under labels that coarsen
@@ -110,7 +110,3 @@ module _ (links : List Link) (labels : List ℕ) where
   quiet_alone i l within read ends same q m from_start before_end m_read =
       let at : q ≡ i = omega (arith, from_start, before_end) in
       subst (IsQuiet labels) (one_read links i l m within read (subst (λ k. m ≡ get_or links k m) at m_read)) (record { labelled = ends; one_label = same })
-
--- all places up to one more
-pub live_counted : (places : List ℕ) (i : ℕ) → LeaveNoneOut i (take i places) → i < length places → LeaveNoneOut (i + 1) (take (i + 1) (set places i i))
-live_counted places i none within links labels = subst (AreLive links labels 0 (i + 1)) (sym (take_more_set places i i within)) (live_push links labels 0 i (take i places) (none links labels))

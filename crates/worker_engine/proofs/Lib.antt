@@ -1,6 +1,7 @@
 pub mod BestSoFar
 pub mod Scans
 pub mod Laid
+pub mod Written
 pub mod Merging
 pub mod Tables
 pub mod Ends

@@ -1,7 +1,7 @@
 -- Tables of two parts of a shard's links, taken together.
 use Rattle.std.proofs.Common.{◌≡◌, ◌≢◌, ℕ, ◌+◌, ◌-◌, ◌<◌, ◌≤◌, ◌^◌, List, length, get_or, set, Option, Some, None, sym, ap, ◌∙◌, subst, inl, inr, arith}
 use Rattle.std.proofs.lemmas.Bool.{cases_eq, cases_lt}
-use Rattle.std.proofs.lemmas.List.{get_or_default, get_or-set_same, get_or-set_other, length-set}
+use Rattle.std.proofs.lemmas.List.{get_or_default, get_or-set_same, get_or-set_other, length-set, length-map}
 use Rattle.link_key.specs.declared.links.Link.{Link}
 use Rattle.round_theory.proofs.Leaving.{leaves_apart}
 use Rattle.round_theory.specs.Labelling.{IsVertex}
@@ -9,7 +9,8 @@ use Rattle.worker_engine.specs.declared.scanning.Best.{Best}
 use Rattle.worker_engine.specs.Scanning.{NoneLeavesIn, IsBest, no_best, Says, Keeps, KeepsLesser, best_of, AreBest}
 use Rattle.std.specs.Borrow.{Bor}
 use Rattle.worker_engine.specs.Parts.{SayPlaces, CanScan, count_of, place_at}
-use Rattle.worker_engine.specs.Live.{AreLive}
+use Rattle.worker_engine.specs.declared.live.LiveLink.{LiveLink}
+use Rattle.worker_engine.specs.Live.{AreLive, places_of}
 use Rattle.worker_engine.proofs.BestSoFar.{best_first}
 use Rattle.worker_engine.proofs.Laid.{live_first, live_end, live_ascends}
 use Rattle.worker_engine.proofs.Scans.{kept_place, kept_none, kept_at, keeps_out}
@@ -115,12 +116,13 @@ bests_live links labels places table live are =
     }
 
 -- so has a pass over all links
-pub bests_whole : (links : List Link) (labels : List ℕ) (live : Option (Bor (List ℕ))) (table : List Best) → CanScan links labels live
+pub bests_whole : (links : List Link) (labels : List ℕ) (live : Option (Bor (List LiveLink))) (table : List Best) → CanScan links labels live
     → AreBest links labels (place_at links live 0) (place_at links live (count_of links live)) table → AreBest links labels 0 (length links) table
 bests_whole links labels None table can are = are
-bests_whole links labels (Some places) table can are = bests_live links labels places.now table can.live_places are
+bests_whole links labels (Some told) table can are =
+    bests_live links labels (places_of told.now) table can.live_links.places (subst (λ k. AreBest links labels (get_or (places_of told.now) 0 (length links)) (get_or (places_of told.now) k (length links)) table) (sym (length-map told.now (λ (l : LiveLink). l.place))) are)
 
 -- places that are scanned ascend
-pub place_ascends : (links : List Link) (labels : List ℕ) (live : Option (Bor (List ℕ))) (i j : ℕ) → CanScan links labels live → i ≤ j → place_at links live i ≤ place_at links live j
+pub place_ascends : (links : List Link) (labels : List ℕ) (live : Option (Bor (List LiveLink))) (i j : ℕ) → CanScan links labels live → i ≤ j → place_at links live i ≤ place_at links live j
 place_ascends links labels None i j can le = le
-place_ascends links labels (Some places) i j can le = live_ascends links labels 0 (length links) places.now i j can.live_places le
+place_ascends links labels (Some told) i j can le = live_ascends links labels 0 (length links) (places_of told.now) i j can.live_links.places le

@@ -1,5 +1,5 @@
 -- What is kept, without what is live of it.
-use Rattle.std.proofs.Common.{◌≡◌, ℕ, List, [], ◌∷◌, length, Bool, true, false, cond, Option, Some, None, Less, Equal, Greater, nat_cmp, refl, sym, ap, ◌∙◌, subst, inl, inr, arith}
+use Rattle.std.proofs.Common.{◌≡◌, ℕ, List, [], ◌∷◌, Bool, true, false, cond, Option, Some, None, Less, Equal, Greater, nat_cmp, refl, sym, ap, ◌∙◌, subst, inl, inr, arith}
 use Rattle.std.specs.Prelude.{IfSome, IsSome, Result, Ok, Err, OnErr, ◌==◌}
 use Rattle.std.specs.Ordering.{is_eq}
 use Rattle.std.specs.Cmp.{nat_cmp_is}
@@ -13,8 +13,9 @@ use Rattle.link_key.specs.declared.links.Link.{Link}
 use Rattle.link_key.specs.Labels.{Coarsens}
 use Rattle.frames.specs.FrameValue.{ShardFrame}
 use Rattle.worker_engine.specs.Serving.{shelf_of, shelf_with}
-use Rattle.worker_engine.proofs.Laid.{live_coarser}
-use Rattle.worker_engine.specs.Live.{Holding, kept_in, IsLive, IsAllLive, AreAllLive, AreAllUnder}
+use Rattle.worker_engine.proofs.Written.{live_links_coarser}
+use Rattle.worker_engine.specs.declared.live.LiveLink.{LiveLink}
+use Rattle.worker_engine.specs.Live.{Holding, AreLiveLinks, kept_in, IsLive, IsAllLive, AreAllLive, AreAllUnder}
 
 abbrev links_of : Holding → List Link
 links_of held = held.links
@@ -68,7 +69,7 @@ live_under labels shards all s = go (lookup (is_at (nat_cmp s)) shards) (all s)
   where
     go : (o : Option Holding) → IfSome o IsAllLive → IfSome o (IsLive labels)
     go None none = tt
-    go (Some held) live = live held.links labels
+    go (Some held) live = subst (λ told. IfSome told (AreLiveLinks held.links labels)) (sym live) tt
 
 -- what is quiet stays so under labels that coarsen
 pub under_coarser : (labels finer : List ℕ) (shards : List (ℕ × Holding)) → Coarsens labels finer → AreAllUnder finer shards → AreAllUnder labels shards
@@ -76,7 +77,11 @@ under_coarser labels finer shards coarsens all s = go (lookup (is_at (nat_cmp s)
   where
     go : (o : Option Holding) → IfSome o (IsLive finer) → IfSome o (IsLive labels)
     go None none = tt
-    go (Some held) live = live_coarser held.links labels finer 0 (length held.links) held.live coarsens live
+    go (Some held) live = told held.live live
+      where
+        told : (live : Option (List LiveLink)) → IfSome live (AreLiveLinks held.links finer) → IfSome live (AreLiveLinks held.links labels)
+        told None none = tt
+        told (Some live) are = live_links_coarser held.links labels finer live coarsens are
 
 -- a shard that is found
 pub live_there : (labels : List ℕ) (shards : List (ℕ × Holding)) (s : ℕ) (held : Holding) → Some held ≡ lookup (is_at (nat_cmp s)) shards → AreAllUnder labels shards → IsLive labels held
@@ -109,5 +114,5 @@ module _ (old new : List (ℕ × Holding)) (number : ℕ) (held : Holding) (inse
   under_inserted labels live all s = subst (λ o. IfSome o (IsLive labels)) (sym (inserted s)) (go (is_at (nat_cmp number) s))
     where
       go : (b : Bool) → IfSome (cond b (Some held) (lookup (is_at (nat_cmp s)) old)) (IsLive labels)
-      go true = live held.links labels
+      go true = subst (λ told. IfSome told (AreLiveLinks held.links labels)) (sym live) tt
       go false = all s

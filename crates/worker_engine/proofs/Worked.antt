@@ -6,10 +6,10 @@ use Rattle.link_key.specs.Link.{EndsUpTo}
 use Rattle.round_theory.specs.Examples.{link_1_2, apart, first_part}
 use Rattle.round_theory.proofs.Worked.{first_light, apart_labels}
 use Rattle.frames.specs.FrameValue.{FrameValue, ShardFrame, AskFrame, AnswerFrame, FaultFrame}
-use Rattle.frames.specs.Lawful.{IsVersion, IsShard, IsAsk}
+use Rattle.frames.specs.Lawful.{IsVersion}
 use Rattle.frames.specs.FrameStream.{AreLawful}
 use Rattle.frames.proofs.FrameStreams.{frames_of_texts}
-use Rattle.worker_engine.specs.Serving.{empty_shelf, IsAnswerTo, MayReply, MayFollow, heard_by}
+use Rattle.worker_engine.specs.Serving.{empty_shelf, IsAnswerTo, MayReply, MayFollow}
 use Rattle.worker_engine.proofs.Replying.{one_answer, kept_reply}
 use Rattle.worker_engine.specs.Examples.{one_shard, the_answer, AnswerOrCodeOne, CodeThreeOrCodeOne, sent_and_asked, wide_link, FirstVersionAnswers, FirstVersionEnds}
 

@@ -1,5 +1,5 @@
 -- Worked examples of what may be written for an ask: by a worker that keeps two links of a triangle as shard 0, and by one that keeps nothing.
-use Rattle.std.specs.Prelude.{◌≡◌, ◌⊎◌, ◌↔◌, ℕ, pos, ◌^◌, List, [], ◌∷◌, ◌++◌}
+use Rattle.std.specs.Prelude.{◌≡◌, ◌⊎◌, ◌↔◌, pos, ◌^◌, List, [], ◌∷◌, ◌++◌}
 use Rattle.std.proofs.Common.{lit≤, lit<}
 use Rattle.link_key.specs.declared.links.Link.{Link}
 use Rattle.round_theory.specs.Examples.{apart, first_part}

@@ -1,5 +1,5 @@
 -- Links of a shard that are laid aside, since they leave no label.
-use Rattle.std.specs.Prelude.{◌≡◌, ℕ, ◌+◌, ◌<◌, ◌≤◌, ◌↔◌, List, [], ◌∷◌, length, map, slice_index_or, Option, None, Some, IfSome}
+use Rattle.std.specs.Prelude.{◌≡◌, ℕ, ◌+◌, ◌<◌, ◌≤◌, ◌↔◌, List, [], ◌∷◌, length, map, slice_index_or, All, Option, None, Some, IfSome}
 use Rattle.std.specs.Ordering.{nat_cmp}
 use Rattle.std.specs.BTreeMap.{is_at}
 use Rattle.std.specs.Map.{lookup}
@@ -7,8 +7,9 @@ use Rattle.link_key.specs.declared.links.Link.{Link}
 use Rattle.link_key.specs.Link.{EndsUpTo}
 use Rattle.link_key.specs.Labels.{label_of}
 use Rattle.link_key.specs.Offers.{Offer}
+use Rattle.round_theory.specs.Labelling.{IsVertex}
 use Rattle.round_theory.specs.Offers.{AreLightOffers}
-use Rattle.limits.specs.declared.TheConstants.{MAX_SHARD_LINKS}
+use Rattle.worker_engine.specs.declared.live.LiveLink.{LiveLink}
 use Rattle.worker_engine.specs.Serving.{Kept}
 
 -- both ends of the link have one label
@@ -25,20 +26,32 @@ abbrev pub AreLive : List Link → List ℕ → ℕ → ℕ → List ℕ → Typ
 AreLive links labels from to [] = (from ≤ to) × AreQuiet links labels from to
 AreLive links labels from to (p ∷ places) = (from ≤ p) × AreQuiet links labels from p × AreLive links labels (p + 1) to places
 
--- the live places leave none out, so they are live of any links under any labels
-abbrev pub LeaveNoneOut : ℕ → List ℕ → Type 0
-LeaveNoneOut count places = (links : List Link) (labels : List ℕ) → AreLive links labels 0 count places
+-- two vertices of one label
+abbrev pub HaveOneLabel : List ℕ → ℕ → ℕ → Type 0
+HaveOneLabel labels u v = IsVertex (length labels) u × IsVertex (length labels) v × (label_of labels u ≡ label_of labels v)
 
--- a shard's links, and which of them are live
+-- what is written of a link: its weight, and for each end a vertex of that end's label
+pub record IsWritten (labels : List ℕ) (l : Link) (written : LiveLink) : Type 0 where
+  pub weight : written.weight ≡ l.weight
+  pub low : HaveOneLabel labels written.low l.low
+  pub high : HaveOneLabel labels written.high l.high
+
+abbrev pub places_of : List LiveLink → List ℕ
+places_of live = map (λ (l : LiveLink). l.place) live
+
+-- live links: each is written of the link at its place, and the links at all other places are quiet
+pub record AreLiveLinks (links : List Link) (labels : List ℕ) (live : List LiveLink) : Type 0 where
+  pub places : AreLive links labels 0 (length links) (places_of live)
+  pub written : All (λ written. (l : Link) → l ≡ slice_index_or links written.place l → IsWritten labels l written) live
+
+-- what is written of a live link, with labels in place of its vertices
+abbrev pub relabelled : List ℕ → LiveLink → LiveLink
+relabelled labels l = record { low = label_of labels l.low; high = label_of labels l.high; weight = l.weight; place = l.place }
+
+-- a shard's links, and which of them are live: all, or those that are told
 pub record Holding : Type 0 where
   pub links : List Link
-  pub live : List ℕ
-
--- a list of as many places as there are links, of which so many at the front are live
-pub record HasPlaces (links : List Link) (places : List ℕ) (live : ℕ) : Type 0 where
-  pub few_links : length links ≤ MAX_SHARD_LINKS
-  pub each : length places ≡ length links
-  pub front : live ≤ length places
+  pub live : Option (List LiveLink)
 
 -- a number that tells which numbers of vertices the ends of the links keep to
 abbrev pub IsGreatestEnd : List Link → ℕ → Type 0
@@ -49,13 +62,13 @@ abbrev pub AreOffersOf : List Link → List ℕ → Option (List Offer) → Type
 AreOffersOf links labels None = ¬ EndsUpTo (length labels) links
 AreOffersOf links labels (Some offers) = EndsUpTo (length labels) links × AreLightOffers links labels offers
 
--- each link that isn't live is quiet
+-- each link that isn't live is quiet, and each that is told is written as it should be
 abbrev pub IsLive : List ℕ → Holding → Type 0
-IsLive labels held = AreLive held.links labels 0 (length held.links) held.live
+IsLive labels held = IfSome held.live (AreLiveLinks held.links labels)
 
 -- all links are live
 abbrev pub IsAllLive : Holding → Type 0
-IsAllLive held = LeaveNoneOut (length held.links) held.live
+IsAllLive held = held.live ≡ None
 
 -- what is kept, without what is live of it
 abbrev pub kept_in : List (ℕ × Holding) → Kept

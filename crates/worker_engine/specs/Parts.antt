@@ -8,24 +8,25 @@ use Rattle.link_key.specs.Labels.{AreLabels}
 use Rattle.worker_engine.specs.declared.scanning.Best.{Best}
 use Rattle.worker_engine.specs.declared.scanning.TheConstants.{NO_PLACE}
 use Rattle.worker_engine.specs.Scanning.{Says}
-use Rattle.worker_engine.specs.Live.{AreLive}
+use Rattle.worker_engine.specs.declared.live.LiveLink.{LiveLink}
+use Rattle.worker_engine.specs.Live.{AreLiveLinks, places_of}
 
--- links that a scan passes over, at the live places where some are told
-pub record CanScan (links : List Link) (labels : List ℕ) (live : Option (Bor (List ℕ))) : Type 0 where
+-- links that a scan passes over, the live ones where these are told
+pub record CanScan (links : List Link) (labels : List ℕ) (live : Option (Bor (List LiveLink))) : Type 0 where
   pub few_links : length links ≤ MAX_SHARD_LINKS
   pub ends : EndsUpTo (length labels) links
   pub labelled : AreLabels labels
-  pub live_places : IfSome live (λ places. AreLive links labels 0 (length links) places.now)
+  pub live_links : IfSome live (λ told. AreLiveLinks links labels told.now)
 
 -- how many links that are
-abbrev pub count_of : List Link → Option (Bor (List ℕ)) → ℕ
+abbrev pub count_of : List Link → Option (Bor (List LiveLink)) → ℕ
 count_of links None = length links
-count_of links (Some places) = length places.now
+count_of links (Some told) = length told.now
 
 -- the place of the next of them; the end of the list behind the last
-abbrev pub place_at : List Link → Option (Bor (List ℕ)) → ℕ → ℕ
+abbrev pub place_at : List Link → Option (Bor (List LiveLink)) → ℕ → ℕ
 place_at links None i = i
-place_at links (Some places) i = slice_index_or places.now i (length links)
+place_at links (Some told) i = slice_index_or (places_of told.now) i (length links)
 
 -- where a table keeps a place, it keeps the weight of the link there
 abbrev pub SayPlaces : List Link → List Best → Type 0

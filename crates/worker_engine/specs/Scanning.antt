@@ -1,7 +1,8 @@
 -- What is known of each label once the links at some places of a shard are seen.
-use Rattle.std.specs.Prelude.{◌≡◌, ℕ, ◌-◌, ◌<◌, ◌≤◌, ◌⊎◌, List, length, slice_index_or, Option, None, Some, MatchOption}
+use Rattle.std.specs.Prelude.{◌≡◌, ℕ, ◌+◌, ◌-◌, ◌<◌, ◌≤◌, ◌⊎◌, List, length, slice_index_or, Option, None, Some, MatchOption}
 use Rattle.link_key.specs.declared.links.Link.{Link}
 use Rattle.link_key.specs.Link.{IsBelow}
+use Rattle.link_key.specs.Labels.{label_of}
 use Rattle.round_theory.specs.Labelling.{IsVertex}
 use Rattle.round_theory.specs.Offers.{Leaves}
 use Rattle.worker_engine.specs.declared.scanning.TheConstants.{NO_WEIGHT, NO_PLACE}
@@ -57,3 +58,9 @@ best_of table c = slice_index_or table (c - 1) no_best
 pub record AreBest (links : List Link) (labels : List ℕ) (from to : ℕ) (table : List Best) : Type 0 where
   pub each_vertex : length table ≡ length labels
   pub best : (c : ℕ) → IsVertex (length labels) c → Keeps links labels from to c (best_of table c)
+
+-- a table of the links before a place took in the link there, whose ends have these labels
+abbrev pub TakesIn : List Link → ℕ → ℕ → ℕ → List Best → List Best → Type 0
+TakesIn links low high place old new = (labels : List ℕ) (from : ℕ) (l : Link) → l ≡ slice_index_or links place l
+    → low ≡ label_of labels l.low → high ≡ label_of labels l.high → from ≤ place
+    → AreBest links labels from place old → AreBest links labels from (place + 1) new

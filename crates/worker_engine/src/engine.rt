@@ -32,10 +32,10 @@ pub const NO_LABEL: u8 = 3;
 /// What a worker keeps between frames: the last shard that it heard under each number, and the table of its last
 /// scan. Contracts see which links it keeps under which number.
 ///
-/// Beside each shard it keeps which of its links are live, by 4 bytes a link: after an answer those whose ends have one
-/// label are laid aside, and a scan passes over the live ones alone. It keeps the labels of the last ask too, 4
-/// bytes a vertex, beside 16 bytes and a bit a vertex for the table. Where the labels of an ask don't coarsen them, all
-/// links are live again.
+/// Once an answer shows that a shard has links whose ends have one label, these are laid aside: it lists the live ones, each
+/// with labels of its ends, by 24 bytes a live link, and a scan passes over the list alone. Where there is no memory for
+/// the list, all stay live. It keeps the labels of the last ask too, 4 bytes a vertex, beside 16 bytes and a bit a vertex
+/// for the table. Where the labels of an ask don't coarsen them, the lists are given back, and all links are live again.
 #[derive(Drop)]
 pub struct Engine<A: Allocator = Global> {
     shards: BTreeMap<u32, Held<A>, A>,
@@ -106,7 +106,7 @@ impl<A: Allocator + Copy> Engine<A> {
         ensures kept { OnOk result (shelf_of self.new ≡ shelf_with (shelf_of self.old) (ShardFrame number links)) }
         ensures unchanged { OnErr result (self.new ≡ self.old) }
     {
-        let held = Held::new(links)?;
+        let held = Held::new(links);
         self.shards.insert(number, held)?;
         Ok(())
     }

@@ -17,14 +17,15 @@
 //!
 //! Where to start a change: what may be written for a stream stands in `specs/Serving`, over whole streams, and how a
 //! session ends in `specs/Served`. `scanning` has the pass over the links (`specs/Scanning`), `table` what is kept for
-//! each label (`specs/Tables`), `parallel` the passes over parts (`specs/Parts`), `held` lays links aside
-//! (`specs/Live`), `engine` keeps and replies, and `session` reads and writes.
+//! each label (`specs/Tables`), `live` the passes over live links (`specs/Live`), `parallel` those over
+//! parts (`specs/Parts`), `held` lays links aside, `engine` keeps and replies, and `session` reads and writes.
 #![tactic(auto)]
 
 mod engine;
 pub mod examples;
 mod held;
 pub mod laws;
+mod live;
 mod parallel;
 mod scanning;
 mod session;

@@ -4,7 +4,8 @@ ghost use denote.Param.Send.{IsSync, IsSend, Frees};
 ghost use Rattle.worker_engine.specs.Scanning.{AreBest};
 ghost use Rattle.worker_engine.specs.Parts.{CanScan, count_of, place_at, SayPlaces};
 
-use crate::scanning::{Best, NO_PLACE, find_best, find_best_live};
+use crate::live::{LiveLink, find_best_live};
+use crate::scanning::{Best, NO_PLACE, find_best};
 use crate::table::Table;
 use limits::MAX_SHARD_LINKS;
 use link_key::Link;
@@ -27,11 +28,11 @@ pub(crate) fn halvings_of<R: Threads>(rt: &R, count: usize, labels: usize) -> us
 }
 
 // How many links are to be scanned.
-pub(crate) fn how_many(links: &[Link], live: Option<&[u32]>) -> usize
+fn how_many(links: &[Link], live: Option<&[LiveLink]>) -> usize
     ensures { result ≡ count_of links.now live.entry }
 {
     match live {
-        Some(places) => places.len(),
+        Some(told) => told.len(),
         None => links.len(),
     }
 }
@@ -41,7 +42,7 @@ pub(crate) fn best_of_all<R: Threads + Sync, A: Allocator + Copy + Send + Sync>(
     rt: &R,
     alloc: A,
     links: &[Link],
-    live: Option<&[u32]>,
+    live: Option<&[LiveLink]>,
     labels: &[u32],
     halvings: usize,
 ) -> Result<Table<A>, AllocError>
@@ -59,7 +60,7 @@ pub(crate) fn best_between<R: Threads + Sync, A: Allocator + Copy + Send + Sync>
     rt: &R,
     alloc: A,
     links: &[Link],
-    live: Option<&[u32]>,
+    live: Option<&[LiveLink]>,
     labels: &[u32],
     from: usize,
     to: usize,
@@ -94,7 +95,7 @@ pub(crate) fn best_between<R: Threads + Sync, A: Allocator + Copy + Send + Sync>
 fn best_alone<A: Allocator + Copy>(
     alloc: A,
     links: &[Link],
-    live: Option<&[u32]>,
+    live: Option<&[LiveLink]>,
     labels: &[u32],
     from: usize,
     to: usize,
@@ -108,8 +109,10 @@ fn best_alone<A: Allocator + Copy>(
     let mut table = Table::new(alloc);
     table.clear(labels.len())?;
     match live {
-        Some(places) => find_best_live(links, places, labels, from, to, &mut table),
-        None => find_best(links, labels, from, to, &mut table),
+        Some(told) => find_best_live(links, told, labels, from, to, &mut table),
+        None => {
+            let _ = find_best(links, labels, from, to, &mut table);
+        }
     }
     Ok(table)
 }

@@ -1,12 +1,14 @@
 //! The light offers of a shard, in one pass over its links.
-ghost use Rattle.std.specs.Prelude.{◌≡◌, ℕ, ◌+◌, ◌<◌, ◌≤◌, length, replicate, slice_index_or, Some, IfSome, IfOk, OnOk};
+ghost use Rattle.std.specs.Prelude.{◌≡◌, ◌≢◌, ℕ, ◌+◌, ◌-◌, ◌<◌, ◌≤◌, ◌↔◌, length, replicate, Some, IfOk, OnOk, IsTrue};
 ghost use Rattle.link_key.specs.Link.{EndsUpTo};
 ghost use Rattle.link_key.specs.Labels.{AreLabels};
+ghost use Rattle.round_theory.specs.Labelling.{IsVertex};
 ghost use Rattle.round_theory.specs.Offers.{AreLightOffers};
-ghost use Rattle.worker_engine.specs.Scanning.{no_best, Says, KeepsLesser, AreBest};
-ghost use Rattle.worker_engine.specs.Live.{AreLive};
+ghost use Rattle.worker_engine.specs.Scanning.{no_best, Says, KeepsLesser, AreBest, TakesIn};
+ghost use Rattle.worker_engine.specs.Live.{AreLiveLinks};
 
-use crate::parallel::{best_of_all, halvings_of, how_many};
+use crate::live::{LiveLink, find_best_and_pack, pack};
+use crate::parallel::{best_of_all, halvings_of};
 use crate::table::Table;
 use limits::MAX_SHARD_LINKS;
 use link_key::{Labels, Link, Offers};
@@ -102,46 +104,45 @@ impl<A: Allocator + Copy> Scanner<A> {
         ensures light { IfOk result (AreLightOffers links.now labels.now) }
         ensures table { OnOk result (self.new ≡ length labels.now) }
     {
-        let labels = labels.as_slice();
-        self.table.clear(labels.len())?;
-        find_best(links, labels, 0, links.len(), &mut self.table);
-        offers_of(links, labels, &self.table)
+        let (offers, _) = self.scan_and_count(links, labels)?;
+        Ok(offers)
     }
 
-    // The same offers, by the links at the live places alone; by all links where none are told.
+    // The same offers, and how many links leave a label.
+    pub(crate) fn scan_and_count<B: Allocator>(
+        &mut self,
+        links: &[Link],
+        labels: &Labels<B>,
+    ) -> Result<(Offers<A>, usize), AllocError>
+        requires few_links { length links.now ≤ MAX_SHARD_LINKS }
+        requires ends { EndsUpTo (length labels.now) links.now }
+        ensures light { IfOk result (λ told. AreLightOffers links.now labels.now told.0) }
+        ensures table { OnOk result (self.new ≡ length labels.now) }
+    {
+        let labels = labels.as_slice();
+        self.table.clear(labels.len())?;
+        let leaving = find_best(links, labels, 0, links.len(), &mut self.table);
+        let offers = offers_of(links, labels, &self.table)?;
+        Ok((offers, leaving))
+    }
+
+    // The same offers, by the live links alone, of which those that are quiet under the labels are laid aside.
     pub(crate) fn scan_live<B: Allocator>(
         &mut self,
         links: &[Link],
-        live: Option<&[u32]>,
+        live: &mut Vec<LiveLink, A>,
         labels: &Labels<B>,
     ) -> Result<Offers<A>, AllocError>
         requires few_links { length links.now ≤ MAX_SHARD_LINKS }
         requires ends { EndsUpTo (length labels.now) links.now }
-        requires live { IfSome live (λ places. AreLive links.now labels.now 0 (length links.now) places.now) }
+        requires live { AreLiveLinks links.now labels.now live.old.items }
         ensures light { IfOk result (AreLightOffers links.now labels.now) }
-        ensures table { OnOk result (self.new ≡ length labels.now) }
-    {
-        match live {
-            Some(places) => self.scan_places(links, places, labels),
-            None => self.scan(links, labels),
-        }
-    }
-
-    fn scan_places<B: Allocator>(
-        &mut self,
-        links: &[Link],
-        places: &[u32],
-        labels: &Labels<B>,
-    ) -> Result<Offers<A>, AllocError>
-        requires few_links { length links.now ≤ MAX_SHARD_LINKS }
-        requires ends { EndsUpTo (length labels.now) links.now }
-        requires live { AreLive links.now labels.now 0 (length links.now) places.now }
-        ensures light { IfOk result (AreLightOffers links.now labels.now) }
-        ensures table { OnOk result (self.new ≡ length labels.now) }
+        ensures live { AreLiveLinks links.now labels.now live.new.items }
     {
         let labels = labels.as_slice();
         self.table.clear(labels.len())?;
-        find_all_live(links, places, labels, &mut self.table);
+        let kept = find_best_and_pack(links, live.as_mut_slice(), labels, &mut self.table);
+        live.truncate(kept);
         offers_of(links, labels, &self.table)
     }
 }
@@ -160,30 +161,56 @@ impl<A: Allocator + Copy + Send + Sync> Scanner<A> {
         ensures light { IfOk result (AreLightOffers links.now labels.now) }
         ensures table { OnOk result (self.new ≡ length labels.now) }
     {
-        self.scan_live_par(rt, links, None, labels)
+        let (offers, _) = self.scan_and_count_par(rt, links, labels)?;
+        Ok(offers)
     }
 
-    // The same offers, by the links at the live places alone; by all links where none are told.
+    // The same offers, and how many links leave a label.
+    pub(crate) fn scan_and_count_par<R: Threads + Sync, B: Allocator>(
+        &mut self,
+        rt: &R,
+        links: &[Link],
+        labels: &Labels<B>,
+    ) -> Result<(Offers<A>, usize), AllocError>
+        requires few_links { length links.now ≤ MAX_SHARD_LINKS }
+        requires ends { EndsUpTo (length labels.now) links.now }
+        ensures light { IfOk result (λ told. AreLightOffers links.now labels.now told.0) }
+        ensures table { OnOk result (self.new ≡ length labels.now) }
+    {
+        let halvings = halvings_of(rt, links.len(), labels.as_slice().len());
+        if halvings == 0 {
+            return self.scan_and_count(links, labels);
+        }
+        let labels = labels.as_slice();
+        let alloc = self.table.allocator();
+        self.table = best_of_all(rt, alloc, links, None, labels, halvings)?;
+        let offers = offers_of(links, labels, &self.table)?;
+        Ok((offers, count_leaving(links, labels)))
+    }
+
+    // The same offers, by the live links alone, of which those that are quiet under the labels are laid aside first.
     pub(crate) fn scan_live_par<R: Threads + Sync, B: Allocator>(
         &mut self,
         rt: &R,
         links: &[Link],
-        live: Option<&[u32]>,
+        live: &mut Vec<LiveLink, A>,
         labels: &Labels<B>,
     ) -> Result<Offers<A>, AllocError>
         requires few_links { length links.now ≤ MAX_SHARD_LINKS }
         requires ends { EndsUpTo (length labels.now) links.now }
-        requires live { IfSome live (λ places. AreLive links.now labels.now 0 (length links.now) places.now) }
+        requires live { AreLiveLinks links.now labels.now live.old.items }
         ensures light { IfOk result (AreLightOffers links.now labels.now) }
-        ensures table { OnOk result (self.new ≡ length labels.now) }
+        ensures live { AreLiveLinks links.now labels.now live.new.items }
     {
-        let halvings = halvings_of(rt, how_many(links, live), labels.as_slice().len());
+        let halvings = halvings_of(rt, live.len(), labels.as_slice().len());
         if halvings == 0 {
             return self.scan_live(links, live, labels);
         }
         let labels = labels.as_slice();
+        let kept = pack(live.as_mut_slice(), labels);
+        live.truncate(kept);
         let alloc = self.table.allocator();
-        self.table = best_of_all(rt, alloc, links, live, labels, halvings)?;
+        self.table = best_of_all(rt, alloc, links, Some(live.as_slice()), labels, halvings)?;
         offers_of(links, labels, &self.table)
     }
 }
@@ -203,14 +230,14 @@ fn offers_of<A: Allocator + Copy>(
     Ok(Offers::of_known(table.gather(links, labels)?))
 }
 
-// The pass over the links from a place on before another.
+// The pass over the links from a place on before another. It says how many of them leave a label.
 pub(crate) fn find_best<A: Allocator + Copy>(
     links: &[Link],
     labels: &[u32],
     from: usize,
     to: usize,
     table: &mut Table<A>,
-)
+) -> usize
     requires few_links { length links.now ≤ MAX_SHARD_LINKS }
     requires ends { EndsUpTo (length labels.now) links.now }
     requires labels { AreLabels labels.now }
@@ -218,56 +245,39 @@ pub(crate) fn find_best<A: Allocator + Copy>(
     requires in_list { to ≤ length links.now }
     requires none_yet { table.old ≡ replicate (length labels.now) no_best }
     ensures best { AreBest links.now labels.now from to table.new }
+    ensures leaving { result ≤ to - from }
 {
+    let mut leaving = 0;
     for place in from..to {
-        keep_link(links, labels, place as u32, table);
+        if keep_link(links, labels, place as u32, table) {
+            leaving += 1;
+        }
     }
+    leaving
 }
 
-// The pass over the links at all live places.
-fn find_all_live<A: Allocator + Copy>(
-    links: &[Link],
-    places: &[u32],
-    labels: &[u32],
-    table: &mut Table<A>,
-)
-    requires few_links { length links.now ≤ MAX_SHARD_LINKS }
+// How many links leave a label.
+fn count_leaving(links: &[Link], labels: &[u32]) -> usize
     requires ends { EndsUpTo (length labels.now) links.now }
-    requires labels { AreLabels labels.now }
-    requires live { AreLive links.now labels.now 0 (length links.now) places.now }
-    requires none_yet { table.old ≡ replicate (length labels.now) no_best }
-    ensures best { AreBest links.now labels.now 0 (length links.now) table.new }
+    ensures { result ≤ length links.now }
 {
-    find_best_live(links, places, labels, 0, places.len(), table);
-}
-
-// The pass over the links at the live places from one on before another. The others leave no label.
-pub(crate) fn find_best_live<A: Allocator + Copy>(
-    links: &[Link],
-    places: &[u32],
-    labels: &[u32],
-    from: usize,
-    to: usize,
-    table: &mut Table<A>,
-)
-    requires few_links { length links.now ≤ MAX_SHARD_LINKS }
-    requires ends { EndsUpTo (length labels.now) links.now }
-    requires labels { AreLabels labels.now }
-    requires live { AreLive links.now labels.now 0 (length links.now) places.now }
-    requires range { from ≤ to }
-    requires in_list { to ≤ length places.now }
-    requires none_yet { table.old ≡ replicate (length labels.now) no_best }
-    ensures best { AreBest links.now labels.now
-        (slice_index_or places.now from (length links.now)) (slice_index_or places.now to (length links.now)) table.new }
-{
-    for i in from..to {
-        keep_link(links, labels, places[i], table);
+    let mut leaving = 0;
+    for link in links {
+        if labels[link.low as usize - 1] != labels[link.high as usize - 1] {
+            leaving += 1;
+        }
     }
+    leaving
 }
 
-// Takes the link at the next place into the table: one whose ends have two labels leaves both, and no other.
+// Takes the link at the next place into the table, and says whether it leaves a label.
 #[inline]
-fn keep_link<A: Allocator + Copy>(links: &[Link], labels: &[u32], place: u32, table: &mut Table<A>)
+fn keep_link<A: Allocator + Copy>(
+    links: &[Link],
+    labels: &[u32],
+    place: u32,
+    table: &mut Table<A>,
+) -> bool
     requires few_links { length links.now ≤ MAX_SHARD_LINKS }
     requires ends { EndsUpTo (length labels.now) links.now }
     requires labels { AreLabels labels.now }
@@ -279,14 +289,36 @@ fn keep_link<A: Allocator + Copy>(links: &[Link], labels: &[u32], place: u32, ta
     let link = links[place as usize];
     let low = labels[link.low as usize - 1];
     let high = labels[link.high as usize - 1];
-    if low != high {
-        let next = Best {
-            weight: link.weight,
-            place,
-        };
-        table.keep(low as usize - 1, links, next);
-        table.keep(high as usize - 1, links, next);
+    let next = Best {
+        weight: link.weight,
+        place,
+    };
+    keep_next(links, low, high, next, table)
+}
+
+// Takes the next link into the table by the labels of its ends: where they differ it leaves both, and else none. It says
+// which.
+#[inline]
+pub(crate) fn keep_next<A: Allocator + Copy>(
+    links: &[Link],
+    low: u32,
+    high: u32,
+    next: Best,
+    table: &mut Table<A>,
+) -> bool
+    requires few_links { length links.now ≤ MAX_SHARD_LINKS }
+    requires next { Says links.now next (Some next.place) }
+    requires low { IsVertex (length table.old) low }
+    requires high { IsVertex (length table.old) high }
+    ensures best { TakesIn links.now low high next.place table.old table.new }
+    ensures leaves { IsTrue result ↔ (low ≢ high) }
+{
+    if low == high {
+        return false;
     }
+    table.keep(low as usize - 1, links, next);
+    table.keep(high as usize - 1, links, next);
+    true
 }
 
 // Keeps the next link where it is less than the best one so far, or the first one. Mostly it is neither, and then

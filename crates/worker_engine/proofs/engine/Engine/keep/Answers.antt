@@ -6,10 +6,10 @@ use Rattle.worker_engine.proofs.Shelves.{shelf_inserted, under_inserted}
 use Rattle.worker_engine.proofs.engine.Engine.keep.Goals as goal
 
 pub invariant_of-self-2 : goal.invariant_of-self-2
-invariant_of-self-2 g c = under_inserted c.self.inside.shards.entries c.insert.new.self.entries c.args.number c.in_ok-held.held c.in_ok-insert.ensures.updates.0 c.self.inside.labels c.in_ok-held.ensures.live c.self.invariant
+invariant_of-self-2 g c = under_inserted c.self.inside.shards.entries c.insert.new.self.entries c.args.number c.new-held.result c.in_ok-insert.ensures.updates.0 c.self.inside.labels c.new-held.ensures.live c.self.invariant
 
 pub returns-clause-kept : goal.returns-clause-kept
 returns-clause-kept g c =
-    shelf_inserted c.self.inside.shards.entries c.insert.new.self.entries c.args.number c.in_ok-held.held c.in_ok-insert.ensures.updates.0
-    ∙ ap (λ (k : Kept). shelf_with (shelf_of k) (ShardFrame c.args.number c.in_ok-held.held.links)) c.self.view_is
-    ∙ ap (λ (l : List Link). shelf_with (shelf_of c.args.self.now) (ShardFrame c.args.number l)) c.in_ok-held.ensures.links
+    shelf_inserted c.self.inside.shards.entries c.insert.new.self.entries c.args.number c.new-held.result c.in_ok-insert.ensures.updates.0
+    ∙ ap (λ (k : Kept). shelf_with (shelf_of k) (ShardFrame c.args.number c.new-held.result.links)) c.self.view_is
+    ∙ ap (λ (l : List Link). shelf_with (shelf_of c.args.self.now) (ShardFrame c.args.number l)) c.new-held.ensures.links

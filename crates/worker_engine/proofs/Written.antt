@@ -1,0 +1,237 @@
+-- Live links, each written with labels of its ends.
+use Rattle.std.proofs.Common.{◌≡◌, ◌≢◌, ◌↔◌, ℕ, ◌+◌, ◌<◌, ◌≤◌, List, [], ◌∷◌, ◌++◌, length, get_or, take, set, All, Bool, true, false, Some, inl, inr, refl, sym, ap, ◌∙◌, subst, arith}
+use Rattle.std.proofs.lemmas.Bool.{cases_eq}
+use Rattle.std.proofs.lemmas.List.{get_or_default, get_or-map, take-map, map-append, map-set, take_more_set, length-map, length-set, get_or-set_other}
+use Rattle.std.proofs.lemmas.List.Elements.{All-append, All-cons, All-nil}
+use Rattle.link_key.specs.declared.links.Link.{Link}
+use Rattle.link_key.specs.Labels.{label_of, AreLabels, Coarsens}
+use Rattle.round_theory.specs.Labelling.{IsVertex}
+use Rattle.worker_engine.specs.declared.scanning.Best.{Best}
+use Rattle.worker_engine.specs.declared.live.LiveLink.{LiveLink}
+use Rattle.worker_engine.specs.Scanning.{Says, AreBest, TakesIn}
+use Rattle.worker_engine.specs.Live.{AreQuiet, AreLive, HaveOneLabel, IsWritten, places_of, AreLiveLinks, relabelled}
+use Rattle.worker_engine.proofs.Laid.{live_coarser, live_first, live_next, live_within, live_end, live_push, live_goes_on, live_moved, live_left_out, quiet_alone}
+use Rattle.worker_engine.proofs.BestSoFar.{one_read}
+use Rattle.worker_engine.proofs.Scans.{bests_stay}
+
+-- vertices of one label have one under labels that coarsen
+one_label_coarser : (labels finer : List ℕ) (u v : ℕ) → Coarsens labels finer → HaveOneLabel finer u v → HaveOneLabel labels u v
+one_label_coarser labels finer u v coarsens (at_u, at_v, same) = (
+  (at_u.0, omega (arith, coarsens.vertices, at_u.1)),
+  (at_v.0, omega (arith, coarsens.vertices, at_v.1)),
+  coarsens.together u v at_u.0 at_u.1 at_v.0 at_v.1 same,
+)
+
+-- so what is written of a link stays right
+pub written_coarser : (labels finer : List ℕ) (l : Link) (e : LiveLink) → Coarsens labels finer → IsWritten finer l e → IsWritten labels l e
+written_coarser labels finer l e coarsens is = record {
+  weight = is.weight;
+  low = one_label_coarser labels finer e.low l.low coarsens is.low;
+  high = one_label_coarser labels finer e.high l.high coarsens is.high;
+}
+
+pub live_links_coarser : (links : List Link) (labels finer : List ℕ) (live : List LiveLink) → Coarsens labels finer → AreLiveLinks links finer live → AreLiveLinks links labels live
+live_links_coarser links labels finer live coarsens are = record {
+  places = live_coarser links labels finer 0 (length links) (places_of live) coarsens are.places;
+  written = λ i d within l read. written_coarser labels finer l (get_or live i d) coarsens (are.written i d within l read);
+}
+
+-- a link, written by its own labels
+abbrev pub written_at : List ℕ → Link → ℕ → LiveLink
+written_at labels l place = record { low = label_of labels l.low; high = label_of labels l.high; weight = l.weight; place = place }
+
+module _ (labels : List ℕ) (are : AreLabels labels) where
+  -- a label is a vertex, and its own label
+  pub label_vertex : (v : ℕ) → IsVertex (length labels) v → IsVertex (length labels) (label_of labels v)
+  label_vertex v (low, high) = let is = are.labelled v low high in (is.from_one, omega (arith, is.at_most_itself, high))
+
+  label_stands : (u v : ℕ) → HaveOneLabel labels u v → HaveOneLabel labels (label_of labels u) v
+  label_stands u v (at_u, at_v, same) = (label_vertex u at_u, at_v, (are.labelled u at_u.0 at_u.1).own ∙ same)
+
+  -- the labels of what is written of a link may stand in its place
+  pub relabelled_written : (l : Link) (e : LiveLink) → IsWritten labels l e → IsWritten labels l (relabelled labels e)
+  relabelled_written l e is = record { weight = is.weight; low = label_stands e.low l.low is.low; high = label_stands e.high l.high is.high }
+
+  pub own_written : (l : Link) (place : ℕ) → l.high ≤ length labels → IsWritten labels l (written_at labels l place)
+  own_written l place ends =
+      let at_low : IsVertex (length labels) l.low = (l.from_one, omega (arith, l.ascending, ends)) in
+      let at_high : IsVertex (length labels) l.high = (omega (arith, l.from_one, l.ascending), ends) in
+      record { weight = refl; low = label_stands l.low l.low (at_low, at_low, refl); high = label_stands l.high l.high (at_high, at_high, refl) }
+
+-- as many places as live links
+places_count : (live : List LiveLink) → length (places_of live) ≡ length live
+places_count live = length-map live (λ (l : LiveLink). l.place)
+
+-- the link at a place of the list
+link_at : (links : List Link) (p : ℕ) → p < length links → (l : Link) × (l ≡ get_or links p l)
+link_at [] p within = absurd (omega (arith, within))
+link_at (x ∷ links) p within = (get_or (x ∷ links) p x, get_or_default (x ∷ links) p x (get_or (x ∷ links) p x) within)
+
+-- a test for different labels that fails
+pub one_unless : (b : Bool) (u v : ℕ) → (b ≡ true) ↔ (u ≢ v) → b ≡ false → u ≡ v
+one_unless b u v is fails = elim (cases_eq u v) [
+  | inl same ↦ same
+  | inr apart ↦ let holds = is.1 apart in cc
+]
+
+-- of the first entries, up to one, so many are written at the front, and the others stand
+pub record AreMoved (old : List LiveLink) (i kept : ℕ) (live : List LiveLink) : Type 0 where
+  pub count : kept ≤ i
+  pub each : length live ≡ length old
+  pub rest : (k : ℕ) (d : LiveLink) → i ≤ k → k < length live → get_or live k d ≡ get_or old k d
+
+pub moved_none : (old : List LiveLink) → AreMoved old 0 0 old
+moved_none old = record { count = omega arith; each = refl; rest = λ k d le lt. refl }
+
+pub moved_kept : (old : List LiveLink) (i kept : ℕ) (live : List LiveLink) (next : LiveLink) → AreMoved old i kept live → AreMoved old (i + 1) (kept + 1) (set live kept next)
+moved_kept old i kept live next is = record {
+  count = omega (arith, is.count);
+  each = length-set live kept next ∙ is.each;
+  rest = λ k d le lt. get_or-set_other live kept k next d (omega (arith, le, is.count)) ∙ is.rest k d (omega (arith, le)) (omega (arith, lt, length-set live kept next));
+}
+
+pub moved_left_out : (old : List LiveLink) (i kept : ℕ) (live : List LiveLink) → AreMoved old i kept live → AreMoved old (i + 1) kept live
+moved_left_out old i kept live is = record { count = omega (arith, is.count); each = is.each; rest = λ k d le lt. is.rest k d (omega (arith, le)) lt }
+
+module _ (links : List Link) (labels : List ℕ) where
+  -- so many at the front are the live links before the next one
+  pub record ArePacked (old : List LiveLink) (i kept : ℕ) (live : List LiveLink) : Type 0 where
+    pub places : AreLive links labels 0 (get_or (places_of old) i (length links)) (take kept (places_of live))
+    pub written : All (λ e. (l : Link) → l ≡ get_or links e.place l → IsWritten labels l e) (take kept live)
+
+  module _ (old : List LiveLink) (are : AreLiveLinks links labels old) where
+    -- at first none, and in the end all
+    pub packed_none : ArePacked old 0 0 old
+    packed_none = record {
+      places = live_first links labels 0 (length links) (places_of old) are.places;
+      written = All-nil (λ (e : LiveLink). (l : Link) → l ≡ get_or links e.place l → IsWritten labels l e);
+    }
+
+    pub packed_all : (i kept : ℕ) (live : List LiveLink) → i ≡ length old → ArePacked old i kept live → AreLiveLinks links labels (take kept live)
+    packed_all i kept live at is = record {
+      places =
+          let end = ap (λ k. get_or (places_of old) k (length links)) (at ∙ sym (places_count old)) ∙ live_end links labels (length links) (places_of old) in
+          subst (AreLive links labels 0 (length links)) (take-map (λ (l : LiveLink). l.place) kept live) (subst (λ k. AreLive links labels 0 k (take kept (places_of live))) end is.places);
+      written = is.written;
+    }
+
+    -- so has a table
+    pub bests_none : (table : List Best) → AreBest links labels 0 0 table → AreBest links labels 0 (get_or (places_of old) 0 (length links)) table
+    bests_none table none =
+        let (le, quiet) = live_first links labels 0 (length links) (places_of old) are.places in
+        bests_stay links labels 0 0 (get_or (places_of old) 0 (length links)) table le (λ q l from_start before_end in_list read. (quiet q l from_start before_end read).one_label) none
+
+    pub bests_all : (i : ℕ) (table : List Best) → i ≡ length old → AreBest links labels 0 (get_or (places_of old) i (length links)) table → AreBest links labels 0 (length links) table
+    bests_all i table at best =
+        let end = ap (λ k. get_or (places_of old) k (length links)) (at ∙ sym (places_count old)) ∙ live_end links labels (length links) (places_of old) in
+        subst (λ k. AreBest links labels 0 k table) end best
+
+    module _ (i : ℕ) (within : i < length old) (d : LiveLink) where
+      abbrev here : LiveLink
+      here = get_or old i d
+
+      in_places : i < length (places_of old)
+      in_places = omega (arith, within, places_count old)
+
+      -- its place is one of the list, and it is written of the link there
+      place_is : get_or (places_of old) i 0 ≡ here.place
+      place_is = get_or-map (λ (l : LiveLink). l.place) old i d 0 within
+
+      place_in_list : here.place < length links
+      place_in_list = subst (λ p. p < length links) place_is (live_within links labels 0 (length links) (places_of old) i 0 are.places in_places).1
+
+      pub written_here : (l : Link) × (l ≡ get_or links here.place l) × IsWritten labels l here
+      written_here = let (l, read) = link_at links here.place place_in_list in (l, read, are.written i d within l read)
+
+      pub low_is_vertex : IsVertex (length labels) here.low
+      low_is_vertex = let (l, read, is) = written_here in is.low.0
+
+      pub high_is_vertex : IsVertex (length labels) here.high
+      high_is_vertex = let (l, read, is) = written_here in is.high.0
+
+      module _ (next : LiveLink) (next_is : next ≡ relabelled labels here) where
+        -- what is kept of it says its weight and place
+        pub next_says : (b : Best) → b.weight ≡ next.weight → b.place ≡ next.place → Says links b (Some b.place)
+        next_says b weight_is b_place_is =
+            let at : b.place ≡ here.place = b_place_is ∙ ap (λ (l : LiveLink). l.place) next_is in (
+              refl,
+              subst (λ p. p < length links) (sym at) place_in_list,
+              λ l read. weight_is ∙ ap (λ (k : LiveLink). k.weight) next_is ∙ (are.written i d within l (subst (λ p. l ≡ get_or links p l) at read)).weight,
+            )
+
+        -- once it is taken in, all before the next one is seen
+        pub bests_next : (from p : ℕ) (table table' : List Best) → p ≡ next.place → from ≤ get_or (places_of old) i (length links) → TakesIn links next.low next.high p table table'
+            → AreBest links labels from (get_or (places_of old) i (length links)) table → AreBest links labels from (get_or (places_of old) (i + 1) (length links)) table'
+        bests_next from p table table' p_is le takes best =
+            let (l, read, is) = written_here in
+            let at : p ≡ here.place = p_is ∙ ap (λ (l : LiveLink). l.place) next_is in
+            let end : get_or (places_of old) i (length links) ≡ p = get_or_default (places_of old) i (length links) 0 in_places ∙ place_is ∙ sym at in
+            let taken = takes labels from l (subst (λ k. l ≡ get_or links k l) (sym at) read) (ap (λ (k : LiveLink). k.low) next_is ∙ is.low.2) (ap (λ (k : LiveLink). k.high) next_is ∙ is.high.2)
+            (subst (λ k. from ≤ k) end le) (subst (λ k. AreBest links labels from k table) end best) in
+            let (le', quiet) = live_next links labels 0 (length links) (places_of old) i 0 are.places in_places in
+            bests_stay links labels from (get_or (places_of old) i 0 + 1) (get_or (places_of old) (i + 1) (length links)) table' le'
+            (λ q m from_start before_end in_list m_read. (quiet q m from_start before_end m_read).one_label)
+            (subst (λ k. AreBest links labels from (k + 1) table') (at ∙ sym place_is) taken)
+
+        -- one more is kept by its labels, or left out
+        pub packed_kept : (labelled : AreLabels labels) (kept : ℕ) (live : List LiveLink) → AreMoved old i kept live → ArePacked old i kept live → ArePacked old (i + 1) (kept + 1) (set live kept next)
+        packed_kept labelled kept live moved is = record {
+          places =
+              subst (λ p. AreLive links labels 0 (get_or (places_of old) (i + 1) (length links)) (take (kept + 1) p))
+              (ap (set (places_of live) kept) (place_is ∙ sym (ap (λ (l : LiveLink). l.place) next_is)) ∙ sym (map-set (λ (l : LiveLink). l.place) live kept next))
+              (live_moved links labels (length links) (places_of old) i are.places in_places kept (places_of live) is.places (omega (arith, places_count live, room)));
+          written = subst (All P) (sym (take_more_set live kept next room)) (All-append P (take kept live) (next ∷ []) is.written (All-cons P next [] written (All-nil P)));
+        }
+          where
+            P : LiveLink → Type 0
+            P e = (l : Link) → l ≡ get_or links e.place l → IsWritten labels l e
+
+            room : kept < length live
+            room = omega (arith, moved.count, moved.each, within)
+
+            written : (l : Link) → l ≡ get_or links next.place l → IsWritten labels l next
+            written l read =
+                subst (IsWritten labels l) (sym next_is)
+                (relabelled_written labels labelled l here (are.written i d within l (subst (λ (k : LiveLink). l ≡ get_or links k.place l) next_is read)))
+
+        pub packed_left_out : (kept : ℕ) (live : List LiveLink) → next.low ≡ next.high → ArePacked old i kept live → ArePacked old (i + 1) kept live
+        packed_left_out kept live same is = record {
+          places = live_left_out links labels (length links) (places_of old) i are.places in_places kept (places_of live) is.places (subst (λ p. AreQuiet links labels p (p + 1)) (sym place_is) alone);
+          written = is.written;
+        }
+          where
+            one : label_of labels here.low ≡ label_of labels here.high
+            one = subst (λ (k : LiveLink). k.low ≡ k.high) next_is same
+
+            alone : AreQuiet links labels here.place (here.place + 1)
+            alone q m from_start before_end read =
+                let at : q ≡ here.place = omega (arith, from_start, before_end) in
+                let w = are.written i d within m (subst (λ k. m ≡ get_or links k m) at read) in
+                record { labelled = w.high.1.1; one_label = sym w.low.2 ∙ one ∙ w.high.2 }
+
+  -- what is written of their ends are vertices
+  pub live_ends : (live : List LiveLink) → AreLiveLinks links labels live → All (λ l. IsVertex (length labels) l.low × IsVertex (length labels) l.high) live
+  live_ends live are = λ i d within. (low_is_vertex live are i within d, high_is_vertex live are i within d)
+
+  -- live links before a place of the list
+  pub record AreWrittenBefore (to : ℕ) (live : List LiveLink) : Type 0 where
+    pub places : AreLive links labels 0 to (places_of live)
+    pub written : All (λ e. (l : Link) → l ≡ get_or links e.place l → IsWritten labels l e) live
+
+  -- one more is written behind them, or left out
+  module _ (place : ℕ) (l : Link) (within : place < length links) (read : l ≡ get_or links place l) (ends : l.high ≤ length labels) (live : List LiveLink) (before : AreWrittenBefore place live) where
+    pub written_more : AreLabels labels → AreWrittenBefore (place + 1) (live ++ written_at labels l place ∷ [])
+    written_more are = record {
+      places = subst (AreLive links labels 0 (place + 1)) (sym (map-append (λ (e : LiveLink). e.place) live (written_at labels l place ∷ []))) (live_push links labels 0 place (places_of live) before.places);
+      written = All-append P live (written_at labels l place ∷ []) before.written
+          (All-cons P (written_at labels l place) [] (λ k k_read. subst (λ m. IsWritten labels m (written_at labels l place)) (one_read links place l k within read k_read) (own_written labels are l place ends)) (All-nil P));
+    }
+      where
+        P : LiveLink → Type 0
+        P e = (k : Link) → k ≡ get_or links e.place k → IsWritten labels k e
+
+    pub written_left_out : label_of labels l.low ≡ label_of labels l.high → AreWrittenBefore (place + 1) live
+    written_left_out same = record {
+      places = live_goes_on links labels 0 place (place + 1) (places_of live) before.places (omega arith) (quiet_alone links labels place l within read ends same);
+      written = before.written;
+    }

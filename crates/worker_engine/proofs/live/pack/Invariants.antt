@@ -1,0 +1,12 @@
+use Rattle.std.proofs.Common.{List}
+use Rattle.link_key.specs.declared.links.Link.{Link}
+use Rattle.worker_engine.specs.Live.{AreLiveLinks}
+use Rattle.worker_engine.proofs.Written.{AreMoved, ArePacked}
+use Rattle.worker_engine.proofs.live.pack.Given as goal
+
+-- what isn't quiet before the next live link stands at the front
+abbrev pub invariant-loop-i : goal.invariant-loop-i
+invariant-loop-i l = record {
+  moved : AreMoved l.initial.live l.i l.kept l.live;
+  packed : (links : List Link) → AreLiveLinks links l.labels l.initial.live → ArePacked links l.labels l.initial.live l.i l.kept l.live;
+}

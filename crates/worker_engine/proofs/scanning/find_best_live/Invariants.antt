@@ -1,7 +1,0 @@
-use Rattle.std.proofs.Common.{◌≤◌, length, get_or}
-use Rattle.worker_engine.specs.Scanning.{AreBest}
-use Rattle.worker_engine.proofs.scanning.find_best_live.Given as goal
-
--- all before the next live place is seen
-abbrev pub invariant-loop-i : goal.invariant-loop-i
-invariant-loop-i g l = (l.from ≤ l.i) × AreBest l.links l.labels (get_or l.places l.from (length l.links)) (get_or l.places l.i (length l.links)) l.table

@@ -1,0 +1,177 @@
+//! Links of a shard that are live, each written with labels of its ends.
+//!
+//! A link whose ends have one label leaves no component, and never will under labels that coarsen these: it is quiet, and
+//! laid aside. Of the others a label of each end is written beside the weight and the place. Under labels that coarsen,
+//! the label of such a label is that of the end itself, so a pass in order over what is written looks at no link, and
+//! looks up labels of labels alone, of which there are fewer and fewer.
+ghost use Rattle.std.specs.Prelude.{◌≡◌, ℕ, ◌≤◌, List, length, take, replicate, slice_index_or, All, IfSome, IfOk};
+ghost use Rattle.limits.specs.declared.TheConstants.{MAX_SHARD_LINKS};
+ghost use Rattle.link_key.specs.declared.links.Link.{Link};
+ghost use Rattle.link_key.specs.Link.{EndsUpTo};
+ghost use Rattle.link_key.specs.Labels.{AreLabels};
+ghost use Rattle.round_theory.specs.Labelling.{IsVertex};
+ghost use Rattle.worker_engine.specs.Scanning.{no_best, AreBest};
+ghost use Rattle.worker_engine.specs.Live.{AreLiveLinks, places_of, relabelled};
+
+use crate::scanning::{Best, keep_next};
+use crate::table::Table;
+use link_key::Link;
+use std::alloc::{AllocError, Allocator};
+
+// What is written of a live link: a label of its lower end, one of its higher end, its weight and its place.
+#[derive(Clone, Copy)]
+pub(crate) struct LiveLink {
+    pub(crate) low: u32,
+    pub(crate) high: u32,
+    pub(crate) weight: i64,
+    pub(crate) place: u32,
+}
+
+impl LiveLink {
+    // The same under labels that coarsen those it was written under.
+    #[inline]
+    fn under(self, labels: &[u32]) -> Self
+        requires low { IsVertex (length labels.now) self.low }
+        requires high { IsVertex (length labels.now) self.high }
+        ensures { result ≡ relabelled labels.now self }
+    {
+        LiveLink {
+            low: labels[self.low as usize - 1],
+            high: labels[self.high as usize - 1],
+            weight: self.weight,
+            place: self.place,
+        }
+    }
+
+    #[inline]
+    fn best(self) -> Best
+        ensures weight { result.weight ≡ self.weight }
+        ensures place { result.place ≡ self.place }
+    {
+        Best {
+            weight: self.weight,
+            place: self.place,
+        }
+    }
+}
+
+// The pass over the live links from one on before another. The others leave no label.
+pub(crate) fn find_best_live<A: Allocator + Copy>(
+    links: &[Link],
+    live: &[LiveLink],
+    labels: &[u32],
+    from: usize,
+    to: usize,
+    table: &mut Table<A>,
+)
+    requires few_links { length links.now ≤ MAX_SHARD_LINKS }
+    requires labels { AreLabels labels.now }
+    requires live { AreLiveLinks links.now labels.now live.now }
+    requires range { from ≤ to }
+    requires in_list { to ≤ length live.now }
+    requires none_yet { table.old ≡ replicate (length labels.now) no_best }
+    ensures best { AreBest links.now labels.now (slice_index_or (places_of live.now) from (length links.now))
+        (slice_index_or (places_of live.now) to (length links.now)) table.new }
+{
+    for i in from..to {
+        let next = live[i].under(labels);
+        keep_next(links, next.low, next.high, next.best(), table);
+    }
+}
+
+// The pass over all live links, which also writes their new labels, and moves those that aren't quiet to the front, in
+// order. It says how many these are.
+pub(crate) fn find_best_and_pack<A: Allocator + Copy>(
+    links: &[Link],
+    live: &mut [LiveLink],
+    labels: &[u32],
+    table: &mut Table<A>,
+) -> usize
+    requires few_links { length links.now ≤ MAX_SHARD_LINKS }
+    requires labels { AreLabels labels.now }
+    requires live { AreLiveLinks links.now labels.now live.old }
+    requires none_yet { table.old ≡ replicate (length labels.now) no_best }
+    ensures best { AreBest links.now labels.now 0 (length links.now) table.new }
+    ensures front { result ≤ length live.old }
+    ensures live { AreLiveLinks links.now labels.now (take result live.new) }
+{
+    let mut kept = 0;
+    for i in 0..live.len() {
+        let next = live[i].under(labels);
+        if keep_next(links, next.low, next.high, next.best(), table) {
+            live[kept] = next;
+            kept += 1;
+        }
+    }
+    kept
+}
+
+// Writes the new labels of all live links, and moves those that aren't quiet to the front, in order. It says how many
+// these are.
+pub(crate) fn pack(live: &mut [LiveLink], labels: &[u32]) -> usize
+    requires labels { AreLabels labels.now }
+    requires ends { All (λ l. IsVertex (length labels.now) l.low × IsVertex (length labels.now) l.high) live.old }
+    ensures front { result ≤ length live.old }
+    ensures live { (links : List Link) → AreLiveLinks links labels.now live.old → AreLiveLinks links labels.now (take result live.new) }
+{
+    let mut kept = 0;
+    for i in 0..live.len() {
+        let next = live[i].under(labels);
+        if next.low != next.high {
+            live[kept] = next;
+            kept += 1;
+        }
+    }
+    kept
+}
+
+// The live links of a shard, where so many leave a label and the others are to be laid aside; none where all leave one, or
+// where there is no memory for the list.
+pub(crate) fn live_links<A: Allocator + Copy>(
+    alloc: A,
+    links: &[Link],
+    labels: &[u32],
+    leaving: usize,
+) -> Option<Vec<LiveLink, A>>
+    requires few_links { length links.now ≤ MAX_SHARD_LINKS }
+    requires ends { EndsUpTo (length labels.now) links.now }
+    requires labels { AreLabels labels.now }
+    ensures live { IfSome result (λ live. AreLiveLinks links.now labels.now live.items) }
+{
+    if leaving == links.len() {
+        return None;
+    }
+    match write_live(alloc, links, labels, leaving) {
+        Ok(live) => Some(live),
+        Err(_) => None,
+    }
+}
+
+// The live links of a shard, with room for so many to begin with.
+fn write_live<A: Allocator + Copy>(
+    alloc: A,
+    links: &[Link],
+    labels: &[u32],
+    room: usize,
+) -> Result<Vec<LiveLink, A>, AllocError>
+    requires few_links { length links.now ≤ MAX_SHARD_LINKS }
+    requires ends { EndsUpTo (length labels.now) links.now }
+    requires labels { AreLabels labels.now }
+    ensures live { IfOk result (λ live. AreLiveLinks links.now labels.now live.items) }
+{
+    let mut live = Vec::with_capacity(alloc, room)?;
+    for place in 0..links.len() {
+        let link = links[place];
+        let low = labels[link.low as usize - 1];
+        let high = labels[link.high as usize - 1];
+        if low != high {
+            live.push(LiveLink {
+                low,
+                high,
+                weight: link.weight,
+                place: place as u32,
+            })?;
+        }
+    }
+    Ok(live)
+}
