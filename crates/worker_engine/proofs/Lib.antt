@@ -2,6 +2,7 @@ pub mod BestSoFar
 pub mod Scans
 pub mod Laid
 pub mod Written
+pub mod Ahead
 pub mod Merging
 pub mod Tables
 pub mod Ends

@@ -9,6 +9,7 @@ use Rattle.round_theory.specs.Labelling.{IsVertex}
 use Rattle.worker_engine.specs.declared.scanning.Best.{Best}
 use Rattle.worker_engine.specs.declared.live.LiveLink.{LiveLink}
 use Rattle.worker_engine.specs.Scanning.{Says, AreBest, TakesIn}
+use Rattle.worker_engine.specs.Batches.{written_at}
 use Rattle.worker_engine.specs.Live.{AreQuiet, AreLive, HaveOneLabel, IsWritten, places_of, AreLiveLinks, relabelled}
 use Rattle.worker_engine.proofs.Laid.{live_coarser, live_first, live_next, live_within, live_end, live_push, live_goes_on, live_moved, live_left_out, quiet_alone}
 use Rattle.worker_engine.proofs.BestSoFar.{one_read}
@@ -36,10 +37,6 @@ live_links_coarser links labels finer live coarsens are = record {
   written = λ i d within l read. written_coarser labels finer l (get_or live i d) coarsens (are.written i d within l read);
 }
 
--- a link, written by its own labels
-abbrev pub written_at : List ℕ → Link → ℕ → LiveLink
-written_at labels l place = record { low = label_of labels l.low; high = label_of labels l.high; weight = l.weight; place = place }
-
 module _ (labels : List ℕ) (are : AreLabels labels) where
   -- a label is a vertex, and its own label
   pub label_vertex : (v : ℕ) → IsVertex (length labels) v → IsVertex (length labels) (label_of labels v)
@@ -63,7 +60,7 @@ places_count : (live : List LiveLink) → length (places_of live) ≡ length liv
 places_count live = length-map live (λ (l : LiveLink). l.place)
 
 -- the link at a place of the list
-link_at : (links : List Link) (p : ℕ) → p < length links → (l : Link) × (l ≡ get_or links p l)
+pub link_at : (links : List Link) (p : ℕ) → p < length links → (l : Link) × (l ≡ get_or links p l)
 link_at [] p within = absurd (omega (arith, within))
 link_at (x ∷ links) p within = (get_or (x ∷ links) p x, get_or_default (x ∷ links) p x (get_or (x ∷ links) p x) within)
 

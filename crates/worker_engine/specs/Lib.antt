@@ -1,6 +1,7 @@
 pub mod Scanning
 pub mod Serving
 pub mod Live
+pub mod Batches
 pub mod Parts
 pub mod Tables
 pub mod Session

@@ -13,7 +13,8 @@ ghost use Rattle.round_theory.specs.Labelling.{IsVertex};
 ghost use Rattle.worker_engine.specs.Scanning.{no_best, AreBest};
 ghost use Rattle.worker_engine.specs.Live.{AreLiveLinks, places_of, relabelled};
 
-use crate::scanning::{Best, keep_next};
+use crate::batches::{BATCH, NOTHING, keep_each, look_up_live};
+use crate::scanning::Best;
 use crate::table::Table;
 use link_key::Link;
 use std::alloc::{AllocError, Allocator};
@@ -30,7 +31,7 @@ pub(crate) struct LiveLink {
 impl LiveLink {
     // The same under labels that coarsen those it was written under.
     #[inline]
-    fn under(self, labels: &[u32]) -> Self
+    pub(crate) fn under(self, labels: &[u32]) -> Self
         requires low { IsVertex (length labels.now) self.low }
         requires high { IsVertex (length labels.now) self.high }
         ensures { result ≡ relabelled labels.now self }
@@ -44,7 +45,7 @@ impl LiveLink {
     }
 
     #[inline]
-    fn best(self) -> Best
+    pub(crate) fn best(self) -> Best
         ensures weight { result.weight ≡ self.weight }
         ensures place { result.place ≡ self.place }
     {
@@ -73,13 +74,17 @@ pub(crate) fn find_best_live<A: Allocator + Copy>(
     ensures best { AreBest links.now labels.now (slice_index_or (places_of live.now) from (length links.now))
         (slice_index_or (places_of live.now) to (length links.now)) table.new }
 {
-    for i in from..to {
-        let next = live[i].under(labels);
-        keep_next(links, next.low, next.high, next.best(), table);
+    let mut batch = [NOTHING; BATCH];
+    let mut at = from;
+    while at < to {
+        let next = at + BATCH.min(to - at);
+        look_up_live(live, labels, at, next, &mut batch);
+        keep_each(links, &batch, next - at, table);
+        at = next;
     }
 }
 
-// The pass over all live links, which also writes their new labels, and moves those that aren't quiet to the front, in
+// The pass over all live links, once their new labels are written, and those that aren't quiet are moved to the front, in
 // order. It says how many these are.
 pub(crate) fn find_best_and_pack<A: Allocator + Copy>(
     links: &[Link],
@@ -95,14 +100,8 @@ pub(crate) fn find_best_and_pack<A: Allocator + Copy>(
     ensures front { result ≤ length live.old }
     ensures live { AreLiveLinks links.now labels.now (take result live.new) }
 {
-    let mut kept = 0;
-    for i in 0..live.len() {
-        let next = live[i].under(labels);
-        if keep_next(links, next.low, next.high, next.best(), table) {
-            live[kept] = next;
-            kept += 1;
-        }
-    }
+    let kept = pack(live, labels);
+    keep_each(links, live, kept, table);
     kept
 }
 
@@ -113,6 +112,7 @@ pub(crate) fn pack(live: &mut [LiveLink], labels: &[u32]) -> usize
     requires ends { All (λ l. IsVertex (length labels.now) l.low × IsVertex (length labels.now) l.high) live.old }
     ensures front { result ≤ length live.old }
     ensures live { (links : List Link) → AreLiveLinks links labels.now live.old → AreLiveLinks links labels.now (take result live.new) }
+    ensures own { All (λ l. relabelled labels.now l ≡ l) (take result live.new) }
 {
     let mut kept = 0;
     for i in 0..live.len() {

@@ -7,6 +7,7 @@ ghost use Rattle.round_theory.specs.Offers.{AreLightOffers};
 ghost use Rattle.worker_engine.specs.Scanning.{no_best, Says, KeepsLesser, AreBest, TakesIn};
 ghost use Rattle.worker_engine.specs.Live.{AreLiveLinks};
 
+use crate::batches::{BATCH, NOTHING, keep_each, look_up};
 use crate::live::{LiveLink, find_best_and_pack, pack};
 use crate::parallel::{best_of_all, halvings_of};
 use crate::table::Table;
@@ -248,11 +249,14 @@ pub(crate) fn find_best<A: Allocator + Copy>(
     ensures best { AreBest links.now labels.now from to table.new }
     ensures leaving { result ≤ to - from }
 {
+    let mut batch = [NOTHING; BATCH];
     let mut leaving = 0;
-    for place in from..to {
-        if keep_link(links, labels, place as u32, table) {
-            leaving += 1;
-        }
+    let mut at = from;
+    while at < to {
+        let next = at + BATCH.min(to - at);
+        look_up(links, labels, at, next, &mut batch);
+        leaving += keep_each(links, &batch, next - at, table);
+        at = next;
     }
     leaving
 }
@@ -271,32 +275,6 @@ fn count_leaving(links: &[Link], labels: &[u32]) -> usize
     leaving
 }
 
-// Takes the link at the next place into the table, and says whether it leaves a label.
-#[inline]
-fn keep_link<A: Allocator + Copy>(
-    links: &[Link],
-    labels: &[u32],
-    place: u32,
-    table: &mut Table<A>,
-) -> bool
-    requires few_links { length links.now ≤ MAX_SHARD_LINKS }
-    requires ends { EndsUpTo (length labels.now) links.now }
-    requires labels { AreLabels labels.now }
-    requires next { place < length links.now }
-    requires each_vertex { length table.old ≡ length labels.now }
-    ensures best { (from : ℕ) → from ≤ place → AreBest links.now labels.now from place table.old
-        → AreBest links.now labels.now from (place + 1) table.new }
-{
-    let link = links[place as usize];
-    let low = labels[link.low as usize - 1];
-    let high = labels[link.high as usize - 1];
-    let next = Best {
-        weight: link.weight,
-        place,
-    };
-    keep_next(links, low, high, next, table)
-}
-
 // Takes the next link into the table by the labels of its ends: where they differ it leaves both, and else none. It says
 // which.
 #[inline]
@@ -312,6 +290,7 @@ pub(crate) fn keep_next<A: Allocator + Copy>(
     requires low { IsVertex (length table.old) low }
     requires high { IsVertex (length table.old) high }
     ensures best { TakesIn links.now low high next.place table.old table.new }
+    ensures size { length table.new ≡ length table.old }
     ensures leaves { IsTrue result ↔ (low ≢ high) }
 {
     if low == high {

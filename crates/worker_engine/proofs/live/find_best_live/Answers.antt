@@ -1,41 +1,43 @@
-use Rattle.std.proofs.Common.{◌<◌, length, get_or, arith}
+use Rattle.std.proofs.Common.{◌+◌, length, get_or, arith}
 use Rattle.worker_engine.specs.Live.{places_of}
 use Rattle.worker_engine.proofs.Laid.{live_ascends}
 use Rattle.worker_engine.proofs.Scans.{best_of_none}
-use Rattle.worker_engine.proofs.Written.{label_vertex, low_is_vertex, high_is_vertex, next_says, bests_next}
+use Rattle.worker_engine.proofs.Written.{live_ends}
+use Rattle.worker_engine.proofs.Ahead.{live_can_be_taken_in, live_are_taken_in}
 use Rattle.worker_engine.proofs.live.find_best_live.Goals as goal
 
-pub loop-i-init : goal.loop-i-init
-loop-i-init g c = (omega arith, rw c.requires.none_yet (best_of_none c.args.links.now c.args.labels.now (get_or (places_of c.args.live.now) c.args.from (length c.args.links.now))))
+pub loop-at-init : goal.loop-at-init
+loop-at-init g c = record {
+  from_start = omega arith;
+  to_end = c.requires.range;
+  best = rw c.requires.none_yet (best_of_none c.args.links.now c.args.labels.now (get_or (places_of c.args.live.now) c.args.from (length c.args.links.now)));
+}
 
-pub under-next-requires-clause-low : goal.under-next-requires-clause-low
-under-next-requires-clause-low g c = low_is_vertex c.args.links.now c.args.labels.now c.args.live.now c.requires.live c.loop-i.i (omega (arith, c.loop-i-test.true, c.requires.in_list)) _
+pub look_up_live-requires-clause-ends : goal.look_up_live-requires-clause-ends
+look_up_live-requires-clause-ends g c = live_ends c.args.links.now c.args.labels.now c.args.live.now c.requires.live
 
-pub under-next-requires-clause-high : goal.under-next-requires-clause-high
-under-next-requires-clause-high g c = high_is_vertex c.args.links.now c.args.labels.now c.args.live.now c.requires.live c.loop-i.i (omega (arith, c.loop-i-test.true, c.requires.in_list)) _
+pub keep_each-requires-clause-next : goal.keep_each-requires-clause-next
+keep_each-requires-clause-next g c =
+    let count = c.min.ensures in
+    λ k d lt.
+    live_can_be_taken_in c.args.links.now c.args.labels.now c.args.live.now c.requires.live c.requires.labels (length c.loop-at.table) c.loop-at.invariant.best.each_vertex
+    (c.loop-at.at + k) (omega (arith, lt, count, c.requires.in_list)) d _ (c.look_up_live.ensures.looked_up k d lt)
 
-pub keep_next-requires-clause-next : goal.keep_next-requires-clause-next
-keep_next-requires-clause-next g c =
-    next_says c.args.links.now c.args.labels.now c.args.live.now c.requires.live c.loop-i.i (omega (arith, c.loop-i-test.true, c.requires.in_list)) _ c.under-next.result c.under-next.ensures c.best.result c.best.ensures.weight c.best.ensures.place
-
-pub keep_next-requires-clause-low : goal.keep_next-requires-clause-low
-keep_next-requires-clause-low g c =
-    let vertex = low_is_vertex c.args.links.now c.args.labels.now c.args.live.now c.requires.live c.loop-i.i (omega (arith, c.loop-i-test.true, c.requires.in_list)) _ in
-    rw (c.under-next.ensures, c.loop-i.invariant.1.each_vertex) (label_vertex c.args.labels.now c.requires.labels _ vertex)
-
-pub keep_next-requires-clause-high : goal.keep_next-requires-clause-high
-keep_next-requires-clause-high g c =
-    let vertex = high_is_vertex c.args.links.now c.args.labels.now c.args.live.now c.requires.live c.loop-i.i (omega (arith, c.loop-i-test.true, c.requires.in_list)) _ in
-    rw (c.under-next.ensures, c.loop-i.invariant.1.each_vertex) (label_vertex c.args.labels.now c.requires.labels _ vertex)
-
-pub loop-i-preserved : goal.loop-i-preserved
-loop-i-preserved g c =
+pub loop-at-preserved : goal.loop-at-preserved
+loop-at-preserved g c =
     let links = c.args.links.now in
     let labels = c.args.labels.now in
     let live = c.args.live.now in
-    let within : c.loop-i.i < length live = omega (arith, c.loop-i-test.true, c.requires.in_list) in
-    let ascends = live_ascends links labels 0 (length links) (places_of live) c.args.from c.loop-i.i c.requires.live.places c.loop-i.invariant.0 in (
-      omega (arith, c.loop-i.invariant.0),
-      bests_next links labels live c.requires.live c.loop-i.i within _ c.under-next.result c.under-next.ensures
-          (get_or (places_of live) c.args.from (length links)) c.best.result.place c.loop-i.table c.keep_next.new.table c.best.ensures.place ascends c.keep_next.ensures.best c.loop-i.invariant.1,
-    )
+    let seen = c.loop-at.invariant in
+    let at = c.loop-at.at in
+    let next = at + c.min.result in
+    let count = c.min.ensures in
+    record {
+      from_start = omega (arith, seen.from_start);
+      to_end = omega (arith, count);
+      best =
+          live_are_taken_in links labels live c.requires.live (get_or (places_of live) c.args.from (length links)) c.look_up_live.new.batch at next c.loop-at.table c.keep_each.new.table (omega arith)
+          (omega (arith, count, c.requires.in_list)) (omega (arith, count, c.look_up_live.ensures.room))
+          (λ j later. live_ascends links labels 0 (length links) (places_of live) c.args.from j c.requires.live.places (omega (arith, seen.from_start, later)))
+          c.look_up_live.ensures.looked_up c.keep_each.ensures.taken seen.best;
+    }

@@ -3,8 +3,9 @@ use Rattle.std.proofs.lemmas.Int.{to_z-of_z}
 use Rattle.link_key.specs.declared.links.Link.{Link}
 use Rattle.link_key.specs.Labels.{label_of}
 use Rattle.worker_engine.specs.declared.live.LiveLink.{LiveLink}
+use Rattle.worker_engine.specs.Batches.{written_at}
 use Rattle.worker_engine.proofs.Scans.{end_at}
-use Rattle.worker_engine.proofs.Written.{AreWrittenBefore, written_at, written_more, written_left_out}
+use Rattle.worker_engine.proofs.Written.{AreWrittenBefore, written_more, written_left_out}
 use Rattle.worker_engine.proofs.live.write_live.Goals as goal
 use Rattle.worker_engine.proofs.live.write_live.Goals.{then-low-high+in_ok-push, else-low-high}
 
