@@ -19,7 +19,8 @@ AreLookedUp links labels from to batch = (k : ℕ) (d : LiveLink) (l : Link) →
 
 -- so are the live links from one on before another, under labels that coarsen
 abbrev pub AreRelabelled : List ℕ → List LiveLink → ℕ → ℕ → List LiveLink → Type 0
-AreRelabelled labels live from to batch = (k : ℕ) (d : LiveLink) → k < to - from → slice_index_or batch k d ≡ relabelled labels (slice_index_or live (from + k) d)
+AreRelabelled labels live from to batch = (k : ℕ) (d : LiveLink) → k < to - from
+    → slice_index_or batch k d ≡ relabelled labels (slice_index_or live (from + k) d)
 
 -- what is written of a link has labels of so many, and the weight of the link at its place
 pub record CanBeTakenIn (links : List Link) (labels : ℕ) (written : LiveLink) : Type 0 where

@@ -56,7 +56,7 @@ impl LiveLink {
     }
 }
 
-// The pass over the live links from one on before another. The others leave no label.
+// The pass over the live links from one on before another, a batch at a time. The others leave no label.
 pub(crate) fn find_best_live<A: Allocator + Copy>(
     links: &[Link],
     live: &[LiveLink],

@@ -231,8 +231,8 @@ fn offers_of<A: Allocator + Copy>(
     Ok(Offers::of_known(table.gather(links, labels)?))
 }
 
-// The pass over the links from a place on before another. It says how many of them leave a label, on which no answer
-// rests: whether to list the live ones, and room for how many to ask for.
+// The pass over the links from a place on before another, a batch at a time. It says how many of them leave a label, on
+// which no answer rests: whether to list the live ones, and room for how many to ask for.
 pub(crate) fn find_best<A: Allocator + Copy>(
     links: &[Link],
     labels: &[u32],
