@@ -13,13 +13,18 @@ use std::thread::Threads;
 use worked_graphs::links_of;
 use worker_engine::{Engine, Scanner};
 
-// How many vertices and links there are. 131,072 links are scanned in two halves, 262,144 in four parts on four
+// How many vertices and links there are. The labels of 64 links are looked up before they are kept. 131,072 links are scanned in two halves, 262,144 in four parts on four
 // processors, 524,288 in eight on eight, where a part has as many links as there are vertices.
-const SIZES: [(u32, u32); 15] = [
+const SIZES: [(u32, u32); 20] = [
     (0, 0),
     (1, 0),
     (2, 0),
     (2, 1),
+    (100, 63),
+    (100, 64),
+    (100, 65),
+    (100, 128),
+    (100, 129),
     (3, 65_535),
     (3, 65_536),
     (3, 65_537),
