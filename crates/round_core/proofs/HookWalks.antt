@@ -51,3 +51,9 @@ over_then labels S T part u v w joined rest =
 -- what fewer links join
 pub over_more : (labels : List ℕ) (S T : LinkSet) → IsPartOf S T → (u v : ℕ) → JoinsOver labels S u v → JoinsOver labels T u v
 over_more labels S T part u v joined = over_then labels S T part u v v joined (over_same labels T v v refl)
+
+-- and the other way round
+pub over_back : (labels : List ℕ) (S : LinkSet) (u v : ℕ) → JoinsOver labels S u v → JoinsOver labels S v u
+over_back labels S =
+    over_least labels S (λ u v. JoinsOver labels S v u) (λ u v same. over_same labels S v u (sym same)) (λ u v w first second. over_then labels S S (λ l is_in. is_in) w v u second first)
+    (λ l is_in. over_link_back labels S l is_in) (λ l is_in. over_link labels S l is_in)

@@ -7,6 +7,10 @@ pub mod Hooking
 pub mod HookMembers
 pub mod Full
 pub mod Picking
+pub mod Leading
+pub mod Giving
+pub mod Jumping
+pub mod Naming
 pub mod Merging
 pub mod Missing
 pub mod Sorting

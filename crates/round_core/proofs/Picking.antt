@@ -201,11 +201,11 @@ none_given picks i is m first =
     absurd (cc)
 
 -- a link that is picked is so somewhere first
-pick_dec : (x : Option Link) (l : Link) → (x ≡ Some l) ⊎ (x ≢ Some l)
+pub pick_dec : (x : Option Link) (l : Link) → (x ≡ Some l) ⊎ (x ≢ Some l)
 pick_dec None l = inr (λ is. absurd (cc))
 pick_dec (Some m) l = elim (link_dec m l) [ inl is ↦ inl (ap Some is) | inr other ↦ inr (λ is. let same : m ≡ l = cc in other same) ]
 
-first_place : (picks : List (Option Link)) (i : ℕ) (l : Link) → get_or picks i None ≡ Some l → (j : ℕ) × (j ≤ i) × IsFirstPickedAt picks l j
+pub first_place : (picks : List (Option Link)) (i : ℕ) (l : Link) → get_or picks i None ≡ Some l → (j : ℕ) × (j ≤ i) × IsFirstPickedAt picks l j
 first_place [] i l here = absurd (cc)
 first_place (x ∷ picks) zero l here = (0, omega arith, record { here = here; first = λ k lt. absurd (omega (arith, lt)) })
 first_place (x ∷ picks) (suc i) l here = elim (pick_dec x l) [

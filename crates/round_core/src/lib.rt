@@ -15,8 +15,8 @@
 //!   where they span; by the least links it makes just the merging rounds, and ends with the forest.
 //!
 //! Where to start a change: `specs/Page` says what a book is and when it refuses, `specs/Picks` what picks are,
-//! `specs/Hooks` how components are joined, and `specs/Solver` what a round and the end are; `laws` ties them to the
-//! theory. `book`, `picks`, `hooks`, `solver` and `alone` do it.
+//! `specs/Hooks` how components are joined, `specs/Roots` how a solver joins those that are left, and `specs/Solver` what a
+//! round and the end are; `laws` ties them to the theory. `book`, `picks`, `hooks`, `roots`, `solver` and `alone` do it.
 #![tactic(auto)]
 
 pub mod alone;
@@ -26,6 +26,7 @@ pub mod hooks;
 pub mod laws;
 pub mod picks;
 pub mod refusals;
+mod roots;
 pub mod solver;
 
 pub use alone::solve_alone;

@@ -8,8 +8,8 @@ ghost use Rattle.round_core.specs.Picks.{ArePicksOfHearings};
 ghost use Rattle.round_core.specs.Solver.{vertices, IsProgress, IsAtStart, IsPastBound, IsFirstPickedAt, ArePickedOnce, IsTurn, IsStepFault, missed, IsFinished, IsFinishFault};
 ghost use Rattle.round_core.specs.declared.solver.SolveFault.TheVariants.{Memory};
 
-use crate::hooks::hook_relabel;
 use crate::picks::Picks;
+use crate::roots::Roots;
 use limits::MAX_VERTICES;
 use link_key::{Cut, Forest, Labels, Link};
 use std::alloc::{AllocError, Allocator, Global};
@@ -54,22 +54,25 @@ impl From<AllocError> for SolveFault {
 /// [`laws::rounds_end_with_forest`](crate::laws::rounds_end_with_forest) says. It believes no count of rounds: a round with
 /// picks that comes past the bound is refused.
 ///
-/// 4 bytes a vertex, and 16 bytes for each link taken.
+/// 16 bytes a vertex, and 16 bytes for each link taken.
 #[derive(Drop)]
 pub struct Solver<A: Allocator = Global> {
     labels: Labels<A>,
+    roots: Roots<A>,
     taken: Vec<Link, A>,
     rounds: u32,
 }
 
 impl<A: Allocator> Model for Solver<A> {
+    ghost use Rattle.round_core.specs.Roots.{AreRoots};
     ghost use Rattle.round_core.specs.Solver.{Progress, IsProgress};
 
     ghost Value = { Progress };
 
     ghost view = { λ s. record { labels = s.labels; taken = s.taken.items; rounds = s.rounds } };
 
-    ghost invariant = { λ s. IsProgress (record { labels = s.labels; taken = s.taken.items; rounds = s.rounds }) };
+    ghost invariant = { λ s. IsProgress (record { labels = s.labels; taken = s.taken.items; rounds = s.rounds })
+        × AreRoots s.labels s.roots };
 }
 
 impl<A: Allocator + Copy> Solver<A> {
@@ -79,8 +82,10 @@ impl<A: Allocator + Copy> Solver<A> {
         ensures { IfOk result (IsAtStart n) }
     {
         let labels = Labels::apart(alloc, n)?;
+        let roots = Roots::apart(alloc, n)?;
         Ok(Solver {
             labels,
+            roots,
             taken: Vec::new(alloc),
             rounds: 0,
         })
@@ -90,8 +95,10 @@ impl<A: Allocator + Copy> Solver<A> {
     /// book with these labels, whatever was answered.
     ///
     /// Where there are none it does nothing. A round with picks that is past the bound is refused before memory is asked
-    /// for. After an error the solver is as it was. For n vertices it costs what [`hook_relabel`] does, and memory for
-    /// new labels and for the links taken.
+    /// for. After an error the solver is as it was.
+    ///
+    /// It looks at the picks of the k vertices that are their own label, and once at each of n vertices: O(n + k log k)
+    /// time. Memory: 4 bytes a vertex for the new labels, and 16 bytes for each link taken.
     pub fn step(&mut self, picks: &Picks<A>) -> Result<Turn, SolveFault>
         requires picks { ArePicksOfHearings self.old.labels picks.now }
         ensures turn { IfOk result (IsTurn picks.now self.old self.new) }
@@ -106,10 +113,11 @@ impl<A: Allocator + Copy> Solver<A> {
             return Err(SolveFault::Rounds { round });
         }
         let alloc = *self.taken.allocator();
-        let labels = hook_relabel(alloc, &self.labels, picks)?;
-        let mut links = picked_links(alloc, self.labels.as_slice(), picks)?;
+        let mut links = self.roots.picked(alloc, self.labels.as_slice(), picks)?;
+        let labels = self.roots.relabel(alloc, &self.labels, picks)?;
         let count = links.len() as u32;
         self.taken.append(&mut links)?;
+        self.roots.keep(labels.as_slice());
         self.labels = labels;
         self.rounds = round;
         Ok(Turn::Merged(count))
@@ -164,51 +172,6 @@ fn is_past_bound(round: u32, n: u32) -> bool
     ensures { IsTrue result ↔ IsPastBound n round }
 {
     1 << round > n.max(1)
-}
-
-// The links picked, each once, in the order of the least labels that pick them.
-fn picked_links<A: Allocator + Copy>(
-    alloc: A,
-    labels: &[u32],
-    picks: &Picks<A>,
-) -> Result<Vec<Link, A>, AllocError>
-    requires labels { AreLabels labels.now }
-    requires picks { ArePicksOfHearings labels.now picks.now }
-    ensures once { IfOk result (λ links. ArePickedOnce picks.now links.items) }
-    ensures few { IfOk result (λ links. length links.items ≤ length picks.now) }
-{
-    let mut links = Vec::new(alloc);
-    for place in 0..picks.len() {
-        if let Some(link) = picks.at(place) {
-            if is_first(labels, picks, place, link) {
-                links.push(link)?;
-            }
-        }
-    }
-    Ok(links)
-}
-
-// Whether no lesser label picks the link: only the labels of its two ends do.
-fn is_first<A: Allocator>(labels: &[u32], picks: &Picks<A>, place: usize, link: Link) -> bool
-    requires labels { AreLabels labels.now }
-    requires picks { ArePicksOfHearings labels.now picks.now }
-    requires here { slice_index_or picks.now place None ≡ Some link }
-    ensures { IsTrue result ↔ IsFirstPickedAt picks.now link place }
-{
-    let low = labels[link.low as usize - 1];
-    let high = labels[link.high as usize - 1];
-    let lesser = low.min(high) as usize - 1;
-    lesser == place || !is_pick(picks.at(lesser), link)
-}
-
-// Whether the pick is the link.
-fn is_pick(pick: Option<Link>, link: Link) -> bool
-    ensures { IsTrue result ↔ (pick ≡ Some link) }
-{
-    match pick {
-        Some(other) => other == link,
-        None => false,
-    }
 }
 
 // The first link of the cut whose ends have different labels.

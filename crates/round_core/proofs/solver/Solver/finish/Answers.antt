@@ -16,4 +16,4 @@ returns-clause-forest g c =
     let ends : All (EndsUpTo (vertices p)) cut = subst (λ (q : Progress). All (EndsUpTo (vertices q)) cut) (sym c.self.view_is) c.requires.ends in
     let none : missed p.labels (joined cut) ≡ None = ap (λ labels. missed labels (joined cut)) (sym c.as_slice.ensures.labels) ∙ sym c.in_default.ensures in
     let moved : IsPermutation p.taken forest = subst (λ (xs : List Link). IsPermutation xs forest) c.as_slice-2.ensures.value c.in_ok-in_key_order.ensures.same in
-    subst (λ (q : Progress). IsFinished q (joined cut) forest) c.self.view_is (finished p cut forest c.self.invariant ends none moved c.in_ok-in_key_order.ensures.ascending)
+    subst (λ (q : Progress). IsFinished q (joined cut) forest) c.self.view_is (finished p cut forest c.self.invariant.0 ends none moved c.in_ok-in_key_order.ensures.ascending)

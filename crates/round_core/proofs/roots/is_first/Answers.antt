@@ -1,7 +1,7 @@
 use Rattle.std.proofs.Common.{◌≡◌, ◌<◌, ◌-◌, length, get_or, None, sym, ap, ◌∙◌, inl, subst, arith, eq-eqb}
 use Rattle.std.proofs.lemmas.List.{get_or_default}
 use Rattle.round_core.proofs.Picking.{pick_ends, has_labels, first_at, look_decides, least_end}
-use Rattle.round_core.proofs.solver.is_first.Goals as goal
+use Rattle.round_core.proofs.roots.is_first.Goals as goal
 
 pub bounds-labels-link : goal.bounds-labels-link
 bounds-labels-link g c =

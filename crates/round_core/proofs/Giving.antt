@@ -1,0 +1,94 @@
+-- The links that roots pick, each given by the least root that picks it.
+use Rattle.std.proofs.Common.{◌≡◌, ℕ, ◌+◌, ◌-◌, ◌<◌, ◌≤◌, ◌↔◌, List, [], ◌∷◌, ◌++◌, length, get_or, Contains, Some, None, sym, ap, ◌∙◌, subst, inl, inr, arith}
+use Rattle.std.specs.Prelude.{Option, AllPairs}
+use Rattle.std.proofs.lemmas.Bool.{cases_eq}
+use Rattle.std.proofs.lemmas.List.{get_or_default}
+use Rattle.std.proofs.lemmas.List.Elements.{Contains-append_left, Contains-push, Contains-push_cases, Contains-get_or}
+use Rattle.std.proofs.lemmas.List.Quantifiers.{all_pairs_push}
+use Rattle.link_key.specs.declared.links.Link.{Link}
+use Rattle.link_key.specs.Labels.{AreLabels}
+use Rattle.link_key.proofs.Members.{contains_none}
+use Rattle.round_theory.specs.Offers.{Hearing, IsNamed}
+use Rattle.round_core.specs.Picks.{ArePicks}
+use Rattle.round_core.specs.Roots.{IsRoot, AreRoots}
+use Rattle.round_core.specs.Solver.{IsFirstPickedAt, IsPickedBefore, ArePickedOnce}
+use Rattle.round_core.proofs.Leading.{root_at}
+use Rattle.round_core.proofs.Picking.{place_of, picked_there, first_place}
+
+-- the place of the pick of the root that so many roots stand before
+abbrev pub place_at : List ℕ → ℕ → ℕ
+place_at roots j = get_or roots j 0 - 1
+
+-- the first k roots give the link
+abbrev IsGiven : List (Option Link) → List ℕ → ℕ → Link → Type 0
+IsGiven picks roots k l = (j : ℕ) × (j < k) × (j < length roots) × IsFirstPickedAt picks l (place_at roots j)
+
+-- the links that the first k roots give
+pub record AreGiven (picks : List (Option Link)) (roots : List ℕ) (k : ℕ) (links : List Link) : Type 0 where
+  pub exact : (l : Link) → Contains links l ↔ IsGiven picks roots k l
+  pub in_order : AllPairs (IsPickedBefore picks) links
+
+pub given_none : (picks : List (Option Link)) (roots : List ℕ) → AreGiven picks roots 0 []
+given_none picks roots = record {
+  exact = λ l. (λ l_in. absurd (contains_none l l_in), λ some. absurd (omega (arith, some.1)));
+  in_order = λ i j d lt within. absurd (omega (arith, within));
+}
+
+pub given_skip : (picks : List (Option Link)) (roots : List ℕ) (k : ℕ) (links : List Link) → ((l : Link) → ¬ (IsFirstPickedAt picks l (place_at roots k))) → AreGiven picks roots k links → AreGiven picks roots (k + 1) links
+given_skip picks roots k links none are = record {
+  exact = λ l. (λ l_in. let (j, lt, within, first) = (are.exact l).0 l_in in (j, omega (arith, lt), within, first), back l);
+  in_order = are.in_order;
+}
+  where
+    back : (l : Link) → IsGiven picks roots (k + 1) l → Contains links l
+    back l (j, lt, within, first) = elim (cases_eq j k) [
+      | inl is ↦ absurd (none l (subst (λ i. IsFirstPickedAt picks l (place_at roots i)) is first))
+      | inr other ↦ (are.exact l).1 (j, omega (arith, lt, other), within, first)
+    ]
+
+pub given_more : (picks : List (Option Link)) (labels roots : List ℕ) (k : ℕ) (links : List Link) (l : Link) → AreRoots labels roots → k < length roots → IsFirstPickedAt picks l (place_at roots k) → AreGiven picks roots k links
+    → AreGiven picks roots (k + 1) (links ++ l ∷ [])
+given_more picks labels roots k links l are_roots k_in here are = record {
+  exact = λ m. (to m, back m);
+  in_order = all_pairs_push (IsPickedBefore picks) links l are.in_order (λ i d lt.
+      let (j, below, within, first) = (are.exact (get_or links i d)).0 (Contains-get_or links i d lt) in (place_at roots j, place_at roots k, first, here, before j below within));
+}
+  where
+    before : (j : ℕ) → j < k → j < length roots → place_at roots j < place_at roots k
+    before j below within =
+        let less : get_or roots j 0 < get_or roots k 0 = are_roots.ascending j k 0 below k_in in
+        let root : IsRoot labels (get_or roots j 0) = (are_roots.exact (get_or roots j 0)).0 (Contains-get_or roots j 0 within) in
+        omega (arith, less, root.0.0)
+
+    to : (m : Link) → Contains (links ++ l ∷ []) m → IsGiven picks roots (k + 1) m
+    to m m_in = elim (Contains-push_cases links l m m_in) [
+      | inl earlier ↦ let (j, lt, within, first) = (are.exact m).0 earlier in (j, omega (arith, lt), within, first)
+      | inr is ↦ (k, omega arith, k_in, subst (λ x. IsFirstPickedAt picks x (place_at roots k)) is here)
+    ]
+
+    back : (m : Link) → IsGiven picks roots (k + 1) m → Contains (links ++ l ∷ []) m
+    back m (j, lt, within, first) = elim (cases_eq j k) [
+      | inl is ↦
+          let there : get_or picks (place_at roots k) None ≡ Some m = ap (λ i. get_or picks (place_at roots i) None) (sym is) ∙ first.here in
+          let both : Some l ≡ Some m = sym here.here ∙ there in
+          let same : l ≡ m = cc in
+          subst (Contains (links ++ l ∷ [])) same (Contains-push links l)
+      | inr other ↦ Contains-append_left links (l ∷ []) m ((are.exact m).1 (j, omega (arith, lt, other), within, first))
+    ]
+
+-- all roots gave theirs: these are all links picked, since no other vertex has a pick
+pub given_all : (picks : List (Option Link)) (heard : List Hearing) (labels roots : List ℕ) (k : ℕ) (links : List Link) → AreLabels labels → ArePicks labels (IsNamed heard) picks → AreRoots labels roots → length roots ≤ k
+    → AreGiven picks roots k links → ArePickedOnce picks links
+given_all picks heard labels roots k links are_labels are_picks are_roots past are = record {
+  exact = λ l. (
+    λ l_in. let (j, lt, within, first) = (are.exact l).0 l_in in picked_there picks (place_at roots j) l first.here,
+    λ picked.
+        let (i, here) = place_of picks l picked in
+        let (j, le, first) = first_place picks i l here in
+        let (m, within, at) = (are_roots.exact (j + 1)).1 (root_at labels heard picks are_labels are_picks j l first.here) in
+        let root : get_or roots m 0 ≡ j + 1 = get_or_default roots m 0 (j + 1) within ∙ at in
+        let place : j ≡ place_at roots m = omega (arith, root) in
+        (are.exact l).1 (m, omega (arith, within, past), within, subst (IsFirstPickedAt picks l) place first),
+  );
+  in_order = are.in_order;
+}

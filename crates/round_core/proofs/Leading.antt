@@ -1,0 +1,286 @@
+-- Where picks lead the roots: each to a root that it is joined to, whose pick is less, or to one that stays.
+use Rattle.std.proofs.Common.{◌≡◌, ◌≢◌, ℕ, ◌+◌, ◌-◌, ◌<◌, ◌≤◌, ◌^◌, ◌⊎◌, min, ℤ, pos, negsuc, Less, List, [], ◌∷◌, length, get_or, set, Contains, Some, None, refl, sym, ap, ◌∙◌, subst, inl, inr, arith}
+use Rattle.std.specs.Prelude.{Option, ◌+ℤ◌}
+use Rattle.std.specs.Int.Signed.{◌<ℤ◌}
+use Rattle.std.specs.Ordering.{int_cmp, MatchOrdering}
+use Rattle.std.specs.declared.cmp.Ordering.{Ordering}
+use Rattle.std.proofs.lemmas.Bool.{cases_eq, cases_lt}
+use Rattle.std.proofs.lemmas.List.{get_or-set_same, get_or-set_other}
+use Rattle.std.proofs.lemmas.Int.{ints}
+use Rattle.link_key.specs.declared.links.Link.{Link}
+use Rattle.link_key.specs.Link.{IsBelow}
+use Rattle.link_key.specs.Labels.{label_of, AreLabels}
+use Rattle.link_key.specs.WideKey.{wide_key}
+use Rattle.link_key.proofs.Keys.{trichotomy}
+use Rattle.link_key.proofs.WideKeys.{int_ranks, wide_compares}
+use Rattle.round_theory.specs.Labelling.{IsVertex, JoinsOver}
+use Rattle.round_theory.specs.Offers.{Leaves, IsLeastLeaving, NoneLeaves, Hearing, IsNamed}
+use Rattle.round_theory.proofs.Leaving.{leaves_both_ends, leaves_apart}
+use Rattle.round_core.specs.Picks.{pick_of, Picked, IsPickOf, ArePicks}
+use Rattle.round_core.specs.PickNumbers.{IsKeyNumber}
+use Rattle.round_core.specs.Roots.{IsRoot, AreRoots, HasEndLabels, IsLed, AreParents, AreNear, IsNear}
+use Rattle.round_core.proofs.HookWalks.{over_same}
+use Rattle.round_core.proofs.Picking.{place_of, picked_there, least_at, pick_dec}
+
+-- the rank of a pick is the number of its key
+to_number : ℤ → ℕ
+to_number (pos n) = n
+to_number (negsuc n) = 0
+
+rank_of_pick : Option Link → ℕ
+rank_of_pick None = 0
+rank_of_pick (Some l) = to_number (wide_key l +ℤ pos (2 ^ 127))
+
+pub rank_of : List (Option Link) → ℕ → ℕ
+rank_of picks c = rank_of_pick (pick_of picks c)
+
+has_number : (l : Link) → IsKeyNumber l (to_number (wide_key l +ℤ pos (2 ^ 127)))
+unfolding to_number
+has_number l = at (wide_key l +ℤ pos (2 ^ 127)) refl
+  where
+    at : (z : ℤ) → wide_key l +ℤ pos (2 ^ 127) ≡ z → pos (to_number z) ≡ z
+    at (pos n) is = refl
+    at (negsuc n) is = absurd (omega (arith, ints, is, l.ascending, l.in_limit, l.weight_fits))
+
+rank_below : (l m : Link) → IsBelow l m → rank_of_pick (Some l) < rank_of_pick (Some m)
+unfolding rank_of_pick
+rank_below l m below =
+    let less : int_cmp (wide_key l) (wide_key m) ≡ Less = sym (wide_compares l m) ∙ below in
+    let ranks : wide_key l <ℤ wide_key m = subst (λ (o : Ordering). MatchOrdering o (wide_key l <ℤ wide_key m) (wide_key l ≡ wide_key m) (wide_key m <ℤ wide_key l)) less (int_ranks (wide_key l) (wide_key m)) in
+    let l_is = has_number l in
+    let m_is = has_number m in
+    omega (arith, ints, ranks, l_is, m_is)
+
+rank_fits : (pick : Option Link) → rank_of_pick pick < 2 ^ 128
+unfolding rank_of_pick
+rank_fits None = omega arith
+rank_fits (Some l) = let is = has_number l in omega (arith, ints, is, l.ascending, l.in_limit, l.weight_fits)
+
+pub rank_few : (picks : List (Option Link)) (c : ℕ) → rank_of picks c < 2 ^ 128
+unfolding rank_of
+rank_few picks c = rank_fits (pick_of picks c)
+
+-- the other end of a link that leaves label c
+other_end : (labels : List ℕ) (l : Link) (c : ℕ) → Leaves labels l c → (d : ℕ) × HasEndLabels labels l c d
+other_end labels l c (inl (low, other)) = (label_of labels l.high, inl (low, refl))
+other_end labels l c (inr (other, high)) = (label_of labels l.low, inr (refl, high))
+
+-- labels of a link's ends are roots
+pub end_root : (labels : List ℕ) → AreLabels labels → (v : ℕ) → IsVertex (length labels) v → IsRoot labels (label_of labels v)
+end_root labels are v vertex =
+    let at = are.labelled v vertex.0 vertex.1 in
+    let one : 1 ≤ label_of labels v = at.from_one in
+    let le : label_of labels v ≤ v = at.at_most_itself in
+    ((one, omega (arith, le, vertex.1)), at.own)
+
+low_vertex : (labels : List ℕ) (l : Link) → l.high ≤ length labels → IsVertex (length labels) l.low
+low_vertex labels l end = (l.from_one, omega (arith, l.ascending, end))
+
+high_vertex : (labels : List ℕ) (l : Link) → l.high ≤ length labels → IsVertex (length labels) l.high
+high_vertex labels l end = (omega (arith, l.from_one, l.ascending), end)
+
+pub ends_root : (labels : List ℕ) (l : Link) (c d : ℕ) → AreLabels labels → l.high ≤ length labels → HasEndLabels labels l c d → IsRoot labels c × IsRoot labels d
+ends_root labels l c d are end (inl (low, high)) =
+    (subst (IsRoot labels) low (end_root labels are l.low (low_vertex labels l end)), subst (IsRoot labels) high (end_root labels are l.high (high_vertex labels l end)))
+ends_root labels l c d are end (inr (low, high)) =
+    (subst (IsRoot labels) high (end_root labels are l.high (high_vertex labels l end)), subst (IsRoot labels) low (end_root labels are l.low (low_vertex labels l end)))
+
+turned : (labels : List ℕ) (l : Link) (c d : ℕ) → HasEndLabels labels l c d → HasEndLabels labels l d c
+turned labels l c d (inl ends) = inr ends
+turned labels l c d (inr ends) = inl ends
+
+-- a picked link joins the labels of its ends
+joins_ends : (labels : List ℕ) (picks : List (Option Link)) (l : Link) (c d : ℕ) → Picked picks l → IsRoot labels c → IsRoot labels d → HasEndLabels labels l c d → JoinsOver labels (Picked picks) c d
+joins_ends labels picks l c d picked c_root d_root (inl (low, high)) = (l ∷ [], (picked, tt), inl (c_root.1 ∙ sym low, high ∙ sym d_root.1))
+joins_ends labels picks l c d picked c_root d_root (inr (low, high)) = (l ∷ [], (picked, tt), inr (c_root.1 ∙ sym high, low ∙ sym d_root.1))
+
+-- a link has one other end
+same_other : (labels : List ℕ) (l : Link) (c d e : ℕ) → HasEndLabels labels l c d → HasEndLabels labels l c e → d ≡ e
+same_other labels l c d e (inl (low, high)) (inl (low', high')) = sym high ∙ high'
+same_other labels l c d e (inl (low, high)) (inr (low', high')) = sym high ∙ high' ∙ sym low ∙ low'
+same_other labels l c d e (inr (low, high)) (inl (low', high')) = sym low ∙ low' ∙ sym high ∙ high'
+same_other labels l c d e (inr (low, high)) (inr (low', high')) = sym low ∙ low'
+
+-- where both labels pick the link
+pub led_to_lesser : (labels : List ℕ) (picks : List (Option Link)) (c d p : ℕ) (l : Link) → pick_of picks c ≡ Some l → HasEndLabels labels l c d → pick_of picks d ≡ Some l → p ≡ min c d → IsLed labels picks c p
+led_to_lesser labels picks c d p l here ends there is = record {
+  stays = λ none. let wrong : Some l ≡ None = sym here ∙ none in absurd (cc);
+  to_lesser = λ m e m_here m_ends m_there. is ∙ ap (min c) (other m e m_here m_ends);
+  to_other = λ m e m_here m_ends m_not. absurd (m_not (ap (pick_of picks) (sym (other m e m_here m_ends)) ∙ there ∙ ap Some (same m m_here)));
+}
+  where
+    same : (m : Link) → pick_of picks c ≡ Some m → l ≡ m
+    same m m_here = let both : Some l ≡ Some m = sym here ∙ m_here in cc
+
+    other : (m : Link) (e : ℕ) → pick_of picks c ≡ Some m → HasEndLabels labels m c e → d ≡ e
+    other m e m_here m_ends = same_other labels l c d e ends (subst (λ k. HasEndLabels labels k c e) (sym (same m m_here)) m_ends)
+
+-- one more root is led, and written where it stands
+pub led_more : (P : ℕ → ℕ → Type 0) (roots parents : List ℕ) (i p : ℕ) → get_or roots i 0 < length parents → P (get_or roots i 0) p
+    → ((k : ℕ) → k < i → P (get_or roots k 0) (get_or parents (get_or roots k 0) 0)) → (k : ℕ) → k < i + 1 → P (get_or roots k 0) (get_or (set parents (get_or roots i 0) p) (get_or roots k 0) 0)
+led_more P roots parents i p within here before k k_in = elim (cases_eq (get_or roots k 0) (get_or roots i 0)) [
+  | inl is ↦ subst (λ c. P c (get_or (set parents (get_or roots i 0) p) c 0)) (sym is) (subst (P (get_or roots i 0)) (sym (get_or-set_same parents (get_or roots i 0) p 0 within)) here)
+  | inr other ↦
+      let lt : k < i = elim (cases_lt k i) [ inl lt ↦ lt | inr ge ↦ absurd (other (ap (λ m. get_or roots m 0) (let e : k ≡ i = omega (arith, ge, k_in) in e))) ] in
+      subst (P (get_or roots k 0)) (sym (get_or-set_other parents (get_or roots i 0) (get_or roots k 0) p 0 other)) (before k lt)
+]
+
+-- what is known of a root that has a pick
+record HasPick (labels : List ℕ) (heard : List Hearing) (picks : List (Option Link)) (c : ℕ) (l : Link) : Type 0 where
+  least : IsLeastLeaving labels (IsNamed heard) c l
+  picked : Picked picks l
+  other : ℕ
+  ends : HasEndLabels labels l c other
+  root : IsRoot labels c
+  other_root : IsRoot labels other
+  leaves_other : Leaves labels l other
+
+-- a link with ends of different labels leaves the other one too
+leaves_both : (labels : List ℕ) (l : Link) (c d : ℕ) → Leaves labels l c → HasEndLabels labels l c d → Leaves labels l d
+leaves_both labels l c d leaves ends = (leaves_both_ends labels l d).1 (leaves_apart labels l c leaves, is_end ends)
+  where
+    is_end : HasEndLabels labels l c d → (d ≡ label_of labels l.low) ⊎ (d ≡ label_of labels l.high)
+    is_end (inl (low, high)) = inr (sym high)
+    is_end (inr (low, high)) = inl (sym low)
+
+module _ (labels : List ℕ) (heard : List Hearing) (picks : List (Option Link)) (are_labels : AreLabels labels) (are : ArePicks labels (IsNamed heard) picks) where
+  pub picked_at : (c : ℕ) (l : Link) → pick_of picks c ≡ Some l → Picked picks l
+  picked_at c l here = picked_there picks (c - 1) l here
+
+  has_pick : (c : ℕ) (l : Link) → IsVertex (length labels) c → pick_of picks c ≡ Some l → HasPick labels heard picks c l
+  has_pick c l vertex here =
+      let least : IsLeastLeaving labels (IsNamed heard) c l = subst (IsPickOf labels (IsNamed heard) c) here (are.least c vertex) in
+      let picked = picked_at c l here in
+      let (d, ends) = other_end labels l c least.leaves in
+      let (root, other_root) = ends_root labels l c d are_labels (are.ends l picked) ends in
+      record { least = least; picked = picked; other = d; ends = ends; root = root; other_root = other_root; leaves_other = leaves_both labels l c d least.leaves ends }
+
+  -- each picked link is the pick of some root
+  root_of : (l : Link) → Picked picks l → (c : ℕ) × (pick_of picks c ≡ Some l) × HasPick labels heard picks c l
+  root_of l picked =
+      let (i, here) = place_of picks l picked in
+      let at = least_at labels heard picks i l are here in
+      let back : i + 1 - 1 ≡ i = omega arith in
+      let pick : pick_of picks (i + 1) ≡ Some l = ap (λ k. get_or picks k None) back ∙ here in
+      (i + 1, pick, has_pick (i + 1) l at.vertex pick)
+
+  -- so a place that has a pick is that of a root
+  pub root_at : (i : ℕ) (l : Link) → get_or picks i None ≡ Some l → IsRoot labels (i + 1)
+  root_at i l here =
+      let at = least_at labels heard picks i l are here in
+      let back : i + 1 - 1 ≡ i = omega arith in
+      (has_pick (i + 1) l at.vertex (ap (λ k. get_or picks k None) back ∙ here)).root
+
+  module _ (roots parents : List ℕ) (are_roots : AreRoots labels roots) (led : (c : ℕ) → Contains roots c → IsLed labels picks c (get_or parents c 0)) where
+    abbrev up : ℕ → ℕ
+    up c = get_or parents c 0
+
+    lead : (c : ℕ) → IsRoot labels c → IsLed labels picks c (up c)
+    lead c root = led c ((are_roots.exact c).1 root)
+
+    -- of two labels that pick one link both go to the lesser
+    both_to : (c : ℕ) (l : Link) → (has : HasPick labels heard picks c l) → pick_of picks c ≡ Some l → pick_of picks has.other ≡ Some l → (up c ≡ min c has.other) × (up has.other ≡ min c has.other)
+    both_to c l has here there =
+        let to : up c ≡ min c has.other = (lead c has.root).to_lesser l has.other here has.ends there in
+        let back : up has.other ≡ min has.other c = (lead has.other has.other_root).to_lesser l c there (turned labels l c has.other has.ends) here in
+        (to, omega (arith, back))
+
+    one_of : (c d m : ℕ) → m ≡ min c d → (m ≡ c) ⊎ (m ≡ d)
+    one_of c d m is = elim (cases_lt c d) [ inl lt ↦ inl (omega (arith, lt, is)) | inr ge ↦ inr (omega (arith, ge, is)) ]
+
+    joined_up : (c : ℕ) → Contains roots c → JoinsOver labels (Picked picks) c (up c)
+    joined_up c c_in = by_pick (pick_of picks c) refl
+      where
+        root : IsRoot labels c
+        root = (are_roots.exact c).0 c_in
+
+        stays : up c ≡ c → JoinsOver labels (Picked picks) c (up c)
+        stays is = over_same labels (Picked picks) c (up c) (ap (label_of labels) (sym is))
+
+        goes : (l : Link) → (has : HasPick labels heard picks c l) → up c ≡ has.other → JoinsOver labels (Picked picks) c (up c)
+        goes l has is = subst (JoinsOver labels (Picked picks) c) (sym is) (joins_ends labels picks l c has.other has.picked has.root has.other_root has.ends)
+
+        by_pick : (pick : Option Link) → pick_of picks c ≡ pick → JoinsOver labels (Picked picks) c (up c)
+        by_pick None is = stays ((lead c root).stays is)
+        by_pick (Some l) is =
+            let has = has_pick c l root.0 is in
+            elim (pick_dec (pick_of picks has.other) l) [
+              | inl there ↦ elim (one_of c has.other (up c) (both_to c l has is there).0) [ inl here ↦ stays here | inr other ↦ goes l has other ]
+              | inr not_there ↦ goes l has ((lead c root).to_other l has.other is has.ends not_there)
+            ]
+
+    -- what is the same along parents is the same at both ends of a pick
+    together_up : (f : ℕ → ℕ) → ((c : ℕ) → Contains roots c → f c ≡ f (up c)) → (l : Link) → Picked picks l → f (label_of labels l.low) ≡ f (label_of labels l.high)
+    together_up f along l picked = at_ends has.ends same
+      where
+        c : ℕ
+        c = (root_of l picked).0
+
+        here : pick_of picks c ≡ Some l
+        here = (root_of l picked).1
+
+        has : HasPick labels heard picks c l
+        has = (root_of l picked).2
+
+        f_up : (d : ℕ) → IsRoot labels d → f d ≡ f (up d)
+        f_up d root = along d ((are_roots.exact d).1 root)
+
+        same : f c ≡ f has.other
+        same = elim (pick_dec (pick_of picks has.other) l) [
+          | inl there ↦
+              let both = both_to c l has here there in
+              f_up c has.root ∙ ap f (both.0 ∙ sym both.1) ∙ sym (f_up has.other has.other_root)
+          | inr not_there ↦ f_up c has.root ∙ ap f ((lead c has.root).to_other l has.other here has.ends not_there)
+        ]
+
+        at_ends : HasEndLabels labels l c has.other → f c ≡ f has.other → f (label_of labels l.low) ≡ f (label_of labels l.high)
+        at_ends (inl (low, high)) e = ap f low ∙ e ∙ ap f (sym high)
+        at_ends (inr (low, high)) e = ap f low ∙ sym e ∙ ap f (sym high)
+
+    pub are_parents : AreParents labels roots picks parents
+    are_parents = record { joined = joined_up; together = together_up }
+
+    -- the other label's pick is less, where it isn't the same
+    lower : (c : ℕ) (l : Link) → (has : HasPick labels heard picks c l) → pick_of picks c ≡ Some l → pick_of picks has.other ≢ Some l → (pick : Option Link) → pick_of picks has.other ≡ pick
+        → rank_of picks has.other < rank_of picks c
+    unfolding rank_of
+    lower c l has here not_there None there =
+        let none : NoneLeaves labels (IsNamed heard) has.other = subst (IsPickOf labels (IsNamed heard) has.other) there (are.least has.other has.other_root.0) in
+        absurd (none l has.least.member has.leaves_other)
+    lower c l has here not_there (Some m) there =
+        let least : IsLeastLeaving labels (IsNamed heard) has.other m = subst (IsPickOf labels (IsNamed heard) has.other) there (are.least has.other has.other_root.0) in
+        let not_below : ¬ (IsBelow l m) = least.least l has.least.member has.leaves_other in
+        let below : IsBelow m l = elim (trichotomy m l) [
+          | inl below ↦ below
+          | inr rest ↦ elim rest [ inl same ↦ absurd (not_there (there ∙ ap Some same)) | inr above ↦ absurd (not_below above) ]
+        ] in
+        subst (λ (x : Option Link). rank_of_pick x < rank_of_pick (pick_of picks c)) (sym there)
+        (subst (λ (x : Option Link). rank_of_pick (Some m) < rank_of_pick x) (sym here) (rank_below m l below))
+
+    -- a root that doesn't go to one that stays goes to one whose pick is less
+    pub near_at_first : AreNear roots (rank_of picks) 0 parents
+    near_at_first c c_in = by_pick (pick_of picks c) refl
+      where
+        root : IsRoot labels c
+        root = (are_roots.exact c).0 c_in
+
+        stays : up c ≡ c → IsNear (rank_of picks) 0 parents c
+        stays is = inl (ap up is)
+
+        goes : (d : ℕ) → up c ≡ d → up d ≡ d → IsNear (rank_of picks) 0 parents c
+        goes d is own = inl (ap up is ∙ own ∙ sym is)
+
+        by_pick : (pick : Option Link) → pick_of picks c ≡ pick → IsNear (rank_of picks) 0 parents c
+        by_pick None is = stays ((lead c root).stays is)
+        by_pick (Some l) is =
+            let has = has_pick c l root.0 is in
+            elim (pick_dec (pick_of picks has.other) l) [
+              | inl there ↦
+                  let both = both_to c l has is there in
+                  elim (one_of c has.other (up c) both.0) [ inl here ↦ stays here | inr other ↦ goes has.other other (both.1 ∙ sym both.0 ∙ other) ]
+              | inr not_there ↦
+                  let to : up c ≡ has.other = (lead c root).to_other l has.other is has.ends not_there in
+                  let less : rank_of picks has.other < rank_of picks c = lower c l has is not_there (pick_of picks has.other) refl in
+                  let at : rank_of picks (up c) ≡ rank_of picks has.other = ap (rank_of picks) to in
+                  inr (omega (arith, less, at))
+            ]

@@ -1,0 +1,253 @@
+-- The least root under each parent, and the labels that it gives.
+use Rattle.std.proofs.Common.{◌≡◌, ◌≢◌, ℕ, zero, suc, ◌+◌, ◌-◌, ◌<◌, ◌≤◌, ◌==◌, false, List, length, get_or, set, map, Contains, refl, sym, ap, ◌∙◌, subst, inl, inr, arith}
+use Rattle.std.specs.Prelude.{Option, AllPairs, All, filter}
+use Rattle.std.proofs.lemmas.Bool.{cases_eq, cases_lt, eqb-true, eq-eqb}
+use Rattle.std.proofs.lemmas.Bool.Decides.{nat_tests}
+use Rattle.std.proofs.lemmas.List.{length-set, length-map, get_or-map, get_or-set_same, get_or-set_other, get_or_default}
+use Rattle.std.proofs.lemmas.List.Elements.{Contains-get_or, All-contains}
+use Rattle.std.proofs.lemmas.List.Kept.{AllPairs-filter}
+use Rattle.link_key.specs.declared.links.Link.{Link}
+use Rattle.link_key.specs.Labels.{label_of, AreLabels, AreApart}
+use Rattle.link_key.proofs.Stages.{kept_in, kept_if}
+use Rattle.round_theory.specs.Labelling.{IsVertex, JoinsOver, IsRelabelling, IsLeastJoinedOver}
+use Rattle.round_core.specs.Picks.{Picked}
+use Rattle.round_core.specs.Roots.{IsRoot, AreRoots, ArePointers, AreParents, AreSettled, IsLeastUnder}
+use Rattle.round_core.proofs.HookWalks.{over_same, over_then, over_back, over_equal}
+use Rattle.round_core.proofs.Leading.{end_root}
+
+-- what holds of the roots at all places holds of all roots
+pub at_contained : (P : ℕ → Type 0) (roots : List ℕ) (k : ℕ) → length roots ≤ k → ((j : ℕ) → j < k → P (get_or roots j 0)) → (c : ℕ) → Contains roots c → P c
+at_contained P roots k past all c (j, within, here) = subst P (get_or_default roots j 0 c within ∙ here) (all j (omega (arith, past, within)))
+
+-- each vertex by itself is a root
+pub apart_roots : (n : ℕ) (roots labels : List ℕ) → length roots ≡ n → ((k : ℕ) → k < length roots → get_or roots k 0 ≡ k + 1) → AreApart n labels → AreRoots labels roots
+apart_roots n roots labels long own apart = record {
+  ascending = λ i j d lt within.
+      let at_i : get_or roots i d ≡ i + 1 = get_or_default roots i d 0 (omega (arith, lt, within)) ∙ own i (omega (arith, lt, within)) in
+      let at_j : get_or roots j d ≡ j + 1 = get_or_default roots j d 0 within ∙ own j within in
+      omega (arith, at_i, at_j, lt);
+  exact = λ c. (to c, back c);
+}
+  where
+    to : (c : ℕ) → Contains roots c → IsRoot labels c
+    to c (j, within, here) =
+        let is : j + 1 ≡ c = sym (own j within) ∙ get_or_default roots j 0 c within ∙ here in
+        let le : c ≤ n = omega (arith, is, within, long) in
+        ((omega (arith, is), omega (arith, le, apart.vertices)), apart.itself c (omega (arith, is)) le)
+
+    back : (c : ℕ) → IsRoot labels c → Contains roots c
+    back c (vertex, _) =
+        let within : c - 1 < length roots = omega (arith, vertex.0, vertex.1, apart.vertices, long) in
+        (c - 1, within, get_or_default roots (c - 1) c 0 within ∙ own (c - 1) within ∙ (let e : c - 1 + 1 ≡ c = omega (arith, vertex.0) in e))
+
+-- of the roots from place k on with the parent p, u is the least
+pub record IsLeastFrom (roots parents : List ℕ) (k p u : ℕ) : Type 0 where
+  pub root : Contains roots u
+  pub same : get_or parents u 0 ≡ p
+  pub least : (j : ℕ) → k ≤ j → j < length roots → get_or parents (get_or roots j 0) 0 ≡ p → u ≤ get_or roots j 0
+
+-- the roots from place k on have given their parents the least of them
+pub record AreFoundFrom (roots parents least : List ℕ) (k : ℕ) : Type 0 where
+  pub long : length least ≡ length parents
+  pub found : (j : ℕ) → k ≤ j → j < length roots → IsLeastFrom roots parents k (get_or parents (get_or roots j 0) 0) (get_or least (get_or parents (get_or roots j 0) 0) 0)
+
+pub found_none : (roots parents least : List ℕ) (k : ℕ) → length least ≡ length parents → length roots ≤ k → AreFoundFrom roots parents least k
+found_none roots parents least k long past = record { long = long; found = λ j from within. absurd (omega (arith, past, from, within)) }
+
+-- one more root, which is less than those before
+pub found_more : (roots parents least : List ℕ) (k c p : ℕ) → AllPairs (λ b c. b < c) roots → ArePointers roots parents → k < length roots → get_or roots k 0 ≡ c → get_or parents c 0 ≡ p
+    → AreFoundFrom roots parents least (k + 1) → AreFoundFrom roots parents (set least p c) k
+found_more roots parents least k c p ascending pointers k_in c_is p_is are = record {
+  long = length-set least p c ∙ are.long;
+  found = λ j from within. elim (cases_eq (get_or parents (get_or roots j 0) 0) p) [
+    | inl is ↦
+        let here : get_or (set least p c) (get_or parents (get_or roots j 0) 0) 0 ≡ c = ap (λ q. get_or (set least p c) q 0) is ∙ get_or-set_same least p c 0 p_in in
+        subst (IsLeastFrom roots parents k (get_or parents (get_or roots j 0) 0)) (sym here) (record {
+          root = c_in;
+          same = p_is ∙ sym is;
+          least = λ i from' within' _. not_above i from' within';
+        })
+    | inr other ↦
+        let kept : get_or (set least p c) (get_or parents (get_or roots j 0) 0) 0 ≡ get_or least (get_or parents (get_or roots j 0) 0) 0 = get_or-set_other least p (get_or parents (get_or roots j 0) 0) c 0 other in
+        let later : k + 1 ≤ j = elim (cases_lt k j) [
+          | inl lt ↦ omega (arith, lt)
+          | inr ge ↦ let itself : j ≡ k = omega (arith, ge, from) in absurd (other (ap (λ i. get_or parents (get_or roots i 0) 0) itself ∙ ap (λ b. get_or parents b 0) c_is ∙ p_is))
+        ] in
+        let before = are.found j later within in
+        subst (IsLeastFrom roots parents k (get_or parents (get_or roots j 0) 0)) (sym kept) (record {
+          root = before.root;
+          same = before.same;
+          least = λ i from' within' same'. elim (cases_lt k i) [
+            | inl lt ↦ before.least i (omega (arith, lt)) within' same'
+            | inr ge ↦ let itself : i ≡ k = omega (arith, ge, from') in absurd (other (sym same' ∙ ap (λ m. get_or parents (get_or roots m 0) 0) itself ∙ ap (λ b. get_or parents b 0) c_is ∙ p_is))
+          ];
+        })
+  ];
+}
+  where
+    c_in : Contains roots c
+    c_in = subst (Contains roots) c_is (Contains-get_or roots k 0 k_in)
+
+    p_in : p < length least
+    p_in =
+        let parent_in : Contains roots p = subst (Contains roots) p_is (pointers.closed c c_in) in
+        let within : p < length parents = pointers.within p parent_in in
+        omega (arith, within, are.long)
+
+    not_above : (i : ℕ) → k ≤ i → i < length roots → c ≤ get_or roots i 0
+    not_above i from within = elim (cases_lt k i) [
+      | inl lt ↦ let less : get_or roots k 0 < get_or roots i 0 = ascending k i 0 lt within in omega (arith, less, c_is)
+      | inr ge ↦ let itself : get_or roots k 0 ≡ get_or roots i 0 = ap (λ m. get_or roots m 0) (let e : k ≡ i = omega (arith, ge, from) in e) in omega (arith, itself, c_is)
+    ]
+
+pub found_all : (roots parents least : List ℕ) → AreFoundFrom roots parents least 0 → (c : ℕ) → Contains roots c → IsLeastUnder roots parents c (get_or least (get_or parents c 0) 0)
+found_all roots parents least are c (j, within, here) = subst (λ b. IsLeastUnder roots parents b (get_or least (get_or parents b 0) 0)) (get_or_default roots j 0 c within ∙ here) (record {
+  root = found.root;
+  same = found.same;
+  least = λ w (i, i_in, is) same.
+      let at : get_or roots i 0 ≡ w = get_or_default roots i 0 w i_in ∙ is in
+      subst (λ b. get_or least (get_or parents (get_or roots j 0) 0) 0 ≤ b) at (found.least i (omega arith) i_in (ap (λ b. get_or parents b 0) at ∙ same));
+})
+  where
+    found : IsLeastFrom roots parents 0 (get_or parents (get_or roots j 0) 0) (get_or least (get_or parents (get_or roots j 0) 0) 0)
+    found = are.found j (omega arith) within
+
+-- the first k roots have the least root under their parent in its place
+pub record AreNamed (roots least old new : List ℕ) (k : ℕ) : Type 0 where
+  pub long : length new ≡ length old
+  pub named : (j : ℕ) → j < k → j < length roots → get_or new (get_or roots j 0) 0 ≡ get_or least (get_or old (get_or roots j 0) 0) 0
+  pub rest : (j : ℕ) → k ≤ j → j < length roots → get_or new (get_or roots j 0) 0 ≡ get_or old (get_or roots j 0) 0
+
+pub named_none : (roots least old : List ℕ) → AreNamed roots least old old 0
+named_none roots least old = record { long = refl; named = λ j none within. absurd (omega (arith, none)); rest = λ j from within. refl }
+
+module _ (roots least old new : List ℕ) (k : ℕ) (ascending : AllPairs (λ b c. b < c) roots) (k_in : k < length roots) (c_in : get_or roots k 0 < length old) (are : AreNamed roots least old new k) where
+  abbrev c : ℕ
+  c = get_or roots k 0
+
+  abbrev u : ℕ
+  u = get_or least (get_or new c 0) 0
+
+  apart : (j : ℕ) → j ≢ k → j < length roots → get_or roots j 0 ≢ c
+  apart j other within same = elim (cases_lt j k) [
+    | inl lt ↦ let less : get_or roots j 0 < get_or roots k 0 = ascending j k 0 lt k_in in omega (arith, less, same)
+    | inr ge ↦ let less : get_or roots k 0 < get_or roots j 0 = ascending k j 0 (omega (arith, ge, other)) within in omega (arith, less, same)
+  ]
+
+  pub named_more : AreNamed roots least old (set new c u) (k + 1)
+  named_more = record {
+    long = length-set new c u ∙ are.long;
+    named = λ j before within. elim (cases_lt j k) [
+      | inl lt ↦ get_or-set_other new c (get_or roots j 0) u 0 (apart j (omega (arith, lt)) within) ∙ are.named j lt within
+      | inr ge ↦
+          let itself : j ≡ k = omega (arith, ge, before) in
+          let had : get_or new c 0 ≡ get_or old c 0 = are.rest k (omega arith) k_in in
+          subst (λ i. get_or (set new c u) (get_or roots i 0) 0 ≡ get_or least (get_or old (get_or roots i 0) 0) 0) (sym itself)
+          (get_or-set_same new c u 0 (omega (arith, c_in, are.long)) ∙ ap (λ p. get_or least p 0) had)
+    ];
+    rest = λ j from within. get_or-set_other new c (get_or roots j 0) u 0 (apart j (omega (arith, from)) within) ∙ are.rest j (omega (arith, from)) within;
+  }
+
+pub named_all : (roots least old new : List ℕ) (k : ℕ) → length roots ≤ k → AreNamed roots least old new k → (c : ℕ) → Contains roots c → get_or new c 0 ≡ get_or least (get_or old c 0) 0
+named_all roots least old new k past are c (j, within, here) =
+    subst (λ b. get_or new b 0 ≡ get_or least (get_or old b 0) 0) (get_or_default roots j 0 c within ∙ here) (are.named j (omega (arith, past, within)) within)
+
+-- The labels by the least roots. What the old labels and the picks join has one parent, since all parents are settled; and
+-- a vertex is never less than its label, so that the least root under a parent is the least vertex too.
+pub relabelled_by_names : (labels roots parents names new : List ℕ) (picks : List (Option Link)) → AreLabels labels → AreRoots labels roots → AreParents labels roots picks parents → AreSettled roots parents
+    → ((c : ℕ) → Contains roots c → IsLeastUnder roots parents c (get_or names c 0)) → new ≡ map (λ c. get_or names c 0) labels → IsRelabelling (length labels) labels (Picked picks) new
+relabelled_by_names labels roots parents names new picks are are_roots are_parents settled named new_is = record {
+  each_vertex = ap length new_is ∙ length-map labels (λ c. get_or names c 0);
+  least = λ v vertex.
+      let root = end_root labels are v vertex in
+      let c_in = (are_roots.exact (label_of labels v)).1 root in
+      let name = named (label_of labels v) c_in in
+      subst (IsLeastJoinedOver (length labels) labels (Picked picks) v) (sym (new_at v vertex)) (record {
+        vertex = ((are_roots.exact (get_or names (label_of labels v) 0)).0 name.root).0;
+        joined = to_name v vertex root c_in name;
+        least = λ w w_vertex over. below w w_vertex name (sym (one_parent v w over));
+      });
+}
+  where
+    new_at : (v : ℕ) → IsVertex (length labels) v → label_of new v ≡ get_or names (label_of labels v) 0
+    new_at v vertex = ap (λ xs. label_of xs v) new_is ∙ get_or-map (λ c. get_or names c 0) labels (v - 1) 0 0 (omega (arith, vertex.0, vertex.1))
+
+    one_parent : (v w : ℕ) → JoinsOver labels (Picked picks) v w → get_or parents (label_of labels v) 0 ≡ get_or parents (label_of labels w) 0
+    one_parent = over_equal labels (Picked picks) (λ c. get_or parents c 0) (are_parents.together (λ c. get_or parents c 0) (λ c c_in. sym (settled c c_in)))
+
+    below : (w : ℕ) → IsVertex (length labels) w → {c u : ℕ} → IsLeastUnder roots parents c u → get_or parents (label_of labels w) 0 ≡ get_or parents c 0 → u ≤ w
+    below w w_vertex {c} {u} name same =
+        let root = end_root labels are w w_vertex in
+        let le : u ≤ label_of labels w = name.least (label_of labels w) ((are_roots.exact (label_of labels w)).1 root) same in
+        let at : label_of labels w ≤ w = (are.labelled w w_vertex.0 w_vertex.1).at_most_itself in
+        omega (arith, le, at)
+
+    to_name : (v : ℕ) → IsVertex (length labels) v → IsRoot labels (label_of labels v) → Contains roots (label_of labels v) → {u : ℕ} → IsLeastUnder roots parents (label_of labels v) u → JoinsOver labels (Picked picks) v u
+    to_name v vertex root c_in {u} name =
+        let c : ℕ = label_of labels v in
+        let self : JoinsOver labels (Picked picks) v c = over_same labels (Picked picks) v c (sym root.1) in
+        let up : JoinsOver labels (Picked picks) c (get_or parents c 0) = are_parents.joined c c_in in
+        let down : JoinsOver labels (Picked picks) (get_or parents c 0) u = subst (λ p. JoinsOver labels (Picked picks) p u) name.same (over_back labels (Picked picks) u (get_or parents u 0) (are_parents.joined u name.root)) in
+        over_then labels (Picked picks) (Picked picks) (λ l l_in. l_in) v c u self (over_then labels (Picked picks) (Picked picks) (λ l l_in. l_in) c (get_or parents c 0) u up down)
+
+-- the roots that label themselves under the new labels too are the roots of those
+pub kept_roots : (labels roots new : List ℕ) (picks : List (Option Link)) → AreLabels labels → AreLabels new → AreRoots labels roots → IsRelabelling (length labels) labels (Picked picks) new
+    → AreRoots new (filter (λ c. label_of new c == c) roots)
+kept_roots labels roots new picks are are_new are_roots is = record {
+  ascending = AllPairs-filter (λ b c. b < c) (λ c. label_of new c == c) roots are_roots.ascending;
+  exact = λ c. (to c, back c);
+}
+  where
+    to : (c : ℕ) → Contains (filter (λ c. label_of new c == c) roots) c → IsRoot new c
+    to c c_in =
+        let (in_roots, own) = kept_in (λ c. label_of new c == c) roots c c_in in
+        let vertex : IsVertex (length labels) c = ((are_roots.exact c).0 in_roots).0 in
+        (subst (λ n. IsVertex n c) (sym is.each_vertex) vertex, eqb-true (label_of new c) c own)
+
+    back : (c : ℕ) → IsRoot new c → Contains (filter (λ c. label_of new c == c) roots) c
+    back c (vertex, own) =
+        let here : IsVertex (length labels) c = subst (λ n. IsVertex n c) is.each_vertex vertex in
+        let old = are.labelled c here.0 here.1 in
+        let label : label_of labels c ≤ c = old.at_most_itself in
+        let joined : JoinsOver labels (Picked picks) c (label_of labels c) = over_same labels (Picked picks) c (label_of labels c) (sym old.own) in
+        let root = end_root labels are c here in
+        let least : label_of new c ≤ label_of labels c = (is.least c here).least (label_of labels c) root.0 joined in
+        let same : label_of labels c ≡ c = omega (arith, label, least, own) in
+        kept_if (λ c. label_of new c == c) roots c ((are_roots.exact c).1 (here, same)) (eq-eqb (label_of new c) c own)
+
+-- a test for equal numbers that fails
+pub other_fails : (m n : ℕ) → m ≢ n → (m == n) ≡ false
+other_fails m n other = grind (arith, nat_tests)
+
+-- what is above all roots is above all labels
+pub labels_within : (labels roots : List ℕ) (m : ℕ) → AreLabels labels → AreRoots labels roots → All (λ c. c < m) roots → All (λ c. c < m) labels
+labels_within labels roots m are are_roots within k d lt =
+    let back : k + 1 - 1 ≡ k = omega arith in
+    let at : get_or labels k d ≡ label_of labels (k + 1) = get_or_default labels k d 0 lt ∙ ap (λ j. get_or labels j 0) (sym back) in
+    let root = end_root labels are (k + 1) (omega arith, omega (arith, lt)) in
+    subst (λ c. c < m) (sym at) (All-contains (λ c. c < m) roots (label_of labels (k + 1)) within ((are_roots.exact (label_of labels (k + 1))).1 root))
+
+-- there are no more roots than vertices: the root that j others stand before is above j
+pub roots_few : (labels roots : List ℕ) → AreRoots labels roots → length roots ≤ length labels
+roots_few labels roots are = elim (cases_lt 0 (length roots)) [
+  | inl some ↦
+      let last : length roots - 1 < length roots = omega (arith, some) in
+      let above : length roots - 1 < get_or roots (length roots - 1) 0 = at (length roots - 1) last in
+      let vertex : get_or roots (length roots - 1) 0 ≤ length labels = (root (length roots - 1) last).0.1 in
+      omega (arith, above, vertex)
+  | inr none ↦ omega (arith, none)
+]
+  where
+    root : (j : ℕ) → j < length roots → IsRoot labels (get_or roots j 0)
+    root j lt = (are.exact (get_or roots j 0)).0 (Contains-get_or roots j 0 lt)
+
+    at : (j : ℕ) → j < length roots → j < get_or roots j 0
+    at zero lt = (root 0 lt).0.0
+    at (suc j) lt =
+        let before : j < get_or roots j 0 = at j (omega (arith, lt)) in
+        let next : get_or roots j 0 < get_or roots (suc j) 0 = are.ascending j (suc j) 0 (omega arith) lt in
+        omega (arith, before, next)
+
+-- all roots are vertices
+pub roots_within : (labels roots : List ℕ) (n : ℕ) → n ≡ length labels → AreRoots labels roots → All (IsVertex n) roots
+roots_within labels roots n is are k d lt = subst (λ m. IsVertex m (get_or roots k d)) (sym is) ((are.exact (get_or roots k d)).0 (Contains-get_or roots k d lt)).0

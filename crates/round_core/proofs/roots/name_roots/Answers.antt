@@ -1,0 +1,40 @@
+use Rattle.std.proofs.Common.{◌<◌, length, get_or, subst, sym, arith}
+use Rattle.std.proofs.lemmas.List.Elements.{Contains-get_or}
+use Rattle.round_core.specs.Roots.{IsLeastUnder}
+use Rattle.round_core.proofs.Naming.{named_more, named_all}
+use Rattle.round_core.proofs.roots.name_roots.Goals as goal
+
+pub bounds-parents-root : goal.bounds-parents-root
+bounds-parents-root c =
+    let roots = c.args.roots.now in
+    let i = c.loop-root.root-index in
+    let within : get_or roots i 0 < length c.args.parents.now = c.requires.pointers.within (get_or roots i 0) (Contains-get_or roots i 0 c.loop-root-test.true) in
+    omega (arith, within, c.loop-root.auto.parents)
+
+pub bounds-least-parent : goal.bounds-least-parent
+bounds-least-parent c =
+    let roots = c.args.roots.now in
+    let i = c.loop-root.root-index in
+    let r = get_or roots i 0 in
+    let had = c.loop-root.invariant.rest i (omega arith) c.loop-root-test.true in
+    let within : get_or c.args.parents.now r 0 < length c.args.parents.now = c.requires.pointers.within (get_or c.args.parents.now r 0) (c.requires.pointers.closed r (Contains-get_or roots i 0 c.loop-root-test.true)) in
+    omega (arith, within, had, c.requires.room, c.find_least.auto.least)
+
+pub bounds-parents-root-in-loop-root : goal.bounds-parents-root-in-loop-root
+bounds-parents-root-in-loop-root c =
+    let roots = c.args.roots.now in
+    let i = c.loop-root.root-index in
+    let within : get_or roots i 0 < length c.args.parents.now = c.requires.pointers.within (get_or roots i 0) (Contains-get_or roots i 0 c.loop-root-test.true) in
+    omega (arith, within, c.loop-root.auto.parents)
+
+pub loop-root-preserved : goal.loop-root-preserved
+loop-root-preserved c =
+    let roots = c.args.roots.now in
+    let i = c.loop-root.root-index in
+    let within : get_or roots i 0 < length c.args.parents.now = c.requires.pointers.within (get_or roots i 0) (Contains-get_or roots i 0 c.loop-root-test.true) in
+    named_more roots c.find_least.new.least c.args.parents.now c.loop-root.parents i c.requires.ascending c.loop-root-test.true within c.loop-root.invariant
+
+pub returns : goal.returns
+returns c = λ r r_in.
+    let is = named_all c.args.roots.now c.find_least.new.least c.args.parents.now c.loop-root.parents c.loop-root.root-index c.loop-root-test.false c.loop-root.invariant r r_in in
+    subst (IsLeastUnder c.args.roots.now c.args.parents.now r) (sym is) (c.find_least.ensures r r_in)

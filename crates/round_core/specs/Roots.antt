@@ -1,0 +1,62 @@
+-- The labels that name components, as they stay from round to round, and where picks lead each of them.
+use Rattle.std.specs.Prelude.{◌≡◌, ◌≢◌, ℕ, ◌+◌, ◌<◌, ◌≤◌, ◌^◌, ◌⊎◌, ◌↔◌, min, List, length, slice_index, AllPairs, Contains, Option, Some, None}
+use Rattle.link_key.specs.declared.links.Link.{Link}
+use Rattle.link_key.specs.Labels.{label_of}
+use Rattle.round_theory.specs.Labelling.{IsVertex, JoinsOver}
+use Rattle.round_core.specs.Picks.{pick_of, Picked}
+
+-- c is a vertex that labels itself
+abbrev pub IsRoot : List ℕ → ℕ → Type 0
+IsRoot labels c = IsVertex (length labels) c × (label_of labels c ≡ c)
+
+-- the vertices that label themselves, in ascending order
+pub record AreRoots (labels roots : List ℕ) : Type 0 where
+  pub ascending : AllPairs (λ b c. b < c) roots
+  pub exact : (c : ℕ) → Contains roots c ↔ IsRoot labels c
+
+-- one end of the link has label c, and the other has label d
+abbrev pub HasEndLabels : List ℕ → Link → ℕ → ℕ → Type 0
+HasEndLabels labels l c d =
+    ((label_of labels l.low ≡ c) × (label_of labels l.high ≡ d))
+    ⊎ ((label_of labels l.low ≡ d) × (label_of labels l.high ≡ c))
+
+-- its pick leads label c to the label of the pick's other end, but where both labels pick the link, to the lesser of the two; without a pick it stays
+pub record IsLed (labels : List ℕ) (picks : List (Option Link)) (c parent : ℕ) : Type 0 where
+  pub stays : pick_of picks c ≡ None → parent ≡ c
+  pub to_lesser : (l : Link) (d : ℕ) → pick_of picks c ≡ Some l → HasEndLabels labels l c d
+      → pick_of picks d ≡ Some l → parent ≡ min c d
+  pub to_other : (l : Link) (d : ℕ) → pick_of picks c ≡ Some l → HasEndLabels labels l c d
+      → pick_of picks d ≢ Some l → parent ≡ d
+
+-- the parent of each root is a root
+pub record ArePointers (roots parents : List ℕ) : Type 0 where
+  pub within : (c : ℕ) → Contains roots c → c < length parents
+  pub closed : (c : ℕ) → Contains roots c → Contains roots (slice_index parents c)
+
+-- the labels and the picks join each root to its parent; and what is the same along all parents is the same at both ends of each pick
+pub record AreParents (labels roots : List ℕ) (picks : List (Option Link)) (parents : List ℕ) : Type 0 where
+  pub joined : (c : ℕ) → Contains roots c → JoinsOver labels (Picked picks) c (slice_index parents c)
+  pub together : (f : ℕ → ℕ) → ((c : ℕ) → Contains roots c → f c ≡ f (slice_index parents c))
+      → (l : Link) → Picked picks l → f (label_of labels l.low) ≡ f (label_of labels l.high)
+
+-- the parent of root c is its own parent
+abbrev pub IsSettled : List ℕ → ℕ → Type 0
+IsSettled parents c = slice_index parents (slice_index parents c) ≡ slice_index parents c
+
+-- the parent of each root is its own parent
+abbrev pub AreSettled : List ℕ → List ℕ → Type 0
+AreSettled roots parents = (c : ℕ) → Contains roots c → IsSettled parents c
+
+-- the parent of root c is its own parent, or its rank is less than the root's by a power of two
+abbrev pub IsNear : (ℕ → ℕ) → ℕ → List ℕ → ℕ → Type 0
+IsNear rank i parents c = IsSettled parents c ⊎ (rank (slice_index parents c) + 2 ^ i ≤ rank c)
+
+-- so it is for each root
+abbrev pub AreNear : List ℕ → (ℕ → ℕ) → ℕ → List ℕ → Type 0
+AreNear roots rank i parents = (c : ℕ) → Contains roots c → IsNear rank i parents c
+
+-- of the roots with the parent of root c, u is the least
+pub record IsLeastUnder (roots parents : List ℕ) (c u : ℕ) : Type 0 where
+  pub root : Contains roots u
+  pub same : slice_index parents u ≡ slice_index parents c
+  pub least : (w : ℕ) → Contains roots w → slice_index parents w ≡ slice_index parents c → u ≤ w
