@@ -1,17 +1,18 @@
 -- The links that roots pick, each given by the least root that picks it.
 use Rattle.std.proofs.Common.{◌≡◌, ℕ, ◌+◌, ◌-◌, ◌<◌, ◌≤◌, ◌↔◌, List, [], ◌∷◌, ◌++◌, length, get_or, Contains, Some, None, sym, ap, ◌∙◌, subst, inl, inr, arith}
-use Rattle.std.specs.Prelude.{Option, AllPairs}
-use Rattle.std.proofs.lemmas.Bool.{cases_eq}
-use Rattle.std.proofs.lemmas.List.{get_or_default}
-use Rattle.std.proofs.lemmas.List.Elements.{Contains-append_left, Contains-push, Contains-push_cases, Contains-get_or}
+use Rattle.std.specs.Prelude.{Option, All, AllPairs}
+use Rattle.std.proofs.lemmas.Bool.{cases_eq, cases_lt}
+use Rattle.std.proofs.lemmas.List.{get_or_default, get_or_past}
+use Rattle.std.proofs.lemmas.List.Elements.{Contains-append_left, Contains-push, Contains-push_cases, Contains-get_or, All-contains}
 use Rattle.std.proofs.lemmas.List.Quantifiers.{all_pairs_push}
 use Rattle.link_key.specs.declared.links.Link.{Link}
 use Rattle.link_key.specs.Labels.{AreLabels}
 use Rattle.link_key.proofs.Members.{contains_none}
 use Rattle.round_theory.specs.Offers.{Hearing, IsNamed}
-use Rattle.round_core.specs.Picks.{ArePicks}
+use Rattle.round_theory.proofs.Labels.{labelling_is_labels}
+use Rattle.round_core.specs.Picks.{pick_of, ArePicks, ArePicksOfHearings, AreNoPicks}
 use Rattle.round_core.specs.Roots.{IsRoot, AreRoots}
-use Rattle.round_core.specs.Solver.{IsFirstPickedAt, IsPickedBefore, ArePickedOnce}
+use Rattle.round_core.specs.Solver.{Progress, vertices, IsProgress, IsFirstPickedAt, IsPickedBefore, ArePickedOnce}
 use Rattle.round_core.proofs.Leading.{root_at}
 use Rattle.round_core.proofs.Picking.{place_of, picked_there, first_place}
 
@@ -92,3 +93,28 @@ given_all picks heard labels roots k links are_labels are_picks are_roots past a
   );
   in_order = are.in_order;
 }
+
+-- where no root has a pick, no vertex has one
+pub none_of_roots : (picks : List (Option Link)) (heard : List Hearing) (labels roots : List ℕ) → AreLabels labels → ArePicks labels (IsNamed heard) picks → AreRoots labels roots → All (λ c. pick_of picks c ≡ None) roots ↔ AreNoPicks picks
+none_of_roots picks heard labels roots are_labels are_picks are_roots = (to, back)
+  where
+    back : AreNoPicks picks → All (λ c. pick_of picks c ≡ None) roots
+    back none k d lt = elim (cases_lt (get_or roots k d - 1) (length picks)) [
+      | inl within ↦ none (get_or roots k d - 1) None within
+      | inr past ↦ get_or_past picks (get_or roots k d - 1) None past
+    ]
+
+    to : All (λ c. pick_of picks c ≡ None) roots → AreNoPicks picks
+    to none i d lt = at (get_or picks i d) (get_or_default picks i None d lt)
+      where
+        at : (x : Option Link) → get_or picks i None ≡ x → x ≡ None
+        at None is = sym is ∙ is
+        at (Some l) is =
+            let root = (are_roots.exact (i + 1)).1 (root_at labels heard picks are_labels are_picks i l is) in
+            let back : i + 1 - 1 ≡ i = omega arith in
+            let wrong : Some l ≡ None = sym is ∙ ap (λ k. get_or picks k None) (sym back) ∙ All-contains (λ c. pick_of picks c ≡ None) roots (i + 1) none root in
+            absurd (cc)
+
+pub none_in_progress : (p : Progress) (roots : List ℕ) (picks : List (Option Link)) → IsProgress p → AreRoots p.labels roots → ArePicksOfHearings p.labels picks → All (λ c. pick_of picks c ≡ None) roots ↔ AreNoPicks picks
+none_in_progress p roots picks is are_roots (heard, are) =
+    none_of_roots picks heard p.labels roots (labelling_is_labels (vertices p) (Contains p.taken) p.labels is.few_vertices is.labelling) are are_roots

@@ -48,17 +48,20 @@ pub record IsLeastFrom (roots parents : List ℕ) (k p u : ℕ) : Type 0 where
 
 -- the roots from place k on have given their parents the least of them
 pub record AreFoundFrom (roots parents least : List ℕ) (k : ℕ) : Type 0 where
-  pub long : length least ≡ length parents
+  pub room : (c : ℕ) → Contains roots c → c < length least
   pub found : (j : ℕ) → k ≤ j → j < length roots → IsLeastFrom roots parents k (get_or parents (get_or roots j 0) 0) (get_or least (get_or parents (get_or roots j 0) 0) 0)
 
-pub found_none : (roots parents least : List ℕ) (k : ℕ) → length least ≡ length parents → length roots ≤ k → AreFoundFrom roots parents least k
-found_none roots parents least k long past = record { long = long; found = λ j from within. absurd (omega (arith, past, from, within)) }
+pub found_none : (roots parents least : List ℕ) (k : ℕ) → All (λ c. c < length least) roots → length roots ≤ k → AreFoundFrom roots parents least k
+found_none roots parents least k room past = record {
+  room = λ c c_in. All-contains (λ c. c < length least) roots c room c_in;
+  found = λ j from within. absurd (omega (arith, past, from, within));
+}
 
 -- one more root, which is less than those before
 pub found_more : (roots parents least : List ℕ) (k c p : ℕ) → AllPairs (λ b c. b < c) roots → ArePointers roots parents → k < length roots → get_or roots k 0 ≡ c → get_or parents c 0 ≡ p
     → AreFoundFrom roots parents least (k + 1) → AreFoundFrom roots parents (set least p c) k
 found_more roots parents least k c p ascending pointers k_in c_is p_is are = record {
-  long = length-set least p c ∙ are.long;
+  room = λ b b_in. subst (λ m. b < m) (sym (length-set least p c)) (are.room b b_in);
   found = λ j from within. elim (cases_eq (get_or parents (get_or roots j 0) 0) p) [
     | inl is ↦
         let here : get_or (set least p c) (get_or parents (get_or roots j 0) 0) 0 ≡ c = ap (λ q. get_or (set least p c) q 0) is ∙ get_or-set_same least p c 0 p_in in
@@ -89,10 +92,7 @@ found_more roots parents least k c p ascending pointers k_in c_is p_is are = rec
     c_in = subst (Contains roots) c_is (Contains-get_or roots k 0 k_in)
 
     p_in : p < length least
-    p_in =
-        let parent_in : Contains roots p = subst (Contains roots) p_is (pointers.closed c c_in) in
-        let within : p < length parents = pointers.within p parent_in in
-        omega (arith, within, are.long)
+    p_in = are.room p (subst (Contains roots) p_is (pointers.closed c c_in))
 
     not_above : (i : ℕ) → k ≤ i → i < length roots → c ≤ get_or roots i 0
     not_above i from within = elim (cases_lt k i) [
@@ -251,3 +251,7 @@ roots_few labels roots are = elim (cases_lt 0 (length roots)) [
 -- all roots are vertices
 pub roots_within : (labels roots : List ℕ) (n : ℕ) → n ≡ length labels → AreRoots labels roots → All (IsVertex n) roots
 roots_within labels roots n is are k d lt = subst (λ m. IsVertex m (get_or roots k d)) (sym is) ((are.exact (get_or roots k d)).0 (Contains-get_or roots k d lt)).0
+
+-- so they are among the numbers up to their number
+pub roots_below : (labels roots : List ℕ) (n m : ℕ) → n ≡ length labels → n < m → AreRoots labels roots → All (λ c. c < m) roots
+roots_below labels roots n m is above are k d lt = let vertex = roots_within labels roots n is are k d lt in omega (arith, vertex.1, above)

@@ -23,9 +23,9 @@ use std::alloc::{AllocError, Allocator};
 /// component in the next round. The only error is want of memory.
 ///
 /// There are at most log2 n + 1 rounds, the last of which picks nothing. For m links in s shards a round costs
-/// O(m + s + n log n) time: each link of each shard counts for both of the components that it leaves, and
-/// [`hook_relabel`](crate::hook_relabel) makes the new labels. Memory: a vertex takes 4 bytes for its label, 16 for its
-/// pick and what `hook_relabel` needs; each link taken 16 bytes, and at the end 16 more in the forest.
+/// O(m + s + n) time and what [`Solver::step`](crate::Solver::step) does: each link of each shard counts for both of the
+/// components that it leaves. Memory: 32 bytes a vertex for labels, picks and what a step needs, and 4 more while it makes
+/// new labels; each link taken 16 bytes, and at the end 16 more in the forest.
 pub fn solve_alone<A: Allocator + Copy>(
     alloc: A,
     n: u32,

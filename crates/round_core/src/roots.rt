@@ -1,9 +1,9 @@
-ghost use Rattle.std.specs.Prelude.{◌≡◌, ℕ, List, Option, ◌+◌, ◌<◌, ◌≤◌, ◌==◌, ◌↔◌, length, map, filter, slice_index, All, AllPairs, Contains, slice_index_or, Some, None, EachIndex, IsTrue, IfOk, false};
+ghost use Rattle.std.specs.Prelude.{◌≡◌, ℕ, List, Option, ◌+◌, ◌<◌, ◌≤◌, ◌==◌, ◌↔◌, length, map, filter, slice_index, All, AllPairs, Contains, slice_index_or, Some, None, EachIndex, IsTrue, IfOk, OnOk, false};
 ghost use Rattle.link_key.specs.declared.links.Link.{Link as TheLink};
 ghost use Rattle.link_key.specs.Labels.{label_of, AreLabels, AreApart};
 ghost use Rattle.round_theory.specs.Labelling.{IsVertex, IsRelabelling};
 ghost use Rattle.round_theory.specs.Offers.{Leaves};
-ghost use Rattle.round_core.specs.Picks.{Picked, AreNoPicks, ArePicksOfHearings};
+ghost use Rattle.round_core.specs.Picks.{pick_of, Picked, ArePicksOfHearings};
 ghost use Rattle.round_core.specs.Solver.{ArePickedOnce, IsFirstPickedAt};
 ghost use Rattle.round_core.specs.Roots.{IsRoot, AreRoots, HasEndLabels, IsLed, ArePointers, AreParents, AreSettled, AreNear, IsLeastUnder};
 
@@ -19,8 +19,8 @@ const JUMPS: u32 = 129;
 
 /// The vertices that label themselves, in ascending order: each names a component, and no other vertex has a pick.
 ///
-/// 12 bytes a vertex: beside the roots it keeps room for a parent of each label and for the least root of each component,
-/// so that neither is filled anew each round.
+/// 4 bytes a vertex, and from the first step on 8 more: room for a parent of each label and for the least root of each
+/// component, which isn't filled anew each round.
 #[derive(Drop)]
 pub(crate) struct Roots<A: Allocator = Global> {
     roots: Vec<u32, A>,
@@ -29,13 +29,11 @@ pub(crate) struct Roots<A: Allocator = Global> {
 }
 
 impl<A: Allocator> Model for Roots<A> {
-    ghost use Rattle.std.specs.Prelude.{◌≡◌, ◌<◌, ℕ, List, All, length};
+    ghost use Rattle.std.specs.Prelude.{ℕ, List};
 
     ghost Value = { List ℕ };
 
     ghost view = { λ s. s.roots.items };
-
-    ghost invariant = { λ s. All (λ c. c < length s.parents.items) s.roots.items × (length s.least.items ≡ length s.parents.items) };
 }
 
 impl<A: Allocator + Copy> Roots<A> {
@@ -45,17 +43,14 @@ impl<A: Allocator + Copy> Roots<A> {
         ensures { IfOk result (λ roots. (labels : List ℕ) → AreApart n labels → AreRoots labels roots) }
     {
         let roots = vertices_to(alloc, n)?;
-        let parents = vec![in alloc; 0; n as usize + 1]?;
-        let least = vec![in alloc; 0; n as usize + 1]?;
         Ok(Roots {
             roots,
-            parents,
-            least,
+            parents: Vec::new(alloc),
+            least: Vec::new(alloc),
         })
     }
 
-    // The labels of the next round, as `hook_relabel` gives them. It looks at the picks of roots alone, and once at each
-    // label: for k roots of n vertices O(k log k + n) time, and 4 bytes a vertex for the new labels.
+    // The labels of the next round, as `hook_relabel` gives them: for k roots of n vertices in O(n + k log k) time.
     pub(crate) fn relabel(
         &mut self,
         alloc: A,
@@ -68,6 +63,8 @@ impl<A: Allocator + Copy> Roots<A> {
         ensures same { self.new ≡ self.old }
     {
         let old = labels.as_slice();
+        make_room(alloc, &mut self.parents, old.len())?;
+        make_room(alloc, &mut self.least, old.len())?;
         name_components(old, &self.roots, picks, &mut self.parents, &mut self.least);
         let new = labels_by(alloc, old, &self.parents)?;
         Ok(Labels::of_known(new))
@@ -91,6 +88,14 @@ impl<A: Allocator + Copy> Roots<A> {
 }
 
 impl<A: Allocator> Roots<A> {
+    // Whether no root has a pick, and so no vertex.
+    pub(crate) fn have_no_picks(&self, picks: &Picks<A>) -> bool
+        requires { All (IsVertex (length picks.now)) self.now }
+        ensures { IsTrue result ↔ All (λ c. pick_of picks.now c ≡ None) self.now }
+    {
+        have_no_picks(&self.roots, picks)
+    }
+
     // Keeps the roots that label themselves under these labels too.
     pub(crate) fn keep(&mut self, labels: &[u32])
         requires { All (IsVertex (length labels.now)) self.old }
@@ -98,6 +103,19 @@ impl<A: Allocator> Roots<A> {
     {
         keep_own(&mut self.roots, labels);
     }
+}
+
+// Whether none of the vertices has a pick.
+fn have_no_picks<A: Allocator>(vertices: &[u32], picks: &Picks<A>) -> bool
+    requires { All (IsVertex (length picks.now)) vertices.now }
+    ensures { IsTrue result ↔ All (λ c. pick_of picks.now c ≡ None) vertices.now }
+{
+    for vertex in vertices {
+        if picks.of(*vertex).is_some() {
+            return false;
+        }
+    }
+    true
 }
 
 // Keeps the vertices that label themselves, in place.
@@ -129,6 +147,21 @@ fn vertices_to<A: Allocator + Copy>(alloc: A, n: u32) -> Result<Vec<u32, A>, All
     Ok(vertices)
 }
 
+// Makes room for a number of each of the labels 1 to n, where there is none yet.
+fn make_room<A: Allocator + Copy>(
+    alloc: A,
+    numbers: &mut Vec<u32, A>,
+    n: usize,
+) -> Result<(), AllocError>
+    requires { n ≤ MAX_VERTICES }
+    ensures { OnOk result (n < length numbers.new.items) }
+{
+    if numbers.len() <= n {
+        *numbers = vec![in alloc; 0; n + 1]?;
+    }
+    Ok(())
+}
+
 // Gives each root the least root that the picks join it to: as names of the labels, these are the new labels.
 fn name_components<A: Allocator>(
     labels: &[u32],
@@ -141,7 +174,7 @@ fn name_components<A: Allocator>(
     requires picks { ArePicksOfHearings labels.now picks.now }
     requires roots { AreRoots labels.now roots.now }
     requires within { All (λ c. c < length names.old) roots.now }
-    requires room { length least.old ≡ length names.old }
+    requires room { All (λ c. c < length least.old) roots.now }
     ensures { IsRelabelling (length labels.now) labels.now (Picked picks.now) (map (λ c. slice_index names.new c) labels.now) }
 {
     join_roots(labels, roots, picks, names);
@@ -205,7 +238,7 @@ fn jump(roots: &[u32], parents: &mut [u32]) -> bool
 fn name_roots(roots: &[u32], parents: &mut [u32], least: &mut [u32])
     requires ascending { AllPairs (λ b c. b < c) roots.now }
     requires pointers { ArePointers roots.now parents.old }
-    requires room { length least.old ≡ length parents.old }
+    requires room { All (λ c. c < length least.old) roots.now }
     ensures { (c : ℕ) → Contains roots.now c → IsLeastUnder roots.now parents.old c (slice_index parents.new c) }
 {
     find_least(roots, parents, least);
@@ -219,7 +252,7 @@ fn name_roots(roots: &[u32], parents: &mut [u32], least: &mut [u32])
 fn find_least(roots: &[u32], parents: &[u32], least: &mut [u32])
     requires ascending { AllPairs (λ b c. b < c) roots.now }
     requires pointers { ArePointers roots.now parents.now }
-    requires room { length least.old ≡ length parents.now }
+    requires room { All (λ c. c < length least.old) roots.now }
     ensures { (c : ℕ) → Contains roots.now c
         → IsLeastUnder roots.now parents.now c (slice_index least.new (slice_index parents.now c)) }
 {

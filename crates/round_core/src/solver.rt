@@ -4,7 +4,7 @@ ghost use Rattle.std.specs.List.Sorted.{IsPermutation};
 ghost use Rattle.link_key.specs.Link.{EndsUpTo, IsAscending};
 ghost use Rattle.link_key.specs.Labels.{AreLabels};
 ghost use Rattle.link_key.specs.Cut.{joined};
-ghost use Rattle.round_core.specs.Picks.{ArePicksOfHearings};
+ghost use Rattle.round_core.specs.Picks.{AreNoPicks, ArePicksOfHearings};
 ghost use Rattle.round_core.specs.Solver.{vertices, IsProgress, IsAtStart, IsPastBound, IsFirstPickedAt, ArePickedOnce, IsTurn, IsStepFault, missed, IsFinished, IsFinishFault};
 ghost use Rattle.round_core.specs.declared.solver.SolveFault.TheVariants.{Memory};
 
@@ -54,7 +54,7 @@ impl From<AllocError> for SolveFault {
 /// [`laws::rounds_end_with_forest`](crate::laws::rounds_end_with_forest) says. It believes no count of rounds: a round with
 /// picks that comes past the bound is refused.
 ///
-/// 16 bytes a vertex, and 16 bytes for each link taken.
+/// 8 bytes a vertex, and 8 more from the first step that takes links on; 16 bytes for each link taken.
 #[derive(Drop)]
 pub struct Solver<A: Allocator = Global> {
     labels: Labels<A>,
@@ -105,7 +105,7 @@ impl<A: Allocator + Copy> Solver<A> {
         ensures fault { IfErr result (IsStepFault self.old picks.now) }
         ensures same { OnErr result (self.new ≡ self.old) }
     {
-        if picks.is_empty() {
+        if self.has_no_picks(picks) {
             return Ok(Turn::Done);
         }
         let round = self.rounds + 1;
@@ -163,6 +163,16 @@ impl<A: Allocator> Solver<A> {
         ensures progress { IsProgress self.now }
     {
         &self.labels
+    }
+}
+
+impl<A: Allocator> Solver<A> {
+    // Whether there are no picks: only roots have any.
+    fn has_no_picks(&self, picks: &Picks<A>) -> bool
+        requires { ArePicksOfHearings self.now.labels picks.now }
+        ensures { IsTrue result ↔ AreNoPicks picks.now }
+    {
+        self.roots.have_no_picks(picks)
     }
 }
 

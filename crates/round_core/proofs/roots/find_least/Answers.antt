@@ -13,12 +13,9 @@ bounds-parents-root c =
 pub bounds-least-parents : goal.bounds-least-parents
 bounds-least-parents c =
     let roots = c.args.roots.now in
-    let parents = c.args.parents.now in
     let k : ℕ = length roots - 1 - c.loop-done.done in
     let k_in : k < length roots = omega (arith, c.loop-done-test.true) in
-    let r = get_or roots k 0 in
-    let within : get_or parents r 0 < length parents = c.requires.pointers.within (get_or parents r 0) (c.requires.pointers.closed r (Contains-get_or roots k 0 k_in)) in
-    omega (arith, within, c.loop-done.invariant.long)
+    c.loop-done.invariant.room _ (c.requires.pointers.closed (get_or roots k 0) (Contains-get_or roots k 0 k_in))
 
 pub loop-done-preserved : goal.loop-done-preserved
 loop-done-preserved c =

@@ -1,5 +1,5 @@
 use Rattle.std.proofs.Common.{◌<◌, length, get_or, subst, sym, arith}
-use Rattle.std.proofs.lemmas.List.Elements.{Contains-get_or}
+use Rattle.std.proofs.lemmas.List.Elements.{Contains-get_or, All-contains}
 use Rattle.round_core.specs.Roots.{IsLeastUnder}
 use Rattle.round_core.proofs.Naming.{named_more, named_all}
 use Rattle.round_core.proofs.roots.name_roots.Goals as goal
@@ -17,8 +17,9 @@ bounds-least-parent c =
     let i = c.loop-root.root-index in
     let r = get_or roots i 0 in
     let had = c.loop-root.invariant.rest i (omega arith) c.loop-root-test.true in
-    let within : get_or c.args.parents.now r 0 < length c.args.parents.now = c.requires.pointers.within (get_or c.args.parents.now r 0) (c.requires.pointers.closed r (Contains-get_or roots i 0 c.loop-root-test.true)) in
-    omega (arith, within, had, c.requires.room, c.find_least.auto.least)
+    let parent_in = c.requires.pointers.closed r (Contains-get_or roots i 0 c.loop-root-test.true) in
+    let room : get_or c.args.parents.now r 0 < length c.args.least.now = All-contains (λ b. b < length c.args.least.now) roots (get_or c.args.parents.now r 0) c.requires.room parent_in in
+    omega (arith, room, had, c.find_least.auto.least)
 
 pub bounds-parents-root-in-loop-root : goal.bounds-parents-root-in-loop-root
 bounds-parents-root-in-loop-root c =

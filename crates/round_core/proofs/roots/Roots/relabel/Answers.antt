@@ -1,29 +1,41 @@
-use Rattle.std.proofs.Common.{◌≡◌, ◌<◌, List, ℕ, length, get_or, map, sym, ap, ◌∙◌, subst}
-use Rattle.std.specs.Prelude.{All}
+use Rattle.std.proofs.Common.{arith, ◌≡◌, ◌<◌, List, ℕ, length, get_or, map, refl, sym, ap, ◌∙◌, subst}
 use Rattle.std.proofs.lemmas.List.{with_items_is}
 use Rattle.link_key.specs.Labels.{AreLabels}
 use Rattle.round_theory.specs.Labelling.{IsRelabelling}
 use Rattle.round_theory.proofs.Steps.{relabelling_is_labels}
 use Rattle.round_core.specs.Picks.{Picked}
 use Rattle.round_core.specs.Roots.{AreRoots}
-use Rattle.round_core.proofs.Naming.{labels_within}
+use Rattle.round_core.proofs.Naming.{labels_within, roots_below}
 use Rattle.round_core.proofs.roots.Roots.relabel.Goals as goal
+
+pub name_components-requires-clause-within : goal.name_components-requires-clause-within
+name_components-requires-clause-within g c =
+    let are_roots : AreRoots c.args.labels.now c.deref.result.now = rw (c.deref.ensures.value, c.self.view_is) c.requires.roots in
+    let room : length c.as_slice-old.result.now < length c.make_room.new.numbers.items = c.in_ok-make_room.ensures in
+    roots_below c.args.labels.now c.deref.result.now (length c.as_slice-old.result.now) (length c.deref_mut.result.now) (ap length c.as_slice-old.ensures.labels) (omega (arith, room, ap length c.deref_mut.ensures.value)) are_roots
+
+pub name_components-requires-clause-room : goal.name_components-requires-clause-room
+name_components-requires-clause-room g c =
+    let are_roots : AreRoots c.args.labels.now c.deref.result.now = rw (c.deref.ensures.value, c.self.view_is) c.requires.roots in
+    let room : length c.as_slice-old.result.now < length c.make_room-2.new.numbers.items = c.in_ok-make_room-2.ensures in
+    roots_below c.args.labels.now c.deref.result.now (length c.as_slice-old.result.now) (length c.deref_mut-2.result.now) (ap length c.as_slice-old.ensures.labels) (omega (arith, room, ap length c.deref_mut-2.ensures.value)) are_roots
 
 pub labels_by-requires : goal.labels_by-requires
 labels_by-requires g c =
     let old : List ℕ = c.as_slice-old.result.now in
     let are : AreLabels old = rw c.as_slice-old.ensures.labels c.as_slice-old.ensures.are_labels in
     let are_roots : AreRoots old c.self.inside.roots.items = rw (c.as_slice-old.ensures.labels, c.self.view_is) c.requires.roots in
-    let items = with_items_is c.self.inside.parents c.name_components.new.names (c.name_components.auto.names ∙ c.deref_mut.ensures.len) in
-    let long : length c.deref-2.result.now ≡ length c.self.inside.parents.items = ap length (c.deref-2.ensures.value ∙ items) ∙ c.name_components.auto.names ∙ ap length c.deref_mut.ensures.value in
-    subst (λ m. All (λ r. r < m) old) (sym long) (labels_within old c.self.inside.roots.items (length c.self.inside.parents.items) are are_roots c.self.invariant.0)
+    let room : length old < length c.make_room.new.numbers.items = c.in_ok-make_room.ensures in
+    let items = with_items_is c.make_room.new.numbers c.name_components.new.names (c.name_components.auto.names ∙ c.deref_mut.ensures.len) in
+    let long : length c.deref-2.result.now ≡ length c.make_room.new.numbers.items = ap length (c.deref-2.ensures.value ∙ items) ∙ c.name_components.auto.names ∙ ap length c.deref_mut.ensures.value in
+    labels_within old c.self.inside.roots.items (length c.deref-2.result.now) are are_roots (roots_below old c.self.inside.roots.items (length old) (length c.deref-2.result.now) refl (omega (arith, room, long)) are_roots)
 
 pub of_known-requires : goal.of_known-requires
 of_known-requires g c =
     let old : List ℕ = c.as_slice-old.result.now in
     let are : AreLabels old = rw c.as_slice-old.ensures.labels c.as_slice-old.ensures.are_labels in
     let names = c.name_components.new.names in
-    let items = with_items_is c.self.inside.parents names (c.name_components.auto.names ∙ c.deref_mut.ensures.len) in
+    let items = with_items_is c.make_room.new.numbers names (c.name_components.auto.names ∙ c.deref_mut.ensures.len) in
     let made : c.in_ok-new.new.items ≡ map (λ r. get_or names r 0) old = c.in_ok-new.ensures ∙ ap (λ (xs : List ℕ). map (λ r. get_or xs r 0) old) (c.deref-2.ensures.value ∙ items) in
     relabelling_is_labels (length old) (Picked c.args.picks.now) old c.in_ok-new.new.items are.few_vertices
     (subst (IsRelabelling (length old) old (Picked c.args.picks.now)) (sym made) c.name_components.ensures)
@@ -32,7 +44,7 @@ pub returns-clause-relabelled : goal.returns-clause-relabelled
 returns-clause-relabelled g c =
     let old : List ℕ = c.as_slice-old.result.now in
     let names = c.name_components.new.names in
-    let items = with_items_is c.self.inside.parents names (c.name_components.auto.names ∙ c.deref_mut.ensures.len) in
+    let items = with_items_is c.make_room.new.numbers names (c.name_components.auto.names ∙ c.deref_mut.ensures.len) in
     let made : c.of_known.result ≡ map (λ r. get_or names r 0) old = c.of_known.ensures ∙ c.in_ok-new.ensures ∙ ap (λ (xs : List ℕ). map (λ r. get_or xs r 0) old) (c.deref-2.ensures.value ∙ items) in
     let relabelled : IsRelabelling (length old) old (Picked c.args.picks.now) c.of_known.result = subst (IsRelabelling (length old) old (Picked c.args.picks.now)) (sym made) c.name_components.ensures in
     subst (λ (xs : List ℕ). IsRelabelling (length xs) xs (Picked c.args.picks.now) c.of_known.result) c.as_slice-old.ensures.labels relabelled

@@ -37,7 +37,7 @@ returns-clause-turn g c =
     let p : Progress = record { labels = c.self.inside.labels; taken = c.self.inside.taken.items; rounds = c.self.inside.rounds } in
     let picks : ArePicksOfHearings p.labels c.args.picks.now = subst (λ (q : Progress). ArePicksOfHearings q.labels c.args.picks.now) (sym c.self.view_is) c.requires.picks in
     let in_time : 2 ^ (p.rounds + 1) ≤ max 1 (vertices p) = in_bound (vertices p) c.n.result (p.rounds + 1) c.is_past_bound.result c.is_past_bound.ensures c.if-is_past_bound.false c.n.ensures.vertices in
-    let some : ¬ (AreNoPicks c.args.picks.now) = λ none. let wrong : false ≡ true = sym c.if-is_empty.false ∙ c.is_empty.ensures.1 none in absurd (cc) in
+    let some : ¬ (AreNoPicks c.args.picks.now) = λ none. let wrong : false ≡ true = sym c.if-has_no_picks.false ∙ c.has_no_picks.ensures.1 none in absurd (cc) in
     let count : c.len-count.result ≡ length c.in_ok-links.links.items = omega (arith, c.in_ok-links.links.ok.0, c.len-count.ensures) in
     subst (λ (q : Progress). IsMerged c.args.picks.now c.len-count.result q (record { labels = c.in_ok-labels.labels; taken = c.append.new.self.items; rounds = c.self.inside.rounds + 1 })) c.self.view_is
     (is_merged p c.args.picks.now c.in_ok-labels.labels c.in_ok-links.links.items c.append.new.self.items c.len-count.result c.self.invariant.0 picks some
