@@ -271,6 +271,59 @@ fn steps_over_ten_thousand_links(rt: HostRuntime) -> Result<(), Fail> {
     expect_cut(&rt, alloc, 10_001, path, &[3333, 6666], &steps, path)
 }
 
+// The path of so many arcs, each of them so many times as heavy as the vertex that it leaves.
+fn weighted_path(alloc: Global, count: u32, times: i64) -> Result<Vec<Row>, AllocError> {
+    let mut arcs = Vec::new(alloc);
+    for v in 0..count {
+        let first = v.wrapping_add(1);
+        let weight = i64::from(first).wrapping_mul(times);
+        arcs.push((first, first.wrapping_add(1), weight))?;
+    }
+    Ok(arcs)
+}
+
+// Chains of picks as long as the path: where weights ascend each vertex but the first picks the link to the one before
+// it, and where they descend each but the last the link to the one behind it. One round merges all either way.
+#[test]
+fn steps_along_chains_of_picks(rt: HostRuntime) -> Result<(), Fail> {
+    let alloc = rt.alloc();
+    let mut ones = Vec::new(alloc);
+    for _ in 0..70_000u32 {
+        ones.push(1)?;
+    }
+    for times in [1, -1] {
+        let arcs = weighted_path(alloc, 69_999, times)?;
+        let mut forest = arcs.as_slice().to_vec(alloc)?;
+        if times < 0 {
+            forest.reverse();
+        }
+        let steps: [Step; 2] = [
+            (&[0, 1, 2], Turn::Merged(69_999), ones.as_slice()),
+            (&[2, 1, 0], Turn::Done, ones.as_slice()),
+        ];
+        let places = [20_000, 50_000];
+        expect_cut(&rt, alloc, 70_000, arcs.as_slice(), &places, &steps, forest.as_slice())?;
+    }
+    Ok(())
+}
+
+// Vertices without links stay by themselves, and what is joined has its least vertex for a label, whichever of its
+// vertices the picks lead to.
+#[test]
+fn steps_beside_lone_vertices(rt: HostRuntime) -> Result<(), Fail> {
+    let alloc = rt.alloc();
+    let arcs: [Row; 4] = [(9, 3, 1), (3, 6, 2), (8, 5, 4), (6, 8, 9)];
+    let forest: [Row; 4] = [(3, 9, 1), (3, 6, 2), (5, 8, 4), (6, 8, 9)];
+    let pairs = [1, 2, 3, 4, 5, 3, 7, 5, 3, 10].as_slice();
+    let merged = [1, 2, 3, 4, 3, 3, 7, 3, 3, 10].as_slice();
+    let steps: [Step; 3] = [
+        (&[0], Turn::Merged(3), pairs),
+        (&[0], Turn::Merged(1), merged),
+        (&[0], Turn::Done, merged),
+    ];
+    expect_cut(&rt, alloc, 10, &arcs, &[], &steps, &forest)
+}
+
 #[test]
 fn told_faults(rt: HostRuntime) -> Result<(), Fail> {
     let alloc = rt.alloc();
