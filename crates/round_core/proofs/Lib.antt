@@ -13,7 +13,6 @@ pub mod Jumping
 pub mod Naming
 pub mod Merging
 pub mod Missing
-pub mod Sorting
 pub mod WholeCuts
 pub mod WholeRounds
 pub mod Worked

@@ -134,8 +134,8 @@ impl<A: Allocator + Copy> Solver<A> {
     /// The links taken, as a forest, where they join the ends of each link of the cut. Else the first link of the cut,
     /// in its order, whose ends they don't join; that is looked for before memory is asked for.
     ///
-    /// It looks at each link of the cut once, and sorts the links taken: for m links of n vertices O(m + n log n) time,
-    /// and 16 bytes for each link taken.
+    /// It looks at each link of the cut once, and sorts the links taken: for m links of n vertices O(m + n log n) time.
+    /// Memory: 16 bytes for each link taken, and while it sorts what [`Forest::of_distinct`] takes beside them.
     pub fn finish(&self, cut: &Cut<A>) -> Result<Forest<A>, SolveFault>
         requires ends { All (EndsUpTo (vertices self.now)) cut.now }
         ensures forest { IfOk result (IsFinished self.now (joined cut.now)) }
@@ -217,10 +217,6 @@ fn in_key_order<A: Allocator + Copy>(alloc: A, links: &[Link]) -> Result<Forest<
     ensures same { IfOk result (λ forest. IsPermutation links.now forest) }
     ensures ascending { IfOk result IsAscending }
 {
-    let mut sorted = Vec::from_slice(alloc, links)?;
-    sorted.sort_unstable();
-    match Forest::of_list(sorted) {
-        Some(forest) => Ok(forest),
-        None => unreachable!(),
-    }
+    let kept = Vec::from_slice(alloc, links)?;
+    Forest::of_distinct(alloc, kept)
 }
