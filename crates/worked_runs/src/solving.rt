@@ -302,7 +302,15 @@ fn steps_along_chains_of_picks(rt: HostRuntime) -> Result<(), Fail> {
             (&[2, 1, 0], Turn::Done, ones.as_slice()),
         ];
         let places = [20_000, 50_000];
-        expect_cut(&rt, alloc, 70_000, arcs.as_slice(), &places, &steps, forest.as_slice())?;
+        expect_cut(
+            &rt,
+            alloc,
+            70_000,
+            arcs.as_slice(),
+            &places,
+            &steps,
+            forest.as_slice(),
+        )?;
     }
     Ok(())
 }
