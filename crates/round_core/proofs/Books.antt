@@ -1,12 +1,13 @@
 -- A round's book: how it begins, and what the answers that it keeps name.
-use Rattle.std.proofs.Common.{◌≡◌, ◌≢◌, ℕ, zero, suc, ◌+◌, ◌<◌, ◌≤◌, ◌==◌, ◌↔◌, Bool, true, false, not, cond, ◌&&◌, List, [], ◌∷◌, ◌++◌, length, map, replicate, get_or, take, Contains, Some, None, refl, sym, ap, ◌∙◌, subst, inl, inr, arith}
-use Rattle.std.specs.Prelude.{Option, All, count_by, flat_map, slice_get}
+use Rattle.std.proofs.Common.{◌≡◌, ◌≢◌, ℕ, zero, suc, ◌+◌, ◌<◌, ◌≤◌, ◌==◌, ◌↔◌, Bool, true, false, not, cond, ◌&&◌, List, [], ◌∷◌, ◌++◌, length, map, replicate, get_or, take, drop, Contains, Some, None, refl, sym, ap, ◌∙◌, subst, inl, inr, arith}
+use Rattle.std.specs.Prelude.{Option, All, count_by, slice_get}
 use Rattle.std.specs.List.{list_all}
 use Rattle.std.specs.Option.{option_to_list}
 use Rattle.std.proofs.lemmas.Bool.Decides.{nat_tests}
-use Rattle.std.proofs.lemmas.List.{length-replicate, get_or-replicate, flat_map_more, take_more, get_or_default, length-map, get_or-map}
+use Rattle.std.proofs.lemmas.List.{length-replicate, get_or-replicate, flat_map_more, take_more, take-append-drop, get_or_default, length-map, get_or-map}
 use Rattle.std.proofs.lemmas.List.Elements.{All-get_or}
 use Rattle.std.proofs.lemmas.List.Sums.{sum_by-cons}
+use Rattle.std.proofs.lemmas.Grind.{flat_map-append}
 use Rattle.std.proofs.lemmas.Option.{slice_get_cases, slice_get_read}
 use Rattle.limits.specs.declared.TheConstants.{MAX_SHARDS}
 use Rattle.link_key.specs.declared.links.Link.{Link}
@@ -19,8 +20,9 @@ use Rattle.frames.specs.AnswerValue.{AnswerValue}
 use Rattle.round_theory.specs.LinkSet.{SameLinks}
 use Rattle.round_theory.specs.Offers.{Hearing, Names, IsNamed}
 use Rattle.round_theory.proofs.Cutting.{any_from, flat_map_contains}
-use Rattle.round_core.specs.Picks.{AreNoPicks}
-use Rattle.round_core.specs.Page.{opened, is_leaving, is_offer, hearing_of, named_links, IsPage, IsBook}
+use Rattle.round_core.specs.Picks.{ArePicks, AreNoPicks, Counts}
+use Rattle.round_core.proofs.Counts.{no_picks, picks_alike}
+use Rattle.round_core.specs.Page.{opened, is_leaving, is_offer, Page, hearing_of, hearings, named_links, all_named, IsPage, IsBook}
 
 -- all are missing at first
 all_missing : (k : ℕ) → count_by not (replicate k false) ≡ k
@@ -104,10 +106,7 @@ one_more_named links offers i o l lt at within here =
     let more = flat_map_more (λ (x : Offer). option_to_list (slice_get links x.1)) [] (take i offers) o in
     ap (named_links links) next ∙ sym more ∙ ap (λ x. named_links links (take i offers) ++ option_to_list x) read
 
--- the links that the answers name
-abbrev pub all_named : List (List Link) → List AnswerValue → List Link
-all_named cut answers = flat_map (λ (a : AnswerValue). named_links (links_at cut a.shard) a.offers) answers
-
+-- one more answer names the links of its offers
 pub one_more_answer : (cut : List (List Link)) (answers : List AnswerValue) (i : ℕ) (a : AnswerValue) → i < length answers → a ≡ get_or answers i a
     → all_named cut (take (i + 1) answers) ≡ all_named cut (take i answers) ++ named_links (links_at cut a.shard) a.offers
 one_more_answer cut answers i a lt at =
@@ -171,3 +170,14 @@ same_named cut answers l = (to, back)
 -- what the offers of an answer name are links that leave a component
 pub offer_at : (links : List Link) (labels : List ℕ) (offers : List Offer) (i : ℕ) → i < length offers → list_all (is_offer links labels) offers ≡ true → IsOffered links labels (get_or offers i (0, 0)).1
 offer_at links labels offers i lt all = offered links labels (get_or offers i (0, 0)) (all_at (is_offer links labels) offers i (0, 0) lt all)
+
+-- what the first answers name and what the rest do stand one behind the other
+pub named_in_halves : (cut : List (List Link)) (answers : List AnswerValue) (n : ℕ) → all_named cut (take n answers) ++ all_named cut (drop n answers) ≡ all_named cut answers
+named_in_halves cut answers n =
+    sym (flat_map-append (λ (a : AnswerValue). named_links (links_at cut a.shard) a.offers) (take n answers) (drop n answers))
+    ∙ ap (all_named cut) (take-append-drop n answers)
+
+-- all answers of a book, counted into no picks, make the picks of what was heard
+pub picks_of_book : (p : Page) (best best' : List (Option Link)) → length best ≡ length p.labels → AreNoPicks best → Counts p.labels (all_named p.cut p.answers) best best' → ArePicks p.labels (IsNamed (hearings p)) best'
+picks_of_book p best best' long none counts =
+    picks_alike p.labels (Contains (all_named p.cut p.answers)) (IsNamed (hearings p)) best' (same_named p.cut p.answers) (counts [] (no_picks p.labels best long none))

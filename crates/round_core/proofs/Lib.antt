@@ -1,5 +1,6 @@
 pub mod Counts
 pub mod PickNumbers
+pub mod Lessers
 pub mod Books
 pub mod Honest
 pub mod HookWalks

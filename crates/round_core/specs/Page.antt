@@ -93,6 +93,16 @@ pub record IsBook (p : Page) (room : ℕ) (best : List (Option Link)) : Type 0 w
 abbrev pub named_links : List Link → List Offer → List Link
 named_links links offers = flat_map (λ (o : Offer). option_to_list (slice_get links o.1)) offers
 
+-- the links that the answers name, in their order
+abbrev pub all_named : List (List Link) → List AnswerValue → List Link
+all_named cut answers = flat_map (λ (a : AnswerValue). named_links (links_at cut a.shard) a.offers) answers
+
+-- answers that can be counted: each is for a shard of the cut, and each of its offers names a link that leaves its component
+pub record CanCount (cut : List (List Link)) (labels : List ℕ) (answers : List AnswerValue) : Type 0 where
+  pub labelled : AreLabels labels
+  pub ends : All (EndsUpTo (length labels)) cut
+  pub right : All (λ (a : AnswerValue). IsRight a.round cut labels a) answers
+
 -- the light offers of a shard that is missing, told of this round and for that shard, are no answer to refuse
 abbrev pub LightOffersAreTaken : Type 0
 LightOffersAreTaken =

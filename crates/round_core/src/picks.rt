@@ -1,8 +1,8 @@
 ghost use Rattle.std.specs.Prelude.{◌≡◌, ◌≢◌, ℕ, List, ◌+◌, ◌-◌, ◌<◌, ◌≤◌, ◌↔◌, [], ◌∷◌, ◌++◌, length, slice_index_or, All, Some, None, IsTrue, IfOk, Contains};
 ghost use Rattle.link_key.specs.declared.links.Link.{Link as TheLink};
 ghost use Rattle.link_key.specs.Labels.{label_of, AreLabels};
-ghost use Rattle.round_core.specs.Picks.{pick_of, AreNoPicks, ArePicks};
-ghost use Rattle.round_core.specs.PickNumbers.{IsKeyNumber, IsPickNumber, pick_in};
+ghost use Rattle.round_core.specs.Picks.{pick_of, AreNoPicks, ArePicks, Counts};
+ghost use Rattle.round_core.specs.PickNumbers.{IsKeyNumber, IsPickNumber, AreLesserOf, pick_in};
 
 use link_key::Link;
 use std::alloc::{AllocError, Allocator, Global};
@@ -51,6 +51,17 @@ impl<A: Allocator + Copy> Picks<A> {
     }
 }
 
+impl<A: Allocator + Copy> Picks<A> {
+    // No pick for each of the labels that these have one for.
+    pub(crate) fn none_beside(&self) -> Result<Self, AllocError>
+        ensures each_vertex { IfOk result (λ picks. length picks ≡ length self.now) }
+        ensures none { IfOk result AreNoPicks }
+    {
+        let numbers = vec![in *self.numbers.allocator(); NO_PICK; self.numbers.len()]?;
+        Ok(Picks { numbers })
+    }
+}
+
 impl<A: Allocator> Picks<A> {
     /// The pick of a label, or of any vertex, which has none where it is no label.
     pub fn of(&self, label: u32) -> Option<Link>
@@ -73,6 +84,15 @@ impl<A: Allocator> Picks<A> {
         ensures { result ≡ length self.now }
     {
         self.numbers.len()
+    }
+
+    // Takes the lesser of its pick and the other's for each label.
+    pub(crate) fn take_lesser(&mut self, others: &Self)
+        requires each_vertex { length self.old ≡ length others.now }
+        ensures each_vertex { length self.new ≡ length self.old }
+        ensures picks { (labels : List ℕ) (more : List TheLink) → ArePicks labels (Contains more) others.now → Counts labels more self.old self.new }
+    {
+        lower_each(self.numbers.as_mut_slice(), others.numbers.as_slice());
     }
 
     // The pick of the vertex that so many vertices stand before.
@@ -107,6 +127,16 @@ fn are_no_picks(numbers: &[u128]) -> bool
     ensures { IsTrue result ↔ All (λ k. k ≡ NO_PICK) numbers.now }
 {
     numbers.iter().all(|number| *number == NO_PICK)
+}
+
+// Lowers each number to the other at its place, where that is less.
+fn lower_each(numbers: &mut [u128], others: &[u128])
+    requires { length numbers.old ≡ length others.now }
+    ensures { AreLesserOf numbers.old others.now numbers.new }
+{
+    for i in 0..others.len() {
+        numbers[i] = numbers[i].min(others[i]);
+    }
 }
 
 // The number of a link's key. Numbers compare as keys do.

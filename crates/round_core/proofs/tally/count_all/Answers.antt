@@ -6,7 +6,7 @@ use Rattle.link_key.specs.Labels.{label_of}
 use Rattle.round_core.specs.Page.{named_links}
 use Rattle.round_core.specs.Picks.{ArePicks}
 use Rattle.round_core.proofs.Books.{offer_at, one_more_named}
-use Rattle.round_core.proofs.book.count_all.Goals as goal
+use Rattle.round_core.proofs.tally.count_all.Goals as goal
 
 pub bounds-links-place : goal.bounds-links-place
 bounds-links-place g c = (offer_at c.args.links.now c.args.labels.now c.args.pairs.now c.loop-place.place-index c.loop-place-test.true c.requires.offers).within

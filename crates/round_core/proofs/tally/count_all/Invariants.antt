@@ -2,7 +2,7 @@ use Rattle.std.proofs.Common.{◌≡◌, List, ◌++◌, length, take, Contains}
 use Rattle.link_key.specs.declared.links.Link.{Link}
 use Rattle.round_core.specs.Page.{named_links}
 use Rattle.round_core.specs.Picks.{ArePicks}
-use Rattle.round_core.proofs.book.count_all.Given as goal
+use Rattle.round_core.proofs.tally.count_all.Given as goal
 
 abbrev pub invariant-loop-place : goal.invariant-loop-place
 invariant-loop-place g l = record {

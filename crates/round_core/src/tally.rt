@@ -1,0 +1,149 @@
+//! The count of what a round's answers offer: in one thread, or by halves in threads, each with picks of its own.
+ghost use Rattle.std.specs.Prelude.{◌≡◌, ℕ, List, ◌+◌, ◌<◌, ◌≤◌, ◌++◌, length, All, Contains, true};
+ghost use Rattle.std.specs.List.{list_all};
+ghost use denote.Param.Send.{IsSync, IsSend, Frees};
+ghost use Rattle.link_key.specs.Link.{EndsUpTo};
+ghost use Rattle.link_key.specs.Labels.{AreLabels};
+ghost use Rattle.round_core.specs.Page.{is_offer, named_links, all_named, CanCount};
+ghost use Rattle.round_core.specs.Picks.{Counts};
+
+use crate::picks::Picks;
+use frames::Answer;
+use link_key::{Cut, Link};
+use rayon::{current_num_threads, join};
+use std::alloc::Allocator;
+use std::thread::Threads;
+
+// So few offers are worth no thread of their own.
+const FEW_OFFERS: usize = 1 << 17;
+
+// A part has an offer for so many labels at least: picks of its own cost as much as counting it else.
+const LABELS_PER_OFFER: usize = 4;
+
+// So often offers are halved at most, whatever processors there are: each part has picks of its own.
+const MOST_HALVINGS: usize = 3;
+
+// How many offers the answers have.
+pub(crate) fn offers_in<A: Allocator>(answers: &[Answer<A>]) -> usize {
+    let mut offers = 0usize;
+    for answer in answers {
+        offers = offers.saturating_add(answer.offers.pairs().len());
+    }
+    offers
+}
+
+// How often so many offers are to be halved: as often as there are processors for, and each part is worth picks of its own.
+pub(crate) fn halvings_of<R: Threads>(rt: &R, offers: usize, labels: usize) -> usize {
+    if offers < FEW_OFFERS {
+        return 0;
+    }
+    let most = offers.saturating_mul(LABELS_PER_OFFER) / labels.max(1);
+    let parts = current_num_threads(rt).min(most).max(1);
+    (parts.ilog2() as usize).min(MOST_HALVINGS)
+}
+
+// Counts each link that the answers offer, for both of its components. The answers are halved so many times, and one half
+// goes to a thread of its own where one can be made, with picks of its own where there is memory for them.
+#[cycle(parts)]
+pub(crate) fn count_by_halves<R: Threads + Sync, A: Allocator + Copy + Send + Sync>(
+    rt: &R,
+    cut: &Cut<A>,
+    labels: &[u32],
+    answers: &[Answer<A>],
+    picks: Picks<A>,
+    halvings: usize,
+) -> Picks<A>
+    requires can { CanCount cut.now labels.now answers.now }
+    requires each_vertex { length picks ≡ length labels.now }
+    ensures each_vertex { length result ≡ length labels.now }
+    ensures picks { Counts labels.now (all_named cut.now answers.now) picks result }
+{
+    if halvings == 0 || answers.len() < 2 {
+        return count_alone(cut, labels, answers, picks);
+    }
+    let Ok(others) = picks.none_beside() else {
+        return count_alone(cut, labels, answers, picks);
+    };
+    let (earlier, later) = answers.split_at(middle_of(answers));
+    let front = move || -> Picks<A>
+        requires { IsSync R.row × IsSend A.row × IsSync A.row × Frees A.Allocator A.dealloc_token × (0 < halvings) × CanCount cut.now labels.now earlier.now × (length picks ≡ length labels.now) }
+        ensures { (length result ≡ length labels.entry.now) × Counts labels.entry.now (all_named cut.entry.now earlier.entry.now) picks result }
+    { count_by_halves(rt, cut, labels, earlier, picks, halvings - 1) };
+    let back = move || -> Picks<A>
+        requires { IsSync R.row × IsSend A.row × IsSync A.row × Frees A.Allocator A.dealloc_token × (0 < halvings) × CanCount cut.now labels.now later.now × (length others ≡ length labels.now) }
+        ensures { (length result ≡ length labels.entry.now) × Counts labels.entry.now (all_named cut.entry.now later.entry.now) others result }
+    { count_by_halves(rt, cut, labels, later, others, halvings - 1) };
+    let (mut all, rest) = join(rt, front, back);
+    all.take_lesser(&rest);
+    all
+}
+
+// How many answers the first half has: those up to the offer in the middle, and one answer at least on each side.
+fn middle_of<A: Allocator>(answers: &[Answer<A>]) -> usize
+    requires { 2 ≤ length answers.now }
+    ensures some { 0 < result }
+    ensures not_all { result < length answers.now }
+{
+    let half = offers_in(answers) / 2;
+    let mut before = 0usize;
+    for (i, answer) in answers.iter().enumerate() {
+        before = before.saturating_add(answer.offers.pairs().len());
+        if half <= before {
+            return (i + 1).min(answers.len() - 1);
+        }
+    }
+    answers.len() - 1
+}
+
+// The same in one thread.
+fn count_alone<A: Allocator>(
+    cut: &Cut<A>,
+    labels: &[u32],
+    answers: &[Answer<A>],
+    mut picks: Picks<A>,
+) -> Picks<A>
+    requires can { CanCount cut.now labels.now answers.now }
+    requires each_vertex { length picks ≡ length labels.now }
+    ensures each_vertex { length result ≡ length labels.now }
+    ensures picks { Counts labels.now (all_named cut.now answers.now) picks result }
+{
+    count_answers(cut, labels, answers, &mut picks);
+    picks
+}
+
+// Counts each link that the answers offer, for both of its components.
+pub(crate) fn count_answers<A: Allocator>(
+    cut: &Cut<A>,
+    labels: &[u32],
+    answers: &[Answer<A>],
+    picks: &mut Picks<A>,
+)
+    requires can { CanCount cut.now labels.now answers.now }
+    requires each_vertex { length picks.old ≡ length labels.now }
+    ensures each_vertex { length picks.new ≡ length picks.old }
+    ensures picks { Counts labels.now (all_named cut.now answers.now) picks.old picks.new }
+{
+    for answer in answers {
+        let links = cut.shard(answer.shard).links;
+        count_all(labels, links, answer.offers.pairs(), picks);
+    }
+}
+
+// Counts each offered link of a shard for both of its components.
+fn count_all<A: Allocator>(
+    labels: &[u32],
+    links: &[Link],
+    pairs: &[(u32, u32)],
+    picks: &mut Picks<A>,
+)
+    requires labels { AreLabels labels.now }
+    requires ends { EndsUpTo (length labels.now) links.now }
+    requires each_vertex { length picks.old ≡ length labels.now }
+    requires offers { list_all (is_offer links.now labels.now) pairs.now ≡ true }
+    ensures each_vertex { length picks.new ≡ length picks.old }
+    ensures picks { Counts labels.now (named_links links.now pairs.now) picks.old picks.new }
+{
+    for (_, place) in pairs {
+        picks.count(labels, links[*place as usize]);
+    }
+}
