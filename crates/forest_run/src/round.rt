@@ -74,7 +74,7 @@ pub(crate) fn run_round<
 // A whole round of this number over a book of its own: the picks of the answers, and how many shards the coordinator
 // scanned itself. The only error is want of memory; then each lane is as its asks left it.
 //
-// It takes a book, which is freed with the round, and what `run_round` takes.
+// It takes a book, which is freed with the round, what `run_round` takes, and what closing a book in threads takes.
 pub(crate) fn picks_of_round<
     'a,
     A: Allocator + Copy + Send + Sync,
@@ -100,5 +100,5 @@ pub(crate) fn picks_of_round<
 {
     let mut book = RoundBook::open(alloc, round, cut, labels)?;
     let alone = run_round(rt, alloc, &mut book, lanes)?;
-    Ok((book.close(), alone))
+    Ok((book.close_in_threads(rt), alone))
 }
