@@ -1,13 +1,12 @@
 -- A round's book: how it begins, and what the answers that it keeps name.
-use Rattle.std.proofs.Common.{◌≡◌, ◌≢◌, ℕ, zero, suc, ◌+◌, ◌<◌, ◌≤◌, ◌==◌, ◌↔◌, Bool, true, false, not, cond, ◌&&◌, List, [], ◌∷◌, ◌++◌, length, map, replicate, get_or, take, drop, Contains, Some, None, refl, sym, ap, ◌∙◌, subst, inl, inr, arith}
+use Rattle.std.proofs.Common.{◌≡◌, ◌≢◌, ℕ, zero, suc, ◌+◌, ◌<◌, ◌≤◌, ◌==◌, ◌↔◌, Bool, true, false, not, cond, ◌&&◌, List, [], ◌∷◌, ◌++◌, length, map, replicate, get_or, take, Contains, Some, None, refl, sym, ap, ◌∙◌, subst, inl, inr, arith}
 use Rattle.std.specs.Prelude.{Option, All, count_by, slice_get}
 use Rattle.std.specs.List.{list_all}
 use Rattle.std.specs.Option.{option_to_list}
 use Rattle.std.proofs.lemmas.Bool.Decides.{nat_tests}
-use Rattle.std.proofs.lemmas.List.{length-replicate, get_or-replicate, flat_map_more, take_more, take-append-drop, get_or_default, length-map, get_or-map}
+use Rattle.std.proofs.lemmas.List.{length-replicate, get_or-replicate, flat_map_more, take_more, get_or_default, length-map, get_or-map}
 use Rattle.std.proofs.lemmas.List.Elements.{All-get_or}
 use Rattle.std.proofs.lemmas.List.Sums.{sum_by-cons}
-use Rattle.std.proofs.lemmas.Grind.{flat_map-append}
 use Rattle.std.proofs.lemmas.Option.{slice_get_cases, slice_get_read}
 use Rattle.limits.specs.declared.TheConstants.{MAX_SHARDS}
 use Rattle.link_key.specs.declared.links.Link.{Link}
@@ -170,12 +169,6 @@ same_named cut answers l = (to, back)
 -- what the offers of an answer name are links that leave a component
 pub offer_at : (links : List Link) (labels : List ℕ) (offers : List Offer) (i : ℕ) → i < length offers → list_all (is_offer links labels) offers ≡ true → IsOffered links labels (get_or offers i (0, 0)).1
 offer_at links labels offers i lt all = offered links labels (get_or offers i (0, 0)) (all_at (is_offer links labels) offers i (0, 0) lt all)
-
--- what the first answers name and what the rest do stand one behind the other
-pub named_in_halves : (cut : List (List Link)) (answers : List AnswerValue) (n : ℕ) → all_named cut (take n answers) ++ all_named cut (drop n answers) ≡ all_named cut answers
-named_in_halves cut answers n =
-    sym (flat_map-append (λ (a : AnswerValue). named_links (links_at cut a.shard) a.offers) (take n answers) (drop n answers))
-    ∙ ap (all_named cut) (take-append-drop n answers)
 
 -- all answers of a book, counted into no picks, make the picks of what was heard
 pub picks_of_book : (p : Page) (best best' : List (Option Link)) → length best ≡ length p.labels → AreNoPicks best → Counts p.labels (all_named p.cut p.answers) best best' → ArePicks p.labels (IsNamed (hearings p)) best'

@@ -2,6 +2,7 @@ pub mod Counts
 pub mod PickNumbers
 pub mod Lessers
 pub mod Books
+pub mod Halves
 pub mod Honest
 pub mod HookWalks
 pub mod Hooking

@@ -97,6 +97,12 @@ named_links links offers = flat_map (λ (o : Offer). option_to_list (slice_get l
 abbrev pub all_named : List (List Link) → List AnswerValue → List Link
 all_named cut answers = flat_map (λ (a : AnswerValue). named_links (links_at cut a.shard) a.offers) answers
 
+-- offers of a shard that can be counted: each names a link that leaves its component
+pub record CanCountOffers (links : List Link) (labels : List ℕ) (offers : List Offer) : Type 0 where
+  pub labelled : AreLabels labels
+  pub ends : EndsUpTo (length labels) links
+  pub leaving : list_all (is_offer links labels) offers ≡ true
+
 -- answers that can be counted: each is for a shard of the cut, and each of its offers names a link that leaves its component
 pub record CanCount (cut : List (List Link)) (labels : List ℕ) (answers : List AnswerValue) : Type 0 where
   pub labelled : AreLabels labels

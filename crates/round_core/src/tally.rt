@@ -4,7 +4,7 @@ ghost use Rattle.std.specs.List.{list_all};
 ghost use denote.Param.Send.{IsSync, IsSend, Frees};
 ghost use Rattle.link_key.specs.Link.{EndsUpTo};
 ghost use Rattle.link_key.specs.Labels.{AreLabels};
-ghost use Rattle.round_core.specs.Page.{is_offer, named_links, all_named, CanCount};
+ghost use Rattle.round_core.specs.Page.{is_offer, named_links, all_named, CanCount, CanCountOffers};
 ghost use Rattle.round_core.specs.Picks.{Counts};
 
 use crate::picks::Picks;
@@ -59,7 +59,7 @@ pub(crate) fn count_by_halves<R: Threads + Sync, A: Allocator + Copy + Send + Sy
     ensures picks { Counts labels.now (all_named cut.now answers.now) picks result }
 {
     if halvings == 0 || answers.len() < 2 {
-        return count_alone(cut, labels, answers, picks);
+        return count_undivided(rt, cut, labels, answers, picks, halvings);
     }
     let Ok(others) = picks.none_beside() else {
         return count_alone(cut, labels, answers, picks);
@@ -78,7 +78,8 @@ pub(crate) fn count_by_halves<R: Threads + Sync, A: Allocator + Copy + Send + Sy
     all
 }
 
-// How many answers the first half has: those up to the offer in the middle, and one answer at least on each side.
+// How many answers the first half has: those whose own middle comes before that of all offers, and one answer at least
+// on each side.
 fn middle_of<A: Allocator>(answers: &[Answer<A>]) -> usize
     requires { 2 ≤ length answers.now }
     ensures some { 0 < result }
@@ -87,15 +88,39 @@ fn middle_of<A: Allocator>(answers: &[Answer<A>]) -> usize
     let half = offers_in(answers) / 2;
     let mut before = 0usize;
     for (i, answer) in answers.iter().enumerate() {
-        before = before.saturating_add(answer.offers.pairs().len());
-        if half <= before {
-            return (i + 1).min(answers.len() - 1);
+        let offers = answer.offers.pairs().len();
+        if half <= before.saturating_add(offers / 2) {
+            return i.max(1).min(answers.len() - 1);
         }
+        before = before.saturating_add(offers);
     }
     answers.len() - 1
 }
 
-// The same in one thread.
+// Counts each link that the answers offer, for both of its components: one answer's in two threads where there is a
+// halving left, and those of others in one.
+fn count_undivided<R: Threads + Sync, A: Allocator + Copy + Send + Sync>(
+    rt: &R,
+    cut: &Cut<A>,
+    labels: &[u32],
+    answers: &[Answer<A>],
+    picks: Picks<A>,
+    halvings: usize,
+) -> Picks<A>
+    requires can { CanCount cut.now labels.now answers.now }
+    requires each_vertex { length picks ≡ length labels.now }
+    ensures each_vertex { length result ≡ length labels.now }
+    ensures picks { Counts labels.now (all_named cut.now answers.now) picks result }
+{
+    if halvings == 0 || answers.len() != 1 {
+        return count_alone(cut, labels, answers, picks);
+    }
+    let answer = &answers[0];
+    let links = cut.shard(answer.shard).links;
+    count_in_two(rt, labels, links, answer.offers.pairs(), picks)
+}
+
+// Counts each link that the answers offer, for both of its components, in one thread.
 fn count_alone<A: Allocator>(
     cut: &Cut<A>,
     labels: &[u32],
@@ -111,7 +136,7 @@ fn count_alone<A: Allocator>(
     picks
 }
 
-// Counts each link that the answers offer, for both of its components.
+// The same into picks that are lent.
 pub(crate) fn count_answers<A: Allocator>(
     cut: &Cut<A>,
     labels: &[u32],
@@ -127,6 +152,53 @@ pub(crate) fn count_answers<A: Allocator>(
         let links = cut.shard(answer.shard).links;
         count_all(labels, links, answer.offers.pairs(), picks);
     }
+}
+
+// Counts each offered link of a shard for both of its components; one half of the offers goes to a thread of its own where
+// one can be made, with picks of its own where there is memory for them.
+fn count_in_two<R: Threads + Sync, A: Allocator + Copy + Send + Sync>(
+    rt: &R,
+    labels: &[u32],
+    links: &[Link],
+    pairs: &[(u32, u32)],
+    picks: Picks<A>,
+) -> Picks<A>
+    requires can { CanCountOffers links.now labels.now pairs.now }
+    requires each_vertex { length picks ≡ length labels.now }
+    ensures each_vertex { length result ≡ length labels.now }
+    ensures picks { Counts labels.now (named_links links.now pairs.now) picks result }
+{
+    let Ok(others) = picks.none_beside() else {
+        return count_one(labels, links, pairs, picks);
+    };
+    let (earlier, later) = pairs.split_at(pairs.len() / 2);
+    let front = move || -> Picks<A>
+        requires { CanCountOffers links.now labels.now earlier.now × (length picks ≡ length labels.now) }
+        ensures { (length result ≡ length labels.entry.now) × Counts labels.entry.now (named_links links.entry.now earlier.entry.now) picks result }
+    { count_one(labels, links, earlier, picks) };
+    let back = move || -> Picks<A>
+        requires { CanCountOffers links.now labels.now later.now × (length others ≡ length labels.now) }
+        ensures { (length result ≡ length labels.entry.now) × Counts labels.entry.now (named_links links.entry.now later.entry.now) others result }
+    { count_one(labels, links, later, others) };
+    let (mut all, rest) = join(rt, front, back);
+    all.take_lesser(&rest);
+    all
+}
+
+// The same in one thread.
+fn count_one<A: Allocator>(
+    labels: &[u32],
+    links: &[Link],
+    pairs: &[(u32, u32)],
+    mut picks: Picks<A>,
+) -> Picks<A>
+    requires can { CanCountOffers links.now labels.now pairs.now }
+    requires each_vertex { length picks ≡ length labels.now }
+    ensures each_vertex { length result ≡ length labels.now }
+    ensures picks { Counts labels.now (named_links links.now pairs.now) picks result }
+{
+    count_all(labels, links, pairs, &mut picks);
+    picks
 }
 
 // Counts each offered link of a shard for both of its components.

@@ -2,7 +2,7 @@ use Rattle.std.proofs.Common.{rules, ◌≡◌, ◌++◌, [], List, Contains, ap
 use Rattle.link_key.specs.declared.links.Link.{Link}
 use Rattle.round_core.specs.Page.{all_named}
 use Rattle.round_core.specs.Picks.{ArePicks}
-use Rattle.round_core.proofs.Books.{named_in_halves}
+use Rattle.round_core.proofs.Halves.{named_in_halves}
 use Rattle.round_core.proofs.Counts.{no_picks}
 use Rattle.round_core.proofs.tally.+parts.Goals as goal
 
