@@ -2,6 +2,7 @@
 //! a new one goes, stands at the head of `worked_examples`.
 //!
 //! ```text
+//!   closing         books closed in threads and in one
 //!   passes          whole runs over lanes: two workers in memory, and none
 //!   relabelling     components made one by merges and by picks, and the labels that follow
 //!   rounds          the judge's answers, the order of answers, a book that several threads read
@@ -15,6 +16,8 @@
 //! too large for a test here, and so are as many vertices as there may be, 67,108,864.
 #![tactic(auto)]
 
+#[cfg(test)]
+mod closing;
 #[cfg(test)]
 mod passes;
 #[cfg(test)]

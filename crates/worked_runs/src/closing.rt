@@ -1,0 +1,150 @@
+// Books closed in threads: the picks are those of closing in one, and the least of what was offered, whether the offers
+// are worth threads or too few, of equal links and of links of equal weight, and whoever answers first.
+ghost use Rattle.std.specs.Prelude.{◌≡◌, IfOk};
+
+use frames::Answer;
+use link_key::{Cut, Labels, Link, Offers};
+use round_core::RoundBook;
+use std::alloc::Global;
+use std::process::Abort;
+use std::test::Fail;
+use std::thread::Threads;
+use worked_graphs::all_have_labels;
+
+// The link of a shard from a vertex to the next. Five weights make many shards' links equal, and others tie.
+fn step(shard: u32, vertex: u32) -> Option<Link> {
+    let drawn = vertex.wrapping_mul(2_654_435_761) ^ shard.wrapping_mul(40_503);
+    Link::of_arc(vertex, vertex.saturating_add(1), i64::from((drawn >> 9) % 5))
+}
+
+// So many shards that each have a link from each of n vertices to the next.
+fn paths(rt: &impl Abort, alloc: Global, n: u32, shards: u32) -> Result<Vec<Link>, Fail> {
+    let mut links = Vec::new(alloc);
+    for shard in 0..shards {
+        for vertex in 1..n {
+            links.push(step(shard, vertex).expect(rt, "a link"))?;
+        }
+    }
+    Ok(links)
+}
+
+// An answer that offers the first so many links of a path, each for the lower of its ends.
+fn first_links(
+    rt: &impl Abort,
+    alloc: Global,
+    shard: u32,
+    count: u32,
+) -> Result<Answer, Fail> {
+    let mut pairs = Vec::new(alloc);
+    for place in 0..count {
+        assert!(rt; place < 1 << 30);
+        pairs.push((place + 1, place))?;
+    }
+    let offers = Offers::of_pairs(pairs).expect(rt, "ascending");
+    Ok(Answer {
+        round: 1,
+        shard,
+        offers,
+    })
+}
+
+// A book that has heard each shard offer the first so many of its links, in this order of the shards.
+fn heard<'a>(
+    rt: &impl Abort,
+    alloc: Global,
+    cut: &'a Cut<'a>,
+    labels: &'a Labels,
+    counts: &[u32],
+    order: &[u32],
+) -> Result<RoundBook<'a>, Fail>
+    ensures { IfOk result (λ book. book.labels ≡ labels.now) }
+{
+    assert!(rt; all_have_labels(cut, labels.n()));
+    let mut book = RoundBook::open(alloc, 1, cut, labels)?;
+    for shard in order {
+        assert!(rt; (*shard as usize) < counts.len() && *shard < book.len());
+        let answer = first_links(rt, alloc, *shard, counts[*shard as usize])?;
+        book.take(*shard, answer)?;
+    }
+    Ok(book)
+}
+
+// The least of the offered links that leave a vertex, by a look at all of them.
+fn least(counts: &[u32], vertex: u32) -> Option<Link> {
+    let mut least: Option<Link> = None;
+    for (shard, count) in counts.iter().enumerate() {
+        for low in [vertex.saturating_sub(1), vertex] {
+            if low == 0 || low > *count {
+                continue;
+            }
+            if let Some(link) = step(shard as u32, low) {
+                least = match least {
+                    Some(other) if other < link => Some(other),
+                    _ => Some(link),
+                };
+            }
+        }
+    }
+    least
+}
+
+// The picks of a round over paths of n vertices are the least offered, closed in threads and in one.
+fn expect_least<R: Abort + Threads + Sync>(
+    rt: &R,
+    alloc: Global,
+    n: u32,
+    counts: &[u32],
+    order: &[u32],
+) -> Result<(), Fail> {
+    assert!(rt; order.len() <= 8);
+    let shards = order.len() as u32;
+    let links = paths(rt, alloc, n, shards)?;
+    assert!(rt; links.len() <= 1 << 24);
+    let cut = Cut::even(alloc, links.as_slice(), shards).expect(rt, "a cut");
+    let labels = Labels::apart(alloc, n)?;
+    let book = heard(rt, alloc, &cut, &labels, counts, order)?;
+    assert!(rt; book.missing() == 0);
+    let alone = book.close();
+    let book = heard(rt, alloc, &cut, &labels, counts, order)?;
+    assert!(rt; book.missing() == 0);
+    let beside = book.close_in_threads(rt);
+    for vertex in 1..n + 1 {
+        assert!(rt; vertex <= labels.n());
+        assert_eq!(rt; beside.of(vertex), alone.of(vertex));
+        assert_eq!(rt; beside.of(vertex), least(counts, vertex));
+    }
+    Ok(())
+}
+
+// 160,000 offers, 20,000 of each shard: past what one thread counts. The order of answers changes nothing.
+#[test]
+fn many_offers(rt: HostRuntime) -> Result<(), Fail> {
+    let counts = [20_000; 8];
+    expect_least(&rt, rt.alloc(), 20_001, &counts, &[0, 1, 2, 3, 4, 5, 6, 7])?;
+    expect_least(&rt, rt.alloc(), 20_001, &counts, &[7, 6, 5, 4, 3, 2, 1, 0])
+}
+
+// As many, of which two answers have nearly all, and one has none.
+#[test]
+fn answers_of_unequal_length(rt: HostRuntime) -> Result<(), Fail> {
+    let counts = [1, 70_000, 0, 69_999, 5];
+    expect_least(&rt, rt.alloc(), 70_001, &counts, &[0, 1, 2, 3, 4])?;
+    expect_least(&rt, rt.alloc(), 70_001, &counts, &[4, 3, 2, 1, 0])
+}
+
+// One answer has them all.
+#[test]
+fn one_answer(rt: HostRuntime) -> Result<(), Fail> {
+    expect_least(&rt, rt.alloc(), 140_001, &[140_000], &[0])
+}
+
+#[test]
+fn few_offers(rt: HostRuntime) -> Result<(), Fail> {
+    expect_least(&rt, rt.alloc(), 9, &[8, 3, 8], &[0, 1, 2])?;
+    expect_least(&rt, rt.alloc(), 9, &[8, 3, 8], &[2, 1, 0])
+}
+
+#[test]
+fn no_offer(rt: HostRuntime) -> Result<(), Fail> {
+    expect_least(&rt, rt.alloc(), 5, &[0, 0], &[1, 0])
+}
