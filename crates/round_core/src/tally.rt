@@ -42,6 +42,11 @@ pub(crate) fn halvings_of<R: Threads>(rt: &R, offers: usize, labels: usize) -> u
     (parts.ilog2() as usize).min(MOST_HALVINGS)
 }
 
+// Whether each half of so many offers is worth picks of its own.
+fn are_worth_halving(offers: usize, labels: usize) -> bool {
+    labels / LABELS_PER_OFFER <= offers / 2
+}
+
 // Counts each link that the answers offer, for both of its components. The answers are halved so many times, and one half
 // goes to a thread of its own where one can be made, with picks of its own where there is memory for them.
 #[cycle(parts)]
@@ -66,11 +71,13 @@ pub(crate) fn count_by_halves<R: Threads + Sync, A: Allocator + Copy + Send + Sy
     };
     let (earlier, later) = answers.split_at(middle_of(answers));
     let front = move || -> Picks<A>
-        requires { IsSync R.row × IsSend A.row × IsSync A.row × Frees A.Allocator A.dealloc_token × (0 < halvings) × CanCount cut.now labels.now earlier.now × (length picks ≡ length labels.now) }
+        requires { IsSync R.row × IsSend A.row × IsSync A.row × Frees A.Allocator A.dealloc_token × (0 < halvings)
+            × CanCount cut.now labels.now earlier.now × (length picks ≡ length labels.now) }
         ensures { (length result ≡ length labels.entry.now) × Counts labels.entry.now (all_named cut.entry.now earlier.entry.now) picks result }
     { count_by_halves(rt, cut, labels, earlier, picks, halvings - 1) };
     let back = move || -> Picks<A>
-        requires { IsSync R.row × IsSend A.row × IsSync A.row × Frees A.Allocator A.dealloc_token × (0 < halvings) × CanCount cut.now labels.now later.now × (length others ≡ length labels.now) }
+        requires { IsSync R.row × IsSend A.row × IsSync A.row × Frees A.Allocator A.dealloc_token × (0 < halvings)
+            × CanCount cut.now labels.now later.now × (length others ≡ length labels.now) }
         ensures { (length result ≡ length labels.entry.now) × Counts labels.entry.now (all_named cut.entry.now later.entry.now) others result }
     { count_by_halves(rt, cut, labels, later, others, halvings - 1) };
     let (mut all, rest) = join(rt, front, back);
@@ -97,8 +104,8 @@ fn middle_of<A: Allocator>(answers: &[Answer<A>]) -> usize
     answers.len() - 1
 }
 
-// Counts each link that the answers offer, for both of its components: one answer's in two threads where there is a
-// halving left, and those of others in one.
+// Counts each link that the answers offer, for both of its components: one answer's by halves where there are
+// halvings left, and those of others in one thread.
 fn count_undivided<R: Threads + Sync, A: Allocator + Copy + Send + Sync>(
     rt: &R,
     cut: &Cut<A>,
@@ -117,7 +124,7 @@ fn count_undivided<R: Threads + Sync, A: Allocator + Copy + Send + Sync>(
     }
     let answer = &answers[0];
     let links = cut.shard(answer.shard).links;
-    count_in_two(rt, labels, links, answer.offers.pairs(), picks)
+    count_offers_by_halves(rt, labels, links, answer.offers.pairs(), picks, halvings)
 }
 
 // Counts each link that the answers offer, for both of its components, in one thread.
@@ -154,32 +161,41 @@ pub(crate) fn count_answers<A: Allocator>(
     }
 }
 
-// Counts each offered link of a shard for both of its components; one half of the offers goes to a thread of its own where
-// one can be made, with picks of its own where there is memory for them.
-fn count_in_two<R: Threads + Sync, A: Allocator + Copy + Send + Sync>(
+// Counts each offered link of a shard for both of its components. The offers are halved so many times, while each half is
+// worth picks of its own, and one half goes to a thread of its own, as halves of the answers do.
+#[cycle(offers)]
+fn count_offers_by_halves<R: Threads + Sync, A: Allocator + Copy + Send + Sync>(
     rt: &R,
     labels: &[u32],
     links: &[Link],
     pairs: &[(u32, u32)],
     picks: Picks<A>,
+    halvings: usize,
 ) -> Picks<A>
     requires can { CanCountOffers links.now labels.now pairs.now }
     requires each_vertex { length picks ≡ length labels.now }
     ensures each_vertex { length result ≡ length labels.now }
     ensures picks { Counts labels.now (named_links links.now pairs.now) picks result }
 {
+    if halvings == 0 || !are_worth_halving(pairs.len(), labels.len()) {
+        return count_one(labels, links, pairs, picks);
+    }
     let Ok(others) = picks.none_beside() else {
         return count_one(labels, links, pairs, picks);
     };
     let (earlier, later) = pairs.split_at(pairs.len() / 2);
     let front = move || -> Picks<A>
-        requires { CanCountOffers links.now labels.now earlier.now × (length picks ≡ length labels.now) }
-        ensures { (length result ≡ length labels.entry.now) × Counts labels.entry.now (named_links links.entry.now earlier.entry.now) picks result }
-    { count_one(labels, links, earlier, picks) };
+        requires { IsSync R.row × IsSend A.row × IsSync A.row × Frees A.Allocator A.dealloc_token × (0 < halvings)
+            × CanCountOffers links.now labels.now earlier.now × (length picks ≡ length labels.now) }
+        ensures { (length result ≡ length labels.entry.now)
+            × Counts labels.entry.now (named_links links.entry.now earlier.entry.now) picks result }
+    { count_offers_by_halves(rt, labels, links, earlier, picks, halvings - 1) };
     let back = move || -> Picks<A>
-        requires { CanCountOffers links.now labels.now later.now × (length others ≡ length labels.now) }
-        ensures { (length result ≡ length labels.entry.now) × Counts labels.entry.now (named_links links.entry.now later.entry.now) others result }
-    { count_one(labels, links, later, others) };
+        requires { IsSync R.row × IsSend A.row × IsSync A.row × Frees A.Allocator A.dealloc_token × (0 < halvings)
+            × CanCountOffers links.now labels.now later.now × (length others ≡ length labels.now) }
+        ensures { (length result ≡ length labels.entry.now)
+            × Counts labels.entry.now (named_links links.entry.now later.entry.now) others result }
+    { count_offers_by_halves(rt, labels, links, later, others, halvings - 1) };
     let (mut all, rest) = join(rt, front, back);
     all.take_lesser(&rest);
     all
