@@ -14,7 +14,11 @@ use worked_graphs::all_have_labels;
 // The link of a shard from a vertex to the next. Five weights make many shards' links equal, and others tie.
 fn step(shard: u32, vertex: u32) -> Option<Link> {
     let drawn = vertex.wrapping_mul(2_654_435_761) ^ shard.wrapping_mul(40_503);
-    Link::of_arc(vertex, vertex.saturating_add(1), i64::from((drawn >> 9) % 5))
+    Link::of_arc(
+        vertex,
+        vertex.saturating_add(1),
+        i64::from((drawn >> 9) % 5),
+    )
 }
 
 // So many shards that each have a link from each of n vertices to the next.
@@ -29,12 +33,7 @@ fn paths(rt: &impl Abort, alloc: Global, n: u32, shards: u32) -> Result<Vec<Link
 }
 
 // An answer that offers the first so many links of a path, each for the lower of its ends.
-fn first_links(
-    rt: &impl Abort,
-    alloc: Global,
-    shard: u32,
-    count: u32,
-) -> Result<Answer, Fail> {
+fn first_links(rt: &impl Abort, alloc: Global, shard: u32, count: u32) -> Result<Answer, Fail> {
     let mut pairs = Vec::new(alloc);
     for place in 0..count {
         assert!(rt; place < 1 << 30);
@@ -136,6 +135,14 @@ fn answers_of_unequal_length(rt: HostRuntime) -> Result<(), Fail> {
 #[test]
 fn one_answer(rt: HostRuntime) -> Result<(), Fail> {
     expect_least(&rt, rt.alloc(), 140_001, &[140_000], &[0])
+}
+
+// The longer of two has nearly all, and its offers alone are halved again.
+#[test]
+fn two_answers_of_unequal_length(rt: HostRuntime) -> Result<(), Fail> {
+    let counts = [140_000, 3_000];
+    expect_least(&rt, rt.alloc(), 140_001, &counts, &[0, 1])?;
+    expect_least(&rt, rt.alloc(), 140_001, &counts, &[1, 0])
 }
 
 #[test]
