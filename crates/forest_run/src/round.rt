@@ -100,5 +100,5 @@ pub(crate) fn picks_of_round<
 {
     let mut book = RoundBook::open(alloc, round, cut, labels)?;
     let alone = run_round(rt, alloc, &mut book, lanes)?;
-    Ok((book.close_in_threads(rt), alone))
+    Ok((book.close_par(rt), alone))
 }

@@ -187,7 +187,7 @@ impl<'a, A: Allocator + Copy + Send + Sync> RoundBook<'a, A> {
     /// Each thread but the first counts into picks of its own, 16 bytes a vertex that are freed at the end, and only where
     /// there are many offers: 2^17 in all, and one for each four vertices for each thread. Where that memory is refused
     /// the caller counts that thread's offers, as it does where no thread can be made: like `close` it never fails.
-    pub fn close_in_threads<R: Threads + Sync>(self, rt: &R) -> Picks<A>
+    pub fn close_par<R: Threads + Sync>(self, rt: &R) -> Picks<A>
         requires { missing self ≡ 0 }
         ensures picks { ArePicks self.entry.labels (IsNamed (hearings self.entry)) result }
         ensures page { IsPage self.entry }

@@ -106,7 +106,7 @@ fn expect_least<R: Abort + Threads + Sync>(
     let alone = book.close();
     let book = heard(rt, alloc, &cut, &labels, counts, order)?;
     assert!(rt; book.missing() == 0);
-    let beside = book.close_in_threads(rt);
+    let beside = book.close_par(rt);
     for vertex in 1..n + 1 {
         assert!(rt; vertex <= labels.n());
         assert_eq!(rt; beside.of(vertex), alone.of(vertex));

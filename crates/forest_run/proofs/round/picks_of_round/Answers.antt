@@ -28,7 +28,7 @@ returns-clause-picked g c =
     record {
       book = book;
       went = went;
-      page = c.close_in_threads.ensures.page;
-      picked = subst (λ (labels : List ℕ). ArePicks labels (IsNamed (hearings book)) c.close_in_threads.result)
-          (same_still g.P.Port c.args.round c.args.cut.now c.args.labels.now book c.args.lanes.now c.run_round.new.lanes c.in_ok-alone.alone went).labels c.close_in_threads.ensures.picks;
+      page = c.close_par.ensures.page;
+      picked = subst (λ (labels : List ℕ). ArePicks labels (IsNamed (hearings book)) c.close_par.result)
+          (same_still g.P.Port c.args.round c.args.cut.now c.args.labels.now book c.args.lanes.now c.run_round.new.lanes c.in_ok-alone.alone went).labels c.close_par.ensures.picks;
     }

@@ -4,7 +4,7 @@ use Rattle.round_theory.specs.Offers.{IsNamed}
 use Rattle.round_core.specs.Page.{Page, hearings, all_named}
 use Rattle.round_core.specs.Picks.{ArePicks, Counts}
 use Rattle.round_core.proofs.Books.{picks_of_book}
-use Rattle.round_core.proofs.book.RoundBook.close_in_threads.Goals as goal
+use Rattle.round_core.proofs.book.RoundBook.close_par.Goals as goal
 
 pub returns-clause-picks : goal.returns-clause-picks
 returns-clause-picks g c =
