@@ -17,10 +17,12 @@ use std::thread::Threads;
 // So few offers are worth no thread of their own.
 const FEW_OFFERS: usize = 1 << 17;
 
-// A part has an offer for so many labels at least: picks of its own cost as much as counting it else.
+// A part has an offer for so many labels at least. To clear picks of its own and to take them together with others would
+// cost more than to count fewer offers.
 const LABELS_PER_OFFER: usize = 4;
 
-// So often offers are halved at most, whatever processors there are: each part has picks of its own.
+// Offers are halved so often at most, however many processors there are: each part after the first has picks of its own,
+// of 16 bytes a label.
 const MOST_HALVINGS: usize = 3;
 
 // How many offers the answers have.
