@@ -95,7 +95,7 @@ fn expect_least<R: Abort + Threads + Sync>(
     counts: &[u32],
     order: &[u32],
 ) -> Result<(), Fail> {
-    assert!(rt; order.len() <= 8);
+    assert!(rt; n < 1 << 20 && order.len() <= 8);
     let shards = order.len() as u32;
     let links = paths(rt, alloc, n, shards)?;
     assert!(rt; links.len() <= 1 << 24);
