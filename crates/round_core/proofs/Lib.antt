@@ -18,3 +18,4 @@ pub mod Missing
 pub mod WholeCuts
 pub mod WholeRounds
 pub mod Worked
+pub mod LookedUp

@@ -6,3 +6,4 @@ pub mod Roots
 pub mod Solver
 pub mod SolverLaws
 pub mod Examples
+pub mod LookedUp

@@ -3,6 +3,7 @@ ghost use Rattle.link_key.specs.declared.links.Link.{Link as TheLink};
 ghost use Rattle.link_key.specs.Labels.{label_of, AreLabels};
 ghost use Rattle.round_core.specs.Picks.{pick_of, AreNoPicks, ArePicks, Counts};
 ghost use Rattle.round_core.specs.PickNumbers.{IsKeyNumber, IsPickNumber, AreLesserOf, pick_in};
+ghost use Rattle.round_core.specs.LookedUp.{IsLookedUp, IsCountable, CountsFound, CountsEach};
 
 use link_key::Link;
 use std::alloc::{AllocError, Allocator, Global};
@@ -112,13 +113,66 @@ impl<A: Allocator> Picks<A> {
         requires each_vertex { length self.old ≡ length labels.now }
         requires leaving { label_of labels.now link.low ≢ label_of labels.now link.high }
         ensures each_vertex { length self.new ≡ length self.old }
-        ensures picks { (seen : List TheLink) → ArePicks labels.now (Contains seen) self.old → ArePicks labels.now (Contains (seen ++ link ∷ [])) self.new }
+        ensures picks { Counts labels.now (link ∷ []) self.old self.new }
     {
-        let number = key_number(link);
-        let low = labels[link.low as usize - 1] as usize - 1;
-        let high = labels[link.high as usize - 1] as usize - 1;
+        self.count_found(look_up(labels, link));
+    }
+
+    // Counts each link that was looked up.
+    pub(crate) fn count_each(&mut self, found: &[LookedUp])
+        requires within { All (IsCountable (length self.old)) found.now }
+        ensures each_vertex { length self.new ≡ length self.old }
+        ensures picks { CountsEach found.now self.old self.new }
+    {
+        for one in found {
+            self.count_found(*one);
+        }
+    }
+
+    // Counts a link that was looked up for both of the components that it leaves.
+    #[inline]
+    fn count_found(&mut self, found: LookedUp)
+        requires within { IsCountable (length self.old) found }
+        ensures each_vertex { length self.new ≡ length self.old }
+        ensures picks { CountsFound found self.old self.new }
+    {
+        let number = found.number;
+        let low = found.low as usize - 1;
+        let high = found.high as usize - 1;
         self.numbers[low] = self.numbers[low].min(number);
         self.numbers[high] = self.numbers[high].min(number);
+    }
+}
+
+// What is to be known of a link before it is counted: the number of its key, and the labels of its ends.
+#[derive(Clone, Copy)]
+pub(crate) struct LookedUp {
+    number: u128,
+    low: u32,
+    high: u32,
+}
+
+impl LookedUp {
+    // What stands where no link was looked up yet.
+    pub(crate) const BLANK: LookedUp = LookedUp {
+        number: NO_PICK,
+        low: 0,
+        high: 0,
+    };
+}
+
+// Looks up a link.
+#[inline]
+pub(crate) fn look_up(labels: &[u32], link: Link) -> LookedUp
+    requires labels { AreLabels labels.now }
+    requires ends { link.high ≤ length labels.now }
+    requires leaving { label_of labels.now link.low ≢ label_of labels.now link.high }
+    ensures { IsLookedUp labels.now link result }
+{
+    LookedUp {
+        number: key_number(link),
+        low: labels[link.low as usize - 1],
+        high: labels[link.high as usize - 1],
     }
 }
 

@@ -1,13 +1,14 @@
 //! The count of what a round's answers offer: in one thread, or by halves in threads, each with picks of its own.
-ghost use Rattle.std.specs.Prelude.{◌≡◌, ℕ, List, ◌+◌, ◌<◌, ◌≤◌, ◌++◌, length, All, Contains, true};
+ghost use Rattle.std.specs.Prelude.{◌≡◌, ℕ, List, ◌+◌, ◌<◌, ◌≤◌, ◌++◌, length, take, All, Contains, true};
 ghost use Rattle.std.specs.List.{list_all};
 ghost use denote.Param.Send.{IsSync, IsSend, Frees};
 ghost use Rattle.link_key.specs.Link.{EndsUpTo};
 ghost use Rattle.link_key.specs.Labels.{AreLabels};
 ghost use Rattle.round_core.specs.Page.{is_offer, named_links, all_named, CanCount, CanCountOffers};
 ghost use Rattle.round_core.specs.Picks.{Counts};
+ghost use Rattle.round_core.specs.LookedUp.{AreLookedUp};
 
-use crate::picks::Picks;
+use crate::picks::{LookedUp, Picks, look_up};
 use frames::Answer;
 use link_key::{Cut, Link};
 use rayon::{current_num_threads, join};
@@ -24,6 +25,9 @@ const LABELS_PER_OFFER: usize = 4;
 // Offers are halved so often at most, however many processors there are: each part after the first has picks of its own,
 // of 16 bytes a label.
 const MOST_HALVINGS: usize = 3;
+
+// So many offers are looked up before any of them is counted.
+const BATCH: usize = 64;
 
 // How many offers the answers have.
 pub(crate) fn offers_in<A: Allocator>(answers: &[Answer<A>]) -> usize {
@@ -219,7 +223,8 @@ fn count_one<A: Allocator>(
     picks
 }
 
-// Counts each offered link of a shard for both of its components.
+// Counts each offered link of a shard for both of its components. The offers are looked up by batches: what a pick is lowered
+// to stands in the way of the look-ups after it, so a batch's come before any of its picks.
 fn count_all<A: Allocator>(
     labels: &[u32],
     links: &[Link],
@@ -233,7 +238,24 @@ fn count_all<A: Allocator>(
     ensures each_vertex { length picks.new ≡ length picks.old }
     ensures picks { Counts labels.now (named_links links.now pairs.now) picks.old picks.new }
 {
-    for (_, place) in pairs {
-        picks.count(labels, links[*place as usize]);
+    let mut found = [LookedUp::BLANK; BATCH];
+    let mut rest = pairs;
+    while !rest.is_empty() {
+        let (batch, after) = rest.split_at(BATCH.min(rest.len()));
+        look_up_each(labels, links, batch, &mut found);
+        picks.count_each(&found[..batch.len()]);
+        rest = after;
+    }
+}
+
+// Looks up the link that each offer of a batch names.
+fn look_up_each(labels: &[u32], links: &[Link], pairs: &[(u32, u32)], found: &mut [LookedUp])
+    requires can { CanCountOffers links.now labels.now pairs.now }
+    requires room { length pairs.now ≤ length found.old }
+    ensures room { length found.new ≡ length found.old }
+    ensures found { AreLookedUp links.now labels.now pairs.now (take (length pairs.now) found.new) }
+{
+    for i in 0..pairs.len() {
+        found[i] = look_up(labels, links[pairs[i].1 as usize]);
     }
 }

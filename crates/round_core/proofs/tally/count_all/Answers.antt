@@ -1,44 +1,39 @@
-use Rattle.std.proofs.Common.{◌≡◌, ◌≢◌, ◌≤◌, ◌++◌, [], ◌∷◌, List, ℕ, Contains, take, length, get_or, sym, ap, ◌∙◌, subst, append_assoc, take_all, arith}
-use Rattle.std.proofs.lemmas.List.{get_or_default}
-use Rattle.std.proofs.lemmas.List.Elements.{All-get_or}
+use Rattle.std.proofs.Common.{◌≡◌, ◌++◌, ℕ, List, [], Contains, length, take, drop, true, sym, ap, subst, ◌∙◌, rules}
+use Rattle.std.specs.Prelude.{All, Option}
+use Rattle.std.specs.List.{list_all}
 use Rattle.link_key.specs.declared.links.Link.{Link}
-use Rattle.link_key.specs.Labels.{label_of}
-use Rattle.round_core.specs.Page.{named_links}
-use Rattle.round_core.specs.Picks.{ArePicks}
-use Rattle.round_core.proofs.Books.{offer_at, one_more_named}
+use Rattle.link_key.specs.Offers.{Offer}
+use Rattle.round_core.specs.Page.{is_offer, named_links}
+use Rattle.round_core.specs.Picks.{Counts}
+use Rattle.round_core.specs.LookedUp.{IsCountable}
+use Rattle.round_core.proofs.LookedUp.{countable_each, batches_together, all_behind, none_left}
 use Rattle.round_core.proofs.tally.count_all.Goals as goal
 
-pub bounds-links-place : goal.bounds-links-place
-bounds-links-place g c = (offer_at c.args.links.now c.args.labels.now c.args.pairs.now c.loop-place.place-index c.loop-place-test.true c.requires.offers).within
+pub count_each-requires : goal.count_each-requires
+count_each-requires g c = record {
+  within =
+      subst (λ (n : ℕ). All (IsCountable n) (take (length c.split_at.result.0.now) c.look_up_each.new.found)) (sym c.loop-rest.invariant.each_vertex)
+      (countable_each c.args.links.now c.args.labels.now c.split_at.result.0.now _ c.requires.labels c.look_up_each.ensures.found);
+}
 
-pub count-requires-clause-ends : goal.count-requires-clause-ends
-count-requires-clause-ends g c =
-    let offer = offer_at c.args.links.now c.args.labels.now c.args.pairs.now c.loop-place.place-index c.loop-place-test.true c.requires.offers in
-    subst (λ (l : Link). l.high ≤ length c.args.labels.now) (sym c.index-links-place.is)
-    (All-get_or (λ (l : Link). l.high ≤ length c.args.labels.now) c.args.links.now (get_or c.args.pairs.now c.loop-place.place-index (0, 0)).1 c.index-links-place.result offer.within c.requires.ends)
-
-pub count-requires-clause-leaving : goal.count-requires-clause-leaving
-count-requires-clause-leaving g c =
-    let offer = offer_at c.args.links.now c.args.labels.now c.args.pairs.now c.loop-place.place-index c.loop-place-test.true c.requires.offers in
-    subst (λ (l : Link). label_of c.args.labels.now l.low ≢ label_of c.args.labels.now l.high) (sym c.index-links-place.is) (offer.apart c.index-links-place.result)
-
-pub loop-place-preserved : goal.loop-place-preserved
-loop-place-preserved g c =
-    let i = c.loop-place.place-index in
+pub loop-rest-preserved : goal.loop-rest-preserved
+loop-rest-preserved g c =
     let links = c.args.links.now in
-    let offer = offer_at links c.args.labels.now c.args.pairs.now i c.loop-place-test.true c.requires.offers in
-    let pair = get_or c.args.pairs.now i (0, 0) in
-    let same : pair ≡ get_or c.args.pairs.now i pair = get_or_default c.args.pairs.now i (0, 0) pair c.loop-place-test.true in
-    let more = one_more_named links c.args.pairs.now i pair c.index-links-place.result c.loop-place-test.true same offer.within c.index-links-place.is in
+    let labels = c.args.labels.now in
+    let rest = c.loop-rest.rest.now in
+    let counted : Counts labels (named_links links c.split_at.result.0.now) c.loop-rest.picks c.count_each.new.self =
+    c.count_each.ensures.picks links labels c.split_at.result.0.now c.requires.labels c.loop-rest.invariant.each_vertex c.look_up_each.ensures.found in
+    let batch : Counts labels (named_links links (take c.min.result rest)) c.loop-rest.picks c.count_each.new.self = rw (← c.split_at.ensures.front) counted in
     record {
-      each_vertex = c.count.ensures.each_vertex ∙ c.loop-place.invariant.each_vertex;
-      picks = λ seen are.
-          let next = append_assoc seen (named_links links (take i c.args.pairs.now)) (c.index-links-place.result ∷ []) ∙ ap (λ xs. seen ++ xs) (sym more) in
-          subst (λ (xs : List Link). ArePicks c.args.labels.now (Contains xs) c.count.new.self) next
-          (c.count.ensures.picks (seen ++ named_links links (take i c.args.pairs.now)) (c.loop-place.invariant.picks seen are));
+      room = c.look_up_each.ensures.room ∙ c.loop-rest.invariant.room;
+      each_vertex = c.count_each.ensures.each_vertex ∙ c.loop-rest.invariant.each_vertex;
+      offers = rw c.split_at.ensures.back (all_behind (is_offer links labels) rest c.min.result c.loop-rest.invariant.offers);
+      picks = λ picks behind.
+          let after : Counts labels (named_links links (drop c.min.result rest)) c.count_each.new.self picks = rw (← c.split_at.ensures.back) behind in
+          c.loop-rest.invariant.picks picks (batches_together links labels rest c.min.result c.loop-rest.picks c.count_each.new.self picks batch after);
     }
 
 pub returns-clause-picks : goal.returns-clause-picks
-returns-clause-picks g c = λ seen are.
-    let all : take c.loop-place.place-index c.args.pairs.now ≡ c.args.pairs.now = take_all c.loop-place.place-index c.args.pairs.now (omega (arith, c.loop-place-test.false)) in
-    subst (λ (xs : List (ℕ × ℕ)). ArePicks c.args.labels.now (Contains (seen ++ named_links c.args.links.now xs)) c.loop-place.picks) all (c.loop-place.invariant.picks seen are)
+returns-clause-picks g c =
+    let none : length c.loop-rest.rest.now ≡ 0 = search rules in
+    c.loop-rest.invariant.picks c.loop-rest.picks (none_left c.args.links.now c.args.labels.now c.loop-rest.rest.now c.loop-rest.picks none)

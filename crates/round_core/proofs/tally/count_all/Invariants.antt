@@ -1,11 +1,18 @@
-use Rattle.std.proofs.Common.{◌≡◌, List, ◌++◌, length, take, Contains}
+use Rattle.std.proofs.Common.{◌≡◌, List, length, true}
+use Rattle.std.specs.List.{list_all}
+use Rattle.std.specs.Prelude.{Option}
 use Rattle.link_key.specs.declared.links.Link.{Link}
-use Rattle.round_core.specs.Page.{named_links}
-use Rattle.round_core.specs.Picks.{ArePicks}
+use Rattle.round_core.specs.Page.{is_offer, named_links}
+use Rattle.round_core.specs.Picks.{Counts}
 use Rattle.round_core.proofs.tally.count_all.Given as goal
 
-abbrev pub invariant-loop-place : goal.invariant-loop-place
-invariant-loop-place g l = record {
+abbrev pub invariant-loop-rest : goal.invariant-loop-rest
+invariant-loop-rest g l = record {
+  room : length l.found ≡ 64;
   each_vertex : length l.picks ≡ length l.labels;
-  picks : (seen : List Link) → ArePicks l.labels (Contains seen) l.initial.picks → ArePicks l.labels (Contains (seen ++ named_links l.links (take l.place-index l.pairs))) l.picks;
+  offers : list_all (is_offer l.links l.labels) l.rest ≡ true;
+  picks : (picks : List (Option Link)) → Counts l.labels (named_links l.links l.rest) l.picks picks → Counts l.labels (named_links l.links l.pairs) l.initial.picks picks;
 }
+
+abbrev pub decreases-loop-rest : goal.decreases-loop-rest
+decreases-loop-rest g l = length l.rest

@@ -1,0 +1,14 @@
+use Rattle.std.proofs.Common.{◌≡◌, ℕ, List, length, take}
+use Rattle.link_key.specs.declared.links.Link.{Link}
+use Rattle.link_key.specs.Labels.{AreLabels}
+use Rattle.link_key.specs.Offers.{Offer}
+use Rattle.round_core.specs.Page.{named_links}
+use Rattle.round_core.specs.Picks.{Counts}
+use Rattle.round_core.specs.LookedUp.{AreLookedUp}
+use Rattle.round_core.proofs.picks.Picks.count_each.Given as goal
+
+abbrev pub invariant-loop-one : goal.invariant-loop-one
+invariant-loop-one g l = record {
+  each_vertex : length l.self ≡ length l.initial.self;
+  picks : (links : List Link) (labels : List ℕ) (offers : List Offer) → AreLabels labels → length l.initial.self ≡ length labels → AreLookedUp links labels offers l.found → Counts labels (named_links links (take l.one-index offers)) l.initial.self l.self;
+}
