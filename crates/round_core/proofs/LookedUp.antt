@@ -1,5 +1,5 @@
 -- Counting what was looked up before.
-use Rattle.std.proofs.Common.{Bool, true, false, ◌&&◌, append-nil, ◌≡◌, ◌≢◌, ℕ, ◌+◌, ◌-◌, ◌<◌, ◌≤◌, ◌⊎◌, min, List, [], ◌∷◌, ◌++◌, length, map, set, take, drop, get_or, Contains, Some, refl, sym, ap, ◌∙◌, subst, inl, inr, append_assoc, take_all, arith}
+use Rattle.std.proofs.Common.{Bool, true, false, ◌&&◌, append-nil, ◌≡◌, ℕ, ◌+◌, ◌-◌, ◌<◌, ◌≤◌, min, List, [], ◌∷◌, ◌++◌, length, map, set, take, drop, get_or, Contains, Some, refl, sym, ap, ◌∙◌, subst, inl, inr, append_assoc, arith}
 use Rattle.std.specs.Prelude.{All, Option, slice_get}
 use Rattle.std.specs.Option.{option_to_list}
 use Rattle.std.specs.List.{list_all}
@@ -11,10 +11,10 @@ use Rattle.link_key.specs.declared.links.Link.{Link}
 use Rattle.link_key.specs.Labels.{label_of, AreLabels}
 use Rattle.link_key.specs.Offers.{Offer}
 use Rattle.round_core.specs.declared.picks.LookedUp.{LookedUp}
-use Rattle.round_core.specs.PickNumbers.{IsKeyNumber, IsPickNumber, pick_in}
+use Rattle.round_core.specs.PickNumbers.{IsPickNumber, pick_in}
 use Rattle.round_core.specs.Picks.{ArePicks, Counts}
 use Rattle.round_core.specs.Page.{named_links}
-use Rattle.round_core.specs.LookedUp.{IsLookedUp, AreLookedUp, IsCountable, CountsFound, CountsEach}
+use Rattle.round_core.specs.LookedUp.{IsLookedUp, AreLookedUp, IsCountable, CountsFound}
 use Rattle.round_core.proofs.Counts.{AreCounted}
 use Rattle.round_core.proofs.PickNumbers.{picks_counted}
 use Rattle.round_core.proofs.Halves.{offers_in_halves}

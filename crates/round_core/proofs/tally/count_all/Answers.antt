@@ -1,8 +1,5 @@
-use Rattle.std.proofs.Common.{◌≡◌, ◌++◌, ℕ, List, [], Contains, length, take, drop, true, sym, ap, subst, ◌∙◌, rules}
-use Rattle.std.specs.Prelude.{All, Option}
-use Rattle.std.specs.List.{list_all}
-use Rattle.link_key.specs.declared.links.Link.{Link}
-use Rattle.link_key.specs.Offers.{Offer}
+use Rattle.std.proofs.Common.{◌≡◌, ℕ, length, take, drop, sym, subst, ◌∙◌, rules}
+use Rattle.std.specs.Prelude.{All}
 use Rattle.round_core.specs.Page.{is_offer, named_links}
 use Rattle.round_core.specs.Picks.{Counts}
 use Rattle.round_core.specs.LookedUp.{IsCountable}

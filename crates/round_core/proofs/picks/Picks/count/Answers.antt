@@ -1,4 +1,4 @@
-use Rattle.std.proofs.Common.{◌≡◌, ℕ, sym, subst}
+use Rattle.std.proofs.Common.{ℕ, sym, subst}
 use Rattle.round_core.specs.LookedUp.{IsCountable}
 use Rattle.round_core.proofs.LookedUp.{countable}
 use Rattle.round_core.proofs.picks.Picks.count.Goals as goal
