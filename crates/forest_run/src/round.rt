@@ -71,6 +71,13 @@ pub(crate) fn run_round<
     scan_missing(rt, alloc, book)
 }
 
+// What a run keeps from round to round: the picks of the last one, in whose room those of the next are counted.
+#[derive(Drop)]
+pub(crate) struct Kept<A: Allocator> {
+    pub(crate) alloc: A,
+    pub(crate) picks: Picks<A>,
+}
+
 // A whole round of this number over a book of its own: the picks of the answers, and how many shards the coordinator
 // scanned itself. The only error is want of memory; then each lane is as its asks left it.
 //
@@ -82,7 +89,7 @@ pub(crate) fn picks_of_round<
     R: Threads + Wait + Sync,
 >(
     rt: &R,
-    alloc: A,
+    kept: &mut Kept<A>,
     round: u32,
     cut: &'a Cut<'a, A>,
     labels: &'a Labels<A>,
@@ -98,7 +105,7 @@ pub(crate) fn picks_of_round<
     ensures asked { (middle : Page) × RunsPasses P.Port (opened round cut.now labels.now) middle lanes.old lanes.new }
     ensures idle { All IsIdle lanes.new }
 {
-    let mut book = RoundBook::open(alloc, round, cut, labels)?;
-    let alone = run_round(rt, alloc, &mut book, lanes)?;
+    let mut book = RoundBook::open_over(kept.picks.take(), round, cut, labels)?;
+    let alone = run_round(rt, kept.alloc, &mut book, lanes)?;
     Ok((book.close_par(rt), alone))
 }

@@ -11,11 +11,11 @@ ghost use Rattle.forest_run.specs.Solved.{AreHonest, StepsOnce, AsksInRound, IsT
 
 use crate::lane::Lane;
 use crate::report::{Counts, Report, report_of};
-use crate::round::picks_of_round;
+use crate::round::{Kept, picks_of_round};
 use crate::seats::count_open;
 use link_key::{Cut, Forest};
 use ports::Port;
-use round_core::{SolveFault, Solver, Turn};
+use round_core::{Picks, SolveFault, Solver, Turn};
 use std::alloc::Allocator;
 use std::sync::Wait;
 use std::thread::Threads;
@@ -23,7 +23,7 @@ use std::thread::Threads;
 // One round, and its picks into the solver; and how many shards were scanned alone.
 fn turn<'a, A: Allocator + Copy + Send + Sync, P: Port<A> + Send + Drop, R: Threads + Wait + Sync>(
     rt: &R,
-    alloc: A,
+    kept: &mut Kept<A>,
     solver: &mut Solver<A>,
     cut: &'a Cut<'a, A>,
     lanes: &mut [Lane<P, A>],
@@ -41,8 +41,9 @@ fn turn<'a, A: Allocator + Copy + Send + Sync, P: Port<A> + Send + Drop, R: Thre
 {
     // Without memory for the bytes of the labels, each wire turns the labels into bytes for itself.
     let _ = solver.spell_labels();
-    let (picks, alone) = picks_of_round(rt, alloc, solver.round(), cut, solver.labels(), lanes)?;
+    let (picks, alone) = picks_of_round(rt, kept, solver.round(), cut, solver.labels(), lanes)?;
     let turn = solver.step(&picks)?;
+    kept.picks = picks;
     Ok((turn, alone))
 }
 
@@ -76,9 +77,13 @@ fn merge_rounds<
     ensures honest_fault { IfErr result (λ fault. AreHonest P.honest lanes.old → fault ≡ Memory) }
     ensures idle { All IsIdle lanes.new }
 {
+    let mut kept = Kept {
+        alloc,
+        picks: Picks::empty(alloc),
+    };
     let mut alone = 0;
     for _ in rt.forever() {
-        let (turn, scanned) = turn(rt, alloc, solver, cut, lanes)?;
+        let (turn, scanned) = turn(rt, &mut kept, solver, cut, lanes)?;
         alone += u64::from(scanned);
         if let Turn::Done = turn {
             break;

@@ -55,10 +55,25 @@ impl<'a, A: Allocator + Copy> RoundBook<'a, A> {
         requires ends { All (EndsUpTo (length labels.now)) cut.now }
         ensures opened { IfOk result (λ book. book ≡ opened round cut.now labels.now) }
     {
+        RoundBook::open_over(Picks::empty(alloc), round, cut, labels)
+    }
+
+    /// The same in the room of picks that are done with, as those of the round before, whatever they are: it is cleared, which
+    /// costs less than room that is new, and asks for more only where there are more labels.
+    pub fn open_over(
+        picks: Picks<A>,
+        round: u32,
+        cut: &'a Cut<'a, A>,
+        labels: &'a Labels<A>,
+    ) -> Result<Self, AllocError>
+        requires ends { All (EndsUpTo (length labels.now)) cut.now }
+        ensures opened { IfOk result (λ book. book ≡ opened round cut.now labels.now) }
+    {
+        let alloc = picks.allocator();
         let shards = cut.len() as usize;
         let taken = vec![in alloc; false; shards]?;
         let answers = Vec::with_capacity(alloc, shards)?;
-        let picks = Picks::none(alloc, labels.n())?;
+        let picks = picks.none_over(labels.n())?;
         Ok(RoundBook {
             round,
             cut,

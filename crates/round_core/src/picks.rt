@@ -1,4 +1,4 @@
-ghost use Rattle.std.specs.Prelude.{◌≡◌, ◌≢◌, ℕ, List, ◌+◌, ◌-◌, ◌<◌, ◌≤◌, ◌↔◌, [], ◌∷◌, ◌++◌, length, slice_index_or, All, Some, None, IsTrue, IfOk, Contains};
+ghost use Rattle.std.specs.Prelude.{replicate, OnOk, ◌≡◌, ◌≢◌, ℕ, List, ◌+◌, ◌-◌, ◌<◌, ◌≤◌, ◌↔◌, [], ◌∷◌, ◌++◌, length, slice_index_or, All, Some, None, IsTrue, IfOk, Contains};
 ghost use Rattle.link_key.specs.declared.links.Link.{Link as TheLink};
 ghost use Rattle.link_key.specs.Labels.{label_of, AreLabels};
 ghost use Rattle.round_core.specs.Picks.{pick_of, AreNoPicks, ArePicks, Counts};
@@ -8,6 +8,7 @@ ghost use Rattle.round_core.specs.LookedUp.{IsLookedUp, IsCountable, CountsFound
 use link_key::Link;
 use std::alloc::{AllocError, Allocator, Global};
 use std::marker::Model;
+use std::mem;
 
 // The number of no pick, past those of all keys.
 const NO_PICK: u128 = u128::MAX;
@@ -42,12 +43,43 @@ impl<A: Allocator> Model for Picks<A> {
 }
 
 impl<A: Allocator + Copy> Picks<A> {
+    /// Picks of no labels. It takes no memory.
+    pub fn empty(alloc: A) -> Self
+        ensures { result ≡ [] }
+    {
+        Picks {
+            numbers: Vec::new(alloc),
+        }
+    }
+
+    pub(crate) fn allocator(&self) -> A {
+        *self.numbers.allocator()
+    }
+
+    /// Takes the picks, and leaves those of no labels. It takes no memory.
+    pub fn take(&mut self) -> Self
+        ensures taken { result ≡ self.old }
+        ensures left { self.new ≡ [] }
+    {
+        let none = Picks::empty(self.allocator());
+        mem::replace(self, none)
+    }
+
     // No pick for each of n labels.
     pub(crate) fn none(alloc: A, n: u32) -> Result<Self, AllocError>
         ensures each_vertex { IfOk result (λ picks. length picks ≡ n) }
         ensures none { IfOk result AreNoPicks }
     {
-        let numbers = vec![in alloc; NO_PICK; n as usize]?;
+        Picks::empty(alloc).none_over(n)
+    }
+
+    // No pick for each of n labels, in the room that these have.
+    pub(crate) fn none_over(self, n: u32) -> Result<Self, AllocError>
+        ensures each_vertex { IfOk result (λ picks. length picks ≡ n) }
+        ensures none { IfOk result AreNoPicks }
+    {
+        let Picks { mut numbers } = self;
+        fill_anew(&mut numbers, n as usize)?;
         Ok(Picks { numbers })
     }
 }
@@ -142,6 +174,14 @@ impl<A: Allocator> Picks<A> {
         self.numbers[low] = self.numbers[low].min(number);
         self.numbers[high] = self.numbers[high].min(number);
     }
+}
+
+// Writes the number of no pick so many times, in the room that there is.
+fn fill_anew<A: Allocator>(numbers: &mut Vec<u128, A>, count: usize) -> Result<(), AllocError>
+    ensures { OnOk result (numbers.new.items ≡ replicate count NO_PICK) }
+{
+    numbers.clear();
+    numbers.resize(count, NO_PICK)
 }
 
 // What is to be known of a link before it is counted: the number of its key, and the labels of its ends.

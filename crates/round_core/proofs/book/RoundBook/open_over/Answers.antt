@@ -1,6 +1,6 @@
 use Rattle.std.proofs.Common.{◌≡◌, replicate, false, ◌∙◌, ap, arith}
 use Rattle.round_core.proofs.Books.{book_opened}
-use Rattle.round_core.proofs.book.RoundBook.open.Goals as goal
+use Rattle.round_core.proofs.book.RoundBook.open_over.Goals as goal
 
 pub invariant_of-result : goal.invariant_of-result
 invariant_of-result g c =

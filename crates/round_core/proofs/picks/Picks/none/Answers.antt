@@ -1,5 +1,0 @@
-use Rattle.round_core.proofs.PickNumbers.{no_picks_told}
-use Rattle.round_core.proofs.picks.Picks.none.Goals as goal
-
-pub returns-clause-none : goal.returns-clause-none
-returns-clause-none g c = no_picks_told c.args.n c.in_ok-numbers.numbers.items (c.in_ok-numbers.ensures.items_if_clones_equal (λ y h. h))
