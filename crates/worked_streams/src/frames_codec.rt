@@ -31,6 +31,9 @@ const SHARD64: [u8; 29] = [
     6, 0, 0, 0, 24, 0, 0, 0, 0, 0, 0, 0, 1, 0, 0, 0, 1, 0, 0, 0, 2, 0, 0, 0, 0, 128, 0, 0, 0,
 ];
 
+// Shard 0 without links, as if a weight of theirs were past 32 bits.
+const EMPTY_SHARD64: [u8; 13] = [6, 0, 0, 0, 8, 0, 0, 0, 0, 0, 0, 0, 0];
+
 const FAULT: [u8; 14] = [5, 0, 0, 0, 9, 0, 0, 0, 1, 0, 0, 0, 5, 2];
 
 // The links of a triangle whose edges weigh 5.
@@ -107,10 +110,11 @@ fn shard_of_a_triangle(rt: HostRuntime) -> Result<(), Fail> {
     expect_text(&rt, rt.alloc(), &frame, &SHARD)
 }
 
-// The one link of weights past 32 bits, at each end of them, and beside one that fits.
+// One link of a weight past 32 bits, at each end of them, and beside one that fits; weights of which the lower 32 bits
+// are nothing, and three whose lower 32 bits are the same.
 #[test]
 fn shards_of_64_bits(rt: HostRuntime) -> Result<(), Fail> {
-    let rows: [(&[(u32, u32, i64)], &[u8]); 3] = [
+    let rows: [(&[(u32, u32, i64)], &[u8]); 5] = [
         (&[(1, 2, 2147483648)], &SHARD64),
         (
             &[(1, 2, -2147483649)],
@@ -124,6 +128,21 @@ fn shards_of_64_bits(rt: HostRuntime) -> Result<(), Fail> {
             &[
                 6, 0, 0, 0, 40, 0, 0, 0, 0, 0, 0, 0, 2, 0, 0, 0, 1, 0, 0, 0, 2, 255, 255, 255, 255,
                 255, 255, 255, 255, 0, 0, 0, 2, 0, 0, 0, 3, 128, 0, 0, 0, 0, 0, 0, 0,
+            ],
+        ),
+        (
+            &[(1, 2, 4294967296)],
+            &[
+                6, 0, 0, 0, 24, 0, 0, 0, 0, 0, 0, 0, 1, 0, 0, 0, 1, 0, 0, 0, 2, 0, 0, 0, 1, 0, 0,
+                0, 0,
+            ],
+        ),
+        (
+            &[(1, 2, 4294967301), (2, 3, 5), (1, 3, -4294967291)],
+            &[
+                6, 0, 0, 0, 56, 0, 0, 0, 0, 0, 0, 0, 3, 0, 0, 0, 1, 0, 0, 0, 2, 0, 0, 0, 1, 0, 0,
+                0, 5, 0, 0, 0, 2, 0, 0, 0, 3, 0, 0, 0, 0, 0, 0, 0, 5, 0, 0, 0, 1, 0, 0, 0, 3, 255,
+                255, 255, 255, 0, 0, 0, 5,
             ],
         ),
     ];
@@ -349,16 +368,23 @@ fn fields_that_are_refused(rt: HostRuntime) -> Result<(), Fail> {
             (&HELLO, &[(5, 1)]),
         ],
     )?;
-    let rows: [(&[u8], &[(usize, u8)]); 22] = [
+    let rows: [(&[u8], &[(usize, u8)]); 28] = [
         (&HELLO, &[(10, 64)]),
         (&FAULT, &[(13, 4)]),
         // Weights of 64 bits that all fit 32: 5, and the least and the greatest that do.
         (&SHARD64, &[(25, 0), (28, 5)]),
         (&SHARD64, &[(25, 127), (26, 255), (27, 255), (28, 255)]),
         (&SHARD64, &[(21, 255), (22, 255), (23, 255), (24, 255)]),
-        // The rules of a shard.
+        // The rules of a shard: its number, its count, and a link's ends, which are from 1 to 2^26 and ascend. One without
+        // links has no weight past 32 bits.
         (&SHARD64, &[(7, 16)]),
         (&SHARD64, &[(12, 2)]),
+        (&SHARD64, &[(16, 0)]),
+        (&SHARD64, &[(17, 4), (20, 1)]),
+        (&SHARD64, &[(16, 3)]),
+        (&SHARD64, &[(16, 2)]),
+        (&EMPTY_SHARD64, &[]),
+        (&EMPTY_SHARD64, &[(12, 1)]),
         // There are 4,096 shards, numbered from 0.
         (&SHARD, &[(7, 16)]),
         (&ASK, &[(11, 16)]),
@@ -393,6 +419,7 @@ fn heads(rt: HostRuntime) {
         ([4, 16, 0, 0, 12], Ok(0x1000_000c)),
         ([5, 0, 0, 0, 9], Ok(9)),
         ([0, 0, 0, 0, 9], Err(FrameFault::BadKind)),
+        ([6, 0, 0, 0, 8], Ok(8)),
         ([6, 16, 0, 0, 8], Ok(0x1000_0008)),
         ([7, 0, 0, 0, 0], Err(FrameFault::BadKind)),
         ([6, 0, 0, 0, 0], Err(FrameFault::BadLength)),
