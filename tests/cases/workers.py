@@ -5,7 +5,7 @@ import random
 import resource
 import time
 
-from cases.running import SMALL_FOREST, SMALL_NET, Report, case, drawn_graph, expect, ran, written
+from cases.running import SMALL_FOREST, SMALL_NET, Report, case, drawn_graph, expect, file_of, forest_text, ran, written
 
 
 def over(workers, shards):
@@ -208,6 +208,18 @@ def a_session_of_more_than_65536_frames(room):
     report = expect_healthy([name], b"", text, 1, 4096)
     if (report.rounds, report.asked) != (15, 65_536):
         raise AssertionError(f"wanted 15 rounds and 65,536 asks: {vars(report)}")
+
+
+@case
+def as_many_rounds_as_a_million_vertices_can_have(room):
+    # the same path, twenty times halved: from 2^20 components to one
+    vertices = 2**20
+    arcs = [(it, it + 1, (it & -it).bit_length() - 1) for it in range(1, vertices)]
+    name = written(f"{room}/path.gr", file_of(vertices, arcs))
+    text = forest_text(vertices, sorted((weight, low, high) for low, high, weight in arcs))
+    report = expect_healthy([name], b"", text, 2, 3)
+    if (report.rounds, report.asked) != (20, 63):
+        raise AssertionError(f"wanted 20 rounds and 63 asks: {vars(report)}")
 
 
 @case
