@@ -2,7 +2,7 @@
 ghost use Rattle.std.specs.Prelude.{◌≡◌, ◌<◌, ◌≤◌, length, All, IfOk};
 ghost use Rattle.forest_run.specs.Lanes.{IsIdle};
 
-use crate::solving::path;
+use crate::solving::{LIMITS, LIMITS_FOREST, path};
 use forest_run::{Lane, Report, solve};
 use link_key::{Cut, Link};
 use ports::{EngineLine, Port, Wire};
@@ -11,7 +11,7 @@ use std::process::Abort;
 use std::sync::Wait;
 use std::test::Fail;
 use std::thread::Threads;
-use worked_graphs::{Row, SMALL_NET, all_have_labels, links_of};
+use worked_graphs::{Row, SMALL_NET, WIDE_WEIGHTS, all_have_labels, links_of};
 
 /// A lane to a worker in memory.
 type Worker<'a> = Lane<Wire<'a, EngineLine<Global>, Global>, Global>;
@@ -112,7 +112,8 @@ fn expect_run_of(
 fn runs_over_lanes(rt: HostRuntime) -> Result<(), Fail> {
     let alloc = rt.alloc();
     let net = SMALL_NET;
-    let runs: [(u32, &'static [Row], &'static [Row], Report); 4] = [
+    let wide = WIDE_WEIGHTS;
+    let runs: [(u32, &'static [Row], &'static [Row], Report); 6] = [
         (
             2,
             net.arcs,
@@ -124,6 +125,18 @@ fn runs_over_lanes(rt: HostRuntime) -> Result<(), Fail> {
             net.arcs,
             net.forest,
             report((6, 8), (2, 2), (0, 6), net.total),
+        ),
+        (
+            2,
+            wide.arcs,
+            wide.forest,
+            report((6, 8), (2, 2), (6, 0), wide.total),
+        ),
+        (
+            1,
+            &LIMITS,
+            &LIMITS_FOREST,
+            report((4, 5), (2, 3), (9, 0), 9223372036854775806),
         ),
         (64, &[], &[], report((0, 0), (0, 1), (1, 0), 0)),
         (0, &[], &[], report((0, 0), (0, 4096), (0, 4096), 0)),

@@ -5,7 +5,9 @@ use round_core::{SolveFault, Solver, Turn, solve_alone};
 use std::alloc::{AllocError, Global};
 use std::process::Abort;
 use std::test::Fail;
-use worked_graphs::{A_PATH_OF_EIGHT, EQUAL_WEIGHTS, Row, SMALL_NET, all_have_labels, links_of};
+use worked_graphs::{
+    A_PATH_OF_EIGHT, EQUAL_WEIGHTS, Row, SMALL_NET, WIDE_WEIGHTS, all_have_labels, links_of,
+};
 
 /// A round: the order in which its shards are scanned, what it does, and the labels behind it.
 type Step<'a> = (&'a [u32], Turn, &'a [u32]);
@@ -120,6 +122,42 @@ fn steps_at_their_bounds(rt: HostRuntime) -> Result<(), Fail> {
     Ok(())
 }
 
+// Four vertices with the greatest and the least weight that there are, and its forest's links. Vertices 1 and 2 are
+// joined by one of the greatest links, 3 and 4 by the least, and both pairs by the first of the greatest links between
+// them.
+pub(crate) const LIMITS: [Row; 5] = [
+    (1, 2, i64::MAX),
+    (2, 3, i64::MAX),
+    (3, 4, i64::MIN),
+    (1, 4, i64::MAX),
+    (2, 4, i64::MAX),
+];
+
+pub(crate) const LIMITS_FOREST: [Row; 3] = [(3, 4, i64::MIN), (1, 2, i64::MAX), (1, 4, i64::MAX)];
+
+#[test]
+fn steps_at_both_limits_of_weights(rt: HostRuntime) -> Result<(), Fail> {
+    let pairs = [1, 1, 3, 3].as_slice();
+    let ones = [1; 4].as_slice();
+    let steps: [Step; 3] = [
+        (&[0, 1], Turn::Merged(2), pairs),
+        (&[1, 0], Turn::Merged(1), ones),
+        (&[0, 1], Turn::Done, ones),
+    ];
+    for place in 0..6 {
+        expect_cut(
+            &rt,
+            rt.alloc(),
+            4,
+            &LIMITS,
+            &[place],
+            &steps,
+            &LIMITS_FOREST,
+        )?;
+    }
+    Ok(())
+}
+
 // A round whose only answer offers these.
 fn offer(
     rt: &impl Abort,
@@ -170,6 +208,30 @@ fn picks_of_one_offer(rt: HostRuntime) -> Result<(), Fail> {
         assert!(rt; labels.n() == 3);
         let picks = picks_of_offers(&rt, alloc, &cut, 1, &labels, &[&[pair]])?;
         assert!(rt; [picks.of(1), picks.of(2), picks.of(3)] == expected);
+    }
+    Ok(())
+}
+
+// The links picked under these labels of four vertices, where both limits of weights are met.
+#[test]
+fn picks_at_both_limits_of_weights(rt: HostRuntime) -> Result<(), Fail> {
+    let alloc = rt.alloc();
+    let links = links_of(alloc, 4, &LIMITS)?.expect(&rt, "arcs");
+    assert!(rt; links.len() <= 1 << 30);
+    let cut = Cut::even(alloc, links.as_slice(), 2).expect(&rt, "a cut");
+    let greatest = Link::of_arc(1, 2, i64::MAX);
+    let least = Link::of_arc(3, 4, i64::MIN);
+    let between = Link::of_arc(1, 4, i64::MAX);
+    let rounds = [
+        ([1, 2, 3, 4], [greatest, greatest, least, least]),
+        ([1, 1, 3, 3], [between, None, between, None]),
+        ([1, 1, 1, 1], [None; 4]),
+    ];
+    for (labels, expected) in rounds {
+        let labels = Labels::of_list(labels.to_vec(alloc)?).expect(&rt, "labels");
+        assert!(rt; labels.n() == 4);
+        let picks = picks_of_scans(&rt, alloc, &cut, 1, &labels, &[1, 0])?;
+        assert!(rt; [picks.of(1), picks.of(2), picks.of(3), picks.of(4)] == expected);
     }
     Ok(())
 }
@@ -238,7 +300,8 @@ fn runs_alone(rt: HostRuntime) -> Result<(), Fail> {
     let eight = A_PATH_OF_EIGHT;
     let path = path(alloc, 10_000)?;
     let doubling = doubling_path(alloc)?;
-    let runs: [(u32, &[Row], u32, &[Row], u32); 9] = [
+    let wide = WIDE_WEIGHTS;
+    let runs: [(u32, &[Row], u32, &[Row], u32); 11] = [
         (0, &[], 1, &[], 0),
         (0, &[], 4096, &[], 0),
         (1, &[], 1, &[], 0),
@@ -246,6 +309,8 @@ fn runs_alone(rt: HostRuntime) -> Result<(), Fail> {
         (8, eight.arcs, 1, eight.forest, 3),
         (8, eight.arcs, 3, eight.forest, 3),
         (8, eight.arcs, 4096, eight.forest, 3),
+        (6, wide.arcs, 2, wide.forest, 2),
+        (4, &LIMITS, 2, &LIMITS_FOREST, 2),
         (10_001, path.as_slice(), 4, path.as_slice(), 1),
         (65_536, doubling.as_slice(), 64, doubling.as_slice(), 16),
     ];

@@ -215,13 +215,116 @@ const NARROW: Reply = Ok(&[(1, 0), (2, 0)]);
 
 const WIDE: Reply = Ok(&[(2, 0), (3, 0)]);
 
-// Both shards to a worker of the first version, which answers the one that fits 32 bits, and to an engine. Once a shard
-// needs the second version, a wire over the first is closed, before or behind an answer.
+/// A line that keeps all bytes that are put, and counts the puts.
+#[derive(Drop)]
+struct Keeping<L> {
+    line: L,
+    kept: Vec<u8>,
+    are_all_kept: bool,
+    puts: usize,
+}
+
+impl<L: Line> Line for Keeping<L> {
+    ghost state = { λ s. L.state s.line };
+
+    ghost faithful = { λ s worker. L.faithful s.line worker };
+
+    fn put(&mut self, bytes: &[u8]) -> Result<(), LineFault> {
+        let are_kept = self.kept.extend_from_slice(bytes).is_ok();
+        self.are_all_kept = self.are_all_kept && are_kept;
+        self.puts = self.puts.wrapping_add(1);
+        self.line.put(bytes)
+    }
+
+    fn get(&mut self, into: &mut [u8]) -> Result<usize, LineFault> {
+        self.line.get(into)
+    }
+
+    ghost serves = { λ s worker is. L.serves s.line worker is };
+}
+
+// A line before this one that keeps what is put.
+fn kept_line<L: Line>(alloc: Global, line: L) -> Keeping<L>
+    ensures { L.state result.line ≡ L.state line }
+{
+    Keeping {
+        line,
+        kept: Vec::new(alloc),
+        are_all_kept: true,
+        puts: 0,
+    }
+}
+
+/// A frame: its kind, and the numbers of its body, four bytes each.
+type Numbers<'a> = (u8, &'a [u32]);
+
+// The text of these frames.
+fn text_of(alloc: Global, frames: &[Numbers]) -> Result<Vec<u8>, AllocError> {
+    let mut text = Vec::new(alloc);
+    for (kind, numbers) in frames {
+        let count = numbers.len().min(1 << 20) as u32;
+        text.push(*kind)?;
+        text.extend_from_slice(&count.wrapping_mul(4).to_be_bytes())?;
+        for number in numbers.iter() {
+            text.extend_from_slice(&number.to_be_bytes())?;
+        }
+    }
+    Ok(text)
+}
+
+// These steps of a new wire over a line: what is put meanwhile are these frames, each by one put.
+fn expect_put<L: Line + Drop>(
+    rt: &impl Abort,
+    alloc: Global,
+    graph: (u32, &[Row], u32),
+    line: L,
+    steps: &[Step],
+    frames: &[Numbers],
+) -> Result<(), Fail>
+    requires room { HasRoom (L.state line) }
+{
+    let asks = steps.iter().filter(|step| is_counted(step)).count();
+    let line = expect_steps(
+        rt,
+        alloc,
+        graph,
+        kept_line(alloc, line),
+        0,
+        steps,
+        asks as u64,
+    )?;
+    assert!(rt; line.are_all_kept && line.puts == frames.len());
+    assert_eq!(rt; line.kept.as_slice(), text_of(alloc, frames)?.as_slice());
+    Ok(())
+}
+
+// Whether the step is an ask that counts: one of a wire that isn't closed.
+fn is_counted(step: &Step) -> bool {
+    match step {
+        Step::Ask(_, _, reply) => *reply != CLOSED,
+        Step::Shut => false,
+    }
+}
+
+const TOO_OLD: Reply = Err(PortFault::TooOld);
+
+// The shards of a path of which the first link weighs 5 and the second 2^31, and asks for them under three labels.
+const NARROW_SHARD: Numbers = (2, &[0, 1, 1, 2, 5]);
+
+const NARROW_ASK: Numbers = (3, &[1, 0, 3, 1, 2, 3]);
+
+const WIDE_SHARD: Numbers = (6, &[1, 1, 2, 3, 0, 1 << 31]);
+
+const WIDE_ASK: Numbers = (3, &[1, 1, 3, 1, 2, 3]);
+
+const AGAIN: Numbers = (3, &[2, 1, 3, 1, 2, 3]);
+
+// A session of a worker of the first version, which says its hello and answers the ask for the shard that fits 32 bits.
+// Once a shard needs the second version the wire is closed, before an answer or behind it, and nothing is put for it.
 #[test]
-fn shards_of_64_bits(rt: HostRuntime) -> Result<(), Fail> {
+fn a_worker_of_the_first_version(rt: HostRuntime) -> Result<(), Fail> {
     let alloc = rt.alloc();
     let graph: (u32, &[Row], u32) = (3, &[(1, 2, 5), (2, 3, 2147483648)], 2);
-    const TOO_OLD: Reply = Err(PortFault::TooOld);
     let answer = [
         4, 0, 0, 0, 28, 0, 0, 0, 1, 0, 0, 0, 0, 0, 0, 0, 2, 0, 0, 0, 1, 0, 0, 0, 0, 0, 0, 0, 2, 0,
         0, 0, 0,
@@ -230,61 +333,34 @@ fn shards_of_64_bits(rt: HostRuntime) -> Result<(), Fail> {
         Step::Ask(1, 0, NARROW),
         Step::Ask(1, 1, TOO_OLD),
         Step::Ask(1, 0, CLOSED),
+        Step::Ask(1, 1, CLOSED),
     ];
+    let put = [NARROW_SHARD, NARROW_ASK];
     let line = ScriptLine::new(script(alloc, &[&HELLO, &answer])?);
-    expect_steps(&rt, alloc, graph, line, 0, &steps, 2)?;
+    expect_put(&rt, alloc, graph, line, &steps, &put)?;
     let line = ScriptLine::new(script(alloc, &[&HELLO, &answer])?);
-    expect_steps(&rt, alloc, graph, line, 0, &steps[1..], 1)?;
-    let line = EngineLine::new(alloc, 0)?;
+    expect_put(&rt, alloc, graph, line, &steps[1..], &[])
+}
+
+// An engine is sent both shards, each before its first ask alone.
+#[test]
+fn shards_of_64_bits(rt: HostRuntime) -> Result<(), Fail> {
+    let alloc = rt.alloc();
+    let graph: (u32, &[Row], u32) = (3, &[(1, 2, 5), (2, 3, 2147483648)], 2);
     let steps = [
         Step::Ask(1, 0, NARROW),
         Step::Ask(1, 1, WIDE),
         Step::Ask(2, 1, WIDE),
     ];
-    expect_steps(&rt, alloc, graph, line, 0, &steps, 3)?;
-    Ok(())
+    let put = [NARROW_SHARD, NARROW_ASK, WIDE_SHARD, WIDE_ASK, AGAIN];
+    let line = EngineLine::new(alloc, 0)?;
+    expect_put(&rt, alloc, graph, line, &steps, &put)
 }
 
-/// An engine's line that remembers how long each of its first eight puts was.
-#[derive(Drop)]
-struct Listening {
-    line: EngineLine<Global>,
-    lengths: [usize; 8],
-    puts: usize,
-}
-
-impl Line for Listening {
-    ghost use Rattle.ports.specs.EngineLines.{line_of, IsEngineLine};
-    ghost use Rattle.ports.specs.LineLaws.{engine_serves};
-
-    ghost state = { λ s. line_of s.line };
-
-    ghost faithful = { λ s worker. IsEngineLine worker s.line };
-
-    fn put(&mut self, bytes: &[u8]) -> Result<(), LineFault> {
-        if let Some(length) = self.lengths.get_mut(self.puts) {
-            *length = bytes.len();
-        }
-        self.puts = self.puts.wrapping_add(1);
-        self.line.put(bytes)
-    }
-
-    fn get(&mut self, into: &mut [u8]) -> Result<usize, LineFault> {
-        self.line.get(into)
-    }
-
-    ghost serves = { λ s worker is. engine_serves worker s.line is };
-}
-
-// A shard of one link has 25 bytes, one of two links 37, and an ask under three labels 29.
+// The two shards of the triangle, and asks for them under three labels.
 #[test]
 fn each_shard_is_sent_before_its_first_ask_alone(rt: HostRuntime) -> Result<(), Fail> {
     let alloc = rt.alloc();
-    let line = Listening {
-        line: EngineLine::new(alloc, 63)?,
-        lengths: [0; 8],
-        puts: 0,
-    };
     let of_one: Reply = Ok(&[(1, 0), (2, 0)]);
     let of_two: Reply = Ok(&[(1, 1), (2, 0), (3, 1)]);
     let steps = [
@@ -293,48 +369,17 @@ fn each_shard_is_sent_before_its_first_ask_alone(rt: HostRuntime) -> Result<(), 
         Step::Ask(2, 0, of_one),
         Step::Ask(2, 1, of_two),
     ];
+    let put: [Numbers; 6] = [
+        (2, &[0, 1, 1, 2, 5]),
+        (3, &[1, 0, 3, 1, 2, 3]),
+        (2, &[1, 2, 2, 3, 5, 1, 3, 5]),
+        (3, &[1, 1, 3, 1, 2, 3]),
+        (3, &[2, 0, 3, 1, 2, 3]),
+        (3, &[2, 1, 3, 1, 2, 3]),
+    ];
     let graph = (3, EQUAL_WEIGHTS.arcs, 2);
-    let line = expect_steps(&rt, alloc, graph, line, 63, &steps, 4)?;
-    assert!(rt; line.lengths == [25, 29, 37, 29, 29, 29, 0, 0] && line.puts == 6);
-    Ok(())
-}
-
-/// An engine's line that counts its puts, and remembers a sum that tells of all bytes put and of their order.
-#[derive(Drop)]
-struct Summing {
-    line: EngineLine<Global>,
-    sum: u64,
-    puts: usize,
-}
-
-impl Line for Summing {
-    ghost use Rattle.ports.specs.EngineLines.{line_of, IsEngineLine};
-    ghost use Rattle.ports.specs.LineLaws.{engine_serves};
-
-    ghost state = { λ s. line_of s.line };
-
-    ghost faithful = { λ s worker. IsEngineLine worker s.line };
-
-    fn put(&mut self, bytes: &[u8]) -> Result<(), LineFault> {
-        self.sum = sum_behind(self.sum, bytes);
-        self.puts = self.puts.wrapping_add(1);
-        self.line.put(bytes)
-    }
-
-    fn get(&mut self, into: &mut [u8]) -> Result<usize, LineFault> {
-        self.line.get(into)
-    }
-
-    ghost serves = { λ s worker is. engine_serves worker s.line is };
-}
-
-// The sum of the bytes put so far, of which these are the last.
-fn sum_behind(sum: u64, bytes: &[u8]) -> u64 {
-    let mut sum = sum;
-    for byte in bytes {
-        sum = (sum ^ u64::from(*byte)).wrapping_mul(1_099_511_628_211);
-    }
-    sum
+    let line = EngineLine::new(alloc, 0)?;
+    expect_put(&rt, alloc, graph, line, &steps, &put)
 }
 
 // Two asks under these labels of vertices that are apart, of which the first and the last are linked, over a new wire
@@ -357,16 +402,13 @@ fn ask_twice<L: Line + Drop>(
     Ok(wire.into_line())
 }
 
-// How many puts two asks under these labels are, and the sum of their bytes.
-fn puts_under(rt: &impl Abort, alloc: Global, labels: &Labels) -> Result<(usize, u64), Fail> {
-    let line = Summing {
-        line: EngineLine::new(alloc, 0)?,
-        sum: 0,
-        puts: 0,
-    };
+// How many puts two asks under these labels are, and their bytes.
+fn puts_under(rt: &impl Abort, alloc: Global, labels: &Labels) -> Result<(usize, Vec<u8>), Fail> {
+    let line = kept_line(alloc, EngineLine::new(alloc, 0)?);
     let offers = [(1, 0), (labels.n(), 0)];
     let line = ask_twice(rt, alloc, labels, line, (Ok(&offers), Ok(&offers)))?;
-    Ok((line.puts, line.sum))
+    assert!(rt; line.are_all_kept);
+    Ok((line.puts, line.kept))
 }
 
 // The shard and each ask is a put; an ask whose labels keep their bytes is two from 64 KiB of labels on. The bytes are
@@ -378,8 +420,9 @@ fn labels_with_and_without_their_bytes(rt: HostRuntime) -> Result<(), Fail> {
         let mut labels = Labels::apart(alloc, n)?;
         let (turned, bytes) = puts_under(&rt, alloc, &labels)?;
         labels.spell()?;
-        assert_eq!(rt; puts_under(&rt, alloc, &labels)?, (puts, bytes));
-        assert_eq!(rt; turned, 3);
+        let (spelled, same) = puts_under(&rt, alloc, &labels)?;
+        assert_eq!(rt; (turned, spelled), (3, puts));
+        assert!(rt; same.as_slice() == bytes.as_slice());
     }
     Ok(())
 }
