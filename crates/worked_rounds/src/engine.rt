@@ -30,6 +30,18 @@ const SHORT_ANSWER: [u8; 33] = [
     0, 0,
 ];
 
+// The triangle with the weights 2^32 + 5, 5 and 5 - 2^32, whose lower 32 bits are the same, and its answer to the ask.
+const ALIKE_SHARD: [u8; 61] = [
+    6, 0, 0, 0, 56, 0, 0, 0, 0, 0, 0, 0, 3, 0, 0, 0, 1, 0, 0, 0, 2, 0, 0, 0, 1, 0, 0, 0, 5, 0, 0,
+    0, 2, 0, 0, 0, 3, 0, 0, 0, 0, 0, 0, 0, 5, 0, 0, 0, 1, 0, 0, 0, 3, 255, 255, 255, 255, 0, 0, 0,
+    5,
+];
+
+const ALIKE_ANSWER: [u8; 41] = [
+    4, 0, 0, 0, 36, 0, 0, 0, 1, 0, 0, 0, 0, 0, 0, 0, 3, 0, 0, 0, 1, 0, 0, 0, 2, 0, 0, 0, 2, 0, 0,
+    0, 1, 0, 0, 0, 3, 0, 0, 0, 2,
+];
+
 const SHARD: [u8; 49] = [
     2, 0, 0, 0, 44, 0, 0, 0, 0, 0, 0, 0, 3, 0, 0, 0, 1, 0, 0, 0, 2, 0, 0, 0, 5, 0, 0, 0, 2, 0, 0,
     0, 3, 0, 0, 0, 5, 0, 0, 0, 1, 0, 0, 0, 3, 0, 0, 0, 5,
@@ -64,6 +76,8 @@ const ANOTHER_ANSWER: [u8; 33] = [
 
 // A shard of no links, an ask under no labels, and its answer.
 const EMPTY_SHARD: [u8; 13] = [2, 0, 0, 0, 8, 0, 0, 0, 0, 0, 0, 0, 0];
+
+const EMPTY_SHARD64: [u8; 13] = [6, 0, 0, 0, 8, 0, 0, 0, 0, 0, 0, 0, 0];
 
 const EMPTY_ASK: [u8; 17] = [3, 0, 0, 0, 12, 0, 0, 0, 1, 0, 0, 0, 0, 0, 0, 0, 0];
 
@@ -118,12 +132,14 @@ fn expect_session(
     Ok(())
 }
 
-// Sessions over whole streams, and one that ends inside an ask: an ask of a shard that is held, or isn't, or of too few labels; a hello, to which
-// nothing is replied; a shard that is sent again, and stands in place of the first; no links and no labels.
+// Sessions over whole streams, one that ends inside an ask, and ones that end at a shard that is unlawful: an ask of a
+// shard that is held, or isn't, or of too few labels; a hello, to which nothing is replied; a shard that is sent again, and
+// stands in place of the first; no links and no labels; weights past 32 bits, and no links as if one were.
 #[test]
 fn sessions_over_the_triangle(rt: HostRuntime) -> Result<(), Fail> {
     let torn = Err(ServeFault::Read(FrameFault::Torn));
-    let sessions: [(&[&[u8]], Result<Served, ServeFault>, &[&[u8]]); 8] = [
+    let bad_field = Err(ServeFault::Read(FrameFault::BadField));
+    let sessions: [(&[&[u8]], Result<Served, ServeFault>, &[&[u8]]); 10] = [
         (&[&SHARD, &ASK], served(2, 1, 0), &[&HELLO, &ANSWER]),
         (&[&SHARD, &ASK[..10]], torn, &[&HELLO]),
         (&[&ASK], served(1, 0, 1), &[&HELLO, &NOT_HELD]),
@@ -137,6 +153,16 @@ fn sessions_over_the_triangle(rt: HostRuntime) -> Result<(), Fail> {
             &[&SHARD64, &SHORT_ASK],
             served(2, 1, 0),
             &[&HELLO, &SHORT_ANSWER],
+        ),
+        (
+            &[&SHARD, &ALIKE_SHARD, &ASK],
+            served(3, 1, 0),
+            &[&HELLO, &ALIKE_ANSWER],
+        ),
+        (
+            &[&SHARD, &ASK, &EMPTY_SHARD64, &ASK],
+            bad_field,
+            &[&HELLO, &ANSWER],
         ),
         (
             &[&SHARD, &ASK, &ANOTHER_SHARD, &ASK, &SHARD, &SHARD, &ASK],

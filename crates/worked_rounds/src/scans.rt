@@ -12,7 +12,7 @@ use std::alloc::{AllocError, Allocator, Global};
 use std::process::Abort;
 use std::test::Fail;
 use std::thread::Threads;
-use worked_graphs::{have_labels, links_of};
+use worked_graphs::{Row, have_labels, links_of};
 use worker_engine::{Engine, Scanner, scan, scan_par};
 
 // The offers of links that are few enough and whose ends all have labels. Each way to scan gives the same ones; the
@@ -171,8 +171,10 @@ pub(crate) fn many_labels(rt: &impl Abort, alloc: Global) -> Result<Labels, Fail
 }
 
 // So many that they are scanned by threads, between 1,007 vertices, each near the next. Each link is repeated some forty
-// times.
+// times. The lower 32 bits of each weight are nothing.
 const NEAR_LINKS: u32 = 300_000;
+
+const PAST_32_BITS: i64 = 1 << 32;
 
 const NEAR: u32 = 1010;
 
@@ -180,8 +182,8 @@ fn near_links(rt: &impl Abort, alloc: Global) -> Result<Vec<Link>, AllocError> {
     let mut arcs = Vec::new(alloc);
     for i in 0..NEAR_LINKS {
         let low = i % 1000 + 1;
-        let weight = i.wrapping_mul(7919) % 101;
-        arcs.push((low, low + i % 7 + 1, i64::from(weight)))?;
+        let weight = i64::from(i.wrapping_mul(7919) % 101);
+        arcs.push((low, low + i % 7 + 1, weight.wrapping_mul(PAST_32_BITS)))?;
     }
     Ok(links_of(alloc, NEAR, arcs.as_slice())?.expect(rt, "arcs"))
 }
@@ -240,6 +242,42 @@ fn scans_one_after_the_other(rt: HostRuntime) -> Result<(), Fail> {
         expect_known(&rt, offers.pairs(), known);
         let expected = plain_offers(&rt, alloc, 0, links.as_slice(), labels)?;
         assert_eq!(rt; offers.pairs(), expected.as_slice());
+    }
+    Ok(())
+}
+
+// Weights whose lower 32 bits are the same, and weights at both limits of 64 bits and beside them: by keys alone.
+#[test]
+fn weights_past_32_bits(rt: HostRuntime) -> Result<(), Fail> {
+    let alloc = rt.alloc();
+    let graphs: [(&[Row], &[(u32, u32)]); 5] = [
+        (
+            &[(1, 2, 4294967301), (2, 3, 5), (1, 3, -4294967291)],
+            &[(1, 2), (2, 1), (3, 2)],
+        ),
+        (
+            &[(1, 2, 2147483648), (2, 3, -2147483648), (1, 3, 0)],
+            &[(1, 2), (2, 1), (3, 1)],
+        ),
+        (
+            &[(1, 2, i64::MAX), (2, 3, i64::MAX - 1), (1, 3, i64::MIN)],
+            &[(1, 2), (2, 1), (3, 2)],
+        ),
+        (
+            &[(1, 2, i64::MIN + 1), (2, 3, i64::MIN), (1, 3, i64::MIN + 1)],
+            &[(1, 0), (2, 1), (3, 1)],
+        ),
+        (
+            &[(2, 3, i64::MAX), (1, 3, i64::MAX), (1, 3, i64::MAX)],
+            &[(1, 1), (2, 0), (3, 1)],
+        ),
+    ];
+    let labels = Labels::apart(alloc, 3)?;
+    let mut scanner = Scanner::new(alloc);
+    for (arcs, expected) in graphs {
+        let links = links_of(alloc, 3, arcs)?.expect(&rt, "arcs");
+        let offers = scanned(&rt, alloc, &mut scanner, links.as_slice(), &labels)?;
+        assert_eq!(rt; offers.pairs(), expected);
     }
     Ok(())
 }
