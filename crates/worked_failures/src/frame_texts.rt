@@ -2,8 +2,8 @@
 use crate::in_turn::{Memory, expect_each, or_refused};
 use crate::lists::links_of_six;
 use frames::{
-    Answer, Frame, FrameFault, decode_body, decode_head, encode, encode_ask, encode_ask_over,
-    encode_shard, fault_bytes, read_frame,
+    Answer, Frame, FrameFault, ask_parts, decode_body, decode_head, encode, encode_ask,
+    encode_ask_over, encode_shard, fault_bytes, read_frame,
 };
 use link_key::{Labels, Offers, Shard};
 use std::alloc::{AllocError, Global};
@@ -73,10 +73,11 @@ enum Call {
     EncodeShard64,
     EncodeAsk,
     EncodeAskOver,
+    SpellLabels,
     EncodeAnswer,
 }
 
-const CALLS: [Call; 17] = [
+const CALLS: [Call; 18] = [
     Call::ReadFrame(&HELLO),
     Call::ReadFrame(&SHARD),
     Call::ReadFrame(&SHARD64),
@@ -93,6 +94,7 @@ const CALLS: [Call; 17] = [
     Call::EncodeShard64,
     Call::EncodeAsk,
     Call::EncodeAskOver,
+    Call::SpellLabels,
     Call::EncodeAnswer,
 ];
 
@@ -124,8 +126,38 @@ fn make(rt: &impl Abort, alloc: Global, memory: &Memory, call: Call) -> Result<(
             encode_ask_over(&mut text, 1, 0, &labels)?;
             expect_text(rt, Ok(text), &ASK)
         }
+        Call::SpellLabels => expect_spelled(rt, memory),
         Call::EncodeAnswer => encode_answer(rt, alloc, memory),
     }
+}
+
+// An ask under these labels is this one.
+fn expect_ask<'a>(
+    rt: &impl Abort,
+    memory: &'a Memory,
+    labels: &Labels<&'a Memory>,
+) -> Result<(), AllocError> {
+    assert!(rt; labels.as_slice() == [1, 2, 3].as_slice());
+    expect_text(rt, encode_ask(memory, 1, 0, labels), &ASK)
+}
+
+// Labels that keep their bytes, so that an ask is parts of which the second is theirs; where they find no memory for them,
+// they are as before. An ask under them is the same before and behind, and its parts take no memory, nor does it to keep
+// the bytes again.
+fn expect_spelled(rt: &impl Abort, memory: &Memory) -> Result<(), AllocError> {
+    let mut labels = Labels::apart(memory, 3)?;
+    expect_ask(rt, memory, &labels)?;
+    if labels.spell().is_err() {
+        assert!(rt; ask_parts(1, 0, &labels).is_none());
+        expect_ask(rt, memory, &labels)?;
+        labels.spell()?;
+    }
+    let asked = memory.asked();
+    labels.spell()?;
+    let (head, bytes) = ask_parts(1, 0, &labels).expect(rt, "kept bytes");
+    assert!(rt; (head.as_slice(), bytes) == ASK.split_at(17));
+    assert_eq!(rt; memory.asked(), asked);
+    expect_ask(rt, memory, &labels)
 }
 
 // A triangle's links as a shard.

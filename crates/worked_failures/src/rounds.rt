@@ -14,7 +14,8 @@ use round_core::{Picks, RoundBook, SolveFault, Solver, Turn, hook_relabel, solve
 use std::alloc::{AllocError, Global};
 use std::process::Abort;
 use worked_graphs::{
-    A_PATH_OF_EIGHT, EQUAL_WEIGHTS, SMALL_NET, all_have_labels, have_labels, links_of,
+    A_PATH_OF_EIGHT, EQUAL_WEIGHTS, SMALL_NET, WIDE_WEIGHTS, Worked, all_have_labels, have_labels,
+    links_of,
 };
 use worker_engine::scan;
 
@@ -117,6 +118,27 @@ fn picks_of_scans<'a>(
     Ok(book.close())
 }
 
+// The solver's labels keep their bytes until a step makes others. Where they find no memory for them, they are as before;
+// either way the solver is.
+fn expect_spelled<'a>(rt: &impl Abort, solver: &mut Solver<&'a Memory>) -> Result<(), AllocError> {
+    let round = solver.round();
+    if solver.spell_labels().is_err() {
+        assert!(rt; solver.labels().spelled().is_none() && solver.round() == round);
+        solver.spell_labels()?;
+    }
+    let labels = solver.labels();
+    let bytes = labels.spelled().expect(rt, "kept bytes");
+    assert!(rt; solver.round() == round && bytes.len() == labels.as_slice().len().wrapping_mul(4));
+    assert!(rt;
+        labels
+            .as_slice()
+            .iter()
+            .zip(bytes.chunks(4))
+            .all(|(label, bytes)| label.to_be_bytes().as_slice() == bytes)
+    );
+    Ok(())
+}
+
 // The solver's step by the picks of the cut's scans. Where it wants memory, it is as before; and where one allocation
 // alone was refused, the step is made once it is tried again.
 fn expect_step<'a>(
@@ -130,6 +152,8 @@ fn expect_step<'a>(
     let picks = picks_of_scans(rt, memory, cut, solver.labels())?;
     let round = solver.round();
     let before = solver.labels().as_slice().to_vec(memory)?;
+    expect_spelled(rt, solver)?;
+    assert!(rt; solver.labels().as_slice() == before.as_slice());
     let turn = match solver.step(&picks) {
         Ok(turn) => turn,
         Err(fault) => {
@@ -142,9 +166,14 @@ fn expect_step<'a>(
     Ok(())
 }
 
-// The small net in two shards: two merging rounds, and the forest.
-fn expect_solved(rt: &impl Abort, alloc: Global, memory: &Memory) -> Result<(), AllocError> {
-    let links = links_of_six(rt, alloc, SMALL_NET.arcs);
+// A net in two shards: two merging rounds, and the forest. The small net's components are the same with either weights.
+fn expect_solved(
+    rt: &impl Abort,
+    alloc: Global,
+    memory: &Memory,
+    graph: Worked,
+) -> Result<(), AllocError> {
+    let links = links_of_six(rt, alloc, graph.arcs);
     let links = links.as_slice();
     assert!(rt; links.len() == 8);
     let cut = or_refused(rt, Cut::even(memory, links, 2), CutFault::Memory)?;
@@ -165,14 +194,19 @@ fn expect_solved(rt: &impl Abort, alloc: Global, memory: &Memory) -> Result<(), 
             or_refused(rt, solver.finish(&cut), SolveFault::Memory)?
         }
     };
-    let forest = links_of_six(rt, alloc, SMALL_NET.forest);
+    let forest = links_of_six(rt, alloc, graph.forest);
     assert!(rt; found.links() == forest.as_slice());
     Ok(())
 }
 
 // The first round's labels.
-fn expect_relabelled(rt: &impl Abort, alloc: Global, memory: &Memory) -> Result<(), AllocError> {
-    let links = links_of_six(rt, alloc, SMALL_NET.arcs);
+fn expect_relabelled(
+    rt: &impl Abort,
+    alloc: Global,
+    memory: &Memory,
+    graph: Worked,
+) -> Result<(), AllocError> {
+    let links = links_of_six(rt, alloc, graph.arcs);
     let links = links.as_slice();
     assert!(rt; links.len() == 8);
     let cut = or_refused(rt, Cut::even(memory, links, 2), CutFault::Memory)?;
@@ -183,23 +217,25 @@ fn expect_relabelled(rt: &impl Abort, alloc: Global, memory: &Memory) -> Result<
     Ok(())
 }
 
-// All rounds by one thread: the path of eight in three shards has three merging rounds.
-fn expect_alone(rt: &impl Abort, alloc: Global, memory: &Memory) -> Result<(), AllocError> {
-    let links = links_of(alloc, 8, A_PATH_OF_EIGHT.arcs).expect(rt, "memory");
+// All rounds by one thread, over three shards: so many merge components.
+fn expect_alone(
+    rt: &impl Abort,
+    alloc: Global,
+    memory: &Memory,
+    graph: Worked,
+    merging: u32,
+) -> Result<(), AllocError> {
+    let n = graph.n;
+    let links = links_of(alloc, n, graph.arcs).expect(rt, "memory");
     let links = links.expect(rt, "arcs");
     let links = links.as_slice();
-    assert!(rt; links.len() == 7);
+    assert!(rt; links.len() <= 8 && n <= 8);
     let cut = or_refused(rt, Cut::even(memory, links, 3), CutFault::Memory)?;
-    assert!(rt; all_have_labels(&cut, 8));
-    let (found, rounds) = or_refused(rt, solve_alone(memory, 8, &cut), SolveFault::Memory)?;
-    assert!(rt; found.links().len() == 7 && rounds == 3);
-    assert!(rt;
-        found
-            .links()
-            .iter()
-            .zip(A_PATH_OF_EIGHT.forest)
-            .all(|(link, row)| (link.low, link.high, link.weight) == *row)
-    );
+    assert!(rt; all_have_labels(&cut, n));
+    let (found, rounds) = or_refused(rt, solve_alone(memory, n, &cut), SolveFault::Memory)?;
+    let forest = links_of(alloc, n, graph.forest).expect(rt, "memory");
+    let forest = forest.expect(rt, "arcs");
+    assert!(rt; found.links() == forest.as_slice() && rounds == merging);
     Ok(())
 }
 
@@ -249,17 +285,20 @@ fn expect_lies(rt: &impl Abort, alloc: Global, memory: &Memory) -> Result<(), Al
 #[derive(Clone, Copy)]
 enum Call {
     Board,
-    Relabel,
-    Solver,
-    SolveAlone,
+    Relabel(Worked),
+    Solver(Worked),
+    SolveAlone(Worked, u32),
     Lies,
 }
 
-const CALLS: [Call; 5] = [
+const CALLS: [Call; 8] = [
     Call::Board,
-    Call::Relabel,
-    Call::Solver,
-    Call::SolveAlone,
+    Call::Relabel(SMALL_NET),
+    Call::Relabel(WIDE_WEIGHTS),
+    Call::Solver(SMALL_NET),
+    Call::Solver(WIDE_WEIGHTS),
+    Call::SolveAlone(A_PATH_OF_EIGHT, 3),
+    Call::SolveAlone(WIDE_WEIGHTS, 2),
     Call::Lies,
 ];
 
@@ -272,9 +311,11 @@ fn boards_books_and_solvers(rt: HostRuntime) {
             |memory: &Memory| -> Result<(), AllocError> {
                 match call {
                     Call::Board => expect_claims(&rt, memory),
-                    Call::Relabel => expect_relabelled(&rt, rt.alloc(), memory),
-                    Call::Solver => expect_solved(&rt, rt.alloc(), memory),
-                    Call::SolveAlone => expect_alone(&rt, rt.alloc(), memory),
+                    Call::Relabel(graph) => expect_relabelled(&rt, rt.alloc(), memory, graph),
+                    Call::Solver(graph) => expect_solved(&rt, rt.alloc(), memory, graph),
+                    Call::SolveAlone(graph, merging) => {
+                        expect_alone(&rt, rt.alloc(), memory, graph, merging)
+                    }
                     Call::Lies => expect_lies(&rt, rt.alloc(), memory),
                 }
             },
