@@ -185,10 +185,10 @@ fn blocks_of_coarser_asks(
 fn live_links_are_listed_once(rt: HostRuntime) -> Result<(), Fail> {
     for by in [By::OneThread, By::Threads] {
         let (before, taken) = blocks_of_coarser_asks(&rt, rt.alloc(), by, Refusals::none())?;
-        assert_eq!(rt; taken.as_slice(), [3, 2, 1, 0].as_slice());
+        assert_eq!(rt; taken.as_slice(), [4, 2, 1, 0].as_slice());
         let list = before.get(1).expect(&rt, "a second ask").wrapping_add(2);
         let (_, taken) = blocks_of_coarser_asks(&rt, rt.alloc(), by, Refusals::only(list))?;
-        assert_eq!(rt; taken.as_slice(), [3, 2, 2, 0].as_slice());
+        assert_eq!(rt; taken.as_slice(), [4, 2, 2, 0].as_slice());
     }
     Ok(())
 }

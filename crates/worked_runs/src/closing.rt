@@ -166,3 +166,36 @@ fn whole_batches_and_odd_ones(rt: HostRuntime) -> Result<(), Fail> {
 fn no_offer(rt: HostRuntime) -> Result<(), Fail> {
     expect_least(&rt, rt.alloc(), 5, &[0, 0], &[1, 0])
 }
+
+// A book over the picks of one of 50 vertices has the picks of its own answer alone, which offers one link.
+fn expect_least_over(rt: &impl Abort, alloc: Global, n: u32) -> Result<(), Fail> {
+    assert!(rt; 2 <= n && n < 1 << 20);
+    let links = paths(rt, alloc, 50, 1)?;
+    let cut = Cut::even(alloc, links.as_slice(), 1).expect(rt, "a cut");
+    let labels = Labels::apart(alloc, 50)?;
+    let book = heard(rt, alloc, &cut, &labels, &[49], &[0])?;
+    assert!(rt; book.missing() == 0);
+    let picks = book.close();
+    let links = paths(rt, alloc, n, 1)?;
+    let cut = Cut::even(alloc, links.as_slice(), 1).expect(rt, "a cut");
+    let labels = Labels::apart(alloc, n)?;
+    assert!(rt; all_have_labels(&cut, labels.n()));
+    let mut book = RoundBook::open_over(picks, 1, &cut, &labels)?;
+    assert!(rt; book.len() == 1 && book.missing() == 1);
+    book.take(0, first_links(rt, alloc, 0, 1)?)?;
+    assert!(rt; book.missing() == 0);
+    let over = book.close();
+    for vertex in 1..n + 1 {
+        assert!(rt; vertex <= labels.n());
+        assert_eq!(rt; over.of(vertex), least(&[1], vertex));
+    }
+    Ok(())
+}
+
+// With as many labels as the picks have, with fewer, and with more.
+#[test]
+fn a_book_over_the_picks_of_another(rt: HostRuntime) -> Result<(), Fail> {
+    expect_least_over(&rt, rt.alloc(), 50)?;
+    expect_least_over(&rt, rt.alloc(), 30)?;
+    expect_least_over(&rt, rt.alloc(), 80)
+}
