@@ -78,6 +78,7 @@ class Function:
     begin: int
     body: int
     end: int
+    cycle: str = ""  # by which name `#[cycle(..)]` has the proofs of it and of those that call one another with it
 
     @property
     def key(self):
@@ -88,9 +89,10 @@ class Function:
         inside = self.file[len("src/") : -len(".rt")].split("/")
         if inside[-1] in ("lib", "main", "mod"):
             inside.pop()
+        names = [it for it in (self.name, self.cycle) if it]
         if self.owner:
-            return path[-2:] == [self.owner, self.name]
-        return path == [*inside, self.name]
+            return path[-2:] in [[self.owner, it] for it in names]
+        return path in [[*inside, it] for it in names]
 
 
 def blanked(text):
@@ -148,7 +150,8 @@ def functions_of(file, text):
         elif it[2]:
             body, end = block(plain, it.end())
             if body is not None:
-                found.append(Function(file, owners[-1] if owners else "", it[2], it.start(1), body, end))
+                cycle = re.search(r"#\[cycle\((\w+)\)\]\s*$", plain[: it.start(1)])
+                found.append(Function(file, owners[-1] if owners else "", it[2], it.start(1), body, end, cycle[1] if cycle else ""))
             at = end
         else:
             brace = plain.index("{", it.end())
