@@ -12,13 +12,11 @@ use std::thread::Threads;
 use worked_graphs::all_have_labels;
 
 // The link of a shard from a vertex to the next. Five weights make many shards' links equal, and others tie.
-fn step(shard: u32, vertex: u32) -> Option<Link> {
+fn step(rt: &impl Abort, shard: u32, vertex: u32) -> Link {
+    assert!(rt; 0 < vertex && vertex < 1 << 20);
     let drawn = vertex.wrapping_mul(2_654_435_761) ^ shard.wrapping_mul(40_503);
-    Link::of_arc(
-        vertex,
-        vertex.saturating_add(1),
-        i64::from((drawn >> 9) % 5),
-    )
+    let weight = i64::from((drawn >> 9) % 5);
+    Link::of_arc(vertex, vertex + 1, weight).expect(rt, "a link")
 }
 
 // So many shards that each have a link from each of n vertices to the next.
@@ -26,7 +24,7 @@ fn paths(rt: &impl Abort, alloc: Global, n: u32, shards: u32) -> Result<Vec<Link
     let mut links = Vec::new(alloc);
     for shard in 0..shards {
         for vertex in 1..n {
-            links.push(step(shard, vertex).expect(rt, "a link"))?;
+            links.push(step(rt, shard, vertex))?;
         }
     }
     Ok(links)
@@ -69,22 +67,25 @@ fn heard<'a>(
 }
 
 // The least of the offered links that leave a vertex, by a look at all of them.
-fn least(counts: &[u32], vertex: u32) -> Option<Link> {
-    let mut least: Option<Link> = None;
-    for (shard, count) in counts.iter().enumerate() {
-        for low in [vertex.saturating_sub(1), vertex] {
-            if low == 0 || low > *count {
-                continue;
-            }
-            if let Some(link) = step(shard as u32, low) {
-                least = match least {
-                    Some(other) if other < link => Some(other),
-                    _ => Some(link),
-                };
-            }
+fn least(
+    rt: &impl Abort,
+    alloc: Global,
+    counts: &[u32],
+    vertex: u32,
+) -> Result<Option<Link>, Fail> {
+    let mut offered = Vec::new(alloc);
+    let mut shard = 0u32;
+    for count in counts {
+        if 1 < vertex && vertex - 1 <= *count {
+            offered.push(step(rt, shard, vertex - 1))?;
         }
+        if 0 < vertex && vertex <= *count {
+            offered.push(step(rt, shard, vertex))?;
+        }
+        shard = shard.wrapping_add(1);
     }
-    least
+    offered.sort_unstable();
+    Ok(offered.first().copied())
 }
 
 // The picks of a round over paths of n vertices are the least offered, closed in threads and in one.
@@ -110,7 +111,7 @@ fn expect_least<R: Abort + Threads + Sync>(
     for vertex in 1..n + 1 {
         assert!(rt; vertex <= labels.n());
         assert_eq!(rt; beside.of(vertex), alone.of(vertex));
-        assert_eq!(rt; beside.of(vertex), least(counts, vertex));
+        assert_eq!(rt; beside.of(vertex), least(rt, alloc, counts, vertex)?);
     }
     Ok(())
 }
@@ -171,12 +172,14 @@ fn no_offer(rt: HostRuntime) -> Result<(), Fail> {
 fn expect_least_over(rt: &impl Abort, alloc: Global, n: u32) -> Result<(), Fail> {
     assert!(rt; 2 <= n && n < 1 << 20);
     let links = paths(rt, alloc, 50, 1)?;
+    assert!(rt; links.len() <= 1 << 24);
     let cut = Cut::even(alloc, links.as_slice(), 1).expect(rt, "a cut");
     let labels = Labels::apart(alloc, 50)?;
     let book = heard(rt, alloc, &cut, &labels, &[49], &[0])?;
     assert!(rt; book.missing() == 0);
     let picks = book.close();
     let links = paths(rt, alloc, n, 1)?;
+    assert!(rt; links.len() <= 1 << 24);
     let cut = Cut::even(alloc, links.as_slice(), 1).expect(rt, "a cut");
     let labels = Labels::apart(alloc, n)?;
     assert!(rt; all_have_labels(&cut, labels.n()));
@@ -187,7 +190,7 @@ fn expect_least_over(rt: &impl Abort, alloc: Global, n: u32) -> Result<(), Fail>
     let over = book.close();
     for vertex in 1..n + 1 {
         assert!(rt; vertex <= labels.n());
-        assert_eq!(rt; over.of(vertex), least(&[1], vertex));
+        assert_eq!(rt; over.of(vertex), least(rt, alloc, &[1], vertex)?);
     }
     Ok(())
 }
