@@ -4,7 +4,7 @@ ghost use Rattle.std.specs.List.Sorted.{IsPermutation};
 ghost use Rattle.link_key.specs.Link.{IsAscending};
 ghost use Rattle.link_key.specs.Least.{AreDistinct};
 
-use super::sorting::{HALVINGS, put_near_order, sort};
+use super::sorting::put_in_key_order;
 use crate::forests::Forest;
 use crate::links::Link;
 use std::alloc::{AllocError, Allocator};
@@ -23,8 +23,7 @@ impl<A: Allocator + Copy> Forest<A> {
         ensures ascending { IfOk result IsAscending }
     {
         let mut links = links;
-        put_near_order(alloc, links.as_mut_slice(), HALVINGS)?;
-        sort(links.as_mut_slice());
+        put_in_key_order(alloc, links.as_mut_slice())?;
         Ok(Forest::of_ascending(links))
     }
 }
