@@ -75,11 +75,11 @@ pub(crate) fn open_vertices<A: Allocator + Copy>(
     let mut candidates = Vec::with_capacity(alloc, links.len())?;
     let mut rank = 0;
     for link in links {
-        candidates.push(Open {
+        candidates.push_reserved(Open {
             low: link.low,
             high: link.high,
             rank,
-        })?;
+        });
         rank += 1;
     }
     Ok(candidates)
@@ -97,11 +97,11 @@ pub(crate) fn open_components<A: Allocator + Copy>(
     let mut candidates = Vec::with_capacity(alloc, links.len())?;
     let mut place = 0;
     for link in links {
-        candidates.push(Open {
+        candidates.push_reserved(Open {
             low: entry(labels, link.low),
             high: entry(labels, link.high),
             rank: place,
-        })?;
+        });
         place += 1;
     }
     Ok(candidates)

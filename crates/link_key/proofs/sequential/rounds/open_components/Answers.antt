@@ -7,7 +7,7 @@ use Rattle.link_key.specs.OpenLinks.{opened}
 use Rattle.link_key.proofs.sequential.rounds.open_components.Goals as goal
 
 pub loop-link-init : goal.loop-link-init
-loop-link-init g c = record { place = refl; len = ap length c.in_ok-candidates.ensures.items; each = λ k o d lt. absurd (omega (arith, lt)) }
+loop-link-init g c = record { place = refl; len = ap length c.in_ok-candidates.ensures.items; count = search rules; room = search rules; each = λ k o d lt. absurd (omega (arith, lt)) }
 
 pub loop-link-preserved : goal.loop-link-preserved
 loop-link-preserved g c =
@@ -21,9 +21,11 @@ loop-link-preserved g c =
     let now : Open = record { low = c.entry.result; high = c.entry-in-loop-link.result; rank = l.place } in
     let here : (k : ℕ) (d : Link) → i ≡ k → now ≡ opened label k (get_or links k d) = λ k d is.
     ap₂ (λ (low high : ℕ). record { low = low; high = high; rank = l.place }) c.entry.ensures c.entry-in-loop-link.ensures ∙ ap₂ (opened label) (place ∙ is) (c.link-item.is ∙ get_or_default links i x d c.loop-link-test.true ∙ ap (λ j. get_or links j d) is) in
-    rw c.in_ok-push.ensures.items (record {
+    rw c.push_reserved.ensures.items (record {
       place = ap (λ n. n + 1) place;
       len = search rules;
+      count = search rules;
+      room = search rules;
       each = λ k o d lt. elim (cases_lt k i) [
         | inl old ↦ get_or_append_left l.candidates.items _ o k (omega (arith, len, old)) ∙ l.invariant.each k o d old
         | inr new ↦ let is : i ≡ k = omega (arith, lt, new) in get_or_push l.candidates.items _ o k (len ∙ is) ∙ here k d is

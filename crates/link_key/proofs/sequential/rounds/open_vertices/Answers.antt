@@ -6,7 +6,7 @@ use Rattle.link_key.specs.OpenLinks.{opened}
 use Rattle.link_key.proofs.sequential.rounds.open_vertices.Goals as goal
 
 pub loop-link-init : goal.loop-link-init
-loop-link-init g c = record { rank = refl; len = ap length c.in_ok-candidates.ensures.items; each = λ k o d lt. absurd (omega (arith, lt)) }
+loop-link-init g c = record { rank = refl; len = ap length c.in_ok-candidates.ensures.items; count = search rules; room = search rules; each = λ k o d lt. absurd (omega (arith, lt)) }
 
 pub loop-link-preserved : goal.loop-link-preserved
 loop-link-preserved g c =
@@ -17,9 +17,11 @@ loop-link-preserved g c =
     let rank = l.invariant.rank in
     let len = l.invariant.len in
     let here : (k : ℕ) (d : Link) → i ≡ k → opened (λ v. v) l.rank x ≡ opened (λ v. v) k (get_or links k d) = λ k d is. ap₂ (opened (λ v. v)) (rank ∙ is) (c.link-item.is ∙ get_or_default links i x d c.loop-link-test.true ∙ ap (λ j. get_or links j d) is) in
-    rw c.in_ok-push.ensures.items (record {
+    rw c.push_reserved.ensures.items (record {
       rank = ap (λ n. n + 1) rank;
       len = search rules;
+      count = search rules;
+      room = search rules;
       each = λ k o d lt. elim (cases_lt k i) [
         | inl old ↦ get_or_append_left l.candidates.items _ o k (omega (arith, len, old)) ∙ l.invariant.each k o d old
         | inr new ↦ let is : i ≡ k = omega (arith, lt, new) in get_or_push l.candidates.items _ o k (len ∙ is) ∙ here k d is
