@@ -1,10 +1,10 @@
 -- Where picks lead the roots: each to a root that it is joined to, whose pick is less, or to one that stays.
-use Rattle.std.proofs.Common.{◌≡◌, ◌≢◌, ℕ, ◌+◌, ◌-◌, ◌<◌, ◌≤◌, ◌^◌, ◌⊎◌, min, ℤ, pos, negsuc, Less, List, [], ◌∷◌, length, get_or, set, Contains, Some, None, refl, sym, ap, ◌∙◌, subst, inl, inr, arith}
+use Rattle.std.proofs.Common.{◌≡◌, ◌≢◌, ℕ, ◌+◌, ◌-◌, ◌<◌, ◌≤◌, ◌^◌, ◌⊎◌, min, ℤ, pos, negsuc, Less, List, [], ◌∷◌, length, get_or, set, Contains, Some, None, refl, sym, ap, ◌∙◌, subst, inl, inr, ◌↔◌, Bool, true, false, not, ltb, ◌&&◌, ◌||◌, arith}
 use Rattle.std.specs.Prelude.{Option, ◌+ℤ◌}
 use Rattle.std.specs.Int.Signed.{◌<ℤ◌}
 use Rattle.std.specs.Ordering.{int_cmp, MatchOrdering}
 use Rattle.std.specs.declared.cmp.Ordering.{Ordering}
-use Rattle.std.proofs.lemmas.Bool.{cases_eq, cases_lt}
+use Rattle.std.proofs.lemmas.Bool.{cases_eq, cases_lt, ltb-true, ltb-false}
 use Rattle.std.proofs.lemmas.List.{get_or-set_same, get_or-set_other}
 use Rattle.std.proofs.lemmas.Int.{ints}
 use Rattle.link_key.specs.declared.links.Link.{Link}
@@ -18,9 +18,10 @@ use Rattle.round_theory.specs.Offers.{Leaves, IsLeastLeaving, NoneLeaves, Hearin
 use Rattle.round_theory.proofs.Leaving.{leaves_both_ends, leaves_apart}
 use Rattle.round_core.specs.Picks.{pick_of, Picked, IsPickOf, ArePicks}
 use Rattle.round_core.specs.PickNumbers.{IsKeyNumber}
-use Rattle.round_core.specs.Roots.{IsRoot, AreRoots, HasEndLabels, IsLed, AreParents, AreNear, IsNear}
+use Rattle.round_core.specs.Roots.{IsRoot, AreRoots, HasEndLabels, IsLed, IsLedBy, IsTaker, AreParents, AreNear, IsNear}
+use Rattle.round_core.specs.Solver.{IsFirstPickedAt}
 use Rattle.round_core.proofs.HookWalks.{over_same}
-use Rattle.round_core.proofs.Picking.{place_of, picked_there, least_at, pick_dec}
+use Rattle.round_core.proofs.Picking.{place_of, picked_there, least_at, least_end, first_at, pick_dec}
 
 -- the rank of a pick is the number of its key
 to_number : ℤ → ℕ
@@ -115,14 +116,29 @@ led_to_lesser labels picks c d p l here ends there is = record {
     other : (m : Link) (e : ℕ) → pick_of picks c ≡ Some m → HasEndLabels labels m c e → d ≡ e
     other m e m_here m_ends = same_other labels l c d e ends (subst (λ k. HasEndLabels labels k c e) (sym (same m m_here)) m_ends)
 
--- one more root is led, and written where it stands
-pub led_more : (P : ℕ → ℕ → Type 0) (roots parents : List ℕ) (i p : ℕ) → get_or roots i 0 < length parents → P (get_or roots i 0) p
-    → ((k : ℕ) → k < i → P (get_or roots k 0) (get_or parents (get_or roots k 0) 0)) → (k : ℕ) → k < i + 1 → P (get_or roots k 0) (get_or (set parents (get_or roots i 0) p) (get_or roots k 0) 0)
-led_more P roots parents i p within here before k k_in = elim (cases_eq (get_or roots k 0) (get_or roots i 0)) [
-  | inl is ↦ subst (λ c. P c (get_or (set parents (get_or roots i 0) p) c 0)) (sym is) (subst (P (get_or roots i 0)) (sym (get_or-set_same parents (get_or roots i 0) p 0 within)) here)
-  | inr other ↦
-      let lt : k < i = elim (cases_lt k i) [ inl lt ↦ lt | inr ge ↦ absurd (other (ap (λ m. get_or roots m 0) (let e : k ≡ i = omega (arith, ge, k_in) in e))) ] in
-      subst (P (get_or roots k 0)) (sym (get_or-set_other parents (get_or roots i 0) (get_or roots k 0) p 0 other)) (before k lt)
+-- where the other label doesn't pick the link
+pub led_to_other : (labels : List ℕ) (picks : List (Option Link)) (c d p : ℕ) (l : Link) → pick_of picks c ≡ Some l → HasEndLabels labels l c d → pick_of picks d ≢ Some l → p ≡ d → IsLed labels picks c p
+led_to_other labels picks c d p l here ends not_there is = record {
+  stays = λ none. let wrong : Some l ≡ None = sym here ∙ none in absurd (cc);
+  to_lesser = λ m e m_here m_ends m_there. absurd (not_there (ap (pick_of picks) (other m e m_here m_ends) ∙ m_there ∙ ap Some (sym (same m m_here))));
+  to_other = λ m e m_here m_ends m_not. is ∙ other m e m_here m_ends;
+}
+  where
+    same : (m : Link) → pick_of picks c ≡ Some m → l ≡ m
+    same m m_here = let both : Some l ≡ Some m = sym here ∙ m_here in cc
+
+    other : (m : Link) (e : ℕ) → pick_of picks c ≡ Some m → HasEndLabels labels m c e → d ≡ e
+    other m e m_here m_ends = same_other labels l c d e ends (subst (λ k. HasEndLabels labels k c e) (sym (same m m_here)) m_ends)
+
+-- one more root is led, its parent written where it stands; those led before still are
+pub led_at : (labels : List ℕ) (picks : List (Option Link)) (parents : List ℕ) (c p : ℕ) → c < length parents → IsLed labels picks c p → IsRoot labels p → IsLedBy labels picks (set parents c p) c
+led_at labels picks parents c p within led root =
+    subst (λ q. IsLed labels picks c q × IsRoot labels q) (sym (get_or-set_same parents c p 0 within)) (led, root)
+
+pub led_still : (labels : List ℕ) (picks : List (Option Link)) (parents : List ℕ) (c p x : ℕ) → c < length parents → IsLed labels picks c p → IsRoot labels p → IsLedBy labels picks parents x → IsLedBy labels picks (set parents c p) x
+led_still labels picks parents c p x within led root before = elim (cases_eq x c) [
+  | inl is ↦ subst (IsLedBy labels picks (set parents c p)) (sym is) (led_at labels picks parents c p within led root)
+  | inr other ↦ subst (λ q. IsLed labels picks x q × IsRoot labels q) (sym (get_or-set_other parents c x p 0 other)) before
 ]
 
 -- what is known of a root that has a pick
@@ -170,6 +186,70 @@ module _ (labels : List ℕ) (heard : List Hearing) (picks : List (Option Link))
       let at = least_at labels heard picks i l are here in
       let back : i + 1 - 1 ≡ i = omega arith in
       (has_pick (i + 1) l at.vertex (ap (λ k. get_or picks k None) back ∙ here)).root
+
+  -- of the two labels of a picked link's ends the lesser takes it, or the one that alone picks it
+  module _ (c d : ℕ) (l : Link) (vertex : IsVertex (length labels) c) (here : pick_of picks c ≡ Some l) (ends : HasEndLabels labels l c d) where
+    least_is : (low high : ℕ) → ((low ≡ c) × (high ≡ d)) ⊎ ((low ≡ d) × (high ≡ c)) → min low high ≡ min c d
+    least_is low high (inl (is, is')) = omega (arith, is, is')
+    least_is low high (inr (is, is')) = omega (arith, is, is')
+
+    least_place : least_end labels l ≡ min c d - 1
+    least_place = ap (λ m. m - 1) (least_is (label_of labels l.low) (label_of labels l.high) ends)
+
+    first_here : (pick_of picks d ≢ Some l) ⊎ (c < d) → IsFirstPickedAt picks l (c - 1)
+    first_here takes = first_at labels heard picks (c - 1) l are here (test takes)
+      where
+        place : c ≤ d → least_end labels l ≡ c - 1
+        place le = let at = least_place in omega (arith, at, le)
+
+        other : d < c → least_end labels l ≡ d - 1
+        other lt = let at = least_place in omega (arith, at, lt)
+
+        test : (pick_of picks d ≢ Some l) ⊎ (c < d) → (least_end labels l ≡ c - 1) ⊎ (get_or picks (least_end labels l) None ≢ Some l)
+        test (inr lt) = inl (place (omega (arith, lt)))
+        test (inl not_there) = elim (cases_lt d c) [
+          | inl lt ↦ inr (λ there. not_there (ap (λ k. get_or picks k None) (sym (other lt)) ∙ there))
+          | inr ge ↦ inl (place ge)
+        ]
+
+    apart : c ≢ d
+    apart same = leaves_apart labels l c (has_pick c l vertex here).least.leaves (equal ends)
+      where
+        equal : HasEndLabels labels l c d → label_of labels l.low ≡ label_of labels l.high
+        equal (inl (low, high)) = low ∙ same ∙ sym high
+        equal (inr (low, high)) = low ∙ sym same ∙ sym high
+
+    not_first_here : 1 ≤ d → pick_of picks d ≡ Some l → d ≤ c → ¬ (IsFirstPickedAt picks l (c - 1))
+    not_first_here one there le first =
+        let ne = apart in
+        let before : d - 1 < c - 1 = elim (cases_lt d c) [ inl lt ↦ omega (arith, lt, one) | inr ge ↦ absurd (ne (omega (arith, ge, le))) ] in
+        first.first (d - 1) before there
+
+    takes_where : (takes : Bool) → 1 ≤ d → (takes ≡ true → (pick_of picks d ≢ Some l) ⊎ (c < d)) → (takes ≡ false → (pick_of picks d ≡ Some l) × (d ≤ c)) → IsTaker picks c takes
+    takes_where takes one if_so if_not m m_here =
+        let both : Some l ≡ Some m = sym here ∙ m_here in
+        let same : l ≡ m = cc in
+        subst (λ k. (takes ≡ true) ↔ IsFirstPickedAt picks k (c - 1)) same (decided takes if_so if_not)
+      where
+        decided : (b : Bool) → (b ≡ true → (pick_of picks d ≢ Some l) ⊎ (c < d)) → (b ≡ false → (pick_of picks d ≡ Some l) × (d ≤ c)) → (b ≡ true) ↔ IsFirstPickedAt picks l (c - 1)
+        decided true if_so if_not = (λ _. first_here (if_so refl), λ _. refl)
+        decided false if_so if_not = (λ wrong. absurd (cc), λ first. absurd (not_first_here one (if_not refl).0 (if_not refl).1 first))
+
+    -- a look whether the labels have the same pick tells which takes it
+    pub is_taker : (paired : Bool) → 1 ≤ d → (paired ≡ true) ↔ (pick_of picks c ≡ pick_of picks d) → IsTaker picks c (not paired || ltb c d)
+    is_taker true one same = takes_where (ltb c d) one (λ tested. inr (ltb-true c d tested)) (λ failed. (sym (same.0 refl) ∙ here, ltb-false c d failed))
+    is_taker false one same = takes_where true one (λ _. inl (λ there. let wrong : false ≡ true = same.1 (here ∙ sym there) in absurd (cc))) (λ wrong. absurd (cc))
+
+    -- and where they go
+    pub is_led : (paired : Bool) (p : ℕ) → (paired ≡ true) ↔ (pick_of picks c ≡ pick_of picks d) → (((paired && ltb c d) ≡ true) × (p ≡ c)) ⊎ (((paired && ltb c d) ≡ false) × (p ≡ d)) → IsLed labels picks c p
+    is_led true p same (inl (tested, is)) =
+        let lt = ltb-true c d tested in
+        led_to_lesser labels picks c d p l here ends (sym (same.0 refl) ∙ here) (omega (arith, lt, is))
+    is_led true p same (inr (failed, is)) =
+        let ge = ltb-false c d failed in
+        led_to_lesser labels picks c d p l here ends (sym (same.0 refl) ∙ here) (omega (arith, ge, is))
+    is_led false p same (inl (wrong, is)) = absurd (cc)
+    is_led false p same (inr (failed, is)) = led_to_other labels picks c d p l here ends (λ there. let wrong : false ≡ true = same.1 (here ∙ sym there) in absurd (cc)) is
 
   module _ (roots parents : List ℕ) (are_roots : AreRoots labels roots) (led : (c : ℕ) → Contains roots c → IsLed labels picks c (get_or parents c 0)) where
     abbrev up : ℕ → ℕ

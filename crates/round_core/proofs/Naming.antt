@@ -190,6 +190,14 @@ relabelled_by_names labels roots parents names new picks are are_roots are_paren
         let down : JoinsOver labels (Picked picks) (get_or parents c 0) u = subst (λ p. JoinsOver labels (Picked picks) p u) name.same (over_back labels (Picked picks) u (get_or parents u 0) (are_parents.joined u name.root)) in
         over_then labels (Picked picks) (Picked picks) (λ l l_in. l_in) v c u self (over_then labels (Picked picks) (Picked picks) (λ l l_in. l_in) c (get_or parents c 0) u up down)
 
+-- so it is where the roots and their parents were handed on in between
+pub relabelled_behind : (labels roots roots' parents parents' names : List ℕ) (picks : List (Option Link)) → AreLabels labels → AreRoots labels roots → AreParents labels roots picks parents → AreSettled roots parents → roots ≡ roots' → parents ≡ parents'
+    → ((c : ℕ) → Contains roots' c → IsLeastUnder roots' parents' c (get_or names c 0)) → IsRelabelling (length labels) labels (Picked picks) (map (λ c. get_or names c 0) labels)
+relabelled_behind labels roots roots' parents parents' names picks are are_roots are_parents settled same_roots same_parents named =
+    relabelled_by_names labels roots parents names (map (λ c. get_or names c 0) labels) picks are are_roots are_parents settled
+    (subst (λ rs. (c : ℕ) → Contains rs c → IsLeastUnder rs parents c (get_or names c 0)) (sym same_roots)
+    (subst (λ ps. (c : ℕ) → Contains roots' c → IsLeastUnder roots' ps c (get_or names c 0)) (sym same_parents) named)) refl
+
 -- the roots that label themselves under the new labels too are the roots of those
 pub kept_roots : (labels roots new : List ℕ) (picks : List (Option Link)) → AreLabels labels → AreLabels new → AreRoots labels roots → IsRelabelling (length labels) labels (Picked picks) new
     → AreRoots new (filter (λ c. label_of new c == c) roots)

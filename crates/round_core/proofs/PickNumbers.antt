@@ -113,6 +113,20 @@ told k x (inr (l, is)) some above low high =
     let one : x ≡ l = link_eq x l (omega (arith, ints, above, fields.above)) (sym low ∙ fields.low) (sym high ∙ fields.high) in
     ap Some one ∙ sym (key_told l k is)
 
+-- two numbers of picks are equal just where they tell the same pick
+pub same_told : (j k : ℕ) → IsPickNumber j → IsPickNumber k → (j ≡ k) ↔ (pick_in j ≡ pick_in k)
+same_told j k j_is k_is = (λ same. ap pick_in same, back j_is k_is)
+  where
+    back : IsPickNumber j → IsPickNumber k → pick_in j ≡ pick_in k → j ≡ k
+    back (inl none) (inl none') same = none ∙ sym none'
+    back (inl none) (inr (l, is)) same = let wrong : None ≡ Some l = sym (no_pick_told j none) ∙ same ∙ key_told l k is in absurd (cc)
+    back (inr (l, is)) (inl none) same = let wrong : Some l ≡ None = sym (key_told l j is) ∙ same ∙ no_pick_told k none in absurd (cc)
+    back (inr (l, is)) (inr (m, m_is)) same =
+        let both : Some l ≡ Some m = sym (key_told l j is) ∙ same ∙ key_told m k m_is in
+        let one : l ≡ m = cc in
+        let equal : pos j ≡ pos k = is ∙ ap (λ (x : Link). wide_key x +ℤ pos (2 ^ 127)) one ∙ sym m_is in
+        cc
+
 -- the numbers of no picks are those that tell none
 pub none_where_no_picks : (numbers : List ℕ) → All IsPickNumber numbers → All (λ k. k ≡ no_pick) numbers ↔ AreNoPicks (map pick_in numbers)
 none_where_no_picks numbers are = (to, back)

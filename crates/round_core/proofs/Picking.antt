@@ -1,16 +1,13 @@
 -- The links picked, each once: of two labels that pick a link the lesser one gives it.
-use Rattle.std.proofs.Common.{◌≡◌, ◌≢◌, ℕ, zero, suc, ◌+◌, ◌-◌, ◌<◌, ◌≤◌, ◌⊎◌, ◌↔◌, min, Bool, true, false, not, ◌&&◌, eqb, List, [], ◌∷◌, ◌++◌, length, get_or, Contains, Some, None, refl, sym, ap, ◌∙◌, subst, inl, inr, arith}
+use Rattle.std.proofs.Common.{◌≡◌, ◌≢◌, ℕ, zero, suc, ◌+◌, ◌-◌, ◌<◌, ◌≤◌, ◌⊎◌, ◌↔◌, min, List, [], ◌∷◌, ◌++◌, length, get_or, Contains, Some, None, sym, ap, ◌∙◌, subst, inl, inr, arith}
 use Rattle.std.specs.Prelude.{Option, AllPairs}
-use Rattle.std.specs.Ordering.{int_eq}
-use Rattle.std.proofs.lemmas.Bool.{cases_eq, eqb-true, eq-eqb}
-use Rattle.std.proofs.lemmas.Bool.Decides.{Decides-int_eq}
+use Rattle.std.proofs.lemmas.Bool.{cases_eq}
 use Rattle.std.proofs.lemmas.List.{get_or_default}
 use Rattle.std.proofs.lemmas.List.Elements.{Contains-append_left, Contains-push, Contains-push_cases, Contains-get_or}
 use Rattle.std.proofs.lemmas.List.Quantifiers.{all_pairs_push}
 use Rattle.link_key.specs.declared.links.Link.{Link}
-use Rattle.link_key.specs.Labels.{label_of, AreLabels}
-use Rattle.link_key.proofs.Keys.{link_dec, link_eq}
-use Rattle.link_key.proofs.Spans.{both_first, both_second}
+use Rattle.link_key.specs.Labels.{label_of}
+use Rattle.link_key.proofs.Keys.{link_dec}
 use Rattle.link_key.proofs.Members.{contains_none}
 use Rattle.round_theory.specs.Labelling.{IsVertex}
 use Rattle.round_theory.specs.Offers.{IsLeastLeaving, Hearing, IsNamed}
@@ -80,66 +77,6 @@ first_at labels heard picks i l are here test = record { here = here; first = fi
         lesser a b (inr at) (inl at') = omega (arith, lt, at, at')
         lesser a b (inr at) (inr at') = omega (arith, lt, at, at')
 
--- where another lesser label picks it, it isn't
-pub not_first_at : (labels : List ℕ) (heard : List Hearing) (picks : List (Option Link)) (i : ℕ) (l : Link) → ArePicks labels (IsNamed heard) picks → get_or picks i None ≡ Some l
-    → least_end labels l ≢ i → get_or picks (least_end labels l) None ≡ Some l → ¬ (IsFirstPickedAt picks l i)
-not_first_at labels heard picks i l are here other there first = first.first (least_end labels l) (before (label_of labels l.low) (label_of labels l.high) (ends_at labels heard picks i l are here).end other) there
-  where
-    before : (a b : ℕ) → (i + 1 ≡ a) ⊎ (i + 1 ≡ b) → min a b - 1 ≢ i → min a b - 1 < i
-    before a b (inl at) ne = omega (arith, at, ne)
-    before a b (inr at) ne = omega (arith, at, ne)
-
--- so a look at that pick decides it
-pub look_decides : (labels : List ℕ) (heard : List Hearing) (picks : List (Option Link)) (i : ℕ) (l : Link) (x : Option Link) (r : Bool) → ArePicks labels (IsNamed heard) picks → get_or picks i None ≡ Some l
-    → least_end labels l ≢ i → least_end labels l < length picks → x ≡ get_or picks (least_end labels l) x → (r ≡ true) ↔ (x ≡ Some l) → (not r ≡ true) ↔ IsFirstPickedAt picks l i
-look_decides labels heard picks i l x r are here other within at look = by_look r refl
-  where
-    read : get_or picks (least_end labels l) None ≡ x
-    read = get_or_default picks (least_end labels l) None x within ∙ sym at
-
-    by_look : (b : Bool) → r ≡ b → (not r ≡ true) ↔ IsFirstPickedAt picks l i
-    by_look true is = (
-      λ tested. absurd (let wrong : false ≡ true = ap not (sym is) ∙ tested in cc),
-      λ first. absurd (not_first_at labels heard picks i l are here other (read ∙ look.0 is) first),
-    )
-    by_look false is = (
-      λ _. first_at labels heard picks i l are here (inr (λ there. let wrong : false ≡ true = sym is ∙ look.1 (sym read ∙ there) in absurd (cc))),
-      λ _. ap not is,
-    )
-
--- links with one weight and the same ends are one
-pub same_link : (l m : Link) (r : Bool) → r ≡ (int_eq l.weight m.weight && (eqb l.low m.low && eqb l.high m.high)) → (r ≡ true) ↔ (l ≡ m)
-same_link l m r is = (
-  λ tested.
-      let all : (int_eq l.weight m.weight && (eqb l.low m.low && eqb l.high m.high)) ≡ true = sym is ∙ tested in
-      let ends : (eqb l.low m.low && eqb l.high m.high) ≡ true = both_second (int_eq l.weight m.weight) (eqb l.low m.low && eqb l.high m.high) all in
-      link_eq l m ((Decides-int_eq l.weight m.weight).0 (both_first (int_eq l.weight m.weight) (eqb l.low m.low && eqb l.high m.high) all))
-      (eqb-true l.low m.low (both_first (eqb l.low m.low) (eqb l.high m.high) ends)) (eqb-true l.high m.high (both_second (eqb l.low m.low) (eqb l.high m.high) ends)),
-  λ same.
-      is ∙ rw ((Decides-int_eq l.weight m.weight).1 (ap (λ (k : Link). k.weight) same), eq-eqb l.low m.low (ap (λ (k : Link). k.low) same), eq-eqb l.high m.high (ap (λ (k : Link). k.high) same)) refl,
-)
-
-pub same_pick : (pick : Option Link) (l m : Link) (r : Bool) → pick ≡ Some l → (r ≡ true) ↔ (l ≡ m) → (r ≡ true) ↔ (pick ≡ Some m)
-same_pick pick l m r is decides = (λ tested. is ∙ ap Some (decides.0 tested), λ picked. decides.1 (let both : Some l ≡ Some m = sym is ∙ picked in cc))
-
--- a pick's ends are vertices, and their labels too
-pub pick_ends : (labels : List ℕ) (heard : List Hearing) (picks : List (Option Link)) (i : ℕ) (l : Link) → ArePicks labels (IsNamed heard) picks → get_or picks i None ≡ Some l → l.high ≤ length labels
-pick_ends labels heard picks i l are here = are.ends l (picked_there picks i l here)
-
-pub record HasLabels (labels : List ℕ) (l : Link) : Type 0 where
-  pub some : 1 ≤ min (label_of labels l.low) (label_of labels l.high)
-  pub within : least_end labels l < length labels
-
-pub has_labels : (labels : List ℕ) (l : Link) → AreLabels labels → l.high ≤ length labels → HasLabels labels l
-has_labels labels l are end =
-    let low = are.labelled l.low l.from_one (omega (arith, l.ascending, end)) in
-    let high = are.labelled l.high (omega (arith, l.from_one, l.ascending)) end in
-    let low_one : 1 ≤ label_of labels l.low = low.from_one in
-    let high_one : 1 ≤ label_of labels l.high = high.from_one in
-    let low_le : label_of labels l.low ≤ l.low = low.at_most_itself in
-    let asc : l.low < l.high = l.ascending in
-    record { some = omega (arith, low_one, high_one); within = omega (arith, low_one, high_one, low_le, asc, end) }
-
 -- the links that a place before the bound gives
 pub record ArePickedBelow (picks : List (Option Link)) (bound : ℕ) (links : List Link) : Type 0 where
   pub exact : (l : Link) → Contains links l ↔ ((i : ℕ) × (i < bound) × IsFirstPickedAt picks l i)
@@ -186,15 +123,7 @@ give_place picks bound links l here are = record {
       | inr other ↦ Contains-append_left links (l ∷ []) m ((are.exact m).1 (i, omega (arith, lt, other), first))
     ]
 
--- a place whose pick was given before, or that has none, gives no link
-pub not_given : (picks : List (Option Link)) (i : ℕ) (l : Link) (r : Bool) → get_or picks i None ≡ Some l → (r ≡ true) ↔ IsFirstPickedAt picks l i → r ≡ false
-    → (m : Link) → ¬ (IsFirstPickedAt picks m i)
-not_given picks i l r is decides fails m first =
-    let both : Some l ≡ Some m = sym is ∙ first.here in
-    let same : l ≡ m = cc in
-    let wrong : false ≡ true = sym fails ∙ decides.1 (subst (λ k. IsFirstPickedAt picks k i) (sym same) first) in
-    absurd (cc)
-
+-- a place that has no pick gives no link
 pub none_given : (picks : List (Option Link)) (i : ℕ) → get_or picks i None ≡ None → (m : Link) → ¬ (IsFirstPickedAt picks m i)
 none_given picks i is m first =
     let wrong : None ≡ Some m = sym is ∙ first.here in

@@ -1,9 +1,10 @@
 -- The labels that name components, as they stay from round to round, and where picks lead each of them.
-use Rattle.std.specs.Prelude.{◌≡◌, ◌≢◌, ℕ, ◌+◌, ◌<◌, ◌≤◌, ◌^◌, ◌⊎◌, ◌↔◌, min, List, length, slice_index, AllPairs, Contains, Option, Some, None}
+use Rattle.std.specs.Prelude.{◌≡◌, ◌≢◌, ℕ, ◌+◌, ◌-◌, ◌<◌, ◌≤◌, ◌^◌, ◌⊎◌, ◌↔◌, min, Bool, true, false, List, length, slice_index, slice_index_or, AllPairs, Contains, Option, Some, None}
 use Rattle.link_key.specs.declared.links.Link.{Link}
 use Rattle.link_key.specs.Labels.{label_of}
 use Rattle.round_theory.specs.Labelling.{IsVertex, JoinsOver}
 use Rattle.round_core.specs.Picks.{pick_of, Picked}
+use Rattle.round_core.specs.Solver.{IsFirstPickedAt, IsPickedBefore}
 
 -- c is a vertex that labels itself
 abbrev pub IsRoot : List ℕ → ℕ → Type 0
@@ -27,6 +28,31 @@ pub record IsLed (labels : List ℕ) (picks : List (Option Link)) (c parent : �
       → pick_of picks d ≡ Some l → parent ≡ min c d
   pub to_other : (l : Link) (d : ℕ) → pick_of picks c ≡ Some l → HasEndLabels labels l c d
       → pick_of picks d ≢ Some l → parent ≡ d
+
+-- so it is with the parent that stands for it, which is a root
+abbrev pub IsLedBy : List ℕ → List (Option Link) → List ℕ → ℕ → Type 0
+IsLedBy labels picks parents c = IsLed labels picks c (slice_index parents c) × IsRoot labels (slice_index parents c)
+
+-- whether label c takes its pick: just where no lesser label has it too
+abbrev pub IsTaker : List (Option Link) → ℕ → Bool → Type 0
+IsTaker picks c takes = (l : Link) → pick_of picks c ≡ Some l → (takes ≡ true) ↔ IsFirstPickedAt picks l (c - 1)
+
+-- so it is said of each root, at its place
+abbrev pub AreTakers : List (Option Link) → List ℕ → List Bool → Type 0
+AreTakers picks roots takes = (i : ℕ) → i < length roots → IsTaker picks (slice_index roots i) (slice_index_or takes i false)
+
+-- the roots of a batch are those from place k on
+abbrev pub StandsAt : List ℕ → ℕ → List ℕ → Type 0
+StandsAt roots k batch = (i : ℕ) → i < length batch → (k + i < length roots) × (slice_index batch i ≡ slice_index roots (k + i))
+
+-- the link is given by one of the first k roots: the least label that picks it
+abbrev pub IsGiven : List (Option Link) → List ℕ → ℕ → Link → Type 0
+IsGiven picks roots k l = (j : ℕ) × (j < k) × (j < length roots) × IsFirstPickedAt picks l (slice_index roots j - 1)
+
+-- the links that the first k roots give, in their order
+pub record AreGiven (picks : List (Option Link)) (roots : List ℕ) (k : ℕ) (links : List Link) : Type 0 where
+  pub exact : (l : Link) → Contains links l ↔ IsGiven picks roots k l
+  pub in_order : AllPairs (IsPickedBefore picks) links
 
 -- the parent of each root is a root
 pub record ArePointers (roots parents : List ℕ) : Type 0 where

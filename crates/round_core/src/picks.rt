@@ -1,6 +1,7 @@
 ghost use Rattle.std.specs.Prelude.{replicate, OnOk, ◌≡◌, ◌≢◌, ℕ, List, ◌+◌, ◌-◌, ◌<◌, ◌≤◌, ◌↔◌, [], ◌∷◌, ◌++◌, length, slice_index_or, All, Some, None, IsTrue, IfOk, Contains};
 ghost use Rattle.link_key.specs.declared.links.Link.{Link as TheLink};
 ghost use Rattle.link_key.specs.Labels.{label_of, AreLabels};
+ghost use Rattle.round_theory.specs.Labelling.{IsVertex};
 ghost use Rattle.round_core.specs.Picks.{pick_of, AreNoPicks, ArePicks, Counts};
 ghost use Rattle.round_core.specs.PickNumbers.{IsKeyNumber, IsPickNumber, AreLesserOf, pick_in};
 ghost use Rattle.round_core.specs.LookedUp.{IsLookedUp, IsCountable, CountsFound, CountsEach};
@@ -110,6 +111,16 @@ impl<A: Allocator> Picks<A> {
         ensures { IsTrue result ↔ AreNoPicks self.now }
     {
         are_no_picks(self.numbers.as_slice())
+    }
+
+    // Whether two labels have the same pick, or both have none. It takes no branch, whatever the picks are.
+    #[inline]
+    pub(crate) fn are_same(&self, one: u32, other: u32) -> bool
+        requires one { IsVertex (length self.now) one }
+        requires other { IsVertex (length self.now) other }
+        ensures { IsTrue result ↔ (pick_of self.now one ≡ pick_of self.now other) }
+    {
+        self.numbers[one as usize - 1] == self.numbers[other as usize - 1]
     }
 
     // The number of vertices.

@@ -4,8 +4,8 @@ ghost use Rattle.link_key.specs.Labels.{label_of, AreLabels, AreApart};
 ghost use Rattle.round_theory.specs.Labelling.{IsVertex, IsRelabelling};
 ghost use Rattle.round_theory.specs.Offers.{Leaves};
 ghost use Rattle.round_core.specs.Picks.{pick_of, Picked, ArePicksOfHearings};
-ghost use Rattle.round_core.specs.Solver.{ArePickedOnce, IsFirstPickedAt};
-ghost use Rattle.round_core.specs.Roots.{IsRoot, AreRoots, HasEndLabels, IsLed, ArePointers, AreParents, AreSettled, AreNear, IsLeastUnder};
+ghost use Rattle.round_core.specs.Solver.{ArePickedOnce};
+ghost use Rattle.round_core.specs.Roots.{IsRoot, AreRoots, HasEndLabels, IsLed, IsLedBy, IsTaker, AreTakers, StandsAt, AreGiven, ArePointers, AreParents, AreSettled, AreNear, IsLeastUnder};
 
 use crate::picks::Picks;
 use limits::MAX_VERTICES;
@@ -16,6 +16,9 @@ use std::marker::Model;
 // How often parents are jumped over at most: each time doubles how far the rank of a parent is below that of its root,
 // and a rank, the key of a pick, has 128 bits.
 const JUMPS: u32 = 129;
+
+// So many roots are led before the picks of any of them are taken.
+const BATCH: usize = 64;
 
 /// The vertices that label themselves, in ascending order: each names a component, and no other vertex has a pick.
 ///
@@ -50,40 +53,29 @@ impl<A: Allocator + Copy> Roots<A> {
         })
     }
 
-    // The labels of the next round, as `hook_relabel` gives them: for k roots of n vertices in O(n + k log k) time.
-    pub(crate) fn relabel(
+    // Merges the components that the picks join. The links picked, each once, in the order of the least roots that pick
+    // them, and the labels of the next round, as `hook_relabel` gives them: for k roots of n vertices in O(n + k log k)
+    // time.
+    pub(crate) fn merge(
         &mut self,
         alloc: A,
         labels: &Labels<A>,
         picks: &Picks<A>,
-    ) -> Result<Labels<A>, AllocError>
+    ) -> Result<(Vec<Link, A>, Labels<A>), AllocError>
         requires roots { AreRoots labels.now self.old }
         requires picks { ArePicksOfHearings labels.now picks.now }
-        ensures relabelled { IfOk result (IsRelabelling (length labels.now) labels.now (Picked picks.now)) }
+        ensures once { IfOk result (λ merged. ArePickedOnce picks.now merged.0.items) }
+        ensures few { IfOk result (λ merged. length merged.0.items ≤ length self.old) }
+        ensures relabelled { IfOk result (λ merged. IsRelabelling (length labels.now) labels.now (Picked picks.now) merged.1) }
         ensures same { self.new ≡ self.old }
     {
         let old = labels.as_slice();
         make_room(alloc, &mut self.parents, old.len())?;
         make_room(alloc, &mut self.least, old.len())?;
-        name_components(old, &self.roots, picks, &mut self.parents, &mut self.least);
+        let links = join_roots(alloc, old, &self.roots, picks, &mut self.parents)?;
+        name_roots(&self.roots, &mut self.parents, &mut self.least);
         let new = labels_by(alloc, old, &self.parents)?;
-        Ok(Labels::of_known(new))
-    }
-
-    // The links that roots pick, each once, in the order of the least roots that pick them.
-    pub(crate) fn picked(
-        &self,
-        alloc: A,
-        labels: &[u32],
-        picks: &Picks<A>,
-    ) -> Result<Vec<Link, A>, AllocError>
-        requires roots { AreRoots labels.now self.now }
-        requires labels { AreLabels labels.now }
-        requires picks { ArePicksOfHearings labels.now picks.now }
-        ensures once { IfOk result (λ links. ArePickedOnce picks.now links.items) }
-        ensures few { IfOk result (λ links. length links.items ≤ length self.now) }
-    {
-        picked_links(alloc, labels, &self.roots, picks)
+        Ok((links, Labels::of_known(new)))
     }
 }
 
@@ -162,55 +154,111 @@ fn make_room<A: Allocator + Copy>(
     Ok(())
 }
 
-// Gives each root the least root that the picks join it to: as names of the labels, these are the new labels.
-fn name_components<A: Allocator>(
+// Gives all roots that the picks join one parent, which is one of them, and takes the links picked.
+fn join_roots<A: Allocator + Copy>(
+    alloc: A,
     labels: &[u32],
     roots: &[u32],
     picks: &Picks<A>,
-    names: &mut [u32],
-    least: &mut [u32],
+    parents: &mut [u32],
+) -> Result<Vec<Link, A>, AllocError>
+    requires labels { AreLabels labels.now }
+    requires picks { ArePicksOfHearings labels.now picks.now }
+    requires roots { AreRoots labels.now roots.now }
+    requires within { All (λ c. c < length parents.old) roots.now }
+    ensures once { IfOk result (λ links. ArePickedOnce picks.now links.items) }
+    ensures few { IfOk result (λ links. length links.items ≤ length roots.now) }
+    ensures pointers { OnOk result (ArePointers roots.now parents.new) }
+    ensures parents { OnOk result (AreParents labels.now roots.now picks.now parents.new) }
+    ensures settled { OnOk result (AreSettled roots.now parents.new) }
+{
+    let links = lead_roots(alloc, labels, roots, picks, parents)?;
+    for _ in 0..JUMPS {
+        if !jump(roots, parents) {
+            return Ok(links);
+        }
+    }
+    Ok(links)
+}
+
+// Gives each root the parent that its pick leads it to, and takes the links picked. What is looked up of a root's pick
+// stands anywhere, and decides whether the root takes it: a branch on that would wait for it, so it comes after a batch of
+// look-ups.
+fn lead_roots<A: Allocator + Copy>(
+    alloc: A,
+    labels: &[u32],
+    roots: &[u32],
+    picks: &Picks<A>,
+    parents: &mut [u32],
+) -> Result<Vec<Link, A>, AllocError>
+    requires labels { AreLabels labels.now }
+    requires picks { ArePicksOfHearings labels.now picks.now }
+    requires roots { AreRoots labels.now roots.now }
+    requires within { All (λ c. c < length parents.old) roots.now }
+    ensures once { IfOk result (λ links. ArePickedOnce picks.now links.items) }
+    ensures few { IfOk result (λ links. length links.items ≤ length roots.now) }
+    ensures led { OnOk result ((c : ℕ) → Contains roots.now c → IsLedBy labels.now picks.now parents.new c) }
+{
+    let mut links = Vec::new(alloc);
+    let mut takes = [false; BATCH];
+    let mut rest = roots;
+    while !rest.is_empty() {
+        let (batch, after) = rest.split_at(BATCH.min(rest.len()));
+        lead_each(labels, batch, picks, parents, &mut takes);
+        take_each(batch, &takes, picks, &mut links)?;
+        rest = after;
+    }
+    Ok(links)
+}
+
+// Gives each root of a batch the parent that its pick leads it to, and tells of each whether it takes its pick.
+fn lead_each<A: Allocator>(
+    labels: &[u32],
+    batch: &[u32],
+    picks: &Picks<A>,
+    parents: &mut [u32],
+    takes: &mut [bool],
 )
     requires labels { AreLabels labels.now }
     requires picks { ArePicksOfHearings labels.now picks.now }
-    requires roots { AreRoots labels.now roots.now }
-    requires within { All (λ c. c < length names.old) roots.now }
-    requires room { All (λ c. c < length least.old) roots.now }
-    ensures { IsRelabelling (length labels.now) labels.now (Picked picks.now) (map (λ c. slice_index names.new c) labels.now) }
+    requires roots { All (IsRoot labels.now) batch.now }
+    requires within { All (λ c. c < length parents.old) batch.now }
+    requires room { length batch.now ≤ length takes.old }
+    ensures room { length takes.new ≡ length takes.old }
+    ensures kept { (c : ℕ) → IsLedBy labels.now picks.now parents.old c → IsLedBy labels.now picks.now parents.new c }
+    ensures led { (i : ℕ) → i < length batch.now → IsLedBy labels.now picks.now parents.new (slice_index batch.now i) }
+    ensures takes { AreTakers picks.now batch.now takes.new }
 {
-    join_roots(labels, roots, picks, names);
-    name_roots(roots, names, least);
+    for i in 0..batch.len() {
+        let root = batch[i];
+        let lead = lead_of(labels, picks, root);
+        parents[root as usize] = lead.parent;
+        takes[i] = lead.takes;
+    }
 }
 
-// Gives all roots that the picks join one parent, which is one of them.
-fn join_roots<A: Allocator>(labels: &[u32], roots: &[u32], picks: &Picks<A>, parents: &mut [u32])
-    requires labels { AreLabels labels.now }
-    requires picks { ArePicksOfHearings labels.now picks.now }
-    requires roots { AreRoots labels.now roots.now }
-    requires within { All (λ c. c < length parents.old) roots.now }
-    ensures pointers { ArePointers roots.now parents.new }
-    ensures parents { AreParents labels.now roots.now picks.now parents.new }
-    ensures settled { AreSettled roots.now parents.new }
+// Takes the pick of each root of a batch that is to take it.
+fn take_each<A: Allocator>(
+    batch: &[u32],
+    takes: &[bool],
+    picks: &Picks<A>,
+    links: &mut Vec<Link, A>,
+) -> Result<(), AllocError>
+    requires roots { All (IsVertex (length picks.now)) batch.now }
+    requires room { length batch.now ≤ length takes.now }
+    requires takes { AreTakers picks.now batch.now takes.now }
+    ensures few { OnOk result (length links.new.items ≤ length links.old.items + length batch.now) }
+    ensures given { OnOk result ((labels roots : List ℕ) (k : ℕ) → AreRoots labels roots → StandsAt roots k batch.now
+        → AreGiven picks.now roots k links.old.items → AreGiven picks.now roots (k + length batch.now) links.new.items) }
 {
-    lead_roots(labels, roots, picks, parents);
-    for _ in 0..JUMPS {
-        if !jump(roots, parents) {
-            return;
+    for i in 0..batch.len() {
+        if takes[i] {
+            if let Some(link) = picks.of(batch[i]) {
+                links.push(link)?;
+            }
         }
     }
-}
-
-// Gives each root the parent that its pick leads it to.
-fn lead_roots<A: Allocator>(labels: &[u32], roots: &[u32], picks: &Picks<A>, parents: &mut [u32])
-    requires labels { AreLabels labels.now }
-    requires picks { ArePicksOfHearings labels.now picks.now }
-    requires roots { AreRoots labels.now roots.now }
-    requires within { All (λ c. c < length parents.old) roots.now }
-    ensures led { (c : ℕ) → Contains roots.now c → IsLed labels.now picks.now c (slice_index parents.new c) }
-    ensures roots { (c : ℕ) → Contains roots.now c → IsRoot labels.now (slice_index parents.new c) }
-{
-    for root in roots {
-        parents[*root as usize] = parent_of(labels, picks, *root);
-    }
+    Ok(())
 }
 
 // Gives each root its parent's parent in place of its parent, and tells whether one of them is another.
@@ -278,25 +326,36 @@ fn labels_by<A: Allocator + Copy>(
     Ok(new)
 }
 
-// Where its pick leads a root.
+// Where its pick leads a root, and whether the root takes it.
+#[derive(Clone, Copy)]
+struct Lead {
+    parent: u32,
+    takes: bool,
+}
+
+// The lead of a root. Of two roots that pick one link both go to the lesser, which takes it.
 #[inline]
-fn parent_of<A: Allocator>(labels: &[u32], picks: &Picks<A>, root: u32) -> u32
+fn lead_of<A: Allocator>(labels: &[u32], picks: &Picks<A>, root: u32) -> Lead
     requires labels { AreLabels labels.now }
     requires picks { ArePicksOfHearings labels.now picks.now }
     requires root { IsRoot labels.now root }
-    ensures led { IsLed labels.now picks.now root result }
-    ensures root { IsRoot labels.now result }
+    ensures led { IsLed labels.now picks.now root result.parent }
+    ensures root { IsRoot labels.now result.parent }
+    ensures takes { IsTaker picks.now root result.takes }
 {
-    match picks.of(root) {
-        Some(link) => {
-            let other = other_label(labels, link, root);
-            if is_pick(picks.of(other), link) {
-                root.min(other)
-            } else {
-                other
-            }
-        }
-        None => root,
+    let Some(link) = picks.of(root) else {
+        return Lead {
+            parent: root,
+            takes: false,
+        };
+    };
+    let other = other_label(labels, link, root);
+    let paired = picks.are_same(root, other);
+    let lesser = root < other;
+    let parent = if paired & lesser { root } else { other };
+    Lead {
+        parent,
+        takes: !paired | lesser,
     }
 }
 
@@ -312,51 +371,4 @@ fn other_label(labels: &[u32], link: Link, root: u32) -> u32
     let low = labels[link.low as usize - 1];
     let high = labels[link.high as usize - 1];
     if low == root { high } else { low }
-}
-
-// The links picked, each once, in the order of the least labels that pick them.
-fn picked_links<A: Allocator + Copy>(
-    alloc: A,
-    labels: &[u32],
-    roots: &[u32],
-    picks: &Picks<A>,
-) -> Result<Vec<Link, A>, AllocError>
-    requires labels { AreLabels labels.now }
-    requires roots { AreRoots labels.now roots.now }
-    requires picks { ArePicksOfHearings labels.now picks.now }
-    ensures once { IfOk result (λ links. ArePickedOnce picks.now links.items) }
-    ensures few { IfOk result (λ links. length links.items ≤ length roots.now) }
-{
-    let mut links = Vec::new(alloc);
-    for root in roots {
-        if let Some(link) = picks.of(*root) {
-            if is_first(labels, picks, *root as usize - 1, link) {
-                links.push(link)?;
-            }
-        }
-    }
-    Ok(links)
-}
-
-// Whether no lesser label picks the link: only the labels of its two ends do.
-fn is_first<A: Allocator>(labels: &[u32], picks: &Picks<A>, place: usize, link: Link) -> bool
-    requires labels { AreLabels labels.now }
-    requires picks { ArePicksOfHearings labels.now picks.now }
-    requires here { slice_index_or picks.now place None ≡ Some link }
-    ensures { IsTrue result ↔ IsFirstPickedAt picks.now link place }
-{
-    let low = labels[link.low as usize - 1];
-    let high = labels[link.high as usize - 1];
-    let lesser = low.min(high) as usize - 1;
-    lesser == place || !is_pick(picks.at(lesser), link)
-}
-
-// Whether the pick is the link.
-fn is_pick(pick: Option<Link>, link: Link) -> bool
-    ensures { IsTrue result ↔ (pick ≡ Some link) }
-{
-    match pick {
-        Some(other) => other == link,
-        None => false,
-    }
 }

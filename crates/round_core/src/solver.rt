@@ -113,8 +113,7 @@ impl<A: Allocator + Copy> Solver<A> {
             return Err(SolveFault::Rounds { round });
         }
         let alloc = *self.taken.allocator();
-        let mut links = self.roots.picked(alloc, self.labels.as_slice(), picks)?;
-        let labels = self.roots.relabel(alloc, &self.labels, picks)?;
+        let (mut links, labels) = self.roots.merge(alloc, &self.labels, picks)?;
         let count = links.len() as u32;
         self.taken.append(&mut links)?;
         self.roots.keep(labels.as_slice());

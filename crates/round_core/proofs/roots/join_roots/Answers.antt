@@ -1,4 +1,4 @@
-use Rattle.std.proofs.Common.{◌<◌, length, get_or, arith}
+use Rattle.std.proofs.Common.{ℕ, Contains, ◌<◌, length, get_or, arith}
 use Rattle.std.proofs.lemmas.Nat.{pow_below}
 use Rattle.std.proofs.lemmas.List.Elements.{All-contains}
 use Rattle.round_core.proofs.Leading.{rank_of, rank_few, are_parents, near_at_first}
@@ -12,14 +12,15 @@ loop-init g c =
     let picks = c.args.picks.now in
     let parents = c.lead_roots.new.parents in
     let (heard, are) = c.requires.picks in
-    let led = c.lead_roots.ensures.led in
+    let led = c.in_ok-links.ensures.led in
+    let leads = λ (r : ℕ) (r_in : Contains roots r). (led r r_in).0 in
     record {
       pointers = record {
         within = λ r r_in. let within : r < length c.args.parents.now = All-contains (λ x. x < length c.args.parents.now) roots r c.requires.within r_in in omega (arith, within, c.lead_roots.auto.parents);
-        closed = λ r r_in. (c.requires.roots.exact (get_or parents r 0)).1 (c.lead_roots.ensures.roots r r_in);
+        closed = λ r r_in. (c.requires.roots.exact (get_or parents r 0)).1 (led r r_in).1;
       };
-      parents = are_parents labels heard picks c.requires.labels are roots parents c.requires.roots led;
-      near = near_at_first labels heard picks c.requires.labels are roots parents c.requires.roots led;
+      parents = are_parents labels heard picks c.requires.labels are roots parents c.requires.roots leads;
+      near = near_at_first labels heard picks c.requires.labels are roots parents c.requires.roots leads;
     }
 
 pub loop-preserved : goal.loop-preserved

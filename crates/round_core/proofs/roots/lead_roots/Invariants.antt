@@ -1,9 +1,12 @@
-use Rattle.std.proofs.Common.{ℕ, ◌<◌, get_or}
-use Rattle.round_core.specs.Roots.{IsRoot, IsLed}
+use Rattle.std.proofs.Common.{◌≡◌, length}
+use Rattle.round_core.proofs.Giving.{AreMergedTo}
 use Rattle.round_core.proofs.roots.lead_roots.Given as goal
 
-abbrev pub invariant-loop-root : goal.invariant-loop-root
-invariant-loop-root g l = record {
-  led : (k : ℕ) → k < l.root-index → IsLed l.labels l.picks (get_or l.roots k 0) (get_or l.parents (get_or l.roots k 0) 0);
-  roots : (k : ℕ) → k < l.root-index → IsRoot l.labels (get_or l.parents (get_or l.roots k 0) 0);
+abbrev pub invariant-loop-rest : goal.invariant-loop-rest
+invariant-loop-rest g l = record {
+  room : length l.takes ≡ 64;
+  merged : AreMergedTo l.labels l.picks l.roots l.rest l.parents l.links.items;
 }
+
+abbrev pub decreases-loop-rest : goal.decreases-loop-rest
+decreases-loop-rest g l = length l.rest
