@@ -1,9 +1,9 @@
 -- A jump: a root's parent's parent in place of its parent.
-use Rattle.std.proofs.Common.{◌≡◌, ◌≢◌, ℕ, ◌+◌, ◌<◌, ◌≤◌, ◌^◌, List, length, get_or, set, Contains, refl, sym, ap, ◌∙◌, subst, inl, inr, add-one, arith}
+use Rattle.std.proofs.Common.{◌≡◌, ◌≢◌, ℕ, ◌+◌, ◌<◌, ◌≤◌, ◌^◌, List, length, get_or, set, Contains, refl, sym, ap, ◌∙◌, subst, inl, inr, add-one, below_more, arith}
 use Rattle.std.specs.Prelude.{Option}
 use Rattle.std.proofs.lemmas.Bool.{cases_eq, cases_lt}
 use Rattle.std.proofs.Math.Nat.{two-pow-succ}
-use Rattle.std.proofs.lemmas.List.{length-set, get_or-set_same, get_or-set_other, get_or_default}
+use Rattle.std.proofs.lemmas.List.{length-set, set-get_or, get_or-set_same, get_or-set_other, get_or_default}
 use Rattle.std.proofs.lemmas.List.Elements.{Contains-get_or}
 use Rattle.link_key.specs.declared.links.Link.{Link}
 use Rattle.round_theory.specs.Labelling.{JoinsOver}
@@ -132,7 +132,7 @@ jumped_more roots old new new' k c k_in c_is long at off have = record {
       | inr other ↦ near_still roots new new' c c_in have.pointers long at off rank i x other (have.near rank i are x x_in)
     ]
 
--- the root at place k jumps, or has nowhere to jump to
+-- the root at place k jumps
 pub jumped_by_write : (roots old new : List ℕ) (k : ℕ) → k < length roots → HaveJumped roots old new k
     → HaveJumped roots old (set new (get_or roots k 0) (get_or new (get_or new (get_or roots k 0) 0) 0)) (k + 1)
 jumped_by_write roots old new k k_in have =
@@ -140,8 +140,13 @@ jumped_by_write roots old new k k_in have =
     let q : ℕ = get_or new (get_or new c 0) 0 in
     jumped_more roots old new (set new c q) k c k_in refl (length-set new c q) (get_or-set_same new c q 0 (have.pointers.within c (Contains-get_or roots k 0 k_in))) (λ x other. get_or-set_other new c x q 0 other) have
 
-pub jumped_by_rest : (roots old new : List ℕ) (k : ℕ) → k < length roots → IsSettled new (get_or roots k 0) → HaveJumped roots old new k → HaveJumped roots old new (k + 1)
-jumped_by_rest roots old new k k_in settled have = jumped_more roots old new new k (get_or roots k 0) k_in refl refl (sym settled) (λ x other. refl) have
+-- where it has nowhere to jump to, and those before it had not, all of them are settled
+pub settled_more : (roots new : List ℕ) (k : ℕ) → ((j : ℕ) → j < k → IsSettled new (get_or roots j 0)) → get_or new (get_or new (get_or roots k 0) 0) 0 ≡ get_or new (get_or roots k 0) 0
+    → (j : ℕ) → j < k + 1 → IsSettled (set new (get_or roots k 0) (get_or new (get_or new (get_or roots k 0) 0) 0)) (get_or roots j 0)
+settled_more roots new k before rests j lt =
+    let c : ℕ = get_or roots k 0 in
+    let same : set new c (get_or new (get_or new c 0) 0) ≡ new = ap (set new c) rests ∙ set-get_or new c 0 in
+    subst (λ ps. IsSettled ps (get_or roots j 0)) (sym same) (below_more (λ i. IsSettled new (get_or roots i 0)) k before rests j lt)
 
 -- all have jumped
 pub jumped_all : (roots old new : List ℕ) (k : ℕ) → length roots ≤ k → HaveJumped roots old new k → (rank : ℕ → ℕ) (i : ℕ) → AreNear roots rank i old → AreNear roots rank (i + 1) new

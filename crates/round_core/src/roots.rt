@@ -261,7 +261,8 @@ fn take_each<A: Allocator>(
     Ok(())
 }
 
-// Gives each root its parent's parent in place of its parent, and tells whether one of them is another.
+// Gives each root its parent's parent in place of its parent, and tells whether one of them is another. It takes no branch
+// on what it looks up.
 fn jump(roots: &[u32], parents: &mut [u32]) -> bool
     requires { ArePointers roots.now parents.old }
     ensures pointers { ArePointers roots.now parents.new }
@@ -274,10 +275,8 @@ fn jump(roots: &[u32], parents: &mut [u32]) -> bool
     for root in roots {
         let parent = parents[*root as usize];
         let next = parents[parent as usize];
-        if next != parent {
-            parents[*root as usize] = next;
-            moved = true;
-        }
+        parents[*root as usize] = next;
+        moved |= next != parent;
     }
     moved
 }

@@ -1,10 +1,17 @@
-use Rattle.std.proofs.Common.{get_or, below_more}
+use Rattle.std.proofs.Common.{◌≡◌, Bool, true, false, not, ◌||◌, refl, eqb-true}
 use Rattle.std.proofs.lemmas.List.Elements.{Contains-get_or}
 use Rattle.round_core.specs.Roots.{IsSettled}
-use Rattle.round_core.proofs.Jumping.{jumped_by_write, jumped_by_rest, jumped_all}
+use Rattle.round_core.proofs.Jumping.{jumped_by_write, settled_more, jumped_all}
 use Rattle.round_core.proofs.Naming.{at_contained}
 use Rattle.round_core.proofs.roots.jump.Goals as goal
-use Rattle.round_core.proofs.roots.jump.Goals.{then-next-parent, else-next-parent}
+
+neither : (a b : Bool) → (a || b) ≡ false → (a ≡ false) × (b ≡ false)
+neither false b is = (refl, is)
+neither true b is = absurd (cc)
+
+not_false : (a : Bool) → not a ≡ false → a ≡ true
+not_false true is = refl
+not_false false is = absurd (cc)
 
 pub bounds-parents-root : goal.bounds-parents-root
 bounds-parents-root c =
@@ -17,8 +24,8 @@ bounds-parents-parent c =
     let pointers = c.loop-root.invariant.jumped.pointers in
     pointers.within _ (pointers.closed _ (Contains-get_or roots c.loop-root.root-index 0 c.loop-root-test.true))
 
-pub bounds-parents-root-then-next-parent : goal.bounds-parents-root-then-next-parent
-bounds-parents-root-then-next-parent c =
+pub bounds-parents-root-in-loop-root : goal.bounds-parents-root-in-loop-root
+bounds-parents-root-in-loop-root c =
     let roots = c.args.roots.now in
     c.loop-root.invariant.jumped.pointers.within _ (Contains-get_or roots c.loop-root.root-index 0 c.loop-root-test.true)
 
@@ -27,16 +34,12 @@ loop-root-preserved c =
     let roots = c.args.roots.now in
     let i = c.loop-root.root-index in
     let parents = c.loop-root.parents in
-    elim c.if-next-parent.branch [
-      | then-next-parent w ↦ rw (w.parents-is, w.moved-is) (record {
-        jumped = jumped_by_write roots c.args.parents.now parents i c.loop-root-test.true c.loop-root.invariant.jumped;
-        settled = λ wrong. absurd (cc);
-      })
-      | else-next-parent w ↦ rw (w.parents-is, w.moved-is) (record {
-        jumped = jumped_by_rest roots c.args.parents.now parents i c.loop-root-test.true w.if-next-parent.false c.loop-root.invariant.jumped;
-        settled = λ rests. below_more (λ k. IsSettled parents (get_or roots k 0)) i (c.loop-root.invariant.settled rests) w.if-next-parent.false;
-      })
-    ]
+    record {
+      jumped = jumped_by_write roots c.args.parents.now parents i c.loop-root-test.true c.loop-root.invariant.jumped;
+      settled = λ rests.
+          let (before, here) = neither c.loop-root.moved _ rests in
+          settled_more roots parents i (c.loop-root.invariant.settled before) (eqb-true _ _ (not_false _ here));
+    }
 
 pub returns-clause-nearer : goal.returns-clause-nearer
 returns-clause-nearer c = jumped_all c.args.roots.now c.args.parents.now c.loop-root.parents c.loop-root.root-index c.loop-root-test.false c.loop-root.invariant.jumped
