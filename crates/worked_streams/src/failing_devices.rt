@@ -1,4 +1,5 @@
 // Readers and writers of std that fail once: the failure is told, and nothing is tried again.
+use crate::same::expect_same;
 use byte_streams::{Failed, FillFault, PutFault, Sink, Source, Untold, fill, put};
 use std::io;
 use std::io::{ErrorKind, Read, Write};
@@ -49,9 +50,9 @@ fn an_interrupted_read_is_told_and_the_next_one_reads(rt: HostRuntime) {
         bytes: b"p sp",
     });
     let mut buf = [0; 3];
-    assert_eq!(rt; source.read(&mut buf), Err(Failed));
-    assert_eq!(rt; source.read(&mut buf), Ok(3));
-    assert_eq!(rt; buf.as_slice(), b"p s".as_slice());
+    expect_same(&rt, source.read(&mut buf), Err(Failed));
+    expect_same(&rt, source.read(&mut buf), Ok(3));
+    expect_same(&rt, buf.as_slice(), b"p s".as_slice());
 }
 
 #[test]
@@ -61,9 +62,9 @@ fn a_fill_ends_at_an_interrupted_read(rt: HostRuntime) {
         bytes: b"p sp",
     });
     let mut buf = [0; 4];
-    assert_eq!(rt; fill(&mut source, &mut buf), Err(FillFault::Failed(0)));
-    assert_eq!(rt; fill(&mut source, &mut buf), Ok(()));
-    assert_eq!(rt; buf.as_slice(), b"p sp".as_slice());
+    expect_same(&rt, fill(&mut source, &mut buf), Err(FillFault::Failed(0)));
+    expect_same(&rt, fill(&mut source, &mut buf), Ok(()));
+    expect_same(&rt, buf.as_slice(), b"p sp".as_slice());
 }
 
 #[test]
@@ -72,9 +73,9 @@ fn an_interrupted_write_is_told_and_the_next_one_writes(rt: HostRuntime) {
         has_failed: false,
         taken: Vec::new(rt.alloc()),
     });
-    assert_eq!(rt; sink.write(b"p sp"), Err(Failed));
-    assert_eq!(rt; sink.write(b"p sp"), Ok(4));
-    assert_eq!(rt; sink.0.taken.as_slice(), b"p sp".as_slice());
+    expect_same(&rt, sink.write(b"p sp"), Err(Failed));
+    expect_same(&rt, sink.write(b"p sp"), Ok(4));
+    expect_same(&rt, sink.0.taken.as_slice(), b"p sp".as_slice());
 }
 
 #[test]
@@ -83,9 +84,13 @@ fn a_put_ends_at_an_interrupted_write(rt: HostRuntime) {
         has_failed: false,
         taken: Vec::new(rt.alloc()),
     });
-    assert_eq!(rt; put(&mut sink, 7, b"p sp"), Err(PutFault { written: 7 }));
-    assert_eq!(rt; put(&mut sink, 7, b"p sp"), Ok(11));
-    assert_eq!(rt; sink.0.taken.as_slice(), b"p sp".as_slice());
+    expect_same(
+        &rt,
+        put(&mut sink, 7, b"p sp"),
+        Err(PutFault { written: 7 }),
+    );
+    expect_same(&rt, put(&mut sink, 7, b"p sp"), Ok(11));
+    expect_same(&rt, sink.0.taken.as_slice(), b"p sp".as_slice());
 }
 
 #[test]
@@ -94,8 +99,8 @@ fn a_failed_flush_is_told_and_takes_nothing(rt: HostRuntime) -> Result<(), Fail>
         has_failed: true,
         taken: Vec::new(rt.alloc()),
     });
-    assert_eq!(rt; put(&mut sink, 0, b"p sp"), Ok(4));
-    assert_eq!(rt; sink.flush(), Err(Failed));
-    assert_eq!(rt; sink.0.taken.as_slice(), b"p sp".as_slice());
+    expect_same(&rt, put(&mut sink, 0, b"p sp"), Ok(4));
+    expect_same(&rt, sink.flush(), Err(Failed));
+    expect_same(&rt, sink.0.taken.as_slice(), b"p sp".as_slice());
     Ok(())
 }

@@ -1,5 +1,6 @@
 // Frames and their bytes, and each refusal.
 use crate::next_frames::told;
+use crate::same::{expect_same, expect_same_at};
 use byte_streams::FusedSource;
 use frames::{
     Answer, Frame, FrameFault, Head, Links, VERSION, decode_body, decode_head, encode, encode_ask,
@@ -50,15 +51,69 @@ fn triangle(alloc: Global) -> Result<Vec<Link>, AllocError> {
 // The frame's text is these bytes, and it is what they are read as, and no more is taken.
 fn expect_text(rt: &impl Abort, alloc: Global, frame: &Frame, bytes: &[u8]) -> Result<(), Fail> {
     assert!(rt; frame.is_lawful());
-    assert_eq!(rt; encode(alloc, frame)?.as_slice(), bytes);
+    expect_same(rt, encode(alloc, frame)?.as_slice(), bytes);
     let mut text = Vec::from_slice(alloc, bytes)?;
     text.push(77)?;
     let mut source = text.as_slice();
     let again = read_frame(alloc, &mut source)?;
     assert!(rt; again.is_lawful());
-    assert_eq!(rt; encode(alloc, &again)?.as_slice(), bytes);
-    assert_eq!(rt; source, [77].as_slice());
+    expect_same(rt, encode(alloc, &again)?.as_slice(), bytes);
+    expect_same(rt, source, [77].as_slice());
     Ok(())
+}
+
+// The frame is a hello of this version and worker.
+pub(crate) fn expect_hello(rt: &impl Abort, frame: Frame, fields: (u16, u32)) {
+    match frame {
+        Frame::Hello { version, worker } => expect_same(rt, (version, worker), fields),
+        _ => assert!(rt; false),
+    }
+}
+
+// It is this shard.
+pub(crate) fn expect_shard(rt: &impl Abort, frame: Frame, of: u32, expected: &[Link]) {
+    match frame {
+        Frame::Shard { number, links } => {
+            expect_same(rt, (number, links.as_slice()), (of, expected));
+            expect_same(rt, links.into_list().len(), expected.len());
+        }
+        _ => assert!(rt; false),
+    }
+}
+
+// It is an ask of this round and shard, under these labels.
+fn expect_ask(rt: &impl Abort, frame: Frame, of: (u32, u32), expected: &[u32]) {
+    match frame {
+        Frame::Ask {
+            round,
+            shard,
+            labels,
+        } => expect_same(
+            rt,
+            (round, shard, labels.as_slice()),
+            (of.0, of.1, expected),
+        ),
+        _ => assert!(rt; false),
+    }
+}
+
+// It is the answer of this round and shard with these offers.
+fn expect_answer(rt: &impl Abort, frame: Frame, of: (u32, u32), pairs: &[(u32, u32)]) {
+    match frame {
+        Frame::Answer(answer) => {
+            expect_same(rt, (answer.round, answer.shard), of);
+            expect_same(rt, answer.offers.pairs(), pairs);
+        }
+        _ => assert!(rt; false),
+    }
+}
+
+// It is a fault with these fields.
+fn expect_fault(rt: &impl Abort, frame: Frame, fields: (u32, u32, u8)) {
+    match frame {
+        Frame::Fault { round, shard, code } => expect_same(rt, (round, shard, code), fields),
+        _ => assert!(rt; false),
+    }
 }
 
 #[test]
@@ -71,12 +126,9 @@ fn hellos_of_worker_0(rt: HostRuntime) -> Result<(), Fail> {
         let mut bytes = HELLO;
         bytes[6] = of as u8;
         expect_text(&rt, rt.alloc(), &frame, &bytes)?;
-        match read_frame(rt.alloc(), &mut bytes.as_slice())? {
-            Frame::Hello { version, worker } => assert_eq!(rt; (version, worker), (of, 0)),
-            _ => assert!(rt; false),
-        }
+        expect_hello(&rt, read_frame(rt.alloc(), &mut bytes.as_slice())?, (of, 0));
     }
-    assert_eq!(rt; VERSION, 2);
+    expect_same(&rt, VERSION, 2);
     Ok(())
 }
 
@@ -88,21 +140,13 @@ fn shard_of_a_triangle(rt: HostRuntime) -> Result<(), Fail> {
         links: links.as_slice(),
     };
     assert!(rt; shard.links.len() == 3);
-    assert_eq!(rt;
+    expect_same(
+        &rt,
         encode_shard(rt.alloc(), &shard)?.as_slice(),
-        SHARD.as_slice()
+        SHARD.as_slice(),
     );
-    match read_frame(rt.alloc(), &mut SHARD.as_slice())? {
-        Frame::Shard {
-            number,
-            links: read,
-        } => {
-            assert_eq!(rt; number, 0);
-            assert_eq!(rt; read.as_slice(), links.as_slice());
-            assert_eq!(rt; read.into_list().len(), 3);
-        }
-        _ => assert!(rt; false),
-    }
+    let read = read_frame(rt.alloc(), &mut SHARD.as_slice())?;
+    expect_shard(&rt, read, 0, links.as_slice());
     let frame = Frame::Shard {
         number: 0,
         links: Links::of_list(links),
@@ -152,16 +196,8 @@ fn shards_of_64_bits(rt: HostRuntime) -> Result<(), Fail> {
             assert!(rt; 1 <= tail && tail <= 3 && 1 <= head && head <= 3);
             links.push(Link::of_arc(tail, head, weight).expect(&rt, "no loop"))?;
         }
-        match read_frame(rt.alloc(), &mut &bytes[..])? {
-            Frame::Shard {
-                number,
-                links: read,
-            } => {
-                assert_eq!(rt; number, 0);
-                assert_eq!(rt; read.as_slice(), links.as_slice());
-            }
-            _ => assert!(rt; false),
-        }
+        let read = read_frame(rt.alloc(), &mut &bytes[..])?;
+        expect_shard(&rt, read, 0, links.as_slice());
         let frame = Frame::Shard {
             number: 0,
             links: Links::of_list(links),
@@ -197,9 +233,10 @@ fn shards_of_the_last_weights_of_32_bits(rt: HostRuntime) -> Result<(), Fail> {
 #[test]
 fn ask_with_each_vertex_apart(rt: HostRuntime) -> Result<(), Fail> {
     let labels = Labels::apart(rt.alloc(), 3)?;
-    assert_eq!(rt;
+    expect_same(
+        &rt,
         encode_ask(rt.alloc(), 1, 0, &labels)?.as_slice(),
-        ASK.as_slice()
+        ASK.as_slice(),
     );
     let frame = Frame::Ask {
         round: 1,
@@ -207,17 +244,8 @@ fn ask_with_each_vertex_apart(rt: HostRuntime) -> Result<(), Fail> {
         labels,
     };
     expect_text(&rt, rt.alloc(), &frame, &ASK)?;
-    match read_frame(rt.alloc(), &mut ASK.as_slice())? {
-        Frame::Ask {
-            round,
-            shard,
-            labels,
-        } => {
-            assert_eq!(rt; (round, shard), (1, 0));
-            assert_eq!(rt; labels.as_slice(), [1, 2, 3].as_slice());
-        }
-        _ => assert!(rt; false),
-    }
+    let read = read_frame(rt.alloc(), &mut ASK.as_slice())?;
+    expect_ask(&rt, read, (1, 0), &[1, 2, 3]);
     Ok(())
 }
 
@@ -267,7 +295,7 @@ fn an_ask_in_place_of_another(rt: HostRuntime) -> Result<(), Fail> {
         let labels = labels_of(&rt, rt.alloc(), list)?;
         assert!(rt; shard < 4096);
         encode_ask_over(&mut text, round, shard, &labels)?;
-        assert_eq!(rt; text.as_slice(), bytes);
+        expect_same(&rt, text.as_slice(), bytes);
     }
     Ok(())
 }
@@ -282,14 +310,12 @@ fn an_ask_behind_another(rt: HostRuntime) -> Result<(), Fail> {
         let mut source = ASK.as_slice();
         let next = read_next(rt.alloc(), &mut source, last.as_slice())?;
         let text = told(&rt, rt.alloc(), &next, &last)?;
-        assert_eq!(rt; text.as_slice(), ASK.as_slice());
+        expect_same(&rt, text.as_slice(), ASK.as_slice());
         assert!(rt; source.is_empty());
         let mut wrong = ASK;
         wrong[24] = 3;
-        match read_next(rt.alloc(), &mut wrong.as_slice(), last.as_slice()) {
-            Ok(_) => assert!(rt; false),
-            Err(fault) => assert_eq!(rt; fault, FrameFault::BadField),
-        }
+        let found = read_next(rt.alloc(), &mut wrong.as_slice(), last.as_slice()).err();
+        expect_same(&rt, found, Some(FrameFault::BadField));
     }
     Ok(())
 }
@@ -304,19 +330,14 @@ fn answer_of_three_offers(rt: HostRuntime) -> Result<(), Fail> {
         offers,
     });
     expect_text(&rt, rt.alloc(), &frame, &ANSWER)?;
-    match read_frame(rt.alloc(), &mut ANSWER.as_slice())? {
-        Frame::Answer(answer) => {
-            assert_eq!(rt; (answer.round, answer.shard), (1, 0));
-            assert_eq!(rt; answer.offers.pairs(), pairs.as_slice());
-        }
-        _ => assert!(rt; false),
-    }
+    let read = read_frame(rt.alloc(), &mut ANSWER.as_slice())?;
+    expect_answer(&rt, read, (1, 0), &pairs);
     Ok(())
 }
 
 #[test]
 fn fault_for_a_shard_not_held(rt: HostRuntime) -> Result<(), Fail> {
-    assert_eq!(rt; fault_bytes(1, 5, 2).as_slice(), FAULT.as_slice());
+    expect_same(&rt, fault_bytes(1, 5, 2).as_slice(), FAULT.as_slice());
     let frame = Frame::Fault {
         round: 1,
         shard: 5,
@@ -337,10 +358,8 @@ fn expect_refused(
         for (place, byte) in *changes {
             *bytes.get_mut(*place).expect(rt, "a place in the text") = *byte;
         }
-        match read_frame(alloc, &mut bytes.as_slice()) {
-            Ok(_) => panic!(rt; "{text:?} with {changes:?} is read"),
-            Err(found) => assert_eq!(rt; found, fault, "{text:?} with {changes:?}"),
-        }
+        let found = read_frame(alloc, &mut bytes.as_slice()).err();
+        expect_same_at(rt, found, Some(fault), (text, changes));
     }
     Ok(())
 }
@@ -434,9 +453,10 @@ fn heads(rt: HostRuntime) {
     ];
     for (bytes, length) in rows {
         let kind = bytes[0];
-        assert_eq!(rt;
+        expect_same(
+            &rt,
             decode_head(&bytes),
-            length.map(|length| Head { kind, length })
+            length.map(|length| Head { kind, length }),
         );
     }
 }
@@ -446,12 +466,8 @@ fn body_of_a_fault(rt: HostRuntime) -> Result<(), Fail> {
     let bytes = [5, 0, 0, 0, 9];
     let head = decode_head(&bytes)?;
     let body = &FAULT[5..];
-    assert_eq!(rt; head.length, 9);
-    assert!(rt; body.len() == 9);
-    match decode_body(rt.alloc(), head, body)? {
-        Frame::Fault { round, shard, code } => assert_eq!(rt; (round, shard, code), (1, 5, 2)),
-        _ => assert!(rt; false),
-    }
+    assert!(rt; head.length == 9 && body.len() == 9);
+    expect_fault(&rt, decode_body(rt.alloc(), head, body)?, (1, 5, 2));
     Ok(())
 }
 
@@ -461,10 +477,8 @@ fn reads_that_fail(rt: HostRuntime) -> Result<(), Fail> {
     for passes in 0..29 {
         let bytes = Vec::from_slice(rt.alloc(), &ASK)?;
         let mut source = FusedSource::new(bytes, passes, 4);
-        match read_frame(rt.alloc(), &mut source) {
-            Ok(_) => assert!(rt; false),
-            Err(fault) => assert_eq!(rt; fault, FrameFault::Device),
-        }
+        let found = read_frame(rt.alloc(), &mut source).err();
+        expect_same_at(&rt, found, Some(FrameFault::Device), passes);
     }
     let mut source = FusedSource::new(Vec::from_slice(rt.alloc(), &ASK)?, 29, 4);
     assert!(rt; read_frame(rt.alloc(), &mut source)?.is_lawful());
@@ -485,7 +499,7 @@ fn what_faults_are_told_as(rt: HostRuntime) -> Result<(), Fail> {
     ];
     for (fault, text) in texts {
         let told = format!(in rt.alloc(); "{fault}")?;
-        assert_eq!(rt; told.as_str(), text);
+        expect_same(&rt, told.as_str(), text);
     }
     Ok(())
 }

@@ -1,9 +1,13 @@
 // Frames read of a source that tells what it gave, and not what will come.
 ghost use Rattle.std.specs.Prelude.{Some, None, ◌≡◌, IfOk, ◌<◌, ◌-◌, ◌^◌};
 
+use crate::frames_codec::{expect_hello, expect_shard};
+use crate::same::{expect_same, expect_same_at};
 use byte_streams::{Failed, FusedSource, Source};
-use frames::{Frame, FrameFault, read_frame};
+use frames::{FrameFault, read_frame};
+use link_key::Link;
 use std::alloc::Global;
+use std::process::Abort;
 use std::test::Fail;
 use test_memory::{Refusals, Refusing};
 
@@ -42,17 +46,9 @@ fn frames_that_follow_each_other_are_read_one_by_one(rt: HostRuntime) -> Result<
     let mut bytes = Vec::from_slice(rt.alloc(), &HELLO)?;
     bytes.extend_from_slice(&SHARD)?;
     let mut source = source_of(rt.alloc(), bytes.as_slice(), 100)?;
-    match read_frame(rt.alloc(), &mut source)? {
-        Frame::Hello { version, worker } => assert_eq!(rt; (version, worker), (1, 63)),
-        _ => assert!(rt; false),
-    }
-    match read_frame(rt.alloc(), &mut source)? {
-        Frame::Shard { number, links } => {
-            assert_eq!(rt; number, 7);
-            assert_eq!(rt; links.as_slice().len(), 1);
-        }
-        _ => assert!(rt; false),
-    }
+    expect_hello(&rt, read_frame(rt.alloc(), &mut source)?, (1, 63));
+    let link = Link::of_arc(1, 2, 5).expect(&rt, "no loop");
+    expect_shard(&rt, read_frame(rt.alloc(), &mut source)?, 7, &[link]);
     Ok(())
 }
 
@@ -95,10 +91,9 @@ fn each_fault_is_told_where_it_comes(rt: HostRuntime) -> Result<(), Fail> {
         ),
     ];
     for (bytes, passes, expected) in rows {
-        match read_frame(rt.alloc(), &mut source_of(rt.alloc(), bytes, passes)?) {
-            Ok(_) => assert!(rt; false),
-            Err(fault) => assert_eq!(rt; fault, expected, "{bytes:?} after {passes}"),
-        }
+        let mut source = source_of(rt.alloc(), bytes, passes)?;
+        let found = read_frame(rt.alloc(), &mut source).err();
+        expect_same_at(&rt, found, Some(expected), (bytes, passes));
     }
     Ok(())
 }
@@ -108,18 +103,24 @@ fn each_fault_is_told_where_it_comes(rt: HostRuntime) -> Result<(), Fail> {
 #[test]
 fn want_of_memory_is_told_for_a_good_head_and_good_fields(rt: HostRuntime) -> Result<(), Fail> {
     for number in 1..3u64 {
-        let memory = Refusing::new(rt.alloc(), Refusals::since(number));
-        match read_frame(&memory, &mut source_of(rt.alloc(), &SHARD, 100)?) {
-            Ok(_) => assert!(rt; false),
-            Err(fault) => assert_eq!(rt; fault, FrameFault::Memory),
-        }
+        expect_refused(&rt, rt.alloc(), &SHARD, number, FrameFault::Memory)?;
     }
     let mut two_links = SHARD;
     two_links[12] = 2;
-    let memory = Refusing::new(rt.alloc(), Refusals::since(2));
-    match read_frame(&memory, &mut source_of(rt.alloc(), &two_links, 100)?) {
-        Ok(_) => assert!(rt; false),
-        Err(fault) => assert_eq!(rt; fault, FrameFault::BadField),
-    }
+    expect_refused(&rt, rt.alloc(), &two_links, 2, FrameFault::BadField)
+}
+
+// The bytes are refused so in memory whose allocations from this number on are refused.
+fn expect_refused(
+    rt: &impl Abort,
+    alloc: Global,
+    bytes: &[u8],
+    number: u64,
+    fault: FrameFault,
+) -> Result<(), Fail> {
+    let memory = Refusing::new(alloc, Refusals::since(number));
+    let mut source = source_of(alloc, bytes, 100)?;
+    let found = read_frame(&memory, &mut source).err();
+    expect_same(rt, found, Some(fault));
     Ok(())
 }

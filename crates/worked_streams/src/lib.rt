@@ -8,6 +8,7 @@
 //!   memory_of_frames             which blocks of memory frames take, and which live after one is read
 //!   next_frames                  a frame behind an ask, whose labels come again or differ in one place
 //!   refused_in_turn              work whose allocations are refused in turn, with a flaw and without one
+//!   same                         what is found beside what is expected
 //!   sizes                        frames at the size of every inner piece, beside it and past it
 //! ```
 #![tactic(auto)]
@@ -24,6 +25,8 @@ mod memory_of_frames;
 mod next_frames;
 #[cfg(test)]
 mod refused_in_turn;
+#[cfg(test)]
+mod same;
 #[cfg(test)]
 mod sizes;
 #[cfg(test)]

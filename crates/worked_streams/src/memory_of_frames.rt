@@ -1,5 +1,6 @@
 // Frames that are read from bytes: the body's block, and the list that is made of it. Frames that are written: the
 // text's one block.
+use crate::same::{expect_same, expect_same_at};
 use frames::{
     FrameFault, decode_body, decode_head, encode, encode_ask, encode_ask_over, read_frame,
 };
@@ -45,16 +46,18 @@ const ANSWER_THAT_DESCENDS: [u8; 33] = [
 
 const FAULT_WITH_CODE_4: [u8; 14] = [5, 0, 0, 0, 9, 0, 0, 0, 1, 0, 0, 0, 5, 4];
 
+// Why no frame is read in this memory; then how many blocks were handed out, and how many of them live.
+fn refused(memory: &Refusing<Global>, bytes: &[u8]) -> (Option<FrameFault>, u64, u64) {
+    let mut source = bytes;
+    let fault = read_frame(memory, &mut source).err();
+    (fault, memory.given(), memory.live())
+}
+
 // The frame is refused with this fault, blocks were handed out, and none of them lives.
 fn expect_nothing_lives(rt: &impl Abort, alloc: Global, bytes: &[u8], expected: FrameFault) {
     let memory = Refusing::new(alloc, Refusals::none());
-    let mut source = bytes;
-    match read_frame(&memory, &mut source) {
-        Ok(_) => assert!(rt; false),
-        Err(fault) => assert_eq!(rt; fault, expected),
-    }
-    assert!(rt; memory.given() > 0);
-    assert_eq!(rt; memory.live(), 0);
+    let (fault, given, live) = refused(&memory, bytes);
+    expect_same(rt, (fault, given > 0, live), (Some(expected), true, 0));
 }
 
 #[test]
@@ -76,10 +79,9 @@ fn expect_blocks(rt: &impl Abort, alloc: Global, bytes: &[u8], blocks: u64) {
     let memory = Refusing::new(alloc, Refusals::none());
     let mut source = bytes;
     let frame = read_frame(&memory, &mut source);
-    assert!(rt; frame.is_ok());
-    assert_eq!(rt; memory.live(), blocks);
+    expect_same(rt, (frame.is_ok(), memory.live()), (true, blocks));
     drop(frame);
-    assert_eq!(rt; memory.live(), 0);
+    expect_same(rt, memory.live(), 0);
 }
 
 #[test]
@@ -96,12 +98,8 @@ fn a_frame_keeps_its_list_alone(rt: HostRuntime) {
 fn what_came_before_a_refusal_is_dropped(rt: HostRuntime) {
     for number in 1..3u64 {
         let memory = Refusing::new(rt.alloc(), Refusals::since(number));
-        let mut source = ASK.as_slice();
-        match read_frame(&memory, &mut source) {
-            Ok(_) => assert!(rt; false),
-            Err(fault) => assert_eq!(rt; fault, FrameFault::Memory),
-        }
-        assert_eq!(rt; (memory.given(), memory.live()), (number - 1, 0));
+        let expected = (Some(FrameFault::Memory), number - 1, 0);
+        expect_same(&rt, refused(&memory, &ASK), expected);
     }
 }
 
@@ -113,15 +111,8 @@ fn a_body_is_given_room_as_it_comes(rt: HostRuntime) -> Result<(), Fail> {
         let mut bytes = Vec::from_slice(rt.alloc(), &[3, 16, 0, 0, 12])?;
         bytes.resize(6 + 65_536 * pieces, 0)?;
         let memory = Refusing::new(rt.alloc(), Refusals::none());
-        match read_frame(&memory, &mut bytes.as_slice()) {
-            Ok(_) => assert!(rt; false),
-            Err(fault) => assert_eq!(rt; fault, FrameFault::Torn),
-        }
-        assert_eq!(rt;
-            (memory.given(), memory.live()),
-            (blocks, 0),
-            "{pieces} pieces"
-        );
+        let found = refused(&memory, bytes.as_slice());
+        expect_same_at(&rt, found, (Some(FrameFault::Torn), blocks, 0), pieces);
     }
     Ok(())
 }
@@ -138,9 +129,9 @@ fn expect_one_block(rt: &impl Abort, alloc: Global, bytes: &[u8]) -> Result<(), 
     assert!(rt; frame.is_lawful());
     let text = encode(&memory, &frame)?;
     assert!(rt; text.as_slice() == bytes);
-    assert_eq!(rt; memory.given(), 1);
+    expect_same(rt, memory.given(), 1);
     let _listed = decode_body(&memory, head, body)?;
-    assert_eq!(rt; memory.given(), 2);
+    expect_same(rt, memory.given(), 2);
     Ok(())
 }
 
@@ -173,9 +164,10 @@ fn an_ask_in_place_of_another_takes_its_room(rt: HostRuntime) -> Result<(), Fail
         assert!(rt; count <= 20_000);
         let labels = Labels::apart(rt.alloc(), count)?;
         encode_ask_over(&mut text, 1, 0, &labels)?;
-        assert_eq!(rt;
+        expect_same(
+            &rt,
             (memory.given(), text.len()),
-            (blocks, 17 + 4 * count as usize)
+            (blocks, 17 + 4 * count as usize),
         );
     }
     Ok(())

@@ -3,6 +3,7 @@
 // labels here come in five pieces, and have more than 65,536 bytes.
 ghost use Rattle.std.specs.Prelude.{◌≤◌};
 
+use crate::same::{expect_same, expect_same_at};
 use byte_streams::FusedSource;
 use frames::{FrameFault, NextFrame, encode, encode_ask, read_frame, read_next};
 use link_key::Labels;
@@ -72,7 +73,7 @@ fn expect_as_alone(
                 let text = encode(alloc, &frame)?;
                 assert!(rt; told(rt, alloc, &next, last)?.as_slice() == text.as_slice());
             }
-            (Err(fault), Err(other)) => assert_eq!(rt; other, fault),
+            (Err(fault), Err(other)) => expect_same(rt, other, fault),
             _ => panic!(rt; "one is refused, and the other isn't"),
         }
     }
@@ -92,7 +93,7 @@ fn expect_ask(
     let mut source = bytes.as_slice();
     match read_next(&memory, &mut source, last.as_slice())? {
         NextFrame::AskAgain { round, shard } => {
-            assert_eq!(rt; (round, shard, blocks), (5, 7, 0));
+            expect_same(rt, (round, shard, blocks), (5, 7, 0));
         }
         NextFrame::Other(frame) => {
             assert!(rt; frame.is_lawful());
@@ -100,7 +101,7 @@ fn expect_ask(
         }
     }
     assert!(rt; source.is_empty());
-    assert_eq!(rt; (memory.given(), memory.live()), (blocks, 0));
+    expect_same(rt, (memory.given(), memory.live()), (blocks, 0));
     expect_as_alone(rt, alloc, bytes.as_slice(), usize::MAX, last)
 }
 
@@ -159,10 +160,8 @@ fn expect_unlawful(
         assert!(rt; place < 1 << 20 && place + i < bytes.len());
         bytes[place + i] = *byte;
     }
-    match read_next(alloc, &mut bytes.as_slice(), last.as_slice()) {
-        Ok(_) => panic!(rt; "no ask"),
-        Err(fault) => assert_eq!(rt; fault, FrameFault::BadField),
-    }
+    let found = read_next(alloc, &mut bytes.as_slice(), last.as_slice()).err();
+    expect_same(rt, found, Some(FrameFault::BadField));
     for count in [17, 40_000, 80_020] {
         assert!(rt; count < bytes.len());
         let cut = &bytes.as_slice()[..count];
@@ -204,14 +203,18 @@ fn no_memory_for_labels_that_differ(rt: HostRuntime) -> Result<(), Fail> {
         let labels = labels_but(&rt, rt.alloc(), vertex)?;
         let bytes = ask(rt.alloc(), &labels)?;
         let memory = Refusing::new(rt.alloc(), Refusals::since(1));
-        match read_next(&memory, &mut bytes.as_slice(), last.as_slice()) {
-            Ok(_) => assert_eq!(rt; vertex, 0),
-            Err(fault) => {
-                assert!(rt; vertex != 0);
-                assert_eq!(rt; fault, FrameFault::Memory);
-            }
-        }
-        assert_eq!(rt; (memory.given(), memory.live()), (0, 0));
+        let found = read_next(&memory, &mut bytes.as_slice(), last.as_slice()).err();
+        let fault = if vertex == 0 {
+            None
+        } else {
+            Some(FrameFault::Memory)
+        };
+        expect_same_at(
+            &rt,
+            (found, memory.given(), memory.live()),
+            (fault, 0, 0),
+            vertex,
+        );
     }
     Ok(())
 }

@@ -1,5 +1,6 @@
 // The search for refusals that are passed over and for blocks that are left: work with one flaw is found to have it, at
 // its allocation, and work without one to have none. Past a hundred allocations too.
+use crate::same::expect_same_at;
 use std::alloc::{AllocError, Global};
 use std::mem::forget;
 use test_memory::{Found, Refusing, refuse_each};
@@ -83,6 +84,6 @@ fn flaws_are_found_where_they_are(rt: HostRuntime) {
                 pairs(memory, count, flawed, flaw)
             },
         );
-        assert_eq!(rt; found, expected, "{count} pairs, the flaw in {flawed}");
+        expect_same_at(&rt, found, expected, (count, flawed));
     }
 }

@@ -1,4 +1,5 @@
 // Sources and sinks, and those that fail at a chosen byte.
+use crate::same::expect_same;
 use byte_streams::{
     Failed, FillFault, FusedSink, FusedSource, PutFault, Sink, Source, Untold, fill, put,
 };
@@ -9,22 +10,22 @@ use std::test::Fail;
 fn fills_from_a_slice(rt: HostRuntime) {
     let mut source = b"p sp 6 5".as_slice();
     let mut buf = [0; 5];
-    assert_eq!(rt; fill(&mut source, &mut buf[..4]), Ok(()));
-    assert_eq!(rt; &buf[..4], b"p sp".as_slice());
-    assert_eq!(rt; fill(&mut source, &mut []), Ok(()));
-    assert_eq!(rt; fill(&mut source, &mut buf), Err(FillFault::Ended(4)));
-    assert_eq!(rt; &buf[..4], b" 6 5".as_slice());
-    assert_eq!(rt; fill(&mut source, &mut buf), Err(FillFault::Ended(0)));
+    expect_same(&rt, fill(&mut source, &mut buf[..4]), Ok(()));
+    expect_same(&rt, &buf[..4], b"p sp".as_slice());
+    expect_same(&rt, fill(&mut source, &mut []), Ok(()));
+    expect_same(&rt, fill(&mut source, &mut buf), Err(FillFault::Ended(4)));
+    expect_same(&rt, &buf[..4], b" 6 5".as_slice());
+    expect_same(&rt, fill(&mut source, &mut buf), Err(FillFault::Ended(0)));
 }
 
 #[test]
 fn puts_into_a_vector(rt: HostRuntime) -> Result<(), Fail> {
     let mut sink = Vec::new(rt.alloc());
-    assert_eq!(rt; put(&mut sink, 0, b"p sp "), Ok(5));
-    assert_eq!(rt; put(&mut sink, 5, b""), Ok(5));
-    assert_eq!(rt; put(&mut sink, 5, b"6 5\n"), Ok(9));
-    assert_eq!(rt; sink.flush(), Ok(()));
-    assert_eq!(rt; sink.as_slice(), b"p sp 6 5\n".as_slice());
+    expect_same(&rt, put(&mut sink, 0, b"p sp "), Ok(5));
+    expect_same(&rt, put(&mut sink, 5, b""), Ok(5));
+    expect_same(&rt, put(&mut sink, 5, b"6 5\n"), Ok(9));
+    expect_same(&rt, sink.flush(), Ok(()));
+    expect_same(&rt, sink.as_slice(), b"p sp 6 5\n".as_slice());
     Ok(())
 }
 
@@ -39,15 +40,16 @@ fn texts_of_any_size_go_in_and_out(rt: HostRuntime) -> Result<(), Fail> {
         let mut sink = Vec::new(rt.alloc());
         for before in 0..3 {
             let written = before * size;
-            assert_eq!(rt;
+            expect_same(
+                &rt,
                 put(&mut sink, written, text.as_slice()),
-                Ok(written + size)
+                Ok(written + size),
             );
         }
         let mut source = sink.as_slice();
         for _ in 0..3 {
             let mut buf = vec![in rt.alloc(); 0; size as usize]?;
-            assert_eq!(rt; fill(&mut source, &mut buf), Ok(()));
+            expect_same(&rt, fill(&mut source, &mut buf), Ok(()));
             assert!(rt; buf.as_slice() == text.as_slice(), "{size} bytes");
         }
         assert!(rt; source.is_empty());
@@ -62,12 +64,20 @@ fn source_fails_after_its_passes(rt: HostRuntime) -> Result<(), Fail> {
         let bytes = Vec::from_slice(rt.alloc(), b"hello")?;
         let mut source = FusedSource::new(bytes, passes, 2);
         let mut buf = [0; 5];
-        assert_eq!(rt; fill(&mut source, &mut buf), Err(FillFault::Failed(passes)));
-        assert_eq!(rt; &buf[..passes], &b"hello"[..passes]);
+        expect_same(
+            &rt,
+            fill(&mut source, &mut buf),
+            Err(FillFault::Failed(passes)),
+        );
+        expect_same(&rt, &buf[..passes], &b"hello"[..passes]);
     }
     let mut source = FusedSource::new(Vec::from_slice(rt.alloc(), b"hello")?, 5, 2);
-    assert_eq!(rt; fill(&mut source, &mut [0; 5]), Ok(()));
-    assert_eq!(rt; fill(&mut source, &mut [0; 1]), Err(FillFault::Failed(0)));
+    expect_same(&rt, fill(&mut source, &mut [0; 5]), Ok(()));
+    expect_same(
+        &rt,
+        fill(&mut source, &mut [0; 1]),
+        Err(FillFault::Failed(0)),
+    );
     Ok(())
 }
 
@@ -75,10 +85,10 @@ fn source_fails_after_its_passes(rt: HostRuntime) -> Result<(), Fail> {
 fn source_ends_before_its_passes(rt: HostRuntime) -> Result<(), Fail> {
     let mut source = FusedSource::new(Vec::from_slice(rt.alloc(), b"hello")?, 6, 2);
     let mut buf = [0; 4];
-    assert_eq!(rt; source.read(&mut buf), Ok(2));
-    assert_eq!(rt; fill(&mut source, &mut buf), Err(FillFault::Ended(3)));
-    assert_eq!(rt; &buf[..3], b"llo".as_slice());
-    assert_eq!(rt; source.read(&mut buf), Ok(0));
+    expect_same(&rt, source.read(&mut buf), Ok(2));
+    expect_same(&rt, fill(&mut source, &mut buf), Err(FillFault::Ended(3)));
+    expect_same(&rt, &buf[..3], b"llo".as_slice());
+    expect_same(&rt, source.read(&mut buf), Ok(0));
     Ok(())
 }
 
@@ -91,17 +101,17 @@ fn sink_fails_after_its_passes(rt: HostRuntime) -> Result<(), Fail> {
         let fault = PutFault {
             written: 3 + passes as u64,
         };
-        assert_eq!(rt; put(&mut sink, 3, text), Err(fault));
-        assert_eq!(rt; sink.held(), &text[..passes]);
-        assert_eq!(rt; sink.flush(), Err(Failed));
+        expect_same(&rt, put(&mut sink, 3, text), Err(fault));
+        expect_same(&rt, sink.held(), &text[..passes]);
+        expect_same(&rt, sink.flush(), Err(Failed));
     }
     let mut sink = FusedSink::new(rt.alloc(), 9, 2)?;
-    assert_eq!(rt; put(&mut sink, 0, text), Ok(9));
-    assert_eq!(rt; sink.flush(), Err(Failed));
+    expect_same(&rt, put(&mut sink, 0, text), Ok(9));
+    expect_same(&rt, sink.flush(), Err(Failed));
     let mut sink = FusedSink::new(rt.alloc(), 10, 2)?;
-    assert_eq!(rt; put(&mut sink, 0, text), Ok(9));
-    assert_eq!(rt; sink.flush(), Ok(()));
-    assert_eq!(rt; sink.held(), text.as_slice());
+    expect_same(&rt, put(&mut sink, 0, text), Ok(9));
+    expect_same(&rt, sink.flush(), Ok(()));
+    expect_same(&rt, sink.held(), text.as_slice());
     Ok(())
 }
 
@@ -109,13 +119,13 @@ fn sink_fails_after_its_passes(rt: HostRuntime) -> Result<(), Fail> {
 fn stopped_sink_takes_nothing_more(rt: HostRuntime) -> Result<(), Fail> {
     let text = b"p sp 6 5\n";
     let mut sink = FusedSink::stopped(rt.alloc(), 4, 3)?;
-    assert_eq!(rt; put(&mut sink, 0, text), Err(PutFault { written: 4 }));
-    assert_eq!(rt; sink.write(text), Ok(0));
-    assert_eq!(rt; sink.write(&[]), Ok(0));
-    assert_eq!(rt; sink.flush(), Ok(()));
-    assert_eq!(rt; sink.held(), b"p sp".as_slice());
+    expect_same(&rt, put(&mut sink, 0, text), Err(PutFault { written: 4 }));
+    expect_same(&rt, sink.write(text), Ok(0));
+    expect_same(&rt, sink.write(&[]), Ok(0));
+    expect_same(&rt, sink.flush(), Ok(()));
+    expect_same(&rt, sink.held(), b"p sp".as_slice());
     let mut sink = FusedSink::stopped(rt.alloc(), 9, 3)?;
-    assert_eq!(rt; put(&mut sink, 0, text), Ok(9));
+    expect_same(&rt, put(&mut sink, 0, text), Ok(9));
     Ok(())
 }
 
@@ -123,12 +133,12 @@ fn stopped_sink_takes_nothing_more(rt: HostRuntime) -> Result<(), Fail> {
 fn wraps_other_readers_and_writers(rt: HostRuntime) -> Result<(), Fail> {
     let mut source = Untold(b"hello".as_slice());
     let mut buf = [0; 4];
-    assert_eq!(rt; fill(&mut source, &mut buf), Ok(()));
-    assert_eq!(rt; buf.as_slice(), b"hell".as_slice());
+    expect_same(&rt, fill(&mut source, &mut buf), Ok(()));
+    expect_same(&rt, buf.as_slice(), b"hell".as_slice());
     let mut sink = Untold(Vec::new(rt.alloc()));
-    assert_eq!(rt; put(&mut sink, 0, &buf), Ok(4));
-    assert_eq!(rt; sink.flush(), Ok(()));
-    assert_eq!(rt; sink.0.as_slice(), b"hell".as_slice());
+    expect_same(&rt, put(&mut sink, 0, &buf), Ok(4));
+    expect_same(&rt, sink.flush(), Ok(()));
+    expect_same(&rt, sink.0.as_slice(), b"hell".as_slice());
     Ok(())
 }
 
@@ -136,20 +146,26 @@ fn wraps_other_readers_and_writers(rt: HostRuntime) -> Result<(), Fail> {
 #[test]
 fn devices_fail_and_end(rt: HostRuntime) -> Result<(), Fail> {
     let mut buf = [0; 1];
-    assert_eq!(rt;
+    expect_same(
+        &rt,
         fill(&mut File::open(&rt, "/")?, &mut buf),
-        Err(FillFault::Failed(0))
+        Err(FillFault::Failed(0)),
     );
-    assert_eq!(rt;
+    expect_same(
+        &rt,
         fill(&mut File::open(&rt, "/dev/null")?, &mut buf),
-        Err(FillFault::Ended(0))
+        Err(FillFault::Ended(0)),
     );
-    assert_eq!(rt; fill(&mut File::open(&rt, "/dev/zero")?, &mut buf), Ok(()));
+    expect_same(
+        &rt,
+        fill(&mut File::open(&rt, "/dev/zero")?, &mut buf),
+        Ok(()),
+    );
     let mut full = OpenOptions::new().write(true).open(&rt, "/dev/full")?;
-    assert_eq!(rt; put(&mut full, 2, b"ab"), Err(PutFault { written: 2 }));
+    expect_same(&rt, put(&mut full, 2, b"ab"), Err(PutFault { written: 2 }));
     let mut sink = OpenOptions::new().write(true).open(&rt, "/dev/null")?;
-    assert_eq!(rt; put(&mut sink, 2, b"ab"), Ok(4));
-    assert_eq!(rt; sink.flush(), Ok(()));
+    expect_same(&rt, put(&mut sink, 2, b"ab"), Ok(4));
+    expect_same(&rt, sink.flush(), Ok(()));
     Ok(())
 }
 
@@ -161,9 +177,9 @@ fn faults_are_told_in_words(rt: HostRuntime) -> Result<(), Fail> {
         format!(in rt.alloc(); "{}", FillFault::Ended(4))?,
         format!(in rt.alloc(); "{}", PutFault { written: 5 })?,
     ];
-    assert_eq!(rt; texts[0].as_str(), "the stream failed");
-    assert_eq!(rt; texts[1].as_str(), "read failed after 3 bytes");
-    assert_eq!(rt; texts[2].as_str(), "stream ended after 4 bytes");
-    assert_eq!(rt; texts[3].as_str(), "write failed after 5 bytes");
+    expect_same(&rt, texts[0].as_str(), "the stream failed");
+    expect_same(&rt, texts[1].as_str(), "read failed after 3 bytes");
+    expect_same(&rt, texts[2].as_str(), "stream ended after 4 bytes");
+    expect_same(&rt, texts[3].as_str(), "write failed after 5 bytes");
     Ok(())
 }
