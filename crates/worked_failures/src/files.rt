@@ -3,6 +3,7 @@
 ghost use Rattle.std.specs.Prelude.{◌<◌, ◌≤◌, ◌-◌, ◌^◌};
 
 use crate::runs::worker;
+use crate::same::{expect_same, expect_same_at};
 use byte_streams::{FusedSink, FusedSource, Sink, Source};
 use forest_run::{Cutting, RunFault, run_lines, run_plain};
 use gr_text::ReadFault;
@@ -72,7 +73,7 @@ fn expect_read<R: Threads + Wait + Sync + Abort>(
     let failed = ReadFault::Source {
         line: feeds.wrapping_add(1),
     };
-    assert_eq!(rt; fault, Some(RunFault::Read(failed)), "after {passes} bytes");
+    expect_same_at(rt, fault, Some(RunFault::Read(failed)), passes);
     assert!(rt; sink.is_empty());
     Ok(())
 }
@@ -80,7 +81,7 @@ fn expect_read<R: Threads + Wait + Sync + Abort>(
 #[test]
 fn a_source_that_fails_at_each_byte(rt: HostRuntime) -> Result<(), Fail> {
     for (graph, length) in [(SMALL_NET, 108), (WIDE_WEIGHTS, 121)] {
-        assert_eq!(rt; graph.file.len(), length);
+        expect_same(&rt, graph.file.len(), length);
         for (way, piece) in RUNS {
             assert!(rt; 1 <= piece);
             for passes in 0..length.wrapping_add(2) {
@@ -114,8 +115,8 @@ fn expect_written<R: Threads + Wait + Sync + Abort>(
             written: passes as u64,
         })
     };
-    assert_eq!(rt; fault, expected, "room for {passes} bytes");
-    assert_eq!(rt; sink.held(), &text[..passes.min(text.len())]);
+    expect_same_at(rt, fault, expected, passes);
+    expect_same(rt, sink.held(), &text[..passes.min(text.len())]);
     Ok(())
 }
 
@@ -127,7 +128,7 @@ const LENGTHS: [(Worked, usize); 2] = [(SMALL_NET, 50), (WIDE_WEIGHTS, 78)];
 fn a_sink_that_fails_at_each_byte(rt: HostRuntime) -> Result<(), Fail> {
     let alloc = rt.alloc();
     for (graph, length) in LENGTHS {
-        assert_eq!(rt; graph.text.len(), length);
+        expect_same(&rt, graph.text.len(), length);
         for (way, piece) in RUNS {
             assert!(rt; 1 <= piece);
             for passes in 0..length.wrapping_add(2) {

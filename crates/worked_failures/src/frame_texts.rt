@@ -1,6 +1,7 @@
 // Frames that are written and read. A fault's bytes are made without memory.
-use crate::in_turn::{Memory, expect_each, or_refused};
+use crate::in_turn::{Memory, expect_each, or_refused, was_refused};
 use crate::lists::links_of_six;
+use crate::same::expect_same;
 use frames::{
     Answer, Frame, FrameFault, ask_parts, decode_body, decode_head, encode, encode_ask,
     encode_ask_over, encode_shard, fault_bytes, read_frame,
@@ -105,30 +106,35 @@ fn make(rt: &impl Abort, alloc: Global, memory: &Memory, call: Call) -> Result<(
             let mut source = bytes;
             expect_again(rt, memory, read_frame(memory, &mut source), bytes)
         }
-        Call::DecodeBody(bytes) => {
-            assert!(rt; bytes.len() > 5);
-            let (first, body) = bytes.split_at(5);
-            let mut head = [0; 5];
-            head.copy_from_slice(first);
-            let head = decode_head(&head).ok().expect(rt, "a head");
-            assert!(rt; body.len() == head.length as usize);
-            expect_again(rt, memory, decode_body(memory, head, body), bytes)
-        }
+        Call::DecodeBody(bytes) => expect_decoded(rt, memory, bytes),
         Call::EncodeShard => encode_triangle(rt, alloc, memory, EQUAL_WEIGHTS.arcs, &SHARD),
         Call::EncodeShard64 => encode_triangle(rt, alloc, memory, &WIDE_ARCS, &SHARD64),
-        Call::EncodeAsk => {
-            let labels = Labels::apart(alloc, 3).expect(rt, "memory");
-            expect_text(rt, encode_ask(memory, 1, 0, &labels), &ASK)
-        }
-        Call::EncodeAskOver => {
-            let labels = Labels::apart(alloc, 3).expect(rt, "memory");
-            let mut text = Vec::new(memory);
-            encode_ask_over(&mut text, 1, 0, &labels)?;
-            expect_text(rt, Ok(text), &ASK)
-        }
+        Call::EncodeAsk => encode_apart(rt, alloc, memory),
+        Call::EncodeAskOver => encode_apart_over(rt, alloc, memory),
         Call::SpellLabels => expect_spelled(rt, memory),
         Call::EncodeAnswer => encode_answer(rt, alloc, memory),
     }
+}
+
+// The head and the body of a frame, each by itself.
+fn expect_decoded(rt: &impl Abort, memory: &Memory, bytes: &[u8]) -> Result<(), AllocError> {
+    let (first, body) = bytes.split_first_chunk::<5>().expect(rt, "a head");
+    let head = decode_head(first).ok().expect(rt, "a head");
+    assert!(rt; body.len() == head.length as usize);
+    expect_again(rt, memory, decode_body(memory, head, body), bytes)
+}
+
+// An ask for each vertex by itself, in a text of its own, and over one that is empty.
+fn encode_apart(rt: &impl Abort, alloc: Global, memory: &Memory) -> Result<(), AllocError> {
+    let labels = Labels::apart(alloc, 3).expect(rt, "memory");
+    expect_text(rt, encode_ask(memory, 1, 0, &labels), &ASK)
+}
+
+fn encode_apart_over(rt: &impl Abort, alloc: Global, memory: &Memory) -> Result<(), AllocError> {
+    let labels = Labels::apart(alloc, 3).expect(rt, "memory");
+    let mut text = Vec::new(memory);
+    encode_ask_over(&mut text, 1, 0, &labels)?;
+    expect_text(rt, Ok(text), &ASK)
 }
 
 // An ask under these labels is this one.
@@ -156,7 +162,7 @@ fn expect_spelled(rt: &impl Abort, memory: &Memory) -> Result<(), AllocError> {
     labels.spell()?;
     let (head, bytes) = ask_parts(1, 0, &labels).expect(rt, "kept bytes");
     assert!(rt; (head.as_slice(), bytes) == ASK.split_at(17));
-    assert_eq!(rt; memory.asked(), asked);
+    expect_same(rt, memory.asked(), asked);
     expect_ask(rt, memory, &labels)
 }
 
@@ -198,7 +204,16 @@ fn frames_that_are_read_and_written(rt: HostRuntime) {
             |memory: &Memory| -> Result<(), AllocError> { make(&rt, rt.alloc(), memory, call) },
         );
     }
-    assert_eq!(rt; fault_bytes(1, 0, 1), NO_MEMORY);
+    expect_same(&rt, fault_bytes(1, 0, 1), NO_MEMORY);
+}
+
+// The bytes are refused so, or for want of memory.
+fn expect_refused(rt: &impl Abort, memory: Memory, bytes: &[u8], fault: FrameFault) {
+    let mut source = bytes;
+    let found = read_frame(&memory, &mut source).err();
+    let wants = was_refused(&memory) && found == Some(FrameFault::Memory);
+    assert!(rt; found == Some(fault) || wants);
+    expect_same(rt, memory.live(), 0);
 }
 
 // A frame that is no lawful one is refused for its own reason, or for want of memory.
@@ -221,12 +236,7 @@ fn frames_that_are_refused(rt: HostRuntime) {
     for (bytes, fault) in refused {
         for number in 1..8u64 {
             for refusals in [Refusals::only(number), Refusals::since(number)] {
-                let memory = Refusing::new(rt.alloc(), refusals);
-                let mut source = bytes;
-                let found = read_frame(&memory, &mut source).err();
-                let refused = memory.asked() >= number;
-                assert!(rt; found == Some(fault) || refused && found == Some(FrameFault::Memory));
-                assert_eq!(rt; memory.live(), 0);
+                expect_refused(&rt, Refusing::new(rt.alloc(), refusals), bytes, fault);
             }
         }
     }

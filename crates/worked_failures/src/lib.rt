@@ -5,6 +5,7 @@
 //!
 //! ```text
 //!   in_turn           the searches, and what a call may end with
+//!   same              what is found beside what is expected
 //!   lists             labels, cuts, forests
 //!   texts             files that are read whole, in pieces and from a source; sinks that are made
 //!   frame_texts       frames that are read and written
@@ -28,6 +29,8 @@ mod lists;
 mod rounds;
 #[cfg(test)]
 mod runs;
+#[cfg(test)]
+mod same;
 #[cfg(test)]
 mod sessions;
 #[cfg(test)]

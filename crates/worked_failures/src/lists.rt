@@ -1,5 +1,8 @@
 // Lists of link_key.
+ghost use Rattle.link_key.specs.Link.{EndsUpTo};
+
 use crate::in_turn::{Memory, expect_each, or_refused};
+use crate::same::expect_same;
 use link_key::{Cut, CutFault, Labels, Link, plain_forest};
 use std::alloc::{AllocError, Global};
 use std::process::Abort;
@@ -27,10 +30,10 @@ fn expect_sizes(
     sizes: &[usize],
 ) -> Result<(), AllocError> {
     let cut = or_refused(rt, cut, CutFault::Memory)?;
-    assert_eq!(rt; cut.len() as usize, sizes.len());
+    expect_same(rt, cut.len() as usize, sizes.len());
     for number in 0..cut.len() {
         assert!(rt; (number as usize) < sizes.len());
-        assert_eq!(rt; cut.shard(number).links.len(), sizes[number as usize]);
+        expect_same(rt, cut.shard(number).links.len(), sizes[number as usize]);
     }
     Ok(())
 }
@@ -41,20 +44,35 @@ fn make(rt: &impl Abort, alloc: Global, memory: &Memory, call: Call) -> Result<(
     let links = links.as_slice();
     assert!(rt; links.len() == 8 && have_labels(links, 6));
     match call {
-        Call::Apart => {
-            let labels = Labels::apart(memory, 3)?;
-            assert!(rt; labels.as_slice() == [1, 2, 3].as_slice());
-            Ok(())
-        }
+        Call::Apart => expect_apart(rt, memory),
         Call::Even => expect_sizes(rt, Cut::even(memory, links, 3), &[2, 3, 3]),
         Call::At => expect_sizes(rt, Cut::at(memory, links, &[2, 2, 8]), &[2, 0, 6, 0]),
         Call::PlainForest => {
             let forest = links_of_six(rt, alloc, SMALL_NET.forest);
-            let found = plain_forest(memory, 6, links)?;
-            assert!(rt; found.links() == forest.as_slice());
-            Ok(())
+            expect_forest(rt, memory, links, forest.as_slice())
         }
     }
+}
+
+// Labels of three vertices.
+fn expect_apart(rt: &impl Abort, memory: &Memory) -> Result<(), AllocError> {
+    let labels = Labels::apart(memory, 3)?;
+    assert!(rt; labels.as_slice() == [1, 2, 3].as_slice());
+    Ok(())
+}
+
+// The forest of these links of six vertices.
+fn expect_forest(
+    rt: &impl Abort,
+    memory: &Memory,
+    links: &[Link],
+    forest: &[Link],
+) -> Result<(), AllocError>
+    requires { EndsUpTo 6 links.now }
+{
+    let found = plain_forest(memory, 6, links)?;
+    assert!(rt; found.links() == forest);
+    Ok(())
 }
 
 #[test]

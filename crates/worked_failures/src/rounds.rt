@@ -7,6 +7,7 @@ ghost use Rattle.round_core.specs.Picks.{ArePicksOfHearings};
 
 use crate::in_turn::{Memory, expect_each, or_refused};
 use crate::lists::links_of_six;
+use crate::same::expect_same;
 use claim_board::{Board, BoardFault, Claim, Seat};
 use frames::Answer;
 use link_key::{Cut, CutFault, Labels, Link, Offers};
@@ -69,7 +70,7 @@ fn expect_claims(rt: &impl Abort, memory: &Memory) -> Result<(), AllocError> {
     let gave = give_back(&board, &mut seats, 0, 0);
     let last = claim(&board, &mut seats, 1, 0);
     assert!(rt; gave && (first, other, last) == (Claim::Won, Claim::Held(0), Claim::Won));
-    assert_eq!(rt; memory.asked(), asked);
+    expect_same(rt, memory.asked(), asked);
     let owners = or_refused(rt, board.close(seats), BoardFault::Memory)?;
     assert!(rt; (owners.of(0), owners.of(1)) == (Some(1), None));
     Ok(())
@@ -92,6 +93,21 @@ fn answer<'a>(
     })
 }
 
+// The answers of two shards that are scanned.
+fn answers<'a>(
+    rt: &impl Abort,
+    memory: &'a Memory,
+    cut: &Cut<&'a Memory>,
+    labels: &Labels<&'a Memory>,
+) -> Result<(Answer<&'a Memory>, Answer<&'a Memory>), AllocError> {
+    assert!(rt; cut.len() == 2);
+    let (first, second) = (cut.shard(0).links, cut.shard(1).links);
+    assert!(rt; first.len() <= 1024 && have_labels(first, labels.n()));
+    assert!(rt; second.len() <= 1024 && have_labels(second, labels.n()));
+    let first = answer(memory, 0, first, labels)?;
+    Ok((first, answer(memory, 1, second, labels)?))
+}
+
 // The picks of a round over two shards that are scanned.
 fn picks_of_scans<'a>(
     rt: &impl Abort,
@@ -102,18 +118,12 @@ fn picks_of_scans<'a>(
     ensures heard { IfOk result (ArePicksOfHearings labels.now) }
     ensures each_vertex { IfOk result (λ picks. length picks ≡ length labels.now) }
 {
+    let (first, second) = answers(rt, memory, cut, labels)?;
     assert!(rt; all_have_labels(cut, labels.n()));
     let mut book = RoundBook::open(memory, 1, cut, labels)?;
-    assert!(rt; book.len() == 2 && cut.len() == 2);
-    let (first, second) = (cut.shard(0).links, cut.shard(1).links);
-    assert!(rt; first.len() <= 1024 && have_labels(first, labels.n()));
-    assert!(rt; second.len() <= 1024 && have_labels(second, labels.n()));
-    let answers = (
-        answer(memory, 0, first, labels)?,
-        answer(memory, 1, second, labels)?,
-    );
+    assert!(rt; book.len() == 2);
     let asked = memory.asked();
-    assert!(rt; book.take(0, answers.0).is_ok() && book.take(1, answers.1).is_ok());
+    assert!(rt; book.take(0, first).is_ok() && book.take(1, second).is_ok());
     assert!(rt; memory.asked() == asked && book.missing() == 0);
     Ok(book.close())
 }
@@ -128,15 +138,20 @@ fn expect_spelled<'a>(rt: &impl Abort, solver: &mut Solver<&'a Memory>) -> Resul
     }
     let labels = solver.labels();
     let bytes = labels.spelled().expect(rt, "kept bytes");
-    assert!(rt; solver.round() == round && bytes.len() == labels.as_slice().len().wrapping_mul(4));
-    assert!(rt;
-        labels
-            .as_slice()
-            .iter()
-            .zip(bytes.chunks(4))
-            .all(|(label, bytes)| label.to_be_bytes().as_slice() == bytes)
-    );
+    assert!(rt; solver.round() == round && spell(labels.as_slice(), bytes));
     Ok(())
+}
+
+// Whether these are the labels' bytes: four for each, the highest first.
+fn spell(labels: &[u32], bytes: &[u8]) -> bool {
+    let mut rest = bytes;
+    for label in labels {
+        match rest.split_first_chunk::<4>() {
+            Some((first, behind)) if *first == label.to_be_bytes() => rest = behind,
+            _ => return false,
+        }
+    }
+    rest.is_empty()
 }
 
 // The solver's step by the picks of the cut's scans. Where it wants memory, it is as before; and where one allocation
@@ -149,21 +164,34 @@ fn expect_step<'a>(
     expected: Turn,
     behind: &[u32],
 ) -> Result<(), AllocError> {
-    let picks = picks_of_scans(rt, memory, cut, solver.labels())?;
-    let round = solver.round();
     let before = solver.labels().as_slice().to_vec(memory)?;
     expect_spelled(rt, solver)?;
     assert!(rt; solver.labels().as_slice() == before.as_slice());
-    let turn = match solver.step(&picks) {
-        Ok(turn) => turn,
-        Err(fault) => {
-            assert!(rt; fault == SolveFault::Memory && solver.round() == round);
-            assert!(rt; solver.labels().as_slice() == before.as_slice());
-            or_refused(rt, solver.step(&picks), SolveFault::Memory)?
-        }
-    };
+    let picks = picks_of_scans(rt, memory, cut, solver.labels())?;
+    let turn = step(rt, solver, &picks, before.as_slice())?;
     assert!(rt; turn == expected && solver.labels().as_slice() == behind);
     Ok(())
+}
+
+// What a step by these picks does, where the labels are these; it is tried again where it wants memory, and left the
+// solver as it was.
+fn step<'a>(
+    rt: &impl Abort,
+    solver: &mut Solver<&'a Memory>,
+    picks: &Picks<&'a Memory>,
+    before: &[u32],
+) -> Result<Turn, AllocError>
+    requires heard { ArePicksOfHearings solver.old.labels picks.now }
+{
+    let round = solver.round();
+    match solver.step(picks) {
+        Ok(turn) => Ok(turn),
+        Err(fault) => {
+            assert!(rt; fault == SolveFault::Memory && solver.round() == round);
+            assert!(rt; solver.labels().as_slice() == before);
+            or_refused(rt, solver.step(picks), SolveFault::Memory)
+        }
+    }
 }
 
 // A net in two shards: two merging rounds, and the forest. The small net's components are the same with either weights.
@@ -174,28 +202,49 @@ fn expect_solved(
     graph: Worked,
 ) -> Result<(), AllocError> {
     let links = links_of_six(rt, alloc, graph.arcs);
-    let links = links.as_slice();
+    let forest = links_of_six(rt, alloc, graph.forest);
     assert!(rt; links.len() == 8);
-    let cut = or_refused(rt, Cut::even(memory, links, 2), CutFault::Memory)?;
+    let cut = or_refused(rt, Cut::even(memory, links.as_slice(), 2), CutFault::Memory)?;
+    expect_rounds(rt, memory, &cut, forest.as_slice())
+}
+
+// What each step does, and the labels behind it.
+const STEPS: [(Turn, [u32; 6]); 3] = [
+    (Turn::Merged(4), [1, 2, 1, 1, 2, 1]),
+    (Turn::Merged(1), [1; 6]),
+    (Turn::Done, [1; 6]),
+];
+
+// These steps over the cut, and its forest at the end.
+fn expect_rounds<'a>(
+    rt: &impl Abort,
+    memory: &'a Memory,
+    cut: &Cut<&'a Memory>,
+    forest: &[Link],
+) -> Result<(), AllocError> {
     let mut solver = Solver::new(memory, 6)?;
-    let steps: [(Turn, [u32; 6]); 3] = [
-        (Turn::Merged(4), [1, 2, 1, 1, 2, 1]),
-        (Turn::Merged(1), [1; 6]),
-        (Turn::Done, [1; 6]),
-    ];
-    for (turn, behind) in steps {
-        expect_step(rt, memory, &cut, &mut solver, turn, &behind)?;
+    for (turn, behind) in STEPS {
+        expect_step(rt, memory, cut, &mut solver, turn, &behind)?;
     }
-    assert!(rt; all_have_labels(&cut, solver.labels().n()));
-    let found = match solver.finish(&cut) {
+    expect_finished(rt, &solver, cut, forest)
+}
+
+// The solver's end is this forest; it is tried again where it wants memory.
+fn expect_finished<'a>(
+    rt: &impl Abort,
+    solver: &Solver<&'a Memory>,
+    cut: &Cut<&'a Memory>,
+    forest: &[Link],
+) -> Result<(), AllocError> {
+    assert!(rt; all_have_labels(cut, solver.labels().n()));
+    let found = match solver.finish(cut) {
         Ok(found) => found,
         Err(fault) => {
             assert!(rt; fault == SolveFault::Memory);
-            or_refused(rt, solver.finish(&cut), SolveFault::Memory)?
+            or_refused(rt, solver.finish(cut), SolveFault::Memory)?
         }
     };
-    let forest = links_of_six(rt, alloc, graph.forest);
-    assert!(rt; found.links() == forest.as_slice());
+    assert!(rt; found.links() == forest);
     Ok(())
 }
 
@@ -210,10 +259,20 @@ fn expect_relabelled(
     let links = links.as_slice();
     assert!(rt; links.len() == 8);
     let cut = or_refused(rt, Cut::even(memory, links, 2), CutFault::Memory)?;
+    expect_hooked(rt, memory, &cut, &[1, 2, 1, 1, 2, 1])
+}
+
+// The labels behind the first round over the cut.
+fn expect_hooked<'a>(
+    rt: &impl Abort,
+    memory: &'a Memory,
+    cut: &Cut<&'a Memory>,
+    behind: &[u32],
+) -> Result<(), AllocError> {
     let labels = Labels::apart(memory, 6)?;
-    let picks = picks_of_scans(rt, memory, &cut, &labels)?;
+    let picks = picks_of_scans(rt, memory, cut, &labels)?;
     let made = hook_relabel(memory, &labels, &picks)?;
-    assert!(rt; made.as_slice() == [1, 2, 1, 1, 2, 1].as_slice());
+    assert!(rt; made.as_slice() == behind);
     Ok(())
 }
 
@@ -278,7 +337,7 @@ fn expect_lies(rt: &impl Abort, alloc: Global, memory: &Memory) -> Result<(), Al
     assert!(rt; all_have_labels(&cut, solver.labels().n()));
     let link = Link::of_arc(2, 3, 5).expect(rt, "a link");
     assert!(rt; solver.finish(&cut).err() == Some(SolveFault::Missed { link }));
-    assert_eq!(rt; memory.asked(), asked);
+    expect_same(rt, memory.asked(), asked);
     Ok(())
 }
 

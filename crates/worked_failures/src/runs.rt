@@ -1,16 +1,18 @@
 // Whole runs over the small net, also with weights past 32 bits. (Rounds over lanes come with the run over workers: lanes
 // in memory that is borrowed are refused by the borrow checker today.)
-ghost use Rattle.std.specs.Prelude.{◌<◌, IfOk};
+ghost use Rattle.std.specs.Prelude.{◌<◌, ◌≤◌, length, All, IfOk};
 ghost use Rattle.ports.specs.EngineLines.{line_of};
 ghost use Rattle.ports.specs.Lines.{HasRoom};
 
 use crate::in_turn::{Memory, expect_any, was_refused};
+use crate::same::expect_same;
 use crate::wires::FIRST_HELLO;
 use byte_streams::FusedSink;
-use forest_run::{Cutting, RunFault, run_lines, run_plain};
+use forest_run::{Cutting, Report, RunFault, run_lines, run_plain};
 use gr_text::ReadFault;
+use limits::MAX_WORKERS;
 use link_key::CutFault;
-use ports::{EngineLine, ScriptLine};
+use ports::{EngineLine, Line, ScriptLine};
 use std::alloc::{AllocError, Allocator, Global};
 use std::process::Abort;
 use std::sync::Wait;
@@ -24,6 +26,27 @@ fn wants_memory(fault: RunFault) -> bool {
         || fault == RunFault::Cut(CutFault::Memory)
 }
 
+// A run that ended well wrote the forest's text and tells what it weighs; one that didn't wanted memory, some of which was
+// refused, and wrote nothing.
+fn expect_ended(
+    rt: &impl Abort,
+    memory: &Memory,
+    graph: &Worked,
+    ended: Result<Report, RunFault>,
+    held: &[u8],
+) -> Result<Report, AllocError> {
+    match ended {
+        Ok(report) => {
+            assert!(rt; held == graph.text && report.total == graph.total);
+            Ok(report)
+        }
+        Err(fault) => {
+            assert!(rt; was_refused(memory) && wants_memory(fault) && held.is_empty());
+            Err(AllocError)
+        }
+    }
+}
+
 // By one thread.
 fn expect_plain(
     rt: &impl Abort,
@@ -33,16 +56,9 @@ fn expect_plain(
 ) -> Result<(), AllocError> {
     let mut source = graph.file;
     let mut sink = FusedSink::new(alloc, 100, 7)?;
-    match run_plain(memory, &mut source, &mut sink) {
-        Ok(report) => {
-            assert!(rt; sink.held() == graph.text && report.total == graph.total);
-            Ok(())
-        }
-        Err(fault) => {
-            assert!(rt; was_refused(memory) && wants_memory(fault) && sink.held().is_empty());
-            Err(AllocError)
-        }
-    }
+    let ended = run_plain(memory, &mut source, &mut sink);
+    expect_ended(rt, memory, &graph, ended, sink.held())?;
+    Ok(())
 }
 
 // A new line to the worker of this number, in memory.
@@ -56,6 +72,29 @@ pub(crate) fn worker<A: Allocator + Copy>(
     EngineLine::new(alloc, number)
 }
 
+// A run over these lines, in so many shards: its report, and how many lines it gave back.
+fn run_over<'a, L: Line + Send + Drop, R: Threads + Wait + Sync + Abort>(
+    rt: &R,
+    alloc: Global,
+    memory: &'a Memory,
+    graph: &Worked,
+    shards: u32,
+    lines: Vec<L, &'a Memory>,
+) -> Result<(Report, usize), AllocError>
+    requires few { length lines.items ≤ MAX_WORKERS }
+    requires room { All (λ line. HasRoom (L.state line)) lines.items }
+{
+    let mut source = graph.file;
+    let mut sink = FusedSink::new(alloc, 100, 7)?;
+    let cutting = Cutting::Even(shards);
+    let (ended, count) = match run_lines(rt, memory, &mut source, cutting, lines, &mut sink) {
+        Ok((report, lines)) => (Ok(report), lines.len()),
+        Err(fault) => (Err(fault), 0),
+    };
+    let report = expect_ended(rt, memory, graph, ended, sink.held())?;
+    Ok((report, count))
+}
+
 // Over two workers, each in memory. Where one of them or its wire wants memory it is given up, and the run goes on.
 fn expect_over_workers<R: Threads + Wait + Sync + Abort>(
     rt: &R,
@@ -66,20 +105,10 @@ fn expect_over_workers<R: Threads + Wait + Sync + Abort>(
     let Ok(lines) = Vec::from_array(memory, [worker(memory, 0)?, worker(memory, 1)?]) else {
         return Err(AllocError);
     };
-    let mut source = graph.file;
-    let mut sink = FusedSink::new(alloc, 100, 7)?;
-    match run_lines(rt, memory, &mut source, Cutting::Even(2), lines, &mut sink) {
-        Ok((report, lines)) => {
-            assert!(rt; sink.held() == graph.text && lines.len() == 2);
-            assert!(rt; (report.rounds, report.shards, report.total) == (2, 2, graph.total));
-            assert!(rt; report.closed == 0 || was_refused(memory));
-            Ok(())
-        }
-        Err(fault) => {
-            assert!(rt; was_refused(memory) && wants_memory(fault) && sink.held().is_empty());
-            Err(AllocError)
-        }
-    }
+    let (report, count) = run_over(rt, alloc, memory, &graph, 2, lines)?;
+    expect_same(rt, (count, report.rounds, report.shards), (2, 2, 2));
+    assert!(rt; report.closed == 0 || was_refused(memory));
+    Ok(())
 }
 
 // Over a worker of the first version, which is too old for the weights, and answers nothing.
@@ -90,20 +119,14 @@ fn expect_over_an_old_worker<R: Threads + Wait + Sync + Abort>(
 ) -> Result<(), AllocError> {
     let mut lines = Vec::new(memory);
     lines.push(ScriptLine::new(FIRST_HELLO.to_vec(memory)?))?;
-    let mut source = WIDE_WEIGHTS.file;
-    let mut sink = FusedSink::new(alloc, 100, 7)?;
-    match run_lines(rt, memory, &mut source, Cutting::Even(1), lines, &mut sink) {
-        Ok((report, _)) => {
-            assert!(rt; sink.held() == WIDE_WEIGHTS.text && report.total == WIDE_WEIGHTS.total);
-            assert!(rt; (report.rounds, report.asked, report.answered) == (2, 1, 0));
-            assert!(rt; (report.alone, report.closed) == (3, 1));
-            Ok(())
-        }
-        Err(fault) => {
-            assert!(rt; was_refused(memory) && wants_memory(fault) && sink.held().is_empty());
-            Err(AllocError)
-        }
-    }
+    let (report, _) = run_over(rt, alloc, memory, &WIDE_WEIGHTS, 1, lines)?;
+    expect_same(
+        rt,
+        (report.rounds, report.asked, report.answered),
+        (2, 1, 0),
+    );
+    expect_same(rt, (report.alone, report.closed), (3, 1));
+    Ok(())
 }
 
 #[derive(Clone, Copy)]

@@ -3,6 +3,7 @@
 ghost use Rattle.std.specs.Prelude.{◌≡◌, ◌<◌, ◌≤◌, ◌-◌, ◌^◌};
 
 use crate::frame_texts::{ANSWER, ASK, HELLO, SHARD, SHARD64};
+use crate::same::expect_same_at;
 use byte_streams::{FusedSink, FusedSource};
 use frames::FrameFault;
 use std::alloc::{AllocError, Global};
@@ -41,24 +42,38 @@ fn a_source_that_fails_at_each_byte(rt: HostRuntime) -> Result<(), Fail> {
     for (shard, most, piece) in SESSIONS {
         assert!(rt; 1 <= piece);
         for passes in 0..92usize {
-            let mut source = FusedSource::new(joined(alloc, shard, &ASK)?, passes, piece);
-            let mut sink = Vec::new(alloc);
-            let end = serve(&rt, alloc, 0, &mut source, &mut sink);
+            let source = FusedSource::new(joined(alloc, shard, &ASK)?, passes, piece);
             let expected = if passes > most {
                 SERVED
             } else {
                 Err(ServeFault::Read(FrameFault::Device))
             };
-            assert_eq!(rt; end, expected, "after {passes} bytes");
             let written = if passes >= most {
                 both.as_slice()
             } else {
                 &HELLO
             };
-            assert!(rt; sink.as_slice() == written);
+            expect_read(&rt, alloc, source, passes, expected, written);
         }
     }
     Ok(())
+}
+
+// A session that reads from this source, which fails once it gave so many bytes, ends so and wrote this.
+fn expect_read(
+    rt: &(impl Abort + Threads + Sync),
+    alloc: Global,
+    mut source: FusedSource,
+    passes: usize,
+    expected: Result<Served, ServeFault>,
+    written: &[u8],
+)
+    requires { (source.failures < 2 ^ 64 - 1) × (source.ends < 2 ^ 64 - 1) }
+{
+    let mut sink = Vec::new(alloc);
+    let end = serve(rt, alloc, 0, &mut source, &mut sink);
+    expect_same_at(rt, end, expected, passes);
+    assert!(rt; sink.as_slice() == written);
 }
 
 // A session over this shard into this sink, which has room for so many bytes.
@@ -76,7 +91,7 @@ fn expect_written(
     let both = joined(alloc, &HELLO, &ANSWER)?;
     let mut source = heard.as_slice();
     let end = serve(rt, alloc, 0, &mut source, &mut sink);
-    assert_eq!(rt; end, expected, "room for {passes} bytes");
+    expect_same_at(rt, end, expected, passes);
     assert!(rt; sink.held() == &both[..passes.min(both.len())]);
     Ok(())
 }

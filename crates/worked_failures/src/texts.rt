@@ -3,6 +3,7 @@ ghost use Rattle.std.specs.Prelude.{◌<◌, ◌-◌, ◌^◌, IfOk};
 
 use crate::in_turn::{Memory, expect_each, or_refused};
 use crate::lists::links_of_six;
+use crate::same::expect_same;
 use gr_text::{
     FusedSink, GrFault, GrKind, GrReader, Graph, MAX_BYTES, ReadFault, WriteFault, parse,
     read_graph, read_graph_upto, write_forest,
@@ -92,25 +93,26 @@ fn files_and_sinks(rt: HostRuntime) {
 fn faults_and_files_without_arcs(rt: HostRuntime) {
     let (text, fault) = NO_PROBLEM_YET;
     let memory = Refusing::new(rt.alloc(), Refusals::since(1));
-    assert_eq!(rt; parse(&memory, text).err(), Some(fault));
+    expect_same(&rt, parse(&memory, text).err(), Some(fault));
     let mut source = text;
-    assert_eq!(rt; read_graph(&memory, &mut source).err(), Some(fault));
+    expect_same(&rt, read_graph(&memory, &mut source).err(), Some(fault));
     let text = b"p sp 0 0\nc".as_slice();
     for (limit, expected) in [(9, Some(ReadFault::TooLong)), (10, None)] {
         let mut source = text;
-        assert_eq!(rt;
+        expect_same(
+            &rt,
             read_graph_upto(&memory, &mut source, limit).err(),
-            expected
+            expected,
         );
     }
-    assert_eq!(rt; memory.asked(), 0);
+    expect_same(&rt, memory.asked(), 0);
 }
 
 // After a refusal the reader answers it for good, whatever it is fed.
 fn expect_told_again(rt: &impl Abort, mut reader: GrReader<&Memory>) {
-    assert_eq!(rt; reader.feed(b"a 1 2 3\n"), Err(ReadFault::Memory));
-    assert_eq!(rt; reader.feed(b""), Err(ReadFault::Memory));
-    assert_eq!(rt; reader.finish().err(), Some(ReadFault::Memory));
+    expect_same(rt, reader.feed(b"a 1 2 3\n"), Err(ReadFault::Memory));
+    expect_same(rt, reader.feed(b""), Err(ReadFault::Memory));
+    expect_same(rt, reader.finish().err(), Some(ReadFault::Memory));
 }
 
 // The small net, spelled otherwise, a byte at a time.
@@ -121,7 +123,7 @@ fn read_bytes<'a>(
     let mut reader = GrReader::new(memory, MAX_BYTES);
     for i in 0..SPELLED_ELSE.len() {
         if let Err(fault) = reader.feed(&SPELLED_ELSE[i..i + 1]) {
-            assert_eq!(rt; fault, ReadFault::Memory);
+            expect_same(rt, fault, ReadFault::Memory);
             expect_told_again(rt, reader);
             return Err(AllocError);
         }
@@ -142,9 +144,10 @@ fn expect_ten_bytes(
     let links = links_of_six(rt, alloc, SMALL_NET.forest);
     let forest = Forest::of_list(links).expect(rt, "ascending");
     let asked = memory.asked();
-    assert_eq!(rt;
+    expect_same(
+        rt,
         write_forest(&mut sink, 6, &forest),
-        Err(WriteFault { written: 10 })
+        Err(WriteFault { written: 10 }),
     );
     assert!(rt; sink.held() == b"p sp 6 5\na".as_slice() && memory.asked() == asked);
     Ok(())

@@ -95,6 +95,9 @@ fn a_worker_in_memory(rt: HostRuntime) {
     expect_each(
         &rt,
         rt.alloc(),
-        |memory: &Memory| -> Result<(), AllocError> { EngineLine::new(memory, 0).map(|_| ()) },
+        |memory: &Memory| -> Result<(), AllocError> {
+            let _line = EngineLine::new(memory, 0)?;
+            Ok(())
+        },
     );
 }

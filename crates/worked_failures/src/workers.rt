@@ -2,6 +2,7 @@
 use crate::frame_texts::{ANSWER, ASK, HELLO, NO_MEMORY, SHARD, SHARD64, WIDE_ARCS};
 use crate::in_turn::{Memory, expect_any, expect_each, or_refused, was_refused};
 use crate::lists::links_of_six;
+use crate::same::expect_same;
 use crate::sessions::joined;
 use frames::{FrameFault, encode, read_frame};
 use link_key::Labels;
@@ -157,7 +158,7 @@ fn expect_session(
             }),
             Err(fault) => Err(fault),
         };
-        assert_eq!(rt; end, in_its_place);
+        expect_same(rt, end, in_its_place);
         return Ok(());
     }
     assert!(rt; end == Err(ServeFault::Memory) || end == Err(ServeFault::Read(FrameFault::Memory)));
