@@ -26,8 +26,8 @@ WORKERS, MOST_SECONDS = 2, 60
 HERE = os.path.dirname(os.path.abspath(__file__))
 
 
-def words_of(shards):
-    return ["--plain"] if shards == PLAIN else ["--workers", str(WORKERS), "--shards", str(shards)]
+def words_of(shards, workers=WORKERS):
+    return ["--plain"] if shards == PLAIN else ["--workers", str(workers), "--shards", str(shards)]
 
 
 def counts_of(text):
