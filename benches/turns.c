@@ -9,6 +9,7 @@
  * A coordinator's socket is one that connected. It takes no memory itself. */
 #define _GNU_SOURCE
 #include <dlfcn.h>
+#include <errno.h>
 #include <fcntl.h>
 #include <pthread.h>
 #include <stdint.h>
@@ -55,7 +56,8 @@ static struct turn *new_turn(struct wire *wire, int hears) {
 
 int connect(int fd, const struct sockaddr *name, socklen_t size) {
     int answer = REAL(connect)(fd, name, size);
-    if (!answer && fd < MOST) {
+    /* one that doesn't wait is waited for elsewhere */
+    if ((!answer || errno == EINPROGRESS) && fd < MOST) {
         wires[fd] = (struct wire){.connected = 1, .lane = lanes++};
         new_turn(&wires[fd], 1);
     }
