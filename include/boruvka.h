@@ -48,9 +48,10 @@ struct boruvka_fault {
     uint64_t line;
 };
 
-/* Puts the minimum spanning forest of these m links between the vertices 1 to n first among them, in order, lower ends
- * first, and answers how many links it has; those behind stay as they were. The links may come in any order, with their
- * ends in either order, as loops and more than once. A refusal leaves all as they were. */
+/* Writes the minimum spanning forest of these m links between the vertices 1 to n over the first of them, in order, each
+ * with its lower end first, and answers how many links it has. What stood there is lost; the links behind stay as they
+ * were. They may come in any order, with their ends in either order, as loops and more than once. Too many vertices are
+ * refused first, then too many links, then an end; a refusal leaves all links as they were. */
 int64_t boruvka_forest(uint32_t n, struct boruvka_link *links, size_t m);
 
 /* Puts the text of the minimum spanning forest of a .gr text into `into`, and answers how many bytes it has. Where that
@@ -58,7 +59,7 @@ int64_t boruvka_forest(uint32_t n, struct boruvka_link *links, size_t m);
 int64_t boruvka_forest_text(const uint8_t *text, size_t length, uint8_t *into, size_t room, struct boruvka_fault *fault);
 
 /* Puts the text of a refusal, and a 0 behind it, into `into`, as far as there is room, and answers its length without
- * the 0: at most 19 today. */
+ * the 0: at most 19 today. Of any other number the text is `no refusal`. */
 size_t boruvka_fault_text(int64_t kind, char *into, size_t room);
 
 uint32_t boruvka_version(void);
