@@ -390,7 +390,8 @@ module _ {L : Type 0} (state : L → LineState) (round shard : ℕ) (labels : Li
         let (hs, one, texts) = prefix_of_frames (v ∷ []) (HelloFrame served before.worker ∷ replies) rest (lawful, tt) all_lawful (ap (λ (t : List ℕ). t ++ rest) (append-nil (text_of v)) ∙ same) in
         other served cc
     blameless (Gave code) ends cause =
-        elim (reply_of (FaultFrame cause.0 cause.1 code) cause.2 cause.3) [
+        let (bytes, (r, s, lawful, is), brought) = cause in
+        elim (reply_of (FaultFrame r s code) lawful (subst (λ (t : List ℕ). Brings state round shard labels t old new) is brought)) [
           | inl reply ↦ absurd (reply.1 ends)
-          | inr want ↦ code_of cause.0 cause.1 round shard code 1 want
+          | inr want ↦ code_of r s round shard code 1 want
         ]

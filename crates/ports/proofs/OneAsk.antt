@@ -4,7 +4,7 @@ use Rattle.std.specs.Prelude.{Result, Ok, Err, IfOk, IfErr, Option, Some, ◌≤
 use Rattle.link_key.specs.declared.links.Link.{Link}
 use Rattle.link_key.specs.Cut.{links_at}
 use Rattle.frames.specs.AnswerValue.{AnswerValue}
-use Rattle.frames.specs.FrameValue.{FrameValue, AskFrame, AnswerFrame, FaultFrame}
+use Rattle.frames.specs.FrameValue.{FrameValue, AskFrame, AnswerFrame}
 use Rattle.frames.specs.FrameText.{version_of, text_of}
 use Rattle.frames.specs.Lawful.{IsVersion, IsAnswer}
 use Rattle.frames.specs.FrameStream.{texts_of}
@@ -105,7 +105,7 @@ module _ {L : Type 0} (state : L → LineState) (round shard : ℕ) (labels : Li
     | inr ended ↦ inr (inr (ended.0, ended.1, brings 1 ended.0 ended.2))
   ]
   cause_of (Err Garbled) fault = inr (fault.0, fault.1, brings 0 fault.0 fault.2)
-  cause_of (Err (Gave code)) fault = (fault.0, fault.1, fault.2, brings 0 (text_of (FaultFrame fault.0 fault.1 code)) fault.3)
+  cause_of (Err (Gave code)) fault = (fault.0, fault.1, brings 0 fault.0 fault.2)
   cause_of (Err Memory) fault = InReply fault.0 fault.1 (brings 0 fault.0 fault.2)
   cause_of (Err WrongHello) fault = absurd fault
   cause_of (Err TooOld) fault = absurd fault

@@ -97,7 +97,7 @@ module _ {L : Type 0} (state : L → LineState) (round shard : ℕ) (labels : Li
     | inr reply ↦ brought_counted reply.0 reply.2
   ]
   cause_counted WrongHello cause = (let went = cause.1.3 in (went.failures, went.ends))
-  cause_counted (Gave code) cause = brought_counted _ cause.3
+  cause_counted (Gave code) cause = brought_counted cause.0 cause.2
   cause_counted Memory cause = wanting_counted cause
   cause_counted TooOld cause = (cause.sends.went.failures, cause.sends.went.ends)
   cause_counted Closed cause = cause

@@ -15,7 +15,7 @@ use Rattle.frames.specs.declared.fault.FrameFault.TheVariants.{Memory as NoMemor
 use Rattle.ports.specs.declared.fault.PortFault.{PortFault}
 use Rattle.ports.specs.declared.fault.PortFault.TheVariants.{Down, Garbled, WrongHello, Gave, Memory, TooOld, Closed}
 use Rattle.ports.specs.Lines.{LineState, Transfers, Counted}
-use Rattle.ports.specs.Talking.{Talk, TalkState, HelloCame, HasFrames, told_talk, hello_due, shard_due, Brings, EndsAfterAsk}
+use Rattle.ports.specs.Talking.{Talk, TalkState, HelloCame, HasFrames, told_talk, hello_due, shard_put, Brings, EndsAfterAsk}
 
 -- a fault that tells of bytes which no lawful frame begins with
 abbrev pub IsGarble : FrameFault → Type 0
@@ -29,6 +29,10 @@ IsGarble _ = ⊥
 abbrev pub IsBad : List ℕ → Type 0
 IsBad bytes = (fault : FrameFault) × IsGarble fault × StreamRefused fault bytes
 
+-- no hello of this worker
+abbrev pub IsNoHelloOf : ℕ → FrameValue → Type 0
+IsNoHelloOf worker v = (version : ℕ) → v ≢ HelloFrame version worker
+
 -- neither an answer nor a fault
 abbrev pub IsNoReply : FrameValue → Type 0
 IsNoReply (AnswerFrame answer) = ⊥
@@ -38,6 +42,10 @@ IsNoReply v = ⊤
 -- bytes in place of a reply: bad ones, or a lawful frame that is none
 abbrev pub IsGarbled : List ℕ → Type 0
 IsGarbled bytes = IsBad bytes ⊎ ((v : FrameValue) × IsLawful v × IsNoReply v × (bytes ≡ text_of v))
+
+-- the text of a worker's fault of this code
+abbrev pub IsFaultText : ℕ → List ℕ → Type 0
+IsFaultText code bytes = (round shard : ℕ) × IsLawful (FaultFrame round shard code) × (bytes ≡ text_of (FaultFrame round shard code))
 
 -- bytes in place of a frame, where the line ends: none, or some of a frame's
 abbrev pub IsCutOff : List ℕ → Type 0
@@ -65,7 +73,7 @@ ReceivesUnkept before after = (bytes : List ℕ) × StreamRefused NoMemory bytes
 abbrev pub GreetingFault : PortFault → ℕ → LineState → LineState → Type 0
 GreetingFault Down worker before after = GoesDown before after
 GreetingFault Garbled worker before after = (bytes : List ℕ) × IsBad bytes × Receives bytes before after
-GreetingFault WrongHello worker before after = (v : FrameValue) × IsLawful v × ((version : ℕ) → v ≢ HelloFrame version worker) × Receives (text_of v) before after
+GreetingFault WrongHello worker before after = (v : FrameValue) × IsLawful v × IsNoHelloOf worker v × Receives (text_of v) before after
 GreetingFault Memory worker before after = ReceivesUnkept before after
 GreetingFault _ worker before after = ⊥
 
@@ -84,15 +92,15 @@ LacksFrame _ version sent links = ⊥
 abbrev pub AnswerFault : PortFault → LineState → LineState → Type 0
 AnswerFault Down before after = GoesDown before after
 AnswerFault Garbled before after = (bytes : List ℕ) × IsGarbled bytes × Receives bytes before after
-AnswerFault (Gave code) before after = (round shard : ℕ) × IsLawful (FaultFrame round shard code) × Receives (text_of (FaultFrame round shard code)) before after
+AnswerFault (Gave code) before after = (bytes : List ℕ) × IsFaultText code bytes × Receives bytes before after
 AnswerFault Memory before after = ReceivesUnkept before after
 AnswerFault _ before after = ⊥
 
 -- ---- of the whole ask
 
 -- before the hello, the first bytes are at fault
-abbrev pub IsNoHello : PortFault → Talk → Talk → Type 0
-IsNoHello fault before after = (before.version ≡ None) × GreetingFault fault before.worker before.line after.line
+abbrev pub MissesHello : PortFault → Talk → Talk → Type 0
+MissesHello fault before after = (before.version ≡ None) × GreetingFault fault before.worker before.line after.line
 
 -- the hello of this version came by now, these frames were put, and nothing else went out or came
 pub record SendsTo (version : ℕ) (frames : List FrameValue) (before after : Talk) : Type 0 where
@@ -106,10 +114,13 @@ Sends frames before after = (version : ℕ) × SendsTo version frames before aft
 
 -- where memory was wanting in an ask: for the hello that came, for the frame of a shard that wasn't sent before, for the frame of the ask, or for the reply that came. In each case nothing failed and no end was found
 pub data IsWanting {L : Type 0} (state : L → LineState) (round shard : ℕ) (labels : List ℕ) (before after : TalkState L) : Type 0 where
-  InHello : IsNoHello Memory (told_talk state before) (told_talk state after) → IsWanting state round shard labels before after
-  InShard : has_shard before.sent shard ≡ false → Sends [] (told_talk state before) (told_talk state after) → IsWanting state round shard labels before after
-  InAsk : Sends (shard_due (has_shard before.sent shard) shard (links_at before.cut shard)) (told_talk state before) (told_talk state after) → IsWanting state round shard labels before after
-  InReply : (bytes : List ℕ) → StreamRefused NoMemory bytes → Brings state round shard labels bytes before after → IsWanting state round shard labels before after
+  InHello : MissesHello Memory (told_talk state before) (told_talk state after) → IsWanting state round shard labels before after
+  InShard : has_shard before.sent shard ≡ false → Sends [] (told_talk state before) (told_talk state after)
+      → IsWanting state round shard labels before after
+  InAsk : Sends (shard_put before.sent shard (links_at before.cut shard)) (told_talk state before) (told_talk state after)
+      → IsWanting state round shard labels before after
+  InReply : (bytes : List ℕ) → StreamRefused NoMemory bytes → Brings state round shard labels bytes before after
+      → IsWanting state round shard labels before after
 
 -- the worker told the first version by now, the shard wasn't sent before, and no frame of that version has its links; nothing was put
 pub record IsTooOld (shard : ℕ) (before after : Talk) : Type 0 where
@@ -121,13 +132,14 @@ pub record IsTooOld (shard : ℕ) (before after : Talk) : Type 0 where
 abbrev pub Cause : {L : Type 0} → (L → LineState) → PortFault → ℕ → ℕ → List ℕ → TalkState L → TalkState L → Type 0
 Cause state Down round shard labels before after =
     LineFailed (state before.line) (state after.line)
-    ⊎ (IsNoHello Down (told_talk state before) (told_talk state after) ⊎ ((bytes : List ℕ) × IsCutOff bytes × EndsAfterAsk state round shard labels bytes before after))
+    ⊎ (MissesHello Down (told_talk state before) (told_talk state after)
+    ⊎ ((bytes : List ℕ) × IsCutOff bytes × EndsAfterAsk state round shard labels bytes before after))
 Cause state Garbled round shard labels before after =
-    IsNoHello Garbled (told_talk state before) (told_talk state after)
+    MissesHello Garbled (told_talk state before) (told_talk state after)
     ⊎ ((bytes : List ℕ) × IsGarbled bytes × Brings state round shard labels bytes before after)
-Cause state WrongHello round shard labels before after = IsNoHello WrongHello (told_talk state before) (told_talk state after)
+Cause state WrongHello round shard labels before after = MissesHello WrongHello (told_talk state before) (told_talk state after)
 Cause state (Gave code) round shard labels before after =
-    (r s : ℕ) × IsLawful (FaultFrame r s code) × Brings state round shard labels (text_of (FaultFrame r s code)) before after
+    (bytes : List ℕ) × IsFaultText code bytes × Brings state round shard labels bytes before after
 Cause state Memory round shard labels before after = IsWanting state round shard labels before after
 Cause state TooOld round shard labels before after = IsTooOld shard (told_talk state before) (told_talk state after)
 Cause state Closed round shard labels before after = ⊥

@@ -18,10 +18,13 @@ pub record SessionState : Type 0 where
 abbrev pub rest_of : SessionState → List ℕ
 rest_of s = drop s.heard s.input
 
+-- a session of this worker
+abbrev pub IsSessionOf : ℕ → SessionState → Type 0
+IsSessionOf worker s = InSession worker (shelf_of s.kept) s.input s.written s.heard
+
 -- whichever worker's session it was, it still is
 abbrev pub GoesOn : SessionState → SessionState → Type 0
-GoesOn before after =
-    (worker : ℕ) → InSession worker (shelf_of before.kept) before.input before.written before.heard → InSession worker (shelf_of after.kept) after.input after.written after.heard
+GoesOn before after = (worker : ℕ) → IsSessionOf worker before → IsSessionOf worker after
 
 -- a session that is over hears no more, whatever comes
 abbrev pub IsOver : Bool → SessionState → Type 0

@@ -14,8 +14,11 @@ fused_serves worker line stopped serves calm = serves (omega arith)
 -- what was got begins what the session wrote
 pub engine_serves : (worker : ℕ) (s : EngineLineState) → IsEngineLine worker s → ServesSoFar worker (line_of s)
 engine_serves worker s is calm sent got sent_is got_is =
-    let all : Serves VERSION worker s.input s.written = session_serves worker (shelf_of s.kept) s.input s.written s.heard (is.session calm) (is.all calm) in
+    let rest : List ℕ = drop s.taken s.written in
+    let all : Serves VERSION worker s.input s.written =
+    session_serves worker (shelf_of s.kept) s.input s.written s.heard (is.session calm) (is.all calm) in
     let same_sent : s.input ≡ sent = cc in
     let same_got : take s.taken s.written ≡ got = cc in
-    let written : s.written ≡ got ++ drop s.taken s.written = sym (take-append-drop s.taken s.written) ∙ ap (λ (t : List ℕ). t ++ drop s.taken s.written) same_got in
-    (VERSION, drop s.taken s.written, subst (λ (t : List ℕ). Serves VERSION worker t (got ++ drop s.taken s.written)) same_sent (subst (Serves VERSION worker s.input) written all))
+    let written : s.written ≡ got ++ rest = sym (take-append-drop s.taken s.written) ∙ ap (λ (t : List ℕ). t ++ rest) same_got in
+    let serves : Serves VERSION worker s.input (got ++ rest) = subst (Serves VERSION worker s.input) written all in
+    (VERSION, rest, subst (λ (t : List ℕ). Serves VERSION worker t (got ++ rest)) same_sent serves)

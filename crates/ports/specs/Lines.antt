@@ -48,7 +48,10 @@ abbrev pub Gets : Result ℕ LineFault → List ℕ → LineState → LineState 
 Gets (Ok n) into before after = (0 < n → Transfers 0 0 [] (take n into) before after) × (n ≡ 0 → Transfers 0 1 [] [] before after)
 Gets (Err fault) into before after = Transfers 1 0 [] [] before after
 
--- until the first failure, and where the line tells both, what was got begins what the session of the worker, whatever its version, may write for what was sent
+-- the bytes `got` begin what the session of the worker, whatever its version, may write for those of `sent`
+abbrev pub BeginsSession : (worker : ℕ) (sent got : List ℕ) → Type 0
+BeginsSession worker sent got = (version : ℕ) × (rest : List ℕ) × Serves version worker sent (got ++ rest)
+
+-- until the first failure, and where the line tells both, what was got begins what the worker's session may write for what was sent
 abbrev pub ServesSoFar : ℕ → LineState → Type 0
-ServesSoFar worker line =
-    line.failures ≡ 0 → (sent got : List ℕ) → line.sent ≡ Some sent → line.got ≡ Some got → (version : ℕ) × (rest : List ℕ) × Serves version worker sent (got ++ rest)
+ServesSoFar worker line = line.failures ≡ 0 → (sent got : List ℕ) → line.sent ≡ Some sent → line.got ≡ Some got → BeginsSession worker sent got

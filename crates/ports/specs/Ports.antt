@@ -28,12 +28,17 @@ pub record CountsAsks (asked failed wanted : ℕ) (before after : PortState) : T
   pub closed : before.is_open ≡ false → (after.is_open ≡ false) × (asked ≡ 0)
   pub last : asked ≡ 0 → after.last ≡ before.last
 
+-- one ask of a round for a shard, now the last one, that got no answer: so many failed, or found no memory, and the port is closed
+abbrev pub ClosesOnAsk : (failed wanted round shard : ℕ) → PortState → PortState → Type 0
+ClosesOnAsk failed wanted round shard before after =
+    (before.is_open ≡ true) × (after.is_open ≡ false) × CountsAsks 1 failed wanted before after × (after.last ≡ (round, shard))
+
 -- one ask of a round for a shard, now the last one: it is answered, or it closes the port; a port that was closed only says so
 abbrev pub AnswersAsk : {T : Type 0} → Result T PortFault → (round shard : ℕ) → PortState → PortState → Type 0
 AnswersAsk (Ok answer) round shard before after = (after.is_open ≡ true) × CountsAsks 1 0 0 before after × (after.last ≡ (round, shard))
 AnswersAsk (Err Closed) round shard before after = (before.is_open ≡ false) × CountsAsks 0 0 0 before after
-AnswersAsk (Err Memory) round shard before after = (before.is_open ≡ true) × (after.is_open ≡ false) × CountsAsks 1 0 1 before after × (after.last ≡ (round, shard))
-AnswersAsk (Err fault) round shard before after = (before.is_open ≡ true) × (after.is_open ≡ false) × CountsAsks 1 1 0 before after × (after.last ≡ (round, shard))
+AnswersAsk (Err Memory) round shard before after = ClosesOnAsk 0 1 round shard before after
+AnswersAsk (Err fault) round shard before after = ClosesOnAsk 1 0 round shard before after
 
 -- by how much a fault makes the two counts rise
 abbrev pub failure_of : PortFault → ℕ

@@ -46,21 +46,28 @@ abbrev pub shard_due : Bool → ℕ → List Link → List FrameValue
 shard_due true shard links = []
 shard_due false shard links = ShardFrame shard links ∷ []
 
+-- what an ask puts of the shard with these links, where the shards of this set were sent before
+abbrev pub shard_put : List ℕ → ℕ → List Link → List FrameValue
+shard_put sent shard links = shard_due (has_shard sent shard) shard links
+
 -- the frames that an ask puts
 abbrev pub frames_put : Talk → ℕ → ℕ → List ℕ → List FrameValue
-frames_put talk round shard labels = shard_due (has_shard talk.sent shard) shard (links_at talk.cut shard) ++ AskFrame round shard labels ∷ []
+frames_put talk round shard labels = shard_put talk.sent shard (links_at talk.cut shard) ++ AskFrame round shard labels ∷ []
 
 -- a worker of this version has all these frames
 abbrev pub HasFrames : ℕ → List FrameValue → Type 0
 HasFrames version frames = All (λ v. version_of v ≤ version) frames
 
 -- up to this state of the line a first hello of this version came and the frames of an ask were put, all of which the version has, and no end was found
-pub record SendsAsk {L : Type 0} (state : L → LineState) (round shard : ℕ) (labels : List ℕ) (version : ℕ) (before : TalkState L) (asked : L) : Type 0 where
-  pub went : Transfers 0 0 (texts_of (frames_put (told_talk state before) round shard labels)) (hello_due before.version version before.worker) (state before.line) (state asked)
+pub record SendsAsk {L : Type 0} (state : L → LineState) (round shard : ℕ) (labels : List ℕ) (version : ℕ)
+    (before : TalkState L) (asked : L) : Type 0 where
+  pub went : Transfers 0 0 (texts_of (frames_put (told_talk state before) round shard labels))
+      (hello_due before.version version before.worker) (state before.line) (state asked)
   pub has : HasFrames version (frames_put (told_talk state before) round shard labels)
 
 -- an ask was put, and behind that these bytes came, and so many ends were found
-pub record BringsUpTo {L : Type 0} (ends : ℕ) (state : L → LineState) (round shard : ℕ) (labels bytes : List ℕ) (before after : TalkState L) : Type 0 where
+pub record BringsUpTo {L : Type 0} (ends : ℕ) (state : L → LineState) (round shard : ℕ) (labels bytes : List ℕ)
+    (before after : TalkState L) : Type 0 where
   pub version : ℕ
   pub greeted : HelloCame version before.version after.version
   pub asked : L
@@ -76,7 +83,8 @@ abbrev pub EndsAfterAsk : {L : Type 0} → (L → LineState) → ℕ → ℕ →
 EndsAfterAsk = BringsUpTo 1
 
 -- an ask that was answered: its frames went out and no others, and then the answer came; the hello came by now, the shard was sent by now, and the rest of the talk stands
-pub record AnswersOverLine {L : Type 0} (state : L → LineState) (round shard : ℕ) (labels : List ℕ) (answer : AnswerValue) (before after : TalkState L) : Type 0 where
+pub record AnswersOverLine {L : Type 0} (state : L → LineState) (round shard : ℕ) (labels : List ℕ) (answer : AnswerValue)
+    (before after : TalkState L) : Type 0 where
   pub brought : Brings state round shard labels (text_of (AnswerFrame answer)) before after
   pub lawful : IsAnswer answer
   pub sent : (s : ℕ) → has_shard after.sent s ≡ (s == shard || has_shard before.sent s)

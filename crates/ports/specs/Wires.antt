@@ -44,7 +44,15 @@ pub record IsNewWire {L : Type 0} (line : L) (cut : List (List Link)) (worker : 
 
 -- as a port
 abbrev pub port_of : {L : Type 0} → WireState L → PortState
-port_of wire = record { cut = wire.talk.cut; worker = wire.talk.worker; is_open = wire.is_open; asks = wire.asks; failures = wire.failures; wants = wire.wants; last = wire.last }
+port_of wire = record {
+  cut = wire.talk.cut;
+  worker = wire.talk.worker;
+  is_open = wire.is_open;
+  asks = wire.asks;
+  failures = wire.failures;
+  wants = wire.wants;
+  last = wire.last;
+}
 
 -- ---- by what its line counts, whether or not it tells its bytes
 
@@ -83,7 +91,8 @@ last_ask last (AskFrame round shard labels ∷ frames) = last_ask (round, shard)
 last_ask last (v ∷ frames) = last_ask last frames
 
 -- over a line that was fresh and had found so many ends: nothing failed, and no more ends were found; just these frames were sent, shards of its cut, none twice, and the asks of the exchanges; and the hello and just the answers of the exchanges were got, one for each ask that it counts
-pub record IsFaultless {L : Type 0} (state : L → LineState) (ends : ℕ) (wire : WireState L) (said : List FrameValue) (exchanges : List Exchange) : Type 0 where
+pub record IsFaultless {L : Type 0} (state : L → LineState) (ends : ℕ) (wire : WireState L)
+    (said : List FrameValue) (exchanges : List Exchange) : Type 0 where
   pub in_step : MatchesLine (told_talk state wire.talk) said exchanges
   pub ends_are : (state wire.talk.line).ends ≡ ends
   pub asks : wire.asks ≡ length exchanges
@@ -92,7 +101,8 @@ pub record IsFaultless {L : Type 0} (state : L → LineState) (ends : ℕ) (wire
   pub last : wire.last ≡ last_ask (0, 0) said
 
 -- its last ask, the first that got no answer and behind these exchanges, ended with a fault of this kind: why, by the wire before that ask, faultless and open, and the wire behind it
-pub record HasFailed {L : Type 0} (state : L → LineState) (ends : ℕ) (exchanges : List Exchange) (kind : PortFault → Type 0) (wire : WireState L) : Type 0 where
+pub record HasFailed {L : Type 0} (state : L → LineState) (ends : ℕ) (exchanges : List Exchange)
+    (kind : PortFault → Type 0) (wire : WireState L) : Type 0 where
   pub before : WireState L
   pub said : List FrameValue
   pub calm : IsFaultless state ends before said exchanges
@@ -110,15 +120,21 @@ pub record HasFailed {L : Type 0} (state : L → LineState) (ends : ℕ) (exchan
 
 -- over a line that had found so many ends it answered just these exchanges, and is faultless, open or shut; or a fault of this kind closed it
 abbrev pub IsTrueSoFar : {L : Type 0} → (L → LineState) → (PortFault → Type 0) → WireState L → ℕ → List Exchange → Type 0
-IsTrueSoFar state kind wire ends exchanges = ((said : List FrameValue) × IsFaultless state ends wire said exchanges) ⊎ ((wire.is_open ≡ false) × HasFailed state ends exchanges kind wire)
+IsTrueSoFar state kind wire ends exchanges =
+    ((said : List FrameValue) × IsFaultless state ends wire said exchanges)
+    ⊎ ((wire.is_open ≡ false) × HasFailed state ends exchanges kind wire)
 
 -- what it told is true, over a line that had found so many ends when the wire was new: it answered just these exchanges, and is faultless, or a fault closed it that has its cause
 abbrev pub IsSoundWire : {L : Type 0} → (L → LineState) → WireState L → ℕ → List Exchange → Type 0
 IsSoundWire state wire ends exchanges = IsTrueSoFar state (λ fault. fault ≢ Closed) wire ends exchanges
 
--- its line is faithful for its worker: it is faultless, or a fault closed it that is nobody's blame. How many ends the line had found, and what was exchanged, isn't told here: who asks that has the sound wire beside it
+-- it is faultless, or a fault closed it that is nobody's blame. How many ends the line had found, and what was exchanged, isn't told here: who asks that has the sound wire beside it
+abbrev pub IsBlamelessWire : {L : Type 0} → (L → LineState) → WireState L → Type 0
+IsBlamelessWire state wire = (ends : ℕ) × (exchanges : List Exchange) × IsTrueSoFar state IsBlameless wire ends exchanges
+
+-- its line is faithful for its worker, and it is blameless
 abbrev pub IsHonestWire : {L : Type 0} → Line.Ghosts L → WireState L → Type 0
-IsHonestWire over wire = over.faithful wire.talk.line wire.talk.worker × ((ends : ℕ) × (exchanges : List Exchange) × IsTrueSoFar over.state IsBlameless wire ends exchanges)
+IsHonestWire over wire = over.faithful wire.talk.line wire.talk.worker × IsBlamelessWire over.state wire
 
 -- what wires over such lines tell as ports
 abbrev pub wire_port : {L : Type 0} → (A : Type 0) → Line.Ghosts L → Port.Ghosts (WireState L) A
