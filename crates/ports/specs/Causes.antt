@@ -59,6 +59,10 @@ LineFailed before after = Transfers 1 0 [] [] before after
 abbrev pub GoesDown : LineState → LineState → Type 0
 GoesDown before after = LineFailed before after ⊎ ((bytes : List ℕ) × IsCutOff bytes × Transfers 0 1 [] bytes before after)
 
+-- these bytes were sent and nothing came
+abbrev pub Transmits : List ℕ → LineState → LineState → Type 0
+Transmits bytes before after = Transfers 0 0 bytes [] before after
+
 -- these bytes came and nothing was sent
 abbrev pub Receives : List ℕ → LineState → LineState → Type 0
 Receives bytes before after = Transfers 0 0 [] bytes before after

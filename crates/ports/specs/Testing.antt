@@ -1,5 +1,5 @@
 -- Lines for tests: one that stops at a chosen call or byte, and one that plays stored bytes.
-use Rattle.std.specs.Prelude.{◌≡◌, ℕ, ◌+◌, ◌-◌, ◌==◌, min, Bool, false, List, [], ◌++◌, take, drop, Some, None, Result, Ok, Err, if◌then◌else◌}
+use Rattle.std.specs.Prelude.{◌≡◌, ℕ, ◌+◌, ◌-◌, ◌==◌, min, Bool, false, List, [], ◌++◌, length, take, drop, Some, None, Result, Ok, Err, if◌then◌else◌}
 use Rattle.std.specs.Io.{ReadsAtMost}
 use Rattle.ports.specs.declared.fused.Fuse.{Fuse}
 use Rattle.ports.specs.declared.fused.Fuse.TheVariants.{Calls, Bytes}
@@ -43,6 +43,10 @@ pub record GotInto (room : ℕ) (result : Result ℕ LineFault) (old new : List 
   pub bound : ReadsAtMost result (take room new)
   pub went : Gets result (take room new) before after
   pub behind : drop room new ≡ drop room old
+
+-- a get that its fuse lets pass is one of the line behind it, of no more bytes than may pass
+abbrev pub PassesGet : {L : Type 0} → (L → LineState) → Result ℕ LineFault → (old new : List ℕ) → (before after : FusedLineState L) → Type 0
+PassesGet state result old new before after = GotInto (most_got before.fuse (length old)) result old new (state before.line) (state after.line)
 
 -- the line behind it, and its own stops counted with that line's failures
 abbrev pub with_stops : LineState → ℕ → LineState

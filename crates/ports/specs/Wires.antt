@@ -6,7 +6,7 @@ use Rattle.shard_set.specs.Shards.{has_shard}
 use Rattle.frames.specs.FrameValue.{FrameValue, AskFrame}
 use Rattle.ports.specs.declared.line.Line as Line
 use Rattle.ports.specs.declared.port.Port as Port
-use Rattle.ports.specs.Lines.{LineState, HasRoom, Counted}
+use Rattle.ports.specs.Lines.{LineState, HasRoom, Counted, ServesSoFar}
 use Rattle.ports.specs.Exchanges.{Exchange, answers_of}
 use Rattle.ports.specs.Ports.{PortState, failure_of, want_of}
 use Rattle.ports.specs.Talking.{TalkState, told_talk, HasGiven, MatchesLine}
@@ -127,6 +127,12 @@ IsTrueSoFar state kind wire ends exchanges =
 -- what it told is true, over a line that had found so many ends when the wire was new: it answered just these exchanges, and is faultless, or a fault closed it that has its cause
 abbrev pub IsSoundWire : {L : Type 0} → (L → LineState) → WireState L → ℕ → List Exchange → Type 0
 IsSoundWire state wire ends exchanges = IsTrueSoFar state (λ fault. fault ≢ Closed) wire ends exchanges
+
+-- the worker served it in an ask: it was sound before, and what its line got by now begins what the worker may write
+abbrev pub ServesWire : {L : Type 0} → (L → LineState) → (before after : WireState L) → Type 0
+ServesWire state before after =
+    ((ends : ℕ) × (exchanges : List Exchange) × IsSoundWire state before ends exchanges)
+    × ServesSoFar before.talk.worker (state after.talk.line)
 
 -- it is faultless, or a fault closed it that is nobody's blame. How many ends the line had found, and what was exchanged, isn't told here: who asks that has the sound wire beside it
 abbrev pub IsBlamelessWire : {L : Type 0} → (L → LineState) → WireState L → Type 0

@@ -2,7 +2,7 @@
 ghost use Rattle.std.specs.Prelude.{◌≡◌, ℕ, ◌+◌, ◌<◌, ◌≤◌, true, false, length, IfOk, OnOk, IsErr};
 ghost use Rattle.std.specs.Io.{ReadsAtMost};
 ghost use Rattle.ports.specs.Lines.{HasRoom, Puts, Gets};
-ghost use Rattle.ports.specs.Testing.{stops_puts, stops_gets, most_got, after_call, given_by, GotInto, with_stops};
+ghost use Rattle.ports.specs.Testing.{stops_puts, stops_gets, after_call, given_by, GotInto, PassesGet, with_stops};
 ghost use Rattle.ports.specs.LineLaws.{fused_serves};
 
 use crate::fault::LineFault;
@@ -107,8 +107,7 @@ impl<L: Line> Line for FusedLine<L> {
         ensures fuse { stops_gets self.old.fuse ≡ false
             → self.new.fuse ≡ after_call self.old.fuse (given_by result) }
         ensures behind { stops_gets self.old.fuse ≡ false
-            → GotInto (most_got self.old.fuse (length into.old)) result into.old into.new
-            (L.state self.old.line) (L.state self.new.line) }
+            → PassesGet L.state result into.old into.new self.old self.new }
     {
         match self.fuse {
             Fuse::Calls(0) | Fuse::Bytes(0) => {

@@ -1,8 +1,8 @@
 //! Whom a shard is asked of.
-ghost use Rattle.std.specs.Prelude.{◌≡◌, ℕ, ◌+◌, ◌-◌, ◌<◌, ◌≤◌, ◌^◌, List, [], ◌∷◌, ◌++◌, length, false, IfOk, OnErr};
+ghost use Rattle.std.specs.Prelude.{◌≡◌, ℕ, ◌+◌, ◌-◌, ◌<◌, ◌≤◌, ◌^◌, List, length, false, IfOk, OnErr};
 ghost use Rattle.link_key.specs.Link.{EndsUpTo};
 ghost use Rattle.link_key.specs.Cut.{links_at};
-ghost use Rattle.ports.specs.Exchanges.{Exchange, exchange_of};
+ghost use Rattle.ports.specs.Exchanges.{Exchange, exchange_of, KeepsExchanges, AddsExchange, StaysSound, StaysSoundWith};
 ghost use Rattle.ports.specs.Ports.{PortState, CountsAsks, AnswersAsk, IsHonestAnswer};
 
 use crate::fault::PortFault;
@@ -52,25 +52,22 @@ pub trait Port<A: Allocator> {
             (λ a. honest self.old → IsHonestAnswer (state self.old).cut round shard labels.now a) }
 
         // The ask and its answer come behind those before; a closed port answers none.
-        ensures exchanged { IfOk result (λ a. (before : List Exchange) → exchanged self.old before
-            → exchanged self.new (before ++ exchange_of round shard labels.now a ∷ [])) }
-        ensures silent { (state self.old).is_open ≡ false
-            → (exchanges : List Exchange) → exchanged self.old exchanges → exchanged self.new exchanges }
+        ensures exchanged { IfOk result
+            (λ a. AddsExchange (exchanged self.old) (exchanged self.new) (exchange_of round shard labels.now a)) }
+        ensures silent { (state self.old).is_open ≡ false → KeepsExchanges (exchanged self.old) (exchanged self.new) }
 
         ensures honest { honest self.old → honest self.new }
-        ensures sound { IfOk result (λ a. (ends : ℕ) (before : List Exchange) → sound self.old ends before
-            → sound self.new ends (before ++ exchange_of round shard labels.now a ∷ [])) }
-        ensures sound_fault { OnErr result
-            ((ends : ℕ) (exchanges : List Exchange) → sound self.old ends exchanges → sound self.new ends exchanges) };
+        ensures sound { IfOk result
+            (λ a. StaysSoundWith (sound self.old) (sound self.new) (exchange_of round shard labels.now a)) }
+        ensures sound_fault { OnErr result (StaysSound (sound self.old) (sound self.new)) };
 
     /// Closes it for good. It waits for nothing, and takes no memory.
     fn shut(&mut self)
         ensures shut { (state self.new).is_open ≡ false }
         ensures went { CountsAsks 0 0 0 (state self.old) (state self.new) }
-        ensures exchanged { (exchanges : List Exchange) → exchanged self.old exchanges → exchanged self.new exchanges }
+        ensures exchanged { KeepsExchanges (exchanged self.old) (exchanged self.new) }
         ensures honest { honest self.old → honest self.new }
-        ensures sound { (ends : ℕ) (exchanges : List Exchange) → sound self.old ends exchanges
-            → sound self.new ends exchanges };
+        ensures sound { StaysSound (sound self.old) (sound self.new) };
 
     /// Whether it is open.
     fn is_open(&self) -> bool

@@ -1,13 +1,13 @@
 //! The steps of an ask over a line: hear the hello, send the shard, send the ask, hear the answer.
-ghost use Rattle.std.specs.Prelude.{◌≡◌, ℕ, ◌<◌, ◌≤◌, ◌==◌, ◌||◌, [], ◌++◌, length, Some, None, IfSome, IfOk, OnOk, IfErr};
+ghost use Rattle.std.specs.Prelude.{◌≡◌, ℕ, ◌<◌, ◌≤◌, ◌==◌, ◌||◌, ◌++◌, length, Some, None, IfSome, IfOk, OnOk, IfErr};
 ghost use Rattle.frames.specs.FrameValue.{AskFrame, AnswerFrame, value_of};
 ghost use Rattle.frames.specs.FrameText.{text_of};
 ghost use Rattle.frames.specs.Lawful.{IsVersion, IsAnswer, IsLawful};
 ghost use Rattle.frames.specs.FrameStream.{texts_of};
 ghost use Rattle.shard_set.specs.Shards.{has_shard};
-ghost use Rattle.ports.specs.Lines.{HasRoom, Transfers};
-ghost use Rattle.ports.specs.Causes.{Receives, GreetingFault, SendingFault, LacksFrame, AnswerFault, FailsToRead, port_fault};
-ghost use Rattle.ports.specs.Talking.{HasFrames, hello_due, shard_due};
+ghost use Rattle.ports.specs.Lines.{HasRoom};
+ghost use Rattle.ports.specs.Causes.{Transmits, Receives, GreetingFault, SendingFault, LacksFrame, AnswerFault, FailsToRead, port_fault};
+ghost use Rattle.ports.specs.Talking.{HasFrames, hello_due, shard_put};
 
 use crate::fault::PortFault;
 use crate::heard::Heard;
@@ -62,8 +62,7 @@ pub fn greet<L: Line, A: Allocator + Copy>(
 // Whether a worker of this version has a frame for the shard, unless it was sent before.
 pub fn check_version(version: u16, sent: &ShardSet, part: &Shard) -> Result<(), PortFault>
     requires { IsVersion version }
-    ensures has { OnOk result (HasFrames version
-        (shard_due (has_shard sent.now part.now.number) part.now.number part.now.links.now)) }
+    ensures has { OnOk result (HasFrames version (shard_put sent.now part.now.number part.now.links.now)) }
     ensures fault { IfErr result (λ e. LacksFrame e version (has_shard sent.now part.now.number) part.now.links.now) }
 {
     if version == VERSION || sent.has(part.number) || fit_32_bits(part.links) {
@@ -82,8 +81,7 @@ pub fn send_shard<L: Line, A: Allocator + Copy>(
     requires can { HasRoom (L.state heard.old.line) }
     requires number { part.now.number < MAX_SHARDS }
     requires count { length part.now.links.now ≤ MAX_SHARD_LINKS }
-    ensures went { OnOk result (Transfers 0 0
-        (texts_of (shard_due (has_shard sent.old part.now.number) part.now.number part.now.links.now)) []
+    ensures went { OnOk result (Transmits (texts_of (shard_put sent.old part.now.number part.now.links.now))
         (L.state heard.old.line) (L.state heard.new.line)) }
     ensures sent { OnOk result ((s : ℕ)
         → has_shard sent.new s ≡ (s == part.now.number || has_shard sent.old s)) }
@@ -114,7 +112,7 @@ pub fn send_ask<L: Line, A: Allocator + Copy>(
 ) -> Result<(), PortFault>
     requires can { HasRoom (L.state heard.old.line) }
     requires shard { shard < MAX_SHARDS }
-    ensures went { OnOk result (Transfers 0 0 (text_of (AskFrame round shard labels.now)) []
+    ensures went { OnOk result (Transmits (text_of (AskFrame round shard labels.now))
         (L.state heard.old.line) (L.state heard.new.line)) }
     ensures fault { IfErr result
         (λ e. SendingFault e (L.state heard.old.line) (L.state heard.new.line)) }
@@ -175,8 +173,7 @@ fn hear<L: Line, A: Allocator + Copy>(
 // Sends a whole text by one put.
 fn send<L: Line>(heard: &mut Heard<L>, bytes: &[u8]) -> Result<(), PortFault>
     requires { HasRoom (L.state heard.old.line) }
-    ensures went { OnOk result
-        (Transfers 0 0 bytes.now [] (L.state heard.old.line) (L.state heard.new.line)) }
+    ensures went { OnOk result (Transmits bytes.now (L.state heard.old.line) (L.state heard.new.line)) }
     ensures fault { IfErr result
         (λ e. SendingFault e (L.state heard.old.line) (L.state heard.new.line)) }
     ensures down { IfErr result (λ e. e ≡ PortFault.Down) }
@@ -192,7 +189,7 @@ fn send<L: Line>(heard: &mut Heard<L>, bytes: &[u8]) -> Result<(), PortFault>
 fn send_both<L: Line>(heard: &mut Heard<L>, front: &[u8], rest: &[u8]) -> Result<(), PortFault>
     requires { HasRoom (L.state heard.old.line) }
     ensures went { OnOk result
-        (Transfers 0 0 (front.now ++ rest.now) [] (L.state heard.old.line) (L.state heard.new.line)) }
+        (Transmits (front.now ++ rest.now) (L.state heard.old.line) (L.state heard.new.line)) }
     ensures fault { IfErr result
         (λ e. SendingFault e (L.state heard.old.line) (L.state heard.new.line)) }
     ensures faithful { (w : ℕ) → L.faithful heard.old.line w → L.faithful heard.new.line w }

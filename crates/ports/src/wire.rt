@@ -1,13 +1,13 @@
 //! A port over a line.
-ghost use Rattle.std.specs.Prelude.{◌≡◌, ℕ, ◌+◌, ◌-◌, ◌<◌, ◌≤◌, ◌^◌, true, false, List, [], ◌∷◌, ◌++◌, length, IfOk, IfErr, OnErr};
+ghost use Rattle.std.specs.Prelude.{◌≡◌, ◌+◌, ◌-◌, ◌<◌, ◌≤◌, ◌^◌, true, false, [], length, IfOk, IfErr, OnErr};
 ghost use Rattle.link_key.specs.Link.{EndsUpTo};
 ghost use Rattle.link_key.specs.Cut.{links_at};
-ghost use Rattle.ports.specs.Lines.{LineState, HasRoom, IsFresh, TellsBytes, ServesSoFar};
-ghost use Rattle.ports.specs.Exchanges.{Exchange, exchange_of};
+ghost use Rattle.ports.specs.Lines.{LineState, HasRoom, IsFresh, TellsBytes};
+ghost use Rattle.ports.specs.Exchanges.{exchange_of, KeepsExchanges, AddsExchange, StaysSound, StaysSoundWith};
 ghost use Rattle.ports.specs.Ports.{CountsAsks, AnswersAsk, IsHonestAnswer, failure_of, want_of};
 ghost use Rattle.ports.specs.Causes.{IsBlameless};
 ghost use Rattle.ports.specs.Talking.{AnswersOverLine};
-ghost use Rattle.ports.specs.Wires.{port_of, IsNewWire, IsCountedWire, IsSoundWire, IsHonestWire, WireExchanged, WireCause};
+ghost use Rattle.ports.specs.Wires.{port_of, IsNewWire, IsCountedWire, IsSoundWire, ServesWire, IsHonestWire, WireExchanged, WireCause};
 
 use crate::fault::PortFault;
 use crate::heard::Heard;
@@ -44,7 +44,14 @@ impl<'a, L: Line, A: Allocator> Model for Wire<'a, L, A> {
 
     ghost Value = { WireState L };
 
-    ghost view = { λ s. record { talk = s.talk; is_open = s.is_open; asks = s.asks; failures = s.failures; wants = s.wants; last = (s.last_round, s.last_shard) } };
+    ghost view = { λ s. record {
+      talk = s.talk;
+      is_open = s.is_open;
+      asks = s.asks;
+      failures = s.failures;
+      wants = s.wants;
+      last = (s.last_round, s.last_shard);
+    } };
 
     ghost invariant = { λ s. IsWire (L.state s.talk.line) s.talk.worker s.is_open s.asks s.failures s.wants };
 }
@@ -113,24 +120,22 @@ impl<'a, L: Line, A: Allocator + Copy> Port<A> for Wire<'a, L, A> {
         ensures went { AnswersAsk result round shard (port_of self.old) (port_of self.new) }
         ensures honest_answer { IfOk result (λ a. IsHonestWire L.Line self.old
             → IsHonestAnswer self.old.talk.cut round shard labels.now a) }
-        ensures exchanged { IfOk result (λ a. (before : List Exchange) → WireExchanged L.state self.old before
-            → WireExchanged L.state self.new (before ++ exchange_of round shard labels.now a ∷ [])) }
-        ensures silent { self.old.is_open ≡ false → (exchanges : List Exchange)
-            → WireExchanged L.state self.old exchanges → WireExchanged L.state self.new exchanges }
+        ensures exchanged { IfOk result (λ a. AddsExchange
+            (WireExchanged L.state self.old) (WireExchanged L.state self.new) (exchange_of round shard labels.now a)) }
+        ensures silent { self.old.is_open ≡ false
+            → KeepsExchanges (WireExchanged L.state self.old) (WireExchanged L.state self.new) }
         ensures honest { IsHonestWire L.Line self.old → IsHonestWire L.Line self.new }
-        ensures sound { IfOk result (λ a. (ends : ℕ) (before : List Exchange) → IsSoundWire L.state self.old ends before
-            → IsSoundWire L.state self.new ends (before ++ exchange_of round shard labels.now a ∷ [])) }
-        ensures sound_fault { OnErr result ((ends : ℕ) (exchanges : List Exchange)
-            → IsSoundWire L.state self.old ends exchanges → IsSoundWire L.state self.new ends exchanges) }
+        ensures sound { IfOk result (λ a. StaysSoundWith
+            (IsSoundWire L.state self.old) (IsSoundWire L.state self.new) (exchange_of round shard labels.now a)) }
+        ensures sound_fault { OnErr result
+            (StaysSound (IsSoundWire L.state self.old) (IsSoundWire L.state self.new)) }
 
         // An answer: which frames were sent for it, which bytes came behind them, and which shards are sent by now.
         ensures asked { IfOk result (λ a. AnswersOverLine L.state round shard labels.now a self.old.talk self.new.talk) }
 
         // Over a line that tells its bytes, known to be faithful or not: where what came by now begins what the
         // worker may write, the answer is honest.
-        ensures served { IfOk result (λ a. (ends : ℕ) (exchanges : List Exchange)
-            → IsSoundWire L.state self.old ends exchanges
-            → ServesSoFar self.old.talk.worker (L.state self.new.talk.line)
+        ensures served { IfOk result (λ a. ServesWire L.state self.old self.new
             → IsHonestAnswer self.old.talk.cut round shard labels.now a) }
 
         // Why there is no answer: by the bytes that came in the ask, and by what the line counted.
@@ -167,11 +172,9 @@ impl<'a, L: Line, A: Allocator + Copy> Port<A> for Wire<'a, L, A> {
     fn shut(&mut self)
         ensures shut { self.new.is_open ≡ false }
         ensures went { CountsAsks 0 0 0 (port_of self.old) (port_of self.new) }
-        ensures exchanged { (exchanges : List Exchange)
-            → WireExchanged L.state self.old exchanges → WireExchanged L.state self.new exchanges }
+        ensures exchanged { KeepsExchanges (WireExchanged L.state self.old) (WireExchanged L.state self.new) }
         ensures honest { IsHonestWire L.Line self.old → IsHonestWire L.Line self.new }
-        ensures sound { (ends : ℕ) (exchanges : List Exchange)
-            → IsSoundWire L.state self.old ends exchanges → IsSoundWire L.state self.new ends exchanges }
+        ensures sound { StaysSound (IsSoundWire L.state self.old) (IsSoundWire L.state self.new) }
 
         ensures counted { (start : LineState) → IsCountedWire L.state self.old start → IsCountedWire L.state self.new start }
 

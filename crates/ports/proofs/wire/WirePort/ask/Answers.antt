@@ -31,7 +31,9 @@ pub returns-in-Ok-clause-served : goal.returns-in-Ok-clause-served
 returns-in-Ok-clause-served g c =
     let live : c.self.inside.is_open ≡ true = search rules in
     let in_cut : c.args.shard < length c.self.inside.talk.cut = rw (sym c.self.view_is) at c.requires.shard in
-    rw (sym c.self.view_is) (served_answer g.L.Line.state c.args.round c.args.shard c.args.labels.now _ _ in_cut live c.ask.ensures.shard_lawful c.ask.ensures.ask_lawful c.self.invariant.below _ c.in-Ok.answer c.in-Ok.ensures.asked)
+    rw (sym c.self.view_is) (λ served.
+    let ((ends, exchanges, sound), serves) = served in
+    served_answer g.L.Line.state c.args.round c.args.shard c.args.labels.now _ _ in_cut live c.ask.ensures.shard_lawful c.ask.ensures.ask_lawful c.self.invariant.below _ c.in-Ok.answer c.in-Ok.ensures.asked ends exchanges sound serves)
 
 pub returns-in-Ok-clause-honest_answer : goal.returns-in-Ok-clause-honest_answer
 returns-in-Ok-clause-honest_answer g c =
