@@ -64,8 +64,9 @@ impl<'a, L: Line, A: Allocator + Copy> Talk<'a, L, A> {
         ensures shard_lawful { IsShard shard (links_at self.old.cut shard) }
         ensures ask_lawful { IsAsk round shard labels.now }
     {
-        let _labels = labels.as_slice();
-        let _few = self.cut.len();
+        // A proof knows that a cut has few shards, and that labels are labels, only where the code reads them.
+        let _are_few = self.cut.len();
+        let _are_labels = labels.as_slice();
         let part = self.cut.shard(shard);
         let version = greet(self.alloc, &mut self.heard, self.version, self.worker)?;
         self.version = Some(version);
