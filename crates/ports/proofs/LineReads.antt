@@ -10,7 +10,7 @@ use Rattle.frames.specs.ReadFault.{IsReadRefused, failures_of, ends_of}
 use Rattle.frames.specs.declared.fault.FrameFault.{FrameFault}
 use Rattle.frames.specs.declared.fault.FrameFault.TheVariants.{BadKind, BadLength, BadField, BadVersion, Ended, Torn, Device, Memory}
 use Rattle.ports.specs.Lines.{LineState, Transfers}
-use Rattle.ports.specs.Hearing.{source_of}
+use Rattle.ports.specs.LineSources.{source_of}
 use Rattle.ports.specs.Causes.{FailsToRead, Receives, GreetingFault, AnswerFault, port_fault}
 use Rattle.ports.proofs.Going.{failed_of}
 

@@ -2,7 +2,7 @@ pub mod Lines
 pub mod Testing
 pub mod Ports
 pub mod Exchanges
-pub mod Hearing
+pub mod LineSources
 pub mod Talking
 pub mod Causes
 pub mod EngineLines

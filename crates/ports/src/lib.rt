@@ -8,7 +8,7 @@
 //!            Talk::ask                      one ask: hello, shard, ask, answer
 //!            steps                          greet, check_version, send_shard, send_ask, hear_answer
 //!              |                 \
-//!         Line::put           Heard, a source that owns the line: frames are read of it
+//!         Line::put           LineSource, which owns the line: frames are read of it
 //!              |                 /
 //!            Line
 //!      EngineLine    FusedLine(line)    ScriptLine       in memory; one that stops; one that plays stored bytes
@@ -30,8 +30,8 @@
 mod engine_line;
 mod fault;
 mod fused;
-mod heard;
 mod line;
+mod line_source;
 mod memory;
 mod port;
 mod script;

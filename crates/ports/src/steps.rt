@@ -10,8 +10,8 @@ ghost use Rattle.ports.specs.Causes.{Transmits, Receives, GreetingFault, Sending
 ghost use Rattle.ports.specs.Talking.{HasFrames, hello_due, shard_put};
 
 use crate::fault::PortFault;
-use crate::heard::Heard;
 use crate::line::Line;
+use crate::line_source::LineSource;
 use frames::{
     Answer, Frame, FrameFault, VERSION, ask_parts, encode_ask_over, encode_shard, fit_32_bits,
     read_frame,
@@ -24,24 +24,24 @@ use std::alloc::Allocator;
 // The version that the worker's hello told; hears the hello, unless it came before.
 pub fn greet<L: Line, A: Allocator + Copy>(
     alloc: A,
-    heard: &mut Heard<L>,
+    source: &mut LineSource<L>,
     told: Option<u16>,
     worker: u32,
 ) -> Result<u16, PortFault>
-    requires room { HasRoom (L.state heard.old.line) }
+    requires room { HasRoom (L.state source.old.line) }
     requires known { IfSome told IsVersion }
     ensures went { IfOk result (λ version.
-        Receives (hello_due told version worker) (L.state heard.old.line) (L.state heard.new.line)) }
+        Receives (hello_due told version worker) (L.state source.old.line) (L.state source.new.line)) }
     ensures known { IfOk result (λ version. IsVersion version) }
     ensures stays { IfOk result (λ version. (v : ℕ) → told ≡ Some v → v ≡ version) }
     ensures fault { IfErr result (λ e. (told ≡ None)
-        × GreetingFault e worker (L.state heard.old.line) (L.state heard.new.line)) }
-    ensures faithful { (w : ℕ) → L.faithful heard.old.line w → L.faithful heard.new.line w }
+        × GreetingFault e worker (L.state source.old.line) (L.state source.new.line)) }
+    ensures faithful { (w : ℕ) → L.faithful source.old.line w → L.faithful source.new.line w }
 {
     if let Some(version) = told {
         return Ok(version);
     }
-    match hear(alloc, heard) {
+    match hear(alloc, source) {
         Ok(
             Frame::Hello {
                 version,
@@ -74,26 +74,25 @@ pub fn check_version(version: u16, sent: &ShardSet, part: &Shard) -> Result<(), 
 // Sends the shard, unless it was sent before.
 pub fn send_shard<L: Line, A: Allocator + Copy>(
     alloc: A,
-    heard: &mut Heard<L>,
+    line: &mut L,
     sent: &mut ShardSet,
     part: &Shard,
 ) -> Result<(), PortFault>
-    requires can { HasRoom (L.state heard.old.line) }
+    requires can { HasRoom (L.state line.old) }
     requires number { part.now.number < MAX_SHARDS }
     requires count { length part.now.links.now ≤ MAX_SHARD_LINKS }
     ensures went { OnOk result (Transmits (texts_of (shard_put sent.old part.now.number part.now.links.now))
-        (L.state heard.old.line) (L.state heard.new.line)) }
+        (L.state line.old) (L.state line.new)) }
     ensures sent { OnOk result ((s : ℕ)
         → has_shard sent.new s ≡ (s == part.now.number || has_shard sent.old s)) }
-    ensures fault { IfErr result
-        (λ e. SendingFault e (L.state heard.old.line) (L.state heard.new.line)) }
-    ensures faithful { (w : ℕ) → L.faithful heard.old.line w → L.faithful heard.new.line w }
+    ensures fault { IfErr result (λ e. SendingFault e (L.state line.old) (L.state line.new)) }
+    ensures faithful { (w : ℕ) → L.faithful line.old w → L.faithful line.new w }
 {
     if sent.has(part.number) {
         return Ok(());
     }
     let text = encode_shard(alloc, part)?;
-    send(heard, text.as_slice())?;
+    send(line, text.as_slice())?;
     sent.insert(part.number);
     Ok(())
 }
@@ -104,43 +103,42 @@ const LONG: usize = 1 << 16;
 // Sends the ask. Many labels that keep their bytes lend them to it, behind a put of what stands before them. Else its
 // text takes the place of that of the last one, and goes out by one put.
 pub fn send_ask<L: Line, A: Allocator + Copy>(
-    heard: &mut Heard<L>,
+    line: &mut L,
     text: &mut Vec<u8, A>,
     round: u32,
     shard: u32,
     labels: &Labels<A>,
 ) -> Result<(), PortFault>
-    requires can { HasRoom (L.state heard.old.line) }
+    requires can { HasRoom (L.state line.old) }
     requires shard { shard < MAX_SHARDS }
     ensures went { OnOk result (Transmits (text_of (AskFrame round shard labels.now))
-        (L.state heard.old.line) (L.state heard.new.line)) }
-    ensures fault { IfErr result
-        (λ e. SendingFault e (L.state heard.old.line) (L.state heard.new.line)) }
-    ensures faithful { (w : ℕ) → L.faithful heard.old.line w → L.faithful heard.new.line w }
+        (L.state line.old) (L.state line.new)) }
+    ensures fault { IfErr result (λ e. SendingFault e (L.state line.old) (L.state line.new)) }
+    ensures faithful { (w : ℕ) → L.faithful line.old w → L.faithful line.new w }
 {
     if let Some(parts) = ask_parts(round, shard, labels) {
         if parts.1.len() >= LONG {
-            return send_both(heard, &parts.0, parts.1);
+            return send_both(line, &parts.0, parts.1);
         }
     }
     encode_ask_over(text, round, shard, labels)?;
-    send(heard, text.as_slice())
+    send(line, text.as_slice())
 }
 
 // Hears the answer, whatever it says.
 pub fn hear_answer<L: Line, A: Allocator + Copy>(
     alloc: A,
-    heard: &mut Heard<L>,
+    source: &mut LineSource<L>,
 ) -> Result<Answer<A>, PortFault>
-    requires { HasRoom (L.state heard.old.line) }
+    requires { HasRoom (L.state source.old.line) }
     ensures went { IfOk result (λ a.
-        Receives (text_of (AnswerFrame a)) (L.state heard.old.line) (L.state heard.new.line)) }
+        Receives (text_of (AnswerFrame a)) (L.state source.old.line) (L.state source.new.line)) }
     ensures lawful { IfOk result (λ a. IsAnswer a) }
     ensures fault { IfErr result
-        (λ e. AnswerFault e (L.state heard.old.line) (L.state heard.new.line)) }
-    ensures faithful { (w : ℕ) → L.faithful heard.old.line w → L.faithful heard.new.line w }
+        (λ e. AnswerFault e (L.state source.old.line) (L.state source.new.line)) }
+    ensures faithful { (w : ℕ) → L.faithful source.old.line w → L.faithful source.new.line w }
 {
-    match hear(alloc, heard) {
+    match hear(alloc, source) {
         Ok(Frame::Answer(answer)) => Ok(answer),
         Ok(
             Frame::Fault {
@@ -157,45 +155,42 @@ pub fn hear_answer<L: Line, A: Allocator + Copy>(
 // Hears the next frame. The one place that looks at what reads of a line keep true.
 fn hear<L: Line, A: Allocator + Copy>(
     alloc: A,
-    heard: &mut Heard<L>,
+    source: &mut LineSource<L>,
 ) -> Result<Frame<A>, FrameFault>
-    requires { HasRoom (L.state heard.old.line) }
+    requires { HasRoom (L.state source.old.line) }
     ensures went { IfOk result (λ f.
-        Receives (text_of (value_of f)) (L.state heard.old.line) (L.state heard.new.line)) }
+        Receives (text_of (value_of f)) (L.state source.old.line) (L.state source.new.line)) }
     ensures lawful { IfOk result (λ f. IsLawful (value_of f)) }
     ensures broke { IfErr result
-        (λ fault. FailsToRead fault (L.state heard.old.line) (L.state heard.new.line)) }
-    ensures faithful { (w : ℕ) → L.faithful heard.old.line w → L.faithful heard.new.line w }
+        (λ fault. FailsToRead fault (L.state source.old.line) (L.state source.new.line)) }
+    ensures faithful { (w : ℕ) → L.faithful source.old.line w → L.faithful source.new.line w }
 {
-    read_frame(alloc, heard)
+    read_frame(alloc, source)
 }
 
 // Sends a whole text by one put.
-fn send<L: Line>(heard: &mut Heard<L>, bytes: &[u8]) -> Result<(), PortFault>
-    requires { HasRoom (L.state heard.old.line) }
-    ensures went { OnOk result (Transmits bytes.now (L.state heard.old.line) (L.state heard.new.line)) }
-    ensures fault { IfErr result
-        (λ e. SendingFault e (L.state heard.old.line) (L.state heard.new.line)) }
+fn send<L: Line>(line: &mut L, bytes: &[u8]) -> Result<(), PortFault>
+    requires { HasRoom (L.state line.old) }
+    ensures went { OnOk result (Transmits bytes.now (L.state line.old) (L.state line.new)) }
+    ensures fault { IfErr result (λ e. SendingFault e (L.state line.old) (L.state line.new)) }
     ensures down { IfErr result (λ e. e ≡ PortFault.Down) }
-    ensures faithful { (w : ℕ) → L.faithful heard.old.line w → L.faithful heard.new.line w }
+    ensures faithful { (w : ℕ) → L.faithful line.old w → L.faithful line.new w }
 {
-    match heard.line.put(bytes) {
+    match line.put(bytes) {
         Ok(()) => Ok(()),
         Err(_) => Err(PortFault::Down),
     }
 }
 
 // Sends a text in two parts, by a put for each.
-fn send_both<L: Line>(heard: &mut Heard<L>, front: &[u8], rest: &[u8]) -> Result<(), PortFault>
-    requires { HasRoom (L.state heard.old.line) }
-    ensures went { OnOk result
-        (Transmits (front.now ++ rest.now) (L.state heard.old.line) (L.state heard.new.line)) }
-    ensures fault { IfErr result
-        (λ e. SendingFault e (L.state heard.old.line) (L.state heard.new.line)) }
-    ensures faithful { (w : ℕ) → L.faithful heard.old.line w → L.faithful heard.new.line w }
+fn send_both<L: Line>(line: &mut L, front: &[u8], rest: &[u8]) -> Result<(), PortFault>
+    requires { HasRoom (L.state line.old) }
+    ensures went { OnOk result (Transmits (front.now ++ rest.now) (L.state line.old) (L.state line.new)) }
+    ensures fault { IfErr result (λ e. SendingFault e (L.state line.old) (L.state line.new)) }
+    ensures faithful { (w : ℕ) → L.faithful line.old w → L.faithful line.new w }
 {
-    send(heard, front)?;
-    send(heard, rest)
+    send(line, front)?;
+    send(line, rest)
 }
 
 // What a wire answers where no frame could be read.

@@ -7,8 +7,8 @@ ghost use Rattle.ports.specs.Causes.{Cause};
 ghost use Rattle.ports.specs.Talking.{AnswersOverLine};
 
 use crate::fault::PortFault;
-use crate::heard::Heard;
 use crate::line::Line;
+use crate::line_source::LineSource;
 use crate::steps::{check_version, greet, hear_answer, send_ask, send_shard};
 use frames::Answer;
 use link_key::{Cut, Labels};
@@ -22,7 +22,7 @@ use std::marker::Model;
 #[derive(Drop)]
 pub struct Talk<'a, L, A: Allocator> {
     pub alloc: A,
-    pub heard: Heard<L>,
+    pub source: LineSource<L>,
     pub cut: &'a Cut<'a, A>,
     pub worker: u32,
     pub version: Option<u16>,
@@ -37,7 +37,7 @@ impl<'a, L, A: Allocator> Model for Talk<'a, L, A> {
 
     ghost Value = { TalkState L };
 
-    ghost view = { λ s. record { line = s.heard.line; cut = s.cut.now; worker = s.worker; version = s.version; sent = s.sent } };
+    ghost view = { λ s. record { line = s.source.line; cut = s.cut.now; worker = s.worker; version = s.version; sent = s.sent } };
 
     ghost invariant = { λ s. IfSome s.version IsVersion };
 }
@@ -68,11 +68,11 @@ impl<'a, L: Line, A: Allocator + Copy> Talk<'a, L, A> {
         let _are_few = self.cut.len();
         let _are_labels = labels.as_slice();
         let part = self.cut.shard(shard);
-        let version = greet(self.alloc, &mut self.heard, self.version, self.worker)?;
+        let version = greet(self.alloc, &mut self.source, self.version, self.worker)?;
         self.version = Some(version);
         check_version(version, &self.sent, &part)?;
-        send_shard(self.alloc, &mut self.heard, &mut self.sent, &part)?;
-        send_ask(&mut self.heard, &mut self.text, round, shard, labels)?;
-        hear_answer(self.alloc, &mut self.heard)
+        send_shard(self.alloc, &mut self.source.line, &mut self.sent, &part)?;
+        send_ask(&mut self.source.line, &mut self.text, round, shard, labels)?;
+        hear_answer(self.alloc, &mut self.source)
     }
 }

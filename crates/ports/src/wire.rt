@@ -10,8 +10,8 @@ ghost use Rattle.ports.specs.Talking.{AnswersOverLine};
 ghost use Rattle.ports.specs.Wires.{port_of, IsNewWire, IsCountedWire, IsSoundWire, ServesWire, IsHonestWire, WireExchanged, WireCause};
 
 use crate::fault::PortFault;
-use crate::heard::Heard;
 use crate::line::Line;
+use crate::line_source::LineSource;
 use crate::port::Port;
 use crate::talk::Talk;
 use frames::Answer;
@@ -76,7 +76,7 @@ impl<'a, L: Line, A: Allocator + Copy> Wire<'a, L, A> {
         Wire {
             talk: Talk {
                 alloc,
-                heard: Heard { line },
+                source: LineSource { line },
                 cut,
                 worker,
                 version: None,
@@ -97,8 +97,8 @@ impl<'a, L: Line, A: Allocator + Copy> Wire<'a, L, A> {
         ensures { result ≡ self.entry.talk.line }
     {
         let Wire { talk, .. } = self;
-        let Talk { heard, .. } = talk;
-        heard.line
+        let Talk { source, .. } = talk;
+        source.line
     }
 }
 

@@ -1,7 +1,7 @@
 //! A line as a source of bytes.
 ghost use Rattle.std.specs.Prelude.{ℕ, ◌<◌, length};
 ghost use Rattle.ports.specs.Lines.{HasRoom};
-ghost use Rattle.ports.specs.Hearing.{HeardFact, HoldsOf, source_of};
+ghost use Rattle.ports.specs.LineSources.{LineFact, HoldsOf, source_of};
 
 use crate::line::Line;
 use byte_streams::{Failed, Source};
@@ -11,18 +11,18 @@ use byte_streams::{Failed, Source};
 /// It owns the line, so that what is read is said of the line afterwards. It tells what it gave, and not
 /// what will come; reads keep true what was sent on the line, and for whom it is faithful.
 #[derive(Drop)]
-pub struct Heard<L> {
+pub struct LineSource<L> {
     pub line: L,
 }
 
-impl<L: Line> Source for Heard<L> {
-    ghost state = { λ heard. source_of (L.state heard.line) };
+impl<L: Line> Source for LineSource<L> {
+    ghost state = { λ source. source_of (L.state source.line) };
 
-    ghost Fact = { HeardFact };
+    ghost Fact = { LineFact };
 
-    ghost lasts = { λ heard. HoldsOf (L.state heard.line) (L.faithful heard.line) };
+    ghost lasts = { λ source. HoldsOf (L.state source.line) (L.faithful source.line) };
 
-    ghost can_read = { λ heard. HasRoom (L.state heard.line) };
+    ghost can_read = { λ source. HasRoom (L.state source.line) };
 
     fn read(&mut self, buf: &mut [u8]) -> Result<usize, Failed> {
         match self.line.get(buf) {
