@@ -9,7 +9,7 @@ use limits::{MAX_ARCS, MAX_VERTICES};
 use link_key::forest_of;
 use std::alloc::Global;
 
-// Puts the forest of the links first, and says how many they are.
+// Writes the forest over the first of the links, and says how many links it has.
 fn find_forest(alloc: Global, n: u32, links: &mut [GivenLink]) -> Result<usize, Refusal>
     ensures right { OnOk result (AreRight n links.old) }
     ensures found { IfOk result (λ count. HoldsForest links.old links.new count) }
@@ -36,8 +36,9 @@ fn find_forest(alloc: Global, n: u32, links: &mut [GivenLink]) -> Result<usize, 
     Ok(forest.links().len())
 }
 
-/// Puts the minimum spanning forest of a graph with the vertices 1 to `n` first among its links, in the order of their
-/// keys, and answers how many links it has; or answers the code of a [`Refusal`], which is negative.
+/// Writes the minimum spanning forest of a graph with the vertices 1 to `n` over the first of its links, in the order of
+/// their keys, and answers how many links it has; or answers the code of a [`Refusal`], which is negative. The links that
+/// stood there are lost, those behind stay.
 ///
 /// The links may come in any order, with their ends in either order, as loops and more than once. It takes the time of
 /// [`forest_of`], two passes over the links beside, and its memory, with 16 bytes a link for the list that it works in.

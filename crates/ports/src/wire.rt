@@ -64,7 +64,7 @@ impl<'a, L: Line, A: Allocator + Copy> Wire<'a, L, A> {
         requires room { HasRoom (L.state line) }
         ensures new { IsNewWire line cut.now worker result }
 
-        // Over any line its counts will say why it is closed.
+        // Over any line its counts will fit a fault that closed it.
         ensures counted { IsCountedWire L.state result (L.state line) }
 
         // Over a fresh line that tells its bytes it is sound, and over one that is faithful for the worker honest.
@@ -142,7 +142,7 @@ impl<'a, L: Line, A: Allocator + Copy> Port<A> for Wire<'a, L, A> {
         ensures cause { IfErr result (λ e. self.old.is_open ≡ true
             → WireCause L.state e round shard labels.now self.old self.new) }
 
-        // By what the line counted since the wire was new, whether or not it tells its bytes: why it is closed.
+        // What the line counted since the wire was new fits a fault that closed it, whether or not it tells its bytes.
         ensures counted { (start : LineState) → IsCountedWire L.state self.old start → IsCountedWire L.state self.new start }
 
         // A closed wire does nothing.
