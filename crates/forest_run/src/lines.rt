@@ -114,15 +114,15 @@ fn solve_lines<
 /// answer that the round's book refuses, one of whose asks finds no memory, or whose worker told a version that has no
 /// frame for a shard, is given up for good, and its shards are asked of the others; where none is left they are scanned
 /// here. So a failing line is never the run's fault. A line that was new and tells its bytes is given up for a fault
-/// only where its last ask counted a failure or an end, brought bytes that fit the fault, or needed a frame that its
-/// worker's version hasn't, and no ask before did. Where all lines carry the sessions of their workers the links are
-/// the minimum spanning forest, and no line is given up but one that is down, whose worker is too old for a shard, or
-/// for want of memory here or at its worker; whatever comes over them, the links close no cycle and span those of the
-/// file.
+/// only where its last ask counted a failure or an end, brought bytes that fit the fault, found no memory, or needed a
+/// frame that its worker's version hasn't, and no ask before did. Where all lines carry the sessions of their workers
+/// the links are the minimum spanning forest, and no line is given up but one that is down, whose worker is too old for
+/// a shard, or for want of memory here or at its worker; whatever comes over them, the links close no cycle and span
+/// those of the file.
 ///
 /// It waits for the workers' answers. The forest is whole before the first byte is written; after a fault the lines are
-/// dropped. It takes a list of the links, the places of the cut, 600 bytes and 4 a vertex for each line, and what
-/// [`solve`] takes; the time of a round is that of scanning the links once, shared by the workers.
+/// dropped. It takes a list of the links, the places of the cut, 600 bytes for each line and at most 64 KiB, or 4 bytes
+/// a vertex where the labels find no memory for bytes of their own, and what [`solve`] takes; the time of a round is that of scanning the links once, shared by the workers.
 pub fn run_lines<
     S: Source,
     W: Sink,

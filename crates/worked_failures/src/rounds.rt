@@ -14,6 +14,8 @@ use link_key::{Cut, CutFault, Labels, Link, Offers};
 use round_core::{Picks, RoundBook, SolveFault, Solver, Turn, hook_relabel, solve_alone};
 use std::alloc::{AllocError, Global};
 use std::process::Abort;
+use std::test::Fail;
+use test_memory::{Refusals, Refusing};
 use worked_graphs::{
     A_PATH_OF_EIGHT, EQUAL_WEIGHTS, SMALL_NET, WIDE_WEIGHTS, Worked, all_have_labels, have_labels,
     links_of,
@@ -380,4 +382,37 @@ fn boards_books_and_solvers(rt: HostRuntime) {
             },
         );
     }
+}
+
+// How many blocks a book for so many labels takes that is opened in the room of picks of six.
+fn blocks_in_room(rt: &impl Abort, alloc: Global, n: u32) -> Result<u64, Fail> {
+    assert!(rt; n < 1 << 20);
+    let memory = Refusing::new(alloc, Refusals::none());
+    let cut = Cut::even(&memory, &[], 1).expect(rt, "a cut");
+    let labels = Labels::apart(&memory, 6)?;
+    assert!(rt; all_have_labels(&cut, labels.n()));
+    let mut book = RoundBook::open(&memory, 1, &cut, &labels)?;
+    let answer = Answer {
+        round: 1,
+        shard: 0,
+        offers: Offers::of_pairs(Vec::new(&memory)).expect(rt, "offers"),
+    };
+    assert!(rt; book.len() == 1 && book.take(0, answer).is_ok() && book.missing() == 0);
+    let picks = book.close();
+    let labels = Labels::apart(&memory, n)?;
+    assert!(rt; all_have_labels(&cut, labels.n()));
+    let before = memory.given();
+    let book = RoundBook::open_over(picks, 1, &cut, &labels)?;
+    let blocks = memory.given().wrapping_sub(before);
+    drop(book);
+    Ok(blocks)
+}
+
+// A book takes two blocks for its shards, and one for its picks: none where those before had as many labels, or more.
+#[test]
+fn a_book_in_the_room_of_picks(rt: HostRuntime) -> Result<(), Fail> {
+    for (n, blocks) in [(6, 2), (4, 2), (7, 3)] {
+        expect_same(&rt, blocks_in_room(&rt, rt.alloc(), n)?, blocks);
+    }
+    Ok(())
 }
