@@ -140,15 +140,17 @@ module _ {L A : Type 0} (over : Line.Ghosts L) (n : ℕ) (cut : List (List Link)
       → PortsAnswer (wire_port A over) books before after answers_at → TellsOfWires over lines after
   wires_went books answers_at ports =
       let number = new.number in
+      λ worker line lane b.
+      let went = ports.each worker lane (omega (arith, number, b)) in
+      let here = new.each worker line lane b in
       record {
-        workers = λ worker lane b. (ports.each worker lane (omega (arith, number, b))).worker ∙ (new.each worker lane.port.talk.line lane b).worker_is;
-        sound = λ worker line lane b fresh tells.
-            (let went = ports.each worker lane (omega (arith, number, b)) in (
-              answered went.exchanges went.refused,
-              went.sound_is (over.state (get_or lines worker line)).ends [] (new_sound over (get_or lines worker line) cut worker (get_or before worker lane).port (new.each worker line lane b) fresh tells),
-            ));
-        honest = λ worker line lane b fresh tells carries.
-            (ports.each worker lane (omega (arith, number, b))).honest_is (new_honest over (get_or lines worker line) cut worker (get_or before worker lane).port (new.each worker line lane b) fresh tells carries);
+        worker_is = went.worker ∙ here.worker_is;
+        sound = λ fresh tells. (
+          answered went.exchanges went.refused,
+          went.sound_is (over.state (get_or lines worker line)).ends [] (new_sound over (get_or lines worker line) cut worker (get_or before worker lane).port here fresh tells),
+        );
+        honest = λ fresh tells carries.
+            went.honest_is (new_honest over (get_or lines worker line) cut worker (get_or before worker lane).port here fresh tells carries);
       }
 
   pub solve_fault : (fault : SolveFault) → IsSolveFault (wire_port A over) n cut before after fault

@@ -51,9 +51,13 @@ SameShard answer other = (answer.round ≡ other.round) × (answer.shard ≡ oth
 abbrev pub shards_of : List AnswerValue → List ℕ
 shards_of answers = map (λ answer. answer.shard) answers
 
+-- how many asks failed or found no memory
+abbrev pub faults_of : PortState → ℕ
+faults_of port = port.failures + port.wants
+
 -- one ask more failed, or found no memory
 abbrev pub MoreFaults : PortState → PortState → Type 0
-MoreFaults before after = before.failures + before.wants < after.failures + after.wants
+MoreFaults before after = faults_of before < faults_of after
 
 -- no ask failed, and none found no memory
 pub record SameFaults (before after : PortState) : Type 0 where
@@ -69,15 +73,17 @@ abbrev pub answered : List Exchange → Option Exchange → List Exchange
 answered exchanges refused = exchanges ++ option_to_list refused
 
 -- a port before and after some asks, of which these answers were kept; an answer that wasn't is one that a book refuses, which closed the port
-pub record AnswersAsks {P A : Type 0} (port : Port.Ghosts P A) (keeping : Exchange → Type 0) (closing : ℕ × ℕ → Option Exchange → Type 0) (before after : P) (kept : List AnswerValue) : Type 0 where
+pub record AnswersAsks {P A : Type 0} (port : Port.Ghosts P A) (keeping : Exchange → Type 0) (closing : ℕ × ℕ → Option Exchange → Type 0)
+    (before after : P) (kept : List AnswerValue) : Type 0 where
   pub cut : (port.state after).cut ≡ (port.state before).cut
   pub worker : (port.state after).worker ≡ (port.state before).worker
   -- each ask brought an answer that was kept, but the one that closed the port
-  pub asks : (port.state after).asks + count_if (port.state after).is_open ≡ (port.state before).asks + length kept + count_if (port.state before).is_open
+  pub asks : (port.state after).asks + count_if (port.state after).is_open
+      ≡ (port.state before).asks + length kept + count_if (port.state before).is_open
   pub failures : (port.state before).failures ≤ (port.state after).failures
   pub wants : (port.state before).wants ≤ (port.state after).wants
   -- at most one of the asks failed or found no memory, and none of a port that was closed
-  pub one_fault : (port.state after).failures + (port.state after).wants ≤ (port.state before).failures + (port.state before).wants + count_if (port.state before).is_open
+  pub one_fault : faults_of (port.state after) ≤ faults_of (port.state before) + count_if (port.state before).is_open
   -- the asks whose answers were kept, in their order, which is that of their rounds: the book takes each for the shard that was asked
   pub exchanges : List Exchange
   pub kept_are : kept ≡ answers_of exchanges
@@ -86,16 +92,22 @@ pub record AnswersAsks {P A : Type 0} (port : Port.Ghosts P A) (keeping : Exchan
   -- the ask whose answer is refused, if there is one
   pub refused : Option Exchange
   -- while it is open both counts stand still, and no answer was refused
-  pub opened : (port.state after).is_open ≡ true → ((port.state before).is_open ≡ true) × SameFaults (port.state before) (port.state after) × (refused ≡ None)
+  pub opened : (port.state after).is_open ≡ true
+      → ((port.state before).is_open ≡ true) × SameFaults (port.state before) (port.state after) × (refused ≡ None)
   -- once it is closed it is asked no more
-  pub still : (port.state before).is_open ≡ false → (exchanges ≡ []) × (refused ≡ None) × ((port.state after).last ≡ (port.state before).last)
+  pub still : (port.state before).is_open ≡ false
+      → (exchanges ≡ []) × (refused ≡ None) × ((port.state after).last ≡ (port.state before).last)
   -- where no ask failed or found no memory these are just the asks that it answered more
-  pub given : SameFaults (port.state before) (port.state after) → (others : List Exchange) → port.exchanged before others → port.exchanged after (others ++ answered exchanges refused)
+  pub given : SameFaults (port.state before) (port.state after)
+      → (others : List Exchange) → port.exchanged before others → port.exchanged after (others ++ answered exchanges refused)
   pub honest_is : port.honest before → port.honest after
   -- and what a port answered that failed later is told with why it failed
-  pub sound_is : (ends : ℕ) (others : List Exchange) → port.sound before ends others → port.sound after ends (others ++ answered exchanges refused)
+  pub sound_is : (ends : ℕ) (others : List Exchange)
+      → port.sound before ends others → port.sound after ends (others ++ answered exchanges refused)
   -- why it was closed: its last ask failed or found no memory, or brought an answer that is refused, which no honest port gives
   pub why : (port.state before).is_open ≡ true → (port.state after).is_open ≡ false
       → (MoreFaults (port.state before) (port.state after) × (refused ≡ None) × closing (port.state after).last None)
-      ⊎ ((exchange : Exchange) × (refused ≡ Some exchange) × SameFaults (port.state before) (port.state after) × closing (port.state after).last (Some exchange))
-  pub why_honest : port.honest before → (port.state before).is_open ≡ true → (port.state after).is_open ≡ false → MoreFaults (port.state before) (port.state after)
+      ⊎ ((exchange : Exchange) × (refused ≡ Some exchange) × SameFaults (port.state before) (port.state after)
+      × closing (port.state after).last (Some exchange))
+  pub why_honest : port.honest before → (port.state before).is_open ≡ true → (port.state after).is_open ≡ false
+      → MoreFaults (port.state before) (port.state after)

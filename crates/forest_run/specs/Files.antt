@@ -35,7 +35,8 @@ MeansNothing bytes = (graph : GraphValue) → ¬ (IsGraphOf bytes graph)
 
 -- this is the text of the forest that the bytes give
 abbrev pub IsForestTextOf : List ℕ → List ℕ → Type 0
-IsForestTextOf bytes text = (graph : GraphValue) × (forest : List Link) × HasForest bytes graph forest × (text ≡ forest_text graph.vertices forest)
+IsForestTextOf bytes text =
+    (graph : GraphValue) × (forest : List Link) × HasForest bytes graph forest × (text ≡ forest_text graph.vertices forest)
 
 -- so many bytes are no more than the text of the forest that the bytes give has
 abbrev pub IsPartOfText : List ℕ → ℕ → Type 0

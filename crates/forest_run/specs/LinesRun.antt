@@ -43,23 +43,27 @@ pub record IsHonestReport (graph : GraphValue) (report : Report) : Type 0 where
   pub lightest : IsLightest graph.links report.total
 
 -- a run that found a forest over lines, which come back in their order
-pub record RunsOverLines {L : Type 0} (A : Type 0) (over : Line.Ghosts L) (cutting : Cutting) (before after : List L) (graph : GraphValue) (forest : List Link) (report : Report) : Type 0 where
+pub record RunsOverLines {L : Type 0} (A : Type 0) (over : Line.Ghosts L) (cutting : Cutting) (before after : List L)
+    (graph : GraphValue) (forest : List Link) (report : Report) : Type 0 where
   pub cut : List (List Link)
   pub cut_is : IsCutOf cutting graph.links cut
   pub report_is : IsLinesReport (length before) graph (length cut) forest report
   pub solved : FindsOverLines A over graph.vertices cut before after forest report
-  -- where each line was new and carries its worker's session: this forest is the least, and this report has the number of merging rounds and the least total
+  -- where each line was new and carries its worker's session: this forest is the least, and this report has the number of
+  -- merging rounds and the least total
   pub least : AreServed over before → IsLeast graph forest × IsHonestReport graph report
   -- where no port was closed and nothing scanned alone: each line's bytes are the asks and their answers, which name all links of the forest
   pub talked : report.alone ≡ 0 → report.closed ≡ 0 → AreFresh over.state before → HaveTalked over.state cut forest report.asked after
 
 -- a run over new wires, whose rounds' answers the solver refuses by this fault
-pub record IsRefusedRun {L : Type 0} (A : Type 0) (over : Line.Ghosts L) (cutting : Cutting) (lines : List L) (graph : GraphValue) (why : SolveFault) : Type 0 where
+pub record IsRefusedRun {L : Type 0} (A : Type 0) (over : Line.Ghosts L) (cutting : Cutting) (lines : List L)
+    (graph : GraphValue) (why : SolveFault) : Type 0 where
   pub cut : List (List Link)
   pub cut_is : IsCutOf cutting graph.links cut
   pub refused : RefusesOverLines A over graph.vertices cut lines why
 
--- why a run over lines has no forest of a graph: its list can't be cut so; the answers of a round are past the bound, or their links don't join the ends of a link; or want of memory
+-- why a run over lines has no forest of a graph: its list can't be cut so; the answers of a round are past the bound, or
+-- their links don't join the ends of a link; or want of memory
 abbrev pub IsLinesFault : {L : Type 0} → (A : Type 0) → Line.Ghosts L → Cutting → List L → GraphValue → RunFault → Type 0
 IsLinesFault A over cutting lines graph (fault.Cut why) = IsCutFault (cut_refusal cutting (length graph.links)) why
 IsLinesFault A over cutting lines graph (fault.Rounds round) = IsRefusedRun A over cutting lines graph (solving.Rounds round)
@@ -75,11 +79,13 @@ told_fault solving.Memory = fault.Memory
 
 -- what a run over these lines did that answered this, whatever the workers answered: a report, and the lines
 abbrev pub RanLines : {L A : Type 0} → Line.Ghosts L → Cutting → List L → Result (Report × Vec L A) RunFault → Streams → Streams → Type 0
-RanLines {A = A} over cutting lines = Ran IsSpanning (λ graph forest r. RunsOverLines A over cutting lines r.1.items graph forest r.0) (IsLinesFault A over cutting lines)
+RanLines {A = A} over cutting lines =
+    Ran IsSpanning (λ graph forest r. RunsOverLines A over cutting lines r.1.items graph forest r.0) (IsLinesFault A over cutting lines)
 
 -- ---- a run whose lines are all served by the worker's engine
 
--- what such a run says of a graph and its forest: the list can be cut so, and the report has the number of its merging rounds, what the forest weighs, and that no spanning forest weighs less
+-- what such a run says of a graph and its forest: the list can be cut so, and the report has the number of its merging
+-- rounds, what the forest weighs, and that no spanning forest weighs less
 pub record IsServedReport (cutting : Cutting) (graph : GraphValue) (forest : List Link) (report : Report) : Type 0 where
   pub allowed : cut_refusal cutting (length graph.links) ≡ None
   pub honest : IsHonestReport graph report

@@ -22,8 +22,16 @@ pub record Streams : Type 0 where
 abbrev pub streams : SourceState → SinkState → Streams
 streams source sink = record { source = source; sink = sink }
 
--- the source was read to its end, a forest of its graph was found, and exactly the forest's text went out; so much is said of the graph and the forest
-pub record IsDone (found says : GraphValue → List Link → Type 0) (before after : Streams) : Type 0 where
+-- what may be so of a graph and links of it, and of an answer beside them
+abbrev pub ForestFact : Type 1
+ForestFact = GraphValue → List Link → Type 0
+
+abbrev pub AnswerFact : Type 0 → Type 1
+AnswerFact X = GraphValue → List Link → X → Type 0
+
+-- the source was read to its end, a forest of its graph was found, and exactly the forest's text went out; so much is said
+-- of the graph and the forest
+pub record IsDone (found says : ForestFact) (before after : Streams) : Type 0 where
   pub bytes : List ℕ
   pub graph : GraphValue
   pub forest : List Link
@@ -47,8 +55,9 @@ pub record IsUnsolved (why : GraphValue → Type 0) (before after : Streams) : T
   pub cause : why graph
   pub nothing : Took 0 [] before.sink after.sink
 
--- the source was read to its end, a forest of its graph was found, and so many bytes of its text went out before a setback; of the graph and the forest is said what some answer of a good end says of both
-pub record IsBrokenOff {X : Type 0} (found : GraphValue → List Link → Type 0) (says : GraphValue → List Link → X → Type 0) (written : ℕ) (before after : Streams) : Type 0 where
+-- the source was read to its end, a forest of its graph was found, and so many bytes of its text went out before a
+-- setback; of the graph and the forest is said what some answer of a good end says of both
+pub record IsBrokenOff {X : Type 0} (found : ForestFact) (says : AnswerFact X) (written : ℕ) (before after : Streams) : Type 0 where
   pub bytes : List ℕ
   pub graph : GraphValue
   pub forest : List Link
@@ -60,7 +69,7 @@ pub record IsBrokenOff {X : Type 0} (found : GraphValue → List Link → Type 0
   pub said : says graph forest answer
 
 -- what a run did that answered this: which links it may have found as a graph's forest, what its answer says of both, and why it may have found none
-abbrev pub Ran : {X : Type 0} → (GraphValue → List Link → Type 0) → (GraphValue → List Link → X → Type 0) → (GraphValue → RunFault → Type 0) → Result X RunFault → Streams → Streams → Type 0
+abbrev pub Ran : {X : Type 0} → ForestFact → AnswerFact X → (GraphValue → RunFault → Type 0) → Result X RunFault → Streams → Streams → Type 0
 Ran found says why (Ok x) = IsDone found (λ graph forest. says graph forest x)
 Ran found says why (Err (fault.Read fault)) = IsUnread fault
 Ran found says why (Err (fault.Write written)) = IsBrokenOff found says written

@@ -13,8 +13,17 @@ use Rattle.forest_run.specs.Outcomes.{Streams, Ran, IsSpanning, IsLeast}
 
 -- the report of a plain run: how many vertices and links, and what the forest weighs; no rounds, shards, asks or workers
 abbrev pub plain_report : GraphValue → List Link → Report
-plain_report graph forest =
-    record { vertices = graph.vertices; links = length graph.links; rounds = 0; shards = 0; asked = 0; answered = 0; alone = 0; closed = 0; total = sum_of_weights forest }
+plain_report graph forest = record {
+  vertices = graph.vertices;
+  links = length graph.links;
+  rounds = 0;
+  shards = 0;
+  asked = 0;
+  answered = 0;
+  alone = 0;
+  closed = 0;
+  total = sum_of_weights forest;
+}
 
 -- what a plain run reports of a graph and its forest: no spanning forest of the graph weighs less than the total
 pub record IsPlainReport (graph : GraphValue) (forest : List Link) (report : Report) : Type 0 where
@@ -46,4 +55,5 @@ pub record HasWritten (graph : GraphValue) (forest : List Link) (report : Report
 
 -- where the source has the text of a spanning forest, which a run may have written, that text was written again
 abbrev pub WritesAgain : Report → Streams → Streams → Type 0
-WritesAgain report before after = (graph : GraphValue) (forest : List Link) → HasForestOf graph forest before after → HasWritten graph forest report before after
+WritesAgain report before after =
+    (graph : GraphValue) (forest : List Link) → HasForestOf graph forest before after → HasWritten graph forest report before after

@@ -5,7 +5,8 @@ use Rattle.link_key.specs.Cut.{joined}
 use Rattle.link_key.specs.Least.{sum_of_weights}
 use Rattle.forest_run.specs.declared.report.Report.{Report}
 
--- a report of a run for the vertices 1 to n over a cut, which found this forest: each ask brought an answer or closed a port, and each shard of each round was answered or scanned alone
+-- a report of a run for the vertices 1 to n over a cut, which found this forest: each ask brought an answer or closed a
+-- port, and each shard of each round was answered or scanned alone
 pub record IsReportOf (n : ℕ) (cut : List (List Link)) (forest : List Link) (report : Report) : Type 0 where
   pub vertices : report.vertices ≡ n
   pub links : report.links ≡ length (joined cut)

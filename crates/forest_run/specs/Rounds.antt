@@ -18,7 +18,8 @@ pub record RunsRound {P A : Type 0} (port : Port.Ghosts P A) (old new : Page) (b
   pub closed : 0 < alone → open_count port.state after ≡ 0
 
 -- a whole round over a book that was opened for the cut under the labels: these are the picks of its answers
-pub record PicksInRound {P A : Type 0} (port : Port.Ghosts P A) (round : ℕ) (cut : List (List Link)) (labels : List ℕ) (before after : List (LaneState P)) (picks : List (Option Link)) (alone : ℕ) : Type 0 where
+pub record PicksInRound {P A : Type 0} (port : Port.Ghosts P A) (round : ℕ) (cut : List (List Link)) (labels : List ℕ)
+    (before after : List (LaneState P)) (picks : List (Option Link)) (alone : ℕ) : Type 0 where
   pub book : Page
   pub went : RunsRound port (opened round cut labels) book before after alone
   pub page : IsPage book

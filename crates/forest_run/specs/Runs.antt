@@ -8,7 +8,7 @@ use Rattle.ports.specs.declared.port.Port as Port
 use Rattle.ports.specs.Exchanges.{Exchange}
 use Rattle.forest_run.specs.Lanes.{LaneState, ask_count, open_count}
 use Rattle.forest_run.specs.Asks.{AnswersAsks, TakesExchange, ClosesPort, IsLight}
-use Rattle.forest_run.specs.Passes.{AnswersOnce}
+use Rattle.forest_run.specs.Passes.{AnswersOnce, KeepsHonestly}
 
 -- the book, as it was opened
 abbrev pub opened_book : Page → Page
@@ -23,13 +23,19 @@ abbrev pub IsKeptIn : List Page → Exchange → Type 0
 IsKeptIn books exchange = (book : Page) × Contains books book × TakesExchange (opened_book book) exchange
 
 -- the ports of lanes before and after asks of these books, of which these answers were kept at each lane's place
-pub record PortsAnswer {P A : Type 0} (port : Port.Ghosts P A) (books : List Page) (before after : List (LaneState P)) (answers_at : ℕ → List AnswerValue) : Type 0 where
+pub record PortsAnswer {P A : Type 0} (port : Port.Ghosts P A) (books : List Page)
+    (before after : List (LaneState P)) (answers_at : ℕ → List AnswerValue) : Type 0 where
   pub same_lanes : length after ≡ length before
-  pub each : (i : ℕ) (d : LaneState P) → i < length before → AnswersAsks port (IsKeptIn books) (ClosesPortIn books) (slice_index_or before i d).port (slice_index_or after i d).port (answers_at i)
+  pub each : (i : ℕ) (d : LaneState P) → i < length before
+      → AnswersAsks port (IsKeptIn books) (ClosesPortIn books) (slice_index_or before i d).port (slice_index_or after i d).port (answers_at i)
 
 -- a lane kept the answer
 abbrev pub IsGivenBy : ℕ → (ℕ → List AnswerValue) → AnswerValue → Type 0
 IsGivenBy lanes answers_at answer = (i : ℕ) × (i < lanes) × Contains (answers_at i) answer
+
+-- one of the books has the answer
+abbrev pub IsAnswerIn : List Page → AnswerValue → Type 0
+IsAnswerIn books answer = (book : Page) × Contains books book × Contains book.answers answer
 
 -- the answer is light in a book that has it
 abbrev pub IsLightIn : List Page → AnswerValue → Type 0
@@ -40,12 +46,13 @@ abbrev pub AreLightBooks : List Page → Type 0
 AreLightBooks books = All (λ book. All (IsLight book) book.answers) books
 
 -- the answers that lanes kept, beside the books that they went into
-pub record MatchesBooks {P : Type 0} (honest : P → Type 0) (before : List (LaneState P)) (books : List Page) (answers_at : ℕ → List AnswerValue) : Type 0 where
-  pub reached : (i : ℕ) (answer : AnswerValue) → i < length before → Contains (answers_at i) answer → (book : Page) × Contains books book × Contains book.answers answer
+pub record MatchesBooks {P : Type 0} (honest : P → Type 0) (before : List (LaneState P))
+    (books : List Page) (answers_at : ℕ → List AnswerValue) : Type 0 where
+  pub reached : (i : ℕ) (answer : AnswerValue) → i < length before → Contains (answers_at i) answer → IsAnswerIn books answer
   -- each answer in a book is light, or a lane kept it
   pub each_is : All (λ book. All (λ answer. IsLight book answer ⊎ IsGivenBy (length before) answers_at answer) book.answers) books
-  -- what a lane with an honest port kept is light, whatever the other lanes are
-  pub light_at : (i : ℕ) (d : LaneState P) → i < length before → honest (slice_index_or before i d).port → All (IsLightIn books) (answers_at i)
+  -- what a lane with an honest port kept is light
+  pub light_at : KeepsHonestly honest (IsLightIn books) before answers_at
   pub once : AnswersOnce (length before) answers_at
 
 -- an answer that a book took names the link
@@ -58,8 +65,10 @@ pub record IsFullBook (cut : List (List Link)) (book : Page) : Type 0 where
   pub page : IsPage book
   pub all : missing book ≡ 0
 
--- lanes before and after whole rounds over books of a cut: the books have so many answers that lanes kept, and so many others, each of which is light: those the coordinator scanned itself
-pub record RunsRounds {P A : Type 0} (port : Port.Ghosts P A) (cut : List (List Link)) (before after : List (LaneState P)) (books : List Page) (answered alone : ℕ) : Type 0 where
+-- lanes before and after whole rounds over books of a cut: the books have so many answers that lanes kept, and so many
+-- others, each of which is light: those the coordinator scanned itself
+pub record RunsRounds {P A : Type 0} (port : Port.Ghosts P A) (cut : List (List Link))
+    (before after : List (LaneState P)) (books : List Page) (answered alone : ℕ) : Type 0 where
   pub whole : All (IsFullBook cut) books
   pub answers_at : ℕ → List AnswerValue
   pub ports : PortsAnswer port books before after answers_at
@@ -68,7 +77,8 @@ pub record RunsRounds {P A : Type 0} (port : Port.Ghosts P A) (cut : List (List 
   -- each shard of each round has an answer that a lane kept, or another
   pub counted : answered + alone ≡ length books * length cut
   -- each ask brought an answer, but for those that closed a port
-  pub asks : ask_count port.state after + open_count port.state after ≡ (ask_count port.state before + answered) + open_count port.state before
+  pub asks : ask_count port.state after + open_count port.state after
+      ≡ (ask_count port.state before + answered) + open_count port.state before
   pub never_opened : open_count port.state after ≤ open_count port.state before
   pub closed : 0 < alone → open_count port.state after ≡ 0
   -- where the coordinator scanned nothing, each answer is one that a lane kept

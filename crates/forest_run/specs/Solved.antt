@@ -28,14 +28,16 @@ AreHonest honest lanes = All (λ lane. honest lane.port) lanes
 -- ---- one round
 
 -- a round under the solver's labels, and a step of the solver by its picks
-pub record StepsOnce {P A : Type 0} (port : Port.Ghosts P A) (cut : List (List Link)) (old new : Progress) (before after : List (LaneState P)) (turn : Turn) (alone : ℕ) : Type 0 where
+pub record StepsOnce {P A : Type 0} (port : Port.Ghosts P A) (cut : List (List Link)) (old new : Progress)
+    (before after : List (LaneState P)) (turn : Turn) (alone : ℕ) : Type 0 where
   pub picks : List (Option Link)
   pub progress : IsProgress old
   pub picked : PicksInRound port (old.rounds + 1) cut old.labels before after picks alone
   pub stepped : IsTurn picks old new turn
 
 -- however a turn ended: what it did to the lanes' ports, and the book that it filled, as far as it came
-pub record AsksInRound {P A : Type 0} (port : Port.Ghosts P A) (cut : List (List Link)) (old : Progress) (before after : List (LaneState P)) : Type 0 where
+pub record AsksInRound {P A : Type 0} (port : Port.Ghosts P A) (cut : List (List Link)) (old : Progress)
+    (before after : List (LaneState P)) : Type 0 where
   pub book : Page
   pub next : IsNextBook cut old book
   pub answers_at : ℕ → List AnswerValue
@@ -43,7 +45,8 @@ pub record AsksInRound {P A : Type 0} (port : Port.Ghosts P A) (cut : List (List
   pub kept : MatchesBooks port.honest before (book ∷ []) answers_at
 
 -- a round under the solver's labels, whose picks the solver refuses
-pub record RefusesPicks {P A : Type 0} (port : Port.Ghosts P A) (cut : List (List Link)) (old : Progress) (before after : List (LaneState P)) (fault : SolveFault) : Type 0 where
+pub record RefusesPicks {P A : Type 0} (port : Port.Ghosts P A) (cut : List (List Link)) (old : Progress)
+    (before after : List (LaneState P)) (fault : SolveFault) : Type 0 where
   pub picks : List (Option Link)
   pub alone : ℕ
   pub progress : IsProgress old
@@ -51,13 +54,15 @@ pub record RefusesPicks {P A : Type 0} (port : Port.Ghosts P A) (cut : List (Lis
   pub refused : IsStepFault old picks fault
 
 -- why a turn ends ill: want of memory, or the solver refuses the picks
-abbrev pub IsTurnFault : {P A : Type 0} → Port.Ghosts P A → List (List Link) → Progress → List (LaneState P) → List (LaneState P) → SolveFault → Type 0
+abbrev pub IsTurnFault : {P A : Type 0} → Port.Ghosts P A → List (List Link) → Progress
+    → List (LaneState P) → List (LaneState P) → SolveFault → Type 0
 IsTurnFault port cut old before after fault = (fault ≡ Memory) ⊎ RefusesPicks port cut old before after fault
 
 -- ---- rounds from the start of a run
 
 -- merging rounds from a run's start, which led to this solver, and one whole round more, of which these are the picks
-pub record PicksAfterRounds {P A : Type 0} (port : Port.Ghosts P A) (n : ℕ) (cut : List (List Link)) (before after : List (LaneState P)) (solver : Progress) (picks : List (Option Link)) (answered alone : ℕ) : Type 0 where
+pub record PicksAfterRounds {P A : Type 0} (port : Port.Ghosts P A) (n : ℕ) (cut : List (List Link)) (before after : List (LaneState P))
+    (solver : Progress) (picks : List (Option Link)) (answered alone : ℕ) : Type 0 where
   pub merging : List Page
   pub last : Page
   pub rounds : RunsRounds port cut before after (merging ++ last ∷ []) answered alone
@@ -68,7 +73,8 @@ pub record PicksAfterRounds {P A : Type 0} (port : Port.Ghosts P A) (n : ℕ) (c
 abbrev pub AreRunBooks : ℕ → List (List Link) → List Page → Type 0
 AreRunBooks n cut books =
     (books ≡ [])
-    ⊎ ((merging : List Page) × (solver : Progress) × (last : Page) × (books ≡ merging ++ last ∷ []) × All (IsFullBook cut) merging × MergesFromStart n merging solver × IsNextBook cut solver last)
+    ⊎ ((merging : List Page) × (solver : Progress) × (last : Page) × (books ≡ merging ++ last ∷ [])
+    × All (IsFullBook cut) merging × MergesFromStart n merging solver × IsNextBook cut solver last)
 
 -- however a run ended: what it did to the lanes' ports, and the books that it filled
 pub record AsksInRun {P A : Type 0} (port : Port.Ghosts P A) (n : ℕ) (cut : List (List Link)) (before after : List (LaneState P)) : Type 0 where
@@ -84,7 +90,8 @@ pub record HasAllRoundsOf (links : List Link) (p : Progress) : Type 0 where
   pub all : IsMergingRounds (vertices p) links p.rounds
 
 -- rounds of a run until one had no picks: an answer of each link that the solver took stands in a book
-pub record MergesAll {P A : Type 0} (port : Port.Ghosts P A) (n : ℕ) (cut : List (List Link)) (before after : List (LaneState P)) (solver : Progress) (answered alone : ℕ) : Type 0 where
+pub record MergesAll {P A : Type 0} (port : Port.Ghosts P A) (n : ℕ) (cut : List (List Link)) (before after : List (LaneState P))
+    (solver : Progress) (answered alone : ℕ) : Type 0 where
   pub picks : List (Option Link)
   pub went : PicksAfterRounds port n cut before after solver picks answered alone
   pub none : AreNoPicks picks
@@ -97,7 +104,8 @@ pub record MergesAll {P A : Type 0} (port : Port.Ghosts P A) (n : ℕ) (cut : Li
   pub right : AreLightBooks (went.merging ++ went.last ∷ []) → HasAllRoundsOf (joined cut) solver
 
 -- rounds of a run, after which the solver refuses the picks of the last one, or there were none and it can't be finished
-pub record RefusesRun {P A : Type 0} (port : Port.Ghosts P A) (n : ℕ) (cut : List (List Link)) (before after : List (LaneState P)) (fault : SolveFault) : Type 0 where
+pub record RefusesRun {P A : Type 0} (port : Port.Ghosts P A) (n : ℕ) (cut : List (List Link)) (before after : List (LaneState P))
+    (fault : SolveFault) : Type 0 where
   pub solver : Progress
   pub picks : List (Option Link)
   pub answered : ℕ
@@ -109,11 +117,17 @@ pub record RefusesRun {P A : Type 0} (port : Port.Ghosts P A) (n : ℕ) (cut : L
   pub to_blame : fault ≢ Memory → ¬ (AreLightBooks (went.merging ++ went.last ∷ []))
 
 -- why a run has no forest: want of memory, or what was answered in its rounds
-abbrev pub IsSolveFault : {P A : Type 0} → Port.Ghosts P A → ℕ → List (List Link) → List (LaneState P) → List (LaneState P) → SolveFault → Type 0
+abbrev pub IsSolveFault : {P A : Type 0} → Port.Ghosts P A → ℕ → List (List Link)
+    → List (LaneState P) → List (LaneState P) → SolveFault → Type 0
 IsSolveFault port n cut before after fault = (fault ≡ Memory) ⊎ RefusesRun port n cut before after fault
 
+-- an answer that one of so many lanes kept names the link
+abbrev pub IsNamedByLane : List (List Link) → ℕ → (ℕ → List AnswerValue) → Link → Type 0
+IsNamedByLane cut lanes answers_at l = (answer : AnswerValue) × IsGivenBy lanes answers_at answer × Names (hearing_of cut answer) l
+
 -- a run that ended well over the lanes: its forest, and its report
-pub record FindsForest {P A : Type 0} (port : Port.Ghosts P A) (n : ℕ) (cut : List (List Link)) (before after : List (LaneState P)) (forest : List Link) (report : Report) : Type 0 where
+pub record FindsForest {P A : Type 0} (port : Port.Ghosts P A) (n : ℕ) (cut : List (List Link)) (before after : List (LaneState P))
+    (forest : List Link) (report : Report) : Type 0 where
   pub solver : Progress
   pub picks : List (Option Link)
   -- a merging round for each that is reported, and the last one, which had no picks
@@ -130,8 +144,9 @@ pub record FindsForest {P A : Type 0} (port : Port.Ghosts P A) (n : ℕ) (cut : 
   -- no link is invented
   pub from_list : All (Contains (joined cut)) forest
   -- where the coordinator scanned nothing, an answer that a lane kept names each link
-  pub named : report.alone ≡ 0 → (l : Link) → Contains forest l → (answer : AnswerValue) × IsGivenBy (length before) went.rounds.answers_at answer × Names (hearing_of cut answer) l
-  -- where each answer is light, whoever gave it: the minimum spanning forest, than which no spanning forest weighs less, and the number of merging rounds
+  pub named : report.alone ≡ 0 → (l : Link) → Contains forest l → IsNamedByLane cut (length before) went.rounds.answers_at l
+  -- where each answer is light, whoever gave it: the minimum spanning forest, than which no spanning forest weighs less,
+  -- and the number of merging rounds
   pub light_forest : AreLightBooks (went.merging ++ went.last ∷ []) → IsForestOf (joined cut) forest
   pub light_total : AreLightBooks (went.merging ++ went.last ∷ []) → IsLightest (joined cut) report.total
   pub light_rounds : AreLightBooks (went.merging ++ went.last ∷ []) → IsMergingRounds n (joined cut) report.rounds

@@ -21,9 +21,13 @@ use Rattle.forest_run.specs.Solved.{FindsForest, RefusesRun}
 abbrev pub AreFresh : {L : Type 0} → (L → LineState) → List L → Type 0
 AreFresh state lines = All (λ line. IsFresh (state line) × TellsBytes (state line)) lines
 
--- each line is new and tells its bytes, and the line at each place is faithful for the worker of that number
+-- the line at each place is faithful for the worker of that number
+abbrev pub AreFaithful : {L : Type 0} → Line.Ghosts L → List L → Type 0
+AreFaithful over lines = (worker : ℕ) (d : _) → worker < length lines → over.faithful (slice_index_or lines worker d) worker
+
+-- each line is new and tells its bytes, and they are so
 abbrev pub AreServed : {L : Type 0} → Line.Ghosts L → List L → Type 0
-AreServed over lines = AreFresh over.state lines × ((worker : ℕ) (d : _) → worker < length lines → over.faithful (slice_index_or lines worker d) worker)
+AreServed over lines = AreFresh over.state lines × AreFaithful over lines
 
 -- lanes with a new wire over each line: the wire at each place is for the worker of that number
 pub record AreNewLanes {L : Type 0} (lines : List L) (cut : List (List Link)) (lanes : List (LaneState (WireState L))) : Type 0 where
@@ -38,20 +42,25 @@ lines_of lanes = map (λ lane. lane.port.talk.line) lanes
 
 -- ---- what a run does to them
 
--- the wires that lanes with new wires over these lines have after a run: each is of the worker of its place, and they tell why those that are shut were shut
-pub record TellsOfWires {L : Type 0} (over : Line.Ghosts L) (lines : List L) (ended : List (LaneState (WireState L))) : Type 0 where
-  pub workers : (worker : ℕ) (lane : LaneState (WireState L)) → worker < length lines → (slice_index_or ended worker lane).port.talk.worker ≡ worker
-  -- over a line that was new and tells its bytes, whatever the other lines are, from the ends on that it had found before the run
-  pub sound : (worker : ℕ) (line : L) (lane : LaneState (WireState L)) → worker < length lines
-      → IsFresh (over.state (slice_index_or lines worker line)) → TellsBytes (over.state (slice_index_or lines worker line))
-      → (exchanges : List Exchange) × IsSoundWire over.state (slice_index_or ended worker lane).port (over.state (slice_index_or lines worker line)).ends exchanges
-  -- over such a line that carries its worker's session, whatever the other lines are
-  pub honest : (worker : ℕ) (line : L) (lane : LaneState (WireState L)) → worker < length lines
-      → IsFresh (over.state (slice_index_or lines worker line)) → TellsBytes (over.state (slice_index_or lines worker line)) → over.faithful (slice_index_or lines worker line) worker
-      → IsHonestWire over (slice_index_or ended worker lane).port
+-- what a wire over this line, which was new before a run, is after it: it is of this worker, and tells why it was shut if
+-- it is, whatever the other lines are
+pub record TellsOfWire {L : Type 0} (over : Line.Ghosts L) (worker : ℕ) (line : L) (wire : WireState L) : Type 0 where
+  pub worker_is : wire.talk.worker ≡ worker
+  -- where the line was new and tells its bytes, from the ends on that it had found before the run
+  pub sound : IsFresh (over.state line) → TellsBytes (over.state line)
+      → (exchanges : List Exchange) × IsSoundWire over.state wire (over.state line).ends exchanges
+  -- and where it carries its worker's session too
+  pub honest : IsFresh (over.state line) → TellsBytes (over.state line) → over.faithful line worker → IsHonestWire over wire
+
+-- the wires that lanes with new wires over these lines have after a run: each is of the worker of its place
+abbrev pub TellsOfWires : {L : Type 0} → Line.Ghosts L → List L → List (LaneState (WireState L)) → Type 0
+TellsOfWires {L = L} over lines ended =
+    (worker : ℕ) (line : L) (lane : LaneState (WireState L)) → worker < length lines
+    → TellsOfWire over worker (slice_index_or lines worker line) (slice_index_or ended worker lane).port
 
 -- over new wires a run of their lanes found this forest of the cut's links, for the vertices 1 to n; the lines were taken out again in their order
-pub record FindsOverLines {L : Type 0} (A : Type 0) (over : Line.Ghosts L) (n : ℕ) (cut : List (List Link)) (before after : List L) (forest : List Link) (report : Report) : Type 0 where
+pub record FindsOverLines {L : Type 0} (A : Type 0) (over : Line.Ghosts L) (n : ℕ) (cut : List (List Link)) (before after : List L)
+    (forest : List Link) (report : Report) : Type 0 where
   pub lanes : List (LaneState (WireState L))
   pub new : AreNewLanes before cut lanes
   pub ended : List (LaneState (WireState L))
@@ -60,7 +69,8 @@ pub record FindsOverLines {L : Type 0} (A : Type 0) (over : Line.Ghosts L) (n : 
   pub lines_are : after ≡ lines_of ended
 
 -- over new wires the rounds of a run were answered so that the solver refuses them by this fault
-pub record RefusesOverLines {L : Type 0} (A : Type 0) (over : Line.Ghosts L) (n : ℕ) (cut : List (List Link)) (lines : List L) (fault : SolveFault) : Type 0 where
+pub record RefusesOverLines {L : Type 0} (A : Type 0) (over : Line.Ghosts L) (n : ℕ) (cut : List (List Link)) (lines : List L)
+    (fault : SolveFault) : Type 0 where
   pub lanes : List (LaneState (WireState L))
   pub new : AreNewLanes lines cut lanes
   pub ended : List (LaneState (WireState L))
@@ -73,7 +83,9 @@ pub record RefusesOverLines {L : Type 0} (A : Type 0) (over : Line.Ghosts L) (n 
 abbrev pub Transcript : Type 0
 Transcript = List FrameValue × List Exchange
 
--- a new line's whole talk with this worker about shards of the cut: these frames were sent, shards that were asked for there, once each and before their first ask, and the asks of these exchanges, and nothing else; and the worker's hello and the answers of the exchanges got, and nothing else, or nothing where no hello came
+-- a new line's whole talk with this worker about shards of the cut: these frames were sent, shards that were asked for
+-- there, once each and before their first ask, and the asks of these exchanges, and nothing else; and the worker's hello and
+-- the answers of the exchanges got, and nothing else, or nothing where no hello came
 pub record HasTalked (cut : List (List Link)) (worker : ℕ) (line : LineState) (said : Transcript) : Type 0 where
   pub talk : Talk
   pub worker_is : talk.worker ≡ worker
@@ -81,10 +93,18 @@ pub record HasTalked (cut : List (List Link)) (worker : ℕ) (line : LineState) 
   pub cut_is : talk.cut ≡ cut
   pub in_step : MatchesLine talk said.0 said.1
 
+-- an answer that was heard names the link
+abbrev pub IsNamedInTalks : List (List Link) → List Transcript → Link → Type 0
+IsNamedInTalks cut talks l =
+    (said : Transcript) × (exchange : Exchange)
+    × Contains talks said × Contains said.1 exchange × Names (hearing_of cut exchange.answer) l
+
 -- what was said and heard over all lines, at each place: so many asks in all, and each link of the forest is named by one of the answers
-pub record HaveTalked {L : Type 0} (state : L → LineState) (cut : List (List Link)) (forest : List Link) (asked : ℕ) (lines : List L) : Type 0 where
+pub record HaveTalked {L : Type 0} (state : L → LineState) (cut : List (List Link)) (forest : List Link) (asked : ℕ)
+    (lines : List L) : Type 0 where
   pub talks : List Transcript
   pub number : length talks ≡ length lines
-  pub each : (worker : ℕ) (line : L) (said : Transcript) → worker < length lines → HasTalked cut worker (state (slice_index_or lines worker line)) (slice_index_or talks worker said)
+  pub each : (worker : ℕ) (line : L) (said : Transcript) → worker < length lines
+      → HasTalked cut worker (state (slice_index_or lines worker line)) (slice_index_or talks worker said)
   pub asks : sum_by (λ said. asks_in said.0) talks ≡ asked
-  pub named : (l : Link) → Contains forest l → (said : Transcript) × (exchange : Exchange) × Contains talks said × Contains said.1 exchange × Names (hearing_of cut exchange.answer) l
+  pub named : (l : Link) → Contains forest l → IsNamedInTalks cut talks l
