@@ -1,20 +1,22 @@
 //! The passes of a round.
-ghost use Rattle.std.specs.Prelude.{◌≡◌, ◌<◌, ◌≤◌, length, All, OnOk, IfOk};
-ghost use Rattle.limits.specs.declared.TheConstants.{MAX_WORKERS};
+ghost use Rattle.std.specs.Prelude.{◌≡◌, ◌+◌, ◌<◌, ◌≤◌, length, All, OnOk, IfOk};
+ghost use Rattle.limits.specs.declared.TheConstants.{MAX_SHARDS, MAX_WORKERS};
 ghost use Rattle.link_key.specs.Link.{EndsUpTo};
 ghost use Rattle.round_core.specs.Page.{Page, opened, missing};
+ghost use Rattle.round_core.specs.Solver.{vertices, IsProgress};
 ghost use Rattle.forest_run.specs.Lanes.{open_count, IsIdle};
 ghost use Rattle.forest_run.specs.Bounds.{IsAskable, HasRoomForRound};
 ghost use Rattle.forest_run.specs.Passes.{RunsPasses};
 ghost use Rattle.forest_run.specs.Rounds.{RunsRound, PicksInRound};
+ghost use Rattle.forest_run.specs.Solved.{AsksInRound};
 
 use crate::lane::Lane;
 use crate::pass::pass;
 use crate::scans::scan_missing;
 use crate::seats::count_open;
-use link_key::{Cut, Labels};
+use link_key::Cut;
 use ports::Port;
-use round_core::{Picks, RoundBook};
+use round_core::{Picks, RoundBook, Solver};
 use std::alloc::{AllocError, Allocator};
 use std::sync::Wait;
 use std::thread::Threads;
@@ -78,8 +80,8 @@ pub(crate) struct Kept<A: Allocator> {
     pub(crate) picks: Picks<A>,
 }
 
-// A whole round of this number over a book of its own: the picks of the answers, and how many shards the coordinator
-// scanned itself. The only error is want of memory; then each lane is as its asks left it.
+// The solver's next round, under its labels, over a book of its own: the picks of the answers, and how many shards the
+// coordinator scanned itself. The only error is want of memory; then each lane is as its asks left it.
 //
 // It takes a book, which is freed with the round, what `run_round` takes, and what closing a book in threads takes.
 pub(crate) fn picks_of_round<
@@ -90,22 +92,22 @@ pub(crate) fn picks_of_round<
 >(
     rt: &R,
     kept: &mut Kept<A>,
-    round: u32,
+    solver: &'a Solver<A>,
     cut: &'a Cut<'a, A>,
-    labels: &'a Labels<A>,
     lanes: &mut [Lane<P, A>],
 ) -> Result<(Picks<A>, u32), AllocError>
     requires few { length lanes.old ≤ MAX_WORKERS }
-    requires round { 1 ≤ round }
     requires some_shard { 0 < length cut.now }
-    requires ends { All (EndsUpTo (length labels.now)) cut.now }
-    requires wide { All (λ lane. HasRoomForRound P.state (opened round cut.now labels.now) lane.port) lanes.old }
+    requires few_shards { length cut.now ≤ MAX_SHARDS }
+    requires ends { All (EndsUpTo (vertices solver.now)) cut.now }
+    requires wide { All (λ lane. HasRoomForRound P.state (opened (solver.now.rounds + 1) cut.now solver.now.labels) lane.port) lanes.old }
     requires idle { All IsIdle lanes.old }
-    ensures picked { IfOk result (λ r. PicksInRound P.Port round cut.now labels.now lanes.old lanes.new r.0 r.1) }
-    ensures asked { (middle : Page) × RunsPasses P.Port (opened round cut.now labels.now) middle lanes.old lanes.new }
+    ensures progress { IsProgress solver.now }
+    ensures picked { IfOk result (λ r. PicksInRound P.Port (solver.now.rounds + 1) cut.now solver.now.labels lanes.old lanes.new r.0 r.1) }
+    ensures asked { AsksInRound P.Port cut.now solver.now lanes.old lanes.new }
     ensures idle { All IsIdle lanes.new }
 {
-    let mut book = RoundBook::open_over(kept.picks.take(), round, cut, labels)?;
+    let mut book = RoundBook::open_over(kept.picks.take(), solver.round(), cut, solver.labels())?;
     let alone = run_round(rt, kept.alloc, &mut book, lanes)?;
     Ok((book.close_par(rt), alone))
 }

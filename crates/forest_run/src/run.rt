@@ -3,7 +3,7 @@ ghost use Rattle.std.specs.Prelude.{◌≡◌, ℕ, ◌+◌, ◌<◌, ◌≤◌,
 ghost use Rattle.limits.specs.declared.TheConstants.{MAX_SHARDS, MAX_VERTICES, MAX_WORKERS};
 ghost use Rattle.link_key.specs.Link.{EndsUpTo};
 ghost use Rattle.round_core.specs.Page.{opened};
-ghost use Rattle.round_core.specs.Solver.{vertices, IsAtStart};
+ghost use Rattle.round_core.specs.Solver.{vertices};
 ghost use Rattle.round_core.specs.declared.solver.SolveFault.TheVariants.{Memory};
 ghost use Rattle.forest_run.specs.Lanes.{IsIdle};
 ghost use Rattle.forest_run.specs.Bounds.{HasRoomForRound};
@@ -41,13 +41,13 @@ fn turn<'a, A: Allocator + Copy + Send + Sync, P: Port<A> + Send + Drop, R: Thre
 {
     // Without memory for the bytes of the labels, each wire turns the labels into bytes for itself.
     let _ = solver.spell_labels();
-    let (picks, alone) = picks_of_round(rt, kept, solver.round(), cut, solver.labels(), lanes)?;
+    let (picks, alone) = picks_of_round(rt, kept, solver, cut, lanes)?;
     let turn = solver.step(&picks)?;
     kept.picks = picks;
     Ok((turn, alone))
 }
 
-// Rounds until one has no picks. It answers how many shards were scanned alone.
+// Rounds from the start until one has no picks: the solver then, and how many shards were scanned alone.
 fn merge_rounds<
     'a,
     A: Allocator + Copy + Send + Sync,
@@ -57,11 +57,9 @@ fn merge_rounds<
     rt: &R,
     alloc: A,
     n: u32,
-    solver: &mut Solver<A>,
     cut: &'a Cut<'a, A>,
     lanes: &mut [Lane<P, A>],
-) -> Result<u64, SolveFault>
-    requires start { IsAtStart n solver.old }
+) -> Result<(Solver<A>, u64), SolveFault>
     requires few { length lanes.old ≤ MAX_WORKERS }
     requires vertices { n ≤ MAX_VERTICES }
     requires some_shard { 0 < length cut.now }
@@ -70,26 +68,27 @@ fn merge_rounds<
     requires cut { All (λ lane. (P.state lane.port).cut ≡ cut.now) lanes.old }
     requires counts { All (λ lane. (P.state lane.port).asks < 2 ^ 63) lanes.old }
     requires idle { All IsIdle lanes.old }
-    ensures went { IfOk result (λ alone. (answered : ℕ)
-        × MergesAll P.Port n cut.now lanes.old lanes.new solver.new answered alone) }
+    ensures went { IfOk result (λ r. (answered : ℕ)
+        × MergesAll P.Port n cut.now lanes.old lanes.new r.0 answered r.1) }
     ensures ports { AsksInRun P.Port n cut.now lanes.old lanes.new }
     ensures fault { IfErr result (IsSolveFault P.Port n cut.now lanes.old lanes.new) }
     ensures honest_fault { IfErr result (λ fault. AreHonest P.honest lanes.old → fault ≡ Memory) }
     ensures idle { All IsIdle lanes.new }
 {
+    let mut solver = Solver::new(alloc, n)?;
     let mut kept = Kept {
         alloc,
         picks: Picks::empty(alloc),
     };
     let mut alone = 0;
     for _ in rt.forever() {
-        let (turn, scanned) = turn(rt, &mut kept, solver, cut, lanes)?;
+        let (turn, scanned) = turn(rt, &mut kept, &mut solver, cut, lanes)?;
         alone += u64::from(scanned);
         if let Turn::Done = turn {
             break;
         }
     }
-    Ok(alone)
+    Ok((solver, alone))
 }
 
 /// A spanning forest of the cut's links, by what the lanes' ports answer and, where none is open, by the coordinator's own
@@ -132,8 +131,7 @@ pub fn solve<
 {
     let shards = cut.len();
     let open = count_open(lanes);
-    let mut solver = Solver::new(alloc, n)?;
-    let alone = merge_rounds(rt, alloc, n, &mut solver, cut, lanes)?;
+    let (solver, alone) = merge_rounds(rt, alloc, n, cut, lanes)?;
     let forest = solver.finish(cut)?;
     let counts = Counts {
         last: solver.round(),

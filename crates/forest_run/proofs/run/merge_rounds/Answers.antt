@@ -1,11 +1,14 @@
 use Rattle.std.proofs.Common.{arith}
 use Rattle.std.proofs.lemmas.Result.{err_from_is_err_and}
-use Rattle.forest_run.proofs.Ending.{so_far_none, wide_more, alone_few, turned_more, turned_last, turn_fault, turn_honest, asked_then}
+use Rattle.forest_run.proofs.Ending.{asked_none, so_far_none, wide_more, alone_few, turned_more, turned_last, turn_fault, turn_honest, asked_then}
 use Rattle.forest_run.proofs.run.merge_rounds.Goals as goal
 use Rattle.forest_run.proofs.run.merge_rounds.Goals.{in-None, in-Some+in_ok-turn+in-Done}
 
 pub loop-init : goal.loop-init
-loop-init g c = record { so_far = so_far_none g.P.Port c.args.n c.args.cut.now c.args.lanes.now c.args.solver.now c.requires.start; idle = c.requires.idle }
+loop-init g c = record { so_far = so_far_none g.P.Port c.args.n c.args.cut.now c.args.lanes.now c.in_ok-solver.solver c.in_ok-solver.ensures; idle = c.requires.idle }
+
+pub returns-in_err-solver-clause-ports : goal.returns-in_err-solver-clause-ports
+returns-in_err-solver-clause-ports g c = asked_none g.P.Port c.args.n c.args.cut.now c.args.lanes.now
 
 pub turn-requires-clause-wide : goal.turn-requires-clause-wide
 turn-requires-clause-wide g c κs within =
@@ -17,14 +20,14 @@ returns-in_err-turn-clause-ports g c =
 
 pub returns-in_err-turn-clause-fault : goal.returns-in_err-turn-clause-fault
 returns-in_err-turn-clause-fault g c =
-    let told = err_from_is_err_and c.from_residual.result c.from_residual.ensures.1 in
+    let told = err_from_is_err_and c.from_residual-in_err-turn.result c.from_residual-in_err-turn.ensures.1 in
     rw (told.1, told.2)
     (turn_fault g.P.Port c.args.n c.args.cut.now c.args.lanes.now c.loop.lanes c.turn.new.lanes c.loop.solver c.loop.alone c.in_err-turn.field-0.0 c.requires.ends
     c.loop.invariant.so_far c.in_err-turn.ensures.fault)
 
 pub returns-in_err-turn-clause-honest_fault : goal.returns-in_err-turn-clause-honest_fault
 returns-in_err-turn-clause-honest_fault g c =
-    let told = err_from_is_err_and c.from_residual.result c.from_residual.ensures.1 in
+    let told = err_from_is_err_and c.from_residual-in_err-turn.result c.from_residual-in_err-turn.ensures.1 in
     rw (told.1, told.2)
     (turn_honest g.P.Port c.args.n c.args.cut.now c.args.lanes.now c.loop.lanes c.turn.new.lanes c.loop.solver c.loop.alone c.in_err-turn.field-0.0 c.requires.ends
     c.loop.invariant.so_far c.in_err-turn.ensures.fault)

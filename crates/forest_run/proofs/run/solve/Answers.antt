@@ -1,39 +1,36 @@
 use Rattle.std.proofs.Common.{◌≡◌, ◌+◌, arith}
 use Rattle.std.proofs.lemmas.Result.{err_from_is_err_and}
 use Rattle.forest_run.specs.Lanes.{open_count}
-use Rattle.forest_run.proofs.Ending.{rounds_few, asked_none, finish_fault, finish_honest, solved}
+use Rattle.forest_run.proofs.Ending.{rounds_few, finish_fault, finish_honest, solved}
 use Rattle.forest_run.proofs.run.solve.Goals as goal
-
-pub returns-in_err-solver-clause-ports : goal.returns-in_err-solver-clause-ports
-returns-in_err-solver-clause-ports g c = asked_none g.P.Port c.args.n c.args.cut.now c.args.lanes.now
 
 pub returns-in_err-forest-clause-fault : goal.returns-in_err-forest-clause-fault
 returns-in_err-forest-clause-fault g c =
     let told = err_from_is_err_and c.from_residual-in_err-forest.result c.from_residual-in_err-forest.ensures.1 in
     rw (told.1, told.2)
-    (finish_fault g.P.Port c.args.n c.args.cut.now c.args.lanes.now c.merge_rounds.new.lanes c.merge_rounds.new.solver c.in_ok-alone.ensures.went.0 c.in_ok-alone.alone
-    c.in_err-forest.field-0.0 c.requires.ends c.in_ok-alone.ensures.went.1 c.in_err-forest.ensures.fault)
+    (finish_fault g.P.Port c.args.n c.args.cut.now c.args.lanes.now c.merge_rounds.new.lanes c.in_ok-solver.solver c.in_ok-solver.ensures.went.0 c.in_ok-solver.alone
+    c.in_err-forest.field-0.0 c.requires.ends c.in_ok-solver.ensures.went.1 c.in_err-forest.ensures.fault)
 
 pub returns-in_err-forest-clause-honest_fault : goal.returns-in_err-forest-clause-honest_fault
 returns-in_err-forest-clause-honest_fault g c =
     let told = err_from_is_err_and c.from_residual-in_err-forest.result c.from_residual-in_err-forest.ensures.1 in
     rw (told.1, told.2)
-    (finish_honest g.P.Port c.args.n c.args.cut.now c.args.lanes.now c.merge_rounds.new.lanes c.merge_rounds.new.solver c.in_ok-alone.ensures.went.0 c.in_ok-alone.alone
-    c.in_err-forest.field-0.0 c.requires.ends c.in_ok-alone.ensures.went.1 c.in_err-forest.ensures.fault)
+    (finish_honest g.P.Port c.args.n c.args.cut.now c.args.lanes.now c.merge_rounds.new.lanes c.in_ok-solver.solver c.in_ok-solver.ensures.went.0 c.in_ok-solver.alone
+    c.in_err-forest.field-0.0 c.requires.ends c.in_ok-solver.ensures.went.1 c.in_err-forest.ensures.fault)
 
 pub finish-requires : goal.finish-requires
-finish-requires g c = record { ends = rw c.in_ok-alone.ensures.went.1.vertices_are c.requires.ends }
+finish-requires g c = record { ends = rw c.in_ok-solver.ensures.went.1.vertices_are c.requires.ends }
 
 pub report_of-report-requires-clause-few : goal.report_of-report-requires-clause-few
 report_of-report-requires-clause-few g c =
-    let few = rounds_few c.args.n c.merge_rounds.new.solver.rounds c.requires.vertices c.in_ok-alone.ensures.went.1.in_time in
+    let few = rounds_few c.args.n c.in_ok-solver.solver.rounds c.requires.vertices c.in_ok-solver.ensures.went.1.in_time in
     omega arith
 
 pub returns-clause-went : goal.returns-clause-went
 returns-clause-went g c =
-    let went = c.in_ok-alone.ensures.went in
+    let went = c.in_ok-solver.ensures.went in
     let fewer = went.1.went.rounds.never_opened in
-    let rounds : c.report_of-report.result.rounds ≡ c.merge_rounds.new.solver.rounds = omega arith in
+    let rounds : c.report_of-report.result.rounds ≡ c.in_ok-solver.solver.rounds = omega arith in
     let closed : open_count g.P.Port.state c.merge_rounds.new.lanes + c.report_of-report.result.closed ≡ open_count g.P.Port.state c.args.lanes.now = omega arith in
-    solved g.P.Port c.args.n c.args.cut.now c.args.lanes.now c.merge_rounds.new.lanes c.merge_rounds.new.solver went.0 c.in_ok-alone.alone c.in_ok-forest.forest c.report_of-report.result c.requires.ends
+    solved g.P.Port c.args.n c.args.cut.now c.args.lanes.now c.merge_rounds.new.lanes c.in_ok-solver.solver went.0 c.in_ok-solver.alone c.in_ok-forest.forest c.report_of-report.result c.requires.ends
     went.1 c.in_ok-forest.ensures.forest c.report_of-report.ensures.report rounds c.report_of-report.ensures.alone closed
