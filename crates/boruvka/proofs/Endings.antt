@@ -11,12 +11,11 @@ use Rattle.gr_text.specs.Graph.{GraphValue}
 use Rattle.gr_text.specs.declared.faults.ReadFault.TheVariants as read
 use Rattle.ports.specs.declared.line.Line as Line
 use Rattle.tcp_lines.specs.Lines.{TcpLineState, tcp_line, unused}
-use Rattle.forest_run.specs.Cuttings.{cut_refusal}
-use Rattle.forest_run.specs.Files.{HasFile, IsFileOf, MeansGraph, MeansNothing, IsFirstFaultOf, IsNoRefusal}
+use Rattle.forest_run.specs.Files.{HasFile, MeansGraph, MeansNothing, IsFirstFaultOf, IsNoRefusal}
 use Rattle.forest_run.specs.Outcomes.{streams, Streams, Ran, IsUnread, IsSpanning, IsLeast}
 use Rattle.forest_run.specs.PlainRun.{RanPlain, IsPlainReport, IsPlainFault}
 use Rattle.forest_run.specs.WiredLines.{AreServed}
-use Rattle.forest_run.specs.LinesRun.{RanLines, RanServed, IsUnhindered, RunsOverLines, IsLinesFault}
+use Rattle.forest_run.specs.LinesRun.{RanLines, RanServed, HasGraphToCut, IsUnhindered, EndsWell, RunsOverLines, IsLinesFault}
 use Rattle.forest_run.specs.declared.cutting.Cutting.TheVariants.{Even}
 use Rattle.forest_run.specs.declared.report.Report.{Report}
 use Rattle.forest_run.specs.declared.fault.RunFault.{RunFault}
@@ -24,7 +23,7 @@ use Rattle.forest_run.specs.declared.fault.RunFault.TheVariants as fault
 use Rattle.boruvka.specs.Arguments.{given, number_of, is_set, file_named}
 use Rattle.boruvka.specs.Messages.{fault_line, unopened_line}
 use Rattle.boruvka.specs.declared.chosen.Options.{Options}
-use Rattle.boruvka.specs.Status.{Standard, of_run, Asked, asked_of, asked_by, EndsAs, EndsOn, Obeys, EndsWith, EndsOver, EndsOverWorkers, HasGraph, HasNoGraph, IsDone, IsReported, IsWritten, LeavesOutput, IsUntouched, report_of, status_for, status_of_run, untold}
+use Rattle.boruvka.specs.Status.{Standard, of_run, Asked, asked_of, asked_by, EndsAs, EndsOn, Obeys, EndsWith, EndsOver, EndsOverWorkers, HasNoGraph, IsDone, IsReported, IsWritten, LeavesOutput, IsUntouched, report_of, status_for, status_of_run, untold}
 
 -- ---- how a run ends
 
@@ -72,7 +71,7 @@ wants_memory_over workers shards wants s a e f text = record {
     malformed = λ bytes has nothing. tt;
     lawful = λ bytes has means. refl;
     served = λ served. unread s a;
-    ends_well = λ served bytes graph has file allowed. refl;
+    ends_well = λ served has. refl;
   };
 }
 
@@ -113,8 +112,7 @@ pub over_lines : {L : Type 0} (over : Line.Ghosts L) (lines : List L) (shards : 
     → ((bytes : List ℕ) → HasFile bytes before.source after.source → MeansNothing bytes → IsFirstFaultOf bytes result)
     → ((bytes : List ℕ) → HasFile bytes before.source after.source → MeansGraph bytes → IsNoRefusal result)
     → (AreServed over lines → RanServed (Even shards) result (of_run before) (of_run after))
-    → (AreServed over lines → (bytes : List ℕ) (graph : GraphValue) → HasFile bytes before.source after.source → IsFileOf bytes graph
-    → cut_refusal (Even shards) (length graph.links) ≡ None → IsUnhindered result before.sink after.sink)
+    → (AreServed over lines → EndsWell (Even shards) result (of_run before) (of_run after))
     → EndsOver over lines shards wants status before after
 over_lines over lines shards wants status before after ended result told is reported ran malformed lawful served ends_well = record {
   result = result;
@@ -254,9 +252,9 @@ done_status (Err fault.Memory) status a b is free = inr (inl is)
 done_status (Err (fault.Write written)) status a b is free = inr (inr (is, free))
 
 pub done_lines : {L : Type 0} (over : Line.Ghosts L) (lines : List L) (shards : ℕ) (wants : Bool) (status : ℕ) (before after : Standard)
-    → EndsOver over lines shards wants status before after → AreServed over lines → HasGraph shards before.source after.source → IsDone status before.sink after.sink
-done_lines over lines shards wants status before after ends served it =
-    done_status ends.result status before.sink after.sink ends.status_is (ends.ends_well served it.bytes it.graph it.has it.file it.allowed)
+    → EndsOver over lines shards wants status before after → AreServed over lines → HasGraphToCut (Even shards) before.source after.source → IsDone status before.sink after.sink
+done_lines over lines shards wants status before after ends served has =
+    done_status ends.result status before.sink after.sink ends.status_is (ends.ends_well served has)
 
 -- a file that means nothing is refused, or memory was wanting
 refused_status : {X : Type 0} (bytes : List ℕ) (result : Result X RunFault) (status : ℕ) → status ≡ status_of_run result → IsFirstFaultOf bytes result → (status ≡ 1) ⊎ (status ≡ 4)

@@ -3,18 +3,16 @@ use Rattle.std.specs.Prelude.{◌≡◌, ◌≢◌, ◌≤◌, ℕ, ◌⊎◌, L
 use Rattle.std.specs.Global.{Vec}
 use Rattle.std.specs.String.{string_bytes}
 use Rattle.byte_streams.specs.Streams.{SourceState, SinkState, tells_left, Took, WentOut, HadNoSetback}
-use Rattle.gr_text.specs.Graph.{GraphValue}
 use Rattle.gr_text.specs.declared.faults.ReadFault.TheVariants as read
 use Rattle.clap.specs.Words.{IsAmong}
 use Rattle.clap.specs.declared.error.kind.ErrorKind.{ErrorKind}
 use Rattle.clap.specs.declared.error.kind.ErrorKind.TheVariants.{DisplayHelp}
 use Rattle.link_key.specs.declared.cuts.CutFault.TheVariants as cut
 use Rattle.ports.specs.declared.line.Line as Line
-use Rattle.forest_run.specs.Cuttings.{cut_refusal}
-use Rattle.forest_run.specs.Files.{HasFile, IsFileOf, MeansGraph, MeansNothing, IsFirstFaultOf, IsNoRefusal}
+use Rattle.forest_run.specs.Files.{HasFile, MeansGraph, MeansNothing, IsFirstFaultOf, IsNoRefusal}
 use Rattle.forest_run.specs.Outcomes.{Streams, streams}
 use Rattle.forest_run.specs.PlainRun.{RanPlain}
-use Rattle.forest_run.specs.LinesRun.{RanLines, RanServed, IsUnhindered}
+use Rattle.forest_run.specs.LinesRun.{RanLines, RanServed, EndsWell}
 use Rattle.forest_run.specs.ReportText.{report_text}
 use Rattle.forest_run.specs.WiredLines.{AreServed}
 use Rattle.forest_run.specs.declared.cutting.Cutting.TheVariants.{Even}
@@ -115,8 +113,7 @@ pub record EndsOver {L : Type 0} (over : Line.Ghosts L) (lines : List L) (shards
   pub lawful : (bytes : List ℕ) → HasFile bytes before.source after.source → MeansGraph bytes → IsNoRefusal result
   -- where each line is new and carries its worker's session
   pub served : AreServed over lines → RanServed (Even shards) result (of_run before) (of_run after)
-  pub ends_well : AreServed over lines → (bytes : List ℕ) (graph : GraphValue) → HasFile bytes before.source after.source → IsFileOf bytes graph
-      → cut_refusal (Even shards) (length graph.links) ≡ None → IsUnhindered result before.sink after.sink
+  pub ends_well : AreServed over lines → EndsWell (Even shards) result (of_run before) (of_run after)
 
 -- a run over new lines to at most so many workers ended so. Nothing is known of what comes over the lines; a run that had no line has each of them served, and found the minimum spanning forest
 pub record EndsOverWorkers (workers shards : ℕ) (wants : Bool) (status : ℕ) (before after : Standard) : Type 0 where
@@ -126,14 +123,6 @@ pub record EndsOverWorkers (workers shards : ℕ) (wants : Bool) (status : ℕ) 
   pub ends : EndsOver tcp_line lines shards wants status before after
 
 -- ---- what follows for the status, of a source that tells
-
--- the source has a file whose graph can be cut into so many shards, and no read failed
-pub record HasGraph (shards : ℕ) (before after : SourceState) : Type 0 where
-  pub bytes : List ℕ
-  pub graph : GraphValue
-  pub has : HasFile bytes before after
-  pub file : IsFileOf bytes graph
-  pub allowed : cut_refusal (Even shards) (length graph.links) ≡ None
 
 -- the source has a file that means nothing, and no read failed
 abbrev pub HasNoGraph : SourceState → SourceState → Type 0

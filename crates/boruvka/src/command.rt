@@ -4,12 +4,14 @@ ghost use Rattle.std.specs.IoError.{error_kind};
 ghost use Rattle.limits.specs.declared.TheConstants.{MAX_WORKERS};
 ghost use Rattle.clap.specs.Words.{kind_of};
 ghost use Rattle.ports.specs.Lines.{HasRoom};
+ghost use Rattle.forest_run.specs.LinesRun.{HasGraphToCut};
 ghost use Rattle.forest_run.specs.WiredLines.{AreServed};
+ghost use Rattle.forest_run.specs.declared.cutting.Cutting.TheVariants.{Even};
 ghost use Rattle.tcp_lines.specs.Lines.{tcp_line, unused};
 ghost use Rattle.boruvka.specs.Arguments.{IsMistake, file_named, is_set, refusals};
 ghost use Rattle.boruvka.specs.Messages.{message_line};
 ghost use Rattle.boruvka.specs.Status.{told, asked_of, status_of_run, report_of, IsReported, EndsOver, EndsAs, Obeys, ObeysWords};
-ghost use Rattle.boruvka.specs.Status.{HasGraph, HasNoGraph, IsDone, LeavesOutput, IsUntouched, IsWritten, AskForHelp, AreWrong, HelpEnds, RefusesWords};
+ghost use Rattle.boruvka.specs.Status.{HasNoGraph, IsDone, LeavesOutput, IsUntouched, IsWritten, AskForHelp, AreWrong, HelpEnds, RefusesWords};
 
 use crate::arguments::options;
 use crate::chosen::{Options, OptionsFault};
@@ -100,7 +102,7 @@ pub fn run_over<
     // Over such lines the workers are never blamed, and a file whose links can be cut so has its forest.
     ensures blameless { AreServed L.Line lines.items → result ≢ 5 }
     ensures done { AreServed L.Line lines.items
-        → HasGraph shards (I.state input.old) (I.state input.new)
+        → HasGraphToCut (Even shards) (I.state input.old) (I.state input.new)
         → IsDone result (O.state output.old) (O.state output.new) }
 {
     let cutting = Cutting::Even(shards);

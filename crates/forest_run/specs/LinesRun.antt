@@ -1,6 +1,6 @@
 -- A run over lines to workers.
 use Rattle.std.specs.Prelude.{◌≡◌, ℕ, ◌+◌, ◌*◌, ◌^◌, ◌<◌, ◌≤◌, ⊤, max, List, length, None, Vec, Result, Ok, Err}
-use Rattle.byte_streams.specs.Streams.{SinkState, HadNoSetback}
+use Rattle.byte_streams.specs.Streams.{SourceState, SinkState, HadNoSetback}
 use Rattle.link_key.specs.declared.links.Link.{Link}
 use Rattle.link_key.specs.declared.cuts.CutFault.TheVariants as cut
 use Rattle.link_key.specs.Cut.{IsCutFault}
@@ -16,6 +16,7 @@ use Rattle.forest_run.specs.declared.fault.RunFault.{RunFault}
 use Rattle.forest_run.specs.declared.fault.RunFault.TheVariants as fault
 use Rattle.forest_run.specs.declared.cutting.Cutting.{Cutting}
 use Rattle.forest_run.specs.Cuttings.{cut_refusal, IsCutOf}
+use Rattle.forest_run.specs.Files.{IsFileOf, HasFile}
 use Rattle.forest_run.specs.Outcomes.{Streams, Ran, IsSpanning, IsLeast}
 use Rattle.forest_run.specs.WiredLines.{AreFresh, AreServed, FindsOverLines, RefusesOverLines, HaveTalked}
 
@@ -103,6 +104,18 @@ RanServed cutting = Ran IsLeast (λ graph forest r. IsServedReport cutting graph
 
 -- ---- what follows for a source that tells
 
+-- the bytes are a file within the limit, and mean a graph whose links can be cut so
+pub record MeansGraphToCut (cutting : Cutting) (bytes : List ℕ) : Type 0 where
+  pub graph : GraphValue
+  pub file : IsFileOf bytes graph
+  pub allowed : cut_refusal cutting (length graph.links) ≡ None
+
+-- the source tells that it has such a file, and that no read failed
+pub record HasGraphToCut (cutting : Cutting) (before after : SourceState) : Type 0 where
+  pub bytes : List ℕ
+  pub has : HasFile bytes before after
+  pub means : MeansGraphToCut cutting bytes
+
 -- the answer is no fault but want of memory; or else the sink had a setback, or doesn't tell
 abbrev pub IsUnhindered : {X : Type 0} → Result X RunFault → SinkState → SinkState → Type 0
 IsUnhindered (Ok x) before after = ⊤
@@ -111,3 +124,8 @@ IsUnhindered (Err (fault.Cut why)) before after = why ≡ cut.Memory
 IsUnhindered (Err fault.Memory) before after = ⊤
 IsUnhindered (Err (fault.Write written)) before after = ¬ HadNoSetback before after
 IsUnhindered other before after = ⊥
+
+-- where the source has a file whose graph can be cut so, nothing else hindered the run that answered this
+abbrev pub EndsWell : {X : Type 0} → Cutting → Result X RunFault → Streams → Streams → Type 0
+EndsWell cutting result before after =
+    HasGraphToCut cutting before.source after.source → IsUnhindered result before.sink after.sink

@@ -22,6 +22,10 @@ pub record Streams : Type 0 where
 abbrev pub streams : SourceState → SinkState → Streams
 streams source sink = record { source = source; sink = sink }
 
+-- what a source and a sink tell
+abbrev pub told : {S W : Type 0} → (S → SourceState) → (W → SinkState) → S → W → Streams
+told source_of sink_of source sink = record { source = source_of source; sink = sink_of sink }
+
 -- what may be so of a graph and links of it, and of an answer beside them
 abbrev pub ForestFact : Type 1
 ForestFact = GraphValue → List Link → Type 0

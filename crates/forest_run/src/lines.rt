@@ -1,16 +1,15 @@
 //! A run over lines to workers, from the bytes of a file to the text of its forest.
-ghost use Rattle.std.specs.Prelude.{◌≡◌, ℕ, ◌⊎◌, ◌≤◌, List, [], None, length, All, IfOk, IfErr, OnOk, vec_capacity};
+ghost use Rattle.std.specs.Prelude.{◌≡◌, ℕ, ◌⊎◌, ◌≤◌, List, [], length, All, IfOk, IfErr, OnOk, vec_capacity};
 ghost use Rattle.limits.specs.declared.TheConstants.{MAX_ARCS, MAX_VERTICES, MAX_WORKERS};
 ghost use Rattle.link_key.specs.Cut.{IsCutFault};
 ghost use Rattle.link_key.specs.Link.{EndsUpTo};
-ghost use Rattle.gr_text.specs.Graph.{GraphValue};
 ghost use Rattle.round_core.specs.declared.solver.SolveFault.TheVariants.{Memory};
 ghost use Rattle.ports.specs.Lines.{HasRoom};
-ghost use Rattle.forest_run.specs.Files.{HasFile, IsFileOf, MeansGraph, MeansNothing, IsFirstFaultOf, IsNoRefusal};
-ghost use Rattle.forest_run.specs.Outcomes.{streams};
+ghost use Rattle.forest_run.specs.Files.{HasFile, MeansGraph, MeansNothing, IsFirstFaultOf, IsNoRefusal};
+ghost use Rattle.forest_run.specs.Outcomes.{told};
 ghost use Rattle.forest_run.specs.Cuttings.{cut_refusal, IsCutOf};
 ghost use Rattle.forest_run.specs.WiredLines.{AreServed, AreNewLanes, lines_of, FindsOverLines, RefusesOverLines};
-ghost use Rattle.forest_run.specs.LinesRun.{RanLines, RanServed, IsUnhindered};
+ghost use Rattle.forest_run.specs.LinesRun.{RanLines, RanServed, EndsWell};
 
 use crate::cutting::Cutting;
 use crate::fault::RunFault;
@@ -145,13 +144,13 @@ pub fn run_lines<
     // Whatever the workers answer: the source was read to its end, and exactly the text of a spanning forest went out, or
     // the fault says what was done. At the end, where a write failed, and where what came over the lines makes no forest,
     // each line was asked as its worker, and where it was given up it tells why.
-    ensures ran { RanLines L.Line cutting.entry lines.items result (streams (S.state source.old) (W.state sink.old))
-        (streams (S.state source.new) (W.state sink.new)) }
+    ensures ran { RanLines L.Line cutting.entry lines.items result
+        (told S.state W.state source.old sink.old) (told S.state W.state source.new sink.new) }
 
     // Where each line is new and carries its worker's session: the minimum spanning forest, after as many rounds as merge
     // components. `ran` says so too, of the forest and the report that it tells of.
     ensures served { AreServed L.Line lines.items → RanServed cutting.entry result
-        (streams (S.state source.old) (W.state sink.old)) (streams (S.state source.new) (W.state sink.new)) }
+        (told S.state W.state source.old sink.old) (told S.state W.state source.new sink.new) }
 
     // A file that means nothing is refused by its first fault, where no read fails; one that means a graph isn't.
     ensures malformed { (bytes : List ℕ) → HasFile bytes (S.state source.old) (S.state source.new)
@@ -161,10 +160,8 @@ pub fn run_lines<
 
     // Over such lines, where the cut of the file's graph is allowed, only want of memory and a setback of the sink can
     // hinder a run.
-    ensures ends_well { AreServed L.Line lines.items → (bytes : List ℕ) (graph : GraphValue)
-        → HasFile bytes (S.state source.old) (S.state source.new) → IsFileOf bytes graph
-        → cut_refusal cutting.entry (length graph.links) ≡ None
-        → IsUnhindered result (W.state sink.old) (W.state sink.new) }
+    ensures ends_well { AreServed L.Line lines.items → EndsWell cutting.entry result
+        (told S.state W.state source.old sink.old) (told S.state W.state source.new sink.new) }
 
     // After a run that ends well the sink can be written again.
     ensures again { OnOk result (W.can_write sink.new) }

@@ -3,12 +3,10 @@
 ghost use Rattle.std.specs.Prelude.{◌≡◌, ◌≤◌, None, length, All, IfOk};
 ghost use Rattle.limits.specs.declared.TheConstants.{MAX_WORKERS};
 ghost use Rattle.byte_streams.specs.Streams.{tells_held};
-ghost use Rattle.gr_text.specs.Graph.{GraphValue};
 ghost use Rattle.ports.specs.EngineLines.{line_of, engine_line};
 ghost use Rattle.ports.specs.Lines.{HasRoom};
-ghost use Rattle.forest_run.specs.Cuttings.{cut_refusal};
-ghost use Rattle.forest_run.specs.Files.{IsFileOf, IsForestTextOf};
-ghost use Rattle.forest_run.specs.LinesRun.{IsUnhindered};
+ghost use Rattle.forest_run.specs.Files.{IsForestTextOf};
+ghost use Rattle.forest_run.specs.LinesRun.{MeansGraphToCut, IsUnhindered};
 ghost use Rattle.forest_run.specs.WiredLines.{AreServed};
 
 use forest_run::{Cutting, RunFault, run_lines};
@@ -51,8 +49,7 @@ pub fn text_over_workers<A: Allocator + Copy + Send + Sync, R: Threads + Wait + 
     ensures text { IfOk result (λ text. IsForestTextOf bytes.now text.items) }
 
     // Where the cut of the file's graph is allowed, want of memory alone can hinder it.
-    ensures ends_well { (graph : GraphValue) → IsFileOf bytes.now graph
-        → cut_refusal cutting.entry (length graph.links) ≡ None
+    ensures ends_well { MeansGraphToCut cutting.entry bytes.now
         → IsUnhindered result (tells_held None) (tells_held None) }
 {
     let Ok(lines) = engines(alloc, workers) else {

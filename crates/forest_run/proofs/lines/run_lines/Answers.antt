@@ -20,8 +20,9 @@ returns-in-Err-clause-lawful g c = λ bytes file means.
     no_fault_of_lawful c.in-Err.fault bytes means.0 means.1 (reads_the_file bytes _ _ (Err c.in-Err.fault) file.told file.no_failure c.in-Err.ensures.outcome)
 
 pub returns-in-Err-clause-ends_well : goal.returns-in-Err-clause-ends_well
-returns-in-Err-clause-ends_well g c = λ served bytes graph file means allowed.
-    no_fault_of_lawful c.in-Err.fault bytes graph means (reads_the_file bytes _ _ (Err c.in-Err.fault) file.told file.no_failure c.in-Err.ensures.outcome)
+returns-in-Err-clause-ends_well g c = λ served it.
+    no_fault_of_lawful c.in-Err.fault it.bytes it.means.graph it.means.file
+    (reads_the_file it.bytes _ _ (Err c.in-Err.fault) it.has.told it.has.no_failure c.in-Err.ensures.outcome)
 
 -- ---- the list isn't cut
 
@@ -40,9 +41,10 @@ returns-in-Err-cut_links-clause-malformed g c = λ bytes file nothing.
     absurd (nothing _ (reads_the_file bytes _ _ (Ok _) file.told file.no_failure c.in-Ok.ensures.outcome).1)
 
 pub returns-in-Err-cut_links-clause-ends_well : goal.returns-in-Err-cut_links-clause-ends_well
-returns-in-Err-cut_links-clause-ends_well g c = λ served bytes graph file means allowed.
-    cut_unhindered c.args.cutting (length c.links.result.now) (length graph.links) c.in-Err-cut_links.fault c.in-Err-cut_links.ensures.refused
-    (ap (λ ls. length ls) c.links.ensures.links ∙ same_length bytes c.in-Ok.graph graph (reads_the_file bytes _ _ (Ok c.in-Ok.graph) file.told file.no_failure c.in-Ok.ensures.outcome).1 means.means) allowed
+returns-in-Err-cut_links-clause-ends_well g c = λ served it.
+    let read = reads_the_file it.bytes _ _ (Ok c.in-Ok.graph) it.has.told it.has.no_failure c.in-Ok.ensures.outcome in
+    cut_unhindered c.args.cutting (length c.links.result.now) (length it.means.graph.links) c.in-Err-cut_links.fault c.in-Err-cut_links.ensures.refused
+    (ap (λ ls. length ls) c.links.ensures.links ∙ same_length it.bytes c.in-Ok.graph it.means.graph read.1 it.means.file.means) it.means.allowed
 
 -- ---- no forest is found
 
@@ -123,4 +125,4 @@ returns-clause-malformed g c = λ bytes file nothing.
     absurd (nothing _ (reads_the_file bytes _ _ (Ok _) file.told file.no_failure c.in-Ok.ensures.outcome).1)
 
 pub returns-clause-ends_well : goal.returns-clause-ends_well
-returns-clause-ends_well g c = λ served bytes graph file means allowed. had_setback _ _ _ _ c.in-Err-write_forest.ensures.part
+returns-clause-ends_well g c = λ served it. had_setback _ _ _ _ c.in-Err-write_forest.ensures.part

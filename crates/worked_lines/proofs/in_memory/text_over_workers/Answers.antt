@@ -8,8 +8,9 @@ use Rattle.worked_lines.proofs.in_memory.text_over_workers.Goals as goal
 pub returns-in_err-run_lines-clause-ends_well : goal.returns-in_err-run_lines-clause-ends_well
 returns-in_err-run_lines-clause-ends_well g c =
     let p = err_from_is_err_and c.from_residual.result c.from_residual.ensures.1 in
-    λ graph file allowed. rw (p.1, p.2) (unhindered c.in_err-run_lines.field-0.0 _ _
-    (c.in_err-run_lines.ensures.ends_well c.in-Ok.ensures.served c.args.bytes.now graph (record { told = refl; no_failure = (0, refl, refl); within = file.within }) file allowed))
+    λ means. rw (p.1, p.2) (unhindered c.in_err-run_lines.field-0.0 _ _
+    (c.in_err-run_lines.ensures.ends_well c.in-Ok.ensures.served
+    (record { bytes = c.args.bytes.now; has = record { told = refl; no_failure = (0, refl, refl); within = means.file.within }; means = means })))
 
 pub returns-clause-text : goal.returns-clause-text
 returns-clause-text g c =
