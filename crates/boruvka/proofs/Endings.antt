@@ -5,14 +5,13 @@ use Rattle.std.specs.Global.{Vec}
 use Rattle.std.proofs.Common.{◌≡◌, ◌≢◌, ◌≤◌, ℕ, ◌⊎◌, ◌∙◌, List, [], length, All, Option, None, Some, inl, inr, Ok, Err, refl, sym, subst, arith, codes}
 use Rattle.byte_streams.specs.Streams.{SourceState, SinkState}
 use Rattle.byte_streams.proofs.Streaming.{gave_nothing, took_nothing}
-use Rattle.link_key.specs.declared.links.Link.{Link}
 use Rattle.link_key.specs.declared.cuts.CutFault.TheVariants as cut
 use Rattle.gr_text.specs.Graph.{GraphValue}
 use Rattle.gr_text.specs.declared.faults.ReadFault.TheVariants as read
 use Rattle.ports.specs.declared.line.Line as Line
 use Rattle.tcp_lines.specs.Lines.{TcpLineState, tcp_line, unused}
 use Rattle.forest_run.specs.Files.{HasFile, MeansGraph, MeansNothing, IsFirstFaultOf, IsNoRefusal}
-use Rattle.forest_run.specs.Outcomes.{streams, Streams, Ran, IsUnread, IsSpanning, IsLeast}
+use Rattle.forest_run.specs.Outcomes.{streams, Streams, ForestFact, AnswerFact, Ran, IsUnread, IsSpanning, IsLeast}
 use Rattle.forest_run.specs.PlainRun.{RanPlain, IsPlainReport, IsPlainFault}
 use Rattle.forest_run.specs.WiredLines.{AreServed}
 use Rattle.forest_run.specs.LinesRun.{RanLines, RanServed, HasGraphToCut, IsUnhindered, EndsWell, RunsOverLines, IsLinesFault}
@@ -23,7 +22,8 @@ use Rattle.forest_run.specs.declared.fault.RunFault.TheVariants as fault
 use Rattle.boruvka.specs.Arguments.{given, number_of, is_set, file_named}
 use Rattle.boruvka.specs.Messages.{fault_line, unopened_line}
 use Rattle.boruvka.specs.declared.chosen.Options.{Options}
-use Rattle.boruvka.specs.Status.{Standard, of_run, Asked, asked_of, asked_by, EndsAs, EndsOn, Obeys, EndsWith, EndsOver, EndsOverWorkers, HasNoGraph, IsDone, IsReported, IsWritten, LeavesOutput, IsUntouched, report_of, status_for, status_of_run, untold}
+use Rattle.boruvka.specs.Streams.{Standard, of_run}
+use Rattle.boruvka.specs.Status.{Asked, asked_of, asked_by, EndsAs, EndsOn, Obeys, EndsWith, EndsOver, EndsOverWorkers, HasNoGraph, IsDone, IsReported, IsWritten, LeavesOutput, IsUntouched, report_of, status_for, status_of_run, untold}
 
 -- ---- how a run ends
 
@@ -183,7 +183,7 @@ loud status is (inr (inr (inl four))) = elim is [ inl none ↦ omega arith | inr
 loud status is (inr (inr (inr five))) = elim is [ inl none ↦ omega arith | inr three ↦ omega arith ]
 
 -- at a status of those nothing was written
-pub silent_run : {X : Type 0} (found : GraphValue → List Link → Type 0) (says : GraphValue → List Link → X → Type 0) (why : GraphValue → RunFault → Type 0)
+pub silent_run : {X : Type 0} (found : ForestFact) (says : AnswerFact X) (why : GraphValue → RunFault → Type 0)
     (result : Result X RunFault) (status : ℕ) (s t : SourceState) (a b : SinkState) → status ≡ status_of_run result
     → Ran found says why result (streams s a) (streams t b) → LeavesOutput status → IsUntouched a b
 silent_run found says why (Ok x) status s t a b is ran silent = absurd (loud status (inl is) silent)

@@ -1,5 +1,5 @@
 -- The words of the command line: what the program takes, and what each word sets.
-use Rattle.std.specs.Prelude.{◌≡◌, ◌≢◌, ◌⊎◌, ℕ, ⊤, pos, true, false, List, [], ◌∷◌, Option, Some, None, Bool, Result, Err, codes}
+use Rattle.std.specs.Prelude.{◌≡◌, ◌≢◌, ◌⊎◌, ℕ, ⊤, pos, false, List, [], ◌∷◌, Option, Some, None, Bool, Result, Err, codes}
 use Rattle.std.specs.List.{All}
 use Rattle.std.specs.Str.{bytes_eq}
 use Rattle.std.specs.Str.Parse.{digits_value, without_leading_plus}

@@ -1,3 +1,4 @@
 pub mod Messages
 pub mod Status
+pub mod Streams
 pub mod Arguments

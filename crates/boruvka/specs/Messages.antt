@@ -44,13 +44,18 @@ abbrev pub fault_text : RunFault → List ℕ
 fault_text (fault.Read why) = read_text why
 fault_text (fault.Cut why) = cut_text why
 fault_text (fault.Rounds round) = codes "round " ++ decimal round ++ codes " is past the bound"
-fault_text (fault.Missed l) = codes "link " ++ decimal l.low ++ codes " " ++ decimal l.high ++ codes " " ++ signed_decimal l.weight ++ codes " was missed"
+fault_text (fault.Missed l) =
+    codes "link " ++ decimal l.low ++ codes " " ++ decimal l.high ++ codes " " ++ signed_decimal l.weight ++ codes " was missed"
 fault_text fault.Memory = codes "no memory"
 fault_text (fault.Write written) = codes "write failed after " ++ decimal written ++ codes " bytes"
 
 -- a message as a line, behind the program's name
 abbrev pub message_line : List ℕ → List ℕ
 message_line message = codes "boruvka: " ++ message ++ 10 ∷ []
+
+-- the line of a word that is no text
+abbrev pub no_text_line : List ℕ
+no_text_line = message_line (codes "a word is not UTF-8")
 
 -- the line of a fault
 abbrev pub fault_line : RunFault → List ℕ

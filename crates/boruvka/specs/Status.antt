@@ -10,7 +10,6 @@ use Rattle.clap.specs.declared.error.kind.ErrorKind.TheVariants.{DisplayHelp}
 use Rattle.link_key.specs.declared.cuts.CutFault.TheVariants as cut
 use Rattle.ports.specs.declared.line.Line as Line
 use Rattle.forest_run.specs.Files.{HasFile, MeansGraph, MeansNothing, IsFirstFaultOf, IsNoRefusal}
-use Rattle.forest_run.specs.Outcomes.{Streams, streams}
 use Rattle.forest_run.specs.PlainRun.{RanPlain}
 use Rattle.forest_run.specs.LinesRun.{RanLines, RanServed, EndsWell}
 use Rattle.forest_run.specs.ReportText.{report_text}
@@ -20,26 +19,13 @@ use Rattle.forest_run.specs.declared.report.Report.{Report}
 use Rattle.forest_run.specs.declared.fault.RunFault.{RunFault}
 use Rattle.forest_run.specs.declared.fault.RunFault.TheVariants as fault
 use Rattle.tcp_lines.specs.Lines.{TcpLineState, tcp_line, unused}
-use Rattle.tcp_lines.specs.declared.line.TcpLine.{TcpLine}
 use Rattle.boruvka.specs.Arguments.{refusals, given, file_named, number_of, is_set, IsMistake}
 use Rattle.boruvka.specs.declared.chosen.Options.{Options}
 use Rattle.boruvka.specs.Messages.{fault_line, unopened_line}
+use Rattle.boruvka.specs.Streams.{Standard, Left, of_run, OnOutput, SameOutput}
+use Rattle.boruvka.specs.declared.standard.StandardStreams.{StandardStreams}
 
--- ---- the program's streams
-
--- the program's three streams, as each tells itself
-pub record Standard : Type 0 where
-  pub source : SourceState
-  pub sink : SinkState
-  pub errors : SinkState
-
--- what an input, an output and errors tell
-abbrev pub told : {I O E : Type 0} → (I → SourceState) → (O → SinkState) → (E → SinkState) → I → O → E → Standard
-told source_of sink_of errors_of input output errors = record { source = source_of input; sink = sink_of output; errors = errors_of errors }
-
--- the two that a run reads and writes
-abbrev pub of_run : Standard → Streams
-of_run all = streams all.source all.sink
+-- ---- what was written
 
 -- nothing was written, and the sink had no setback
 abbrev pub IsUntouched : SinkState → SinkState → Type 0
@@ -69,7 +55,8 @@ abbrev pub status_of_run : {X : Type 0} → Result X RunFault → ℕ
 status_of_run (Ok report) = 0
 status_of_run (Err why) = status_for why
 
--- a status at which nothing was written: the file was refused or couldn't be cut, the words were wrong, memory was wanting, or what the workers answered made no forest
+-- a status at which nothing was written: the file was refused or couldn't be cut, the words were wrong, memory was wanting,
+-- or what the workers answered made no forest
 abbrev pub LeavesOutput : ℕ → Type 0
 LeavesOutput status = (status ≡ 1) ⊎ (status ≡ 2) ⊎ (status ≡ 4) ⊎ (status ≡ 5)
 
@@ -103,7 +90,8 @@ pub record EndsWith (wants : Bool) (status : ℕ) (before after : Standard) : Ty
   pub lawful : (bytes : List ℕ) → HasFile bytes before.source after.source → MeansGraph bytes → IsNoRefusal result
 
 -- the same of a run over these lines, of links cut into so many shards, whatever the workers answer
-pub record EndsOver {L : Type 0} (over : Line.Ghosts L) (lines : List L) (shards : ℕ) (wants : Bool) (status : ℕ) (before after : Standard) : Type 0 where
+pub record EndsOver {L : Type 0} (over : Line.Ghosts L) (lines : List L) (shards : ℕ) (wants : Bool) (status : ℕ)
+    (before after : Standard) : Type 0 where
   pub result : Result (Report × Vec L) RunFault
   pub status_is : status ≡ status_of_run result
   pub ran : RanLines over (Even shards) lines result (of_run before) (of_run after)
@@ -115,7 +103,8 @@ pub record EndsOver {L : Type 0} (over : Line.Ghosts L) (lines : List L) (shards
   pub served : AreServed over lines → RanServed (Even shards) result (of_run before) (of_run after)
   pub ends_well : AreServed over lines → EndsWell (Even shards) result (of_run before) (of_run after)
 
--- a run over new lines to at most so many workers ended so. Nothing is known of what comes over the lines; a run that had no line has each of them served, and found the minimum spanning forest
+-- a run over new lines to at most so many workers ended so. Nothing is known of what comes over the lines; a run that had no
+-- line has each of them served, and found the minimum spanning forest
 pub record EndsOverWorkers (workers shards : ℕ) (wants : Bool) (status : ℕ) (before after : Standard) : Type 0 where
   pub lines : List TcpLineState
   pub few : length lines ≤ workers
@@ -164,7 +153,8 @@ abbrev pub EndsAs : Bool → Asked → ℕ → Standard → Standard → Type 0
 EndsAs true asked = EndsWith asked.report
 EndsAs false asked = EndsOverWorkers asked.workers asked.shards asked.report
 
--- what is done with a FILE: it can't be opened, which is told and nothing is written, or it is run on, and tells nothing of itself; without a FILE the input is run on
+-- what is done with a FILE: it can't be opened, which is told and nothing is written, or it is run on, and tells nothing of
+-- itself; without a FILE the input is run on
 abbrev pub EndsOn : Option (List ℕ) → Asked → ℕ → Standard → Standard → Type 0
 EndsOn None asked status before after = EndsAs asked.plain asked status before after
 EndsOn (Some name) asked status before after =
@@ -207,3 +197,8 @@ RefusesWords status = (status ≡ 2) ⊎ (status ≡ 4)
 abbrev pub HelpEnds : ℕ → SinkState → SinkState → Type 0
 HelpEnds status before after = (text : List ℕ) × (((status ≡ 0) × Took 0 text before after)
     ⊎ (((status ≡ 3) × Took 1 text before after) ⊎ ((status ≡ 4) × IsUntouched before after)))
+
+-- and words that are refused, whatever they ask for: as the help does, or as words that leave the output as it was
+abbrev pub EndsRefused : {I O E : Type 0} → (O → SinkState) → ℕ → StandardStreams I O E → Left I O E → Type 0
+EndsRefused sink_of status before after =
+    OnOutput sink_of (HelpEnds status) before after ⊎ (RefusesWords status × SameOutput before after)

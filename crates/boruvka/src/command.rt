@@ -9,14 +9,15 @@ ghost use Rattle.forest_run.specs.WiredLines.{AreServed};
 ghost use Rattle.forest_run.specs.declared.cutting.Cutting.TheVariants.{Even};
 ghost use Rattle.tcp_lines.specs.Lines.{tcp_line, unused};
 ghost use Rattle.boruvka.specs.Arguments.{IsMistake, file_named, is_set, refusals};
-ghost use Rattle.boruvka.specs.Messages.{message_line};
-ghost use Rattle.boruvka.specs.Status.{told, asked_of, status_of_run, report_of, IsReported, EndsOver, EndsAs, Obeys, ObeysWords};
-ghost use Rattle.boruvka.specs.Status.{HasNoGraph, IsDone, LeavesOutput, IsUntouched, IsWritten, AskForHelp, AreWrong, HelpEnds, RefusesWords};
+ghost use Rattle.boruvka.specs.Messages.{message_line, no_text_line};
+ghost use Rattle.boruvka.specs.Streams.{OnStreams, OnInput, OnOutput, SameInput, SameOutput, SameErrors};
+ghost use Rattle.boruvka.specs.Status.{asked_of, status_of_run, report_of, IsReported, EndsOver, EndsAs, Obeys, ObeysWords};
+ghost use Rattle.boruvka.specs.Status.{HasNoGraph, IsDone, LeavesOutput, IsUntouched, IsWritten, AskForHelp, AreWrong, HelpEnds, RefusesWords, EndsRefused};
 
 use crate::arguments::options;
 use crate::chosen::{Options, OptionsFault};
 use crate::messages::{tell, tell_no_text, tell_report, tell_unopened, write_text};
-use crate::standard::workers_beside;
+use crate::standard::{StandardStreams, workers_beside};
 use crate::statuses::{DEVICE, NO_MEMORY, USAGE, status_of};
 use byte_streams::{Sink, Source, Untold, put};
 use forest_run::{Cutting, Report, RunFault, run_lines, run_plain};
@@ -63,7 +64,7 @@ fn without_lines<L: Drop>(ended: Result<(Report, Vec<L>), RunFault>) -> Result<R
 
 /// Runs over these lines, cuts the links into so many shards, and answers the status.
 ///
-/// The line at each place is to the worker of that number. The forest goes to `output`; to `errors` goes the report,
+/// The line at each place is to the worker of that number. The forest goes to the output; to the errors goes the report,
 /// where it is wanted and the run ended well, or why it ended ill. The lines are dropped.
 ///
 /// It waits for the workers' answers. What it takes is said at [`run_lines`].
@@ -73,38 +74,33 @@ pub fn run_over<
     I: Source,
     O: Sink,
     E: Sink,
->(
-    rt: &R,
-    shards: u32,
-    wants_report: bool,
-    lines: Vec<L>,
-    input: &mut I,
-    output: &mut O,
-    errors: &mut E,
-) -> u8
+>(rt: &R, shards: u32, wants_report: bool, lines: Vec<L>, io: StandardStreams<I, O, E>) -> u8
     requires few { length lines.items ≤ MAX_WORKERS }
     requires room { All (λ line. HasRoom (L.state line)) lines.items }
-    requires input { I.can_read input.old }
-    requires output { O.can_write output.old }
-    requires errors { E.can_write errors.old }
+    requires input { I.can_read io.input.now }
+    requires output { O.can_write io.output.now }
+    requires errors { E.can_write io.errors.now }
 
     // Whatever the workers answer, and more where each line is new and carries its worker's session.
-    ensures ends { EndsOver L.Line lines.items shards wants_report result
-        (told I.state O.state E.state input.old output.old errors.old)
-        (told I.state O.state E.state input.new output.new errors.new) }
+    ensures ends { OnStreams I.state O.state E.state (EndsOver L.Line lines.items shards wants_report result)
+        io.entry io.exit }
     ensures status { result ≤ 5 }
-    ensures silent { LeavesOutput result → IsUntouched (O.state output.old) (O.state output.new) }
-    ensures quiet { wants_report ≡ false → result ≡ 0 → errors.new ≡ errors.old }
+    ensures silent { LeavesOutput result → OnOutput O.state IsUntouched io.entry io.exit }
+    ensures quiet { wants_report ≡ false → result ≡ 0 → SameErrors io.entry io.exit }
 
     // A file that means nothing is refused.
-    ensures malformed { HasNoGraph (I.state input.old) (I.state input.new) → (result ≡ 1) ⊎ (result ≡ 4) }
+    ensures malformed { OnInput I.state HasNoGraph io.entry io.exit → (result ≡ 1) ⊎ (result ≡ 4) }
 
     // Over such lines the workers are never blamed, and a file whose links can be cut so has its forest.
     ensures blameless { AreServed L.Line lines.items → result ≢ 5 }
-    ensures done { AreServed L.Line lines.items
-        → HasGraphToCut (Even shards) (I.state input.old) (I.state input.new)
-        → IsDone result (O.state output.old) (O.state output.new) }
+    ensures done { AreServed L.Line lines.items → OnInput I.state (HasGraphToCut (Even shards)) io.entry io.exit
+        → OnOutput O.state (IsDone result) io.entry io.exit }
 {
+    let StandardStreams {
+        input,
+        output,
+        errors,
+    } = io;
     let cutting = Cutting::Even(shards);
     let ended = without_lines(run_lines(rt, rt.alloc(), input, cutting, lines, output));
     tell_end(wants_report, &ended, errors)
@@ -116,9 +112,7 @@ fn run_started<R, I, O, E>(
     rt: &R,
     chosen: &Options,
     started: (Vec<TcpLine>, Workers),
-    input: &mut I,
-    output: &mut O,
-    errors: &mut E,
+    io: StandardStreams<I, O, E>,
 ) -> u8
 where
     R: Alloc<A = Global> + Threads + Wait + Sync,
@@ -128,27 +122,26 @@ where
     requires few { length started.0.items ≤ MAX_WORKERS }
     requires new { All (λ line. line ≡ unused) started.0.items }
     requires all { started.1 ≡ length started.0.items }
-    requires input { I.can_read input.old }
-    requires output { O.can_write output.old }
-    requires errors { E.can_write errors.old }
+    requires input { I.can_read io.input.now }
+    requires output { O.can_write io.output.now }
+    requires errors { E.can_write io.errors.now }
 
     // Over just these lines, whatever comes over them.
-    ensures ends { EndsOver tcp_line started.0.items chosen.now.shards chosen.now.report result
-        (told I.state O.state E.state input.old output.old errors.old)
-        (told I.state O.state E.state input.new output.new errors.new) }
+    ensures ends { OnStreams I.state O.state E.state
+        (EndsOver tcp_line started.0.items chosen.now.shards chosen.now.report result) io.entry io.exit }
     ensures status { result ≤ 5 }
-    ensures silent { LeavesOutput result → IsUntouched (O.state output.old) (O.state output.new) }
-    ensures quiet { chosen.now.report ≡ false → result ≡ 0 → errors.new ≡ errors.old }
+    ensures silent { LeavesOutput result → OnOutput O.state IsUntouched io.entry io.exit }
+    ensures quiet { chosen.now.report ≡ false → result ≡ 0 → SameErrors io.entry io.exit }
 {
     let (lines, workers) = started;
     let (shards, wants_report) = (chosen.shards, chosen.report);
-    let status = run_over(rt, shards, wants_report, lines, input, output, errors);
+    let status = run_over(rt, shards, wants_report, lines, io);
     workers.join(rt);
     status
 }
 
-// Runs as the words ask for, on this input. Where it runs over workers, each of them has ended when it answers.
-fn run_on<R, I, O, E>(rt: &R, chosen: &Options, input: &mut I, output: &mut O, errors: &mut E) -> u8
+// Runs as the words ask for, on the input. Where it runs over workers, each of them has ended when it answers.
+fn run_on<R, I, O, E>(rt: &R, chosen: &Options, io: StandardStreams<I, O, E>) -> u8
 where
     R: Files<File = File>
         + Alloc<A = Global>
@@ -163,42 +156,40 @@ where
     O: Sink,
     E: Sink,
     requires workers { chosen.now.workers ≤ MAX_WORKERS }
-    requires input { I.can_read input.old }
-    requires output { O.can_write output.old }
-    requires errors { E.can_write errors.old }
-    ensures ends { EndsAs chosen.now.plain (asked_of chosen.now) result
-        (told I.state O.state E.state input.old output.old errors.old)
-        (told I.state O.state E.state input.new output.new errors.new) }
+    requires input { I.can_read io.input.now }
+    requires output { O.can_write io.output.now }
+    requires errors { E.can_write io.errors.now }
+    ensures ends { OnStreams I.state O.state E.state (EndsAs chosen.now.plain (asked_of chosen.now) result)
+        io.entry io.exit }
     ensures status { result ≤ 5 }
     ensures plain_status { chosen.now.plain ≡ true → result ≤ 4 }
-    ensures silent { LeavesOutput result → IsUntouched (O.state output.old) (O.state output.new) }
-    ensures quiet { chosen.now.report ≡ false → result ≡ 0 → errors.new ≡ errors.old }
+    ensures silent { LeavesOutput result → OnOutput O.state IsUntouched io.entry io.exit }
+    ensures quiet { chosen.now.report ≡ false → result ≡ 0 → SameErrors io.entry io.exit }
 {
     let alloc = rt.alloc();
     if chosen.plain {
+        let StandardStreams {
+            input,
+            output,
+            errors,
+        } = io;
         let ended = run_plain(alloc, input, output);
         return tell_end(chosen.report, &ended, errors);
     }
     let (_held, count) = workers_beside(rt, chosen.workers);
     let Ok(started) = Workers::start(rt, alloc, count) else {
-        tell(errors, &RunFault::Memory);
+        tell(io.errors, &RunFault::Memory);
         return NO_MEMORY;
     };
-    run_started(rt, chosen, started, input, output, errors)
+    run_started(rt, chosen, started, io)
 }
 
 /// Does what lawful words ask for, and answers the status.
 ///
-/// FILE is opened before the run begins; without FILE it reads `input`. The forest goes to `output`,
-/// and what went wrong to `errors`, as does the report where it is asked for. Without `--plain` it starts the
+/// FILE is opened before the run begins; without FILE it reads the input. The forest goes to the output,
+/// and what went wrong to the errors, as does the report where it is asked for. Without `--plain` it starts the
 /// workers that are asked for, in threads of this process at the far ends of sockets, and ends them.
-pub fn obey<R, I, O, E>(
-    rt: &R,
-    chosen: &Options,
-    input: &mut I,
-    output: &mut O,
-    errors: &mut E,
-) -> u8
+pub fn obey<R, I, O, E>(rt: &R, chosen: &Options, io: StandardStreams<I, O, E>) -> u8
 where
     R: Files<File = File>
         + Alloc<A = Global>
@@ -213,56 +204,68 @@ where
     O: Sink,
     E: Sink,
     requires workers { chosen.now.workers ≤ MAX_WORKERS }
-    requires input { I.can_read input.old }
-    requires output { O.can_write output.old }
-    requires errors { E.can_write errors.old }
+    requires input { I.can_read io.input.now }
+    requires output { O.can_write io.output.now }
+    requires errors { E.can_write io.errors.now }
 
     // What is asked for is done, on the input or on FILE, and then the input isn't read.
-    ensures obeys { Obeys (asked_of chosen.now) result
-        (told I.state O.state E.state input.old output.old errors.old)
-        (told I.state O.state E.state input.new output.new errors.new) }
-    ensures leaves_input { IsSome chosen.now.file → input.new ≡ input.old }
+    ensures obeys { OnStreams I.state O.state E.state (Obeys (asked_of chosen.now) result) io.entry io.exit }
+    ensures leaves_input { IsSome chosen.now.file → SameInput io.entry io.exit }
 
     // A file that is refused or can't be cut, want of memory and answers that make no forest write nothing to the
     // output. Where the run ends well the errors get the report alone.
     ensures status { result ≤ 5 }
     ensures plain_status { chosen.now.plain ≡ true → result ≤ 4 }
-    ensures silent { LeavesOutput result → IsUntouched (O.state output.old) (O.state output.new) }
-    ensures quiet { chosen.now.report ≡ false → result ≡ 0 → errors.new ≡ errors.old }
+    ensures silent { LeavesOutput result → OnOutput O.state IsUntouched io.entry io.exit }
+    ensures quiet { chosen.now.report ≡ false → result ≡ 0 → SameErrors io.entry io.exit }
 {
     let Some(name) = &chosen.file else {
-        return run_on(rt, chosen, input, output, errors);
+        return run_on(rt, chosen, io);
     };
-    match File::open(rt, name) {
-        Ok(file) => run_on(rt, chosen, &mut Untold(file), output, errors),
-        Err(_) => {
-            tell_unopened(errors, name.as_str());
-            DEVICE
-        }
-    }
+    let Ok(file) = File::open(rt, name) else {
+        tell_unopened(io.errors, name.as_str());
+        return DEVICE;
+    };
+    let StandardStreams {
+        input: _,
+        output,
+        errors,
+    } = io;
+    let input = &mut Untold(file);
+    run_on(
+        rt,
+        chosen,
+        StandardStreams {
+            input,
+            output,
+            errors,
+        },
+    )
 }
 
 // Prints the help to the output, or what is wrong with the words to errors.
-fn print_usage<O: Sink, E: Sink>(
+fn print_usage<I, O: Sink, E: Sink>(
     alloc: Global,
     error: &clap::Error,
-    output: &mut O,
-    errors: &mut E,
+    io: StandardStreams<I, O, E>,
 ) -> u8
-    requires output { O.can_write output.old }
-    requires errors { E.can_write errors.old }
+    requires output { O.can_write io.output.now }
+    requires errors { E.can_write io.errors.now }
+    ensures leaves_input { SameInput io.entry io.exit }
     ensures status { result ≤ 4 }
-    ensures silent { LeavesOutput result → IsUntouched (O.state output.old) (O.state output.new) }
-    ensures quiet { result ≡ 0 → errors.new ≡ errors.old }
+    ensures silent { LeavesOutput result → OnOutput O.state IsUntouched io.entry io.exit }
+    ensures quiet { result ≡ 0 → SameErrors io.entry io.exit }
 
     // Wrong words write nothing to the output, and only the help does.
-    ensures wrong { IsMistake (kind_of error.now)
-        → RefusesWords result × (output.new ≡ output.old) }
-    ensures help { ¬ IsMistake (kind_of error.now)
-        → HelpEnds result (O.state output.old) (O.state output.new) }
-    ensures refused { HelpEnds result (O.state output.old) (O.state output.new)
-        ⊎ (RefusesWords result × (output.new ≡ output.old)) }
+    ensures wrong { IsMistake (kind_of error.now) → RefusesWords result × SameOutput io.entry io.exit }
+    ensures help { ¬ IsMistake (kind_of error.now) → OnOutput O.state (HelpEnds result) io.entry io.exit }
+    ensures refused { EndsRefused O.state result io.entry io.exit }
 {
+    let StandardStreams {
+        input: _,
+        output,
+        errors,
+    } = io;
     let Ok(text) = format!(in alloc; "{error}") else {
         tell(errors, &RunFault::Memory);
         return NO_MEMORY;
@@ -288,20 +291,14 @@ fn print_usage<O: Sink, E: Sink>(
 /// Does all that the program does, and answers its status.
 ///
 /// `words` has the program's name first. The words are judged first, by [`options`]; then they are
-/// obeyed, by [`obey`], or it is told what is wrong with them. A text for the user goes to `errors`, the
-/// help alone to `output`. A failed write to `errors` is ignored.
+/// obeyed, by [`obey`], or it is told what is wrong with them. A text for the user goes to the errors, the
+/// help alone to the output. A failed write to the errors is ignored.
 ///
 /// Status 0: done. 1: the file was refused, or can't be cut so. 2: the words were. 3: FILE can't be opened, a
 /// read failed, or a write did. 4: memory was refused. 5: what the workers answered makes no forest.
 ///
 /// It waits for the workers, and each of them has ended when it answers.
-pub fn command<R, S, I, O, E>(
-    rt: &R,
-    words: &[S],
-    input: &mut I,
-    output: &mut O,
-    errors: &mut E,
-) -> u8
+pub fn command<R, S, I, O, E>(rt: &R, words: &[S], io: StandardStreams<I, O, E>) -> u8
 where
     R: Files<File = File>
         + Alloc<A = Global>
@@ -316,37 +313,34 @@ where
     I: Source,
     O: Sink,
     E: Sink,
-    requires input { I.can_read input.old }
-    requires output { O.can_write output.old }
-    requires errors { E.can_write errors.old }
+    requires input { I.can_read io.input.now }
+    requires output { O.can_write io.output.now }
+    requires errors { E.can_write io.errors.now }
 
     // What lawful words ask for is done: the input is run on, or FILE is, and then the input isn't touched.
-    ensures obeys { ObeysWords (map S.text words.now) result
-        (told I.state O.state E.state input.old output.old errors.old)
-        (told I.state O.state E.state input.new output.new errors.new) }
-    ensures leaves_input { IsSome (file_named (map S.text words.now)) → input.new ≡ input.old }
+    ensures obeys { OnStreams I.state O.state E.state (ObeysWords (map S.text words.now) result) io.entry io.exit }
+    ensures leaves_input { IsSome (file_named (map S.text words.now)) → SameInput io.entry io.exit }
 
     // A file that is refused or can't be cut, wrong words, want of memory and answers that make no forest write
     // nothing to the output. Where all went well the errors get the report alone.
     ensures status { result ≤ 5 }
-    ensures silent { LeavesOutput result → IsUntouched (O.state output.old) (O.state output.new) }
-    ensures quiet { is_set (map S.text words.now) (codes "report") ≡ false → result ≡ 0
-        → errors.new ≡ errors.old }
+    ensures silent { LeavesOutput result → OnOutput O.state IsUntouched io.entry io.exit }
+    ensures quiet { is_set (map S.text words.now) (codes "report") ≡ false → result ≡ 0 → SameErrors io.entry io.exit }
 
     // The help goes to the output, and wrong words touch nothing. Words that are refused and ask for the help too end
     // as one or the other.
     ensures help { AskForHelp (map S.text words.now)
-        → (input.new ≡ input.old) × HelpEnds result (O.state output.old) (O.state output.new) }
+        → SameInput io.entry io.exit × OnOutput O.state (HelpEnds result) io.entry io.exit }
     ensures wrong { AreWrong (map S.text words.now)
-        → RefusesWords result × (input.new ≡ input.old) × (output.new ≡ output.old) }
-    ensures refused { refusals (map S.text words.now) ≢ [] → (input.new ≡ input.old)
-        × (HelpEnds result (O.state output.old) (O.state output.new) ⊎ (RefusesWords result × (output.new ≡ output.old))) }
+        → RefusesWords result × SameInput io.entry io.exit × SameOutput io.entry io.exit }
+    ensures refused { refusals (map S.text words.now) ≢ []
+        → SameInput io.entry io.exit × EndsRefused O.state result io.entry io.exit }
 {
     match options(rt.alloc(), words) {
-        Ok(chosen) => obey(rt, &chosen, input, output, errors),
-        Err(OptionsFault::Usage(error)) => print_usage(rt.alloc(), &error, output, errors),
+        Ok(chosen) => obey(rt, &chosen, io),
+        Err(OptionsFault::Usage(error)) => print_usage(rt.alloc(), &error, io),
         Err(OptionsFault::Memory) => {
-            tell(errors, &RunFault::Memory);
+            tell(io.errors, &RunFault::Memory);
             NO_MEMORY
         }
     }
@@ -359,7 +353,7 @@ pub fn without_words<E: Sink>(error: &io::Error, errors: &mut E) -> u8
     ensures memory { error_kind error.now ≡ ErrorKind.OutOfMemory
         → (result ≡ 4) × IsWritten (message_line (codes "no memory")) (E.state errors.old) (E.state errors.new) }
     ensures wrong { error_kind error.now ≢ ErrorKind.OutOfMemory
-        → (result ≡ 2) × IsWritten (message_line (codes "a word is not UTF-8")) (E.state errors.old) (E.state errors.new) }
+        → (result ≡ 2) × IsWritten no_text_line (E.state errors.old) (E.state errors.new) }
 {
     if error.kind() == ErrorKind::OutOfMemory {
         tell(errors, &RunFault::Memory);

@@ -30,6 +30,7 @@ mod statuses;
 #[cfg(test)]
 mod tests;
 
+use standard::StandardStreams;
 use std::process::ExitCode;
 
 fn main(rt: HostRuntime) -> ExitCode {
@@ -38,9 +39,11 @@ fn main(rt: HostRuntime) -> ExitCode {
         Ok(words) => command::command(
             &rt,
             words.as_slice(),
-            &mut rt.stdin(),
-            &mut rt.stdout(),
-            &mut errors,
+            StandardStreams {
+                input: &mut rt.stdin(),
+                output: &mut rt.stdout(),
+                errors: &mut errors,
+            },
         ),
         Err(error) => command::without_words(&error, &mut errors),
     };

@@ -1,8 +1,8 @@
 //! Lines for the user on standard error, written without taking memory. A failed write is ignored.
-ghost use Rattle.std.specs.Prelude.{◌≡◌, ◌+◌, ◌≤◌, ◌++◌, length, codes, decimal};
+ghost use Rattle.std.specs.Prelude.{◌≡◌, ◌+◌, ◌≤◌, ◌++◌, length, decimal};
 ghost use Rattle.std.specs.Fmt.{signed_decimal};
 ghost use Rattle.arrayvec.specs.ArrayString.{array_string_len};
-ghost use Rattle.boruvka.specs.Messages.{kind_text, read_text, cut_text, fault_text, message_line, fault_line, unopened_line};
+ghost use Rattle.boruvka.specs.Messages.{kind_text, read_text, cut_text, fault_text, fault_line, no_text_line, unopened_line};
 ghost use Rattle.boruvka.specs.Status.{IsWritten, report_line};
 
 use arrayvec::ArrayString;
@@ -187,7 +187,7 @@ pub fn tell<S: Sink>(sink: &mut S, fault: &RunFault)
 /// Writes that a word of the command line isn't UTF-8, as a line behind the program's name.
 pub fn tell_no_text<S: Sink>(sink: &mut S)
     requires { S.can_write sink.old }
-    ensures { IsWritten (message_line (codes "a word is not UTF-8")) (S.state sink.old) (S.state sink.new) }
+    ensures { IsWritten no_text_line (S.state sink.old) (S.state sink.new) }
 {
     write_text(sink, b"boruvka: a word is not UTF-8\n");
 }

@@ -1,8 +1,19 @@
-//! The standard streams as the program finds them, some of them closed.
+//! The standard streams, and those that the program finds closed.
 ghost use Rattle.std.specs.Prelude.{◌≤◌};
 
 use std::fs::{File, Files};
 use std::os::fd::AsRawFd;
+
+/// What the program reads, what it writes, and where it tells what went wrong.
+#[derive(Drop)]
+pub struct StandardStreams<'i, 'o, 'e, I, O, E> {
+    /// The text of the graph, where no FILE is named.
+    pub input: &'i mut I,
+    /// The text of the forest goes there, or the help.
+    pub output: &'o mut O,
+    /// The report goes there, or what went wrong.
+    pub errors: &'e mut E,
+}
 
 /// What holds the standard descriptors that weren't open.
 #[derive(Drop)]

@@ -8,7 +8,7 @@ use crate::arguments::{all_words, options};
 use crate::chosen::OptionsFault;
 use crate::command::{command, run_over, without_words};
 use crate::messages::{tell, tell_report, write_text};
-use crate::standard::workers_beside;
+use crate::standard::{StandardStreams, workers_beside};
 use crate::statuses::status_of;
 use byte_streams::{FusedSink, FusedSource, Untold};
 use forest_run::{Report, RunFault};
@@ -81,7 +81,18 @@ fn expect(
     let mut source = input;
     let mut out = Vec::new(rt.alloc());
     let mut err = Vec::new(rt.alloc());
-    assert_eq!(rt; command(rt, words, &mut source, &mut out, &mut err), status);
+    assert_eq!(rt;
+        command(
+            rt,
+            words,
+            StandardStreams {
+                input: &mut source,
+                output: &mut out,
+                errors: &mut err
+            }
+        ),
+        status
+    );
     assert_eq!(rt; out.as_slice(), output);
     assert_eq!(rt; err.as_slice(), errors);
 }
@@ -210,9 +221,11 @@ fn tells_how_much_was_written(rt: HostRuntime) -> Result<(), Fail> {
     let status = command(
         &rt,
         &["boruvka", "--plain"],
-        &mut input,
-        &mut output,
-        &mut errors,
+        StandardStreams {
+            input: &mut input,
+            output: &mut output,
+            errors: &mut errors,
+        },
     );
     assert_eq!(rt; status, 3);
     assert_eq!(rt; output.held(), b"p sp 6 5\na".as_slice());
@@ -300,9 +313,11 @@ fn prints_the_help(rt: HostRuntime) -> Result<(), Fail> {
     let status = command(
         &rt,
         &["boruvka", "--help"],
-        &mut input,
-        &mut output,
-        &mut errors,
+        StandardStreams {
+            input: &mut input,
+            output: &mut output,
+            errors: &mut errors,
+        },
     );
     assert_eq!(rt; status, 0);
     assert_eq!(rt; output.as_slice(), HELP.as_bytes());
@@ -343,7 +358,15 @@ fn ignores_errors_that_fail(rt: HostRuntime) -> Result<(), Fail> {
         let mut output = Vec::new(rt.alloc());
         let mut errors = FusedSink::new(rt.alloc(), 0, 1)?;
         assert_eq!(rt;
-            command(&rt, &words, &mut input, &mut output, &mut errors),
+            command(
+                &rt,
+                &words,
+                StandardStreams {
+                    input: &mut input,
+                    output: &mut output,
+                    errors: &mut errors
+                }
+            ),
             status
         );
         assert_eq!(rt; output.as_slice(), text);
@@ -367,7 +390,15 @@ fn reports_only_what_ended_well(rt: HostRuntime) -> Result<(), Fail> {
     let mut errors = Vec::new(rt.alloc());
     let mut input = SMALL_NET.as_slice();
     let mut output = FusedSink::new(rt.alloc(), 10, 7)?;
-    let status = command(&rt, &words, &mut input, &mut output, &mut errors);
+    let status = command(
+        &rt,
+        &words,
+        StandardStreams {
+            input: &mut input,
+            output: &mut output,
+            errors: &mut errors,
+        },
+    );
     assert_eq!(rt; status, 3);
     assert_eq!(rt;
         errors.as_slice(),
@@ -386,9 +417,11 @@ fn tells_the_line_of_a_failed_read(rt: HostRuntime) -> Result<(), Fail> {
     let status = command(
         &rt,
         &["boruvka", "--plain"],
-        &mut input,
-        &mut output,
-        &mut errors,
+        StandardStreams {
+            input: &mut input,
+            output: &mut output,
+            errors: &mut errors,
+        },
     );
     assert_eq!(rt; status, 3);
     assert!(rt; output.is_empty());
@@ -440,7 +473,15 @@ fn expect_one_write(
     });
     let words = ["boruvka", "--plain", name];
     assert_eq!(rt;
-        command(rt, &words, &mut input, &mut output, &mut errors),
+        command(
+            rt,
+            &words,
+            StandardStreams {
+                input: &mut input,
+                output: &mut output,
+                errors: &mut errors
+            }
+        ),
         3
     );
     assert!(rt; output.is_empty());
@@ -486,9 +527,11 @@ fn tells_a_help_that_cannot_be_written(rt: HostRuntime) -> Result<(), Fail> {
     let status = command(
         &rt,
         &["boruvka", "--help"],
-        &mut input,
-        &mut output,
-        &mut errors,
+        StandardStreams {
+            input: &mut input,
+            output: &mut output,
+            errors: &mut errors,
+        },
     );
     assert_eq!(rt; status, 3);
     assert_eq!(rt; output.held(), b"Computes t".as_slice());
@@ -563,7 +606,15 @@ fn expect_refused(
     let mut errors = Vec::new(rt.alloc());
     let mut input = SMALL_NET.as_slice();
     let mut output = Vec::new(rt.alloc());
-    let status = command(rt, words, &mut input, &mut output, &mut errors);
+    let status = command(
+        rt,
+        words,
+        StandardStreams {
+            input: &mut input,
+            output: &mut output,
+            errors: &mut errors,
+        },
+    );
     assert_eq!(rt; status, 2);
     assert!(rt; output.is_empty() && !errors.is_empty());
 }
@@ -623,7 +674,17 @@ fn expect_over<L: Line + Send + Drop>(
     let mut source = SMALL_NET.as_slice();
     let mut out = Vec::new(rt.alloc());
     let mut err = Vec::new(rt.alloc());
-    let ended = run_over(rt, shards, true, lines, &mut source, &mut out, &mut err);
+    let ended = run_over(
+        rt,
+        shards,
+        true,
+        lines,
+        StandardStreams {
+            input: &mut source,
+            output: &mut out,
+            errors: &mut err,
+        },
+    );
     assert_eq!(rt; ended, status);
     assert_eq!(rt; out.as_slice(), output);
     assert_eq!(rt; err.as_slice(), errors);

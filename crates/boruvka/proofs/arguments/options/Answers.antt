@@ -1,5 +1,5 @@
 use Rattle.std.specs.String.{string_bytes}
-use Rattle.std.proofs.Common.{rules, ap, option_map, Some, arith, subst, sym, ◌∙◌, ℕ, List, Option, Ok}
+use Rattle.std.proofs.Common.{rules, ap, option_map, Some, arith, sym, ◌∙◌, ℕ, List, Option, Ok}
 use Rattle.boruvka.specs.Arguments.{number_of, is_true}
 use Rattle.boruvka.proofs.WordMeanings.{workers_hold, shards_hold, given_is, said_is, fails_by_words}
 use Rattle.boruvka.proofs.arguments.options.Goals as goal

@@ -1,0 +1,48 @@
+-- The program's three streams, before a call and after it.
+use Rattle.std.specs.Prelude.{◌≡◌, ⊤}
+use Rattle.std.specs.Borrow.{MutBor}
+use Rattle.byte_streams.specs.Streams.{SourceState, SinkState}
+use Rattle.forest_run.specs.Outcomes.{Streams, streams}
+use Rattle.boruvka.specs.declared.standard.StandardStreams.{StandardStreams}
+
+-- the program's three streams, as each tells itself
+pub record Standard : Type 0 where
+  pub source : SourceState
+  pub sink : SinkState
+  pub errors : SinkState
+
+-- the two that a run reads and writes
+abbrev pub of_run : Standard → Streams
+of_run all = streams all.source all.sink
+
+-- an input, an output and errors, as a call left them
+abbrev pub Left : Type 0 → Type 0 → Type 0 → Type 0
+Left I O E = MutBor I × (MutBor O × (MutBor E × ⊤))
+
+-- R of what the three tell before and after
+abbrev pub OnStreams : {I O E : Type 0} → (I → SourceState) → (O → SinkState) → (E → SinkState) → (Standard → Standard → Type 0)
+    → StandardStreams I O E → Left I O E → Type 0
+OnStreams source_of sink_of errors_of R before after =
+    R
+    (record { source = source_of before.input.now; sink = sink_of before.output.now; errors = errors_of before.errors.now })
+    (record { source = source_of after.0.now; sink = sink_of after.1.0.now; errors = errors_of after.1.1.0.now })
+
+-- R of what the input tells
+abbrev pub OnInput : {I O E : Type 0} → (I → SourceState) → (SourceState → SourceState → Type 0)
+    → StandardStreams I O E → Left I O E → Type 0
+OnInput source_of R before after = R (source_of before.input.now) (source_of after.0.now)
+
+-- R of what the output tells
+abbrev pub OnOutput : {I O E : Type 0} → (O → SinkState) → (SinkState → SinkState → Type 0)
+    → StandardStreams I O E → Left I O E → Type 0
+OnOutput sink_of R before after = R (sink_of before.output.now) (sink_of after.1.0.now)
+
+-- the input wasn't touched, the output wasn't, and the errors weren't
+abbrev pub SameInput : {I O E : Type 0} → StandardStreams I O E → Left I O E → Type 0
+SameInput before after = after.0.now ≡ before.input.now
+
+abbrev pub SameOutput : {I O E : Type 0} → StandardStreams I O E → Left I O E → Type 0
+SameOutput before after = after.1.0.now ≡ before.output.now
+
+abbrev pub SameErrors : {I O E : Type 0} → StandardStreams I O E → Left I O E → Type 0
+SameErrors before after = after.1.1.0.now ≡ before.errors.now
