@@ -2,9 +2,10 @@
 ghost use Rattle.std.specs.Prelude.{◌≡◌, ◌<◌};
 ghost use Rattle.claim_board.specs.State.{AreSeats};
 
-use claim_board::{Board, BoardFault, Claim, Seat};
+use crate::fault_texts::expect_told;
+use claim_board::{Board, BoardFault, Claim, Owners, Seat};
 use limits::{MAX_SHARDS, MAX_WORKERS};
-use std::alloc::Global;
+use std::alloc::{AllocError, Global};
 use std::process::Abort;
 use std::sync::atomic::{AtomicU64, Ordering};
 use std::test::Fail;
@@ -46,14 +47,10 @@ fn a_shard_goes_from_seat_to_seat(rt: HostRuntime) -> Result<(), Fail> {
     let last = claim(&board, &mut seats, 1, 0);
     let owners = board.close(seats)?;
     assert_eq!(rt;
-        (first, other, again),
-        (Claim::Won, Claim::Held(0), Claim::Held(0))
+        [first, other, again, last],
+        [Claim::Won, Claim::Held(0), Claim::Held(0), Claim::Won]
     );
-    assert_eq!(rt; (gave, last), (true, Claim::Won));
-    assert_eq!(rt;
-        (owners.of(0), owners.of(1), owners.of(2)),
-        (Some(1), None, None)
-    );
+    assert!(rt; gave && [owners.of(0), owners.of(1), owners.of(2)] == [Some(1), None, None]);
     Ok(())
 }
 
@@ -97,24 +94,29 @@ fn claim_all_at_once<R: Threads + Sync>(rt: &R, board: &Board<Global>, seats: &m
 fn two_threads_share_all_shards(rt: HostRuntime) -> Result<(), Fail> {
     let (board, mut seats) = Board::open(rt.alloc(), MAX_SHARDS as u32, 2)?;
     let wins = claim_all_at_once(&rt, &board, &mut seats);
-    let mut holders = Vec::with_capacity(rt.alloc(), MAX_SHARDS)?;
+    let holders = holders(rt.alloc(), seats.as_slice())?;
+    let owners = board.close(seats)?;
+    assert_eq!(rt; wins, 4096);
+    for shard in 0..MAX_SHARDS as u32 {
+        let holder = holders.get(shard as usize);
+        assert!(rt; owners.of(shard).is_some() && holder == Some(&owners.of(shard)));
+    }
+    Ok(())
+}
+
+// The seat that holds a shard, of each shard.
+fn holders(alloc: Global, seats: &[Seat]) -> Result<Vec<Option<u32>>, AllocError> {
+    let mut holders = Vec::with_capacity(alloc, MAX_SHARDS)?;
     for shard in 0..MAX_SHARDS as u32 {
         let mut holder = None;
-        for seat in &seats {
+        for seat in seats {
             if seat.holds(shard) {
                 holder = Some(seat.number());
             }
         }
         holders.push(holder)?;
     }
-    let owners = board.close(seats)?;
-    assert_eq!(rt; wins, 4096);
-    for shard in 0..MAX_SHARDS as u32 {
-        let holder = holders.get(shard as usize).copied();
-        assert_eq!(rt; Some(owners.of(shard)), holder);
-        assert!(rt; owners.of(shard).is_some());
-    }
-    Ok(())
+    Ok(holders)
 }
 
 // An odd shard is given back. Whether it was, or is even.
@@ -154,12 +156,30 @@ fn take_turns(board: &Board<Global>, seats: &mut Vec<Seat>, shards: u32, count: 
 fn expect_board(rt: &impl Abort, alloc: Global, shards: u32, count: u32) -> Result<(), Fail> {
     assert!(rt; 1 <= shards && shards <= MAX_SHARDS as u32 && 1 <= count && count <= MAX_WORKERS);
     let (board, mut seats) = Board::open(alloc, shards, count)?;
-    let in_order = seats.iter().enumerate().all(|(place, seat)| seat.number() as usize == place
-        && !seat.holds(0));
-    let all = seats.len();
+    assert!(rt; are_new(seats.as_slice(), count));
     let went = take_turns(&board, &mut seats, shards, count);
     let owners = board.close(seats)?;
-    assert_eq!(rt; (all, in_order, went), (count as usize, true, true));
+    assert!(rt; went);
+    expect_owners(rt, &owners, shards, count);
+    Ok(())
+}
+
+// Whether they are so many, in the order of their numbers, and none holds a shard.
+fn are_new(seats: &[Seat], count: u32) -> bool {
+    let mut number = 0u32;
+    for seat in seats {
+        if seat.number() != number || seat.holds(0) {
+            return false;
+        }
+        number = number.wrapping_add(1);
+    }
+    number == count
+}
+
+// Each even shard is held by the seat that took turns with it, and no other is held.
+fn expect_owners(rt: &impl Abort, owners: &Owners<Global>, shards: u32, count: u32)
+    requires { 0 < count }
+{
     for shard in 0..shards {
         let owner = if shard % 2 == 0 {
             Some(shard % count)
@@ -169,7 +189,6 @@ fn expect_board(rt: &impl Abort, alloc: Global, shards: u32, count: u32) -> Resu
         assert_eq!(rt; owners.of(shard), owner);
     }
     assert_eq!(rt; owners.of(shards), None);
-    Ok(())
 }
 
 // Boards of few shards and of as many as there may be, to the last shard of a word of 64 bits and past it; and every
@@ -194,8 +213,7 @@ fn what_its_faults_are_told_as(rt: HostRuntime) -> Result<(), Fail> {
         (BoardFault::NoTable, "the board's table was refused"),
     ];
     for (fault, text) in texts {
-        let told = format!(in rt.alloc(); "{fault}")?;
-        assert_eq!(rt; told.as_str(), text);
+        expect_told(&rt, rt.alloc(), &fault, text)?;
     }
     Ok(())
 }

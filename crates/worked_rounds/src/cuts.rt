@@ -7,7 +7,9 @@ use std::process::Abort;
 use std::test::Fail;
 
 // The path of so many links, each of weight 1.
-fn path(rt: &impl Abort, alloc: Global, links: u32) -> Result<Vec<Link>, AllocError> {
+fn path(rt: &impl Abort, alloc: Global, links: u32) -> Result<Vec<Link>, AllocError>
+    ensures few { IfOk result (λ path. length path.items ≤ 2 ^ 30) }
+{
     assert!(rt; links < 1 << 20);
     let mut path = Vec::new(alloc);
     for v in 1..links + 1 {
@@ -15,6 +17,7 @@ fn path(rt: &impl Abort, alloc: Global, links: u32) -> Result<Vec<Link>, AllocEr
             path.push(link)?;
         }
     }
+    assert!(rt; path.len() <= 1 << 30);
     Ok(path)
 }
 
@@ -55,7 +58,6 @@ fn expect_sizes(
 fn even_shards(rt: HostRuntime) -> Result<(), Fail> {
     let alloc = rt.alloc();
     let links = path(&rt, alloc, 8)?;
-    assert!(rt; links.len() <= 1 << 30);
     let links = links.as_slice();
     let cuts: [(u32, &[usize]); 4] = [
         (1, &[8]),
@@ -73,7 +75,6 @@ fn even_shards(rt: HostRuntime) -> Result<(), Fail> {
 fn shards_at_places(rt: HostRuntime) -> Result<(), Fail> {
     let alloc = rt.alloc();
     let links = path(&rt, alloc, 8)?;
-    assert!(rt; links.len() <= 1 << 30);
     let links = links.as_slice();
     let cuts: [(&[usize], &[usize]); 4] = [
         (&[], &[8]),
@@ -91,21 +92,31 @@ fn shards_at_places(rt: HostRuntime) -> Result<(), Fail> {
 fn refused_cuts(rt: HostRuntime) -> Result<(), Fail> {
     let alloc = rt.alloc();
     let links = path(&rt, alloc, 8)?;
-    assert!(rt; links.len() <= 1 << 30);
     let links = links.as_slice();
-    assert_eq!(rt;
+    let cuts = [
         Cut::at(alloc, links, &[3, 2]).err(),
-        Some(CutFault::BadPlaces)
-    );
-    assert_eq!(rt; Cut::even(alloc, links, 0).err(), Some(CutFault::NoShards));
-    assert_eq!(rt;
+        Cut::even(alloc, links, 0).err(),
         Cut::even(alloc, links, 4097).err(),
-        Some(CutFault::TooManyShards)
-    );
-    assert_eq!(rt; check_even(16777217, 1), Err(CutFault::ShardTooLarge));
-    assert_eq!(rt; check_even(16777217, 2), Ok(()));
-    assert_eq!(rt; check_places(8, &[9]), Err(CutFault::BadPlaces));
-    assert_eq!(rt; check_places(8, &[8]), Ok(()));
+    ];
+    let refused = [
+        Some(CutFault::BadPlaces),
+        Some(CutFault::NoShards),
+        Some(CutFault::TooManyShards),
+    ];
+    assert_eq!(rt; cuts, refused);
+    let checks = [
+        check_even(16777217, 1),
+        check_even(16777217, 2),
+        check_places(8, &[9]),
+        check_places(8, &[8]),
+    ];
+    let expected = [
+        Err(CutFault::ShardTooLarge),
+        Ok(()),
+        Err(CutFault::BadPlaces),
+        Ok(()),
+    ];
+    assert_eq!(rt; checks, expected);
     Ok(())
 }
 
@@ -113,7 +124,6 @@ fn refused_cuts(rt: HostRuntime) -> Result<(), Fail> {
 fn as_many_shards_as_there_may_be(rt: HostRuntime) -> Result<(), Fail> {
     let alloc = rt.alloc();
     let links = path(&rt, alloc, 10000)?;
-    assert!(rt; links.len() <= 1 << 30);
     for count in [4095, 4096] {
         let cut = Cut::even(alloc, links.as_slice(), count).expect(&rt, "a cut");
         let sizes_of_cut = sizes(&rt, alloc, &cut, links.as_slice())?;
@@ -128,7 +138,6 @@ fn as_many_shards_as_there_may_be(rt: HostRuntime) -> Result<(), Fail> {
 fn as_many_places_as_there_may_be(rt: HostRuntime) -> Result<(), Fail> {
     let alloc = rt.alloc();
     let links = path(&rt, alloc, 10000)?;
-    assert!(rt; links.len() <= 1 << 30);
     let mut places = Vec::new(alloc);
     let mut wanted: Vec<usize> = Vec::new(alloc);
     for number in 1..4096usize {

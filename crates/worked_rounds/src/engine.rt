@@ -1,7 +1,7 @@
 // A worker's engine over a triangle of equal weights: what it hears, and whole sessions.
 ghost use Rattle.std.specs.Prelude.{◌-◌, ◌<◌, ◌^◌};
 
-use crate::scans::{By, many_labels, many_links, plain_offers, reply_by};
+use crate::scans::{By, Worker, many_labels, many_links, plain_offers};
 use crate::sizes::{apart, falling, falling_offers};
 use byte_streams::{FusedSink, FusedSource};
 use frames::{
@@ -13,7 +13,7 @@ use std::process::Abort;
 use std::test::Fail;
 use std::thread::Threads;
 use worked_graphs::have_labels;
-use worker_engine::{Engine, ServeFault, Served, scan, serve, serve_upto};
+use worker_engine::{ServeFault, Served, scan, serve, serve_upto};
 
 // What a worker of the first version says, and one of this version.
 const FIRST_HELLO: [u8; 11] = [1, 0, 0, 0, 6, 0, 1, 0, 0, 0, 0];
@@ -117,18 +117,24 @@ fn session(
     Ok((end, sink))
 }
 
-// A session over these bytes ends so, and has written this.
+/// How a session ends, and the parts of what it has written.
+#[derive(Clone, Copy)]
+struct Ended<'a> {
+    end: Result<Served, ServeFault>,
+    written: &'a [&'a [u8]],
+}
+
+// A session over these bytes ends so.
 fn expect_session(
     rt: &(impl Abort + Threads + Sync),
     alloc: Global,
     heard: &[&[u8]],
     limit: Option<u64>,
-    ends: Result<Served, ServeFault>,
-    written: &[&[u8]],
+    expected: Ended,
 ) -> Result<(), Fail> {
     let (end, sink) = session(rt, alloc, heard, limit)?;
-    assert_eq!(rt; end, ends);
-    assert_eq!(rt; sink.as_slice(), joined(alloc, written)?.as_slice());
+    let written = joined(alloc, expected.written)?;
+    assert_eq!(rt; (end, sink.as_slice()), (expected.end, written.as_slice()));
     Ok(())
 }
 
@@ -175,8 +181,8 @@ fn sessions_over_the_triangle(rt: HostRuntime) -> Result<(), Fail> {
             &[&HELLO, &EMPTY_ANSWER, &EMPTY_ANSWER],
         ),
     ];
-    for (heard, ends, written) in sessions {
-        expect_session(&rt, rt.alloc(), heard, None, ends, written)?;
+    for (heard, end, written) in sessions {
+        expect_session(&rt, rt.alloc(), heard, None, Ended { end, written })?;
     }
     Ok(())
 }
@@ -191,34 +197,36 @@ fn a_session_with_a_limit(rt: HostRuntime) -> Result<(), Fail> {
         (2, too_many, &[&HELLO, &ANSWER]),
         (3, served(2, 1, 0), &[&HELLO, &ANSWER]),
     ];
-    for (limit, ends, written) in limits {
-        expect_session(&rt, rt.alloc(), &heard, Some(limit), ends, written)?;
+    for (limit, end, written) in limits {
+        expect_session(&rt, rt.alloc(), &heard, Some(limit), Ended { end, written })?;
     }
     Ok(())
 }
 
 #[test]
 fn an_ask_torn_at_each_byte(rt: HostRuntime) -> Result<(), Fail> {
-    let torn = Err(ServeFault::Read(FrameFault::Torn));
+    let torn = Ended {
+        end: Err(ServeFault::Read(FrameFault::Torn)),
+        written: &[&HELLO, &ANSWER],
+    };
     for count in 1..29 {
         let heard: [&[u8]; 3] = [&SHARD, &ASK, &ASK[..count]];
-        expect_session(&rt, rt.alloc(), &heard, None, torn, &[&HELLO, &ANSWER])?;
+        expect_session(&rt, rt.alloc(), &heard, None, torn)?;
     }
     Ok(())
 }
 
-// The engine hears the frame with these bytes, and replies so, if it replies.
+// The worker hears the frame with these bytes, and replies so, if it replies.
 fn expect_reply(
     rt: &(impl Abort + Threads + Sync),
     alloc: Global,
-    by: By,
-    engine: &mut Engine,
+    worker: &mut Worker,
     heard: &[u8],
     reply: Option<&[u8]>,
 ) -> Result<(), Fail> {
     let mut source = heard;
     let frame = read_frame(alloc, &mut source)?;
-    match (reply_by(rt, by, engine, frame)?, reply) {
+    match (worker.reply(rt, frame)?, reply) {
         (Some(told), Some(bytes)) => {
             assert!(rt; told.is_lawful());
             assert_eq!(rt; encode(alloc, &told)?.as_slice(), bytes);
@@ -228,22 +236,24 @@ fn expect_reply(
     Ok(())
 }
 
+// What a worker hears, and what it replies.
+const HEARD: [(&[u8], Option<&[u8]>); 8] = [
+    (&ASK, Some(&NOT_HELD)),
+    (&SHARD, None),
+    (&ASK, Some(&ANSWER)),
+    (&SHORT_ASK, Some(&NO_LABEL)),
+    (&FIRST_HELLO, None),
+    (&ANSWER, None),
+    (&NOT_HELD, None),
+    (&ASK, Some(&ANSWER)),
+];
+
 #[test]
 fn an_engine_hears_each_kind_of_frame(rt: HostRuntime) -> Result<(), Fail> {
-    let frames: [(&[u8], Option<&[u8]>); 8] = [
-        (&ASK, Some(&NOT_HELD)),
-        (&SHARD, None),
-        (&ASK, Some(&ANSWER)),
-        (&SHORT_ASK, Some(&NO_LABEL)),
-        (&FIRST_HELLO, None),
-        (&ANSWER, None),
-        (&NOT_HELD, None),
-        (&ASK, Some(&ANSWER)),
-    ];
     for by in [By::OneThread, By::Threads] {
-        let mut engine = Engine::new(rt.alloc());
-        for (heard, reply) in frames {
-            expect_reply(&rt, rt.alloc(), by, &mut engine, heard, reply)?;
+        let mut worker = Worker::new(rt.alloc(), by);
+        for (heard, reply) in HEARD {
+            expect_reply(&rt, rt.alloc(), &mut worker, heard, reply)?;
         }
     }
     Ok(())
@@ -304,20 +314,16 @@ fn expect_answers(
     labels: &Labels,
     expected: Vec<(u32, u32)>,
 ) -> Result<(), Fail> {
-    let shard = Shard { number: 3, links };
-    assert!(rt; shard.links.len() <= 1 << 24);
-    let heard = encode_shard(alloc, &shard)?;
+    let heard = shard_text(rt, alloc, &Shard { number: 3, links })?;
     let ask = encode_ask(alloc, 1, 3, labels)?;
-    let answer = Frame::Answer(Answer {
-        round: 1,
-        shard: 3,
-        offers: Offers::of_pairs(expected).expect(rt, "ascending"),
-    });
-    assert!(rt; answer.is_lawful());
-    let text = encode(alloc, &answer)?;
+    let offers = Offers::of_pairs(expected).expect(rt, "ascending");
+    let text = answer_text(rt, alloc, 1, 3, offers)?;
     let parts: [&[u8]; 3] = [heard.as_slice(), ask.as_slice(), ask.as_slice()];
-    let written: [&[u8]; 3] = [&HELLO, text.as_slice(), text.as_slice()];
-    expect_session(rt, alloc, &parts, None, served(3, 2, 0), &written)
+    let expected = Ended {
+        end: served(3, 2, 0),
+        written: &[&HELLO, text.as_slice(), text.as_slice()],
+    };
+    expect_session(rt, alloc, &parts, None, expected)
 }
 
 #[test]
@@ -347,28 +353,19 @@ fn labels_but(rt: &impl Abort, alloc: Global, vertex: u32) -> Result<Labels, Fai
 }
 
 // The text of a shard.
-fn shard_text(
-    rt: &impl Abort,
-    alloc: Global,
-    number: u32,
-    links: &[Link],
-) -> Result<Vec<u8>, Fail> {
-    let shard = Shard { number, links };
-    assert!(rt; number < 4096 && shard.links.len() <= 1 << 24);
-    Ok(encode_shard(alloc, &shard)?)
+fn shard_text(rt: &impl Abort, alloc: Global, shard: &Shard) -> Result<Vec<u8>, Fail> {
+    assert!(rt; shard.number < 4096 && shard.links.len() <= 1 << 24);
+    Ok(encode_shard(alloc, shard)?)
 }
 
-// The text of the answer of a shard of these links, by a scan of its own.
+// The text of an answer of a round for a shard, with these offers.
 fn answer_text(
     rt: &impl Abort,
     alloc: Global,
     round: u32,
     shard: u32,
-    links: &[Link],
-    labels: &Labels,
+    offers: Offers,
 ) -> Result<Vec<u8>, Fail> {
-    assert!(rt; links.len() <= 1 << 24 && have_labels(links, labels.n()));
-    let offers = scan(alloc, links, labels)?;
     let answer = Frame::Answer(Answer {
         round,
         shard,
@@ -376,6 +373,21 @@ fn answer_text(
     });
     assert!(rt; answer.is_lawful());
     Ok(encode(alloc, &answer)?)
+}
+
+// The texts of an ask of a round for a shard and of its answer, by a scan of its own.
+fn asked_and_answered(
+    rt: &impl Abort,
+    alloc: Global,
+    round: u32,
+    shard: &Shard,
+    labels: &Labels,
+) -> Result<(Vec<u8>, Vec<u8>), Fail> {
+    let Shard { number, links } = *shard;
+    assert!(rt; number < 4096 && links.len() <= 1 << 24 && have_labels(links, labels.n()));
+    let ask = encode_ask(alloc, round, number, labels)?;
+    let offers = scan(alloc, links, labels)?;
+    Ok((ask, answer_text(rt, alloc, round, number, offers)?))
 }
 
 // Two shards are asked for again and again, under labels that come again, that differ in the last, a middle or the first
@@ -386,28 +398,35 @@ fn asks_under_labels_that_change(rt: HostRuntime) -> Result<(), Fail> {
     let alloc = rt.alloc();
     let first = falling(alloc, 20_001, 0, 20_000)?;
     let second = falling(alloc, 20_001, 7, 31_000)?;
-    let mut heard = shard_text(&rt, alloc, 3, first.as_slice())?;
-    heard.extend_from_slice(shard_text(&rt, alloc, 4, second.as_slice())?.as_slice())?;
+    let shards = [
+        Shard {
+            number: 3,
+            links: first.as_slice(),
+        },
+        Shard {
+            number: 4,
+            links: second.as_slice(),
+        },
+    ];
+    let mut heard = Vec::new(alloc);
+    for shard in &shards {
+        heard.extend_from_slice(shard_text(&rt, alloc, shard)?.as_slice())?;
+    }
     let mut written = Vec::from_slice(alloc, &HELLO)?;
     let vertices: [u32; 10] = [0, 0, 20_001, 20_001, 10_000, 0, 2, 2, 0, 20_001];
     for vertex in vertices {
         let labels = labels_but(&rt, alloc, vertex)?;
-        for (shard, links) in [(3, &first), (4, &second)] {
+        for shard in &shards {
             heard.extend_from_slice(encode_ask(alloc, vertex, 9, &labels)?.as_slice())?;
             written.extend_from_slice(&fault_bytes(vertex, 9, 2))?;
-            assert!(rt; shard < 4096);
-            heard.extend_from_slice(encode_ask(alloc, vertex, shard, &labels)?.as_slice())?;
-            let text = answer_text(&rt, alloc, vertex, shard, links.as_slice(), &labels)?;
-            written.extend_from_slice(text.as_slice())?;
+            let (ask, answer) = asked_and_answered(&rt, alloc, vertex, shard, &labels)?;
+            heard.extend_from_slice(ask.as_slice())?;
+            written.extend_from_slice(answer.as_slice())?;
         }
     }
-    let ends = served(42, 20, 20);
-    expect_session(
-        &rt,
-        alloc,
-        &[heard.as_slice()],
-        None,
-        ends,
-        &[written.as_slice()],
-    )
+    let expected = Ended {
+        end: served(42, 20, 20),
+        written: &[written.as_slice()],
+    };
+    expect_session(&rt, alloc, &[heard.as_slice()], None, expected)
 }

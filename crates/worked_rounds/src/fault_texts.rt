@@ -1,7 +1,22 @@
 // What the faults of a worker's session are told as.
 use frames::FrameFault;
+use std::alloc::Global;
+use std::fmt::Display;
+use std::process::Abort;
 use std::test::Fail;
 use worker_engine::ServeFault;
+
+// It is told as this text.
+pub(crate) fn expect_told(
+    rt: &impl Abort,
+    alloc: Global,
+    fault: &impl Display,
+    text: &str,
+) -> Result<(), Fail> {
+    let told = format!(in alloc; "{fault}")?;
+    assert_eq!(rt; told.as_str(), text);
+    Ok(())
+}
 
 #[test]
 fn what_faults_are_told_as(rt: HostRuntime) -> Result<(), Fail> {
@@ -16,8 +31,7 @@ fn what_faults_are_told_as(rt: HostRuntime) -> Result<(), Fail> {
         (ServeFault::TooMany, "too many frames"),
     ];
     for (fault, text) in texts {
-        let told = format!(in rt.alloc(); "{fault}")?;
-        assert_eq!(rt; told.as_str(), text);
+        expect_told(&rt, rt.alloc(), &fault, text)?;
     }
     Ok(())
 }

@@ -1,25 +1,39 @@
 // The allocator that counts its blocks and refuses chosen allocations.
+use std::alloc::{Allocator, Global};
+use std::process::Abort;
 use std::test::Fail;
 use test_memory::{Refusals, Refusing};
+
+// So many blocks were asked for, so many were given, so many were given back, and so many live.
+pub(crate) fn expect_counts<A: Allocator>(
+    rt: &impl Abort,
+    memory: &Refusing<A>,
+    expected: [u64; 4],
+) {
+    let counts = [
+        memory.asked(),
+        memory.given(),
+        memory.given_back(),
+        memory.live(),
+    ];
+    assert_eq!(rt; counts, expected);
+}
+
+// The next allocation is refused.
+pub(crate) fn expect_refused<A: Allocator>(rt: &impl Abort, memory: &Refusing<A>) {
+    assert!(rt; Box::new(memory, 8u8).is_err());
+}
 
 #[test]
 fn counts_blocks(rt: HostRuntime) -> Result<(), Fail> {
     let memory = Refusing::new(rt.alloc(), Refusals::none());
     let first = Box::new(&memory, 7u8)?;
     let second = Box::new(&memory, 8u8)?;
-    assert_eq!(rt;
-        (
-            memory.asked(),
-            memory.given(),
-            memory.given_back(),
-            memory.live()
-        ),
-        (2, 2, 0, 2)
-    );
+    expect_counts(&rt, &memory, [2, 2, 0, 2]);
     drop(first);
-    assert_eq!(rt; (memory.given_back(), memory.live()), (1, 1));
+    expect_counts(&rt, &memory, [2, 2, 1, 1]);
     drop(second);
-    assert_eq!(rt; (memory.asked(), memory.live()), (2, 0));
+    expect_counts(&rt, &memory, [2, 2, 2, 0]);
     Ok(())
 }
 
@@ -28,9 +42,9 @@ fn refuses_one(rt: HostRuntime) -> Result<(), Fail> {
     let memory = Refusing::new(rt.alloc(), Refusals::only(2));
     assert_eq!(rt; memory.refusals(), Refusals { first: 2, last: 2 });
     let first = Box::new(&memory, 7u8)?;
-    assert!(rt; Box::new(&memory, 8u8).is_err());
+    expect_refused(&rt, &memory);
     let third = Box::new(&memory, 9u8)?;
-    assert_eq!(rt; (memory.asked(), memory.given(), memory.live()), (3, 2, 2));
+    expect_counts(&rt, &memory, [3, 2, 0, 2]);
     assert_eq!(rt; (*first, *third), (7, 9));
     Ok(())
 }
@@ -39,10 +53,10 @@ fn refuses_one(rt: HostRuntime) -> Result<(), Fail> {
 fn refuses_from_a_number_on(rt: HostRuntime) -> Result<(), Fail> {
     let memory = Refusing::new(rt.alloc(), Refusals::since(2));
     let first = Box::new(&memory, 7u8)?;
-    assert!(rt; Box::new(&memory, 8u8).is_err());
-    assert!(rt; Box::new(&memory, 9u8).is_err());
+    expect_refused(&rt, &memory);
+    expect_refused(&rt, &memory);
     drop(first);
-    assert_eq!(rt; (memory.asked(), memory.live()), (3, 0));
+    expect_counts(&rt, &memory, [3, 1, 1, 0]);
     Ok(())
 }
 
@@ -52,10 +66,9 @@ fn a_growth_is_refused(rt: HostRuntime) -> Result<(), Fail> {
     let memory = Refusing::new(rt.alloc(), Refusals::since(2));
     let mut numbers = Vec::with_capacity(&memory, 1)?;
     numbers.push(1u32)?;
-    assert!(rt; numbers.push(2u32).is_err());
-    assert_eq!(rt; numbers.as_slice(), [1].as_slice());
+    assert!(rt; numbers.push(2u32).is_err() && numbers.as_slice() == [1].as_slice());
     drop(numbers);
-    assert_eq!(rt; (memory.asked(), memory.given(), memory.live()), (2, 1, 0));
+    expect_counts(&rt, &memory, [2, 1, 1, 0]);
     Ok(())
 }
 
@@ -67,9 +80,7 @@ fn ten_thousand_numbers_are_kept(rt: HostRuntime) -> Result<(), Fail> {
     for number in 0..10_000u32 {
         numbers.push(number)?;
     }
-    for number in 0..10_000u32 {
-        assert_eq!(rt; numbers.get(number as usize), Some(&number));
-    }
+    assert!(rt; numbers.iter().copied().eq(0..10_000));
     assert_eq!(rt; memory.live(), 1);
     drop(numbers);
     assert_eq!(rt; memory.live(), 0);

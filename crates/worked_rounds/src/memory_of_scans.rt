@@ -1,14 +1,14 @@
 // Which blocks of memory scans and engines take, which no contract counts.
-use crate::scans::{By, answered, keep};
+use crate::scans::{By, Worker, expect_offers};
 use crate::sizes::{apart, falling};
-use link_key::{Labels, Link};
-use std::alloc::{AllocError, Allocator, Global};
+use link_key::{Labels, Link, Offers};
+use std::alloc::{Allocator, Global};
 use std::process::Abort;
 use std::test::Fail;
 use std::thread::{Threads, available_parallelism};
 use test_memory::{Refusals, Refusing};
 use worked_graphs::have_labels;
-use worker_engine::{Engine, Scanner, scan, scan_par};
+use worker_engine::{Scanner, scan, scan_par};
 
 // How many vertices and links there are, and the most parts that they are scanned in.
 const PARTS: [(u32, u32, u64); 7] = [
@@ -30,20 +30,23 @@ fn parts(rt: &impl Threads, most: u64) -> u64 {
     }
 }
 
-// How many blocks a scan takes, and how many one by threads.
+// How many blocks a scan of so many links between n vertices takes, and how many one by threads.
 fn blocks(
     rt: &(impl Abort + Threads + Sync),
     alloc: Global,
-    links: &[Link],
-    labels: &Labels,
+    n: u32,
+    count: u32,
 ) -> Result<(u64, u64), Fail> {
+    let links = falling(alloc, n, 0, count)?;
+    let links = links.as_slice();
+    let labels = apart(rt, alloc, n)?;
     assert!(rt; links.len() <= 1 << 24 && have_labels(links, labels.n()));
-    let by_one = Refusing::new(alloc, Refusals::none());
-    let by_threads = Refusing::new(alloc, Refusals::none());
-    drop(scan(&by_one, links, labels)?);
-    drop(scan_par(rt, &by_threads, links, labels)?);
-    assert_eq!(rt; (by_one.live(), by_threads.live()), (0, 0));
-    Ok((by_one.given(), by_threads.given()))
+    let memory = Refusing::new(alloc, Refusals::none());
+    drop(scan(&memory, links, &labels)?);
+    let by_one = memory.given();
+    drop(scan_par(rt, &memory, links, &labels)?);
+    assert_eq!(rt; memory.live(), 0);
+    Ok((by_one, memory.given().wrapping_sub(by_one)))
 }
 
 // A table is three blocks. Links are scanned by threads wherever there are processors for it, and a part has at least as
@@ -52,9 +55,7 @@ fn blocks(
 fn a_table_for_each_part(rt: HostRuntime) -> Result<(), Fail> {
     let alloc = rt.alloc();
     for (n, count, most) in PARTS {
-        let links = falling(alloc, n, 0, count)?;
-        let labels = apart(&rt, alloc, n)?;
-        let (by_one, by_threads) = blocks(&rt, alloc, links.as_slice(), &labels)?;
+        let (by_one, by_threads) = blocks(&rt, alloc, n, count)?;
         let more = parts(&rt, most).wrapping_sub(1).wrapping_mul(3);
         assert_eq!(rt;
             by_threads,
@@ -65,13 +66,16 @@ fn a_table_for_each_part(rt: HostRuntime) -> Result<(), Fail> {
     Ok(())
 }
 
-// How many offers the scan of no links gives.
-fn offers_of_none<A: Allocator + Copy>(
+// The scan of no links under the labels of n vertices gives no offers.
+fn scan_none<A: Allocator + Copy>(
+    rt: &impl Abort,
+    alloc: Global,
     scanner: &mut Scanner<A>,
-    labels: &Labels,
-) -> Result<usize, AllocError> {
-    let offers = scanner.scan(&[], labels)?;
-    Ok(offers.pairs().len())
+    n: u32,
+) -> Result<(), Fail> {
+    let labels = apart(rt, alloc, n)?;
+    expect_offers(rt, &scanner.scan(&[], &labels)?, &[]);
+    Ok(())
 }
 
 // A scanner asks for its table once, and again only where there are more labels. The block of notes of the parts that
@@ -90,105 +94,155 @@ fn the_table_of_a_scan_is_used_again(rt: HostRuntime) -> Result<(), Fail> {
         (50, 5),
         (1000, 8),
     ] {
-        let labels = apart(&rt, rt.alloc(), n)?;
-        let offers = offers_of_none(&mut scanner, &labels)?;
-        assert_eq!(rt; (offers, memory.given()), (0, given));
+        scan_none(&rt, rt.alloc(), &mut scanner, n)?;
+        assert_eq!(rt; memory.given(), given);
     }
     Ok(())
+}
+
+/// Memory that counts its blocks, of which some may be refused.
+type Memory = Refusing<Global>;
+
+// How many blocks a worker takes to keep so many links.
+fn blocks_to_keep<'a>(
+    rt: &(impl Abort + Threads + Sync),
+    memory: &'a Memory,
+    worker: &mut Worker<&'a Memory>,
+    number: u32,
+) -> Result<u64, Fail> {
+    let links = falling(memory, 3, 0, 2000)?;
+    let before = memory.given();
+    worker.keep(rt, number, links)?;
+    Ok(memory.given().wrapping_sub(before))
 }
 
 // A shard's list is kept without a copy: it takes no memory, but for a part of a map for the first one.
 #[test]
 fn a_shard_is_kept_without_a_copy(rt: HostRuntime) -> Result<(), Fail> {
     let memory = Refusing::new(rt.alloc(), Refusals::none());
-    let mut engine = Engine::new(&memory);
-    for number in 0..3 {
-        let links = falling(&memory, 3, 0, 2000)?;
-        let before = memory.given();
-        keep(&rt, By::OneThread, &mut engine, number, links)?;
-        let taken = memory.given().wrapping_sub(before);
-        assert_eq!(rt; taken, if number == 0 { 1 } else { 0 });
+    let mut worker = Worker::new(&memory, By::OneThread);
+    for (number, blocks) in [(0, 1), (1, 0), (2, 0)] {
+        let taken = blocks_to_keep(&rt, &memory, &mut worker, number)?;
+        assert_eq!(rt; taken, blocks);
     }
     Ok(())
 }
 
-// How many blocks an engine takes for an ask of its links between two vertices, under the labels of each by itself, twice
-// under those of one component, and under the first again.
-fn blocks_of_asks(
+// The offers of a worker's answer under these labels, and how many blocks it asks for meanwhile.
+fn answered<'a>(
     rt: &(impl Abort + Threads + Sync),
-    alloc: Global,
-    by: By,
-) -> Result<Vec<u64>, Fail> {
-    let memory = Refusing::new(alloc, Refusals::none());
-    let mut engine = Engine::new(&memory);
-    keep(rt, by, &mut engine, 0, falling(&memory, 2, 0, 131_072)?)?;
-    let mut taken = Vec::new(alloc);
-    for second in [2, 1, 1, 2] {
-        let labels = Labels::of_list([1, second].to_vec(&memory)?).expect(rt, "labels");
-        let before = memory.given();
-        drop(answered(rt, by, &mut engine, 0, labels)?);
-        taken.push(memory.given().wrapping_sub(before))?;
-    }
-    Ok(taken)
+    memory: &'a Memory,
+    worker: &mut Worker<&'a Memory>,
+    list: &[u32],
+) -> Result<(Offers<&'a Memory>, u64), Fail> {
+    let labels = Labels::of_list(list.to_vec(memory)?).expect(rt, "labels");
+    let before = memory.asked();
+    let offers = worker.answered(rt, 0, labels)?;
+    Ok((offers, memory.asked().wrapping_sub(before)))
 }
+
+/// The label of the second of two vertices at an ask, and how many blocks the ask takes.
+type Ask = (u32, u64);
+
+// A worker is asked for links between two vertices, under the labels of each by itself, twice under those of one
+// component, and under the first again.
+fn expect_asks(
+    rt: &(impl Abort + Threads + Sync),
+    memory: &Memory,
+    by: By,
+    asks: &[Ask],
+) -> Result<(), Fail> {
+    let mut worker = Worker::new(memory, by);
+    worker.keep(rt, 0, falling(memory, 2, 0, 131_072)?)?;
+    for (second, blocks) in asks {
+        let (_offers, taken) = answered(rt, memory, &mut worker, &[1, *second])?;
+        assert_eq!(rt; taken, *blocks);
+    }
+    Ok(())
+}
+
+const BY_ONE: [Ask; 4] = [(2, 4), (1, 0), (1, 0), (2, 1)];
+
+const BY_HALVES: [Ask; 4] = [(2, 7), (1, 6), (1, 0), (2, 7)];
 
 // An answer that offers something takes one block. By one thread the table of the first ask is used again; by threads
 // each part makes one. Under the labels of one component all links are laid aside at the first ask, so that nothing is
 // left to be scanned at the second.
 #[test]
 fn links_laid_aside_are_scanned_no_more(rt: HostRuntime) -> Result<(), Fail> {
-    let by_one = [4, 0, 0, 1];
-    let by_halves = [7, 6, 0, 7];
-    let taken = blocks_of_asks(&rt, rt.alloc(), By::OneThread)?;
-    assert_eq!(rt; taken.as_slice(), by_one.as_slice());
-    let expected = if parts(&rt, 2) == 2 {
-        by_halves
+    let memory = Refusing::new(rt.alloc(), Refusals::none());
+    expect_asks(&rt, &memory, By::OneThread, &BY_ONE)?;
+    let by_threads = if parts(&rt, 2) == 2 {
+        BY_HALVES
     } else {
-        by_one
+        BY_ONE
     };
-    let taken = blocks_of_asks(&rt, rt.alloc(), By::Threads)?;
-    assert_eq!(rt; taken.as_slice(), expected.as_slice());
+    expect_asks(&rt, &memory, By::Threads, &by_threads)
+}
+
+/// The labels of three vertices at an ask, and how many blocks the ask asks for.
+type CoarserAsk = ([u32; 3], u64);
+
+// A worker is asked for links between three vertices, under the labels of each by itself, twice under those of two
+// components, and under those of one. It answers as a scan does each time. How many blocks were asked for before.
+fn expect_coarser_asks(
+    rt: &(impl Abort + Threads + Sync),
+    alloc: Global,
+    memory: &Memory,
+    by: By,
+    asks: &[CoarserAsk],
+) -> Result<u64, Fail> {
+    let links = falling(alloc, 3, 0, 2000)?;
+    let mut worker = Worker::new(memory, by);
+    worker.keep(rt, 0, falling(memory, 3, 0, 2000)?)?;
+    let before = memory.asked();
+    for (list, blocks) in asks {
+        let (offers, taken) = answered(rt, memory, &mut worker, list)?;
+        assert_eq!(rt; taken, *blocks);
+        expect_scanned(rt, alloc, &offers, links.as_slice(), list)?;
+    }
+    Ok(before)
+}
+
+// The offers are those of a scan of these links under these labels.
+fn expect_scanned<A: Allocator>(
+    rt: &impl Abort,
+    alloc: Global,
+    offers: &Offers<A>,
+    links: &[Link],
+    list: &[u32],
+) -> Result<(), Fail> {
+    let labels = Labels::of_list(list.to_vec(alloc)?).expect(rt, "labels");
+    assert!(rt; links.len() <= 1 << 24 && have_labels(links, labels.n()));
+    let expected = scan(alloc, links, &labels)?;
+    expect_offers(rt, offers, expected.pairs());
     Ok(())
 }
 
-// How many blocks an engine asks for at asks of links between three vertices, where some are refused: under the labels of
-// each by itself, twice under those of two components, and under those of one. It answers as a scan does each time.
-fn blocks_of_coarser_asks(
-    rt: &(impl Abort + Threads + Sync),
-    alloc: Global,
-    by: By,
-    refusals: Refusals,
-) -> Result<(Vec<u64>, Vec<u64>), Fail> {
-    let memory = Refusing::new(alloc, refusals);
-    let links = falling(alloc, 3, 0, 2000)?;
-    let mut engine = Engine::new(&memory);
-    keep(rt, by, &mut engine, 0, falling(&memory, 3, 0, 2000)?)?;
-    let mut before = Vec::new(alloc);
-    let mut taken = Vec::new(alloc);
-    for list in [[1, 2, 3], [1, 1, 3], [1, 1, 3], [1, 1, 1]] {
-        let expected = Labels::of_list(list.to_vec(alloc)?).expect(rt, "labels");
-        let labels = Labels::of_list(list.to_vec(&memory)?).expect(rt, "labels");
-        let asked = memory.asked();
-        let offers = answered(rt, by, &mut engine, 0, labels)?;
-        before.push(asked)?;
-        taken.push(memory.asked().wrapping_sub(asked))?;
-        assert!(rt; links.len() <= 1 << 24 && have_labels(links.as_slice(), expected.n()));
-        let expected = scan(alloc, links.as_slice(), &expected)?;
-        assert_eq!(rt; offers.pairs(), expected.pairs());
-    }
-    Ok((before, taken))
-}
+const LISTED: [CoarserAsk; 4] = [
+    ([1, 2, 3], 4),
+    ([1, 1, 3], 2),
+    ([1, 1, 3], 1),
+    ([1, 1, 1], 0),
+];
 
-// The live links are listed, in one block, once some are laid aside. Where that one is refused, all stay live, and the
-// next ask asks for it again.
+const NOT_LISTED_FIRST: [CoarserAsk; 4] = [
+    ([1, 2, 3], 4),
+    ([1, 1, 3], 2),
+    ([1, 1, 3], 2),
+    ([1, 1, 1], 0),
+];
+
+// The live links are listed, in one block, once some are laid aside: the second ask's second block. Where that one is
+// refused, all stay live, and the next ask asks for it again.
 #[test]
 fn live_links_are_listed_once(rt: HostRuntime) -> Result<(), Fail> {
     for by in [By::OneThread, By::Threads] {
-        let (before, taken) = blocks_of_coarser_asks(&rt, rt.alloc(), by, Refusals::none())?;
-        assert_eq!(rt; taken.as_slice(), [4, 2, 1, 0].as_slice());
-        let list = before.get(1).expect(&rt, "a second ask").wrapping_add(2);
-        let (_, taken) = blocks_of_coarser_asks(&rt, rt.alloc(), by, Refusals::only(list))?;
-        assert_eq!(rt; taken.as_slice(), [4, 2, 2, 0].as_slice());
+        let memory = Refusing::new(rt.alloc(), Refusals::none());
+        let before = expect_coarser_asks(&rt, rt.alloc(), &memory, by, &LISTED)?;
+        let list = before.wrapping_add(6);
+        let memory = Refusing::new(rt.alloc(), Refusals::only(list));
+        expect_coarser_asks(&rt, rt.alloc(), &memory, by, &NOT_LISTED_FIRST)?;
     }
     Ok(())
 }

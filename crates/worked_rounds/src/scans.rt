@@ -26,73 +26,105 @@ pub(crate) fn scanned(
 ) -> Result<Offers, Fail> {
     assert!(rt; links.len() <= 1 << 24 && have_labels(links, labels.n()));
     let offers = scan(alloc, links, labels)?;
-    let by_threads = scan_par(rt, alloc, links, labels)?;
-    let again = scanner.scan(links, labels)?;
-    let again_by_threads = scanner.scan_par(rt, links, labels)?;
-    for others in [by_threads, again, again_by_threads] {
-        assert_eq!(rt; others.pairs(), offers.pairs());
-    }
+    expect_offers(rt, &scan_par(rt, alloc, links, labels)?, offers.pairs());
+    expect_offers(rt, &scanner.scan(links, labels)?, offers.pairs());
+    expect_offers(rt, &scanner.scan_par(rt, links, labels)?, offers.pairs());
     Ok(offers)
 }
 
-// How an engine scans.
+/// How an engine scans.
 #[derive(Clone, Copy)]
 pub(crate) enum By {
     OneThread,
     Threads,
 }
 
-// The engine's reply to a lawful frame.
-pub(crate) fn reply_by<A: Allocator + Copy + Send + Sync>(
-    rt: &(impl Threads + Sync),
+/// A worker's engine, and how it scans.
+#[derive(Drop)]
+pub(crate) struct Worker<A: Allocator = Global> {
+    engine: Engine<A>,
     by: By,
-    engine: &mut Engine<A>,
-    frame: Frame<A>,
-) -> Result<Option<Frame<A>>, AllocError>
-    requires { IsLawful (value_of frame) }
-    ensures { IfOk result (λ reply. AreLawful (replies_in reply)) }
-{
-    match by {
-        By::OneThread => engine.hear(frame),
-        By::Threads => engine.hear_par(rt, frame),
+}
+
+impl<A: Allocator + Copy + Send + Sync> Worker<A> {
+    pub(crate) fn new(alloc: A, by: By) -> Self {
+        Worker {
+            engine: Engine::new(alloc),
+            by,
+        }
+    }
+
+    // Its reply to a lawful frame.
+    pub(crate) fn reply(
+        &mut self,
+        rt: &(impl Threads + Sync),
+        frame: Frame<A>,
+    ) -> Result<Option<Frame<A>>, AllocError>
+        requires { IsLawful (value_of frame) }
+        ensures { IfOk result (λ reply. AreLawful (replies_in reply)) }
+    {
+        match self.by {
+            By::OneThread => self.engine.hear(frame),
+            By::Threads => self.engine.hear_par(rt, frame),
+        }
+    }
+
+    // It hears a shard with these links, and replies nothing.
+    pub(crate) fn keep(
+        &mut self,
+        rt: &(impl Abort + Threads + Sync),
+        number: u32,
+        links: Vec<Link, A>,
+    ) -> Result<(), Fail> {
+        let shard = Frame::Shard {
+            number,
+            links: Links::of_list(links),
+        };
+        assert!(rt; shard.is_lawful());
+        assert!(rt; self.reply(rt, shard)?.is_none());
+        Ok(())
+    }
+
+    // The offers that it answers to an ask of this shard under these labels.
+    pub(crate) fn answered(
+        &mut self,
+        rt: &(impl Abort + Threads + Sync),
+        shard: u32,
+        labels: Labels<A>,
+    ) -> Result<Offers<A>, Fail> {
+        let ask = Frame::Ask {
+            round: 1,
+            shard,
+            labels,
+        };
+        assert!(rt; ask.is_lawful());
+        match self.reply(rt, ask)?.expect(rt, "a reply") {
+            Frame::Answer(answer) => Ok(answer.offers),
+            _ => panic!(rt; "no answer"),
+        }
+    }
+
+    // It answers such an ask with these offers.
+    pub(crate) fn expect_answer(
+        &mut self,
+        rt: &(impl Abort + Threads + Sync),
+        shard: u32,
+        labels: Labels<A>,
+        expected: &[(u32, u32)],
+    ) -> Result<(), Fail> {
+        let offers = self.answered(rt, shard, labels)?;
+        expect_offers(rt, &offers, expected);
+        Ok(())
     }
 }
 
-// The engine hears a shard with these links, and replies nothing.
-pub(crate) fn keep<A: Allocator + Copy + Send + Sync>(
-    rt: &(impl Abort + Threads + Sync),
-    by: By,
-    engine: &mut Engine<A>,
-    number: u32,
-    links: Vec<Link, A>,
-) -> Result<(), Fail> {
-    let shard = Frame::Shard {
-        number,
-        links: Links::of_list(links),
-    };
-    assert!(rt; shard.is_lawful());
-    assert!(rt; reply_by(rt, by, engine, shard)?.is_none());
-    Ok(())
-}
-
-// The offers that the engine answers to an ask of this shard under these labels.
-pub(crate) fn answered<A: Allocator + Copy + Send + Sync>(
-    rt: &(impl Abort + Threads + Sync),
-    by: By,
-    engine: &mut Engine<A>,
-    shard: u32,
-    labels: Labels<A>,
-) -> Result<Offers<A>, Fail> {
-    let ask = Frame::Ask {
-        round: 1,
-        shard,
-        labels,
-    };
-    assert!(rt; ask.is_lawful());
-    match reply_by(rt, by, engine, ask)?.expect(rt, "a reply") {
-        Frame::Answer(answer) => Ok(answer.offers),
-        _ => panic!(rt; "no answer"),
-    }
+// The offers are these.
+pub(crate) fn expect_offers<A: Allocator>(
+    rt: &impl Abort,
+    offers: &Offers<A>,
+    expected: &[(u32, u32)],
+) {
+    assert_eq!(rt; offers.pairs(), expected);
 }
 
 // The offers by a plain program: the links in ascending order, those that are equal by their places, of which the
@@ -215,9 +247,11 @@ const OF_NEAR: Known = Known {
 };
 
 fn expect_known(rt: &impl Abort, pairs: &[(u32, u32)], known: &Known) {
-    assert_eq!(rt; pairs.len(), known.count);
+    assert_eq!(rt;
+        (pairs.len(), pairs.get(known.place)),
+        (known.count, Some(&known.at_place))
+    );
     assert!(rt; pairs.starts_with(&known.first) && pairs.ends_with(&known.last));
-    assert_eq!(rt; pairs.get(known.place), Some(&known.at_place));
 }
 
 // One scanner for lists of any length, some of them scanned by threads.
@@ -237,11 +271,11 @@ fn scans_one_after_the_other(rt: HostRuntime) -> Result<(), Fail> {
     let mut scanner = Scanner::new(alloc);
     for (links, labels, known) in &lists {
         let few = scanned(&rt, alloc, &mut scanner, triangle.as_slice(), &three)?;
-        assert_eq!(rt; few.pairs(), [(1, 0), (2, 0), (3, 2)].as_slice());
+        expect_offers(&rt, &few, &[(1, 0), (2, 0), (3, 2)]);
         let offers = scanned(&rt, alloc, &mut scanner, links.as_slice(), labels)?;
         expect_known(&rt, offers.pairs(), known);
         let expected = plain_offers(&rt, alloc, 0, links.as_slice(), labels)?;
-        assert_eq!(rt; offers.pairs(), expected.as_slice());
+        expect_offers(&rt, &offers, expected.as_slice());
     }
     Ok(())
 }
@@ -277,62 +311,55 @@ fn weights_past_32_bits(rt: HostRuntime) -> Result<(), Fail> {
     for (arcs, expected) in graphs {
         let links = links_of(alloc, 3, arcs)?.expect(&rt, "arcs");
         let offers = scanned(&rt, alloc, &mut scanner, links.as_slice(), &labels)?;
-        assert_eq!(rt; offers.pairs(), expected);
+        expect_offers(&rt, &offers, expected);
     }
     Ok(())
 }
 
-// The engine answers an ask of this shard with the offers of these links.
-fn expect_answer(
-    rt: &(impl Abort + Threads + Sync),
-    alloc: Global,
-    by: By,
-    engine: &mut Engine,
-    shard: u32,
-    links: &[Link],
-    size: u32,
-) -> Result<(), Fail>
-    requires { 0 < size }
-{
-    let labels = neighbours(rt, alloc, MANY, size)?;
-    let expected = plain_offers(rt, alloc, 0, links, &labels)?;
-    let offers = answered(rt, by, engine, shard, labels)?;
-    assert_eq!(rt; offers.pairs(), expected.as_slice());
-    Ok(())
-}
+// How many neighbours make a component, and how many of two shards are asked for.
+const COMPONENTS: [(u32, u32); 9] = [
+    (1, 2),
+    (2, 2),
+    (10, 1),
+    (50, 2),
+    (50, 2),
+    (1000, 2),
+    (2, 2),
+    (10, 1),
+    (1, 2),
+];
 
 // Two shards of many links, asked in turn as components grow, and then under labels that don't coarsen the last.
 #[test]
 fn many_links_laid_aside(rt: HostRuntime) -> Result<(), Fail> {
     let alloc = rt.alloc();
     let links = many_links(&rt, alloc)?;
-    let mut engine = Engine::new(alloc);
+    let mut worker = Worker::new(alloc, By::OneThread);
     for number in 0..2 {
-        keep(&rt, By::OneThread, &mut engine, number, links.clone()?)?;
+        worker.keep(&rt, number, links.clone()?)?;
     }
-    for size in [1, 2, 10, 50, 50, 1000, 2, 10, 1] {
-        expect_answer(
-            &rt,
-            alloc,
-            By::OneThread,
-            &mut engine,
-            0,
-            links.as_slice(),
-            size,
-        )?;
-        if size != 10 {
-            expect_answer(
-                &rt,
-                alloc,
-                By::OneThread,
-                &mut engine,
-                1,
-                links.as_slice(),
-                size,
-            )?;
+    for (size, shards) in COMPONENTS {
+        for shard in 0..shards {
+            expect_plain(&rt, alloc, &mut worker, (shard, links.as_slice()), size)?;
         }
     }
     Ok(())
+}
+
+// The worker answers an ask of a shard of many vertices with the offers of its links by the plain program, where
+// components have so many neighbours each.
+fn expect_plain(
+    rt: &(impl Abort + Threads + Sync),
+    alloc: Global,
+    worker: &mut Worker,
+    shard: (u32, &[Link]),
+    size: u32,
+) -> Result<(), Fail>
+    requires { 0 < size }
+{
+    let labels = neighbours(rt, alloc, MANY, size)?;
+    let expected = plain_offers(rt, alloc, 0, shard.1, &labels)?;
+    worker.expect_answer(rt, shard.0, labels, expected.as_slice())
 }
 
 // As components grow, fewer and fewer of the links are live: first so many that they are scanned by threads, then few.
@@ -340,16 +367,51 @@ fn many_links_laid_aside(rt: HostRuntime) -> Result<(), Fail> {
 fn many_live_links_by_threads(rt: HostRuntime) -> Result<(), Fail> {
     let alloc = rt.alloc();
     let links = near_links(&rt, alloc)?;
-    let mut engine = Engine::new(alloc);
-    let mut scanner = Scanner::new(alloc);
-    keep(&rt, By::Threads, &mut engine, 0, links.clone()?)?;
+    let mut near = Near {
+        worker: Worker::new(alloc, By::Threads),
+        scanner: Scanner::new(alloc),
+    };
+    near.worker.keep(&rt, 0, links.clone()?)?;
     for size in [1, 2, 4, 8, 8, 16, 1010, 4] {
-        let labels = neighbours(&rt, alloc, NEAR, size)?;
-        let expected = scanned(&rt, alloc, &mut scanner, links.as_slice(), &labels)?;
-        let offers = answered(&rt, By::Threads, &mut engine, 0, labels)?;
-        assert_eq!(rt; offers.pairs(), expected.pairs());
+        near.expect_scanned(&rt, alloc, links.as_slice(), size)?;
     }
     Ok(())
+}
+
+/// A worker that keeps links of near vertices as its only shard, and a scanner beside it.
+#[derive(Drop)]
+struct Near {
+    worker: Worker,
+    scanner: Scanner,
+}
+
+impl Near {
+    // The worker answers as the scanner scans the links, where components have so many neighbours each.
+    fn expect_scanned(
+        &mut self,
+        rt: &(impl Abort + Threads + Sync),
+        alloc: Global,
+        links: &[Link],
+        size: u32,
+    ) -> Result<(), Fail>
+        requires { 0 < size }
+    {
+        let labels = neighbours(rt, alloc, NEAR, size)?;
+        let expected = scanned(rt, alloc, &mut self.scanner, links, &labels)?;
+        self.worker.expect_answer(rt, 0, labels, expected.pairs())
+    }
+}
+
+// The worker answers an ask of its only shard under these labels with these offers.
+fn expect_under(
+    rt: &(impl Abort + Threads + Sync),
+    alloc: Global,
+    worker: &mut Worker,
+    list: &[u32],
+    expected: &[(u32, u32)],
+) -> Result<(), Fail> {
+    let labels = Labels::of_list(Vec::from_slice(alloc, list)?).expect(rt, "labels");
+    worker.expect_answer(rt, 0, labels, expected)
 }
 
 #[test]
@@ -365,12 +427,10 @@ fn links_laid_aside_are_live_again(rt: HostRuntime) -> Result<(), Fail> {
         (&[1, 2, 3, 4], all),
     ];
     for by in [By::OneThread, By::Threads] {
-        let mut engine = Engine::new(alloc);
-        keep(&rt, by, &mut engine, 0, triangle.clone()?)?;
-        for (labels, expected) in asked {
-            let labels = Labels::of_list(Vec::from_slice(alloc, labels)?).expect(&rt, "labels");
-            let offers = answered(&rt, by, &mut engine, 0, labels)?;
-            assert_eq!(rt; offers.pairs(), expected);
+        let mut worker = Worker::new(alloc, by);
+        worker.keep(&rt, 0, triangle.clone()?)?;
+        for (list, expected) in asked {
+            expect_under(&rt, alloc, &mut worker, list, expected)?;
         }
     }
     Ok(())

@@ -4,18 +4,20 @@
 // expected is written by a formula, here.
 ghost use Rattle.std.specs.Prelude.{◌<◌, ◌^◌};
 
-use crate::scans::{By, answered, keep, neighbours, plain_offers, scanned};
+use crate::scans::{By, Worker, neighbours, plain_offers, scanned};
 use link_key::{Labels, Link};
 use std::alloc::{AllocError, Allocator, Global};
 use std::process::Abort;
 use std::test::Fail;
 use std::thread::Threads;
-use worked_graphs::links_of;
-use worker_engine::{Engine, Scanner};
+use worker_engine::Scanner;
 
-// How many vertices and links there are. The labels of 64 links are looked up before they are kept. 131,072 links are scanned in two halves, 262,144 in four parts on four
-// processors, 524,288 in eight on eight, where a part has as many links as there are vertices.
-const SIZES: [(u32, u32); 20] = [
+/// How many vertices and links there are.
+type Size = (u32, u32);
+
+// The labels of 64 links are looked up before they are kept. 131,072 links are scanned in two halves, 262,144 in four
+// parts on four processors, 524,288 in eight on eight, where a part has as many links as there are vertices.
+const SIZES: [Size; 20] = [
     (0, 0),
     (1, 0),
     (2, 0),
@@ -98,31 +100,46 @@ fn scans_of_each_size(rt: HostRuntime) -> Result<(), Fail> {
     Ok(())
 }
 
-// An engine that keeps such links answers with their offers: by all links under the labels of each vertex, and twice under
-// those of pairs, the second time by the places of half of them.
+// A worker that keeps such links answers with their offers, where components have so many neighbours each.
+fn expect_answer(
+    rt: &(impl Abort + Threads + Sync),
+    alloc: Global,
+    worker: &mut Worker,
+    size: Size,
+    component: u32,
+) -> Result<(), Fail>
+    requires { 0 < component }
+{
+    let (n, count) = size;
+    let labels = neighbours(rt, alloc, n, component)?;
+    let expected = falling_offers(rt, alloc, n, count, &labels)?;
+    let offers = worker.answered(rt, 0, labels)?;
+    assert_eq!(rt; offers.pairs(), expected.as_slice(), "{count} links");
+    Ok(())
+}
+
+// It does so by all links under the labels of each vertex, and twice under those of pairs, the second time by the places
+// of half of them.
 fn expect_answers(
     rt: &(impl Abort + Threads + Sync),
     alloc: Global,
     by: By,
-    n: u32,
-    count: u32,
+    size: Size,
 ) -> Result<(), Fail> {
-    let mut engine = Engine::new(alloc);
-    keep(rt, by, &mut engine, 0, falling(alloc, n, 0, count)?)?;
-    for size in [1, 2, 2] {
-        let labels = neighbours(rt, alloc, n, size)?;
-        let expected = falling_offers(rt, alloc, n, count, &labels)?;
-        let offers = answered(rt, by, &mut engine, 0, labels)?;
-        assert_eq!(rt; offers.pairs(), expected.as_slice(), "{count} links");
+    let (n, count) = size;
+    let mut worker = Worker::new(alloc, by);
+    worker.keep(rt, 0, falling(alloc, n, 0, count)?)?;
+    for component in [1, 2, 2] {
+        expect_answer(rt, alloc, &mut worker, size, component)?;
     }
     Ok(())
 }
 
 #[test]
 fn engines_of_each_size(rt: HostRuntime) -> Result<(), Fail> {
-    for (n, count) in SIZES {
+    for size in SIZES {
         for by in [By::OneThread, By::Threads] {
-            expect_answers(&rt, rt.alloc(), by, n, count)?;
+            expect_answers(&rt, rt.alloc(), by, size)?;
         }
     }
     Ok(())
@@ -131,21 +148,27 @@ fn engines_of_each_size(rt: HostRuntime) -> Result<(), Fail> {
 // As many links as a shard may have.
 #[test]
 fn an_engine_keeps_the_longest_shard(rt: HostRuntime) -> Result<(), Fail> {
-    expect_answers(&rt, rt.alloc(), By::Threads, 3, 1 << 24)
+    expect_answers(&rt, rt.alloc(), By::Threads, (3, 1 << 24))
+}
+
+// A worker keeps a shard of one link, and is asked for it.
+fn expect_shard(
+    rt: &(impl Abort + Threads + Sync),
+    alloc: Global,
+    worker: &mut Worker,
+    number: u32,
+) -> Result<(), Fail> {
+    worker.keep(rt, number, falling(alloc, 2, 0, 1)?)?;
+    worker.expect_answer(rt, number, apart(rt, alloc, 2)?, &[(1, 0), (2, 0)])
 }
 
 // An engine keeps as many shards as there may be, each sent twice and asked for behind each time.
 #[test]
 fn as_many_shards_as_there_may_be(rt: HostRuntime) -> Result<(), Fail> {
-    let alloc = rt.alloc();
-    let links = links_of(alloc, 2, &[(1, 2, 5)])?.expect(&rt, "arcs");
     for by in [By::OneThread, By::Threads] {
-        let mut engine = Engine::new(alloc);
+        let mut worker = Worker::new(rt.alloc(), by);
         for turn in 0..8192 {
-            let number = turn % 4096;
-            keep(&rt, by, &mut engine, number, links.clone()?)?;
-            let offers = answered(&rt, by, &mut engine, number, apart(&rt, alloc, 2)?)?;
-            assert_eq!(rt; offers.pairs(), [(1, 0), (2, 0)].as_slice());
+            expect_shard(&rt, rt.alloc(), &mut worker, turn % 4096)?;
         }
     }
     Ok(())

@@ -1,8 +1,8 @@
 // Scans of a few links under many labels, each over the table of the scan before. A link touches labels at the front of
 // the table, in its middle or at its end, and all other labels stay as they were.
-use crate::scans::{neighbours, plain_offers, scanned};
+use crate::scans::{expect_offers, neighbours, plain_offers, scanned};
 use crate::sizes::apart;
-use link_key::{Labels, Link};
+use link_key::{Labels, Link, Offers};
 use std::alloc::Global;
 use std::process::Abort;
 use std::test::Fail;
@@ -17,20 +17,18 @@ const TOUCHED: [(u32, [(u32, u32); 3]); 2] = [
     (70_000, [(1, 2), (34_999, 35_001), (69_999, 70_000)]),
 ];
 
-// The links offer this, and no links behind them offer nothing.
-fn expect_offers(
+// The offers of these links; no links behind them offer nothing.
+fn scanned_before_none(
     rt: &(impl Abort + Threads + Sync),
     alloc: Global,
     scanner: &mut Scanner,
     links: &[Link],
     labels: &Labels,
-    expected: &[(u32, u32)],
-) -> Result<(), Fail> {
+) -> Result<Offers, Fail> {
     let offers = scanned(rt, alloc, scanner, links, labels)?;
-    assert_eq!(rt; offers.pairs(), expected);
     let none = scanned(rt, alloc, scanner, &[], labels)?;
-    assert_eq!(rt; none.pairs().len(), 0);
-    Ok(())
+    expect_offers(rt, &none, &[]);
+    Ok(offers)
 }
 
 // Each link alone, twice, and between them all three under the labels of pairs.
@@ -47,11 +45,17 @@ fn few_of_many_labels_are_touched(rt: HostRuntime) -> Result<(), Fail> {
         for _ in 0..2 {
             for (low, high) in ends {
                 let link = links_of(alloc, n, &[(low, high, 5)])?.expect(&rt, "an arc");
-                let offers = [(low, 0), (high, 0)];
-                expect_offers(&rt, alloc, &mut scanner, link.as_slice(), &labels, &offers)?;
+                let offers = scanned_before_none(
+                    &rt,
+                    alloc,
+                    &mut scanner,
+                    link.as_slice(),
+                    &labels,
+                )?;
+                expect_offers(&rt, &offers, &[(low, 0), (high, 0)]);
             }
-            let expected = of_pairs.as_slice();
-            expect_offers(&rt, alloc, &mut scanner, all.as_slice(), &pairs, expected)?;
+            let offers = scanned_before_none(&rt, alloc, &mut scanner, all.as_slice(), &pairs)?;
+            expect_offers(&rt, &offers, of_pairs.as_slice());
         }
     }
     Ok(())
