@@ -1,10 +1,12 @@
 // Books closed in threads: the picks are those of closing in one, and the least of what was offered, whether the offers
 // are worth threads or too few, of equal links and of links of equal weight, and whoever answers first.
-ghost use Rattle.std.specs.Prelude.{◌≡◌, IfOk};
+ghost use Rattle.std.specs.Prelude.{◌≡◌, ◌<◌, ◌≤◌, ◌^◌, length, IfOk};
+ghost use Rattle.round_core.specs.Page.{missing};
 
+use crate::rounds::opened;
 use frames::Answer;
 use link_key::{Cut, Labels, Link, Offers};
-use round_core::RoundBook;
+use round_core::{Picks, RoundBook};
 use std::alloc::Global;
 use std::process::Abort;
 use std::test::Fail;
@@ -20,13 +22,16 @@ fn step(rt: &impl Abort, shard: u32, vertex: u32) -> Link {
 }
 
 // So many shards that each have a link from each of n vertices to the next.
-fn paths(rt: &impl Abort, alloc: Global, n: u32, shards: u32) -> Result<Vec<Link>, Fail> {
+fn paths(rt: &impl Abort, alloc: Global, n: u32, shards: u32) -> Result<Vec<Link>, Fail>
+    ensures few { IfOk result (λ links. length links.items ≤ 2 ^ 24) }
+{
     let mut links = Vec::new(alloc);
     for shard in 0..shards {
         for vertex in 1..n {
             links.push(step(rt, shard, vertex))?;
         }
     }
+    assert!(rt; links.len() <= 1 << 24);
     Ok(links)
 }
 
@@ -45,24 +50,23 @@ fn first_links(rt: &impl Abort, alloc: Global, shard: u32, count: u32) -> Result
     })
 }
 
-// A book that has heard each shard offer the first so many of its links, in this order of the shards.
+// The book once it has heard each shard offer the first so many of its links, in this order of the shards.
 fn heard<'a>(
     rt: &impl Abort,
     alloc: Global,
-    cut: &'a Cut<'a>,
-    labels: &'a Labels,
+    mut book: RoundBook<'a>,
     counts: &[u32],
     order: &[u32],
 ) -> Result<RoundBook<'a>, Fail>
-    ensures { IfOk result (λ book. book.labels ≡ labels.now) }
+    ensures labels { IfOk result (λ heard. heard.labels ≡ book.entry.labels) }
+    ensures whole { IfOk result (λ heard. missing heard ≡ 0) }
 {
-    assert!(rt; all_have_labels(cut, labels.n()));
-    let mut book = RoundBook::open(alloc, 1, cut, labels)?;
     for shard in order {
         assert!(rt; (*shard as usize) < counts.len() && *shard < book.len());
         let answer = first_links(rt, alloc, *shard, counts[*shard as usize])?;
         book.take(*shard, answer)?;
     }
+    assert!(rt; book.missing() == 0);
     Ok(book)
 }
 
@@ -99,19 +103,29 @@ fn expect_least<R: Abort + Threads + Sync>(
     assert!(rt; n < 1 << 20 && order.len() <= 8);
     let shards = order.len() as u32;
     let links = paths(rt, alloc, n, shards)?;
-    assert!(rt; links.len() <= 1 << 24);
     let cut = Cut::even(alloc, links.as_slice(), shards).expect(rt, "a cut");
     let labels = Labels::apart(alloc, n)?;
-    let book = heard(rt, alloc, &cut, &labels, counts, order)?;
-    assert!(rt; book.missing() == 0);
-    let alone = book.close();
-    let book = heard(rt, alloc, &cut, &labels, counts, order)?;
-    assert!(rt; book.missing() == 0);
-    let beside = book.close_par(rt);
+    let book = opened(rt, alloc, &cut, 1, &labels)?;
+    let alone = heard(rt, alloc, book, counts, order)?.close();
+    expect_picks(rt, alloc, &alone, n, counts)?;
+    let book = opened(rt, alloc, &cut, 1, &labels)?;
+    let beside = heard(rt, alloc, book, counts, order)?.close_par(rt);
+    expect_picks(rt, alloc, &beside, n, counts)
+}
+
+// The picks of n vertices are the least of the links offered.
+fn expect_picks(
+    rt: &impl Abort,
+    alloc: Global,
+    picks: &Picks,
+    n: u32,
+    counts: &[u32],
+) -> Result<(), Fail>
+    requires few { n < 2 ^ 20 }
+    requires each_vertex { length picks.now ≡ n }
+{
     for vertex in 1..n + 1 {
-        assert!(rt; vertex <= labels.n());
-        assert_eq!(rt; beside.of(vertex), alone.of(vertex));
-        assert_eq!(rt; beside.of(vertex), least(rt, alloc, counts, vertex)?);
+        assert_eq!(rt; picks.of(vertex), least(rt, alloc, counts, vertex)?);
     }
     Ok(())
 }
@@ -172,27 +186,18 @@ fn no_offer(rt: HostRuntime) -> Result<(), Fail> {
 fn expect_least_over(rt: &impl Abort, alloc: Global, n: u32) -> Result<(), Fail> {
     assert!(rt; 2 <= n && n < 1 << 20);
     let links = paths(rt, alloc, 50, 1)?;
-    assert!(rt; links.len() <= 1 << 24);
     let cut = Cut::even(alloc, links.as_slice(), 1).expect(rt, "a cut");
     let labels = Labels::apart(alloc, 50)?;
-    let book = heard(rt, alloc, &cut, &labels, &[49], &[0])?;
-    assert!(rt; book.missing() == 0);
-    let picks = book.close();
+    let book = opened(rt, alloc, &cut, 1, &labels)?;
+    let picks = heard(rt, alloc, book, &[49], &[0])?.close();
     let links = paths(rt, alloc, n, 1)?;
-    assert!(rt; links.len() <= 1 << 24);
     let cut = Cut::even(alloc, links.as_slice(), 1).expect(rt, "a cut");
     let labels = Labels::apart(alloc, n)?;
     assert!(rt; all_have_labels(&cut, labels.n()));
-    let mut book = RoundBook::open_over(picks, 1, &cut, &labels)?;
+    let book = RoundBook::open_over(picks, 1, &cut, &labels)?;
     assert!(rt; book.len() == 1 && book.missing() == 1);
-    book.take(0, first_links(rt, alloc, 0, 1)?)?;
-    assert!(rt; book.missing() == 0);
-    let over = book.close();
-    for vertex in 1..n + 1 {
-        assert!(rt; vertex <= labels.n());
-        assert_eq!(rt; over.of(vertex), least(rt, alloc, &[1], vertex)?);
-    }
-    Ok(())
+    let over = heard(rt, alloc, book, &[1], &[0])?.close();
+    expect_picks(rt, alloc, &over, n, &[1])
 }
 
 // With as many labels as the picks have, with fewer, and with more.

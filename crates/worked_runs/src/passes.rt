@@ -1,8 +1,9 @@
 // Whole runs over lanes, each with a worker in memory that is asked in a thread of its own.
-ghost use Rattle.std.specs.Prelude.{◌≡◌, ◌<◌, ◌≤◌, length, All, IfOk};
+ghost use Rattle.std.specs.Prelude.{◌≡◌, ◌<◌, ◌≤◌, ◌^◌, length, All, IfOk};
 ghost use Rattle.forest_run.specs.Lanes.{IsIdle};
 
-use crate::solving::{LIMITS, LIMITS_FOREST, path};
+use crate::rounds::links_to_cut;
+use crate::solving::{LIMITS, LIMITS_FOREST, expect_links, path};
 use forest_run::{Lane, Report, solve};
 use link_key::{Cut, Link};
 use ports::{EngineLine, Port, Wire};
@@ -11,7 +12,7 @@ use std::process::Abort;
 use std::sync::Wait;
 use std::test::Fail;
 use std::thread::Threads;
-use worked_graphs::{Row, SMALL_NET, WIDE_WEIGHTS, all_have_labels, links_of};
+use worked_graphs::{Row, SMALL_NET, WIDE_WEIGHTS, all_have_labels};
 
 /// A lane to a worker in memory.
 type Worker<'a> = Lane<Wire<'a, EngineLine<Global>, Global>, Global>;
@@ -52,27 +53,37 @@ fn ask_count(rt: &impl Abort, lanes: Vec<Worker>) -> u64 {
     asks
 }
 
-// A run over so many workers finds this forest of the links, and reports this.
-fn expect_run<R: Abort + Threads + Wait + Sync>(
+/// A run of arcs over so many workers: the forest that it finds, and what it reports.
+type Run<'a> = (u32, &'a [Row], &'a [Row], Report);
+
+// The run, whose arcs have these links, goes so.
+fn expect_run_over<R: Abort + Threads + Wait + Sync>(
     rt: &R,
     alloc: Global,
     links: &[Link],
-    workers: u32,
-    forest: &[Row],
-    expected: Report,
+    run: Run,
 ) -> Result<(), Fail>
-    requires { workers ≤ 64 }
+    requires few { length links.now ≤ 2 ^ 30 }
 {
+    let (workers, _, forest, expected) = run;
     let n = expected.vertices;
-    assert!(rt; links.len() <= 1 << 30 && n <= 1 << 26);
     let cut = Cut::even(alloc, links, expected.shards).expect(rt, "a cut");
-    assert!(rt; all_have_labels(&cut, n));
+    assert!(rt; workers <= 64 && n <= 1 << 26 && all_have_labels(&cut, n));
     let mut lanes = lanes(alloc, &cut, workers)?;
     let (found, report) = solve(rt, alloc, n, &cut, lanes.as_mut_slice()).expect(rt, "a forest");
-    let forest = links_of(alloc, n, forest)?.expect(rt, "arcs");
-    assert!(rt; found.links() == forest.as_slice() && report == expected);
+    assert!(rt; report == expected);
     assert_eq!(rt; ask_count(rt, lanes), report.asked);
-    Ok(())
+    expect_links(rt, alloc, &found, n, forest)
+}
+
+// The run goes so.
+fn expect_run(
+    rt: &(impl Abort + Threads + Wait + Sync),
+    alloc: Global,
+    run: Run,
+) -> Result<(), Fail> {
+    let links = links_to_cut(rt, alloc, run.3.vertices, run.1)?;
+    expect_run_over(rt, alloc, links.as_slice(), run)
 }
 
 // What a run reports that closed no port, and scanned shards alone only where it had no workers: of so many vertices and
@@ -91,21 +102,6 @@ fn report(size: (u32, u64), cut: (u32, u32), work: (u64, u64), total: i128) -> R
     }
 }
 
-// The same of the links of these arcs.
-fn expect_run_of(
-    rt: &(impl Abort + Threads + Wait + Sync),
-    alloc: Global,
-    workers: u32,
-    arcs: &[Row],
-    forest: &[Row],
-    expected: Report,
-) -> Result<(), Fail>
-    requires { workers ≤ 64 }
-{
-    let links = links_of(alloc, expected.vertices, arcs)?.expect(rt, "arcs");
-    expect_run(rt, alloc, links.as_slice(), workers, forest, expected)
-}
-
 // Two workers answer each shard once a round, and none leave each to the coordinator. Of a path of one weight each
 // vertex but the first picks the link to the one before it, so one round merges them all.
 #[test]
@@ -113,7 +109,7 @@ fn runs_over_lanes(rt: HostRuntime) -> Result<(), Fail> {
     let alloc = rt.alloc();
     let net = SMALL_NET;
     let wide = WIDE_WEIGHTS;
-    let runs: [(u32, &'static [Row], &'static [Row], Report); 6] = [
+    let runs: [Run<'static>; 6] = [
         (
             2,
             net.arcs,
@@ -141,12 +137,11 @@ fn runs_over_lanes(rt: HostRuntime) -> Result<(), Fail> {
         (64, &[], &[], report((0, 0), (0, 1), (1, 0), 0)),
         (0, &[], &[], report((0, 0), (0, 4096), (0, 4096), 0)),
     ];
-    for (workers, arcs, forest, expected) in runs {
-        assert!(rt; workers <= 64);
-        expect_run_of(&rt, alloc, workers, arcs, forest, expected)?;
+    for run in runs {
+        expect_run(&rt, alloc, run)?;
     }
     let path = path(alloc, 10_000)?;
     let path = path.as_slice();
     let expected = report((10_001, 10_000), (1, 4), (8, 0), 10_000);
-    expect_run_of(&rt, alloc, 3, path, path, expected)
+    expect_run(&rt, alloc, (3, path, path, expected))
 }

@@ -4,13 +4,15 @@ ghost use Rattle.link_key.specs.declared.links.Link.{Link as TheLink};
 ghost use Rattle.link_key.specs.Link.{EndsUpTo};
 ghost use Rattle.round_core.specs.Picks.{Picked};
 
+use crate::rounds::links_to_cut;
+use crate::solving::path;
 use frames::Answer;
 use link_key::{Components, Cut, Labels, Offers};
 use round_core::{Picks, RoundBook, hook_relabel};
-use std::alloc::Global;
+use std::alloc::{AllocError, Global};
 use std::process::Abort;
 use std::test::Fail;
-use worked_graphs::{Row, SMALL_NET, all_have_labels, links_of};
+use worked_graphs::{Row, SMALL_NET, all_have_labels};
 
 const MANY: u32 = 10_000;
 
@@ -46,8 +48,7 @@ type Round<'a> = (&'a [u32], &'a [Row], &'a [(u32, u32)], &'a [u32]);
 fn expect_relabelled(rt: &impl Abort, alloc: Global, round: Round) -> Result<(), Fail> {
     let (before, arcs, pairs, behind) = round;
     let labels = Labels::of_list(before.to_vec(alloc)?).expect(rt, "labels");
-    let links = links_of(alloc, labels.n(), arcs)?.expect(rt, "arcs");
-    assert!(rt; links.len() <= 1 << 24);
+    let links = links_to_cut(rt, alloc, labels.n(), arcs)?;
     let cut = Cut::even(alloc, links.as_slice(), 1).expect(rt, "a cut");
     assert!(rt; all_have_labels(&cut, labels.n()));
     let picks = picks_of(rt, alloc, &cut, &labels, pairs)?;
@@ -131,40 +132,41 @@ fn rounds_of_small_graphs(rt: HostRuntime) -> Result<(), Fail> {
     Ok(())
 }
 
+// The labels of many vertices in components of so many neighbours each, named by the first.
+fn neighbours(alloc: Global, size: u32) -> Result<Vec<u32>, AllocError>
+    requires { 0 < size }
+{
+    let mut labels = Vec::new(alloc);
+    for i in 0..MANY {
+        labels.push(i.wrapping_sub(i % size).wrapping_add(1))?;
+    }
+    Ok(labels)
+}
+
+// The offers to every second vertex from this one on, which is odd: of the link behind it, or of the one so many before.
+fn offers_from(alloc: Global, first: u32, before: u32) -> Result<Vec<(u32, u32)>, AllocError> {
+    let mut pairs = Vec::new(alloc);
+    for half in first / 2..MANY / 2 {
+        let behind = 2 * half;
+        pairs.push((behind + 1, behind.wrapping_sub(before)))?;
+    }
+    Ok(pairs)
+}
+
 // A path from vertex 1 on: every second arc is picked, and then the rest. The last vertex, whose number is the greatest,
 // comes to have the least label.
 #[test]
 fn ten_thousand_vertices(rt: HostRuntime) -> Result<(), Fail> {
     let alloc = rt.alloc();
-    let mut arcs = Vec::new(alloc);
-    let mut apart = Vec::new(alloc);
-    let mut lower = Vec::new(alloc);
-    let mut pairs = Vec::new(alloc);
-    let mut between = Vec::new(alloc);
-    let mut ones = Vec::new(alloc);
-    for half in 0..MANY / 2 {
-        let vertex = 2 * half + 1;
-        arcs.push((vertex, vertex + 1, 1))?;
-        if vertex + 1 < MANY {
-            arcs.push((vertex + 1, vertex + 2, 1))?;
-        }
-        apart.extend_from_slice(&[vertex, vertex + 1])?;
-        lower.extend_from_slice(&[vertex, vertex])?;
-        ones.extend_from_slice(&[1, 1])?;
-        pairs.push((vertex, 2 * half))?;
-        if vertex > 1 {
-            between.push((vertex, 2 * half - 1))?;
-        }
-    }
-    let (arcs, lower) = (arcs.as_slice(), lower.as_slice());
-    expect_relabelled(
-        &rt,
-        alloc,
-        (apart.as_slice(), arcs, pairs.as_slice(), lower),
-    )?;
-    expect_relabelled(
-        &rt,
-        alloc,
-        (lower, arcs, between.as_slice(), ones.as_slice()),
-    )
+    let arcs = path(alloc, MANY - 1)?;
+    let arcs = arcs.as_slice();
+    let apart = neighbours(alloc, 1)?;
+    let lower = neighbours(alloc, 2)?;
+    let pairs = offers_from(alloc, 1, 0)?;
+    let first = (apart.as_slice(), arcs, pairs.as_slice(), lower.as_slice());
+    expect_relabelled(&rt, alloc, first)?;
+    let ones = neighbours(alloc, MANY)?;
+    let between = offers_from(alloc, 3, 1)?;
+    let second = (lower.as_slice(), arcs, between.as_slice(), ones.as_slice());
+    expect_relabelled(&rt, alloc, second)
 }

@@ -1,6 +1,6 @@
 // A round's book by example: what the judge says of answers for a triangle of equal weights, that the order of answers
 // changes nothing, and a book that several threads read.
-ghost use Rattle.std.specs.Prelude.{◌≡◌, ◌≤◌, ◌<◌, ◌↔◌, ℕ, length, All, IsTrue, IfOk};
+ghost use Rattle.std.specs.Prelude.{◌≡◌, ◌≤◌, ◌<◌, ◌↔◌, ◌^◌, ℕ, length, All, IsTrue, IfOk};
 ghost use Rattle.link_key.specs.Cut.{links_at};
 ghost use Rattle.link_key.specs.Link.{EndsUpTo};
 ghost use Rattle.round_core.specs.Picks.{ArePicksOfHearings};
@@ -9,9 +9,10 @@ use frames::Answer;
 use link_key::{Cut, Labels, Link, Offers};
 use round_core::{Picks, Refusal, RoundBook};
 use std::alloc::{AllocError, Global};
+use std::fmt::Display;
 use std::process::Abort;
 use std::test::Fail;
-use worked_graphs::{A_PATH_OF_EIGHT, EQUAL_WEIGHTS, all_have_labels, have_labels, links_of};
+use worked_graphs::{A_PATH_OF_EIGHT, EQUAL_WEIGHTS, Row, all_have_labels, have_labels, links_of};
 use worker_engine::scan;
 
 fn answer(
@@ -29,22 +30,48 @@ fn answer(
     })
 }
 
-// The picks of a round whose answers offer these, one list for each shard.
+// The links of the arcs, few enough for any cut.
+pub(crate) fn links_to_cut(
+    rt: &impl Abort,
+    alloc: Global,
+    n: u32,
+    arcs: &[Row],
+) -> Result<Vec<Link>, Fail>
+    ensures few { IfOk result (λ links. length links.items ≤ 2 ^ 30) }
+{
+    let links = links_of(alloc, n, arcs)?.expect(rt, "arcs");
+    assert!(rt; links.len() <= 1 << 30);
+    Ok(links)
+}
+
+// A book of the round of this number over the cut.
+pub(crate) fn opened<'a>(
+    rt: &impl Abort,
+    alloc: Global,
+    cut: &'a Cut<'a>,
+    round: u32,
+    labels: &'a Labels,
+) -> Result<RoundBook<'a>, AllocError>
+    ensures { IfOk result (λ book. book.labels ≡ labels.now) }
+{
+    assert!(rt; all_have_labels(cut, labels.n()));
+    let book = RoundBook::open(alloc, round, cut, labels)?;
+    assert_eq!(rt; book.round(), round);
+    Ok(book)
+}
+
+// The picks of the book's round where its answers offer these, one list for each shard.
 pub(crate) fn picks_of_offers(
     rt: &impl Abort,
     alloc: Global,
-    cut: &Cut,
-    round: u32,
-    labels: &Labels,
+    mut book: RoundBook,
     offered: &[&[(u32, u32)]],
 ) -> Result<Picks, AllocError>
-    ensures heard { IfOk result (ArePicksOfHearings labels.now) }
-    ensures each_vertex { IfOk result (λ picks. length picks ≡ length labels.now) }
+    ensures heard { IfOk result (ArePicksOfHearings book.entry.labels) }
+    ensures each_vertex { IfOk result (λ picks. length picks ≡ length book.entry.labels) }
 {
-    assert!(rt; all_have_labels(cut, labels.n()));
-    let mut book = RoundBook::open(alloc, round, cut, labels)?;
-    assert_eq!(rt; book.round(), round);
-    for shard in 0..cut.len() {
+    let round = book.round();
+    for shard in 0..book.cut().len() {
         assert!(rt; shard < book.len() && (shard as usize) < offered.len());
         let taken = answer(rt, alloc, round, shard, offered[shard as usize])?;
         assert!(rt; book.take(shard, taken).is_ok());
@@ -53,20 +80,17 @@ pub(crate) fn picks_of_offers(
     Ok(book.close())
 }
 
-// The picks of a round whose shards are scanned and answered in this order.
+// The picks of the book's round where its shards are scanned and answered in this order.
 pub(crate) fn picks_of_scans(
     rt: &impl Abort,
     alloc: Global,
-    cut: &Cut,
-    round: u32,
-    labels: &Labels,
+    mut book: RoundBook,
     order: &[u32],
 ) -> Result<Picks, AllocError>
-    ensures heard { IfOk result (ArePicksOfHearings labels.now) }
-    ensures each_vertex { IfOk result (λ picks. length picks ≡ length labels.now) }
+    ensures heard { IfOk result (ArePicksOfHearings book.entry.labels) }
+    ensures each_vertex { IfOk result (λ picks. length picks ≡ length book.entry.labels) }
 {
-    assert!(rt; all_have_labels(cut, labels.n()));
-    let mut book = RoundBook::open(alloc, round, cut, labels)?;
+    let (round, cut, labels) = (book.round(), book.cut(), book.labels());
     for shard in order {
         assert!(rt; *shard < cut.len() && *shard < book.len());
         let links = cut.shard(*shard).links;
@@ -111,12 +135,10 @@ fn expect_judged(
 #[test]
 fn judged_answers(rt: HostRuntime) -> Result<(), Fail> {
     let alloc = rt.alloc();
-    let links = links_of(alloc, 3, EQUAL_WEIGHTS.arcs)?.expect(&rt, "arcs");
-    assert!(rt; links.len() <= 1 << 30);
+    let links = links_to_cut(&rt, alloc, 3, EQUAL_WEIGHTS.arcs)?;
     let cut = Cut::even(alloc, links.as_slice(), 1).expect(&rt, "a cut");
     let labels = Labels::apart(alloc, 3)?;
-    assert!(rt; all_have_labels(&cut, labels.n()));
-    let mut book = RoundBook::open(alloc, 1, &cut, &labels)?;
+    let mut book = opened(&rt, alloc, &cut, 1, &labels)?;
     assert!(rt; 0 < book.len() && book.is_missing(0));
     let light = [(1, 0), (2, 0), (3, 2)];
     expect_judged(
@@ -142,12 +164,10 @@ fn judged_answers(rt: HostRuntime) -> Result<(), Fail> {
 #[test]
 fn an_answer_that_was_judged(rt: HostRuntime) -> Result<(), Fail> {
     let alloc = rt.alloc();
-    let links = links_of(alloc, 3, EQUAL_WEIGHTS.arcs)?.expect(&rt, "arcs");
-    assert!(rt; links.len() <= 1 << 30);
+    let links = links_to_cut(&rt, alloc, 3, EQUAL_WEIGHTS.arcs)?;
     let cut = Cut::even(alloc, links.as_slice(), 1).expect(&rt, "a cut");
     let labels = Labels::apart(alloc, 3)?;
-    assert!(rt; all_have_labels(&cut, labels.n()));
-    let mut book = RoundBook::open(alloc, 1, &cut, &labels)?;
+    let mut book = opened(&rt, alloc, &cut, 1, &labels)?;
     let light = [(1, 0), (2, 0), (3, 2)];
     let first = answer(&rt, alloc, 1, 0, &light)?;
     assert!(rt; first.shard == 0 && 0 < book.len() && book.judge(0, &first).is_ok());
@@ -172,8 +192,7 @@ fn are_pairs(picks: &Picks) -> bool
 #[test]
 fn answers_in_any_order(rt: HostRuntime) -> Result<(), Fail> {
     let alloc = rt.alloc();
-    let links = links_of(alloc, 8, A_PATH_OF_EIGHT.arcs)?.expect(&rt, "arcs");
-    assert!(rt; links.len() <= 1 << 30);
+    let links = links_to_cut(&rt, alloc, 8, A_PATH_OF_EIGHT.arcs)?;
     let cut = Cut::even(alloc, links.as_slice(), 3).expect(&rt, "a cut");
     let labels = Labels::apart(alloc, 8)?;
     assert!(rt; labels.n() == 8);
@@ -186,9 +205,22 @@ fn answers_in_any_order(rt: HostRuntime) -> Result<(), Fail> {
         [2, 1, 0],
     ];
     for order in orders {
-        let picks = picks_of_scans(&rt, alloc, &cut, 1, &labels, &order)?;
+        let book = opened(&rt, alloc, &cut, 1, &labels)?;
+        let picks = picks_of_scans(&rt, alloc, book, &order)?;
         assert!(rt; are_pairs(&picks));
     }
+    Ok(())
+}
+
+// It is told as this text.
+pub(crate) fn expect_told(
+    rt: &impl Abort,
+    alloc: Global,
+    fault: &impl Display,
+    text: &str,
+) -> Result<(), Fail> {
+    let told = format!(in alloc; "{fault}")?;
+    assert_eq!(rt; told.as_str(), text);
     Ok(())
 }
 
@@ -200,8 +232,7 @@ fn a_book_is_lent_to_threads(rt: HostRuntime) -> Result<(), Fail> {
     let alloc = rt.alloc();
     let cut = Cut::even(alloc, &[], 2).expect(&rt, "a cut");
     let labels = Labels::apart(alloc, 1)?;
-    assert!(rt; all_have_labels(&cut, labels.n()));
-    let book = RoundBook::open(alloc, 1, &cut, &labels)?;
+    let book = opened(&rt, alloc, &cut, 1, &labels)?;
     lent(&book);
     assert_eq!(rt; book.missing(), 2);
     Ok(())
@@ -216,8 +247,7 @@ fn what_refusals_are_told_as(rt: HostRuntime) -> Result<(), Fail> {
         (Refusal::NotALink, "offer of no outgoing link"),
     ];
     for (refusal, text) in texts {
-        let told = format!(in rt.alloc(); "{refusal}")?;
-        assert_eq!(rt; told.as_str(), text);
+        expect_told(&rt, rt.alloc(), &refusal, text)?;
     }
     Ok(())
 }

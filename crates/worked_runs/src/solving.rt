@@ -1,6 +1,6 @@
 // A solver's steps on the worked graphs, and whole runs by one thread.
-use crate::rounds::{picks_of_offers, picks_of_scans};
-use link_key::{Cut, Labels, Link};
+use crate::rounds::{expect_told, links_to_cut, opened, picks_of_offers, picks_of_scans};
+use link_key::{Cut, Forest, Labels, Link};
 use round_core::{SolveFault, Solver, Turn, solve_alone};
 use std::alloc::{AllocError, Global};
 use std::process::Abort;
@@ -11,6 +11,16 @@ use worked_graphs::{
 
 /// A round: the order in which its shards are scanned, what it does, and the labels behind it.
 type Step<'a> = (&'a [u32], Turn, &'a [u32]);
+
+/// Arcs between vertices 1 to n, cut at these places; the rounds from vertices that are apart on, and the forest.
+#[derive(Clone, Copy)]
+struct Rounds<'a> {
+    n: u32,
+    arcs: &'a [Row],
+    places: &'a [usize],
+    steps: &'a [Step<'a>],
+    forest: &'a [Row],
+}
 
 // How many bytes of the labels are kept, where they are.
 fn bytes_kept(labels: &Labels) -> Option<usize> {
@@ -32,21 +42,21 @@ fn step(
         bytes_kept(solver.labels()),
         Some(before.len().wrapping_mul(4))
     );
-    let picks = picks_of_scans(rt, alloc, cut, solver.round(), solver.labels(), order)?;
+    let book = opened(rt, alloc, cut, solver.round(), solver.labels())?;
+    let picks = picks_of_scans(rt, alloc, book, order)?;
     let turn = solver.step(&picks).expect(rt, "a turn");
     assert!(rt; turn == Turn::Done || bytes_kept(solver.labels()).is_none());
     Ok(turn)
 }
 
-// From vertices that are apart these rounds lead to this forest of the cut's links.
-fn expect_steps(
+// From vertices that are apart these steps are taken over the cut. The solver behind them.
+fn taken(
     rt: &impl Abort,
     alloc: Global,
     n: u32,
     cut: &Cut,
     steps: &[Step],
-    forest: &[Row],
-) -> Result<(), Fail> {
+) -> Result<Solver, Fail> {
     assert!(rt; n <= 1 << 26);
     let mut solver = Solver::new(alloc, n)?;
     let mut round = 1u32;
@@ -56,27 +66,32 @@ fn expect_steps(
         assert!(rt; turn == *expected && solver.labels().as_slice() == *behind);
         round = round.wrapping_add(if turn == Turn::Done { 0 } else { 1 });
     }
-    assert!(rt; solver.round() == round && all_have_labels(cut, solver.labels().n()));
-    let found = solver.finish(cut).expect(rt, "a forest");
-    let forest = links_of(alloc, n, forest)?.expect(rt, "arcs");
-    assert!(rt; found.links() == forest.as_slice());
-    Ok(())
+    assert_eq!(rt; solver.round(), round);
+    Ok(solver)
 }
 
-// The same of arcs that are cut at these places.
-fn expect_cut(
+// The rounds go so, and lead to the forest.
+fn expect_rounds(rt: &impl Abort, alloc: Global, rounds: Rounds) -> Result<(), Fail> {
+    let n = rounds.n;
+    let links = links_to_cut(rt, alloc, n, rounds.arcs)?;
+    let cut = Cut::at(alloc, links.as_slice(), rounds.places).expect(rt, "a cut");
+    let solver = taken(rt, alloc, n, &cut, rounds.steps)?;
+    assert!(rt; all_have_labels(&cut, solver.labels().n()));
+    let found = solver.finish(&cut).expect(rt, "a forest");
+    expect_links(rt, alloc, &found, n, rounds.forest)
+}
+
+// The forest has the links of these arcs.
+pub(crate) fn expect_links(
     rt: &impl Abort,
     alloc: Global,
+    found: &Forest,
     n: u32,
     arcs: &[Row],
-    places: &[usize],
-    steps: &[Step],
-    forest: &[Row],
 ) -> Result<(), Fail> {
     let links = links_of(alloc, n, arcs)?.expect(rt, "arcs");
-    assert!(rt; links.len() <= 1 << 30);
-    let cut = Cut::at(alloc, links.as_slice(), places).expect(rt, "a cut");
-    expect_steps(rt, alloc, n, &cut, steps, forest)
+    assert!(rt; found.links() == links.as_slice());
+    Ok(())
 }
 
 // The shards of a cut in their order.
@@ -97,8 +112,14 @@ fn steps_on_the_small_net(rt: HostRuntime) -> Result<(), Fail> {
         (&[1, 0], Turn::Merged(1), ones),
         (&[0, 1], Turn::Done, ones),
     ];
-    let net = SMALL_NET;
-    expect_cut(&rt, rt.alloc(), 6, net.arcs, &[4], &steps, net.forest)
+    let rounds = Rounds {
+        n: 6,
+        arcs: SMALL_NET.arcs,
+        places: &[4],
+        steps: &steps,
+        forest: SMALL_NET.forest,
+    };
+    expect_rounds(&rt, rt.alloc(), rounds)
 }
 
 // No vertex, one, and two, in one shard and in as many as there may be: cut at no place, and at 4,095.
@@ -116,7 +137,14 @@ fn steps_at_their_bounds(rt: HostRuntime) -> Result<(), Fail> {
         let cuts: [(&[usize], &[u32]); 2] = [(&[], &[0]), (&places, order.as_slice())];
         for (places, order) in cuts {
             let steps: [Step; 2] = [(order, first, behind), (order, Turn::Done, behind)];
-            expect_cut(&rt, alloc, n, arcs, places, &steps, arcs)?;
+            let rounds = Rounds {
+                n,
+                arcs,
+                places,
+                steps: &steps,
+                forest: arcs,
+            };
+            expect_rounds(&rt, alloc, rounds)?;
         }
     }
     Ok(())
@@ -145,15 +173,14 @@ fn steps_at_both_limits_of_weights(rt: HostRuntime) -> Result<(), Fail> {
         (&[0, 1], Turn::Done, ones),
     ];
     for place in 0..6 {
-        expect_cut(
-            &rt,
-            rt.alloc(),
-            4,
-            &LIMITS,
-            &[place],
-            &steps,
-            &LIMITS_FOREST,
-        )?;
+        let rounds = Rounds {
+            n: 4,
+            arcs: &LIMITS,
+            places: &[place],
+            steps: &steps,
+            forest: &LIMITS_FOREST,
+        };
+        expect_rounds(&rt, rt.alloc(), rounds)?;
     }
     Ok(())
 }
@@ -166,7 +193,8 @@ fn offer(
     solver: &mut Solver,
     pairs: &[(u32, u32)],
 ) -> Result<Result<Turn, SolveFault>, Fail> {
-    let picks = picks_of_offers(rt, alloc, cut, solver.round(), solver.labels(), &[pairs])?;
+    let book = opened(rt, alloc, cut, solver.round(), solver.labels())?;
+    let picks = picks_of_offers(rt, alloc, book, &[pairs])?;
     Ok(solver.step(&picks))
 }
 
@@ -174,8 +202,7 @@ fn offer(
 #[test]
 fn a_round_past_the_bound(rt: HostRuntime) -> Result<(), Fail> {
     let alloc = rt.alloc();
-    let links = links_of(alloc, EQUAL_WEIGHTS.n, EQUAL_WEIGHTS.arcs)?.expect(&rt, "arcs");
-    assert!(rt; links.len() <= 1 << 30);
+    let links = links_to_cut(&rt, alloc, EQUAL_WEIGHTS.n, EQUAL_WEIGHTS.arcs)?;
     let cut = Cut::even(alloc, links.as_slice(), 1).expect(&rt, "a cut");
     let mut solver = Solver::new(alloc, 3)?;
     let rounds = [
@@ -195,8 +222,7 @@ fn a_round_past_the_bound(rt: HostRuntime) -> Result<(), Fail> {
 #[test]
 fn picks_of_one_offer(rt: HostRuntime) -> Result<(), Fail> {
     let alloc = rt.alloc();
-    let links = links_of(alloc, EQUAL_WEIGHTS.n, EQUAL_WEIGHTS.arcs)?.expect(&rt, "arcs");
-    assert!(rt; links.len() <= 1 << 30);
+    let links = links_to_cut(&rt, alloc, EQUAL_WEIGHTS.n, EQUAL_WEIGHTS.arcs)?;
     let cut = Cut::even(alloc, links.as_slice(), 1).expect(&rt, "a cut");
     let (first, second) = (Link::of_arc(1, 2, 5), Link::of_arc(2, 3, 5));
     let rounds = [
@@ -206,7 +232,8 @@ fn picks_of_one_offer(rt: HostRuntime) -> Result<(), Fail> {
     for (labels, pair, expected) in rounds {
         let labels = Labels::of_list(labels.to_vec(alloc)?).expect(&rt, "labels");
         assert!(rt; labels.n() == 3);
-        let picks = picks_of_offers(&rt, alloc, &cut, 1, &labels, &[&[pair]])?;
+        let book = opened(&rt, alloc, &cut, 1, &labels)?;
+        let picks = picks_of_offers(&rt, alloc, book, &[&[pair]])?;
         assert!(rt; [picks.of(1), picks.of(2), picks.of(3)] == expected);
     }
     Ok(())
@@ -216,8 +243,7 @@ fn picks_of_one_offer(rt: HostRuntime) -> Result<(), Fail> {
 #[test]
 fn picks_at_both_limits_of_weights(rt: HostRuntime) -> Result<(), Fail> {
     let alloc = rt.alloc();
-    let links = links_of(alloc, 4, &LIMITS)?.expect(&rt, "arcs");
-    assert!(rt; links.len() <= 1 << 30);
+    let links = links_to_cut(&rt, alloc, 4, &LIMITS)?;
     let cut = Cut::even(alloc, links.as_slice(), 2).expect(&rt, "a cut");
     let greatest = Link::of_arc(1, 2, i64::MAX);
     let least = Link::of_arc(3, 4, i64::MIN);
@@ -230,7 +256,8 @@ fn picks_at_both_limits_of_weights(rt: HostRuntime) -> Result<(), Fail> {
     for (labels, expected) in rounds {
         let labels = Labels::of_list(labels.to_vec(alloc)?).expect(&rt, "labels");
         assert!(rt; labels.n() == 4);
-        let picks = picks_of_scans(&rt, alloc, &cut, 1, &labels, &[1, 0])?;
+        let book = opened(&rt, alloc, &cut, 1, &labels)?;
+        let picks = picks_of_scans(&rt, alloc, book, &[1, 0])?;
         assert!(rt; [picks.of(1), picks.of(2), picks.of(3), picks.of(4)] == expected);
     }
     Ok(())
@@ -250,23 +277,18 @@ fn is_missed(fault: Option<SolveFault>, expected: Option<Link>) -> bool {
     }
 }
 
-// The forest's links, and the number of merging rounds, of these arcs in so many even shards.
-fn expect_alone(
-    rt: &impl Abort,
-    alloc: Global,
-    n: u32,
-    arcs: &[Row],
-    shards: u32,
-    expected: (&[Row], u32),
-) -> Result<(), Fail> {
-    let links = links_of(alloc, n, arcs)?.expect(rt, "arcs");
-    assert!(rt; links.len() <= 1 << 30 && n <= 1 << 26);
+/// How many vertices there are, arcs, and in how many even shards they are; the forest, and the number of merging rounds.
+type Alone<'a> = (u32, &'a [Row], u32, &'a [Row], u32);
+
+// One thread finds the forest in so many merging rounds.
+fn expect_alone(rt: &impl Abort, alloc: Global, run: Alone) -> Result<(), Fail> {
+    let (n, arcs, shards, forest, merging) = run;
+    let links = links_to_cut(rt, alloc, n, arcs)?;
     let cut = Cut::even(alloc, links.as_slice(), shards).expect(rt, "a cut");
-    assert!(rt; all_have_labels(&cut, n));
+    assert!(rt; n <= 1 << 26 && all_have_labels(&cut, n));
     let (found, rounds) = solve_alone(alloc, n, &cut).expect(rt, "a forest");
-    let forest = links_of(alloc, n, expected.0)?.expect(rt, "arcs");
-    assert!(rt; found.links() == forest.as_slice() && rounds == expected.1);
-    Ok(())
+    assert_eq!(rt; rounds, merging);
+    expect_links(rt, alloc, &found, n, forest)
 }
 
 // The path of so many arcs of one weight.
@@ -301,7 +323,7 @@ fn runs_alone(rt: HostRuntime) -> Result<(), Fail> {
     let path = path(alloc, 10_000)?;
     let doubling = doubling_path(alloc)?;
     let wide = WIDE_WEIGHTS;
-    let runs: [(u32, &[Row], u32, &[Row], u32); 11] = [
+    let runs: [Alone; 11] = [
         (0, &[], 1, &[], 0),
         (0, &[], 4096, &[], 0),
         (1, &[], 1, &[], 0),
@@ -314,8 +336,8 @@ fn runs_alone(rt: HostRuntime) -> Result<(), Fail> {
         (10_001, path.as_slice(), 4, path.as_slice(), 1),
         (65_536, doubling.as_slice(), 64, doubling.as_slice(), 16),
     ];
-    for (n, arcs, shards, forest, rounds) in runs {
-        expect_alone(&rt, alloc, n, arcs, shards, (forest, rounds))?;
+    for run in runs {
+        expect_alone(&rt, alloc, run)?;
     }
     Ok(())
 }
@@ -333,7 +355,14 @@ fn steps_over_ten_thousand_links(rt: HostRuntime) -> Result<(), Fail> {
         (&[0, 1, 2], Turn::Merged(10_000), ones),
         (&[2, 1, 0], Turn::Done, ones),
     ];
-    expect_cut(&rt, alloc, 10_001, path, &[3333, 6666], &steps, path)
+    let rounds = Rounds {
+        n: 10_001,
+        arcs: path,
+        places: &[3333, 6666],
+        steps: &steps,
+        forest: path,
+    };
+    expect_rounds(&rt, alloc, rounds)
 }
 
 // The path of so many arcs, each of them so many times as heavy as the vertex that it leaves.
@@ -366,16 +395,14 @@ fn steps_along_chains_of_picks(rt: HostRuntime) -> Result<(), Fail> {
             (&[0, 1, 2], Turn::Merged(69_999), ones.as_slice()),
             (&[2, 1, 0], Turn::Done, ones.as_slice()),
         ];
-        let places = [20_000, 50_000];
-        expect_cut(
-            &rt,
-            alloc,
-            70_000,
-            arcs.as_slice(),
-            &places,
-            &steps,
-            forest.as_slice(),
-        )?;
+        let rounds = Rounds {
+            n: 70_000,
+            arcs: arcs.as_slice(),
+            places: &[20_000, 50_000],
+            steps: &steps,
+            forest: forest.as_slice(),
+        };
+        expect_rounds(&rt, alloc, rounds)?;
     }
     Ok(())
 }
@@ -394,7 +421,14 @@ fn steps_beside_lone_vertices(rt: HostRuntime) -> Result<(), Fail> {
         (&[0], Turn::Merged(1), merged),
         (&[0], Turn::Done, merged),
     ];
-    expect_cut(&rt, alloc, 10, &arcs, &[], &steps, &forest)
+    let rounds = Rounds {
+        n: 10,
+        arcs: &arcs,
+        places: &[],
+        steps: &steps,
+        forest: &forest,
+    };
+    expect_rounds(&rt, alloc, rounds)
 }
 
 #[test]
@@ -407,8 +441,7 @@ fn told_faults(rt: HostRuntime) -> Result<(), Fail> {
         (SolveFault::Memory, "no memory"),
     ];
     for (fault, text) in texts {
-        let told = format!(in alloc; "{fault}")?;
-        assert_eq!(rt; told.as_str(), text);
+        expect_told(&rt, alloc, &fault, text)?;
     }
     Ok(())
 }

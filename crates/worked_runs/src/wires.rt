@@ -3,13 +3,14 @@
 ghost use Rattle.std.specs.Prelude.{◌≡◌, ◌+◌, ◌<◌, ◌≤◌};
 ghost use Rattle.ports.specs.Lines.{HasRoom};
 
+use crate::rounds::{expect_told, links_to_cut};
 use frames::Answer;
 use link_key::{Cut, Labels};
 use ports::{EngineLine, FusedLine, Line, LineFault, Port, PortFault, ScriptLine, Wire};
 use std::alloc::{AllocError, Global};
 use std::process::Abort;
 use std::test::Fail;
-use worked_graphs::{EQUAL_WEIGHTS, Row, have_labels, links_of};
+use worked_graphs::{EQUAL_WEIGHTS, Row, have_labels};
 
 /// The offers of an answer, or why there is none.
 type Reply<'a> = Result<&'a [(u32, u32)], PortFault>;
@@ -46,35 +47,19 @@ fn is_reply(reply: &Result<Answer, PortFault>, asked: (u32, u32), expected: Repl
     }
 }
 
-// An ask of a round for a shard is answered so.
-fn expect_ask<P: Port<Global>>(
-    rt: &impl Abort,
-    port: &mut P,
-    cut: &Cut,
-    asked: (u32, u32),
-    labels: &Labels,
-    expected: Reply,
-)
-    requires { (P.state port.old).cut ≡ cut.now }
-    ensures { (P.state port.new).cut ≡ cut.now }
-{
-    let (round, shard) = asked;
-    assert!(rt; 1 <= round && shard < cut.len() && port.asks() < 100);
-    assert!(rt; have_labels(cut.shard(shard).links, labels.n()));
-    let reply = port.ask(round, shard, labels);
-    assert!(rt; is_reply(&reply, asked, expected) && port.is_open() == reply.is_ok());
-}
-
+// An ask of a round for a shard is answered so, or the port is shut.
 fn take_step<P: Port<Global>>(rt: &impl Abort, port: &mut P, cut: &Cut, labels: &Labels, step: Step)
     requires { (P.state port.old).cut ≡ cut.now }
     ensures { (P.state port.new).cut ≡ cut.now }
 {
-    match step {
-        Step::Ask(round, shard, expected) => {
-            expect_ask(rt, port, cut, (round, shard), labels, expected)
-        }
-        Step::Shut => port.shut(),
-    }
+    let Step::Ask(round, shard, expected) = step else {
+        port.shut();
+        return;
+    };
+    assert!(rt; 1 <= round && shard < cut.len() && port.asks() < 100);
+    assert!(rt; have_labels(cut.shard(shard).links, labels.n()));
+    let reply = port.ask(round, shard, labels);
+    assert!(rt; is_reply(&reply, (round, shard), expected) && port.is_open() == reply.is_ok());
 }
 
 fn take_steps<P: Port<Global>>(
@@ -92,27 +77,35 @@ fn take_steps<P: Port<Global>>(
     }
 }
 
-// These steps of a new wire over a line, which answers as it does after so many asks. What the line is then.
-fn expect_steps<L: Line + Drop>(
+/// Arcs between vertices 1 to n, in so many even shards; what is done with a wire that asks for them, and how many asks it
+/// counts.
+#[derive(Clone, Copy)]
+struct Talk<'a> {
+    n: u32,
+    arcs: &'a [Row],
+    shards: u32,
+    steps: &'a [Step<'a>],
+    asks: u64,
+}
+
+// A new wire over the line talks so. What the line is then.
+fn expect_talk<L: Line + Drop>(
     rt: &impl Abort,
     alloc: Global,
-    graph: (u32, &[Row], u32),
+    talk: Talk,
     line: L,
     worker: u32,
-    steps: &[Step],
-    asks: u64,
 ) -> Result<L, Fail>
     requires worker { worker < 64 }
     requires room { HasRoom (L.state line) }
 {
-    let (n, arcs, shards) = graph;
-    let links = links_of(alloc, n, arcs)?.expect(rt, "arcs");
-    assert!(rt; links.len() <= 1 << 30 && n <= 1 << 26);
-    let cut = Cut::even(alloc, links.as_slice(), shards).expect(rt, "a cut");
-    let labels = Labels::apart(alloc, n)?;
+    let links = links_to_cut(rt, alloc, talk.n, talk.arcs)?;
+    assert!(rt; talk.n <= 1 << 26);
+    let cut = Cut::even(alloc, links.as_slice(), talk.shards).expect(rt, "a cut");
+    let labels = Labels::apart(alloc, talk.n)?;
     let mut wire = Wire::new(alloc, line, &cut, worker);
-    take_steps(rt, &mut wire, &cut, &labels, steps);
-    assert_eq!(rt; wire.asks(), asks);
+    take_steps(rt, &mut wire, &cut, &labels, talk.steps);
+    assert_eq!(rt; wire.asks(), talk.asks);
     Ok(wire.into_line())
 }
 
@@ -129,8 +122,14 @@ fn expect_two<L: Line + Drop>(
 {
     let steps = [Step::Ask(1, 0, replies.0), Step::Ask(2, 0, replies.1)];
     let asks = if replies.1 == CLOSED { 1 } else { 2 };
-    let graph = (3, EQUAL_WEIGHTS.arcs, 1);
-    expect_steps(rt, alloc, graph, line, worker, &steps, asks)?;
+    let talk = Talk {
+        n: 3,
+        arcs: EQUAL_WEIGHTS.arcs,
+        shards: 1,
+        steps: &steps,
+        asks,
+    };
+    expect_talk(rt, alloc, talk, line, worker)?;
     Ok(())
 }
 
@@ -173,8 +172,14 @@ fn a_wire_that_was_shut(rt: HostRuntime) -> Result<(), Fail> {
     let alloc = rt.alloc();
     let line = EngineLine::new(alloc, 0)?;
     let steps = [Step::Ask(1, 0, OFFERS), Step::Shut, Step::Ask(2, 0, CLOSED)];
-    let graph = (3, EQUAL_WEIGHTS.arcs, 1);
-    expect_steps(&rt, alloc, graph, line, 0, &steps, 1)?;
+    let talk = Talk {
+        n: 3,
+        arcs: EQUAL_WEIGHTS.arcs,
+        shards: 1,
+        steps: &steps,
+        asks: 1,
+    };
+    expect_talk(&rt, alloc, talk, line, 0)?;
     Ok(())
 }
 
@@ -272,43 +277,28 @@ fn text_of(alloc: Global, frames: &[Numbers]) -> Result<Vec<u8>, AllocError> {
     Ok(text)
 }
 
-// These steps of a new wire over a line: what is put meanwhile are these frames, each by one put.
+// A new wire over the line talks so, and puts these frames meanwhile, each by one put.
 fn expect_put<L: Line + Drop>(
     rt: &impl Abort,
     alloc: Global,
-    graph: (u32, &[Row], u32),
+    talk: Talk,
     line: L,
-    steps: &[Step],
     frames: &[Numbers],
 ) -> Result<(), Fail>
     requires room { HasRoom (L.state line) }
 {
-    let asks = steps.iter().filter(|step| is_counted(step)).count();
-    let line = expect_steps(
-        rt,
-        alloc,
-        graph,
-        kept_line(alloc, line),
-        0,
-        steps,
-        asks as u64,
-    )?;
+    let line = expect_talk(rt, alloc, talk, kept_line(alloc, line), 0)?;
     assert!(rt; line.are_all_kept && line.puts == frames.len());
     assert_eq!(rt; line.kept.as_slice(), text_of(alloc, frames)?.as_slice());
     Ok(())
 }
 
-// Whether the step is an ask that counts: one of a wire that isn't closed.
-fn is_counted(step: &Step) -> bool {
-    match step {
-        Step::Ask(_, _, reply) => *reply != CLOSED,
-        Step::Shut => false,
-    }
-}
-
 const TOO_OLD: Reply = Err(PortFault::TooOld);
 
-// The shards of a path of which the first link weighs 5 and the second 2^31, and asks for them under three labels.
+// A path of which the first link weighs 5 and the second 2^31.
+const NARROW_AND_WIDE: [Row; 2] = [(1, 2, 5), (2, 3, 2147483648)];
+
+// Its shards, and asks for them under three labels.
 const NARROW_SHARD: Numbers = (2, &[0, 1, 1, 2, 5]);
 
 const NARROW_ASK: Numbers = (3, &[1, 0, 3, 1, 2, 3]);
@@ -324,7 +314,6 @@ const AGAIN: Numbers = (3, &[2, 1, 3, 1, 2, 3]);
 #[test]
 fn a_worker_of_the_first_version(rt: HostRuntime) -> Result<(), Fail> {
     let alloc = rt.alloc();
-    let graph: (u32, &[Row], u32) = (3, &[(1, 2, 5), (2, 3, 2147483648)], 2);
     let answer = [
         4, 0, 0, 0, 28, 0, 0, 0, 1, 0, 0, 0, 0, 0, 0, 0, 2, 0, 0, 0, 1, 0, 0, 0, 0, 0, 0, 0, 2, 0,
         0, 0, 0,
@@ -335,26 +324,42 @@ fn a_worker_of_the_first_version(rt: HostRuntime) -> Result<(), Fail> {
         Step::Ask(1, 0, CLOSED),
         Step::Ask(1, 1, CLOSED),
     ];
-    let put = [NARROW_SHARD, NARROW_ASK];
-    let line = ScriptLine::new(script(alloc, &[&HELLO, &answer])?);
-    expect_put(&rt, alloc, graph, line, &steps, &put)?;
-    let line = ScriptLine::new(script(alloc, &[&HELLO, &answer])?);
-    expect_put(&rt, alloc, graph, line, &steps[1..], &[])
+    let talks: [(&[Step], u64, &[Numbers]); 2] = [
+        (&steps, 2, &[NARROW_SHARD, NARROW_ASK]),
+        (&steps[1..], 1, &[]),
+    ];
+    for (steps, asks, put) in talks {
+        let line = ScriptLine::new(script(alloc, &[&HELLO, &answer])?);
+        let talk = Talk {
+            n: 3,
+            arcs: &NARROW_AND_WIDE,
+            shards: 2,
+            steps,
+            asks,
+        };
+        expect_put(&rt, alloc, talk, line, put)?;
+    }
+    Ok(())
 }
 
 // An engine is sent both shards, each before its first ask alone.
 #[test]
 fn shards_of_64_bits(rt: HostRuntime) -> Result<(), Fail> {
     let alloc = rt.alloc();
-    let graph: (u32, &[Row], u32) = (3, &[(1, 2, 5), (2, 3, 2147483648)], 2);
     let steps = [
         Step::Ask(1, 0, NARROW),
         Step::Ask(1, 1, WIDE),
         Step::Ask(2, 1, WIDE),
     ];
     let put = [NARROW_SHARD, NARROW_ASK, WIDE_SHARD, WIDE_ASK, AGAIN];
-    let line = EngineLine::new(alloc, 0)?;
-    expect_put(&rt, alloc, graph, line, &steps, &put)
+    let talk = Talk {
+        n: 3,
+        arcs: &NARROW_AND_WIDE,
+        shards: 2,
+        steps: &steps,
+        asks: 3,
+    };
+    expect_put(&rt, alloc, talk, EngineLine::new(alloc, 0)?, &put)
 }
 
 // The two shards of the triangle, and asks for them under three labels.
@@ -377,9 +382,14 @@ fn each_shard_is_sent_before_its_first_ask_alone(rt: HostRuntime) -> Result<(), 
         (3, &[2, 0, 3, 1, 2, 3]),
         (3, &[2, 1, 3, 1, 2, 3]),
     ];
-    let graph = (3, EQUAL_WEIGHTS.arcs, 2);
-    let line = EngineLine::new(alloc, 0)?;
-    expect_put(&rt, alloc, graph, line, &steps, &put)
+    let talk = Talk {
+        n: 3,
+        arcs: EQUAL_WEIGHTS.arcs,
+        shards: 2,
+        steps: &steps,
+        asks: 4,
+    };
+    expect_put(&rt, alloc, talk, EngineLine::new(alloc, 0)?, &put)
 }
 
 // Two asks under these labels of vertices that are apart, of which the first and the last are linked, over a new wire
@@ -393,8 +403,7 @@ fn ask_twice<L: Line + Drop>(
 ) -> Result<L, Fail>
     requires { HasRoom (L.state line) }
 {
-    let links = links_of(alloc, labels.n(), &[(1, labels.n(), 7)])?.expect(rt, "arcs");
-    assert!(rt; links.len() <= 1 << 30);
+    let links = links_to_cut(rt, alloc, labels.n(), &[(1, labels.n(), 7)])?;
     let cut = Cut::even(alloc, links.as_slice(), 1).expect(rt, "a cut");
     let mut wire = Wire::new(alloc, line, &cut, 0);
     let steps = [Step::Ask(1, 0, replies.0), Step::Ask(2, 0, replies.1)];
@@ -466,9 +475,14 @@ fn a_wire_at_ten_thousand_links(rt: HostRuntime) -> Result<(), Fail> {
     }
     let reply: Reply = Ok(offers.as_slice());
     let steps = [Step::Ask(1, 0, reply), Step::Ask(2, 0, reply)];
-    let line = EngineLine::new(alloc, 0)?;
-    let graph = (MANY + 1, arcs.as_slice(), 1);
-    expect_steps(&rt, alloc, graph, line, 0, &steps, 2)?;
+    let talk = Talk {
+        n: MANY + 1,
+        arcs: arcs.as_slice(),
+        shards: 1,
+        steps: &steps,
+        asks: 2,
+    };
+    expect_talk(&rt, alloc, talk, EngineLine::new(alloc, 0)?, 0)?;
     Ok(())
 }
 
@@ -485,12 +499,18 @@ fn asks_at_their_bounds(rt: HostRuntime) -> Result<(), Fail> {
         (2, &[(1, 2, 7)], 4096, 4095, Ok(&[(1, 0), (2, 0)])),
     ];
     for (n, arcs, shards, shard, reply) in graphs {
-        let line = EngineLine::new(alloc, 0)?;
         let steps = [
             Step::Ask(1, shard, reply),
             Step::Ask(u32::MAX, shard, reply),
         ];
-        expect_steps(&rt, alloc, (n, arcs, shards), line, 0, &steps, 2)?;
+        let talk = Talk {
+            n,
+            arcs,
+            shards,
+            steps: &steps,
+            asks: 2,
+        };
+        expect_talk(&rt, alloc, talk, EngineLine::new(alloc, 0)?, 0)?;
     }
     Ok(())
 }
@@ -550,10 +570,7 @@ fn what_faults_are_told_as(rt: HostRuntime) -> Result<(), Fail> {
         (PortFault::TooOld, "worker is too old for 64-bit weights"),
     ];
     for (fault, text) in texts {
-        let told = format!(in alloc; "{fault}")?;
-        assert_eq!(rt; told.as_str(), text);
+        expect_told(&rt, alloc, &fault, text)?;
     }
-    let told = format!(in alloc; "{}", LineFault::Failed)?;
-    assert_eq!(rt; told.as_str(), "line failed");
-    Ok(())
+    expect_told(&rt, alloc, &LineFault::Failed, "line failed")
 }
