@@ -233,14 +233,14 @@ const NOT_LISTED_FIRST: [CoarserAsk; 4] = [
     ([1, 1, 1], 0),
 ];
 
-// The live links are listed, in one block, once some are laid aside: the second ask's second block. Where that one is
-// refused, all stay live, and the next ask asks for it again.
+// The live links are listed, in one block, once some are laid aside: the second ask's second block, behind four of the
+// first ask and one for the labels of each. Where that one is refused, all stay live, and the next ask asks for it again.
 #[test]
 fn live_links_are_listed_once(rt: HostRuntime) -> Result<(), Fail> {
     for by in [By::OneThread, By::Threads] {
         let memory = Refusing::new(rt.alloc(), Refusals::none());
         let before = expect_coarser_asks(&rt, rt.alloc(), &memory, by, &LISTED)?;
-        let list = before.wrapping_add(6);
+        let list = before.wrapping_add(8);
         let memory = Refusing::new(rt.alloc(), Refusals::only(list));
         expect_coarser_asks(&rt, rt.alloc(), &memory, by, &NOT_LISTED_FIRST)?;
     }
