@@ -39,7 +39,8 @@ StopsBy (fault.Source number) limit text = ⊥
 StopsBy fault.TooLong limit text = (limit < length text) × HasLawfulLines (take limit text)
 StopsBy fault.Memory limit text = Unit {0}
 
--- why a whole text isn't read: its first fault, where it is within the limit
+-- why a whole text isn't read: its first fault, where the text is within the limit; where it isn't, the first faulty line
+-- among those that a line feed ends within it, or else that the text is too long; or memory
 abbrev pub FailsBy : ReadFault → ℕ → List ℕ → Type 0
 FailsBy (fault.Gr f) limit text =
     ((length text ≤ limit) × IsFirstFault text f.line f.kind) ⊎ ((limit < length text) × IsEndedFault (take limit text) f.line f.kind)

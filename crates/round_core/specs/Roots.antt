@@ -73,7 +73,7 @@ IsSettled parents c = slice_index parents (slice_index parents c) ≡ slice_inde
 abbrev pub AreSettled : List ℕ → List ℕ → Type 0
 AreSettled roots parents = (c : ℕ) → Contains roots c → IsSettled parents c
 
--- the parent of root c is its own parent, or its rank is less than the root's by a power of two
+-- the parent of root c is its own parent, or its rank is less than the root's by at least 2^i
 abbrev pub IsNear : (ℕ → ℕ) → ℕ → List ℕ → ℕ → Type 0
 IsNear rank i parents c = IsSettled parents c ⊎ (rank (slice_index parents c) + 2 ^ i ≤ rank c)
 

@@ -98,7 +98,8 @@ impl<A: Allocator + Copy> Solver<A> {
     /// for. After an error the solver is as it was.
     ///
     /// It looks at the picks of the k vertices that are their own label, and once at each of n vertices: O(n + k log k)
-    /// time. Memory: 4 bytes a vertex for the new labels, and 16 bytes for each link taken.
+    /// time. Memory: 4 bytes a vertex for the new labels, 8 more that stay from the first step that takes links on, and 16
+    /// bytes for each link of the round in a list of its own, until they stand behind those taken before.
     pub fn step(&mut self, picks: &Picks<A>) -> Result<Turn, SolveFault>
         requires picks { ArePicksOfHearings self.old.labels picks.now }
         ensures turn { IfOk result (IsTurn picks.now self.old self.new) }

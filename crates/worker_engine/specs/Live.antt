@@ -62,7 +62,7 @@ abbrev pub AreOffersOf : List Link → List ℕ → Option (List Offer) → Type
 AreOffersOf links labels None = ¬ EndsUpTo (length labels) links
 AreOffersOf links labels (Some offers) = EndsUpTo (length labels) links × AreLightOffers links labels offers
 
--- each link that isn't live is quiet, and each that is told is written as it should be
+-- where live links are kept, they are those of the shard's links under these labels
 abbrev pub IsLive : List ℕ → Holding → Type 0
 IsLive labels held = IfSome held.live (AreLiveLinks held.links labels)
 
