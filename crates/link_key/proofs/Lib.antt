@@ -29,3 +29,4 @@ pub mod Stages
 pub mod Opened
 pub mod Filling
 pub mod Distinct
+mod Rising
