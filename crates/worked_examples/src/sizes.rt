@@ -128,6 +128,34 @@ fn forests_of_up_to_eighteen_rounds(rt: HostRuntime) -> Result<(), Fail> {
     Ok(())
 }
 
+// The arcs of a tree whose vertices come after their parents, each lighter than the one before: against key order.
+fn tree(alloc: Global, n: u32) -> Result<Vec<Row>, AllocError> {
+    let mut arcs = Vec::new(alloc);
+    for v in 1..n {
+        let child = v.wrapping_add(1);
+        arcs.push((child / 2, child, i64::from(v).wrapping_neg()))?;
+    }
+    Ok(arcs)
+}
+
+// All of these links are the forest, and the list is only put in order. With one link more to the last vertex, which
+// closes a cycle where there are three vertices or more, it isn't.
+#[test]
+fn forests_of_trees_in_order(rt: HostRuntime) -> Result<(), Fail> {
+    for n in SIZES {
+        let mut arcs = tree(rt.alloc(), n)?;
+        let mut wanted = arcs.clone()?;
+        wanted.as_mut_slice().reverse();
+        let links = links_of(rt.alloc(), n, wanted.as_slice())?.expect(&rt, "links");
+        expect_forest(&rt, rt.alloc(), n, arcs.as_slice(), links.as_slice())?;
+        if n > 2 {
+            arcs.push((1, n, 0))?;
+            expect_forest(&rt, rt.alloc(), n, arcs.as_slice(), links.as_slice())?;
+        }
+    }
+    Ok(())
+}
+
 // Each of the vertices 1 to n by itself, by each call that labels them, and as offers.
 fn expect_numbers(rt: &impl Abort, alloc: Global, n: u32) -> Result<(), Fail> {
     assert!(rt; n <= MOST);
