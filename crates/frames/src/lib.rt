@@ -18,8 +18,8 @@
 //! What it promises:
 //! - The encoders give exactly the text of a lawful frame, and a lawful frame has one text.
 //! - [`read_frame`] that answers a frame took exactly its text, and answers else the first refusal that fits; so do
-//!   [`decode_head`] and [`decode_body`] for the two parts of a frame, and [`read_next`] behind an ask, which says of
-//!   another ask under the same labels no more than that, and stores none.
+//!   [`decode_head`] and [`decode_body`] for the two parts of a frame, and [`read_next`] behind an ask. (That it tells
+//!   another ask under the same labels as that alone, and stores none, is only tested.)
 //! - No frame's text begins another's, so a stream of frames reads in one way (`laws`).
 //!
 //! Where to start a change: the grammar stands in `specs/FrameText`, what a lawful frame says in `specs/Lawful`, and
