@@ -22,8 +22,7 @@ use Rattle.tcp_lines.specs.Lines.{TcpLineState, tcp_line, unused}
 use Rattle.boruvka.specs.Arguments.{refusals, given, file_named, number_of, is_set, IsMistake}
 use Rattle.boruvka.specs.declared.chosen.Options.{Options}
 use Rattle.boruvka.specs.Messages.{fault_line, unopened_line}
-use Rattle.boruvka.specs.Streams.{Standard, Left, of_run, OnOutput, SameOutput}
-use Rattle.boruvka.specs.declared.standard.StandardStreams.{StandardStreams}
+use Rattle.boruvka.specs.Streams.{Standard, of_run}
 
 -- ---- what was written
 
@@ -199,6 +198,5 @@ HelpEnds status before after = (text : List ℕ) × (((status ≡ 0) × Took 0 t
     ⊎ (((status ≡ 3) × Took 1 text before after) ⊎ ((status ≡ 4) × IsUntouched before after)))
 
 -- and words that are refused, whatever they ask for: as the help does, or as words that leave the output as it was
-abbrev pub EndsRefused : {I O E : Type 0} → (O → SinkState) → ℕ → StandardStreams I O E → Left I O E → Type 0
-EndsRefused sink_of status before after =
-    OnOutput sink_of (HelpEnds status) before after ⊎ (RefusesWords status × SameOutput before after)
+abbrev pub EndsRefused : {O : Type 0} → (O → SinkState) → ℕ → O → O → Type 0
+EndsRefused sink_of status before after = HelpEnds status (sink_of before) (sink_of after) ⊎ (RefusesWords status × (after ≡ before))

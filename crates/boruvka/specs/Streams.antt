@@ -15,6 +15,11 @@ pub record Standard : Type 0 where
 abbrev pub of_run : Standard → Streams
 of_run all = streams all.source all.sink
 
+-- what an input, an output and errors tell
+abbrev pub standard : {I O E : Type 0} → (I → SourceState) → (O → SinkState) → (E → SinkState) → I → O → E → Standard
+standard source_of sink_of errors_of input output errors =
+    record { source = source_of input; sink = sink_of output; errors = errors_of errors }
+
 -- an input, an output and errors, as a call left them
 abbrev pub Left : Type 0 → Type 0 → Type 0 → Type 0
 Left I O E = MutBor I × (MutBor O × (MutBor E × ⊤))
@@ -24,8 +29,8 @@ abbrev pub OnStreams : {I O E : Type 0} → (I → SourceState) → (O → SinkS
     → StandardStreams I O E → Left I O E → Type 0
 OnStreams source_of sink_of errors_of R before after =
     R
-    (record { source = source_of before.input.now; sink = sink_of before.output.now; errors = errors_of before.errors.now })
-    (record { source = source_of after.0.now; sink = sink_of after.1.0.now; errors = errors_of after.1.1.0.now })
+    (standard source_of sink_of errors_of before.input.now before.output.now before.errors.now)
+    (standard source_of sink_of errors_of after.0.now after.1.0.now after.1.1.0.now)
 
 -- R of what the input tells
 abbrev pub OnInput : {I O E : Type 0} → (I → SourceState) → (SourceState → SourceState → Type 0)
@@ -37,12 +42,10 @@ abbrev pub OnOutput : {I O E : Type 0} → (O → SinkState) → (SinkState → 
     → StandardStreams I O E → Left I O E → Type 0
 OnOutput sink_of R before after = R (sink_of before.output.now) (sink_of after.1.0.now)
 
--- the input wasn't touched, the output wasn't, and the errors weren't
+-- the input wasn't touched
 abbrev pub SameInput : {I O E : Type 0} → StandardStreams I O E → Left I O E → Type 0
 SameInput before after = after.0.now ≡ before.input.now
 
-abbrev pub SameOutput : {I O E : Type 0} → StandardStreams I O E → Left I O E → Type 0
-SameOutput before after = after.1.0.now ≡ before.output.now
-
+-- the errors weren't
 abbrev pub SameErrors : {I O E : Type 0} → StandardStreams I O E → Left I O E → Type 0
 SameErrors before after = after.1.1.0.now ≡ before.errors.now

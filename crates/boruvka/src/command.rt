@@ -10,7 +10,7 @@ ghost use Rattle.forest_run.specs.declared.cutting.Cutting.TheVariants.{Even};
 ghost use Rattle.tcp_lines.specs.Lines.{tcp_line, unused};
 ghost use Rattle.boruvka.specs.Arguments.{IsMistake, file_named, is_set, refusals};
 ghost use Rattle.boruvka.specs.Messages.{message_line, no_text_line};
-ghost use Rattle.boruvka.specs.Streams.{OnStreams, OnInput, OnOutput, SameInput, SameOutput, SameErrors};
+ghost use Rattle.boruvka.specs.Streams.{standard, OnStreams, OnInput, OnOutput, SameInput, SameErrors};
 ghost use Rattle.boruvka.specs.Status.{asked_of, status_of_run, report_of, IsReported, EndsOver, EndsAs, Obeys, ObeysWords};
 ghost use Rattle.boruvka.specs.Status.{HasNoGraph, IsDone, LeavesOutput, IsUntouched, IsWritten, AskForHelp, AreWrong, HelpEnds, RefusesWords, EndsRefused};
 
@@ -244,28 +244,23 @@ where
 }
 
 // Prints the help to the output, or what is wrong with the words to errors.
-fn print_usage<I, O: Sink, E: Sink>(
+fn print_usage<O: Sink, E: Sink>(
     alloc: Global,
     error: &clap::Error,
-    io: StandardStreams<I, O, E>,
+    output: &mut O,
+    errors: &mut E,
 ) -> u8
-    requires output { O.can_write io.output.now }
-    requires errors { E.can_write io.errors.now }
-    ensures leaves_input { SameInput io.entry io.exit }
+    requires output { O.can_write output.old }
+    requires errors { E.can_write errors.old }
     ensures status { result ≤ 4 }
-    ensures silent { LeavesOutput result → OnOutput O.state IsUntouched io.entry io.exit }
-    ensures quiet { result ≡ 0 → SameErrors io.entry io.exit }
+    ensures silent { LeavesOutput result → IsUntouched (O.state output.old) (O.state output.new) }
+    ensures quiet { result ≡ 0 → errors.new ≡ errors.old }
 
     // Wrong words write nothing to the output, and only the help does.
-    ensures wrong { IsMistake (kind_of error.now) → RefusesWords result × SameOutput io.entry io.exit }
-    ensures help { ¬ IsMistake (kind_of error.now) → OnOutput O.state (HelpEnds result) io.entry io.exit }
-    ensures refused { EndsRefused O.state result io.entry io.exit }
+    ensures wrong { IsMistake (kind_of error.now) → RefusesWords result × (output.new ≡ output.old) }
+    ensures help { ¬ IsMistake (kind_of error.now) → HelpEnds result (O.state output.old) (O.state output.new) }
+    ensures refused { EndsRefused O.state result output.old output.new }
 {
-    let StandardStreams {
-        input: _,
-        output,
-        errors,
-    } = io;
     let Ok(text) = format!(in alloc; "{error}") else {
         tell(errors, &RunFault::Memory);
         return NO_MEMORY;
@@ -298,7 +293,13 @@ fn print_usage<I, O: Sink, E: Sink>(
 /// read failed, or a write did. 4: memory was refused. 5: what the workers answered makes no forest.
 ///
 /// It waits for the workers, and each of them has ended when it answers.
-pub fn command<R, S, I, O, E>(rt: &R, words: &[S], io: StandardStreams<I, O, E>) -> u8
+pub fn command<R, S, I, O, E>(
+    rt: &R,
+    words: &[S],
+    input: &mut I,
+    output: &mut O,
+    errors: &mut E,
+) -> u8
 where
     R: Files<File = File>
         + Alloc<A = Global>
@@ -313,34 +314,43 @@ where
     I: Source,
     O: Sink,
     E: Sink,
-    requires input { I.can_read io.input.now }
-    requires output { O.can_write io.output.now }
-    requires errors { E.can_write io.errors.now }
+    requires input { I.can_read input.old }
+    requires output { O.can_write output.old }
+    requires errors { E.can_write errors.old }
 
     // What lawful words ask for is done: the input is run on, or FILE is, and then the input isn't touched.
-    ensures obeys { OnStreams I.state O.state E.state (ObeysWords (map S.text words.now) result) io.entry io.exit }
-    ensures leaves_input { IsSome (file_named (map S.text words.now)) → SameInput io.entry io.exit }
+    ensures obeys { ObeysWords (map S.text words.now) result
+        (standard I.state O.state E.state input.old output.old errors.old)
+        (standard I.state O.state E.state input.new output.new errors.new) }
+    ensures leaves_input { IsSome (file_named (map S.text words.now)) → input.new ≡ input.old }
 
     // A file that is refused or can't be cut, wrong words, want of memory and answers that make no forest write
     // nothing to the output. Where all went well the errors get the report alone.
     ensures status { result ≤ 5 }
-    ensures silent { LeavesOutput result → OnOutput O.state IsUntouched io.entry io.exit }
-    ensures quiet { is_set (map S.text words.now) (codes "report") ≡ false → result ≡ 0 → SameErrors io.entry io.exit }
+    ensures silent { LeavesOutput result → IsUntouched (O.state output.old) (O.state output.new) }
+    ensures quiet { is_set (map S.text words.now) (codes "report") ≡ false → result ≡ 0 → errors.new ≡ errors.old }
 
     // The help goes to the output, and wrong words touch nothing. Words that are refused and ask for the help too end
     // as one or the other.
     ensures help { AskForHelp (map S.text words.now)
-        → SameInput io.entry io.exit × OnOutput O.state (HelpEnds result) io.entry io.exit }
+        → (input.new ≡ input.old) × HelpEnds result (O.state output.old) (O.state output.new) }
     ensures wrong { AreWrong (map S.text words.now)
-        → RefusesWords result × SameInput io.entry io.exit × SameOutput io.entry io.exit }
+        → RefusesWords result × (input.new ≡ input.old) × (output.new ≡ output.old) }
     ensures refused { refusals (map S.text words.now) ≢ []
-        → SameInput io.entry io.exit × EndsRefused O.state result io.entry io.exit }
+        → (input.new ≡ input.old) × EndsRefused O.state result output.old output.new }
 {
     match options(rt.alloc(), words) {
-        Ok(chosen) => obey(rt, &chosen, io),
-        Err(OptionsFault::Usage(error)) => print_usage(rt.alloc(), &error, io),
+        Ok(chosen) => {
+            let io = StandardStreams {
+                input,
+                output,
+                errors,
+            };
+            obey(rt, &chosen, io)
+        }
+        Err(OptionsFault::Usage(error)) => print_usage(rt.alloc(), &error, output, errors),
         Err(OptionsFault::Memory) => {
-            tell(io.errors, &RunFault::Memory);
+            tell(errors, &RunFault::Memory);
             NO_MEMORY
         }
     }

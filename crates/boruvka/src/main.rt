@@ -30,7 +30,6 @@ mod statuses;
 #[cfg(test)]
 mod tests;
 
-use standard::StandardStreams;
 use std::process::ExitCode;
 
 fn main(rt: HostRuntime) -> ExitCode {
@@ -39,11 +38,9 @@ fn main(rt: HostRuntime) -> ExitCode {
         Ok(words) => command::command(
             &rt,
             words.as_slice(),
-            StandardStreams {
-                input: &mut rt.stdin(),
-                output: &mut rt.stdout(),
-                errors: &mut errors,
-            },
+            &mut rt.stdin(),
+            &mut rt.stdout(),
+            &mut errors,
         ),
         Err(error) => command::without_words(&error, &mut errors),
     };

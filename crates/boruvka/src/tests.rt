@@ -82,15 +82,7 @@ fn expect(
     let mut out = Vec::new(rt.alloc());
     let mut err = Vec::new(rt.alloc());
     assert_eq!(rt;
-        command(
-            rt,
-            words,
-            StandardStreams {
-                input: &mut source,
-                output: &mut out,
-                errors: &mut err
-            }
-        ),
+        command(rt, words, &mut source, &mut out, &mut err,),
         status
     );
     assert_eq!(rt; out.as_slice(), output);
@@ -221,11 +213,9 @@ fn tells_how_much_was_written(rt: HostRuntime) -> Result<(), Fail> {
     let status = command(
         &rt,
         &["boruvka", "--plain"],
-        StandardStreams {
-            input: &mut input,
-            output: &mut output,
-            errors: &mut errors,
-        },
+        &mut input,
+        &mut output,
+        &mut errors,
     );
     assert_eq!(rt; status, 3);
     assert_eq!(rt; output.held(), b"p sp 6 5\na".as_slice());
@@ -313,11 +303,9 @@ fn prints_the_help(rt: HostRuntime) -> Result<(), Fail> {
     let status = command(
         &rt,
         &["boruvka", "--help"],
-        StandardStreams {
-            input: &mut input,
-            output: &mut output,
-            errors: &mut errors,
-        },
+        &mut input,
+        &mut output,
+        &mut errors,
     );
     assert_eq!(rt; status, 0);
     assert_eq!(rt; output.as_slice(), HELP.as_bytes());
@@ -358,15 +346,7 @@ fn ignores_errors_that_fail(rt: HostRuntime) -> Result<(), Fail> {
         let mut output = Vec::new(rt.alloc());
         let mut errors = FusedSink::new(rt.alloc(), 0, 1)?;
         assert_eq!(rt;
-            command(
-                &rt,
-                &words,
-                StandardStreams {
-                    input: &mut input,
-                    output: &mut output,
-                    errors: &mut errors
-                }
-            ),
+            command(&rt, &words, &mut input, &mut output, &mut errors,),
             status
         );
         assert_eq!(rt; output.as_slice(), text);
@@ -390,15 +370,7 @@ fn reports_only_what_ended_well(rt: HostRuntime) -> Result<(), Fail> {
     let mut errors = Vec::new(rt.alloc());
     let mut input = SMALL_NET.as_slice();
     let mut output = FusedSink::new(rt.alloc(), 10, 7)?;
-    let status = command(
-        &rt,
-        &words,
-        StandardStreams {
-            input: &mut input,
-            output: &mut output,
-            errors: &mut errors,
-        },
-    );
+    let status = command(&rt, &words, &mut input, &mut output, &mut errors);
     assert_eq!(rt; status, 3);
     assert_eq!(rt;
         errors.as_slice(),
@@ -417,11 +389,9 @@ fn tells_the_line_of_a_failed_read(rt: HostRuntime) -> Result<(), Fail> {
     let status = command(
         &rt,
         &["boruvka", "--plain"],
-        StandardStreams {
-            input: &mut input,
-            output: &mut output,
-            errors: &mut errors,
-        },
+        &mut input,
+        &mut output,
+        &mut errors,
     );
     assert_eq!(rt; status, 3);
     assert!(rt; output.is_empty());
@@ -473,15 +443,7 @@ fn expect_one_write(
     });
     let words = ["boruvka", "--plain", name];
     assert_eq!(rt;
-        command(
-            rt,
-            &words,
-            StandardStreams {
-                input: &mut input,
-                output: &mut output,
-                errors: &mut errors
-            }
-        ),
+        command(rt, &words, &mut input, &mut output, &mut errors,),
         3
     );
     assert!(rt; output.is_empty());
@@ -527,11 +489,9 @@ fn tells_a_help_that_cannot_be_written(rt: HostRuntime) -> Result<(), Fail> {
     let status = command(
         &rt,
         &["boruvka", "--help"],
-        StandardStreams {
-            input: &mut input,
-            output: &mut output,
-            errors: &mut errors,
-        },
+        &mut input,
+        &mut output,
+        &mut errors,
     );
     assert_eq!(rt; status, 3);
     assert_eq!(rt; output.held(), b"Computes t".as_slice());
@@ -606,15 +566,7 @@ fn expect_refused(
     let mut errors = Vec::new(rt.alloc());
     let mut input = SMALL_NET.as_slice();
     let mut output = Vec::new(rt.alloc());
-    let status = command(
-        rt,
-        words,
-        StandardStreams {
-            input: &mut input,
-            output: &mut output,
-            errors: &mut errors,
-        },
-    );
+    let status = command(rt, words, &mut input, &mut output, &mut errors);
     assert_eq!(rt; status, 2);
     assert!(rt; output.is_empty() && !errors.is_empty());
 }

@@ -1,4 +1,4 @@
-use Rattle.std.specs.Prelude.{map}
+use Rattle.std.proofs.Common.{refl, map}
 use Rattle.clap.specs.Words.{kind_of}
 use Rattle.boruvka.proofs.Endings.{wants_memory_obeys, obeys_words}
 use Rattle.boruvka.proofs.command.command.Goals as goal
@@ -6,7 +6,7 @@ use Rattle.boruvka.proofs.command.command.Goals as goal
 pub returns-in-Err-Usage-clause-wrong : goal.returns-in-Err-Usage-clause-wrong
 returns-in-Err-Usage-clause-wrong g c = λ wrong.
     let (status, same) = c.print_usage.ensures.wrong (wrong.1 (kind_of c.in-Err-Usage.error) (rw c.in-Err-Usage.field-0-is at c.in-Err-Usage.ensures.refused)) in
-    (status, c.print_usage.ensures.leaves_input, same)
+    (status, refl, same)
 
 pub returns-in-Ok-clause-obeys : goal.returns-in-Ok-clause-obeys
 returns-in-Ok-clause-obeys g c = λ lawful.
