@@ -300,6 +300,19 @@ fn expect_alone(
     Ok(())
 }
 
+// The answer of the only shard of a round, which offers this.
+fn only_answer<'a>(
+    rt: &impl Abort,
+    memory: &'a Memory,
+    pair: (u32, u32),
+) -> Result<Answer<&'a Memory>, AllocError> {
+    Ok(Answer {
+        round: 1,
+        shard: 0,
+        offers: Offers::of_pairs([pair].to_vec(memory)?).expect(rt, "offers"),
+    })
+}
+
 // The picks of a round over one shard whose only answer offers this.
 fn picks_of<'a>(
     rt: &impl Abort,
@@ -310,36 +323,64 @@ fn picks_of<'a>(
 ) -> Result<Picks<&'a Memory>, AllocError>
     ensures heard { IfOk result (ArePicksOfHearings labels.now) }
 {
+    let answer = only_answer(rt, memory, pair)?;
     assert!(rt; all_have_labels(cut, labels.n()));
     let mut book = RoundBook::open(memory, 1, cut, labels)?;
-    let offers = Offers::of_pairs([pair].to_vec(memory)?).expect(rt, "offers");
-    let answer = Answer {
-        round: 1,
-        shard: 0,
-        offers,
-    };
     assert!(rt; book.len() == 1 && book.take(0, answer).is_ok() && book.missing() == 0);
     Ok(book.close())
 }
 
-// The triangle's worker offers one link a round and hides the third. The step of a round past the bound and the end of
-// a solver that misses a link are told as that, before any memory is asked for.
+// The step by one link that is offered.
+fn expect_merged<'a>(
+    rt: &impl Abort,
+    memory: &'a Memory,
+    cut: &Cut<&'a Memory>,
+    solver: &mut Solver<&'a Memory>,
+) -> Result<(), AllocError> {
+    let picks = picks_of(rt, memory, cut, solver.labels(), (1, 0))?;
+    let turn = or_refused(rt, solver.step(&picks), SolveFault::Memory)?;
+    assert!(rt; turn == Turn::Merged(1));
+    Ok(())
+}
+
+// The step of a round past the bound is told as that, before any memory is asked for.
+fn expect_past_bound<'a>(
+    rt: &impl Abort,
+    memory: &'a Memory,
+    cut: &Cut<&'a Memory>,
+    solver: &mut Solver<&'a Memory>,
+) -> Result<(), AllocError> {
+    let picks = picks_of(rt, memory, cut, solver.labels(), (3, 1))?;
+    let asked = memory.asked();
+    assert!(rt; solver.step(&picks) == Err(SolveFault::Rounds { round: 2 }));
+    expect_same(rt, memory.asked(), asked);
+    Ok(())
+}
+
+// So is the end of a solver that misses a link.
+fn expect_missed<'a>(
+    rt: &impl Abort,
+    memory: &'a Memory,
+    cut: &Cut<&'a Memory>,
+    solver: &Solver<&'a Memory>,
+) {
+    assert!(rt; all_have_labels(cut, solver.labels().n()));
+    let link = Link::of_arc(2, 3, 5).expect(rt, "a link");
+    let asked = memory.asked();
+    assert!(rt; solver.finish(cut).err() == Some(SolveFault::Missed { link }));
+    expect_same(rt, memory.asked(), asked);
+}
+
+// The triangle's worker offers one link a round and hides the third.
 fn expect_lies(rt: &impl Abort, alloc: Global, memory: &Memory) -> Result<(), AllocError> {
     let links = links_of_six(rt, alloc, EQUAL_WEIGHTS.arcs);
     let links = links.as_slice();
     assert!(rt; links.len() == 3);
     let cut = or_refused(rt, Cut::even(memory, links, 1), CutFault::Memory)?;
     let mut solver = Solver::new(memory, 3)?;
-    let picks = picks_of(rt, memory, &cut, solver.labels(), (1, 0))?;
-    let turn = or_refused(rt, solver.step(&picks), SolveFault::Memory)?;
-    assert!(rt; turn == Turn::Merged(1));
-    let picks = picks_of(rt, memory, &cut, solver.labels(), (3, 1))?;
-    let asked = memory.asked();
-    assert!(rt; solver.step(&picks) == Err(SolveFault::Rounds { round: 2 }));
-    assert!(rt; all_have_labels(&cut, solver.labels().n()));
-    let link = Link::of_arc(2, 3, 5).expect(rt, "a link");
-    assert!(rt; solver.finish(&cut).err() == Some(SolveFault::Missed { link }));
-    expect_same(rt, memory.asked(), asked);
+    expect_merged(rt, memory, &cut, &mut solver)?;
+    expect_past_bound(rt, memory, &cut, &mut solver)?;
+    expect_missed(rt, memory, &cut, &solver);
     Ok(())
 }
 
