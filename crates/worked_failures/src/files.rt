@@ -1,13 +1,13 @@
 // Runs over the small net, also with weights past 32 bits, whose source fails at each byte, and whose sink fails, or takes
 // nothing more, at each byte of the forest's text.
-ghost use Rattle.std.specs.Prelude.{◌<◌, ◌≤◌, ◌-◌, ◌^◌};
+ghost use Rattle.std.specs.Prelude.{◌<◌, ◌≤◌, ◌-◌, ◌^◌, IfOk};
 
 use crate::runs::worker;
 use crate::same::{expect_same, expect_same_at};
 use byte_streams::{FusedSink, FusedSource, Sink, Source};
 use forest_run::{Cutting, RunFault, run_lines, run_plain};
 use gr_text::ReadFault;
-use std::alloc::Global;
+use std::alloc::{AllocError, Global};
 use std::process::Abort;
 use std::sync::Wait;
 use std::test::Fail;
@@ -123,35 +123,59 @@ fn expect_written<R: Threads + Wait + Sync + Abort>(
 // How long the forests' texts are.
 const LENGTHS: [(Worked, usize); 2] = [(SMALL_NET, 50), (WIDE_WEIGHTS, 78)];
 
-// Room for just the text isn't enough for a sink that fails once it is full, since the flush fails.
-#[test]
-fn a_sink_that_fails_at_each_byte(rt: HostRuntime) -> Result<(), Fail> {
-    let alloc = rt.alloc();
+// What a sink does once it is full: each write and each flush fails, or it takes nothing more and its flush passes.
+#[derive(Clone, Copy)]
+enum Full {
+    Fails,
+    TakesNothing,
+}
+
+// A sink with room for so many bytes.
+fn sink_with_room(
+    alloc: Global,
+    full: Full,
+    passes: usize,
+    piece: usize,
+) -> Result<FusedSink, AllocError>
+    requires { 1 ≤ piece }
+    ensures { IfOk result (λ sink. sink.setbacks < 2 ^ 64 - 1) }
+{
+    match full {
+        Full::Fails => FusedSink::new(alloc, passes, piece),
+        Full::TakesNothing => FusedSink::stopped(alloc, passes, piece),
+    }
+}
+
+// Runs into sinks with room for each number of bytes. Room for just the text isn't enough for one that fails, since the
+// flush fails; it is for one that takes nothing more.
+fn expect_all_written<R: Threads + Wait + Sync + Abort>(
+    rt: &R,
+    alloc: Global,
+    full: Full,
+) -> Result<(), Fail> {
     for (graph, length) in LENGTHS {
-        expect_same(&rt, graph.text.len(), length);
+        expect_same(rt, graph.text.len(), length);
+        let wanted = match full {
+            Full::Fails => length.wrapping_add(1),
+            Full::TakesNothing => length,
+        };
         for (way, piece) in RUNS {
             assert!(rt; 1 <= piece);
             for passes in 0..length.wrapping_add(2) {
-                let sink = FusedSink::new(alloc, passes, piece)?;
-                expect_written(&rt, alloc, &graph, way, sink, passes, passes > length)?;
+                let sink = sink_with_room(alloc, full, passes, piece)?;
+                expect_written(rt, alloc, &graph, way, sink, passes, passes >= wanted)?;
             }
         }
     }
     Ok(())
 }
 
-// It is for one that takes nothing more, whose flush passes.
+#[test]
+fn a_sink_that_fails_at_each_byte(rt: HostRuntime) -> Result<(), Fail> {
+    expect_all_written(&rt, rt.alloc(), Full::Fails)
+}
+
 #[test]
 fn a_sink_that_takes_nothing_more_at_each_byte(rt: HostRuntime) -> Result<(), Fail> {
-    let alloc = rt.alloc();
-    for (graph, length) in LENGTHS {
-        for (way, piece) in RUNS {
-            assert!(rt; 1 <= piece);
-            for passes in 0..length.wrapping_add(2) {
-                let sink = FusedSink::stopped(alloc, passes, piece)?;
-                expect_written(&rt, alloc, &graph, way, sink, passes, passes >= length)?;
-            }
-        }
-    }
-    Ok(())
+    expect_all_written(&rt, rt.alloc(), Full::TakesNothing)
 }
