@@ -10,7 +10,9 @@ OwnerIsHolder = (run : List Event) → IsRun run → (seat shard : ℕ) → (own
 
 -- no shard is in the lists of two seats
 abbrev pub HeldByOneSeat : Type 0
-HeldByOneSeat = (run : List Event) → IsRun run → (one other shard : ℕ) → Contains (held (of_seat one run)) shard → Contains (held (of_seat other run)) shard → one ≡ other
+HeldByOneSeat =
+    (run : List Event) → IsRun run → (one other shard : ℕ)
+    → Contains (held (of_seat one run)) shard → Contains (held (of_seat other run)) shard → one ≡ other
 
 -- no shard is twice in the list of a seat
 abbrev pub HeldOnce : Type 0

@@ -1,4 +1,5 @@
--- The rule of the words of a board: between any two steps they are what some run of the machine leaves, in which each seat's events are those that it knows of.
+-- The rule of the words of a board: between any two steps they are what some run of the machine leaves, in which each
+-- seat's events are those that it knows of.
 use Rattle.std.specs.Prelude.{◌≡◌, ℕ, zero, suc, ◌+◌, ◌<◌, ◌≤◌, ◌↔◌, List, [], ◌∷◌, ◌++◌, length, drop, replicate, slice_index, Contains, Option, Some, None}
 use mathlib.Core.Option.{some}
 use lib.ListN.{get_elem?}
@@ -32,7 +33,8 @@ pub record AgreesWithRun (size : Size) (row : List ℕ) (views : List View) : Ty
   -- the one place of each number among the views
   pub place : ℕ → ℕ
   -- a view that has a number stands at that place, and its events are the seat's in the run
-  pub known : (at : ℕ) (view : View) (number : ℕ) (events : List Event) → get_elem? views at ≡ some view → Knows view number events → (place number ≡ at) × (of_seat number run ≡ events) × (view.size ≡ size)
+  pub known : (at : ℕ) (view : View) (number : ℕ) (events : List Event) → get_elem? views at ≡ some view → Knows view number events
+      → (place number ≡ at) × (of_seat number run ≡ events) × (view.size ≡ size)
   -- each number of the board is in a view
   pub seated : (number : ℕ) → number < size.seats → IsSeatedAt views (place number) number
   -- and no other number has an event

@@ -89,7 +89,9 @@ pub record AnswerBegun (body : List ℕ) : Type 0 where
 
 -- a body with a list, for which memory is taken, and lawful fields before the list
 abbrev pub IsListBegun : ℕ → List ℕ → Type 0
-IsListBegun kind body = ((kind ≡ 2) × ShardBegun 12 body) ⊎ (((kind ≡ 6) × ShardBegun 16 body) ⊎ (((kind ≡ 3) × AskBegun body) ⊎ ((kind ≡ 4) × AnswerBegun body)))
+IsListBegun kind body =
+    ((kind ≡ 2) × ShardBegun 12 body)
+    ⊎ (((kind ≡ 6) × ShardBegun 16 body) ⊎ (((kind ≡ 3) × AskBegun body) ⊎ ((kind ≡ 4) × AnswerBegun body)))
 
 -- why a body is refused: by its version, or else since no lawful frame has it; or memory for its list was wanting
 abbrev pub BodyRefused : FrameFault → ℕ → List ℕ → Type 0

@@ -54,7 +54,8 @@ pub record LinesSoFarValue : Type 0 where
 -- the lines state this problem, if one, and arcs that give these links
 abbrev pub AreKept : Option Size → ℕ → List Link → List (List ℕ) → Type 0
 AreKept None count links lines = Say lines [] × (count ≡ 0) × (links ≡ [])
-AreKept (Some size) count links lines = (arcs : List Arc) × AreLawfulLines lines size.vertices size.arcs arcs × (length arcs ≡ count) × AreLinksOf arcs links
+AreKept (Some size) count links lines =
+    (arcs : List Arc) × AreLawfulLines lines size.vertices size.arcs arcs × (length arcs ≡ count) × AreLinksOf arcs links
 
 -- this is what is kept of the lines
 abbrev pub Gives : LinesSoFarValue → List (List ℕ) → Type 0

@@ -84,5 +84,6 @@ LineMeans line.BadProblem fields = NeverSay (codes "p") fields IsProblem
 LineMeans line.Arc fields = fields ≡ codes "a" ∷ []
 LineMeans (line.ArcTail u) fields = (f : List ℕ) × (fields ≡ codes "a" ∷ f ∷ []) × KeepsNumber u f
 LineMeans (line.ArcEnds u v) fields = (f g : List ℕ) × (fields ≡ codes "a" ∷ f ∷ g ∷ []) × KeepsNumber u f × KeepsNumber v g
-LineMeans (line.ArcWhole u v w) fields = (f g h : List ℕ) × (fields ≡ codes "a" ∷ f ∷ g ∷ h ∷ []) × KeepsNumber u f × KeepsNumber v g × KeepsSigned w h
+LineMeans (line.ArcWhole u v w) fields =
+    (f g h : List ℕ) × (fields ≡ codes "a" ∷ f ∷ g ∷ h ∷ []) × KeepsNumber u f × KeepsNumber v g × KeepsSigned w h
 LineMeans line.BadArc fields = NeverSay (codes "a") fields IsArcLine

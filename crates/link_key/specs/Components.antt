@@ -6,7 +6,8 @@ use Rattle.link_key.specs.declared.links.Link.{Link}
 
 -- the labels once what had the label `from` was given the label `to`
 abbrev pub IsRelabelled : ℕ → ℕ → List ℕ → List ℕ → Type 0
-IsRelabelled from to labels labels' = EachIndex labels (λ v. slice_index labels' v ≡ (if slice_index labels v == from then to else slice_index labels v))
+IsRelabelled from to labels labels' =
+    EachIndex labels (λ v. slice_index labels' v ≡ (if slice_index labels v == from then to else slice_index labels v))
 
 -- both ends of the link have one label
 abbrev pub HasOneLabel : List ℕ → Link → Type 0
@@ -21,7 +22,8 @@ nth_after next v (suc k) = slice_index next (nth_after next v k)
 pub record IsLabelledAlong (next : List ℕ) (v count to : ℕ) (labels labels' : List ℕ) : Type 0 where
   pub len : length labels' ≡ length labels
   pub along : (k : ℕ) → k < count → slice_index labels' (nth_after next v k) ≡ to
-  pub others : (u : ℕ) → (slice_index labels' u ≡ slice_index labels u) ⊎ ((k : ℕ) × (k < count) × (nth_after next v k ≡ u) × (slice_index labels' u ≡ to))
+  pub others : (u : ℕ) → (slice_index labels' u ≡ slice_index labels u)
+      ⊎ ((k : ℕ) × (k < count) × (nth_after next v k ≡ u) × (slice_index labels' u ≡ to))
 
 -- c is a label, and its members are a ring: `size` steps from c lead back to c, and no fewer do
 pub record IsRing (labels next : List ℕ) (c size : ℕ) : Type 0 where

@@ -19,4 +19,6 @@ pub record IsForestOf (links forest : List Link) : Type 0 where
 
 -- each list of links has a forest, and no other
 abbrev pub EachHasOneForest : Type 0
-EachHasOneForest = (links : List Link) → (forest : List Link) × IsForestOf links forest × ((other : List Link) → IsForestOf links other → other ≡ forest)
+EachHasOneForest =
+    (links : List Link)
+    → (forest : List Link) × IsForestOf links forest × ((other : List Link) → IsForestOf links other → other ≡ forest)

@@ -81,7 +81,9 @@ pub record ShareNumber (a b last : ℕ) (numbers : List ℕ) (last' : ℕ) (numb
   pub free : (slice_index numbers a ≡ 0) ⊎ (slice_index numbers b ≡ 0)
   pub len : length numbers' ≡ length numbers
   pub number : ℕ
-  pub old : ((number ≡ slice_index numbers a) × (0 < number) × (last' ≡ last)) ⊎ ((number ≡ slice_index numbers b) × (0 < number) × (last' ≡ last)) ⊎ ((number ≡ last + 1) × (last' ≡ last + 1) × (slice_index numbers a ≡ 0) × (slice_index numbers b ≡ 0))
+  pub old : ((number ≡ slice_index numbers a) × (0 < number) × (last' ≡ last))
+      ⊎ ((number ≡ slice_index numbers b) × (0 < number) × (last' ≡ last))
+      ⊎ ((number ≡ last + 1) × (last' ≡ last + 1) × (slice_index numbers a ≡ 0) × (slice_index numbers b ≡ 0))
   pub first : slice_index numbers' a ≡ number
   pub second : slice_index numbers' b ≡ number
   pub others : (c : ℕ) → c ≢ a → c ≢ b → slice_index numbers' c ≡ slice_index numbers c
@@ -96,8 +98,10 @@ number_of labels numbers v = slice_index numbers (slice_index labels v)
 pub record AreTouched (labels : List ℕ) (rest seen : List Link) (numbers : List ℕ) (before after : List Link) : Type 0 where
   pub touched : (l : Link) → Contains seen l → (0 < number_of labels numbers l.low) × (0 < number_of labels numbers l.high)
   pub kept : (l : Link) → Contains before l → Contains after l
-  pub least : (l : Link) → Contains after l → Contains before l ⊎ (Contains rest l × (¬ (HasOneLabel labels l) → (c : ℕ) × IsLeastOut labels rest c l))
-  pub joined : AreJoinedWhereOne labels before → (u v : ℕ) → u < length labels → v < length labels → 0 < number_of labels numbers u → number_of labels numbers u ≡ number_of labels numbers v → Joins (Contains after) u v
+  pub least : (l : Link) → Contains after l
+      → Contains before l ⊎ (Contains rest l × (¬ (HasOneLabel labels l) → (c : ℕ) × IsLeastOut labels rest c l))
+  pub joined : AreJoinedWhereOne labels before → (u v : ℕ) → u < length labels → v < length labels
+      → 0 < number_of labels numbers u → number_of labels numbers u ≡ number_of labels numbers v → Joins (Contains after) u v
 
 -- the labels of the first link have numbers, which are one
 abbrev pub HaveFirst : List ℕ → List Open → Type 0
@@ -138,7 +142,8 @@ StayOpen candidates numbers kept =
 -- are the rest, between the components that the numbers give; what is marked is taken.
 abbrev pub LeadsOn : ℕ → List Open → List Bool → List ℕ → List Open → List Bool → Type 0
 LeadsOn count candidates marks numbers kept marks' =
-    (d : Link) (all links later before : List Link) (labels : List ℕ) → length links ≡ length marks → AreLabelsUpTo count labels → AreOpenOf labels d links candidates
+    (d : Link) (all links later before : List Link) (labels : List ℕ)
+    → length links ≡ length marks → AreLabelsUpTo count labels → AreOpenOf labels d links candidates
     → IsStage all (links_of d links candidates) later labels (before ++ marked links marks)
     → IsStage all (links_of d links kept) later (renamed numbers labels) (before ++ marked links marks')
 

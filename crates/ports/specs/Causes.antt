@@ -116,7 +116,8 @@ pub record SendsTo (version : ℕ) (frames : List FrameValue) (before after : Ta
 abbrev pub Sends : List FrameValue → Talk → Talk → Type 0
 Sends frames before after = (version : ℕ) × SendsTo version frames before after
 
--- where memory was wanting in an ask: for the hello that came, for the frame of a shard that wasn't sent before, for the frame of the ask, or for the reply that came. In each case nothing failed and no end was found
+-- where memory was wanting in an ask: for the hello that came, for the frame of a shard that wasn't sent before, for the
+-- frame of the ask, or for the reply that came. In each case nothing failed and no end was found
 pub data IsWanting {L : Type 0} (state : L → LineState) (round shard : ℕ) (labels : List ℕ) (before after : TalkState L) : Type 0 where
   InHello : MissesHello Memory (told_talk state before) (told_talk state after) → IsWanting state round shard labels before after
   InShard : has_shard before.sent shard ≡ false → Sends [] (told_talk state before) (told_talk state after)
@@ -132,7 +133,8 @@ pub record IsTooOld (shard : ℕ) (before after : Talk) : Type 0 where
   pub wide : are_narrow (links_at before.cut shard) ≡ false
   pub sends : SendsTo 1 [] before after
 
--- why an ask that was open got no answer: by the bytes that came in it, and by what the line counted. It is down where it failed, or ended in place of the hello, or of the reply once it was asked
+-- why an ask that was open got no answer: by the bytes that came in it, and by what the line counted. It is down where
+-- it failed, or ended in place of the hello, or of the reply once it was asked
 abbrev pub Cause : {L : Type 0} → (L → LineState) → PortFault → ℕ → ℕ → List ℕ → TalkState L → TalkState L → Type 0
 Cause state Down round shard labels before after =
     LineFailed (state before.line) (state after.line)
@@ -148,7 +150,8 @@ Cause state Memory round shard labels before after = IsWanting state round shard
 Cause state TooOld round shard labels before after = IsTooOld shard (told_talk state before) (told_talk state after)
 Cause state Closed round shard labels before after = ⊥
 
--- what a line counted in an ask that got no answer, whether or not it tells its bytes: it is down where one call failed, or one found the end; with any other fault neither
+-- what a line counted in an ask that got no answer, whether or not it tells its bytes: it is down where one call failed,
+-- or one found the end; with any other fault neither
 abbrev pub CountedFault : PortFault → LineState → LineState → Type 0
 CountedFault Down before after = Counted 1 0 before after ⊎ Counted 0 1 before after
 CountedFault Closed before after = ⊥

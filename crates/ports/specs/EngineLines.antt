@@ -30,7 +30,8 @@ GoesOn before after = (worker : ℕ) → IsSessionOf worker before → IsSession
 abbrev pub IsOver : Bool → SessionState → Type 0
 IsOver over s = over ≡ true → IsBad (rest_of s)
 
--- the shards that the engine keeps, the bytes that were put and how many of them were heard, the bytes that the session wrote and how many of them were got, whether the session is over, and the counts
+-- the shards that the engine keeps, the bytes that were put and how many of them were heard, the bytes that the session
+-- wrote and how many of them were got, whether the session is over, and the counts
 pub record EngineLineState : Type 0 where
   pub kept : Kept
   pub input : List ℕ

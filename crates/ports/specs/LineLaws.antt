@@ -1,4 +1,5 @@
--- Why the lines of this crate keep the law of lines: what a faithful one got begins what its worker's session may write. These are proofs, which each `impl` of `Line` gives for its law; no contract cites them.
+-- Why the lines of this crate keep the law of lines: what a faithful one got begins what its worker's session may write.
+-- These are proofs, which each `impl` of `Line` gives for its law; no contract cites them.
 use Rattle.std.proofs.Common.{◌≡◌, ℕ, List, ◌++◌, take, drop, sym, ap, subst, ◌∙◌, take-append-drop, arith}
 use Rattle.frames.specs.declared.frame.TheConstants.{VERSION}
 use Rattle.worker_engine.specs.Serving.{shelf_of, Serves}

@@ -8,7 +8,8 @@ use Rattle.ports.specs.Lines.{LineState}
 abbrev pub source_of : LineState → SourceState
 source_of line = record { left = None; given = line.got; failures = Some line.failures; ends = Some line.ends }
 
--- what stays true of a line while frames are read of it: that just these bytes were sent, unless a call failed since the failures were counted to this number; that it is faithful for this worker
+-- what stays true of a line while frames are read of it: that just these bytes were sent, unless a call failed since the
+-- failures were counted to this number; that it is faithful for this worker
 pub data LineFact : Type 0 where
   WasSent : (failures : ℕ) (bytes : Option (List ℕ)) → LineFact
   ServesFor : (worker : ℕ) → LineFact

@@ -27,7 +27,8 @@ pub record IsFresh (line : LineState) : Type 0 where
   pub got : IfSome line.got (λ bytes. bytes ≡ [])
   pub failures : line.failures ≡ 0
 
--- from `before` to `after` these bytes were sent and those got; so many calls failed, and so many found the end. Where one failed nothing is said of the bytes
+-- from `before` to `after` these bytes were sent and those got; so many calls failed, and so many found the end. Where
+-- one failed nothing is said of the bytes
 pub record Transfers (failed ended : ℕ) (said came : List ℕ) (before after : LineState) : Type 0 where
   pub sent : failed ≡ 0 → Appends before.sent after.sent said
   pub got : failed ≡ 0 → Appends before.got after.got came

@@ -7,7 +7,9 @@ use Rattle.round_theory.specs.Offers.{AreLightOffers}
 use Rattle.ports.specs.declared.fault.PortFault.{PortFault}
 use Rattle.ports.specs.declared.fault.PortFault.TheVariants.{Memory, Closed}
 
--- what a port tells: its cut, the number of the worker that it asks (a port that asks none by a number may tell any), whether it is open, how often it was asked while it was, how many of these asks failed, and found no memory, and the round and the shard of the last of these asks (0 and 0 before the first)
+-- what a port tells: its cut, the number of the worker that it asks (a port that asks none by a number may tell any),
+-- whether it is open, how often it was asked while it was, how many of these asks failed, and found no memory, and the
+-- round and the shard of the last of these asks (0 and 0 before the first)
 pub record PortState : Type 0 where
   pub cut : List (List Link)
   pub worker : ℕ
@@ -17,7 +19,8 @@ pub record PortState : Type 0 where
   pub wants : ℕ
   pub last : ℕ × ℕ
 
--- from `before` to `after` the port was asked so often, and so many asks failed, or found no memory: any of these closes it, and once closed it is asked no more. Where it wasn't asked, its last ask is the same
+-- from `before` to `after` the port was asked so often, and so many asks failed, or found no memory: any of these closes
+-- it, and once closed it is asked no more. Where it wasn't asked, its last ask is the same
 pub record CountsAsks (asked failed wanted : ℕ) (before after : PortState) : Type 0 where
   pub cut : after.cut ≡ before.cut
   pub worker : after.worker ≡ before.worker

@@ -13,7 +13,8 @@ use Rattle.shard_set.specs.Shards.{has_shard}
 use Rattle.ports.specs.Lines.{LineState, Transfers}
 use Rattle.ports.specs.Exchanges.{Exchange, IsAskedIn, answers_of, ask_frames}
 
--- a talk: the line, the cut whose shards are asked, the number of the worker, the version that its hello told, once it came, and the shards that were sent
+-- a talk: the line, the cut whose shards are asked, the number of the worker, the version that its hello told, once it
+-- came, and the shards that were sent
 pub record TalkState (L : Type 0) : Type 0 where
   pub line : L
   pub cut : List (List Link)
@@ -58,7 +59,8 @@ frames_put talk round shard labels = shard_put talk.sent shard (links_at talk.cu
 abbrev pub HasFrames : ℕ → List FrameValue → Type 0
 HasFrames version frames = All (λ v. version_of v ≤ version) frames
 
--- up to this state of the line a first hello of this version came and the frames of an ask were put, all of which the version has, and no end was found
+-- up to this state of the line a first hello of this version came and the frames of an ask were put, all of which the
+-- version has, and no end was found
 pub record SendsAsk {L : Type 0} (state : L → LineState) (round shard : ℕ) (labels : List ℕ) (version : ℕ)
     (before : TalkState L) (asked : L) : Type 0 where
   pub went : Transfers 0 0 (texts_of (frames_put (told_talk state before) round shard labels))
@@ -82,7 +84,8 @@ Brings = BringsUpTo 0
 abbrev pub EndsAfterAsk : {L : Type 0} → (L → LineState) → ℕ → ℕ → List ℕ → List ℕ → TalkState L → TalkState L → Type 0
 EndsAfterAsk = BringsUpTo 1
 
--- an ask that was answered: its frames went out and no others, and then the answer came; the hello came by now, the shard was sent by now, and the rest of the talk stands
+-- an ask that was answered: its frames went out and no others, and then the answer came; the hello came by now, the
+-- shard was sent by now, and the rest of the talk stands
 pub record AnswersOverLine {L : Type 0} (state : L → LineState) (round shard : ℕ) (labels : List ℕ) (answer : AnswerValue)
     (before after : TalkState L) : Type 0 where
   pub brought : Brings state round shard labels (text_of (AnswerFrame answer)) before after
@@ -129,7 +132,10 @@ FollowTheirShards shelf [] = ⊤
 FollowTheirShards shelf (AskFrame round shard labels ∷ frames) = IsSome (shelf shard) × FollowTheirShards shelf frames
 FollowTheirShards shelf (v ∷ frames) = FollowTheirShards (shelf_with shelf v) frames
 
--- nothing failed; just these frames were sent: shards of the cut, those of the set once each and no others, each of which was asked for, and, behind their shards, asks for such shards, just those of the exchanges, in their order; all of which the version of the worker has, and none before its hello came; and the hello and just the answers of the exchanges were got
+-- nothing failed; just these frames were sent: shards of the cut, those of the set once each and no others, each of
+-- which was asked for, and, behind their shards, asks for such shards, just those of the exchanges, in their order; all
+-- of which the version of the worker has, and none before its hello came; and the hello and just the answers of the
+-- exchanges were got
 pub record MatchesLine (talk : Talk) (said : List FrameValue) (exchanges : List Exchange) : Type 0 where
   pub calm : talk.line.failures ≡ 0
   pub sent : talk.line.sent ≡ Some (texts_of said)

@@ -90,7 +90,9 @@ last_ask last [] = last
 last_ask last (AskFrame round shard labels ∷ frames) = last_ask (round, shard) frames
 last_ask last (v ∷ frames) = last_ask last frames
 
--- over a line that was fresh and had found so many ends: nothing failed, and no more ends were found; just these frames were sent, shards of its cut, none twice, and the asks of the exchanges; and the hello and just the answers of the exchanges were got, one for each ask that it counts
+-- over a line that was fresh and had found so many ends: nothing failed, and no more ends were found; just these frames
+-- were sent, shards of its cut, none twice, and the asks of the exchanges; and the hello and just the answers of the
+-- exchanges were got, one for each ask that it counts
 pub record IsFaultless {L : Type 0} (state : L → LineState) (ends : ℕ) (wire : WireState L)
     (said : List FrameValue) (exchanges : List Exchange) : Type 0 where
   pub in_step : MatchesLine (told_talk state wire.talk) said exchanges
@@ -100,7 +102,8 @@ pub record IsFaultless {L : Type 0} (state : L → LineState) (ends : ℕ) (wire
   pub wants : wire.wants ≡ 0
   pub last : wire.last ≡ last_ask (0, 0) said
 
--- its last ask, the first that got no answer and behind these exchanges, ended with a fault of this kind: why, by the wire before that ask, faultless and open, and the wire behind it
+-- its last ask, the first that got no answer and behind these exchanges, ended with a fault of this kind: why, by the
+-- wire before that ask, faultless and open, and the wire behind it
 pub record HasFailed {L : Type 0} (state : L → LineState) (ends : ℕ) (exchanges : List Exchange)
     (kind : PortFault → Type 0) (wire : WireState L) : Type 0 where
   pub before : WireState L
@@ -124,7 +127,8 @@ IsTrueSoFar state kind wire ends exchanges =
     ((said : List FrameValue) × IsFaultless state ends wire said exchanges)
     ⊎ ((wire.is_open ≡ false) × HasFailed state ends exchanges kind wire)
 
--- what it told is true, over a line that had found so many ends when the wire was new: it answered just these exchanges, and is faultless, or a fault closed it that has its cause
+-- what it told is true, over a line that had found so many ends when the wire was new: it answered just these exchanges,
+-- and is faultless, or a fault closed it that has its cause
 abbrev pub IsSoundWire : {L : Type 0} → (L → LineState) → WireState L → ℕ → List Exchange → Type 0
 IsSoundWire state wire ends exchanges = IsTrueSoFar state (λ fault. fault ≢ Closed) wire ends exchanges
 
@@ -134,7 +138,8 @@ ServesWire state before after =
     ((ends : ℕ) × (exchanges : List Exchange) × IsSoundWire state before ends exchanges)
     × ServesSoFar before.talk.worker (state after.talk.line)
 
--- it is faultless, or a fault closed it that is nobody's blame. How many ends the line had found, and what was exchanged, isn't told here: who asks that has the sound wire beside it
+-- it is faultless, or a fault closed it that is nobody's blame. How many ends the line had found, and what was exchanged,
+-- isn't told here: who asks that has the sound wire beside it
 abbrev pub IsBlamelessWire : {L : Type 0} → (L → LineState) → WireState L → Type 0
 IsBlamelessWire state wire = (ends : ℕ) × (exchanges : List Exchange) × IsTrueSoFar state IsBlameless wire ends exchanges
 

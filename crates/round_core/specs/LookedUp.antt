@@ -32,10 +32,13 @@ pub record IsCountable (n : ℕ) (found : LookedUp) : Type 0 where
 
 -- the link of which this was looked up, under whatever labels, was counted into the picks
 abbrev pub CountsFound : LookedUp → List (Option Link) → List (Option Link) → Type 0
-CountsFound found old new = (labels : List ℕ) (l : Link) → AreLabels labels → length old ≡ length labels → IsLookedUp labels l found → Counts labels (l ∷ []) old new
+CountsFound found old new =
+    (labels : List ℕ) (l : Link) → AreLabels labels → length old ≡ length labels → IsLookedUp labels l found
+    → Counts labels (l ∷ []) old new
 
 -- so was each link of which something was looked up
 abbrev pub CountsEach : List LookedUp → List (Option Link) → List (Option Link) → Type 0
 CountsEach found old new =
-    (links : List Link) (labels : List ℕ) (offers : List Offer) → AreLabels labels → length old ≡ length labels → AreLookedUp links labels offers found
+    (links : List Link) (labels : List ℕ) (offers : List Offer)
+    → AreLabels labels → length old ≡ length labels → AreLookedUp links labels offers found
     → Counts labels (named_links links offers) old new

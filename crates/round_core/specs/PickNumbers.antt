@@ -1,4 +1,5 @@
--- Picks as numbers that compare as the keys of the picked links do: the weight, counted from the least one on, the lower end and the higher end, one behind the other.
+-- Picks as numbers that compare as the keys of the picked links do: the weight, counted from the least one on, the lower
+-- end and the higher end, one behind the other.
 use Rattle.std.specs.Prelude.{◌≡◌, ℕ, ◌-◌, ◌/◌, ◌%◌, ◌^◌, ◌<◌, ◌≤◌, ◌⊎◌, pos, ◌+ℤ◌, ◌-ℤ◌, min, List, length, slice_index, Option, Some, None, FitsSigned}
 use Rattle.std.specs.Int.{w64}
 use Rattle.std.proofs.Common.{inl, inr}
@@ -30,7 +31,8 @@ pub weight_fits : (above : ℕ) → above < 2 ^ 64 → FitsSigned w64 (pos above
 weight_fits above few = omega (arith, ints)
 
 -- the link of a weight, counted from the least one on, and of two ends, where they are a link's
-abbrev pub link_of : (above low high : ℕ) → (above < 2 ^ 64) ⊎ (2 ^ 64 ≤ above) → (0 < low) ⊎ (low ≤ 0) → (low < high) ⊎ (high ≤ low) → (MAX_VERTICES < high) ⊎ (high ≤ MAX_VERTICES) → Option Link
+abbrev pub link_of : (above low high : ℕ) → (above < 2 ^ 64) ⊎ (2 ^ 64 ≤ above) → (0 < low) ⊎ (low ≤ 0)
+    → (low < high) ⊎ (high ≤ low) → (MAX_VERTICES < high) ⊎ (high ≤ MAX_VERTICES) → Option Link
 link_of above low high (inl few) (inl from_one) (inl ascending) (inr in_limit) =
     Some (record { weight = pos above -ℤ pos (2 ^ 63); low = low; high = high; from_one = from_one; ascending = ascending; in_limit = in_limit; weight_fits = weight_fits above few })
 link_of above low high _ _ _ _ = None

@@ -24,7 +24,8 @@ pub record Progress : Type 0 where
 abbrev pub vertices : Progress → ℕ
 vertices p = length p.labels
 
--- what holds of each solver: the links taken are between its vertices, each once, and close no cycle, the labels are the labelling by them, and no round came past the bound
+-- what holds of each solver: the links taken are between its vertices, each once, and close no cycle, the labels are the
+-- labelling by them, and no round came past the bound
 pub record IsProgress (p : Progress) : Type 0 where
   pub few_vertices : vertices p ≤ MAX_VERTICES
   pub ends : EndsUpTo (vertices p) p.taken

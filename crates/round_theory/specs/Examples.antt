@@ -50,7 +50,9 @@ TwoSidesWeighLeast = IsSpanningForestOf triangle two_sides × IsTotalOf two_side
 
 -- and close no cycle, so their own forest is both
 abbrev pub TwoSidesAreTheirForest : Type 0
-TwoSidesAreTheirForest = HasNoCycle (Contains two_sides) × ((forest : List Link) → IsForestOf two_sides forest → SameLinks (Contains forest) (Contains two_sides))
+TwoSidesAreTheirForest =
+    HasNoCycle (Contains two_sides)
+    × ((forest : List Link) → IsForestOf two_sides forest → SameLinks (Contains forest) (Contains two_sides))
 
 -- vertex 3 has two links of weight 5, and the one with the lesser ends is in the forest
 abbrev pub LesserEndsAreInForest : Type 0

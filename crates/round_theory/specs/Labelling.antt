@@ -37,7 +37,8 @@ pub record IsLeastJoinedOver (n : ℕ) (labels : List ℕ) (S : LinkSet) (v u : 
   pub joined : JoinsOver labels S v u
   pub least : (w : ℕ) → IsVertex n w → JoinsOver labels S v w → u ≤ w
 
--- the new labels join the components that the old ones tell by the links of a set: each vertex gets the least vertex that the old components and the set join it to
+-- the new labels join the components that the old ones tell by the links of a set: each vertex gets the least vertex
+-- that the old components and the set join it to
 pub record IsRelabelling (n : ℕ) (old : List ℕ) (S : LinkSet) (new : List ℕ) : Type 0 where
   pub each_vertex : length new ≡ n
   pub least : (v : ℕ) → IsVertex n v → IsLeastJoinedOver n old S v (label_of new v)

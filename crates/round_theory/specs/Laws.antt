@@ -1,4 +1,5 @@
--- The laws of the rounds, each a statement about the definitions alone. A set of links is finite, so the laws tell it by a list: of its members, or of the hearings that name them.
+-- The laws of the rounds, each a statement about the definitions alone. A set of links is finite, so the laws tell it by
+-- a list: of its members, or of the hearings that name them.
 use Rattle.std.specs.Prelude.{◌≡◌, ◌≢◌, ℕ, suc, ◌≤◌, max, ◌^◌, ◌⊎◌, ◌↔◌, List, [], ◌++◌, All, Contains, flat_map, IsPermutation}
 use Rattle.limits.specs.declared.TheConstants.{MAX_VERTICES}
 use Rattle.link_key.specs.declared.links.Link.{Link}
@@ -126,7 +127,8 @@ MergingRoundIsInTime =
 
 -- ---- however the list is cut, and in whatever order the shards are heard
 
--- where the shards have the links of a list and all their offers are light, the least named link that leaves a label is the least of the list that does
+-- where the shards have the links of a list and all their offers are light, the least named link that leaves a label is
+-- the least of the list that does
 abbrev pub LightOffersSuffice : Type 0
 LightOffersSuffice =
     (links : List Link) (labels : List ℕ) (heard : List Hearing) → HaveLinksOf heard links → AreAllLight labels heard

@@ -4,7 +4,8 @@ use Rattle.test_memory.specs.declared.in_turn.Found.{Found}
 use Rattle.test_memory.specs.declared.in_turn.Found.TheVariants.{Each, Passes, Fails, Leaks, More}
 use Rattle.test_memory.specs.declared.in_turn.Ran.{Ran}
 
--- a run with all allocations from this number on refused ends the search with this: it left a block, it ended well though one was refused, it failed though none was, or it ended well and none was
+-- a run with all allocations from this number on refused ends the search with this: it left a block, it ended well
+-- though one was refused, it failed though none was, or it ended well and none was
 abbrev pub IsFoundOf : ℕ → Ran → Found → Type 0
 IsFoundOf number ran (Leaks k) = (k ≡ number) × (0 < ran.live)
 IsFoundOf number ran (Passes k) = (k ≡ number) × (ran.live ≡ 0) × (number ≤ ran.asked) × (ran.well ≡ true)

@@ -37,7 +37,8 @@ no_best = record { weight = NO_WEIGHT; place = NO_PLACE }
 -- the place in the list, and the weight of the link there
 abbrev pub Says : List Link → Best → Option ℕ → Type 0
 Says links kept None = kept ≡ no_best
-Says links kept (Some place) = (kept.place ≡ place) × (place < length links) × ((l : Link) → l ≡ slice_index_or links place l → kept.weight ≡ l.weight)
+Says links kept (Some place) =
+    (kept.place ≡ place) × (place < length links) × ((l : Link) → l ≡ slice_index_or links place l → kept.weight ≡ l.weight)
 
 -- what is kept for a label says its best place
 pub record Keeps (links : List Link) (labels : List ℕ) (from to c : ℕ) (kept : Best) : Type 0 where
