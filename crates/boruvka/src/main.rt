@@ -10,11 +10,9 @@
 //! What it promises:
 //! - The output gets a prefix of the forest's text, the whole where the status is 0, or the help; the status is one of
 //!   six, and tells what failed ([`command::obey`]).
-//! - By one thread, or without workers, it is the minimum spanning forest; over workers a spanning forest whatever they
-//!   answer, and the minimum one where each answers as the worker's engine does ([`command::run_over`]; that sockets
-//!   carry such answers no contract can see).
-//! - Standard error gets the line of the report, if that is asked for, or the line that says what went wrong; that it
-//!   gets the usage for wrong words is only tested.
+//! - Standard error gets the report that was asked for, or the line that says why; the usage there is only tested.
+//! - The forest is the minimum one by one thread, without workers, and where workers answer as the engine does, which no
+//!   contract sees of sockets; whatever they answer it spans ([`command::run_over`]).
 //!
 //! Where to start a change: a new option, `arguments` and `chosen`, with the table in `specs/Arguments`; a new fault,
 //! `statuses` and `messages`, with `specs/Status` and `specs/Messages`; what the program does, in order, `command`; how

@@ -10,10 +10,8 @@
 //! ```
 //!
 //! What it promises:
-//! - What a call does is one relation from the state before to the state after (`Gave`, `Took`), and two calls one
-//!   after the other are one such step again.
-//! - [`fill`] fills a buffer with the next bytes, or says whether a read failed or the stream ended, and after how
-//!   many.
+//! - What a call does is one relation from the state before to the state after (`Gave`, `Took`), which composes.
+//! - [`fill`] fills a buffer with the next bytes, or says whether a read failed or the stream ended, and after how many.
 //! - [`put`] writes a text, or says how many of its bytes went out; it stops only where a write failed or took nothing.
 //! - [`FusedSource`] and [`FusedSink`], which fail at a chosen byte, tell everything; a device tells nothing.
 //!

@@ -11,11 +11,9 @@
 //! ```
 //!
 //! What it promises:
-//! - However the steps of all seats fall, there is one run of events that one thread could have made, with the events
-//!   of each seat in its order and no others, and the words are what it leaves. So no shard is ever in the lists of two
-//!   seats.
-//! - `claim` and `give_back` say which event their seat gained, `close` which owners that run leaves; `laws` has the
-//!   rest.
+//! - However the steps of all seats fall, the words are what one run of events leaves, with those of each seat in its
+//!   order and no others; so no shard is ever in the lists of two seats. `claim` and `give_back` say which event their
+//!   seat gained, `close` which owners that run leaves; `laws` has the rest.
 //! - Not that a claim is ever won, which of two seats wins, or whose step came first. Shards of a dropped seat stay
 //!   taken.
 //!

@@ -1,5 +1,5 @@
 //! Whole runs, from the bytes of a `.gr` file to the text of its minimum spanning forest: by one thread, or over lines
-//! to workers. Over workers they go in rounds, in which ferries, a thread for each port, ask for light offers.
+//! to workers. Over workers they go in rounds; ferries, a thread for each port, ask for light offers.
 //!
 //! ```text
 //!     run_lines            read, cut, a wire and a lane a line, solve, write
@@ -14,14 +14,13 @@
 //! ```
 //!
 //! What it promises:
-//! - A run that ends well has read a whole file that means a graph, and written just the text of a forest of its links;
-//!   a malformed file is refused by its first fault. At any other fault a prefix of such a text went out.
-//! - By one thread, and over lines that carry their workers' sessions, it is the minimum one, and weighs least; over any
-//!   lines it closes no cycle and spans the links.
-//! - A new line that tells its bytes is given up only for a fault that fits these and its counts, or for an answer that
-//!   the round's book refuses. That is never the run's fault.
+//! - A run that ends well has read a whole file that means a graph, and written just the text of a forest of its links.
+//!   A malformed file is refused by its first fault; at any other fault a prefix of such a text went out.
+//! - By one thread, and over lines that carry their workers' sessions, it is the minimum one; over any lines it spans.
+//! - A new line that tells its bytes is given up only for a fault that fits these and its counts, or an answer that the
+//!   round's book refuses: never by the run's fault.
 //!
-//! Where to start a change: `specs/Outcomes` says what any run does to its streams, `PlainRun` and `LinesRun` what each
+//! Where to start a change: `specs/Outcomes` says what a run does to its streams, `PlainRun` and `LinesRun` what each
 //! finds and reports; `Asks`, `Ferries`, `Passes`, `Rounds`, `Chains`, `Solved` and `WiredLines` go from an ask up to a
 //! run over lines.
 #![tactic(auto)]

@@ -1,10 +1,6 @@
-//! The frames that a coordinator and its workers exchange, as bytes and back. A frame is a kind byte, the length of its
-//! body, and the body; whole numbers are big-endian, weights are signed in two's complement, and nothing stands between
-//! frames. The kinds are 1 to 6: a hello, a shard, an ask, an answer, a fault, and a shard of which some weight doesn't
-//! fit 32 bits. Its weights have 64 bits, and those of kind 2 have 32.
-//!
-//! There are two versions, and a hello tells one of them: version 1 has the kinds 1 to 5, and version 2 has all. A frame
-//! has the same text under both. Nothing here knows which version a peer told: who sends has to keep kind 6 from a worker
+//! The frames that a coordinator and its workers exchange, as bytes and back: a kind, the length of the body, and the
+//! body (`docs/PROTOCOL.md` has them whole). Version 1 has the kinds 1 to 5, version 2 also 6, a shard of which some
+//! weight doesn't fit 32 bits; nothing here knows the version that a peer told, so who sends keeps kind 6 from a worker
 //! of version 1.
 //!
 //! ```text
@@ -16,16 +12,16 @@
 //! ```
 //!
 //! What it promises:
-//! - The encoders give exactly the text of a lawful frame, and a lawful frame has one text.
+//! - The encoders give exactly the text of a lawful frame, which has one, the same in both versions; no frame's text
+//!   begins another's, so a stream of frames reads in one way (`laws`).
 //! - [`read_frame`] that answers a frame took exactly its text, and answers else the first refusal that fits; so do
-//!   [`decode_head`] and [`decode_body`] for the two parts of a frame, and [`read_next`] behind an ask. (That it tells
-//!   another ask under the same labels as that alone, and stores none, is only tested.)
-//! - No frame's text begins another's, so a stream of frames reads in one way (`laws`).
+//!   [`decode_head`] and [`decode_body`] for its two parts, and [`read_next`] behind an ask. (That it tells another ask
+//!   under the same labels as that alone, and stores none, is only tested.)
 //!
 //! Where to start a change: the grammar stands in `specs/FrameText`, what a lawful frame says in `specs/Lawful`, and
-//! the refusals with their order in `specs/Refusals`. `fields` and `items` have one function for each field and list,
-//! `encoding` and `decoding` one for each kind, built of them. `frame_reader` takes a frame from a stream, and
-//! `next_frame` an ask by pieces (`specs/NextFrame`).
+//! the refusals with their order in `specs/Refusals`. `fields` and `items` have a function for each field and list,
+//! `encoding` and `decoding` one for each kind; `frame_reader` takes a frame from a stream, and `next_frame` an ask by
+//! pieces (`specs/NextFrame`).
 #![tactic(auto)]
 
 mod decoding;

@@ -16,8 +16,7 @@
 //!
 //! What it promises:
 //! - Over a fresh line that tells its bytes and is faithful for its worker a wire is honest: each answer is light for
-//!   the round, the shard and the labels that were asked, and the only faults are the line's own, want of memory, and a
-//!   worker too old for a shard with a weight past 32 bits.
+//!   what was asked, and the only faults are the line's own, want of memory, and a worker too old for wide weights.
 //! - Over any line a fault has its cause: the bytes that came, what the line counted, or want of memory.
 //! - An open wire over a line that was fresh and tells its bytes sent each shard once, before its first ask, and the
 //!   asks, and got the hello and the answers, and nothing else.

@@ -7,17 +7,16 @@
 //! ```
 //!
 //! What it promises:
-//! - A book takes one answer for each shard, and refuses one of another round, for another shard, for a shard that was
-//!   answered, or that offers what is no outgoing link, in this order; light offers are never refused.
-//! - Picks are the least links that leave each component among all that were offered, in whatever order, and by however
-//!   many threads they are counted; where all offers are light, among all links, however they are cut.
+//! - A book takes one answer for each shard, and refuses one of another round, for another shard, for an answered
+//!   shard, or that offers what is no outgoing link, in this order; light offers are never refused.
+//! - Picks are each component's least link offered, in any order, by any threads; where all are light, its least link.
 //! - Whatever was offered, a solver's links close no cycle, its labels are the labelling by them, and it finishes only
-//!   where they span; by the least links it makes just the merging rounds, and ends with the forest.
+//!   where they span; by the least links it makes just the merging rounds, and the forest.
 //!
 //! Where to start a change: `specs/Page` says what a book is and when it refuses, `specs/Picks` what picks are,
 //! `specs/LookedUp` what is read of a batch of offers before it is counted, `specs/Hooks` how components are joined,
-//! `specs/Roots` how a solver joins those that are left, and `specs/Solver` what a round and the end are; `laws` ties them
-//! to the theory. `book`, `tally`, `picks`, `hooks`, `roots`, `solver` and `alone` do it.
+//! `specs/Roots` how a solver joins those that are left, and `specs/Solver` what a round and the end are; `laws` ties
+//! them to the theory. `book`, `tally`, `picks`, `hooks`, `roots`, `solver` and `alone` do it.
 #![tactic(auto)]
 
 pub mod alone;

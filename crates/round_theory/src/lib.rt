@@ -11,8 +11,7 @@
 //! - A set of links has one labelling; the forest has no cycle, spans the list, and is the only part of it that spans.
 //! - The least link that leaves a component is in the forest, so rounds take the forest's links alone, and end with all
 //!   of them after at most the logarithm of n merging rounds.
-//! - A list has one list of light offers; those of shards name what a round picks, however the list is cut and in
-//!   whatever order they are heard.
+//! - A list has one list of light offers; those of shards name what a round picks, whatever the cut and their order.
 //! - Whatever is offered, light or not, picks are new links and close no cycle.
 //!
 //! Where to start a change: the definitions stand in `specs/` (`Labelling`, `Offers`, `Rounds`) and the laws in

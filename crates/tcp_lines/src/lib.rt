@@ -10,12 +10,11 @@
 //! ```
 //!
 //! What it promises:
-//! - A [`TcpLine`] counts each failure that it answers and each end, 0 at first. What a socket took and gave is for the
-//!   system to say, so it tells nothing of its bytes, and it is never known to be faithful.
+//! - A [`TcpLine`] counts each failure that it answers and each end, 0 at first. It tells nothing of the bytes of its
+//!   socket, which are for the system to say, and is never known to be faithful.
 //! - [`Workers::start`] gives at most as many lines as were asked for, unused ones, and there are just as many threads.
-//! - Tests alone show that a call fails only where its stream did, that what one end writes the other reads, that
-//!   [`pair`] tells a stranger, and that the worker of the line at a place has that place for its number; clauses say
-//!   of it only that it is below [`limits::MAX_WORKERS`].
+//! - Only tested: a call fails only where its stream did, what one end writes the other reads, [`pair`] tells a
+//!   stranger, and a worker's number, by clauses below [`limits::MAX_WORKERS`], is the place of its line.
 //!
 //! Where to start a change: `line` for what a line does, `pairs` for how a connection is made, `workers` for the
 //! threads and the numbers of workers.

@@ -8,11 +8,9 @@
 //!
 //! What it promises:
 //! - The blocks of [`Refusing`] are those of the allocator behind it, whole and no one else's.
-//! - Which allocations it refuses is said by [`Refusals`], a range of their numbers, counted from 1 as they are asked
-//!   for; a `Vec` that grows asks for a new block each time. Where all from 1 on are refused, none passes.
-//! - What [`refuse_each`] concludes from one run: that it failed where an allocation was refused, and left no block
-//!   behind.
-//! - No contract sees an atomic count, so that each allocation has the next number, that blocks are counted, and what
+//! - It refuses those whose numbers [`Refusals`] has, from 1 on as they are asked for; a `Vec` asks for each growth.
+//! - What [`refuse_each`] concludes from one run: it failed where an allocation was refused, and left no block behind.
+//! - No contract sees an atomic count: that each allocation has the next number, that blocks are counted, and what
 //!   `refuse_each` finds of all its runs, is tested and not proved.
 //!
 //! Where to start a change: `refusals` says which numbers are refused, `counter` and `gate` hold the counts, `in_turn`

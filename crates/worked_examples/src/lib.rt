@@ -1,7 +1,6 @@
-//! Worked examples of files and forests, each a test that needs public calls alone. `worked_streams` has those of
-//! streams and frames, `worked_rounds` of shards and their workers, `worked_runs` of wires, rounds and solvers,
-//! `worked_lines` of whole runs over lines, `worked_sockets` of workers over sockets, and `worked_failures` of each
-//! allocation refused in turn and of streams that fail at each byte.
+//! Worked examples of files and forests, each a test that needs public calls alone. `worked_streams`, `worked_rounds`,
+//! `worked_runs`, `worked_lines`, `worked_sockets` and `worked_failures` have those of the other subjects
+//! (CONTRIBUTING.md says of which).
 //!
 //! ```text
 //!   lists           links of arcs, labels, offers, forests; the forests of the worked graphs

@@ -11,9 +11,8 @@
 //! - [`scan`], [`scan_par`] by threads and [`Scanner`] in the room of the scan before give exactly the light offers.
 //! - [`Engine::hear`], and [`Engine::hear_par`] by threads, keeps a shard in place of an earlier one of its number,
 //!   replies to an ask by what it keeps, and changes nothing at any other frame, nor where it finds no memory.
-//! - [`serve`] writes what a session of version [`frames::VERSION`] owes for the frames of a stream, or, where it ends
-//!   early, what it owes for those that it heard or a prefix of that; a longer stream owes no other beginning, in
-//!   whichever version (`laws`).
+//! - [`serve`] writes what a session of [`frames::VERSION`] owes for the frames of a stream, or a prefix of that where
+//!   it ends early; a longer stream owes no other beginning, in whichever version (`laws`).
 //!
 //! Where to start a change: what may be written for a stream stands in `specs/Serving`, over whole streams, and how a
 //! session ends in `specs/Served`. `scanning` has the pass over the links (`specs/Scanning`), `table` what is kept for
