@@ -20,6 +20,14 @@ abbrev pub standard : {I O E : Type 0} → (I → SourceState) → (O → SinkSt
 standard source_of sink_of errors_of input output errors =
     record { source = source_of input; sink = sink_of output; errors = errors_of errors }
 
+-- R of what an input, an output and errors tell before and after
+abbrev pub OnThree : {I O E : Type 0} → (I → SourceState) → (O → SinkState) → (E → SinkState) → (Standard → Standard → Type 0)
+    → I → O → E → I → O → E → Type 0
+OnThree source_of sink_of errors_of R input output errors input' output' errors' =
+    R
+    (standard source_of sink_of errors_of input output errors)
+    (standard source_of sink_of errors_of input' output' errors')
+
 -- an input, an output and errors, as a call left them
 abbrev pub Left : Type 0 → Type 0 → Type 0 → Type 0
 Left I O E = MutBor I × (MutBor O × (MutBor E × ⊤))

@@ -10,7 +10,7 @@ ghost use Rattle.forest_run.specs.declared.cutting.Cutting.TheVariants.{Even};
 ghost use Rattle.tcp_lines.specs.Lines.{tcp_line, unused};
 ghost use Rattle.boruvka.specs.Arguments.{IsMistake, file_named, is_set, refusals};
 ghost use Rattle.boruvka.specs.Messages.{message_line, no_text_line};
-ghost use Rattle.boruvka.specs.Streams.{standard, OnStreams, OnInput, OnOutput, SameInput, SameErrors};
+ghost use Rattle.boruvka.specs.Streams.{OnThree, OnStreams, OnInput, OnOutput, SameInput, SameErrors};
 ghost use Rattle.boruvka.specs.Status.{asked_of, status_of_run, report_of, IsReported, EndsOver, EndsAs, Obeys, ObeysWords};
 ghost use Rattle.boruvka.specs.Status.{HasNoGraph, IsDone, LeavesOutput, IsUntouched, IsWritten, AskForHelp, AreWrong, HelpEnds, RefusesWords, EndsRefused};
 
@@ -319,9 +319,8 @@ where
     requires errors { E.can_write errors.old }
 
     // What lawful words ask for is done: the input is run on, or FILE is, and then the input isn't touched.
-    ensures obeys { ObeysWords (map S.text words.now) result
-        (standard I.state O.state E.state input.old output.old errors.old)
-        (standard I.state O.state E.state input.new output.new errors.new) }
+    ensures obeys { OnThree I.state O.state E.state (ObeysWords (map S.text words.now) result)
+        input.old output.old errors.old input.new output.new errors.new }
     ensures leaves_input { IsSome (file_named (map S.text words.now)) → input.new ≡ input.old }
 
     // A file that is refused or can't be cut, wrong words, want of memory and answers that make no forest write

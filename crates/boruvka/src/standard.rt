@@ -17,12 +17,12 @@ pub struct StandardStreams<'i, 'o, 'e, I, O, E> {
 
 /// What holds the standard descriptors that weren't open.
 #[derive(Drop)]
-pub struct Held {
+pub struct HeldDescriptors {
     _files: [Option<File>; 3],
 }
 
 // Holds each of the three standard descriptors that isn't open. `None` where one may still be free.
-fn hold_closed<R: Files<File = File>>(rt: &R) -> Option<Held> {
+fn hold_closed<R: Files<File = File>>(rt: &R) -> Option<HeldDescriptors> {
     let mut files = [None, None, None];
     for place in &mut files {
         let folder = File::open(rt, "/").ok()?;
@@ -31,7 +31,7 @@ fn hold_closed<R: Files<File = File>>(rt: &R) -> Option<Held> {
         }
         *place = Some(folder);
     }
-    Some(Held { _files: files })
+    Some(HeldDescriptors { _files: files })
 }
 
 /// How many of so many workers may be started, while what comes with the number is kept.
@@ -39,7 +39,7 @@ fn hold_closed<R: Files<File = File>>(rt: &R) -> Option<Held> {
 /// Each of the three standard descriptors that isn't open is held, so that no file or socket opened later gets its
 /// number. A folder holds it, which can neither be read nor written: the stream fails as a closed one does. Where one
 /// of them may still be free no worker may be started, and else all.
-pub fn workers_beside<R: Files<File = File>>(rt: &R, workers: u32) -> (Option<Held>, u32)
+pub fn workers_beside<R: Files<File = File>>(rt: &R, workers: u32) -> (Option<HeldDescriptors>, u32)
     ensures { result.1 ≤ workers }
 {
     match hold_closed(rt) {

@@ -1,5 +1,5 @@
 -- What streams tell of themselves, and what a call does to it.
-use Rattle.std.specs.Prelude.{◌≡◌, ℕ, ◌+◌, ◌<◌, ◌≤◌, ⊤, List, [], length, take, Option, Some, None, IfSome, Result, Ok, Err}
+use Rattle.std.specs.Prelude.{◌≡◌, ℕ, ◌+◌, ◌<◌, ◌≤◌, ⊤, List, [], length, take, Option, Some, None, IfSome, Result, Ok, Err, IsOk}
 use Rattle.std.specs.Io.KnownBytes.{Appends, Consumes}
 use Rattle.byte_streams.specs.declared.traits.Failed.{Failed}
 use Rattle.byte_streams.specs.declared.transfer.FillFault.{FillFault}
@@ -46,6 +46,11 @@ FillGave (Err (Ended n)) buf before after = (n < length buf) × Gave 0 1 (take n
 -- the source tells its failures, and had none
 abbrev pub HadNoFailure : SourceState → SourceState → Type 0
 HadNoFailure before after = (n : ℕ) × (before.failures ≡ Some n) × (after.failures ≡ Some n)
+
+-- what wants so many bytes ends well where the source has them and doesn't fail
+abbrev pub EndsOkWhereLeft : {T E : Type 0} → ℕ → SourceState → SourceState → Result T E → Type 0
+EndsOkWhereLeft count before after result =
+    (bytes : List ℕ) → before.left ≡ Some bytes → count ≤ length bytes → HadNoFailure before after → IsOk result
 
 -- ---- sinks
 

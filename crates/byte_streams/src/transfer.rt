@@ -1,6 +1,6 @@
 //! Whole buffers, in and out: loops over `read` and `write` that stop at the first setback.
-ghost use Rattle.std.specs.Prelude.{◌≡◌, ℕ, ◌+◌, ◌^◌, ◌<◌, ◌≤◌, List, length, Some, IsOk, IfOk, IfErr, OnOk};
-ghost use Rattle.byte_streams.specs.Streams.{FillGave, HadNoFailure, Took, WentOut, HadNoSetback};
+ghost use Rattle.std.specs.Prelude.{◌≡◌, ◌+◌, ◌^◌, ◌<◌, ◌≤◌, length, IsOk, IfOk, IfErr, OnOk};
+ghost use Rattle.byte_streams.specs.Streams.{FillGave, EndsOkWhereLeft, Took, WentOut, HadNoSetback};
 
 use crate::{Failed, Sink, Source};
 use thiserror::Error;
@@ -37,9 +37,7 @@ pub fn fill<S: Source>(source: &mut S, buf: &mut [u8]) -> Result<(), FillFault>
     ensures gave { FillGave result buf.new (S.state source.old) (S.state source.new) }
 
     // A source that has the bytes and doesn't fail fills the buffer.
-    ensures ends_ok { (bytes : List ℕ) → (S.state source.old).left ≡ Some bytes
-        → length buf.new ≤ length bytes
-        → HadNoFailure (S.state source.old) (S.state source.new) → IsOk result }
+    ensures ends_ok { EndsOkWhereLeft (length buf.new) (S.state source.old) (S.state source.new) result }
 
     ensures lasts { (fact : S.Fact) → S.lasts source.old fact → S.lasts source.new fact }
     ensures again { OnOk result (S.can_read source.new) }

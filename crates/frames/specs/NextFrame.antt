@@ -1,7 +1,11 @@
 -- A frame behind an ask, whose labels may come again.
-use Rattle.std.specs.Prelude.{◌≡◌, ℕ, ◌<◌, ◌≤◌, ◌⊎◌, List, length, Option, Some, None, Vec}
+use Rattle.std.specs.Prelude.{◌≡◌, ℕ, ◌+◌, ◌/◌, ◌<◌, ◌≤◌, ◌⊎◌, List, ◌++◌, length, take, All, Option, Some, None, Vec}
+use Rattle.std.specs.List.{flat_map}
 use Rattle.byte_streams.specs.Streams.{SourceState, Gave}
+use Rattle.link_key.specs.Labels.{AreLabels}
 use Rattle.frames.specs.FrameValue.{FrameValue, AskFrame, value_of}
+use Rattle.frames.specs.FrameText.{u32_text}
+use Rattle.frames.specs.Lawful.{IsU32}
 use Rattle.frames.specs.Refusals.{IsFrameOf, BodyRefused}
 use Rattle.frames.specs.ReadFault.{failures_of, ends_of, CutsShort, IsCutShort}
 use Rattle.frames.specs.declared.fault.FrameFault.{FrameFault}
@@ -18,6 +22,23 @@ next_value last (Other frame) = value_of frame
 abbrev pub numbers_told : {A : Type 0} → List ℕ → Option (Vec ℕ A) → List ℕ
 numbers_told same None = same
 numbers_told same (Some numbers) = numbers.items
+
+-- the next frame asks for the shard under the numbers told behind the labels of the last ask, and these are labels
+abbrev pub IsAskUnder : {A : Type 0} → ℕ → ℕ → Option (Vec ℕ A) → NextFrame A → Type 0
+IsAskUnder round shard numbers next =
+    (last : List ℕ) → AreLabels last
+    → (next_value last next ≡ AskFrame round shard (numbers_told last numbers)) × AreLabels (numbers_told last numbers)
+
+-- behind as many numbers as the first ones of the last ask, those of these bytes are told
+abbrev pub TellsMore : {A : Type 0} → List ℕ → ℕ → List ℕ → Option (Vec ℕ A) → Option (Vec ℕ A) → Type 0
+TellsMore last came piece before after =
+    flat_map u32_text (numbers_told (take (came + length piece / 4) last) after)
+    ≡ flat_map u32_text (numbers_told (take came last) before) ++ piece
+
+-- where the numbers told so far have 32 bits, those told behind so many more have
+abbrev pub StayU32 : {A : Type 0} → List ℕ → ℕ → ℕ → Option (Vec ℕ A) → Option (Vec ℕ A) → Type 0
+StayU32 last came count before after =
+    All IsU32 (numbers_told (take came last) before) → All IsU32 (numbers_told (take (came + count) last) after)
 
 -- a body of so many bytes came, which is that of the frame
 pub record BodyCame (v : FrameValue) (kind len : ℕ) (before after : SourceState) : Type 0 where

@@ -1,5 +1,5 @@
 -- What a read of a frame that failed says of the stream.
-use Rattle.std.specs.Prelude.{◌≡◌, ℕ, ◌+◌, ◌<◌, ◌≤◌, ◌⊎◌, List, length, IfSome}
+use Rattle.std.specs.Prelude.{◌≡◌, ℕ, ◌+◌, ◌<◌, ◌≤◌, ◌⊎◌, List, ◌++◌, length, IfSome}
 use Rattle.byte_streams.specs.Streams.{SourceState, Gave}
 use Rattle.frames.specs.Refusals.{HasGoodHead, StreamRefused, length_at}
 use Rattle.frames.specs.FrameStream.{IsTelling}
@@ -38,6 +38,11 @@ pub record IsCutShort (fault : FrameFault) (len : ℕ) (before after : SourceSta
   pub gave : Gave (failures_of fault) (ends_of fault) bytes before after
   pub short : length bytes < len
   pub cause : CutsShort fault
+
+-- so many bytes came, and stand behind those of before
+abbrev pub GrowsBy : ℕ → List ℕ → List ℕ → SourceState → SourceState → Type 0
+GrowsBy count old new before after =
+    (piece : List ℕ) × (length piece ≡ count) × (new ≡ old ++ piece) × Gave 0 0 piece before after
 
 -- Where a source tells all that it has left, a refusal is one of all of it, unless a read failed or memory was wanting.
 abbrev pub RefusalIsOfTheStream : Type 0

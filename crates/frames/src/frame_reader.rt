@@ -1,11 +1,11 @@
 //! Frames from a stream of bytes.
-ghost use Rattle.std.specs.Prelude.{◌≡◌, ℕ, List, ◌+◌, ◌<◌, ◌^◌, ◌++◌, length, IfOk, IfErr, OnOk, vec_len};
+ghost use Rattle.std.specs.Prelude.{◌≡◌, ◌+◌, ◌<◌, ◌^◌, length, IfOk, IfErr, OnOk, vec_len};
 ghost use Rattle.byte_streams.specs.Streams.{Gave};
 ghost use Rattle.frames.specs.FrameValue.{value_of};
 ghost use Rattle.frames.specs.FrameText.{text_of};
 ghost use Rattle.frames.specs.Lawful.{IsLawful};
 ghost use Rattle.frames.specs.Refusals.{IsPossible};
-ghost use Rattle.frames.specs.ReadFault.{IsReadRefused, IsCutShort};
+ghost use Rattle.frames.specs.ReadFault.{IsReadRefused, IsCutShort, GrowsBy};
 ghost use Rattle.frames.specs.NextFrame.{BodyCame, IsBodyRefused};
 
 use crate::decoding::decode_body;
@@ -120,9 +120,7 @@ fn read_more<A: Allocator, S: Source>(
     requires can { S.can_read source.old }
     requires some { 0 < count }
     requires fits { vec_len body.old + count < 2 ^ 32 }
-    ensures came { OnOk result ((piece : List ℕ) × (length piece ≡ count)
-        × (body.new.items ≡ body.old.items ++ piece)
-        × Gave 0 0 piece (S.state source.old) (S.state source.new)) }
+    ensures came { OnOk result (GrowsBy count body.old.items body.new.items (S.state source.old) (S.state source.new)) }
     ensures short { IfErr result
         (λ fault. IsCutShort fault count (S.state source.old) (S.state source.new)) }
     ensures lasts { (fact : S.Fact) → S.lasts source.old fact → S.lasts source.new fact }

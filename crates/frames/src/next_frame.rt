@@ -3,17 +3,16 @@
 //! A run asks for each of its shards under the same labels. So the bytes of an ask of as many labels are compared with
 //! those of the last ones as they come, a piece at a time in one buffer: while they are the same, nothing is stored, and
 //! whether they are labels isn't judged again.
-ghost use Rattle.std.specs.Prelude.{◌≡◌, ℕ, ◌+◌, ◌*◌, ◌/◌, ◌%◌, ◌^◌, ◌<◌, ◌≤◌, List, ◌++◌, length, map, take, All, IfOk, IfErr, OnOk};
+ghost use Rattle.std.specs.Prelude.{◌≡◌, ℕ, ◌+◌, ◌*◌, ◌/◌, ◌%◌, ◌^◌, ◌<◌, ◌≤◌, List, ◌++◌, length, map, All, IfOk, IfErr, OnOk};
 ghost use Rattle.std.specs.Int.{w32, from_be_bytes};
 ghost use Rattle.std.specs.List.{flat_map};
 ghost use Rattle.byte_streams.specs.Streams.{Gave};
 ghost use Rattle.link_key.specs.Labels.{AreLabels};
-ghost use Rattle.frames.specs.FrameValue.{AskFrame};
 ghost use Rattle.frames.specs.FrameText.{u32_text, text_of};
 ghost use Rattle.frames.specs.Lawful.{IsU32, IsLawful};
 ghost use Rattle.frames.specs.Refusals.{IsPossible};
 ghost use Rattle.frames.specs.ReadFault.{IsReadRefused};
-ghost use Rattle.frames.specs.NextFrame.{next_value, numbers_told, BodyCame, IsBodyRefused, IsStopped};
+ghost use Rattle.frames.specs.NextFrame.{next_value, numbers_told, IsAskUnder, TellsMore, StayU32, BodyCame, IsBodyRefused, IsStopped};
 ghost use Rattle.frames.specs.declared.fault.FrameFault.TheVariants.{BadField};
 
 use crate::fault::FrameFault;
@@ -27,8 +26,8 @@ use limits::MAX_SHARDS;
 use link_key::Labels;
 use std::alloc::{AllocError, Allocator, Global};
 
-// How many labels are compared at a time, on the stack.
-const PIECE: usize = 4096;
+// How many labels are compared at a time, on the stack: with fewer a worker is woken more often while they come.
+const PIECE: usize = 16_384;
 
 /// What comes behind an ask: another one under its labels, or any frame as a whole.
 #[derive(Drop)]
@@ -43,7 +42,7 @@ pub enum NextFrame<A: Allocator = Global> {
 /// The next frame of a stream, as [`read_frame`](crate::read_frame) has it, behind an ask under these labels.
 ///
 /// Another ask under them takes no memory, and one look at its bytes. Where its labels are as many and others, they are
-/// given room for all of them at the first piece of 4,096 that differs; `Memory` where that was refused. Every other
+/// given room for all of them at the first piece of 16,384 that differs; `Memory` where that was refused. Every other
 /// frame is read as `read_frame` reads it, with its room.
 pub fn read_next<A: Allocator + Copy, S: Source>(
     alloc: A,
@@ -125,8 +124,7 @@ fn ask_of<A: Allocator>(
     shard: u32,
     numbers: Option<Vec<u32, A>>,
 ) -> Result<NextFrame<A>, FrameFault>
-    ensures ask { IfOk result (λ next. (last : List ℕ) → AreLabels last
-        → (next_value last next ≡ AskFrame round shard (numbers_told last numbers)) × AreLabels (numbers_told last numbers)) }
+    ensures ask { IfOk result (IsAskUnder round shard numbers) }
     ensures refused { IfErr result (λ fault. (fault ≡ BadField) × ((last : List ℕ) → ¬ AreLabels (numbers_told last numbers))) }
 {
     let Some(numbers) = numbers else {
@@ -184,10 +182,8 @@ fn hear_piece<A: Allocator>(
     requires whole { length piece.now % 4 ≡ 0 }
     requires fits { length piece.now ≤ 4 * PIECE }
     requires within { came + length piece.now / 4 ≤ length last.now }
-    ensures heard { OnOk result (flat_map u32_text (numbers_told (take (came + length piece.now / 4) last.now) numbers.new)
-        ≡ flat_map u32_text (numbers_told (take came last.now) numbers.old) ++ piece.now) }
-    ensures fit { OnOk result (All IsU32 (numbers_told (take came last.now) numbers.old)
-        → All IsU32 (numbers_told (take (came + length piece.now / 4) last.now) numbers.new)) }
+    ensures heard { OnOk result (TellsMore last.now came piece.now numbers.old numbers.new) }
+    ensures fit { OnOk result (StayU32 last.now came (length piece.now / 4) numbers.old numbers.new) }
 {
     match numbers {
         Some(list) => push_numbers(list, piece),

@@ -54,6 +54,12 @@ pub record AreGiven (picks : List (Option Link)) (roots : List ℕ) (k : ℕ) (l
   pub exact : (l : Link) → Contains links l ↔ IsGiven picks roots k l
   pub in_order : AllPairs (IsPickedBefore picks) links
 
+-- behind the links that the first k roots give stand those that a batch of the next ones gives
+abbrev pub TakesBatch : List (Option Link) → List ℕ → List Link → List Link → Type 0
+TakesBatch picks batch before after =
+    (labels roots : List ℕ) (k : ℕ) → AreRoots labels roots → StandsAt roots k batch
+    → AreGiven picks roots k before → AreGiven picks roots (k + length batch) after
+
 -- the parent of each root is a root
 pub record ArePointers (roots parents : List ℕ) : Type 0 where
   pub within : (c : ℕ) → Contains roots c → c < length parents

@@ -5,7 +5,7 @@ ghost use Rattle.round_theory.specs.Labelling.{IsVertex, IsRelabelling};
 ghost use Rattle.round_theory.specs.Offers.{Leaves};
 ghost use Rattle.round_core.specs.Picks.{pick_of, Picked, ArePicksOfHearings};
 ghost use Rattle.round_core.specs.Solver.{ArePickedOnce};
-ghost use Rattle.round_core.specs.Roots.{IsRoot, AreRoots, HasEndLabels, IsLed, IsLedBy, IsTaker, AreTakers, StandsAt, AreGiven, ArePointers, AreParents, AreSettled, AreNear, IsLeastUnder};
+ghost use Rattle.round_core.specs.Roots.{IsRoot, AreRoots, HasEndLabels, IsLed, IsLedBy, IsTaker, AreTakers, TakesBatch, ArePointers, AreParents, AreSettled, AreNear, IsLeastUnder};
 
 use crate::picks::Picks;
 use limits::MAX_VERTICES;
@@ -248,8 +248,7 @@ fn take_each<A: Allocator>(
     requires room { length batch.now ≤ length takes.now }
     requires takes { AreTakers picks.now batch.now takes.now }
     ensures few { OnOk result (length links.new.items ≤ length links.old.items + length batch.now) }
-    ensures given { OnOk result ((labels roots : List ℕ) (k : ℕ) → AreRoots labels roots → StandsAt roots k batch.now
-        → AreGiven picks.now roots k links.old.items → AreGiven picks.now roots (k + length batch.now) links.new.items) }
+    ensures given { OnOk result (TakesBatch picks.now batch.now links.old.items links.new.items) }
 {
     for i in 0..batch.len() {
         if takes[i] {

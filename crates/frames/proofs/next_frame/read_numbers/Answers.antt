@@ -35,7 +35,7 @@ loop-came-preserved g c =
     let after = numbers_told (take to c.args.last.now) c.hear_piece.new.numbers in
     let count : length c.read_bytes.new.bytes ≡ 4 * c.min-count.result = search rules in
     let within : to ≤ length c.args.last.now = search rules in
-    let most : c.min-count.result ≤ 4096 = search rules in
+    let most : c.min-count.result ≤ 16384 = search rules in
     let items : length c.read_bytes.new.bytes / 4 ≡ c.min-count.result = omega (arith, count) in
     let heard : flat_map u32_text after ≡ flat_map u32_text before ++ c.read_bytes.new.bytes =
     subst (λ (k : ℕ). flat_map u32_text (numbers_told (take (c.loop-came.came + k) c.args.last.now) c.hear_piece.new.numbers) ≡ flat_map u32_text before ++ c.read_bytes.new.bytes) items c.in_ok-hear_piece.ensures.heard in

@@ -10,7 +10,7 @@ use Rattle.frames.proofs.next_frame.read_numbers.Given as goal
 abbrev pub invariant-loop-came : goal.invariant-loop-came
 invariant-loop-came g l = record {
   within : l.came ≤ length l.last;
-  room : length l.buffer ≡ 16384;
+  room : length l.buffer ≡ 65536;
   counted : length (numbers_told (take l.came l.last) l.numbers) ≡ l.came;
   gave : Gave 0 0 (flat_map u32_text (numbers_told (take l.came l.last) l.numbers)) (g.S.Source.state l.initial.source) (g.S.Source.state l.source);
   fit : All IsU32 l.last → All IsU32 (numbers_told (take l.came l.last) l.numbers);
