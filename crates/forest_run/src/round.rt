@@ -75,7 +75,7 @@ pub(crate) fn run_round<
 
 // What a run keeps from round to round: the picks of the last one, in whose room those of the next are counted.
 #[derive(Drop)]
-pub(crate) struct Kept<A: Allocator> {
+pub(crate) struct Reused<A: Allocator> {
     pub(crate) alloc: A,
     pub(crate) picks: Picks<A>,
 }
@@ -91,7 +91,7 @@ pub(crate) fn picks_of_round<
     R: Threads + Wait + Sync,
 >(
     rt: &R,
-    kept: &mut Kept<A>,
+    reused: &mut Reused<A>,
     solver: &'a Solver<A>,
     cut: &'a Cut<'a, A>,
     lanes: &mut [Lane<P, A>],
@@ -107,7 +107,7 @@ pub(crate) fn picks_of_round<
     ensures asked { AsksInRound P.Port cut.now solver.now lanes.old lanes.new }
     ensures idle { All IsIdle lanes.new }
 {
-    let mut book = RoundBook::open_over(kept.picks.take(), solver.round(), cut, solver.labels())?;
-    let alone = run_round(rt, kept.alloc, &mut book, lanes)?;
+    let mut book = RoundBook::open_over(reused.picks.take(), solver.round(), cut, solver.labels())?;
+    let alone = run_round(rt, reused.alloc, &mut book, lanes)?;
     Ok((book.close_par(rt), alone))
 }

@@ -11,7 +11,7 @@ ghost use Rattle.forest_run.specs.Solved.{AreHonest, StepsOnce, AsksInRound, IsT
 
 use crate::lane::Lane;
 use crate::report::{Counts, Report, report_of};
-use crate::round::{Kept, picks_of_round};
+use crate::round::{Reused, picks_of_round};
 use crate::seats::count_open;
 use link_key::{Cut, Forest};
 use ports::Port;
@@ -23,7 +23,7 @@ use std::thread::Threads;
 // One round, and its picks into the solver; and how many shards were scanned alone.
 fn turn<'a, A: Allocator + Copy + Send + Sync, P: Port<A> + Send + Drop, R: Threads + Wait + Sync>(
     rt: &R,
-    kept: &mut Kept<A>,
+    reused: &mut Reused<A>,
     solver: &mut Solver<A>,
     cut: &'a Cut<'a, A>,
     lanes: &mut [Lane<P, A>],
@@ -41,9 +41,9 @@ fn turn<'a, A: Allocator + Copy + Send + Sync, P: Port<A> + Send + Drop, R: Thre
 {
     // Without memory for the bytes of the labels, each wire turns the labels into bytes for itself.
     let _ = solver.spell_labels();
-    let (picks, alone) = picks_of_round(rt, kept, solver, cut, lanes)?;
+    let (picks, alone) = picks_of_round(rt, reused, solver, cut, lanes)?;
     let turn = solver.step(&picks)?;
-    kept.picks = picks;
+    reused.picks = picks;
     Ok((turn, alone))
 }
 
@@ -76,13 +76,13 @@ fn merge_rounds<
     ensures idle { All IsIdle lanes.new }
 {
     let mut solver = Solver::new(alloc, n)?;
-    let mut kept = Kept {
+    let mut reused = Reused {
         alloc,
         picks: Picks::empty(alloc),
     };
     let mut alone = 0;
     for _ in rt.forever() {
-        let (turn, scanned) = turn(rt, &mut kept, &mut solver, cut, lanes)?;
+        let (turn, scanned) = turn(rt, &mut reused, &mut solver, cut, lanes)?;
         alone += u64::from(scanned);
         if let Turn::Done = turn {
             break;
