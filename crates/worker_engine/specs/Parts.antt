@@ -7,9 +7,9 @@ use Rattle.link_key.specs.Link.{EndsUpTo}
 use Rattle.link_key.specs.Labels.{AreLabels}
 use Rattle.worker_engine.specs.declared.scanning.Best.{Best}
 use Rattle.worker_engine.specs.declared.scanning.TheConstants.{NO_PLACE}
-use Rattle.worker_engine.specs.Scanning.{Says}
+use Rattle.worker_engine.specs.Scanning.{Says, AreBest}
 use Rattle.worker_engine.specs.declared.live.LiveLink.{LiveLink}
-use Rattle.worker_engine.specs.Live.{AreLiveLinks, places_of}
+use Rattle.worker_engine.specs.Live.{AreLiveLinks, live_place}
 
 -- links that a scan passes over, the live ones where these are told
 pub record CanScan (links : List Link) (labels : List ℕ) (live : Option (Bor (List LiveLink))) : Type 0 where
@@ -26,7 +26,12 @@ count_of links (Some told) = length told.now
 -- the place of the next of them; the end of the list behind the last
 abbrev pub place_at : List Link → Option (Bor (List LiveLink)) → ℕ → ℕ
 place_at links None i = i
-place_at links (Some told) i = slice_index_or (places_of told.now) i (length links)
+place_at links (Some told) i = live_place links told.now i
+
+-- a table of the links before a place takes in a table of those from it on
+abbrev pub Merges : List Link → List Best → List Best → List Best → Type 0
+Merges links later old new = (labels : List ℕ) (from at to : ℕ) → from ≤ at → at ≤ to
+    → AreBest links labels from at old → AreBest links labels at to later → AreBest links labels from to new
 
 -- where a table keeps a place, it keeps the weight of the link there
 abbrev pub SayPlaces : List Link → List Best → Type 0

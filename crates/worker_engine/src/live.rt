@@ -4,14 +4,14 @@
 //! laid aside. Of the others a label of each end is written beside the weight and the place. Under labels that coarsen,
 //! the label of such a label is that of the end itself, so a pass in order over what is written looks at no link, and
 //! looks up labels of labels alone, of which there are fewer and fewer.
-ghost use Rattle.std.specs.Prelude.{◌≡◌, ℕ, ◌≤◌, List, length, take, replicate, slice_index_or, All, IfSome, IfOk};
+ghost use Rattle.std.specs.Prelude.{◌≡◌, ◌≤◌, List, length, take, replicate, All, IfSome, IfOk};
 ghost use Rattle.limits.specs.declared.TheConstants.{MAX_SHARD_LINKS};
 ghost use Rattle.link_key.specs.declared.links.Link.{Link};
 ghost use Rattle.link_key.specs.Link.{EndsUpTo};
 ghost use Rattle.link_key.specs.Labels.{AreLabels};
 ghost use Rattle.round_theory.specs.Labelling.{IsVertex};
 ghost use Rattle.worker_engine.specs.Scanning.{no_best, AreBest};
-ghost use Rattle.worker_engine.specs.Live.{AreLiveLinks, places_of, relabelled};
+ghost use Rattle.worker_engine.specs.Live.{AreLiveLinks, live_place, relabelled};
 
 use crate::batches::{BATCH, NOTHING, keep_each, look_up_live};
 use crate::scanning::Best;
@@ -71,8 +71,7 @@ pub(crate) fn find_best_live<A: Allocator + Copy>(
     requires range { from ≤ to }
     requires in_list { to ≤ length live.now }
     requires none_yet { table.old ≡ replicate (length labels.now) no_best }
-    ensures best { AreBest links.now labels.now (slice_index_or (places_of live.now) from (length links.now))
-        (slice_index_or (places_of live.now) to (length links.now)) table.new }
+    ensures best { AreBest links.now labels.now (live_place links.now live.now from) (live_place links.now live.now to) table.new }
 {
     let mut batch = [NOTHING; BATCH];
     let mut at = from;

@@ -1,8 +1,8 @@
 //! A pass over a shard's links in threads, each over a part with a table of its own.
-ghost use Rattle.std.specs.Prelude.{◌≡◌, ℕ, ◌<◌, ◌≤◌, List, length, IfOk};
+ghost use Rattle.std.specs.Prelude.{◌≡◌, ◌<◌, ◌≤◌, length, IfOk};
 ghost use denote.Param.Send.{IsSync, IsSend, Frees};
 ghost use Rattle.worker_engine.specs.Scanning.{AreBest};
-ghost use Rattle.worker_engine.specs.Parts.{CanScan, count_of, place_at, SayPlaces};
+ghost use Rattle.worker_engine.specs.Parts.{CanScan, count_of, place_at, SayPlaces, Merges};
 
 use crate::live::{LiveLink, find_best_live};
 use crate::scanning::{Best, NO_PLACE, find_best};
@@ -122,8 +122,7 @@ fn merge<A: Allocator + Copy>(links: &[Link], table: &mut Table<A>, later: &[Bes
     requires few_links { length links.now ≤ MAX_SHARD_LINKS }
     requires each_label { length table.old ≡ length later.now }
     requires later { SayPlaces links.now later.now }
-    ensures best { (labels : List ℕ) (from at to : ℕ) → from ≤ at → at ≤ to → AreBest links.now labels from at table.old
-        → AreBest links.now labels at to later.now → AreBest links.now labels from to table.new }
+    ensures best { Merges links.now later.now table.old table.new }
 {
     for i in 0..later.len() {
         let next = later[i];
