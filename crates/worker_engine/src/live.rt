@@ -14,6 +14,7 @@ ghost use Rattle.worker_engine.specs.Scanning.{no_best, AreBest};
 ghost use Rattle.worker_engine.specs.Live.{AreLiveLinks, live_place, relabelled};
 
 use crate::batches::{BATCH, NOTHING, keep_each, look_up_live};
+use crate::parts::Part;
 use crate::scanning::Best;
 use crate::table::Table;
 use link_key::Link;
@@ -56,27 +57,25 @@ impl LiveLink {
     }
 }
 
-// The pass over the live links from one on before another, a batch at a time. The others leave no label.
+// The pass over a part of the live links, a batch at a time. The others leave no label.
 pub(crate) fn find_best_live<A: Allocator + Copy>(
     links: &[Link],
     live: &[LiveLink],
     labels: &[u32],
-    from: usize,
-    to: usize,
+    part: Part,
     table: &mut Table<A>,
 )
     requires few_links { length links.now ≤ MAX_SHARD_LINKS }
     requires labels { AreLabels labels.now }
     requires live { AreLiveLinks links.now labels.now live.now }
-    requires range { from ≤ to }
-    requires in_list { to ≤ length live.now }
+    requires in_list { part.to ≤ length live.now }
     requires none_yet { table.old ≡ replicate (length labels.now) no_best }
-    ensures best { AreBest links.now labels.now (live_place links.now live.now from) (live_place links.now live.now to) table.new }
+    ensures best { AreBest links.now labels.now (live_place links.now live.now part.from) (live_place links.now live.now part.to) table.new }
 {
     let mut batch = [NOTHING; BATCH];
-    let mut at = from;
-    while at < to {
-        let next = at + BATCH.min(to - at);
+    let mut at = part.from;
+    while at < part.to {
+        let next = at + BATCH.min(part.to - at);
         look_up_live(live, labels, at, next, &mut batch);
         keep_each(links, &batch, next - at, table);
         at = next;
