@@ -56,6 +56,14 @@ pub record IsStage (links rest later : List Link) (labels : List ℕ) (taken : L
 abbrev pub IsStageOf : List Link → ℕ → List Link → List ℕ → List Link → Type 0
 IsStageOf links first list labels before = IsStage links (drop first list) [] labels (before ++ take first list)
 
+-- of the rest of a stage these links are taken, and by the new labels none of it is left
+abbrev pub TakeRest : List Link → List ℕ → List Link → List ℕ → Type 0
+TakeRest rest labels taken labels' = (all later before : List Link) → IsStage all rest later labels before → IsStage all [] later labels' (before ++ taken)
+
+-- of the rest of a stage the first links of a list are taken, and by the new labels the others of the list are left
+abbrev pub TakePart : List Link → List ℕ → ℕ → List Link → List ℕ → Type 0
+TakePart rest labels first list labels' = (all before : List Link) → IsStage all rest [] labels before → IsStageOf all first list labels' before
+
 -- two parts of the links, of which nothing in the first is above anything in the other
 pub record AreParts (links light later : List Link) : Type 0 where
   pub light_in : (l : Link) → Contains light l → Contains links l

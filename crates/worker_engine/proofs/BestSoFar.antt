@@ -83,9 +83,9 @@ module _ (links : List Link) (labels : List ℕ) (c from at to : ℕ) where
   }
 
   module _ (i : ℕ) (le : from ≤ at) (next : IsBestPlace links labels at to c i) where
-    -- no link at the earlier places leaves it
-    pub best_first : NoneLeavesIn links labels from at c → IsBestPlace links labels from to c i
-    best_first none = record {
+    -- it comes first before each link at the earlier places that leaves the label
+    best_later : ((q : ℕ) (m : Link) → from ≤ q → q < at → q < length links → m ≡ get_or links q m → Leaves labels m c → ComesFirst next.link i m q) → IsBestPlace links labels from to c i
+    best_later earlier = record {
       link = next.link;
       here = next.here;
       from_start = omega (arith, le, next.from_start);
@@ -93,10 +93,14 @@ module _ (links : List Link) (labels : List ℕ) (c from at to : ℕ) where
       in_list = next.in_list;
       leaves = next.leaves;
       first = λ q m from_start before_end in_list read leaves. elim (cases_lt q at) [
-        | inl lt ↦ absurd (none q m from_start lt in_list read leaves)
+        | inl lt ↦ earlier q m from_start lt in_list read leaves
         | inr later ↦ next.first q m later before_end in_list read leaves
       ];
     }
+
+    -- no link at the earlier places leaves it
+    pub best_first : NoneLeavesIn links labels from at c → IsBestPlace links labels from to c i
+    best_first none = best_later (λ q m from_start lt in_list read leaves. absurd (none q m from_start lt in_list read leaves))
 
     module _ (p : ℕ) (is : IsBestPlace links labels from at c p) where
       -- the earlier one stays
@@ -119,18 +123,7 @@ module _ (links : List Link) (labels : List ℕ) (c from at to : ℕ) where
 
       -- the later one is less
       pub best_new : IsBelow next.link is.link → IsBestPlace links labels from to c i
-      best_new below = record {
-        link = next.link;
-        here = next.here;
-        from_start = omega (arith, le, next.from_start);
-        before_end = next.before_end;
-        in_list = next.in_list;
-        leaves = next.leaves;
-        first = λ q m from_start before_end in_list read leaves. elim (cases_lt q at) [
-          | inl lt ↦ inl (below_then_first is.link next.link m p q below (is.first q m from_start lt in_list read leaves))
-          | inr later ↦ next.first q m later before_end in_list read leaves
-        ];
-      }
+      best_new below = best_later (λ q m from_start lt in_list read leaves. inl (below_then_first is.link next.link m p q below (is.first q m from_start lt in_list read leaves)))
 
 -- the best place of the whole list is where the least link that leaves the label stands first
 pub best_is_light : (links : List Link) (labels : List ℕ) (c p : ℕ) → IsBestPlace links labels 0 (length links) c p → IsLightOffer links labels c p

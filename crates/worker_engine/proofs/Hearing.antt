@@ -8,7 +8,7 @@ use Rattle.frames.specs.FrameText.{text_of}
 use Rattle.frames.specs.Lawful.{IsLawful}
 use Rattle.worker_engine.specs.declared.engine.hearing.Owed.{Owed}
 use Rattle.worker_engine.specs.Serving.{Kept, Shelf, shelf_of, IsReply}
-use Rattle.worker_engine.specs.Served.{IsOwed, HearsNext}
+use Rattle.worker_engine.specs.Served.{IsOwed, IsReplied, HearsNext}
 
 both : {T E : Type 0} (P Q : T → Type 0) (result : Result T E) → IfOk result P → IfOk result Q → IfOk result (λ x. P x × Q x)
 both P Q (Ok x) p q = (p, q)
@@ -19,12 +19,11 @@ module _ {A E : Type 0} (owed : Owed A) (reply : Result (Frame A) E) (r s : ℕ)
   pub hears_again : (v : FrameValue) (source source' : SourceState) → v ≡ AskFrame r s labels → IsLawful v → Gave 0 0 (text_of v) source source'
       → before ≡ now → after ≡ before
       → IfOk reply (λ f. IsReply (shelf_of before s) r s labels (value_of f)) → IfOk reply (λ f. IsLawful (value_of f)) → OnErr reply (IsSome (shelf_of before s))
-      → ((shelf : Shelf) (ls : List ℕ) → IfOk reply (λ f. IsReply (shelf s) r s ls (value_of f) × IsLawful (value_of f)) → OnErr reply (IsSome (shelf s))
-      → IsOwed (AskFrame r s ls) shelf shelf owed)
+      → ((shelf : Shelf) (ls : List ℕ) → IsReplied shelf r s ls reply → IsOwed (AskFrame r s ls) shelf shelf owed)
       → HearsNext owed (shelf_of now) (shelf_of after) source source'
   hears_again v source source' is lawful gave view kept replied good held owes =
       let first : IsOwed (AskFrame r s labels) (shelf_of before) (shelf_of before) owed =
-      owes (shelf_of before) labels (both (λ f. IsReply (shelf_of before s) r s labels (value_of f)) (λ f. IsLawful (value_of f)) reply replied good) held in
+      owes (shelf_of before) labels (both (λ f. IsReply (shelf_of before s) r s labels (value_of f)) (λ f. IsLawful (value_of f)) reply replied good, held) in
       let second : IsOwed (AskFrame r s labels) (shelf_of before) (shelf_of after) owed = subst (λ (k : Kept). IsOwed (AskFrame r s labels) (shelf_of before) (shelf_of k) owed) (sym kept) first in
       record {
         v = AskFrame r s labels;

@@ -8,9 +8,10 @@ use Rattle.round_theory.specs.Labelling.{IsVertex}
 use Rattle.worker_engine.specs.declared.scanning.Best.{Best}
 use Rattle.worker_engine.specs.Scanning.{NoneLeavesIn, IsBest, no_best, Says, Keeps, KeepsLesser, best_of, AreBest}
 use Rattle.std.specs.Borrow.{Bor}
-use Rattle.worker_engine.specs.Parts.{SayPlaces, CanScan, count_of, place_at}
+use Rattle.std.specs.Prelude.{IfSome}
+use Rattle.worker_engine.specs.Parts.{SayPlaces, count_in, place_in}
 use Rattle.worker_engine.specs.declared.live.LiveLink.{LiveLink}
-use Rattle.worker_engine.specs.Live.{AreLive, places_of}
+use Rattle.worker_engine.specs.Live.{AreLive, AreLiveLinks, places_of}
 use Rattle.worker_engine.proofs.BestSoFar.{best_first}
 use Rattle.worker_engine.proofs.Laid.{live_first, live_end, live_ascends}
 use Rattle.worker_engine.proofs.Scans.{kept_place, kept_none, kept_at, keeps_out}
@@ -116,13 +117,14 @@ bests_live links labels places table live are =
     }
 
 -- so has a pass over all links
-pub bests_whole : (links : List Link) (labels : List ℕ) (live : Option (Bor (List LiveLink))) (table : List Best) → CanScan links labels live
-    → AreBest links labels (place_at links live 0) (place_at links live (count_of links live)) table → AreBest links labels 0 (length links) table
-bests_whole links labels None table can are = are
-bests_whole links labels (Some told) table can are =
-    bests_live links labels (places_of told.now) table can.live_links.places (subst (λ k. AreBest links labels (get_or (places_of told.now) 0 (length links)) (get_or (places_of told.now) k (length links)) table) (sym (length-map told.now (λ (l : LiveLink). l.place))) are)
+pub bests_whole : (links : List Link) (labels : List ℕ) (live : Option (Bor (List LiveLink))) (table : List Best) → IfSome live (λ told. AreLiveLinks links labels told.now)
+    → AreBest links labels (place_in links live 0) (place_in links live (count_in links live)) table → AreBest links labels 0 (length links) table
+bests_whole links labels None table live_links are = are
+bests_whole links labels (Some told) table live_links are =
+    bests_live links labels (places_of told.now) table live_links.places (subst (λ k. AreBest links labels (get_or (places_of told.now) 0 (length links)) (get_or (places_of told.now) k (length links)) table) (sym (length-map told.now (λ (l : LiveLink). l.place))) are)
 
 -- places that are scanned ascend
-pub place_ascends : (links : List Link) (labels : List ℕ) (live : Option (Bor (List LiveLink))) (i j : ℕ) → CanScan links labels live → i ≤ j → place_at links live i ≤ place_at links live j
-place_ascends links labels None i j can le = le
-place_ascends links labels (Some told) i j can le = live_ascends links labels 0 (length links) (places_of told.now) i j can.live_links.places le
+pub place_ascends : (links : List Link) (labels : List ℕ) (live : Option (Bor (List LiveLink))) (i j : ℕ) → IfSome live (λ told. AreLiveLinks links labels told.now) → i ≤ j
+    → place_in links live i ≤ place_in links live j
+place_ascends links labels None i j live_links le = le
+place_ascends links labels (Some told) i j live_links le = live_ascends links labels 0 (length links) (places_of told.now) i j live_links.places le

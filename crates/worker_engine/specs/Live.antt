@@ -3,14 +3,17 @@ use Rattle.std.specs.Prelude.{◌≡◌, ℕ, ◌+◌, ◌<◌, ◌≤◌, ◌�
 use Rattle.std.specs.Ordering.{nat_cmp}
 use Rattle.std.specs.BTreeMap.{is_at}
 use Rattle.std.specs.Map.{lookup}
+use Rattle.limits.specs.declared.TheConstants.{MAX_SHARD_LINKS}
 use Rattle.link_key.specs.declared.links.Link.{Link}
 use Rattle.link_key.specs.Link.{EndsUpTo}
 use Rattle.link_key.specs.Labels.{label_of}
 use Rattle.link_key.specs.Offers.{Offer}
 use Rattle.round_theory.specs.Labelling.{IsVertex}
 use Rattle.round_theory.specs.Offers.{AreLightOffers}
+use Rattle.frames.specs.FrameValue.{FrameValue}
+use Rattle.frames.specs.Lawful.{IsLawful, IsAsk}
 use Rattle.worker_engine.specs.declared.live.LiveLink.{LiveLink}
-use Rattle.worker_engine.specs.Serving.{Kept}
+use Rattle.worker_engine.specs.Serving.{Kept, IsReply}
 
 -- both ends of the link have one label
 pub record IsQuiet (labels : List ℕ) (l : Link) : Type 0 where
@@ -39,6 +42,10 @@ pub record IsWritten (labels : List ℕ) (l : Link) (written : LiveLink) : Type 
 abbrev pub places_of : List LiveLink → List ℕ
 places_of live = map (λ (l : LiveLink). l.place) live
 
+-- the place of the live link behind so many others; the end of the list behind the last
+abbrev pub live_place : List Link → List LiveLink → ℕ → ℕ
+live_place links live i = slice_index_or (places_of live) i (length links)
+
 -- live links: each is written of the link at its place, and the links at all other places are quiet
 pub record AreLiveLinks (links : List Link) (labels : List ℕ) (live : List LiveLink) : Type 0 where
   pub places : AreLive links labels 0 (length links) (places_of live)
@@ -61,6 +68,11 @@ IsGreatestEnd links greatest = (n : ℕ) → EndsUpTo n links ↔ (greatest ≤ 
 abbrev pub AreOffersOf : List Link → List ℕ → Option (List Offer) → Type 0
 AreOffersOf links labels None = ¬ EndsUpTo (length labels) links
 AreOffersOf links labels (Some offers) = EndsUpTo (length labels) links × AreLightOffers links labels offers
+
+-- the frame replies to an ask of any shard whose links have these offers under its labels, and is lawful
+abbrev pub IsReplyWith : ℕ → ℕ → Option (List Offer) → FrameValue → Type 0
+IsReplyWith round shard offers v = (links : List Link) (labels : List ℕ) → length links ≤ MAX_SHARD_LINKS → IsAsk round shard labels
+    → AreOffersOf links labels offers → IsReply (Some links) round shard labels v × IsLawful v
 
 -- where live links are kept, they are those of the shard's links under these labels
 abbrev pub IsLive : List ℕ → Holding → Type 0

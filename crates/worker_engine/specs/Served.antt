@@ -1,8 +1,9 @@
 -- How a session ends: what the source gave it, and what the sink took.
-use Rattle.std.specs.Prelude.{◌≡◌, ◌≢◌, ℕ, ◌+◌, ◌<◌, ◌⊎◌, List, [], ◌∷◌, ◌++◌, length, take, Option, Some, None}
+use Rattle.std.specs.Prelude.{◌≡◌, ◌≢◌, ℕ, ◌+◌, ◌<◌, ◌⊎◌, List, [], ◌∷◌, ◌++◌, length, take, Option, Some, None, IsSome, Result, IfOk, OnErr}
 use Rattle.byte_streams.specs.Streams.{SourceState, Gave, SinkState, Took}
 use Rattle.link_key.specs.declared.links.Link.{Link}
-use Rattle.frames.specs.FrameValue.{FrameValue, ShardFrame, AskFrame, AnswerFrame, FaultFrame}
+use Rattle.frames.specs.FrameValue.{FrameValue, ShardFrame, AskFrame, AnswerFrame, FaultFrame, value_of}
+use Rattle.frames.specs.declared.frame.Frame.{Frame}
 use Rattle.frames.specs.declared.frame.TheConstants.{VERSION}
 use Rattle.frames.specs.FrameText.{text_of}
 use Rattle.frames.specs.Lawful.{IsLawful}
@@ -18,7 +19,7 @@ use Rattle.worker_engine.specs.declared.session.Written.{Written}
 use Rattle.worker_engine.specs.declared.session.Written.TheVariants.{Nothing, AnAnswer, AFault}
 use Rattle.worker_engine.specs.declared.engine.hearing.Owed.{Owed}
 use Rattle.worker_engine.specs.declared.engine.hearing.Owed.TheVariants.{Reply, NoMemoryForAsk, NoMemoryForShard}
-use Rattle.worker_engine.specs.Serving.{Shelf, shelf_with, AreReplyTo, MayWantMemory, replies_in, MayFollow, Serves}
+use Rattle.worker_engine.specs.Serving.{Shelf, shelf_with, IsReply, AreReplyTo, MayWantMemory, replies_in, MayFollow, Serves}
 
 -- how many answers there are, and how many faults
 abbrev pub answer_bit : FrameValue → ℕ
@@ -105,6 +106,11 @@ IsTold Nothing now = now ≡ []
 IsTold AnAnswer now = (length now ≡ 1) × (answers_in now ≡ 1) × (faults_in now ≡ 0)
 IsTold AFault now = (length now ≡ 1) × (answers_in now ≡ 0) × (faults_in now ≡ 1)
 
+-- the counts of answers and faults went up by those of what was written
+abbrev pub CountsReplies : Written → Served → Served → Type 0
+CountsReplies written served served' = (now : List FrameValue) → IsTold written now
+    → (served'.answers ≡ served.answers + answers_in now) × (served'.faults ≡ served.faults + faults_in now)
+
 -- a frame was heard, and what is owed for it was written
 pub record Stepped (v : FrameValue) (written : Written) (shelf shelf' : Shelf) (sink sink' : SinkState) : Type 0 where
   pub now : List FrameValue
@@ -123,6 +129,11 @@ abbrev pub IsOwed : {A : Type 0} → FrameValue → Shelf → Shelf → Owed A �
 IsOwed v shelf shelf' (Reply reply) = (shelf' ≡ shelf_with shelf v) × AreReplyTo shelf v (replies_in reply) × AreLawful (replies_in reply)
 IsOwed v shelf shelf' (NoMemoryForAsk round shard) = (shelf' ≡ shelf) × (ask_in v ≡ Some (round, shard)) × MayWantMemory shelf v
 IsOwed v shelf shelf' NoMemoryForShard = (shelf' ≡ shelf) × (ask_in v ≡ None) × MayWantMemory shelf v
+
+-- the reply to an ask, and lawful; or want of memory, where the shard is kept
+abbrev pub IsReplied : {A E : Type 0} → Shelf → ℕ → ℕ → List ℕ → Result (Frame A) E → Type 0
+IsReplied shelf round shard labels reply =
+    IfOk reply (λ v. IsReply (shelf shard) round shard labels (value_of v) × IsLawful (value_of v)) × OnErr reply (IsSome (shelf shard))
 
 -- the next frame came, and that is owed for it
 pub record HearsNext {A : Type 0} (owed : Owed A) (shelf shelf' : Shelf) (source source' : SourceState) : Type 0 where
@@ -166,6 +177,14 @@ abbrev pub Failed : ServeFault → FrameValue → Shelf → SinkState → SinkSt
 Failed Write v shelf sink sink' = CutReply v shelf sink sink'
 Failed Memory v shelf sink sink' = ((number : ℕ) × (links : List Link) × (v ≡ ShardFrame number links)) × Took 0 [] sink sink'
 Failed fault v shelf sink sink' = ⊥
+
+-- of whatever frame that is owed for: it was heard, and that was written
+abbrev pub WritesOwed : {A : Type 0} → Owed A → Written → SinkState → SinkState → Type 0
+WritesOwed owed written sink sink' = (v : FrameValue) (shelf shelf' : Shelf) → IsOwed v shelf shelf' owed → Stepped v written shelf shelf' sink sink'
+
+-- of whatever frame that is owed for: the session failed at it
+abbrev pub FailsOwed : {A : Type 0} → Owed A → ServeFault → SinkState → SinkState → Type 0
+FailsOwed owed fault sink sink' = (v : FrameValue) (shelf shelf' : Shelf) → IsOwed v shelf shelf' owed → Failed fault v shelf sink sink'
 
 -- the hello wasn't written
 abbrev pub Ungreeted : ServeFault → List ℕ → SinkState → SinkState → Type 0

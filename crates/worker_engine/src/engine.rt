@@ -1,11 +1,10 @@
 //! A worker's engine: it keeps shards and replies to asks.
-ghost use Rattle.std.specs.Prelude.{◌≡◌, ℕ, List, ◌≤◌, [], length, Some, IsSome, IfOk, OnOk, OnErr, true};
-ghost use Rattle.link_key.specs.declared.links.Link.{Link};
+ghost use Rattle.std.specs.Prelude.{◌≡◌, [], IsSome, IfOk, OnOk, OnErr, true};
 ghost use Rattle.frames.specs.FrameValue.{value_of, ShardFrame, FaultFrame};
 ghost use Rattle.frames.specs.Lawful.{IsLawful, IsShard, IsAsk};
 ghost use Rattle.frames.specs.FrameStream.{AreLawful};
 ghost use Rattle.worker_engine.specs.Serving.{shelf_of, shelf_with, IsReply, MayWantMemory, AreReplyTo, replies_in};
-ghost use Rattle.worker_engine.specs.Live.{kept_in, AreOffersOf, IsAllLive, AreAllLive, AreAllUnder};
+ghost use Rattle.worker_engine.specs.Live.{kept_in, IsReplyWith, IsAllLive, AreAllLive, AreAllUnder};
 
 mod hearing;
 mod threads;
@@ -14,7 +13,6 @@ use crate::held::Held;
 use crate::scanning::Scanner;
 use frames::{Answer, Frame, Links};
 pub(crate) use hearing::Owed;
-use limits::MAX_SHARD_LINKS;
 use link_key::{Labels, Offers};
 use std::alloc::{AllocError, Allocator, Global};
 use std::collections::BTreeMap;
@@ -135,8 +133,7 @@ struct Ask {
 impl Ask {
     // The reply with these offers; a fault where an end of a link has no label.
     fn reply_with<A: Allocator>(self, offers: Option<Offers<A>>) -> Frame<A>
-        ensures { (links : List Link) (labels : List ℕ) → length links ≤ MAX_SHARD_LINKS → IsAsk self.round self.shard labels
-            → AreOffersOf links labels offers → IsReply (Some links) self.round self.shard labels (value_of result) × IsLawful (value_of result) }
+        ensures { IsReplyWith self.round self.shard offers (value_of result) }
     {
         let Ask { round, shard } = self;
         match offers {

@@ -4,16 +4,17 @@
 //! laid aside. Of the others a label of each end is written beside the weight and the place. Under labels that coarsen,
 //! the label of such a label is that of the end itself, so a pass in order over what is written looks at no link, and
 //! looks up labels of labels alone, of which there are fewer and fewer.
-ghost use Rattle.std.specs.Prelude.{◌≡◌, ℕ, ◌≤◌, List, length, take, replicate, slice_index_or, All, IfSome, IfOk};
+ghost use Rattle.std.specs.Prelude.{◌≡◌, ◌≤◌, List, length, take, replicate, All, IfSome, IfOk};
 ghost use Rattle.limits.specs.declared.TheConstants.{MAX_SHARD_LINKS};
 ghost use Rattle.link_key.specs.declared.links.Link.{Link};
 ghost use Rattle.link_key.specs.Link.{EndsUpTo};
 ghost use Rattle.link_key.specs.Labels.{AreLabels};
 ghost use Rattle.round_theory.specs.Labelling.{IsVertex};
 ghost use Rattle.worker_engine.specs.Scanning.{no_best, AreBest};
-ghost use Rattle.worker_engine.specs.Live.{AreLiveLinks, places_of, relabelled};
+ghost use Rattle.worker_engine.specs.Live.{AreLiveLinks, live_place, relabelled};
 
 use crate::batches::{BATCH, NOTHING, keep_each, look_up_live};
+use crate::parts::Part;
 use crate::scanning::Best;
 use crate::table::Table;
 use link_key::Link;
@@ -56,28 +57,25 @@ impl LiveLink {
     }
 }
 
-// The pass over the live links from one on before another, a batch at a time. The others leave no label.
+// The pass over a part of the live links, a batch at a time. The others leave no label.
 pub(crate) fn find_best_live<A: Allocator + Copy>(
     links: &[Link],
     live: &[LiveLink],
     labels: &[u32],
-    from: usize,
-    to: usize,
+    part: Part,
     table: &mut Table<A>,
 )
     requires few_links { length links.now ≤ MAX_SHARD_LINKS }
     requires labels { AreLabels labels.now }
     requires live { AreLiveLinks links.now labels.now live.now }
-    requires range { from ≤ to }
-    requires in_list { to ≤ length live.now }
+    requires in_list { part.to ≤ length live.now }
     requires none_yet { table.old ≡ replicate (length labels.now) no_best }
-    ensures best { AreBest links.now labels.now (slice_index_or (places_of live.now) from (length links.now))
-        (slice_index_or (places_of live.now) to (length links.now)) table.new }
+    ensures best { AreBest links.now labels.now (live_place links.now live.now part.from) (live_place links.now live.now part.to) table.new }
 {
     let mut batch = [NOTHING; BATCH];
-    let mut at = from;
-    while at < to {
-        let next = at + BATCH.min(to - at);
+    let mut at = part.from;
+    while at < part.to {
+        let next = at + BATCH.min(part.to - at);
         look_up_live(live, labels, at, next, &mut batch);
         keep_each(links, &batch, next - at, table);
         at = next;

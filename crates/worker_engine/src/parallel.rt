@@ -1,10 +1,11 @@
 //! A pass over a shard's links in threads, each over a part with a table of its own.
-ghost use Rattle.std.specs.Prelude.{◌≡◌, ℕ, ◌<◌, ◌≤◌, List, length, IfOk};
+ghost use Rattle.std.specs.Prelude.{◌≡◌, ◌<◌, ◌≤◌, length, IfOk};
 ghost use denote.Param.Send.{IsSync, IsSend, Frees};
 ghost use Rattle.worker_engine.specs.Scanning.{AreBest};
-ghost use Rattle.worker_engine.specs.Parts.{CanScan, count_of, place_at, SayPlaces};
+ghost use Rattle.worker_engine.specs.Parts.{CanScan, count_of, IsPartOf, AreBestOf, SayPlaces, Merges};
 
-use crate::live::{LiveLink, find_best_live};
+use crate::live::find_best_live;
+use crate::parts::{Part, Scanned};
 use crate::scanning::{Best, NO_PLACE, find_best};
 use crate::table::Table;
 use limits::MAX_SHARD_LINKS;
@@ -28,12 +29,12 @@ pub(crate) fn halvings_of<R: Threads>(rt: &R, count: usize, labels: usize) -> us
 }
 
 // How many links are to be scanned.
-fn how_many(links: &[Link], live: Option<&[LiveLink]>) -> usize
-    ensures { result ≡ count_of links.now live.entry }
+fn how_many(scanned: Scanned) -> usize
+    ensures { result ≡ count_of scanned.entry }
 {
-    match live {
+    match scanned.live {
         Some(told) => told.len(),
-        None => links.len(),
+        None => scanned.links.len(),
     }
 }
 
@@ -41,77 +42,79 @@ fn how_many(links: &[Link], live: Option<&[LiveLink]>) -> usize
 pub(crate) fn best_of_all<R: Threads + Sync, A: Allocator + Copy + Send + Sync>(
     rt: &R,
     alloc: A,
-    links: &[Link],
-    live: Option<&[LiveLink]>,
-    labels: &[u32],
+    scanned: Scanned,
     halvings: usize,
 ) -> Result<Table<A>, AllocError>
-    requires can { CanScan links.now labels.now live }
-    ensures best { IfOk result (λ table. AreBest links.now labels.now 0 (length links.now) table) }
+    requires can { CanScan scanned }
+    ensures best { IfOk result (AreBest scanned.entry.links.now scanned.entry.labels.now 0 (length scanned.entry.links.now)) }
 {
-    let count = how_many(links, live);
-    best_between(rt, alloc, links, live, labels, 0, count, halvings)
+    let count = how_many(scanned);
+    let whole = Part { from: 0, to: count };
+    best_between(rt, alloc, scanned, whole, halvings)
 }
 
-// What a table keeps for some of the links to be scanned, from one on before another. They are halved so many times, or
-// until a half has few, and one half goes to a thread of its own where one can be made.
+// What a table keeps for a part of the links to be scanned. It is halved so many times, or until a half has few links, and
+// one half goes to a thread of its own where one can be made.
 #[cycle(halves)]
 pub(crate) fn best_between<R: Threads + Sync, A: Allocator + Copy + Send + Sync>(
     rt: &R,
     alloc: A,
-    links: &[Link],
-    live: Option<&[LiveLink]>,
-    labels: &[u32],
-    from: usize,
-    to: usize,
+    scanned: Scanned,
+    part: Part,
     halvings: usize,
 ) -> Result<Table<A>, AllocError>
-    requires can { CanScan links.now labels.now live }
-    requires range { from ≤ to }
-    requires in_list { to ≤ count_of links.now live }
-    ensures best { IfOk result (λ table.
-        AreBest links.now labels.now (place_at links.now live.entry from) (place_at links.now live.entry to) table) }
+    requires can { CanScan scanned }
+    requires part { IsPartOf scanned part }
+    ensures best { IfOk result (AreBestOf scanned.entry part) }
 {
-    if halvings == 0 || to - from < FEW_LINKS {
-        return best_alone(alloc, links, live, labels, from, to);
+    if halvings == 0 || part.to - part.from < FEW_LINKS {
+        return best_alone(alloc, scanned, part);
     }
-    let middle = from + (to - from) / 2;
+    let middle = part.from + (part.to - part.from) / 2;
+    let first = Part {
+        from: part.from,
+        to: middle,
+    };
+    let second = Part {
+        from: middle,
+        to: part.to,
+    };
     let front = move || -> Result<Table<A>, AllocError>
-        requires { IsSync R.row × IsSend A.row × Frees A.Allocator A.dealloc_token × (0 < halvings) × CanScan links.now labels.now live × (from ≤ middle) × (middle ≤ count_of links.now live) }
-        ensures { IfOk result (λ table. AreBest links.entry.now labels.entry.now (place_at links.entry.now live.entry from) (place_at links.entry.now live.entry middle) table) }
-    { best_between(rt, alloc, links, live, labels, from, middle, halvings - 1) };
+        requires { IsSync R.row × IsSend A.row × Frees A.Allocator A.dealloc_token × (0 < halvings) × CanScan scanned × IsPartOf scanned first }
+        ensures { IfOk result (AreBestOf scanned.entry first) }
+    { best_between(rt, alloc, scanned, first, halvings - 1) };
     let back = move || -> Result<Table<A>, AllocError>
-        requires { IsSync R.row × IsSend A.row × Frees A.Allocator A.dealloc_token × (0 < halvings) × CanScan links.now labels.now live × (middle ≤ to) × (to ≤ count_of links.now live) }
-        ensures { IfOk result (λ table. AreBest links.entry.now labels.entry.now (place_at links.entry.now live.entry middle) (place_at links.entry.now live.entry to) table) }
-    { best_between(rt, alloc, links, live, labels, middle, to, halvings - 1) };
+        requires { IsSync R.row × IsSend A.row × Frees A.Allocator A.dealloc_token × (0 < halvings) × CanScan scanned × IsPartOf scanned second }
+        ensures { IfOk result (AreBestOf scanned.entry second) }
+    { best_between(rt, alloc, scanned, second, halvings - 1) };
     let (earlier, later) = join(rt, front, back);
     let mut table = earlier?;
     let rest = later?;
-    merge(links, &mut table, rest.bests());
+    merge(scanned.links, &mut table, rest.bests());
     Ok(table)
 }
 
 // The same in one thread.
 fn best_alone<A: Allocator + Copy>(
     alloc: A,
-    links: &[Link],
-    live: Option<&[LiveLink]>,
-    labels: &[u32],
-    from: usize,
-    to: usize,
+    scanned: Scanned,
+    part: Part,
 ) -> Result<Table<A>, AllocError>
-    requires can { CanScan links.now labels.now live }
-    requires range { from ≤ to }
-    requires in_list { to ≤ count_of links.now live }
-    ensures best { IfOk result (λ table.
-        AreBest links.now labels.now (place_at links.now live.entry from) (place_at links.now live.entry to) table) }
+    requires can { CanScan scanned }
+    requires part { IsPartOf scanned part }
+    ensures best { IfOk result (AreBestOf scanned.entry part) }
 {
+    let Scanned {
+        links,
+        live,
+        labels,
+    } = scanned;
     let mut table = Table::new(alloc);
     table.clear(labels.len())?;
     match live {
-        Some(told) => find_best_live(links, told, labels, from, to, &mut table),
+        Some(told) => find_best_live(links, told, labels, part, &mut table),
         None => {
-            let _ = find_best(links, labels, from, to, &mut table);
+            let _ = find_best(links, labels, part, &mut table);
         }
     }
     Ok(table)
@@ -122,8 +125,7 @@ fn merge<A: Allocator + Copy>(links: &[Link], table: &mut Table<A>, later: &[Bes
     requires few_links { length links.now ≤ MAX_SHARD_LINKS }
     requires each_label { length table.old ≡ length later.now }
     requires later { SayPlaces links.now later.now }
-    ensures best { (labels : List ℕ) (from at to : ℕ) → from ≤ at → at ≤ to → AreBest links.now labels from at table.old
-        → AreBest links.now labels at to later.now → AreBest links.now labels from to table.new }
+    ensures best { Merges links.now later.now table.old table.new }
 {
     for i in 0..later.len() {
         let next = later[i];

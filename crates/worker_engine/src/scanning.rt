@@ -10,6 +10,7 @@ ghost use Rattle.worker_engine.specs.Live.{AreLiveLinks};
 use crate::batches::{BATCH, NOTHING, keep_each, look_up};
 use crate::live::{LiveLink, find_best_and_pack, pack};
 use crate::parallel::{best_of_all, halvings_of};
+use crate::parts::{Part, Scanned};
 use crate::table::Table;
 use limits::MAX_SHARD_LINKS;
 use link_key::{Labels, Link, Offers};
@@ -122,7 +123,11 @@ impl<A: Allocator + Copy> Scanner<A> {
     {
         let labels = labels.as_slice();
         self.table.clear(labels.len())?;
-        let leaving = find_best(links, labels, 0, links.len(), &mut self.table);
+        let all = Part {
+            from: 0,
+            to: links.len(),
+        };
+        let leaving = find_best(links, labels, all, &mut self.table);
         let offers = offers_of(links, labels, &self.table)?;
         Ok((offers, leaving))
     }
@@ -167,11 +172,11 @@ impl<A: Allocator + Copy + Send + Sync> Scanner<A> {
     }
 
     // The same offers, and how many links leave a label.
-    pub(crate) fn scan_and_count_par<R: Threads + Sync, B: Allocator>(
+    pub(crate) fn scan_and_count_par<'a, R: Threads + Sync, B: Allocator>(
         &mut self,
         rt: &R,
-        links: &[Link],
-        labels: &Labels<B>,
+        links: &'a [Link],
+        labels: &'a Labels<B>,
     ) -> Result<(Offers<A>, usize), AllocError>
         requires few_links { length links.now ≤ MAX_SHARD_LINKS }
         requires ends { EndsUpTo (length labels.now) links.now }
@@ -184,18 +189,23 @@ impl<A: Allocator + Copy + Send + Sync> Scanner<A> {
         }
         let labels = labels.as_slice();
         let alloc = self.table.allocator();
-        self.table = best_of_all(rt, alloc, links, None, labels, halvings)?;
+        let scanned = Scanned {
+            links,
+            live: None,
+            labels,
+        };
+        self.table = best_of_all(rt, alloc, scanned, halvings)?;
         let offers = offers_of(links, labels, &self.table)?;
         Ok((offers, count_leaving(links, labels)))
     }
 
     // The same offers, by the live links alone, of which those that are quiet under the labels are laid aside first.
-    pub(crate) fn scan_live_par<R: Threads + Sync, B: Allocator>(
+    pub(crate) fn scan_live_par<'a, R: Threads + Sync, B: Allocator>(
         &mut self,
         rt: &R,
-        links: &[Link],
+        links: &'a [Link],
         live: &mut Vec<LiveLink, A>,
-        labels: &Labels<B>,
+        labels: &'a Labels<B>,
     ) -> Result<Offers<A>, AllocError>
         requires few_links { length links.now ≤ MAX_SHARD_LINKS }
         requires ends { EndsUpTo (length labels.now) links.now }
@@ -211,7 +221,12 @@ impl<A: Allocator + Copy + Send + Sync> Scanner<A> {
         let kept = pack(live.as_mut_slice(), labels);
         live.truncate(kept);
         let alloc = self.table.allocator();
-        self.table = best_of_all(rt, alloc, links, Some(live.as_slice()), labels, halvings)?;
+        let scanned = Scanned {
+            links,
+            live: Some(live.as_slice()),
+            labels,
+        };
+        self.table = best_of_all(rt, alloc, scanned, halvings)?;
         offers_of(links, labels, &self.table)
     }
 }
@@ -231,29 +246,27 @@ fn offers_of<A: Allocator + Copy>(
     Ok(Offers::of_known(table.gather(links, labels)?))
 }
 
-// The pass over the links from a place on before another, a batch at a time. It says how many of them leave a label, on
-// which no answer rests: whether to list the live ones, and room for how many to ask for.
+// The pass over a part of the links, a batch at a time. It says how many of them leave a label, on which no answer rests:
+// whether to list the live ones, and room for how many to ask for.
 pub(crate) fn find_best<A: Allocator + Copy>(
     links: &[Link],
     labels: &[u32],
-    from: usize,
-    to: usize,
+    part: Part,
     table: &mut Table<A>,
 ) -> usize
     requires few_links { length links.now ≤ MAX_SHARD_LINKS }
     requires ends { EndsUpTo (length labels.now) links.now }
     requires labels { AreLabels labels.now }
-    requires range { from ≤ to }
-    requires in_list { to ≤ length links.now }
+    requires in_list { part.to ≤ length links.now }
     requires none_yet { table.old ≡ replicate (length labels.now) no_best }
-    ensures best { AreBest links.now labels.now from to table.new }
-    ensures leaving { result ≤ to - from }
+    ensures best { AreBest links.now labels.now part.from part.to table.new }
+    ensures leaving { result ≤ part.to - part.from }
 {
     let mut batch = [NOTHING; BATCH];
     let mut leaving = 0;
-    let mut at = from;
-    while at < to {
-        let next = at + BATCH.min(to - at);
+    let mut at = part.from;
+    while at < part.to {
+        let next = at + BATCH.min(part.to - at);
         look_up(links, labels, at, next, &mut batch);
         leaving += keep_each(links, &batch, next - at, table);
         at = next;

@@ -1,11 +1,11 @@
 //! A worker's session: frames from a source, replies to a sink.
-ghost use Rattle.std.specs.Prelude.{◌≡◌, ◌≢◌, ◌+◌, ◌-◌, ◌<◌, ◌≤◌, ◌^◌, List, IfOk, IfErr, OnOk, OnErr, length};
+ghost use Rattle.std.specs.Prelude.{◌≡◌, ◌≢◌, ◌+◌, ◌-◌, ◌<◌, ◌≤◌, ◌^◌, IfOk, IfErr, OnOk, OnErr, length};
 ghost use Rattle.byte_streams.specs.Streams.{Took};
 ghost use Rattle.frames.specs.FrameValue.{FrameValue, value_of, HelloFrame, FaultFrame};
 ghost use Rattle.frames.specs.FrameText.{text_of};
 ghost use Rattle.frames.specs.Lawful.{IsLawful};
 ghost use Rattle.worker_engine.specs.Serving.{Shelf};
-ghost use Rattle.worker_engine.specs.Served.{EndsWell, EndsBy, IsTold, answers_in, faults_in, answer_bit, fault_bit, IsOwed, Stepped, WroteFor, CutFor, CutOff, Failed, Ungreeted};
+ghost use Rattle.worker_engine.specs.Served.{EndsWell, EndsBy, CountsReplies, answer_bit, fault_bit, IsOwed, WritesOwed, FailsOwed, WroteFor, CutFor, CutOff, Ungreeted};
 ghost use Rattle.worker_engine.specs.declared.session.ServeFault.TheVariants.{Read, Write};
 ghost use Rattle.frames.specs.declared.fault.FrameFault.TheVariants.{Ended};
 ghost use Rattle.worker_engine.specs.declared.session.Written.TheVariants.{AFault};
@@ -142,8 +142,7 @@ impl Served {
         requires few_frames { self.old.frames < 2 ^ 64 - 1 }
         requires few_replies { self.old.answers + self.old.faults ≤ self.old.frames }
         ensures frames { self.new.frames ≡ self.old.frames + 1 }
-        ensures replies { (now : List FrameValue) → IsTold written now
-            → (self.new.answers ≡ self.old.answers + answers_in now) × (self.new.faults ≡ self.old.faults + faults_in now) }
+        ensures replies { CountsReplies written self.old self.new }
         ensures few { self.new.answers + self.new.faults ≤ self.new.frames }
     {
         self.frames += 1;
@@ -200,10 +199,8 @@ fn write_owed<A: Allocator + Copy, W: Sink>(
 ) -> Result<Written, ServeFault>
     requires owed { (v : FrameValue) × (shelf : Shelf) × (shelf' : Shelf) × IsOwed v shelf shelf' owed }
     requires can { W.can_write sink.old }
-    ensures stepped { IfOk result (λ written. (v : FrameValue) (shelf shelf' : Shelf) → IsOwed v shelf shelf' owed
-        → Stepped v written shelf shelf' (W.state sink.old) (W.state sink.new)) }
-    ensures failed { IfErr result (λ fault. (v : FrameValue) (shelf shelf' : Shelf) → IsOwed v shelf shelf' owed
-        → Failed fault v shelf (W.state sink.old) (W.state sink.new)) }
+    ensures stepped { IfOk result (λ written. WritesOwed owed written (W.state sink.old) (W.state sink.new)) }
+    ensures failed { IfErr result (λ fault. FailsOwed owed fault (W.state sink.old) (W.state sink.new)) }
     ensures again { OnOk result (W.can_write sink.new) }
 {
     match owed {

@@ -1,10 +1,10 @@
 //! A worker's engine that hears the next frame of a stream.
-ghost use Rattle.std.specs.Prelude.{◌≡◌, ℕ, List, IsSome, IfOk, IfErr, OnOk, OnErr};
+ghost use Rattle.std.specs.Prelude.{◌≡◌, ℕ, List, IfOk, IfErr, OnOk};
 ghost use Rattle.frames.specs.FrameValue.{value_of, AskFrame};
 ghost use Rattle.frames.specs.Lawful.{IsLawful};
 ghost use Rattle.frames.specs.ReadFault.{IsReadRefused};
-ghost use Rattle.worker_engine.specs.Serving.{Shelf, shelf_of, IsReply};
-ghost use Rattle.worker_engine.specs.Served.{ask_in, IsOwed, HearsNext};
+ghost use Rattle.worker_engine.specs.Serving.{Shelf, shelf_of};
+ghost use Rattle.worker_engine.specs.Served.{ask_in, IsOwed, IsReplied, HearsNext};
 
 use super::threads::reply_under_par;
 use super::{Ask, Engine};
@@ -78,9 +78,8 @@ fn asked<A: Allocator>(frame: &Frame<A>) -> Option<(u32, u32)>
 
 // What is owed for an ask, where a shard's reply is this one.
 fn owed_for<A: Allocator>(ask: Ask, reply: Result<Frame<A>, AllocError>) -> Owed<A>
-    ensures { (shelf : Shelf) (labels : List ℕ)
-        → IfOk reply (λ r. IsReply (shelf ask.shard) ask.round ask.shard labels (value_of r) × IsLawful (value_of r))
-        → OnErr reply (IsSome (shelf ask.shard)) → IsOwed (AskFrame ask.round ask.shard labels) shelf shelf result }
+    ensures { (shelf : Shelf) (labels : List ℕ) → IsReplied shelf ask.round ask.shard labels reply
+        → IsOwed (AskFrame ask.round ask.shard labels) shelf shelf result }
 {
     match reply {
         Ok(reply) => Owed::Reply(Some(reply)),

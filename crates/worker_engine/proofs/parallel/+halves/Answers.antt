@@ -7,19 +7,27 @@ use Rattle.worker_engine.proofs.parallel.+halves.Goals as goal
 
 pub merge-requires-clause-later : goal.merge-requires-clause-later
 merge-requires-clause-later g t c =
-    let later = IfOk-at_ok (λ v. AreBest c.args.links.now c.args.labels.now _ _ v) c.in_ok-rest.was c.join-earlier.ensures.second in
-    rw c.bests.ensures (bests_say c.args.links.now c.args.labels.now _ _ c.in_ok-rest.rest later)
+    let scanned = c.args.scanned in
+    let links = scanned.links.now in
+    let labels = scanned.labels.now in
+    let part = c.args.part in
+    let from = place_at scanned (part.from + (part.to - part.from) / 2) in
+    let to = place_at scanned part.to in
+    let later = IfOk-at_ok (λ v. AreBest links labels from to v) c.in_ok-rest.was c.join-earlier.ensures.second in
+    rw c.bests.ensures (bests_say links labels from to c.in_ok-rest.rest later)
 
 pub returns : goal.returns
 returns g t c =
-    let links = c.args.links.now in
-    let labels = c.args.labels.now in
-    let live = c.args.live in
-    let middle = c.args.from + (c.args.to - c.args.from) / 2 in
-    let earlier = IfOk-at_ok (λ v. AreBest links labels (place_at links live c.args.from) (place_at links live middle) v) c.in_ok-table.was c.join-earlier.ensures.first in
-    let later = IfOk-at_ok (λ v. AreBest links labels (place_at links live middle) (place_at links live c.args.to) v) c.in_ok-rest.was c.join-earlier.ensures.second in
+    let scanned = c.args.scanned in
+    let links = scanned.links.now in
+    let labels = scanned.labels.now in
+    let live_links = c.requires.can.live_links in
+    let part = c.args.part in
+    let middle = part.from + (part.to - part.from) / 2 in
+    let earlier = IfOk-at_ok (λ v. AreBest links labels (place_at scanned part.from) (place_at scanned middle) v) c.in_ok-table.was c.join-earlier.ensures.first in
+    let later = IfOk-at_ok (λ v. AreBest links labels (place_at scanned middle) (place_at scanned part.to) v) c.in_ok-rest.was c.join-earlier.ensures.second in
     record {
       best = c.merge.ensures.best labels _ _ _
-          (place_ascends links labels live c.args.from middle c.requires.can (omega arith)) (place_ascends links labels live middle c.args.to c.requires.can (omega (arith, c.requires.range)))
+          (place_ascends links labels scanned.live part.from middle live_links (omega arith)) (place_ascends links labels scanned.live middle part.to live_links (omega (arith, part.ordered)))
           earlier (rw c.bests.ensures later);
     }

@@ -7,10 +7,10 @@ use Rattle.worker_engine.proofs.parallel.best_of_all.Goals as goal
 
 pub returns : goal.returns
 returns g c =
-    let links = c.args.links.now in
-    let labels = c.args.labels.now in
-    let live = c.args.live in
+    let scanned = c.args.scanned in
+    let links = scanned.links.now in
+    let labels = scanned.labels.now in
     record {
       best = IfOk-then c.best_between.result _ _ c.best_between.ensures.best (λ table are.
-          bests_whole links labels live table c.requires.can (subst (λ n. AreBest links labels (place_at links live 0) (place_at links live n) table) c.how_many-count.ensures are));
+          bests_whole links labels scanned.live table c.requires.can.live_links (subst (λ n. AreBest links labels (place_at scanned 0) (place_at scanned n) table) c.how_many-count.ensures are));
     }
