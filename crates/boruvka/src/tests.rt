@@ -611,14 +611,13 @@ fn refuses_words_that_are_wrong_before_they_ask_for_the_help(rt: HostRuntime) ->
     Ok(())
 }
 
-// A run over these lines, with its report, answers this status, and writes just these texts.
+// A run over these lines, with its report, answers this status, and writes just these texts, to the output and the errors.
 fn expect_over<L: Line + Send + Drop>(
     rt: &(impl Abort + Alloc<A = Global> + Threads + Wait + Sync),
     shards: u32,
     lines: Vec<L>,
     status: u8,
-    output: &[u8],
-    errors: &[u8],
+    texts: (&[u8], &[u8]),
 )
     requires few { length lines.items ≤ MAX_WORKERS }
     requires room { All (λ line. HasRoom (L.state line)) lines.items }
@@ -638,8 +637,8 @@ fn expect_over<L: Line + Send + Drop>(
         },
     );
     assert_eq!(rt; ended, status);
-    assert_eq!(rt; out.as_slice(), output);
-    assert_eq!(rt; err.as_slice(), errors);
+    assert_eq!(rt; out.as_slice(), texts.0);
+    assert_eq!(rt; err.as_slice(), texts.1);
 }
 
 // Lines to two workers in memory.
@@ -672,10 +671,10 @@ fn runs_over_lines_in_memory(rt: HostRuntime) -> Result<(), Fail> {
     let report =
         b"vertices=6 links=8 rounds=2 shards=2 asked=6 answered=6 alone=0 closed=0 total=13\n".as_slice();
     let lines = two_engines(rt.alloc())?;
-    expect_over(&rt, 2, lines, 0, SMALL_FOREST, report);
+    expect_over(&rt, 2, lines, 0, (SMALL_FOREST, report));
     let missed = b"boruvka: link 1 2 17 was missed\n".as_slice();
     let lines = a_lie(rt.alloc())?;
-    expect_over(&rt, 1, lines, 5, b"", missed);
+    expect_over(&rt, 1, lines, 5, (b"", missed));
     Ok(())
 }
 

@@ -1,5 +1,6 @@
 -- The state of the sequential solver's rounds: links with the labels of their ends, and new numbers of those labels.
-use Rattle.std.specs.Prelude.{◌≡◌, ◌≢◌, ℕ, ◌+◌, ◌<◌, ◌≤◌, ◌⊎◌, Bool, not, ◌==◌, if◌then◌else◌, List, [], ◌∷◌, ◌++◌, map, length, slice_index, slice_index_or, Contains}
+use Rattle.std.specs.Prelude.{◌≡◌, ◌≢◌, ℕ, ◌+◌, ◌<◌, ◌≤◌, ◌⊎◌, Bool, not, ◌==◌, if◌then◌else◌}
+use Rattle.std.specs.Prelude.{List, [], ◌∷◌, ◌++◌, map, length, slice_index, slice_index_or, Contains}
 use Rattle.std.specs.List.{All, sum_by}
 use Rattle.std.specs.List.Sorted.{IsSorted}
 use Rattle.std.specs.declared.cmp.Ordering.{Ordering}
@@ -130,7 +131,8 @@ marked (l ∷ links) (b ∷ marks) = if b then l ∷ marked links marks else mar
 abbrev pub MarkTouched : List Open → List Bool → List ℕ → List Bool → Type 0
 MarkTouched candidates marks numbers marks' =
     (d : Link) (links before : List Link) (labels : List ℕ) → length links ≡ length marks → AreOpenOf labels d links candidates
-    → AreTouched labels (links_of d links candidates) (links_of d links candidates) numbers (before ++ marked links marks) (before ++ marked links marks')
+    → AreTouched labels (links_of d links candidates) (links_of d links candidates) numbers
+    (before ++ marked links marks) (before ++ marked links marks')
 
 -- Whatever links they are of and whatever labels they had: those that are kept are links of these in the order of their
 -- keys, with the new numbers for labels. Which are kept isn't said here.

@@ -1,5 +1,6 @@
 -- Borůvka's rounds over links in the order of their keys, by labels of the vertices.
-use Rattle.std.specs.Prelude.{◌≡◌, ◌≢◌, ℕ, ◌+◌, ◌<◌, ◌≤◌, ◌⊎◌, Bool, not, ◌==◌, List, [], ◌++◌, map, take, drop, length, slice_index, EachIndex, Contains}
+use Rattle.std.specs.Prelude.{◌≡◌, ◌≢◌, ℕ, ◌+◌, ◌<◌, ◌≤◌, ◌⊎◌, Bool, not, ◌==◌}
+use Rattle.std.specs.Prelude.{List, [], ◌++◌, map, take, drop, length, slice_index, EachIndex, Contains}
 use Rattle.link_key.specs.declared.links.Link.{Link}
 use Rattle.link_key.specs.Link.{IsBelow}
 use Rattle.link_key.specs.Walk.{Joins}
@@ -58,7 +59,9 @@ IsStageOf links first list labels before = IsStage links (drop first list) [] la
 
 -- of the rest of a stage these links are taken, and by the new labels none of it is left
 abbrev pub TakeRest : List Link → List ℕ → List Link → List ℕ → Type 0
-TakeRest rest labels taken labels' = (all later before : List Link) → IsStage all rest later labels before → IsStage all [] later labels' (before ++ taken)
+TakeRest rest labels taken labels' =
+    (all later before : List Link) → IsStage all rest later labels before
+    → IsStage all [] later labels' (before ++ taken)
 
 -- of the rest of a stage the first links of a list are taken, and by the new labels the others of the list are left
 abbrev pub TakePart : List Link → List ℕ → ℕ → List Link → List ℕ → Type 0

@@ -1,5 +1,6 @@
 -- Lines for tests: one that stops at a chosen call or byte, and one that plays stored bytes.
-use Rattle.std.specs.Prelude.{◌≡◌, ℕ, ◌+◌, ◌-◌, ◌==◌, min, Bool, false, List, [], ◌++◌, length, take, drop, Some, None, Result, Ok, Err, if◌then◌else◌}
+use Rattle.std.specs.Prelude.{◌≡◌, ℕ, ◌+◌, ◌-◌, ◌==◌, min, Bool, false}
+use Rattle.std.specs.Prelude.{List, [], ◌++◌, length, take, drop, Some, None, Result, Ok, Err, if◌then◌else◌}
 use Rattle.std.specs.Io.{ReadsAtMost}
 use Rattle.ports.specs.declared.fused.Fuse.{Fuse}
 use Rattle.ports.specs.declared.fused.Fuse.TheVariants.{Calls, Bytes}

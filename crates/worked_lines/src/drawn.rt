@@ -4,7 +4,7 @@ ghost use Rattle.ports.specs.EngineLines.{line_of};
 ghost use Rattle.ports.specs.Lines.{HasRoom};
 ghost use Rattle.ports.specs.Testing.{with_stops};
 
-use crate::runs::run_of;
+use crate::runs::{Solved, run_of};
 use forest_run::{Cutting, run_plain};
 use ports::{EngineLine, FusedLine};
 use std::alloc::{AllocError, Global};
@@ -129,8 +129,12 @@ fn expect_same<R: Threads + Wait + Sync + Abort>(
         _ => Cutting::At(places.as_slice()),
     };
     let lines = drawn_lines(alloc, draws)?;
-    let size = (drawn.vertices, u64::from(drawn.links), alone.total);
-    run_of(rt, alloc, file, cutting, lines, text.as_slice(), size);
+    let solved = Solved {
+        file,
+        text: text.as_slice(),
+        size: (drawn.vertices, u64::from(drawn.links), alone.total),
+    };
+    run_of(rt, alloc, &solved, cutting, lines);
     Ok(())
 }
 

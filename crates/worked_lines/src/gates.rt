@@ -5,7 +5,7 @@ ghost use Rattle.ports.specs.EngineLines.{line_of};
 ghost use Rattle.ports.specs.Lines.{HasRoom};
 ghost use Rattle.ports.specs.Testing.{with_stops};
 
-use crate::runs::{run_of, run_of_worked};
+use crate::runs::{Solved, run_of, run_of_worked};
 use forest_run::Cutting;
 use ports::{EngineLine, Line, LineFault};
 use std::alloc::Global;
@@ -90,18 +90,18 @@ fn reaches(count: &AtomicU64, least: u64) -> bool {
     false
 }
 
-// A gate before the worker of this number, which is first asked for this shard.
+// A gate before the worker of this number, which is first asked for this shard: its own count, and the other's.
 fn gate_to<'a>(
     alloc: Global,
     worker: u32,
-    asked: &'a AtomicU64,
-    other: &'a AtomicU64,
+    counts: (&'a AtomicU64, &'a AtomicU64),
     least: u64,
     first: u8,
 ) -> Result<Gate<'a>, Fail>
     requires { worker < 64 }
     ensures room { IfOk result (λ line. HasRoom (with_stops (line_of line.line) line.stopped)) }
 {
+    let (asked, other) = counts;
     Ok(Gate {
         line: EngineLine::new(alloc, worker)?,
         asked,
@@ -121,7 +121,7 @@ fn nine_gates<'a>(alloc: Global, asked: &'a AtomicU64) -> Result<Vec<Gate<'a>>, 
 {
     let mut lines = Vec::new(alloc);
     for worker in 0..9u32 {
-        lines.push(gate_to(alloc, worker, asked, asked, 9, 2 * worker as u8)?)?;
+        lines.push(gate_to(alloc, worker, (asked, asked), 9, 2 * worker as u8)?)?;
     }
     Ok(lines)
 }
@@ -131,8 +131,8 @@ fn nine_gates<'a>(alloc: Global, asked: &'a AtomicU64) -> Result<Vec<Gate<'a>>, 
 fn lines_that_wait_for_each_other(rt: HostRuntime) -> Result<(), Fail> {
     let alloc = rt.alloc();
     let (zero, one) = (AtomicU64::new(0), AtomicU64::new(0));
-    let first = gate_to(alloc, 0, &zero, &one, 1, 0)?;
-    let lines = Vec::from_array(alloc, [first, gate_to(alloc, 1, &one, &zero, 1, 1)?])?;
+    let first = gate_to(alloc, 0, (&zero, &one), 1, 0)?;
+    let lines = Vec::from_array(alloc, [first, gate_to(alloc, 1, (&one, &zero), 1, 1)?])?;
     let counts = run_of_worked(&rt, alloc, &SMALL_NET, Cutting::Even(2), lines);
     assert_eq!(rt; counts, [2, 2, 6, 6, 0, 0]);
     Ok(())
@@ -143,8 +143,8 @@ fn lines_that_wait_for_each_other(rt: HostRuntime) -> Result<(), Fail> {
 fn a_line_that_waits_for_three_asks(rt: HostRuntime) -> Result<(), Fail> {
     let alloc = rt.alloc();
     let (zero, one) = (AtomicU64::new(0), AtomicU64::new(0));
-    let first = gate_to(alloc, 0, &zero, &one, 3, 0)?;
-    let lines = Vec::from_array(alloc, [first, gate_to(alloc, 1, &one, &zero, 0, 2)?])?;
+    let first = gate_to(alloc, 0, (&zero, &one), 3, 0)?;
+    let lines = Vec::from_array(alloc, [first, gate_to(alloc, 1, (&one, &zero), 0, 2)?])?;
     let counts = run_of_worked(&rt, alloc, &SMALL_NET, Cutting::Even(4), lines);
     assert_eq!(rt; counts, [2, 4, 12, 12, 0, 0]);
     Ok(())
@@ -224,15 +224,12 @@ fn workers_of_two_versions(rt: HostRuntime) -> Result<(), Fail> {
         got: 0,
     };
     let lines = Vec::from_array(alloc, [old, new])?;
-    let counts = run_of(
-        &rt,
-        alloc,
-        b"p sp 3 2\na 1 2 2147483648\na 2 3 5\n",
-        Cutting::Even(2),
-        lines,
-        b"p sp 3 2\na 2 3 5\na 1 2 2147483648\n",
-        (3, 2, 2147483653),
-    );
+    let solved = Solved {
+        file: b"p sp 3 2\na 1 2 2147483648\na 2 3 5\n",
+        text: b"p sp 3 2\na 2 3 5\na 1 2 2147483648\n",
+        size: (3, 2, 2147483653),
+    };
+    let counts = run_of(&rt, alloc, &solved, Cutting::Even(2), lines);
     assert_eq!(rt; counts, [1, 2, 5, 4, 0, 1]);
     Ok(())
 }

@@ -37,29 +37,33 @@ fn lawful_counts(rt: &impl Abort, report: &Report, lines: usize) -> Counts {
     [rounds, shards, asked, answered, alone, closed]
 }
 
-// The counts of a run over these lines, which gives this text, finds so many vertices and links, and a forest of this
-// total. It reads its whole source, and gives as many lines back.
+// A file, the text of its forest, how many vertices and links it has, and what the forest weighs.
+pub(crate) struct Solved<'a> {
+    pub(crate) file: &'a [u8],
+    pub(crate) text: &'a [u8],
+    pub(crate) size: (u32, u64, i128),
+}
+
+// The counts of a run of this file over these lines. It reads its whole source, and gives as many lines back.
 pub(crate) fn run_of<L: Line + Send + Drop, R: Threads + Wait + Sync + Abort>(
     rt: &R,
     alloc: Global,
-    file: &[u8],
+    solved: &Solved,
     cutting: Cutting,
     lines: Vec<L>,
-    text: &[u8],
-    size: (u32, u64, i128),
 ) -> Counts
     requires few { length lines.items ≤ 64 }
     requires room { All (λ line. HasRoom (L.state line)) lines.items }
 {
     let count = lines.len();
-    let mut source = file;
+    let mut source = solved.file;
     let mut sink = Vec::new(alloc);
     let ended = run_lines(rt, alloc, &mut source, cutting, lines, &mut sink);
     let (report, lines) = ended.expect(rt, "a forest");
-    assert_eq!(rt; sink.as_slice(), text);
+    assert_eq!(rt; sink.as_slice(), solved.text);
     assert!(rt; source.is_empty());
     assert_eq!(rt; lines.len(), count);
-    assert_eq!(rt; (report.vertices, report.links, report.total), size);
+    assert_eq!(rt; (report.vertices, report.links, report.total), solved.size);
     lawful_counts(rt, &report, count)
 }
 
@@ -75,8 +79,12 @@ pub(crate) fn run_of_worked<L: Line + Send + Drop, R: Threads + Wait + Sync + Ab
     requires room { All (λ line. HasRoom (L.state line)) lines.items }
 {
     let links = graph.arcs.iter().filter(|arc| arc.0 != arc.1).count();
-    let size = (graph.n, links as u64, graph.total);
-    run_of(rt, alloc, graph.file, cutting, lines, graph.text, size)
+    let solved = Solved {
+        file: graph.file,
+        text: graph.text,
+        size: (graph.n, links as u64, graph.total),
+    };
+    run_of(rt, alloc, &solved, cutting, lines)
 }
 
 // Why a run over these lines ends, which writes nothing.

@@ -3,7 +3,7 @@ ghost use Rattle.std.specs.Prelude.{◌≡◌, length, All, IfOk};
 ghost use Rattle.ports.specs.Lines.{HasRoom};
 ghost use Rattle.ports.specs.Testing.{line_of_script};
 
-use crate::runs::{fault_of, run_of, run_of_worked};
+use crate::runs::{Solved, fault_of, run_of, run_of_worked};
 use forest_run::{Cutting, RunFault};
 use link_key::Link;
 use ports::ScriptLine;
@@ -68,15 +68,12 @@ fn an_offer_that_is_too_heavy(rt: HostRuntime) -> Result<(), Fail> {
         rt.alloc(),
         &[&[36, 1, 0, 3, 1, 0, 2, 0, 3, 1], &[12, 2, 0, 0]],
     )?;
-    let counts = run_of(
-        &rt,
-        rt.alloc(),
-        EQUAL_WEIGHTS.file,
-        Cutting::Even(1),
-        lines,
-        b"p sp 3 2\na 1 2 5\na 2 3 5\n",
-        (3, 3, 10),
-    );
+    let solved = Solved {
+        file: EQUAL_WEIGHTS.file,
+        text: b"p sp 3 2\na 1 2 5\na 2 3 5\n",
+        size: (3, 3, 10),
+    };
+    let counts = run_of(&rt, rt.alloc(), &solved, Cutting::Even(1), lines);
     assert_eq!(rt; counts, [1, 1, 2, 2, 0, 0]);
     Ok(())
 }
@@ -105,27 +102,21 @@ fn answers_past_the_bound(rt: HostRuntime) -> Result<(), Fail> {
 fn a_worker_of_the_first_version(rt: HostRuntime) -> Result<(), Fail> {
     let text = b"p sp 2 1\na 1 2 2147483648\n";
     let lines = script(rt.alloc(), &[])?;
-    let counts = run_of(
-        &rt,
-        rt.alloc(),
+    let solved = Solved {
+        file: text,
         text,
-        Cutting::Even(1),
-        lines,
-        text,
-        (2, 1, 2147483648),
-    );
+        size: (2, 1, 2147483648),
+    };
+    let counts = run_of(&rt, rt.alloc(), &solved, Cutting::Even(1), lines);
     assert_eq!(rt; counts, [1, 1, 1, 0, 2, 1]);
     let text = b"p sp 3 2\na 1 2 5\na 2 3 2147483648\n";
     let lines = script(rt.alloc(), &[&[28, 1, 0, 2, 1, 0, 2, 0]])?;
-    let counts = run_of(
-        &rt,
-        rt.alloc(),
+    let solved = Solved {
+        file: text,
         text,
-        Cutting::Even(2),
-        lines,
-        text,
-        (3, 2, 2147483653),
-    );
+        size: (3, 2, 2147483653),
+    };
+    let counts = run_of(&rt, rt.alloc(), &solved, Cutting::Even(2), lines);
     assert_eq!(rt; counts, [1, 2, 2, 1, 3, 1]);
     Ok(())
 }

@@ -1,6 +1,6 @@
 // The worked graphs over lines to workers in memory.
 use crate::in_memory::{engines, text_over_workers};
-use crate::runs::{run_of, run_of_worked};
+use crate::runs::{Solved, run_of, run_of_worked};
 use forest_run::Cutting;
 use std::test::Fail;
 use worked_graphs::{A_PATH_OF_EIGHT, NO_VERTICES, SMALL_NET, WORKED};
@@ -41,15 +41,12 @@ fn no_workers(rt: HostRuntime) -> Result<(), Fail> {
 fn a_weight_of_64_bits(rt: HostRuntime) -> Result<(), Fail> {
     let text = b"p sp 2 1\na 1 2 2147483648\n";
     let lines = engines(rt.alloc(), 1)?;
-    let counts = run_of(
-        &rt,
-        rt.alloc(),
+    let solved = Solved {
+        file: text,
         text,
-        Cutting::Even(1),
-        lines,
-        text,
-        (2, 1, 2147483648),
-    );
+        size: (2, 1, 2147483648),
+    };
+    let counts = run_of(&rt, rt.alloc(), &solved, Cutting::Even(1), lines);
     assert_eq!(rt; counts, [1, 1, 2, 2, 0, 0]);
     Ok(())
 }

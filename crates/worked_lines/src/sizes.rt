@@ -1,6 +1,6 @@
 // A run past the size of every inner piece, of 40,000 vertices and links and 15 merging rounds, and one of 9,000 links between few vertices.
 use crate::in_memory::engines;
-use crate::runs::run_of;
+use crate::runs::{Solved, run_of};
 use forest_run::Cutting;
 use std::alloc::Global;
 use std::test::Fail;
@@ -52,15 +52,12 @@ fn a_ring_of_forty_thousand_over_three_workers(rt: HostRuntime) -> Result<(), Fa
     let text = path_text(alloc, b"p sp 40000 39999\n", MANY)?;
     let lines = engines(alloc, 3)?;
     let size = (MANY, u64::from(MANY), 39_989);
-    let counts = run_of(
-        &rt,
-        alloc,
-        file.as_slice(),
-        Cutting::Even(7),
-        lines,
-        text.as_slice(),
+    let solved = Solved {
+        file: file.as_slice(),
+        text: text.as_slice(),
         size,
-    );
+    };
+    let counts = run_of(&rt, alloc, &solved, Cutting::Even(7), lines);
     assert_eq!(rt; counts, [15, 7, 112, 112, 0, 0]);
     Ok(())
 }
@@ -87,15 +84,12 @@ fn many_links_of_few_vertices_without_a_worker(rt: HostRuntime) -> Result<(), Fa
     let file = fan(alloc)?;
     let text = path_text(alloc, b"p sp 100 99\n", FEW)?;
     let lines = engines(alloc, 0)?;
-    let counts = run_of(
-        &rt,
-        alloc,
-        file.as_slice(),
-        Cutting::Even(1),
-        lines,
-        text.as_slice(),
-        (FEW, 9099, 95),
-    );
+    let solved = Solved {
+        file: file.as_slice(),
+        text: text.as_slice(),
+        size: (FEW, 9099, 95),
+    };
+    let counts = run_of(&rt, alloc, &solved, Cutting::Even(1), lines);
     assert_eq!(rt; counts, [6, 1, 0, 0, 7, 0]);
     Ok(())
 }

@@ -75,12 +75,16 @@ pub record EndsAtWrite (worker : ℕ) (source source' : SourceState) (sink sink'
   pub gave : Gave 0 0 (texts_of heard.frames) source source'
   pub took : Took 1 (take count heard.out) sink sink'
 
+-- the last of the frames is a shard
+abbrev pub EndWithShard : List FrameValue → Type 0
+EndWithShard frames = (before : List FrameValue) × (number : ℕ) × (links : List Link) × (frames ≡ before ++ ShardFrame number links ∷ [])
+
 -- memory was wanting for the hello, of which nothing was written then, or for a shard: what is owed was written
 pub record EndsAtMemory (worker : ℕ) (source source' : SourceState) (sink sink' : SinkState) : Type 0 where
   pub heard : Heard worker
   pub written : List ℕ
   pub cause : ((heard.frames ≡ []) × (written ≡ []))
-      ⊎ ((written ≡ heard.out) × ((before : List FrameValue) × (number : ℕ) × (links : List Link) × (heard.frames ≡ before ++ ShardFrame number links ∷ [])))
+      ⊎ ((written ≡ heard.out) × EndWithShard heard.frames)
   pub gave : Gave 0 0 (texts_of heard.frames) source source'
   pub took : Took 0 written sink sink'
 
