@@ -3,6 +3,7 @@ ghost use Rattle.std.specs.Prelude.{◌≡◌, ◌<◌};
 ghost use Rattle.claim_board.specs.State.{AreSeats};
 
 use crate::fault_texts::expect_told;
+use crate::same::{expect_same, expect_same_at};
 use claim_board::{Board, BoardFault, Claim, Owners, Seat};
 use limits::{MAX_SHARDS, MAX_WORKERS};
 use std::alloc::{AllocError, Global};
@@ -46,11 +47,13 @@ fn a_shard_goes_from_seat_to_seat(rt: HostRuntime) -> Result<(), Fail> {
     let gave = give_back(&board, &mut seats, 0, 0);
     let last = claim(&board, &mut seats, 1, 0);
     let owners = board.close(seats)?;
-    assert_eq!(rt;
+    expect_same(
+        &rt,
         [first, other, again, last],
-        [Claim::Won, Claim::Held(0), Claim::Held(0), Claim::Won]
+        [Claim::Won, Claim::Held(0), Claim::Held(0), Claim::Won],
     );
-    assert!(rt; gave && [owners.of(0), owners.of(1), owners.of(2)] == [Some(1), None, None]);
+    let found = (gave, owners.of(0), owners.of(1), owners.of(2));
+    expect_same(&rt, found, (true, Some(1), None, None));
     Ok(())
 }
 
@@ -96,12 +99,19 @@ fn two_threads_share_all_shards(rt: HostRuntime) -> Result<(), Fail> {
     let wins = claim_all_at_once(&rt, &board, &mut seats);
     let holders = holders(rt.alloc(), seats.as_slice())?;
     let owners = board.close(seats)?;
-    assert_eq!(rt; wins, 4096);
-    for shard in 0..MAX_SHARDS as u32 {
-        let holder = holders.get(shard as usize);
-        assert!(rt; owners.of(shard).is_some() && holder == Some(&owners.of(shard)));
-    }
+    let are_held = are_held(&owners, holders.as_slice());
+    expect_same(&rt, (wins, are_held), (4096, true));
     Ok(())
+}
+
+// Whether each shard has an owner, who is the holder of its place.
+fn are_held(owners: &Owners<Global>, holders: &[Option<u32>]) -> bool {
+    let mut all = true;
+    for shard in 0..MAX_SHARDS as u32 {
+        let owner = owners.of(shard);
+        all = all && owner.is_some() && holders.get(shard as usize) == Some(&owner);
+    }
+    all
 }
 
 // The seat that holds a shard, of each shard.
@@ -156,11 +166,11 @@ fn take_turns(board: &Board<Global>, seats: &mut Vec<Seat>, shards: u32, count: 
 fn expect_board(rt: &impl Abort, alloc: Global, shards: u32, count: u32) -> Result<(), Fail> {
     assert!(rt; 1 <= shards && shards <= MAX_SHARDS as u32 && 1 <= count && count <= MAX_WORKERS);
     let (board, mut seats) = Board::open(alloc, shards, count)?;
-    assert!(rt; are_new(seats.as_slice(), count));
+    let new = are_new(seats.as_slice(), count);
     let went = take_turns(&board, &mut seats, shards, count);
     let owners = board.close(seats)?;
-    assert!(rt; went);
-    expect_owners(rt, &owners, shards, count);
+    let owned = are_owned(&owners, shards, count);
+    expect_same_at(rt, (new, went, owned), (true, true, true), (shards, count));
     Ok(())
 }
 
@@ -176,19 +186,20 @@ fn are_new(seats: &[Seat], count: u32) -> bool {
     number == count
 }
 
-// Each even shard is held by the seat that took turns with it, and no other is held.
-fn expect_owners(rt: &impl Abort, owners: &Owners<Global>, shards: u32, count: u32)
+// Whether each even shard is held by the seat that took turns with it, and no other is held.
+fn are_owned(owners: &Owners<Global>, shards: u32, count: u32) -> bool
     requires { 0 < count }
 {
+    let mut all = owners.of(shards).is_none();
     for shard in 0..shards {
         let owner = if shard % 2 == 0 {
             Some(shard % count)
         } else {
             None
         };
-        assert_eq!(rt; owners.of(shard), owner);
+        all = all && owners.of(shard) == owner;
     }
-    assert_eq!(rt; owners.of(shards), None);
+    all
 }
 
 // Boards of few shards and of as many as there may be, to the last shard of a word of 64 bits and past it; and every

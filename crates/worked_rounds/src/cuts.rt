@@ -1,6 +1,7 @@
 //! Lists of links cut into shards.
 ghost use Rattle.std.specs.Prelude.{◌≤◌, ◌^◌, length, IfOk};
 
+use crate::same::{expect_same, expect_same_at};
 use link_key::{Cut, CutFault, Link, check_even, check_places};
 use std::alloc::{AllocError, Global};
 use std::process::Abort;
@@ -28,16 +29,28 @@ fn sizes(
     cut: &Cut,
     links: &[Link],
 ) -> Result<Vec<usize>, AllocError> {
+    expect_joined(rt, alloc, cut, links)?;
     let mut sizes = Vec::new(alloc);
+    for number in 0..cut.len() {
+        sizes.push(cut.shard(number).links.len())?;
+    }
+    Ok(sizes)
+}
+
+fn expect_joined(
+    rt: &impl Abort,
+    alloc: Global,
+    cut: &Cut,
+    links: &[Link],
+) -> Result<(), AllocError> {
     let mut joined = Vec::new(alloc);
     for number in 0..cut.len() {
         let shard = cut.shard(number);
-        assert_eq!(rt; shard.number, number);
-        sizes.push(shard.links.len())?;
+        expect_same(rt, shard.number, number);
         joined.extend_from_slice(shard.links)?;
     }
-    assert_eq!(rt; joined.as_slice(), links);
-    Ok(sizes)
+    expect_same(rt, joined.as_slice(), links);
+    Ok(())
 }
 
 // The cut has shards of these sizes.
@@ -50,7 +63,7 @@ fn expect_sizes(
 ) -> Result<(), Fail> {
     let cut = cut.expect(rt, "a cut");
     let sizes_of_cut = sizes(rt, alloc, &cut, links)?;
-    assert_eq!(rt; sizes_of_cut.as_slice(), wanted);
+    expect_same(rt, sizes_of_cut.as_slice(), wanted);
     Ok(())
 }
 
@@ -103,7 +116,7 @@ fn refused_cuts(rt: HostRuntime) -> Result<(), Fail> {
         Some(CutFault::NoShards),
         Some(CutFault::TooManyShards),
     ];
-    assert_eq!(rt; cuts, refused);
+    expect_same(&rt, cuts, refused);
     let checks = [
         check_even(16777217, 1),
         check_even(16777217, 2),
@@ -116,8 +129,16 @@ fn refused_cuts(rt: HostRuntime) -> Result<(), Fail> {
         Err(CutFault::BadPlaces),
         Ok(()),
     ];
-    assert_eq!(rt; checks, expected);
+    expect_same(&rt, checks, expected);
     Ok(())
+}
+
+fn are_two_or_three(sizes: &[usize]) -> bool {
+    let mut all = true;
+    for size in sizes {
+        all = all && (*size == 2 || *size == 3);
+    }
+    all
 }
 
 #[test]
@@ -125,28 +146,53 @@ fn as_many_shards_as_there_may_be(rt: HostRuntime) -> Result<(), Fail> {
     let alloc = rt.alloc();
     let links = path(&rt, alloc, 10000)?;
     for count in [4095, 4096] {
-        let cut = Cut::even(alloc, links.as_slice(), count).expect(&rt, "a cut");
-        let sizes_of_cut = sizes(&rt, alloc, &cut, links.as_slice())?;
-        assert_eq!(rt; sizes_of_cut.len(), count as usize);
-        assert!(rt; sizes_of_cut.iter().all(|size| *size == 2 || *size == 3));
+        expect_twos_and_threes(&rt, alloc, links.as_slice(), count)?;
     }
     Ok(())
 }
 
+// An even cut has so many shards, each of two links or three.
+fn expect_twos_and_threes(
+    rt: &impl Abort,
+    alloc: Global,
+    links: &[Link],
+    count: u32,
+) -> Result<(), Fail>
+    requires { length links.now ≤ 2 ^ 30 }
+{
+    let cut = Cut::even(alloc, links, count).expect(rt, "a cut");
+    let sizes = sizes(rt, alloc, &cut, links)?;
+    let found = (sizes.len(), are_two_or_three(sizes.as_slice()));
+    expect_same_at(rt, found, (count as usize, true), count);
+    Ok(())
+}
+
 // The place numbered from 1 on is twice its number, and one more where that is odd.
+fn ascending_places(alloc: Global) -> Result<Vec<usize>, AllocError> {
+    let mut places = Vec::new(alloc);
+    for number in 1..4096usize {
+        places.push(2 * number + number % 2)?;
+    }
+    Ok(places)
+}
+
+// How many of 10,000 links lie before each of these places, and behind the last.
+fn sizes_between(alloc: Global) -> Result<Vec<usize>, AllocError> {
+    let mut sizes = Vec::new(alloc);
+    for number in 1..4096usize {
+        sizes.push(if number % 2 == 1 { 3 } else { 1 })?;
+    }
+    sizes.push(1809)?;
+    Ok(sizes)
+}
+
 #[test]
 fn as_many_places_as_there_may_be(rt: HostRuntime) -> Result<(), Fail> {
     let alloc = rt.alloc();
     let links = path(&rt, alloc, 10000)?;
-    let mut places = Vec::new(alloc);
-    let mut wanted: Vec<usize> = Vec::new(alloc);
-    for number in 1..4096usize {
-        places.push(2 * number + number % 2)?;
-        wanted.push(if number % 2 == 1 { 3 } else { 1 })?;
-    }
-    wanted.push(1809)?;
-    let cut = Cut::at(alloc, links.as_slice(), places.as_slice()).expect(&rt, "a cut");
-    let sizes_of_cut = sizes(&rt, alloc, &cut, links.as_slice())?;
-    assert_eq!(rt; sizes_of_cut.as_slice(), wanted.as_slice());
-    Ok(())
+    let places = ascending_places(alloc)?;
+    let wanted = sizes_between(alloc)?;
+    let links = links.as_slice();
+    let cut = Cut::at(alloc, links, places.as_slice());
+    expect_sizes(&rt, alloc, cut, links, wanted.as_slice())
 }

@@ -1,6 +1,7 @@
 // A worker's engine over a triangle of equal weights: what it hears, and whole sessions.
 ghost use Rattle.std.specs.Prelude.{◌-◌, ◌<◌, ◌^◌};
 
+use crate::same::{expect_same, expect_same_at};
 use crate::scans::{By, Worker, many_labels, many_links, plain_offers};
 use crate::sizes::{apart, falling, falling_offers};
 use byte_streams::{FusedSink, FusedSource};
@@ -134,7 +135,11 @@ fn expect_session(
 ) -> Result<(), Fail> {
     let (end, sink) = session(rt, alloc, heard, limit)?;
     let written = joined(alloc, expected.written)?;
-    assert_eq!(rt; (end, sink.as_slice()), (expected.end, written.as_slice()));
+    expect_same(
+        rt,
+        (end, sink.as_slice()),
+        (expected.end, written.as_slice()),
+    );
     Ok(())
 }
 
@@ -216,24 +221,25 @@ fn an_ask_torn_at_each_byte(rt: HostRuntime) -> Result<(), Fail> {
     Ok(())
 }
 
-// The worker hears the frame with these bytes, and replies so, if it replies.
-fn expect_reply(
+// What the worker replies to the frame with these bytes, if it replies.
+fn replied(
     rt: &(impl Abort + Threads + Sync),
     alloc: Global,
     worker: &mut Worker,
     heard: &[u8],
-    reply: Option<&[u8]>,
-) -> Result<(), Fail> {
+) -> Result<Option<Vec<u8>>, Fail> {
     let mut source = heard;
     let frame = read_frame(alloc, &mut source)?;
-    match (worker.reply(rt, frame)?, reply) {
-        (Some(told), Some(bytes)) => {
-            assert!(rt; told.is_lawful());
-            assert_eq!(rt; encode(alloc, &told)?.as_slice(), bytes);
-        }
-        (told, expected) => assert!(rt; told.is_none() && expected.is_none()),
+    match worker.reply(rt, frame)? {
+        Some(told) => Ok(Some(lawful_text(rt, alloc, &told)?)),
+        None => Ok(None),
     }
-    Ok(())
+}
+
+// The text of a frame, which is lawful.
+fn lawful_text(rt: &impl Abort, alloc: Global, frame: &Frame) -> Result<Vec<u8>, Fail> {
+    assert!(rt; frame.is_lawful());
+    Ok(encode(alloc, frame)?)
 }
 
 // What a worker hears, and what it replies.
@@ -252,24 +258,56 @@ const HEARD: [(&[u8], Option<&[u8]>); 8] = [
 fn an_engine_hears_each_kind_of_frame(rt: HostRuntime) -> Result<(), Fail> {
     for by in [By::OneThread, By::Threads] {
         let mut worker = Worker::new(rt.alloc(), by);
-        for (heard, reply) in HEARD {
-            expect_reply(&rt, rt.alloc(), &mut worker, heard, reply)?;
-        }
+        expect_replies(&rt, rt.alloc(), &mut worker)?;
     }
     Ok(())
 }
 
-// The source gives the shard and the ask and so many bytes of the next ask, and then fails.
+// The worker hears these frames, one after the other, and replies so.
+fn expect_replies(
+    rt: &(impl Abort + Threads + Sync),
+    alloc: Global,
+    worker: &mut Worker,
+) -> Result<(), Fail> {
+    for (heard, reply) in HEARD {
+        let replied = replied(rt, alloc, worker, heard)?;
+        let found = match &replied {
+            Some(bytes) => Some(bytes.as_slice()),
+            None => None,
+        };
+        expect_same(rt, found, reply);
+    }
+    Ok(())
+}
+
+// How a session ends, and what it has written, whose source gives the shard and the ask and so many bytes of the next
+// ask, and then fails.
+fn cut_session(
+    rt: &(impl Threads + Sync),
+    alloc: Global,
+    count: usize,
+) -> Result<(Result<Served, ServeFault>, Vec<u8>), AllocError>
+    requires { count < 29 }
+{
+    let bytes = joined(alloc, &[&SHARD, &ASK, &ASK])?;
+    let mut source = FusedSource::new(bytes, 78 + count, 5);
+    let mut sink = Vec::new(alloc);
+    let end = serve(rt, alloc, 0, &mut source, &mut sink);
+    Ok((end, sink))
+}
+
 #[test]
 fn reads_that_fail_in_mid_session(rt: HostRuntime) -> Result<(), Fail> {
     let owed = joined(rt.alloc(), &[&HELLO, &ANSWER])?;
     for count in 0..29 {
-        let bytes = joined(rt.alloc(), &[&SHARD, &ASK, &ASK])?;
-        let mut source = FusedSource::new(bytes, 78 + count, 5);
-        let mut sink = Vec::new(rt.alloc());
-        let end = serve(&rt, rt.alloc(), 0, &mut source, &mut sink);
-        assert_eq!(rt; end, Err(ServeFault::Read(FrameFault::Device)));
-        assert_eq!(rt; sink.as_slice(), owed.as_slice());
+        let (end, sink) = cut_session(&rt, rt.alloc(), count)?;
+        let expected = Err(ServeFault::Read(FrameFault::Device));
+        expect_same_at(
+            &rt,
+            (end, sink.as_slice()),
+            (expected, owed.as_slice()),
+            count,
+        );
     }
     Ok(())
 }
@@ -286,8 +324,7 @@ fn expect_cut(
     let bytes = joined(alloc, &[&SHARD, &ASK])?;
     let mut source = bytes.as_slice();
     let end = serve(rt, alloc, 0, &mut source, &mut sink);
-    assert_eq!(rt; end, Err(ServeFault::Write));
-    assert_eq!(rt; sink.held(), taken);
+    expect_same(rt, (end, sink.held()), (Err(ServeFault::Write), taken));
     Ok(())
 }
 
@@ -326,30 +363,44 @@ fn expect_answers(
     expect_session(rt, alloc, &parts, None, expected)
 }
 
+// A session over many links does so.
+fn expect_answers_of_many(rt: &(impl Abort + Threads + Sync), alloc: Global) -> Result<(), Fail> {
+    let links = many_links(alloc)?;
+    let labels = many_labels(alloc)?;
+    let expected = plain_offers(alloc, 0, links.as_slice(), &labels)?;
+    expect_answers(rt, alloc, links.as_slice(), &labels, expected)
+}
+
+// A session over so many links round the path of n vertices does so.
+fn expect_answers_of_falling(
+    rt: &(impl Abort + Threads + Sync),
+    alloc: Global,
+    n: u32,
+    count: u32,
+) -> Result<(), Fail> {
+    let links = falling(alloc, n, 0, count)?;
+    let labels = apart(alloc, n)?;
+    let expected = falling_offers(alloc, n, count, &labels)?;
+    expect_answers(rt, alloc, links.as_slice(), &labels, expected)
+}
+
 #[test]
 fn sessions_over_many_links(rt: HostRuntime) -> Result<(), Fail> {
-    let alloc = rt.alloc();
-    let links = many_links(&rt, alloc)?;
-    let labels = many_labels(&rt, alloc)?;
-    let expected = plain_offers(&rt, alloc, 0, links.as_slice(), &labels)?;
-    expect_answers(&rt, alloc, links.as_slice(), &labels, expected)?;
+    expect_answers_of_many(&rt, rt.alloc())?;
     for (n, count) in [(7, 65_536), (7, 131_073), (7, 300_000)] {
-        let links = falling(alloc, n, 0, count)?;
-        let labels = apart(&rt, alloc, n)?;
-        let expected = falling_offers(&rt, alloc, n, count, &labels)?;
-        expect_answers(&rt, alloc, links.as_slice(), &labels, expected)?;
+        expect_answers_of_falling(&rt, rt.alloc(), n, count)?;
     }
     Ok(())
 }
 
 // Each of 20,001 vertices has its own label, but this one, which has that of the vertex before; vertex 0 is none.
-fn labels_but(rt: &impl Abort, alloc: Global, vertex: u32) -> Result<Labels, Fail> {
+fn labels_but(alloc: Global, vertex: u32) -> Result<Labels, Fail> {
     let mut list = Vec::with_capacity(alloc, 20_001)?;
     for before in 0..20_001u32 {
         let own = before + 1;
         list.push(if own == vertex { before } else { own })?;
     }
-    Ok(Labels::of_list(list).expect(rt, "labels"))
+    Ok(Labels::of_list(list).ok_or("labels")?)
 }
 
 // The text of a shard.
@@ -371,8 +422,7 @@ fn answer_text(
         shard,
         offers,
     });
-    assert!(rt; answer.is_lawful());
-    Ok(encode(alloc, &answer)?)
+    lawful_text(rt, alloc, &answer)
 }
 
 // The texts of an ask of a round for a shard and of its answer, by a scan of its own.
@@ -390,14 +440,73 @@ fn asked_and_answered(
     Ok((ask, answer_text(rt, alloc, round, number, offers)?))
 }
 
+/// What a session hears, and what it writes.
+#[derive(Drop)]
+struct Texts {
+    heard: Vec<u8>,
+    written: Vec<u8>,
+}
+
+impl Texts {
+    // A shard that isn't held is asked for, and then this one.
+    fn ask(
+        &mut self,
+        rt: &impl Abort,
+        alloc: Global,
+        vertex: u32,
+        shard: &Shard,
+    ) -> Result<(), Fail> {
+        let labels = labels_but(alloc, vertex)?;
+        let not_held = encode_ask(alloc, vertex, 9, &labels)?;
+        self.heard.extend_from_slice(not_held.as_slice())?;
+        self.written.extend_from_slice(&fault_bytes(vertex, 9, 2))?;
+        let (ask, answer) = asked_and_answered(rt, alloc, vertex, shard, &labels)?;
+        self.heard.extend_from_slice(ask.as_slice())?;
+        self.written.extend_from_slice(answer.as_slice())?;
+        Ok(())
+    }
+
+    // The shards are sent, and asked for under labels that change.
+    fn ask_each(&mut self, rt: &impl Abort, alloc: Global, shards: &[Shard]) -> Result<(), Fail> {
+        for shard in shards {
+            let text = shard_text(rt, alloc, shard)?;
+            self.heard.extend_from_slice(text.as_slice())?;
+        }
+        let vertices: [u32; 10] = [0, 0, 20_001, 20_001, 10_000, 0, 2, 2, 0, 20_001];
+        for vertex in vertices {
+            for shard in shards {
+                self.ask(rt, alloc, vertex, shard)?;
+            }
+        }
+        Ok(())
+    }
+}
+
+// Such a session ends so.
+fn expect_asks(
+    rt: &(impl Abort + Threads + Sync),
+    alloc: Global,
+    shards: &[Shard],
+) -> Result<(), Fail> {
+    let mut texts = Texts {
+        heard: Vec::new(alloc),
+        written: Vec::from_slice(alloc, &HELLO)?,
+    };
+    texts.ask_each(rt, alloc, shards)?;
+    let expected = Ended {
+        end: served(42, 20, 20),
+        written: &[texts.written.as_slice()],
+    };
+    expect_session(rt, alloc, &[texts.heard.as_slice()], None, expected)
+}
+
 // Two shards are asked for again and again, under labels that come again, that differ in the last, a middle or the first
 // piece alone, that coarsen those before and that don't. Each answer is that of a scan of its own; so is each behind asks
 // of a shard that isn't held.
 #[test]
 fn asks_under_labels_that_change(rt: HostRuntime) -> Result<(), Fail> {
-    let alloc = rt.alloc();
-    let first = falling(alloc, 20_001, 0, 20_000)?;
-    let second = falling(alloc, 20_001, 7, 31_000)?;
+    let first = falling(rt.alloc(), 20_001, 0, 20_000)?;
+    let second = falling(rt.alloc(), 20_001, 7, 31_000)?;
     let shards = [
         Shard {
             number: 3,
@@ -408,25 +517,5 @@ fn asks_under_labels_that_change(rt: HostRuntime) -> Result<(), Fail> {
             links: second.as_slice(),
         },
     ];
-    let mut heard = Vec::new(alloc);
-    for shard in &shards {
-        heard.extend_from_slice(shard_text(&rt, alloc, shard)?.as_slice())?;
-    }
-    let mut written = Vec::from_slice(alloc, &HELLO)?;
-    let vertices: [u32; 10] = [0, 0, 20_001, 20_001, 10_000, 0, 2, 2, 0, 20_001];
-    for vertex in vertices {
-        let labels = labels_but(&rt, alloc, vertex)?;
-        for shard in &shards {
-            heard.extend_from_slice(encode_ask(alloc, vertex, 9, &labels)?.as_slice())?;
-            written.extend_from_slice(&fault_bytes(vertex, 9, 2))?;
-            let (ask, answer) = asked_and_answered(&rt, alloc, vertex, shard, &labels)?;
-            heard.extend_from_slice(ask.as_slice())?;
-            written.extend_from_slice(answer.as_slice())?;
-        }
-    }
-    let expected = Ended {
-        end: served(42, 20, 20),
-        written: &[written.as_slice()],
-    };
-    expect_session(&rt, alloc, &[heard.as_slice()], None, expected)
+    expect_asks(&rt, rt.alloc(), &shards)
 }

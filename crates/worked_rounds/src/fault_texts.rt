@@ -1,4 +1,5 @@
 // What the faults of a worker's session are told as.
+use crate::same::expect_same;
 use frames::FrameFault;
 use std::alloc::Global;
 use std::fmt::Display;
@@ -14,7 +15,7 @@ pub(crate) fn expect_told(
     text: &str,
 ) -> Result<(), Fail> {
     let told = format!(in alloc; "{fault}")?;
-    assert_eq!(rt; told.as_str(), text);
+    expect_same(rt, told.as_str(), text);
     Ok(())
 }
 

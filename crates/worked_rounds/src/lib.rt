@@ -14,6 +14,7 @@
 //!   memory_counts                an allocator that counts its blocks
 //!   memory_of_lists              which blocks live after a list was handed in
 //!   memory_of_scans              which blocks scans and asks take
+//!   same                         what is found beside what is expected
 //! ```
 #![tactic(auto)]
 
@@ -35,6 +36,8 @@ mod memory_of_lists;
 mod memory_of_scans;
 #[cfg(test)]
 mod refusals;
+#[cfg(test)]
+mod same;
 #[cfg(test)]
 mod scans;
 #[cfg(test)]

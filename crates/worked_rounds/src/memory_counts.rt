@@ -1,27 +1,22 @@
 // The allocator that counts its blocks and refuses chosen allocations.
-use std::alloc::{Allocator, Global};
-use std::process::Abort;
+use crate::same::expect_same;
+use std::alloc::Allocator;
 use std::test::Fail;
 use test_memory::{Refusals, Refusing};
 
-// So many blocks were asked for, so many were given, so many were given back, and so many live.
-pub(crate) fn expect_counts<A: Allocator>(
-    rt: &impl Abort,
-    memory: &Refusing<A>,
-    expected: [u64; 4],
-) {
-    let counts = [
+// How many blocks were asked for, were given, were given back, and live.
+pub(crate) fn counts<A: Allocator>(memory: &Refusing<A>) -> [u64; 4] {
+    [
         memory.asked(),
         memory.given(),
         memory.given_back(),
         memory.live(),
-    ];
-    assert_eq!(rt; counts, expected);
+    ]
 }
 
-// The next allocation is refused.
-pub(crate) fn expect_refused<A: Allocator>(rt: &impl Abort, memory: &Refusing<A>) {
-    assert!(rt; Box::new(memory, 8u8).is_err());
+// Whether the next allocation is refused.
+pub(crate) fn refuses<A: Allocator>(memory: &Refusing<A>) -> bool {
+    Box::new(memory, 8u8).is_err()
 }
 
 #[test]
@@ -29,23 +24,33 @@ fn counts_blocks(rt: HostRuntime) -> Result<(), Fail> {
     let memory = Refusing::new(rt.alloc(), Refusals::none());
     let first = Box::new(&memory, 7u8)?;
     let second = Box::new(&memory, 8u8)?;
-    expect_counts(&rt, &memory, [2, 2, 0, 2]);
+    let both = counts(&memory);
     drop(first);
-    expect_counts(&rt, &memory, [2, 2, 1, 1]);
+    let one = counts(&memory);
     drop(second);
-    expect_counts(&rt, &memory, [2, 2, 2, 0]);
+    let none = counts(&memory);
+    expect_same(
+        &rt,
+        [both, one, none],
+        [[2, 2, 0, 2], [2, 2, 1, 1], [2, 2, 2, 0]],
+    );
     Ok(())
 }
 
 #[test]
 fn refuses_one(rt: HostRuntime) -> Result<(), Fail> {
     let memory = Refusing::new(rt.alloc(), Refusals::only(2));
-    assert_eq!(rt; memory.refusals(), Refusals { first: 2, last: 2 });
     let first = Box::new(&memory, 7u8)?;
-    expect_refused(&rt, &memory);
+    let refused = refuses(&memory);
     let third = Box::new(&memory, 9u8)?;
-    expect_counts(&rt, &memory, [3, 2, 0, 2]);
-    assert_eq!(rt; (*first, *third), (7, 9));
+    let refusals = Refusals { first: 2, last: 2 };
+    let found = (
+        memory.refusals(),
+        refused,
+        counts(&memory),
+        (*first, *third),
+    );
+    expect_same(&rt, found, (refusals, true, [3, 2, 0, 2], (7, 9)));
     Ok(())
 }
 
@@ -53,10 +58,13 @@ fn refuses_one(rt: HostRuntime) -> Result<(), Fail> {
 fn refuses_from_a_number_on(rt: HostRuntime) -> Result<(), Fail> {
     let memory = Refusing::new(rt.alloc(), Refusals::since(2));
     let first = Box::new(&memory, 7u8)?;
-    expect_refused(&rt, &memory);
-    expect_refused(&rt, &memory);
+    let refused = (refuses(&memory), refuses(&memory));
     drop(first);
-    expect_counts(&rt, &memory, [3, 1, 1, 0]);
+    expect_same(
+        &rt,
+        (refused, counts(&memory)),
+        ((true, true), [3, 1, 1, 0]),
+    );
     Ok(())
 }
 
@@ -66,9 +74,10 @@ fn a_growth_is_refused(rt: HostRuntime) -> Result<(), Fail> {
     let memory = Refusing::new(rt.alloc(), Refusals::since(2));
     let mut numbers = Vec::with_capacity(&memory, 1)?;
     numbers.push(1u32)?;
-    assert!(rt; numbers.push(2u32).is_err() && numbers.as_slice() == [1].as_slice());
+    let refused = numbers.push(2u32).is_err();
+    expect_same(&rt, (refused, numbers.as_slice()), (true, [1].as_slice()));
     drop(numbers);
-    expect_counts(&rt, &memory, [2, 1, 1, 0]);
+    expect_same(&rt, counts(&memory), [2, 1, 1, 0]);
     Ok(())
 }
 
@@ -80,9 +89,9 @@ fn ten_thousand_numbers_are_kept(rt: HostRuntime) -> Result<(), Fail> {
     for number in 0..10_000u32 {
         numbers.push(number)?;
     }
-    assert!(rt; numbers.iter().copied().eq(0..10_000));
-    assert_eq!(rt; memory.live(), 1);
+    let kept = numbers.iter().copied().eq(0..10_000);
+    let live = memory.live();
     drop(numbers);
-    assert_eq!(rt; memory.live(), 0);
+    expect_same(&rt, (kept, live, memory.live()), (true, 1, 0));
     Ok(())
 }

@@ -1,4 +1,5 @@
 // Which blocks of memory scans and engines take, which no contract counts.
+use crate::same::{expect_same, expect_same_at};
 use crate::scans::{By, Worker, expect_offers};
 use crate::sizes::{apart, falling};
 use link_key::{Labels, Link, Offers};
@@ -30,23 +31,31 @@ fn parts(rt: &impl Threads, most: u64) -> u64 {
     }
 }
 
-// How many blocks a scan of so many links between n vertices takes, and how many one by threads.
+// How many blocks a scan of so many links between n vertices takes, how many one by threads, and how many live then.
 fn blocks(
     rt: &(impl Abort + Threads + Sync),
     alloc: Global,
     n: u32,
     count: u32,
-) -> Result<(u64, u64), Fail> {
+) -> Result<(u64, u64, u64), Fail> {
     let links = falling(alloc, n, 0, count)?;
-    let links = links.as_slice();
-    let labels = apart(rt, alloc, n)?;
+    let labels = apart(alloc, n)?;
+    blocks_of_scans(rt, alloc, links.as_slice(), &labels)
+}
+
+fn blocks_of_scans(
+    rt: &(impl Abort + Threads + Sync),
+    alloc: Global,
+    links: &[Link],
+    labels: &Labels,
+) -> Result<(u64, u64, u64), Fail> {
     assert!(rt; links.len() <= 1 << 24 && have_labels(links, labels.n()));
     let memory = Refusing::new(alloc, Refusals::none());
-    drop(scan(&memory, links, &labels)?);
+    drop(scan(&memory, links, labels)?);
     let by_one = memory.given();
-    drop(scan_par(rt, &memory, links, &labels)?);
-    assert_eq!(rt; memory.live(), 0);
-    Ok((by_one, memory.given().wrapping_sub(by_one)))
+    drop(scan_par(rt, &memory, links, labels)?);
+    let by_threads = memory.given().wrapping_sub(by_one);
+    Ok((by_one, by_threads, memory.live()))
 }
 
 // A table is three blocks. Links are scanned by threads wherever there are processors for it, and a part has at least as
@@ -55,16 +64,16 @@ fn blocks(
 fn a_table_for_each_part(rt: HostRuntime) -> Result<(), Fail> {
     let alloc = rt.alloc();
     for (n, count, most) in PARTS {
-        let (by_one, by_threads) = blocks(&rt, alloc, n, count)?;
+        let (by_one, by_threads, live) = blocks(&rt, alloc, n, count)?;
         let more = parts(&rt, most).wrapping_sub(1).wrapping_mul(3);
-        assert_eq!(rt;
-            by_threads,
-            by_one.wrapping_add(more),
-            "{n} vertices, {count} links"
-        );
+        let expected = (by_one.wrapping_add(more), 0);
+        expect_same_at(&rt, (by_threads, live), expected, (n, count));
     }
     Ok(())
 }
+
+/// Memory that counts its blocks, of which some may be refused.
+type Memory = Refusing<Global>;
 
 // The scan of no links under the labels of n vertices gives no offers.
 fn scan_none<A: Allocator + Copy>(
@@ -73,7 +82,7 @@ fn scan_none<A: Allocator + Copy>(
     scanner: &mut Scanner<A>,
     n: u32,
 ) -> Result<(), Fail> {
-    let labels = apart(rt, alloc, n)?;
+    let labels = apart(alloc, n)?;
     expect_offers(rt, &scanner.scan(&[], &labels)?, &[]);
     Ok(())
 }
@@ -84,6 +93,15 @@ fn scan_none<A: Allocator + Copy>(
 fn the_table_of_a_scan_is_used_again(rt: HostRuntime) -> Result<(), Fail> {
     let memory = Refusing::new(rt.alloc(), Refusals::none());
     let mut scanner = Scanner::new(&memory);
+    expect_tables(&rt, rt.alloc(), &memory, &mut scanner)
+}
+
+fn expect_tables<'a>(
+    rt: &impl Abort,
+    alloc: Global,
+    memory: &'a Memory,
+    scanner: &mut Scanner<&'a Memory>,
+) -> Result<(), Fail> {
     for (n, given) in [
         (7, 3),
         (7, 3),
@@ -94,14 +112,11 @@ fn the_table_of_a_scan_is_used_again(rt: HostRuntime) -> Result<(), Fail> {
         (50, 5),
         (1000, 8),
     ] {
-        scan_none(&rt, rt.alloc(), &mut scanner, n)?;
-        assert_eq!(rt; memory.given(), given);
+        scan_none(rt, alloc, scanner, n)?;
+        expect_same_at(rt, memory.given(), given, n);
     }
     Ok(())
 }
-
-/// Memory that counts its blocks, of which some may be refused.
-type Memory = Refusing<Global>;
 
 // How many blocks a worker takes to keep so many links.
 fn blocks_to_keep<'a>(
@@ -121,9 +136,17 @@ fn blocks_to_keep<'a>(
 fn a_shard_is_kept_without_a_copy(rt: HostRuntime) -> Result<(), Fail> {
     let memory = Refusing::new(rt.alloc(), Refusals::none());
     let mut worker = Worker::new(&memory, By::OneThread);
+    expect_blocks_to_keep(&rt, &memory, &mut worker)
+}
+
+fn expect_blocks_to_keep<'a>(
+    rt: &(impl Abort + Threads + Sync),
+    memory: &'a Memory,
+    worker: &mut Worker<&'a Memory>,
+) -> Result<(), Fail> {
     for (number, blocks) in [(0, 1), (1, 0), (2, 0)] {
-        let taken = blocks_to_keep(&rt, &memory, &mut worker, number)?;
-        assert_eq!(rt; taken, blocks);
+        let taken = blocks_to_keep(rt, memory, worker, number)?;
+        expect_same_at(rt, taken, blocks, number);
     }
     Ok(())
 }
@@ -153,12 +176,32 @@ fn expect_asks(
     asks: &[Ask],
 ) -> Result<(), Fail> {
     let mut worker = Worker::new(memory, by);
+    expect_asks_of(rt, memory, &mut worker, asks)
+}
+
+fn expect_asks_of<'a>(
+    rt: &(impl Abort + Threads + Sync),
+    memory: &'a Memory,
+    worker: &mut Worker<&'a Memory>,
+    asks: &[Ask],
+) -> Result<(), Fail> {
     worker.keep(rt, 0, falling(memory, 2, 0, 131_072)?)?;
     for (second, blocks) in asks {
-        let (_offers, taken) = answered(rt, memory, &mut worker, &[1, *second])?;
-        assert_eq!(rt; taken, *blocks);
+        let taken = blocks_of_ask(rt, memory, worker, *second)?;
+        expect_same(rt, taken, *blocks);
     }
     Ok(())
+}
+
+// How many blocks a worker asks for to answer, where the second of two vertices has this label.
+fn blocks_of_ask<'a>(
+    rt: &(impl Abort + Threads + Sync),
+    memory: &'a Memory,
+    worker: &mut Worker<&'a Memory>,
+    second: u32,
+) -> Result<u64, Fail> {
+    let (_offers, taken) = answered(rt, memory, worker, &[1, second])?;
+    Ok(taken)
 }
 
 const BY_ONE: [Ask; 4] = [(2, 4), (1, 0), (1, 0), (2, 1)];
@@ -192,26 +235,36 @@ fn expect_coarser_asks(
     by: By,
     asks: &[CoarserAsk],
 ) -> Result<u64, Fail> {
-    let links = falling(alloc, 3, 0, 2000)?;
     let mut worker = Worker::new(memory, by);
+    expect_coarser_asks_of(rt, alloc, memory, &mut worker, asks)
+}
+
+fn expect_coarser_asks_of<'a>(
+    rt: &(impl Abort + Threads + Sync),
+    alloc: Global,
+    memory: &'a Memory,
+    worker: &mut Worker<&'a Memory>,
+    asks: &[CoarserAsk],
+) -> Result<u64, Fail> {
     worker.keep(rt, 0, falling(memory, 3, 0, 2000)?)?;
     let before = memory.asked();
     for (list, blocks) in asks {
-        let (offers, taken) = answered(rt, memory, &mut worker, list)?;
-        assert_eq!(rt; taken, *blocks);
-        expect_scanned(rt, alloc, &offers, links.as_slice(), list)?;
+        let (offers, taken) = answered(rt, memory, worker, list)?;
+        expect_same(rt, taken, *blocks);
+        expect_scanned(rt, alloc, &offers, list)?;
     }
     Ok(before)
 }
 
-// The offers are those of a scan of these links under these labels.
+// The offers are those of a scan of the worker's links under these labels.
 fn expect_scanned<A: Allocator>(
     rt: &impl Abort,
     alloc: Global,
     offers: &Offers<A>,
-    links: &[Link],
     list: &[u32],
 ) -> Result<(), Fail> {
+    let links = falling(alloc, 3, 0, 2000)?;
+    let links = links.as_slice();
     let labels = Labels::of_list(list.to_vec(alloc)?).expect(rt, "labels");
     assert!(rt; links.len() <= 1 << 24 && have_labels(links, labels.n()));
     let expected = scan(alloc, links, &labels)?;
@@ -240,8 +293,7 @@ fn live_links_are_listed_once(rt: HostRuntime) -> Result<(), Fail> {
     for by in [By::OneThread, By::Threads] {
         let memory = Refusing::new(rt.alloc(), Refusals::none());
         let before = expect_coarser_asks(&rt, rt.alloc(), &memory, by, &LISTED)?;
-        let list = before.wrapping_add(8);
-        let memory = Refusing::new(rt.alloc(), Refusals::only(list));
+        let memory = Refusing::new(rt.alloc(), Refusals::only(before.wrapping_add(8)));
         expect_coarser_asks(&rt, rt.alloc(), &memory, by, &NOT_LISTED_FIRST)?;
     }
     Ok(())

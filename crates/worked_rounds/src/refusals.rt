@@ -1,5 +1,6 @@
 //! Allocations that are refused, one after the other.
-use crate::memory_counts::{expect_counts, expect_refused};
+use crate::memory_counts::{counts, refuses};
+use crate::same::{expect_same, expect_same_at};
 use std::alloc::{AllocError, Global};
 use std::test::Fail;
 use test_memory::{Found, Refusals, Refusing, refuse_each};
@@ -54,7 +55,7 @@ fn each_allocation_is_refused_in_turn(rt: HostRuntime) {
             most,
             |memory: &Refusing<Global>| -> Result<(), AllocError> { done(work, memory) },
         );
-        assert_eq!(rt; found, expected, "{work:?}");
+        expect_same_at(&rt, found, expected, work);
     }
 }
 
@@ -64,12 +65,20 @@ fn blocks_come_from_the_allocator_behind_and_go_back_to_it(rt: HostRuntime) -> R
     let behind = Refusing::new(rt.alloc(), Refusals::none());
     let memory = Refusing::new(&behind, Refusals::only(2));
     let first = Box::new(&memory, 7u8)?;
-    expect_counts(&rt, &behind, [1, 1, 0, 1]);
-    expect_refused(&rt, &memory);
-    expect_counts(&rt, &behind, [1, 1, 0, 1]);
+    let before = counts(&behind);
+    let refused = refuses(&memory);
+    let meanwhile = counts(&behind);
     drop(first);
-    expect_counts(&rt, &behind, [1, 1, 1, 0]);
-    expect_counts(&rt, &memory, [2, 1, 1, 0]);
+    expect_same(
+        &rt,
+        (before, refused, meanwhile),
+        ([1, 1, 0, 1], true, [1, 1, 0, 1]),
+    );
+    expect_same(
+        &rt,
+        [counts(&behind), counts(&memory)],
+        [[1, 1, 1, 0], [2, 1, 1, 0]],
+    );
     Ok(())
 }
 
@@ -78,6 +87,9 @@ fn blocks_come_from_the_allocator_behind_and_go_back_to_it(rt: HostRuntime) -> R
 fn a_refusal_behind_is_passed_on(rt: HostRuntime) {
     let behind = Refusing::new(rt.alloc(), Refusals::only(1));
     let memory = Refusing::new(&behind, Refusals::none());
-    expect_refused(&rt, &memory);
-    expect_counts(&rt, &memory, [1, 0, 0, 0]);
+    expect_same(
+        &rt,
+        (refuses(&memory), counts(&memory)),
+        (true, [1, 0, 0, 0]),
+    );
 }

@@ -1,4 +1,5 @@
 //! A set of shards, to its last one.
+use crate::same::{expect_same, expect_same_at};
 use shard_set::ShardSet;
 use std::test::Fail;
 
@@ -11,24 +12,18 @@ fn shards_are_put_in_and_taken_out(rt: HostRuntime) -> Result<(), Fail> {
     shards.insert(64);
     shards.remove(63);
     shards.remove(62);
-    assert_eq!(rt;
-        (
-            shards.has(0),
-            shards.has(62),
-            shards.has(63),
-            shards.has(64)
-        ),
-        (true, false, false, true)
-    );
-    assert_eq!(rt;
-        (
-            shards.has(65),
-            shards.has(4095),
-            shards.has(4096),
-            shards.has(u32::MAX)
-        ),
-        (false, true, false, false)
-    );
+    let held = [
+        shards.has(0),
+        shards.has(62),
+        shards.has(63),
+        shards.has(64),
+        shards.has(65),
+        shards.has(4095),
+        shards.has(4096),
+        shards.has(u32::MAX),
+    ];
+    let expected = [true, false, false, true, false, true, false, false];
+    expect_same(&rt, held, expected);
     Ok(())
 }
 
@@ -37,13 +32,13 @@ fn shards_are_put_in_and_taken_out(rt: HostRuntime) -> Result<(), Fail> {
 fn every_shard_is_held_once(rt: HostRuntime) -> Result<(), Fail> {
     let mut shards = ShardSet::empty();
     for shard in 0..4096u32 {
-        assert!(rt; !shards.has(shard));
+        expect_same_at(&rt, shards.has(shard), false, shard);
         shards.insert(shard);
     }
     for shard in 0..4096u32 {
-        assert!(rt; shards.has(shard));
+        let before = shards.has(shard);
         shards.remove(shard);
-        assert!(rt; !shards.has(shard));
+        expect_same_at(&rt, (before, shards.has(shard)), (true, false), shard);
     }
     Ok(())
 }

@@ -4,6 +4,7 @@
 // expected is written by a formula, here.
 ghost use Rattle.std.specs.Prelude.{◌<◌, ◌^◌};
 
+use crate::same::expect_same_at;
 use crate::scans::{By, Worker, neighbours, plain_offers, scanned};
 use link_key::{Labels, Link};
 use std::alloc::{AllocError, Allocator, Global};
@@ -70,7 +71,6 @@ pub(crate) fn falling<A: Allocator>(
 
 // The offers of so many such links: the last ones, once round the path, are the least.
 pub(crate) fn falling_offers(
-    rt: &impl Abort,
     alloc: Global,
     n: u32,
     count: u32,
@@ -78,25 +78,37 @@ pub(crate) fn falling_offers(
 ) -> Result<Vec<(u32, u32)>, Fail> {
     let from = count.saturating_sub(n);
     let last = falling(alloc, n, from, count)?;
-    plain_offers(rt, alloc, from, last.as_slice(), labels)
+    plain_offers(alloc, from, last.as_slice(), labels)
 }
 
 // The labels of n vertices, each by itself.
-pub(crate) fn apart(rt: &impl Abort, alloc: Global, n: u32) -> Result<Labels, Fail> {
-    neighbours(rt, alloc, n, 1)
+pub(crate) fn apart(alloc: Global, n: u32) -> Result<Labels, Fail> {
+    neighbours(alloc, n, 1)
 }
 
 #[test]
 fn scans_of_each_size(rt: HostRuntime) -> Result<(), Fail> {
     let alloc = rt.alloc();
     let mut scanner = Scanner::new(alloc);
-    for (n, count) in SIZES {
-        let links = falling(alloc, n, 0, count)?;
-        let labels = apart(&rt, alloc, n)?;
-        let expected = falling_offers(&rt, alloc, n, count, &labels)?;
-        let offers = scanned(&rt, alloc, &mut scanner, links.as_slice(), &labels)?;
-        assert_eq!(rt; offers.pairs(), expected.as_slice(), "{count} links");
+    for size in SIZES {
+        expect_scan(&rt, alloc, &mut scanner, size)?;
     }
+    Ok(())
+}
+
+// Such links are scanned so, each vertex a component by itself.
+fn expect_scan(
+    rt: &(impl Abort + Threads + Sync),
+    alloc: Global,
+    scanner: &mut Scanner,
+    size: Size,
+) -> Result<(), Fail> {
+    let (n, count) = size;
+    let links = falling(alloc, n, 0, count)?;
+    let labels = apart(alloc, n)?;
+    let expected = falling_offers(alloc, n, count, &labels)?;
+    let offers = scanned(rt, alloc, scanner, links.as_slice(), &labels)?;
+    expect_same_at(rt, offers.pairs(), expected.as_slice(), size);
     Ok(())
 }
 
@@ -111,10 +123,10 @@ fn expect_answer(
     requires { 0 < component }
 {
     let (n, count) = size;
-    let labels = neighbours(rt, alloc, n, component)?;
-    let expected = falling_offers(rt, alloc, n, count, &labels)?;
+    let labels = neighbours(alloc, n, component)?;
+    let expected = falling_offers(alloc, n, count, &labels)?;
     let offers = worker.answered(rt, 0, labels)?;
-    assert_eq!(rt; offers.pairs(), expected.as_slice(), "{count} links");
+    expect_same_at(rt, offers.pairs(), expected.as_slice(), size);
     Ok(())
 }
 
@@ -126,11 +138,19 @@ fn expect_answers(
     by: By,
     size: Size,
 ) -> Result<(), Fail> {
-    let (n, count) = size;
     let mut worker = Worker::new(alloc, by);
-    worker.keep(rt, 0, falling(alloc, n, 0, count)?)?;
+    expect_answers_of(rt, alloc, &mut worker, size)
+}
+
+fn expect_answers_of(
+    rt: &(impl Abort + Threads + Sync),
+    alloc: Global,
+    worker: &mut Worker,
+    size: Size,
+) -> Result<(), Fail> {
+    worker.keep(rt, 0, falling(alloc, size.0, 0, size.1)?)?;
     for component in [1, 2, 2] {
-        expect_answer(rt, alloc, &mut worker, size, component)?;
+        expect_answer(rt, alloc, worker, size, component)?;
     }
     Ok(())
 }
@@ -159,7 +179,7 @@ fn expect_shard(
     number: u32,
 ) -> Result<(), Fail> {
     worker.keep(rt, number, falling(alloc, 2, 0, 1)?)?;
-    worker.expect_answer(rt, number, apart(rt, alloc, 2)?, &[(1, 0), (2, 0)])
+    worker.expect_answer(rt, number, apart(alloc, 2)?, &[(1, 0), (2, 0)])
 }
 
 // An engine keeps as many shards as there may be, each sent twice and asked for behind each time.
