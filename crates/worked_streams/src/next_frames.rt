@@ -1,6 +1,6 @@
 // The next frame behind an ask, beside what is read of the same bytes alone: labels that come again, that differ in one
-// place, that are none, and streams that end or fail inside a piece. 4,096 labels are compared at a time, so the 20,001
-// labels here come in five pieces, and have more than 65,536 bytes.
+// place, that are none, and streams that end or fail inside a piece. 16,384 labels are compared at a time, so the 80,001
+// labels here come in five pieces.
 ghost use Rattle.std.specs.Prelude.{◌≤◌};
 
 use crate::same::{expect_same, expect_same_at};
@@ -12,11 +12,11 @@ use std::process::Abort;
 use std::test::Fail;
 use test_memory::{Refusals, Refusing};
 
-const COUNT: u32 = 20_001;
+const COUNT: u32 = 80_001;
 
 // The vertices at which labels differ: in the first piece, at the ends of pieces and beside them, and in the last one alone.
 const PLACES: [u32; 9] = [
-    2, 4_095, 4_096, 4_097, 10_000, 16_384, 16_385, 20_000, 20_001,
+    2, 16_383, 16_384, 16_385, 40_000, 65_536, 65_537, 80_000, 80_001,
 ];
 
 // What the next frame says behind these labels, as bytes.
@@ -107,7 +107,7 @@ fn expect_ask(
 
 #[test]
 fn labels_that_come_again_take_no_memory(rt: HostRuntime) -> Result<(), Fail> {
-    for vertex in [0, 2, 10_000, 20_001] {
+    for vertex in [0, 2, 40_000, 80_001] {
         let labels = labels_but(&rt, rt.alloc(), vertex)?;
         expect_ask(&rt, rt.alloc(), &labels, &labels, 0)?;
     }
@@ -131,11 +131,12 @@ fn labels_that_differ_in_one_place(rt: HostRuntime) -> Result<(), Fail> {
 #[test]
 fn a_stream_cut_inside_a_piece(rt: HostRuntime) -> Result<(), Fail> {
     let last = labels_but(&rt, rt.alloc(), 0)?;
-    for vertex in [0, 2, 10_000, 20_001] {
+    for vertex in [0, 2, 40_000, 80_001] {
         let labels = labels_but(&rt, rt.alloc(), vertex)?;
         let bytes = ask(rt.alloc(), &labels)?;
         for count in [
-            0, 4, 5, 6, 16, 17, 18, 16_400, 16_401, 16_402, 30_000, 40_018, 80_000, 80_018, 80_020,
+            0, 4, 5, 6, 16, 17, 18, 65_552, 65_553, 65_554, 120_000, 160_018, 320_000, 320_018,
+            320_020,
         ] {
             assert!(rt; count < bytes.len());
             let cut = &bytes.as_slice()[..count];
@@ -146,15 +147,15 @@ fn a_stream_cut_inside_a_piece(rt: HostRuntime) -> Result<(), Fail> {
     Ok(())
 }
 
-// An ask whose bytes from a place on are these, whole, cut, and from a source that fails. Whole it has an unlawful field.
+// An ask that has these bytes from a place on, whole, cut, and from a source that fails. Whole it has an unlawful field.
 fn expect_unlawful(
     rt: &impl Abort,
     alloc: Global,
     labels: &Labels,
     last: &Labels,
-    place: usize,
-    field: &[u8],
+    unlawful: (usize, [u8; 4]),
 ) -> Result<(), Fail> {
+    let (place, field) = unlawful;
     let mut bytes = ask(alloc, labels)?;
     for (i, byte) in field.iter().enumerate() {
         assert!(rt; place < 1 << 20 && place + i < bytes.len());
@@ -162,7 +163,7 @@ fn expect_unlawful(
     }
     let found = read_next(alloc, &mut bytes.as_slice(), last.as_slice()).err();
     expect_same(rt, found, Some(FrameFault::BadField));
-    for count in [17, 40_000, 80_020] {
+    for count in [17, 160_000, 320_020] {
         assert!(rt; count < bytes.len());
         let cut = &bytes.as_slice()[..count];
         expect_as_alone(rt, alloc, cut, usize::MAX, last)?;
@@ -176,20 +177,20 @@ fn expect_unlawful(
 #[test]
 fn an_ask_with_an_unlawful_field(rt: HostRuntime) -> Result<(), Fail> {
     let apart = labels_but(&rt, rt.alloc(), 0)?;
-    let other = labels_but(&rt, rt.alloc(), 10_000)?;
+    let other = labels_but(&rt, rt.alloc(), 40_000)?;
     for last in [&apart, &other] {
-        for (place, field) in [
+        for unlawful in [
             (9, [0, 0, 16, 0]),
             (9, [255, 255, 255, 255]),
-            (13, [0, 0, 78, 32]),
-            (13, [0, 0, 78, 34]),
+            (13, [0, 1, 56, 128]),
+            (13, [0, 1, 56, 130]),
             (17, [0, 0, 0, 0]),
             (17, [0, 0, 0, 2]),
-            (40_013, [0, 0, 255, 255]),
-            (80_017, [0, 0, 78, 34]),
-            (80_017, [255, 255, 255, 255]),
+            (160_013, [0, 0, 255, 255]),
+            (320_017, [0, 1, 56, 130]),
+            (320_017, [255, 255, 255, 255]),
         ] {
-            expect_unlawful(&rt, rt.alloc(), &apart, last, place, &field)?;
+            expect_unlawful(&rt, rt.alloc(), &apart, last, unlawful)?;
         }
     }
     Ok(())
@@ -199,7 +200,7 @@ fn an_ask_with_an_unlawful_field(rt: HostRuntime) -> Result<(), Fail> {
 #[test]
 fn no_memory_for_labels_that_differ(rt: HostRuntime) -> Result<(), Fail> {
     let last = labels_but(&rt, rt.alloc(), 0)?;
-    for vertex in [0, 2, 10_000, 20_001] {
+    for vertex in [0, 2, 40_000, 80_001] {
         let labels = labels_but(&rt, rt.alloc(), vertex)?;
         let bytes = ask(rt.alloc(), &labels)?;
         let memory = Refusing::new(rt.alloc(), Refusals::since(1));
