@@ -22,10 +22,15 @@ pub(crate) fn time_rounds<S: Source>(rt: &HostRuntime, source: &mut S) -> anyhow
     requires can { S.can_read source.old }
 {
     let graph = read_graph(rt.alloc(), source)?;
-    let (least, links) = measure_forest(rt, &graph)?;
+    tell(rt, &graph)
+}
+
+// The times and the rounds of a graph.
+fn tell(rt: &HostRuntime, graph: &Graph) -> anyhow::Result<()> {
+    let (least, links) = measure_forest(rt, graph)?;
     eprintln!(rt; "plain_forest {} us", least.as_micros())?;
     for shards in [1, 64, 4096] {
-        let (alone, taken, rounds) = measure_alone(rt, &graph, shards)?;
+        let (alone, taken, rounds) = measure_alone(rt, graph, shards)?;
         eprintln!(rt; "solve_alone, {shards} shards: {} us", alone.as_micros())?;
         println!(rt; "{shards} shards: {taken} of {links} links in {rounds} rounds")?;
     }

@@ -31,28 +31,65 @@ mod steps;
 
 use std::env;
 use std::io::Read;
+use std::thread::Threads;
+use std::time::Clock;
 
 const USAGE: &str = "usage: bench steps [check] | frames | scan [check] | alone | all";
 
+// What the program is asked for.
+#[derive(Clone, Copy)]
+enum Asked {
+    Steps,
+    CheckSteps,
+    Frames,
+    Scans,
+    CheckScans,
+    Alone,
+    All,
+}
+
 fn main(rt: HostRuntime) -> anyhow::Result<()> {
-    let mut words = env::args(&rt)?.skip(1);
-    let word = words.next();
-    let more = words.next();
-    match (word.as_deref(), more.as_deref()) {
-        (Some("steps"), None) => steps::time_steps(&rt, &mut rt.stdin()),
-        (Some("steps"), Some("check")) => step_check::check_steps(&rt),
-        (Some("frames"), None) => codec::time_frames(&rt),
-        (Some("scan"), None) => scans::time_scans(&rt),
-        (Some("scan"), Some("check")) => scan_check::check_scans(&rt),
-        (Some("alone"), None) => alone::time_rounds(&rt, &mut rt.stdin()),
-        (Some("all"), None) => {
+    match what_is_asked(&rt)? {
+        Some(Asked::Steps) => steps::time_steps(&rt, &mut rt.stdin()),
+        Some(Asked::CheckSteps) => step_check::check_steps(&rt),
+        Some(Asked::Frames) => codec::time_frames(&rt),
+        Some(Asked::Scans) => scans::time_scans(&rt),
+        Some(Asked::CheckScans) => scan_check::check_scans(&rt),
+        Some(Asked::Alone) => alone::time_rounds(&rt, &mut rt.stdin()),
+        Some(Asked::All) => {
             let mut text = Vec::new(rt.alloc());
             rt.stdin().read_to_end(&mut text)?;
-            steps::time_steps(&rt, &mut text.as_slice())?;
-            codec::time_frames(&rt)?;
-            scans::time_scans(&rt)?;
-            alone::time_rounds(&rt, &mut text.as_slice())
+            time_all(&rt, &rt, text.as_slice())
         }
-        _ => anyhow::bail!("{USAGE}"),
+        None => anyhow::bail!("{USAGE}"),
     }
+}
+
+// What the words of the command ask for; none where they are no such words.
+fn what_is_asked(rt: &HostRuntime) -> anyhow::Result<Option<Asked>> {
+    let mut words = env::args(rt)?.skip(1);
+    let word = words.next();
+    let more = words.next();
+    Ok(match (word.as_deref(), more.as_deref()) {
+        (Some("steps"), None) => Some(Asked::Steps),
+        (Some("steps"), Some("check")) => Some(Asked::CheckSteps),
+        (Some("frames"), None) => Some(Asked::Frames),
+        (Some("scan"), None) => Some(Asked::Scans),
+        (Some("scan"), Some("check")) => Some(Asked::CheckScans),
+        (Some("alone"), None) => Some(Asked::Alone),
+        (Some("all"), None) => Some(Asked::All),
+        _ => None,
+    })
+}
+
+// Each part that prints more than whether it is quick, over one text.
+fn time_all(
+    rt: &HostRuntime,
+    threads: &(impl Print + Eprint + AllocGlobal + Clock + Threads + Sync),
+    text: &[u8],
+) -> anyhow::Result<()> {
+    steps::time_steps(rt, &mut { text })?;
+    codec::time_frames(rt)?;
+    scans::time_scans(threads)?;
+    alone::time_rounds(rt, &mut { text })
 }

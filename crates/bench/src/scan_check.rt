@@ -119,20 +119,32 @@ fn check_few_links(
     labels: &Labels,
 ) -> anyhow::Result<()> {
     let links = drawn_links(rt.alloc(), 16, FEW_VERTICES)?;
-    if links.len() > MAX_SHARD_LINKS || !are_within(links.as_slice(), labels.n()) {
+    let mut table = Vec::from_elem(rt.alloc(), 1u64, labels.as_slice().len())?;
+    let mut scanner = Scanner::new(rt.alloc());
+    let (links, table) = (links.as_slice(), table.as_mut_slice());
+    check_scanner(rt, links, labels, &mut scanner, table)
+}
+
+// The same by this scanner, beside this table.
+fn check_scanner(
+    rt: &(impl Eprint + Clock),
+    links: &[Link],
+    labels: &Labels,
+    scanner: &mut Scanner,
+    table: &mut [u64],
+) -> anyhow::Result<()> {
+    if links.len() > MAX_SHARD_LINKS || !are_within(links, labels.n()) {
         anyhow::bail!("links without labels");
     }
-    let mut scanner = Scanner::new(rt.alloc());
-    let mut table = Vec::from_elem(rt.alloc(), 1u64, labels.as_slice().len())?;
     let mut times = Times::none();
     for run in 0..RUNS {
         let start = Instant::now(rt)?;
         for _ in 0..4 {
-            let _offers = scanner.scan(links.as_slice(), labels)?;
+            let _offers = scanner.scan(links, labels)?;
         }
         let took = start.elapsed(rt)?;
         let start = Instant::now(rt)?;
-        let kept = write_and_read(table.as_mut_slice(), run as u64);
+        let kept = write_and_read(table, run as u64);
         times.add(took, start.elapsed(rt)?);
         eprintln!(rt; "{kept} kept")?;
     }
@@ -149,21 +161,22 @@ fn check_laid_aside(
     rt: &(impl Eprint + AllocGlobal + Clock),
     links: Vec<Link>,
 ) -> anyhow::Result<()> {
-    let links_again = links.clone()?;
     let mut engine = Engine::new(rt.alloc());
-    let shard = Frame::Shard {
-        number: 0,
-        links: Links::of_list(links),
-    };
-    if !shard.is_lawful() {
-        anyhow::bail!("no lawful shard");
-    }
-    let _none = engine.hear(shard)?;
+    check_asks(rt, &mut engine, links.as_slice())
+}
+
+// The same of this engine, which keeps nothing yet.
+fn check_asks(
+    rt: &(impl Eprint + AllocGlobal + Clock),
+    engine: &mut Engine,
+    links: &[Link],
+) -> anyhow::Result<()> {
+    keep(engine, Vec::from_slice(rt.alloc(), links)?)?;
     let mut times = Times::none();
     for run in 0..RUNS + 1 {
-        let took = time_ask(rt, &mut engine)?;
+        let took = time_ask(rt, engine)?;
         let start = Instant::now(rt)?;
-        let are_few = are_within(links_again.as_slice(), FEW_VERTICES);
+        let are_few = are_within(links, FEW_VERTICES);
         let looked = start.elapsed(rt)?;
         if !are_few {
             anyhow::bail!("links without labels");
@@ -174,6 +187,19 @@ fn check_laid_aside(
         }
     }
     judge(rt, "an ask of links laid aside", times)
+}
+
+// Hands the engine shard 0, with these links.
+fn keep(engine: &mut Engine, links: Vec<Link>) -> anyhow::Result<()> {
+    let shard = Frame::Shard {
+        number: 0,
+        links: Links::of_list(links),
+    };
+    if !shard.is_lawful() {
+        anyhow::bail!("no lawful shard");
+    }
+    let _none = engine.hear(shard)?;
+    Ok(())
 }
 
 // The time of an ask under the labels of one component.

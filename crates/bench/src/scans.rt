@@ -41,27 +41,45 @@ pub(crate) fn time_scans(
     rt: &(impl Print + Eprint + AllocGlobal + Clock + Threads + Sync),
 ) -> anyhow::Result<()> {
     let links = drawn_links(rt.alloc(), MANY, MANY)?;
+    time_many(rt, links.as_slice())?;
+    for count in FEW_LINKS {
+        time_few(rt, count)?;
+    }
+    Ok(())
+}
+
+// The times of scans of these links by one thread, under labels of both kinds.
+fn time_many(
+    rt: &(impl Print + Eprint + AllocGlobal + Clock),
+    links: &[Link],
+) -> anyhow::Result<()> {
     let apart = Labels::apart(rt.alloc(), MANY)?;
-    measure(rt, "each vertex by itself", links.as_slice(), &apart)?;
+    measure(rt, "each vertex by itself", links, &apart)?;
     if let Some(scattered) = Labels::of_list(scattered_labels(rt.alloc())?) {
         measure(
             rt,
             "a quarter of a million components, scattered",
-            links.as_slice(),
+            links,
             &scattered,
         )?;
     }
-    for count in FEW_LINKS {
-        let few = drawn_links(rt.alloc(), count, FEW_VERTICES)?;
-        let labels = Labels::apart(rt.alloc(), FEW_VERTICES)?;
-        let (alone, by_threads) = compare(rt, few.as_slice(), &labels)?;
-        eprintln!(rt;
-            "{} links: scan {} ns, by threads {} ns",
-            few.len(),
-            alone.as_nanos(),
-            by_threads.as_nanos()
-        )?;
-    }
+    Ok(())
+}
+
+// The times of a scan of few links, so many but for loops.
+fn time_few(
+    rt: &(impl Eprint + AllocGlobal + Clock + Threads + Sync),
+    count: u32,
+) -> anyhow::Result<()> {
+    let few = drawn_links(rt.alloc(), count, FEW_VERTICES)?;
+    let labels = Labels::apart(rt.alloc(), FEW_VERTICES)?;
+    let (alone, by_threads) = compare(rt, few.as_slice(), &labels)?;
+    eprintln!(rt;
+        "{} links: scan {} ns, by threads {} ns",
+        few.len(),
+        alone.as_nanos(),
+        by_threads.as_nanos()
+    )?;
     Ok(())
 }
 

@@ -25,13 +25,17 @@ const RUNS: usize = 7;
 
 /// Prints the times of the steps beside those of their simple forms, and fails where one is more than twice as long.
 pub(crate) fn check_steps(rt: &HostRuntime) -> anyhow::Result<()> {
-    let drawn = hub_links(rt.alloc())?;
-    let text = write(rt.alloc(), VERTICES, drawn.as_slice())?;
+    let text = hub_text(rt.alloc())?;
     let graph = read_graph(rt.alloc(), &mut text.as_slice())?;
+    check_graph(rt, text.as_slice(), &graph)
+}
+
+// The same of this text, which means this graph.
+fn check_graph(rt: &HostRuntime, text: &[u8], graph: &Graph) -> anyhow::Result<()> {
     let forest = plain_forest(rt.alloc(), graph.n(), graph.links())?;
     let steps = [
-        ("read", time_reading(rt, text.as_slice())?),
-        ("solve", time_solving(rt, &graph)?),
+        ("read", time_reading(rt, text)?),
+        ("solve", time_solving(rt, graph)?),
         ("write", time_writing(rt, &forest)?),
     ];
     let mut slow = false;
@@ -92,6 +96,12 @@ fn time_writing(rt: &HostRuntime, forest: &Forest) -> anyhow::Result<Times> {
         }
     }
     Ok(times)
+}
+
+// The text of the links from the hubs.
+fn hub_text(alloc: Global) -> Result<Vec<u8>, AllocError> {
+    let drawn = hub_links(alloc)?;
+    write(alloc, VERTICES, drawn.as_slice())
 }
 
 // Links from a few hubs, which all have one weight but for the lightest and the heaviest there can be.
