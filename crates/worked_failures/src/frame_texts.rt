@@ -1,13 +1,13 @@
 // Frames that are written and read. A fault's bytes are made without memory.
 use crate::in_turn::{Memory, expect_each, or_refused, was_refused};
-use crate::lists::links_of_six;
+use crate::lists::few_links;
 use crate::same::expect_same;
 use frames::{
     Answer, Frame, FrameFault, ask_parts, decode_body, decode_head, encode, encode_ask,
     encode_ask_over, encode_shard, fault_bytes, read_frame,
 };
 use link_key::{Labels, Offers, Shard};
-use std::alloc::{AllocError, Global};
+use std::alloc::{AllocError, Allocator, Global};
 use std::process::Abort;
 use test_memory::{Refusals, Refusing};
 use worked_graphs::{EQUAL_WEIGHTS, Row};
@@ -52,24 +52,10 @@ pub(crate) const ANSWER: [u8; 41] = [
 // The worker has no memory to answer the ask of round 1 for shard 0.
 pub(crate) const NO_MEMORY: [u8; 14] = [5, 0, 0, 0, 9, 0, 0, 0, 1, 0, 0, 0, 0, 1];
 
-// What is read of a frame's bytes is written as these bytes again.
-fn expect_again(
-    rt: &impl Abort,
-    memory: &Memory,
-    read: Result<Frame<&Memory>, FrameFault>,
-    bytes: &[u8],
-) -> Result<(), AllocError> {
-    let frame = or_refused(rt, read, FrameFault::Memory)?;
-    assert!(rt; frame.is_lawful());
-    let written = encode(memory, &frame)?;
-    assert!(rt; written.as_slice() == bytes);
-    Ok(())
-}
-
 #[derive(Clone, Copy)]
 enum Call {
-    ReadFrame(&'static [u8]),
-    DecodeBody(&'static [u8]),
+    ReadFrame,
+    DecodeBody,
     EncodeShard,
     EncodeShard64,
     EncodeAsk,
@@ -78,63 +64,102 @@ enum Call {
     EncodeAnswer,
 }
 
-const CALLS: [Call; 18] = [
-    Call::ReadFrame(&HELLO),
-    Call::ReadFrame(&SHARD),
-    Call::ReadFrame(&SHARD64),
-    Call::ReadFrame(&ASK),
-    Call::ReadFrame(&ANSWER),
-    Call::ReadFrame(&NO_MEMORY),
-    Call::DecodeBody(&HELLO),
-    Call::DecodeBody(&SHARD),
-    Call::DecodeBody(&SHARD64),
-    Call::DecodeBody(&ASK),
-    Call::DecodeBody(&ANSWER),
-    Call::DecodeBody(&NO_MEMORY),
-    Call::EncodeShard,
-    Call::EncodeShard64,
-    Call::EncodeAsk,
-    Call::EncodeAskOver,
-    Call::SpellLabels,
-    Call::EncodeAnswer,
+// What is read of a frame's bytes is written as these bytes again, and what is written is these bytes.
+const CALLS: [(Call, &[u8]); 18] = [
+    (Call::ReadFrame, &HELLO),
+    (Call::ReadFrame, &SHARD),
+    (Call::ReadFrame, &SHARD64),
+    (Call::ReadFrame, &ASK),
+    (Call::ReadFrame, &ANSWER),
+    (Call::ReadFrame, &NO_MEMORY),
+    (Call::DecodeBody, &HELLO),
+    (Call::DecodeBody, &SHARD),
+    (Call::DecodeBody, &SHARD64),
+    (Call::DecodeBody, &ASK),
+    (Call::DecodeBody, &ANSWER),
+    (Call::DecodeBody, &NO_MEMORY),
+    (Call::EncodeShard, &SHARD),
+    (Call::EncodeShard64, &SHARD64),
+    (Call::EncodeAsk, &ASK),
+    (Call::EncodeAskOver, &ASK),
+    (Call::SpellLabels, &ASK),
+    (Call::EncodeAnswer, &ANSWER),
 ];
 
-// What is read is written again, and what is written is these bytes.
-fn make(rt: &impl Abort, alloc: Global, memory: &Memory, call: Call) -> Result<(), AllocError> {
+// What the call writes: of these bytes, where it reads them.
+fn text_of<'a>(
+    rt: &impl Abort,
+    alloc: Global,
+    memory: &'a Memory,
+    call: Call,
+    bytes: &[u8],
+) -> Result<Vec<u8, &'a Memory>, AllocError> {
     match call {
-        Call::ReadFrame(bytes) => {
+        Call::ReadFrame => {
             let mut source = bytes;
-            expect_again(rt, memory, read_frame(memory, &mut source), bytes)
+            again(rt, memory, read_frame(memory, &mut source))
         }
-        Call::DecodeBody(bytes) => expect_decoded(rt, memory, bytes),
-        Call::EncodeShard => encode_triangle(rt, alloc, memory, EQUAL_WEIGHTS.arcs, &SHARD),
-        Call::EncodeShard64 => encode_triangle(rt, alloc, memory, &WIDE_ARCS, &SHARD64),
-        Call::EncodeAsk => encode_apart(rt, alloc, memory),
-        Call::EncodeAskOver => encode_apart_over(rt, alloc, memory),
-        Call::SpellLabels => expect_spelled(rt, memory),
+        Call::DecodeBody => decoded_again(rt, memory, bytes),
+        Call::EncodeShard => encode_triangle(rt, alloc, memory, EQUAL_WEIGHTS.arcs),
+        Call::EncodeShard64 => encode_triangle(rt, alloc, memory, &WIDE_ARCS),
+        Call::EncodeAsk => ask_apart(rt, alloc, memory),
+        Call::EncodeAskOver => ask_apart_over(rt, alloc, memory),
+        Call::SpellLabels => ask_spelled(rt, memory),
         Call::EncodeAnswer => encode_answer(rt, alloc, memory),
     }
 }
 
-// The head and the body of a frame, each by itself.
-fn expect_decoded(rt: &impl Abort, memory: &Memory, bytes: &[u8]) -> Result<(), AllocError> {
+// The frame that was read, as bytes again.
+fn again<'a>(
+    rt: &impl Abort,
+    memory: &'a Memory,
+    read: Result<Frame<&'a Memory>, FrameFault>,
+) -> Result<Vec<u8, &'a Memory>, AllocError> {
+    let frame = or_refused(rt, read, FrameFault::Memory)?;
+    written(rt, memory, &frame)
+}
+
+// A lawful frame's bytes.
+pub(crate) fn written<'a, A: Allocator>(
+    rt: &impl Abort,
+    memory: &'a Memory,
+    frame: &Frame<A>,
+) -> Result<Vec<u8, &'a Memory>, AllocError> {
+    assert!(rt; frame.is_lawful());
+    encode(memory, frame)
+}
+
+// The head and the body of a frame, each read by itself.
+fn decoded_again<'a>(
+    rt: &impl Abort,
+    memory: &'a Memory,
+    bytes: &[u8],
+) -> Result<Vec<u8, &'a Memory>, AllocError> {
     let (first, body) = bytes.split_first_chunk::<5>().expect(rt, "a head");
     let head = decode_head(first).ok().expect(rt, "a head");
     assert!(rt; body.len() == head.length as usize);
-    expect_again(rt, memory, decode_body(memory, head, body), bytes)
+    again(rt, memory, decode_body(memory, head, body))
 }
 
 // An ask for each vertex by itself, in a text of its own, and over one that is empty.
-fn encode_apart(rt: &impl Abort, alloc: Global, memory: &Memory) -> Result<(), AllocError> {
+fn ask_apart<'a>(
+    rt: &impl Abort,
+    alloc: Global,
+    memory: &'a Memory,
+) -> Result<Vec<u8, &'a Memory>, AllocError> {
     let labels = Labels::apart(alloc, 3).expect(rt, "memory");
-    expect_text(rt, encode_ask(memory, 1, 0, &labels), &ASK)
+    encode_ask(memory, 1, 0, &labels)
 }
 
-fn encode_apart_over(rt: &impl Abort, alloc: Global, memory: &Memory) -> Result<(), AllocError> {
+fn ask_apart_over<'a>(
+    rt: &impl Abort,
+    alloc: Global,
+    memory: &'a Memory,
+) -> Result<Vec<u8, &'a Memory>, AllocError> {
     let labels = Labels::apart(alloc, 3).expect(rt, "memory");
     let mut text = Vec::new(memory);
     encode_ask_over(&mut text, 1, 0, &labels)?;
-    expect_text(rt, Ok(text), &ASK)
+    Ok(text)
 }
 
 // An ask under these labels is this one.
@@ -144,13 +169,15 @@ fn expect_ask<'a>(
     labels: &Labels<&'a Memory>,
 ) -> Result<(), AllocError> {
     assert!(rt; labels.as_slice() == [1, 2, 3].as_slice());
-    expect_text(rt, encode_ask(memory, 1, 0, labels), &ASK)
+    let text = encode_ask(memory, 1, 0, labels)?;
+    assert!(rt; text.as_slice() == ASK.as_slice());
+    Ok(())
 }
 
 // Labels that keep their bytes, so that an ask is parts of which the second is theirs; where they find no memory for them,
 // they are as before. An ask under them is the same before and behind, and its parts take no memory, nor does it to keep
 // the bytes again.
-fn expect_spelled(rt: &impl Abort, memory: &Memory) -> Result<(), AllocError> {
+fn ask_spelled<'a>(rt: &impl Abort, memory: &'a Memory) -> Result<Vec<u8, &'a Memory>, AllocError> {
     let mut labels = Labels::apart(memory, 3)?;
     expect_ask(rt, memory, &labels)?;
     if labels.spell().is_err() {
@@ -161,47 +188,52 @@ fn expect_spelled(rt: &impl Abort, memory: &Memory) -> Result<(), AllocError> {
     let asked = memory.asked();
     labels.spell()?;
     let (head, bytes) = ask_parts(1, 0, &labels).expect(rt, "kept bytes");
-    assert!(rt; (head.as_slice(), bytes) == ASK.split_at(17));
-    expect_same(rt, memory.asked(), asked);
-    expect_ask(rt, memory, &labels)
+    assert!(rt; (head.as_slice(), bytes) == ASK.split_at(17) && memory.asked() == asked);
+    expect_ask(rt, memory, &labels)?;
+    encode_ask(memory, 1, 0, &labels)
 }
 
 // A triangle's links as a shard.
-fn encode_triangle(
+fn encode_triangle<'a>(
     rt: &impl Abort,
     alloc: Global,
-    memory: &Memory,
+    memory: &'a Memory,
     arcs: &[Row],
-    bytes: &[u8],
-) -> Result<(), AllocError> {
-    let links = links_of_six(rt, alloc, arcs);
-    assert!(rt; links.len() == 3);
+) -> Result<Vec<u8, &'a Memory>, AllocError> {
+    let links = few_links(rt, alloc, 3, arcs);
     let shard = Shard {
         number: 0,
         links: links.as_slice(),
     };
-    expect_text(rt, encode_shard(memory, &shard), bytes)
+    encode_shard(memory, &shard)
 }
 
 // An answer of three offers.
-fn encode_answer(rt: &impl Abort, alloc: Global, memory: &Memory) -> Result<(), AllocError> {
+fn encode_answer<'a>(
+    rt: &impl Abort,
+    alloc: Global,
+    memory: &'a Memory,
+) -> Result<Vec<u8, &'a Memory>, AllocError> {
     let pairs = [(1, 0), (2, 0), (3, 2)].to_vec(alloc).expect(rt, "memory");
     let frame = Frame::Answer(Answer {
         round: 1,
         shard: 0,
         offers: Offers::of_pairs(pairs).expect(rt, "offers"),
     });
-    assert!(rt; frame.is_lawful());
-    expect_text(rt, encode(memory, &frame), &ANSWER)
+    written(rt, memory, &frame)
 }
 
 #[test]
 fn frames_that_are_read_and_written(rt: HostRuntime) {
-    for call in CALLS {
+    for (call, bytes) in CALLS {
         expect_each(
             &rt,
             rt.alloc(),
-            |memory: &Memory| -> Result<(), AllocError> { make(&rt, rt.alloc(), memory, call) },
+            |memory: &Memory| -> Result<(), AllocError> {
+                let text = text_of(&rt, rt.alloc(), memory, call, bytes)?;
+                expect_same(&rt, text.as_slice(), bytes);
+                Ok(())
+            },
         );
     }
     expect_same(&rt, fault_bytes(1, 0, 1), NO_MEMORY);
@@ -240,15 +272,4 @@ fn frames_that_are_refused(rt: HostRuntime) {
             }
         }
     }
-}
-
-// The text is these bytes.
-fn expect_text(
-    rt: &impl Abort,
-    text: Result<Vec<u8, &Memory>, AllocError>,
-    bytes: &[u8],
-) -> Result<(), AllocError> {
-    let text = text?;
-    assert!(rt; text.as_slice() == bytes);
-    Ok(())
 }

@@ -13,7 +13,8 @@
 //!   wires             a worker in memory, and asks over a wire to it
 //!   rounds            the board of claims, the book of a round, the solver
 //!   runs              whole runs
-//!   files, sessions   a source, and then a sink, that fails at each byte: of a run, and of a worker's session
+//!   streams           a source and a sink, one of which fails at a byte
+//!   files, sessions   such streams, at each byte: of a run, and of a worker's session
 //! ```
 #![tactic(auto)]
 
@@ -33,6 +34,8 @@ mod runs;
 mod same;
 #[cfg(test)]
 mod sessions;
+#[cfg(test)]
+mod streams;
 #[cfg(test)]
 mod texts;
 #[cfg(test)]

@@ -1,4 +1,5 @@
 // Lists of link_key.
+ghost use Rattle.std.specs.Prelude.{◌≡◌, ◌≤◌, length, All, IfOk};
 ghost use Rattle.link_key.specs.Link.{EndsUpTo};
 
 use crate::in_turn::{Memory, expect_each, or_refused};
@@ -6,7 +7,7 @@ use crate::same::expect_same;
 use link_key::{Cut, CutFault, Labels, Link, plain_forest};
 use std::alloc::{AllocError, Global};
 use std::process::Abort;
-use worked_graphs::{Row, SMALL_NET, have_labels, links_of};
+use worked_graphs::{Row, SMALL_NET, Worked, all_have_labels, links_of};
 
 #[derive(Clone, Copy)]
 enum Call {
@@ -16,11 +17,38 @@ enum Call {
     PlainForest,
 }
 
-// The links of arcs between six vertices, in memory that isn't refused.
-pub(crate) fn links_of_six(rt: &impl Abort, alloc: Global, arcs: &[Row]) -> Vec<Link> {
-    links_of(alloc, 6, arcs)
-        .expect(rt, "memory")
-        .expect(rt, "arcs")
+// The links of at most eight arcs between so many vertices, none of them a loop, in memory that isn't refused.
+pub(crate) fn few_links(rt: &impl Abort, alloc: Global, n: u32, arcs: &[Row]) -> Vec<Link>
+    ensures few { length result.items ≤ 8 }
+    ensures ends { EndsUpTo n result.items }
+{
+    let links = links_of(alloc, n, arcs).expect(rt, "memory");
+    let links = links.expect(rt, "arcs");
+    assert!(rt; links.len() == arcs.len() && links.len() <= 8);
+    links
+}
+
+// These are the links of the graph's forest.
+pub(crate) fn expect_forest(rt: &impl Abort, alloc: Global, found: &[Link], graph: &Worked) {
+    let forest = few_links(rt, alloc, graph.n, graph.forest);
+    assert!(rt; found == forest.as_slice());
+}
+
+// A cut of links between so many vertices into so many shards.
+pub(crate) fn even_cut<'a>(
+    rt: &impl Abort,
+    memory: &'a Memory,
+    links: &'a [Link],
+    n: u32,
+    count: u32,
+) -> Result<Cut<'a, &'a Memory>, AllocError>
+    requires few { length links.now ≤ 8 }
+    ensures shards { IfOk result (λ cut. length cut ≡ count) }
+    ensures ends { IfOk result (All (EndsUpTo n)) }
+{
+    let cut = or_refused(rt, Cut::even(memory, links, count), CutFault::Memory)?;
+    assert!(rt; cut.len() == count && all_have_labels(&cut, n));
+    Ok(cut)
 }
 
 // The shards of this cut have these sizes.
@@ -40,38 +68,20 @@ fn expect_sizes(
 
 // Labels of three vertices; cuts of eight links; the small net's forest.
 fn make(rt: &impl Abort, alloc: Global, memory: &Memory, call: Call) -> Result<(), AllocError> {
-    let links = links_of_six(rt, alloc, SMALL_NET.arcs);
+    let links = few_links(rt, alloc, 6, SMALL_NET.arcs);
     let links = links.as_slice();
-    assert!(rt; links.len() == 8 && have_labels(links, 6));
     match call {
-        Call::Apart => expect_apart(rt, memory),
-        Call::Even => expect_sizes(rt, Cut::even(memory, links, 3), &[2, 3, 3]),
-        Call::At => expect_sizes(rt, Cut::at(memory, links, &[2, 2, 8]), &[2, 0, 6, 0]),
+        Call::Apart => {
+            let labels = Labels::apart(memory, 3)?;
+            assert!(rt; labels.as_slice() == [1, 2, 3].as_slice());
+        }
+        Call::Even => expect_sizes(rt, Cut::even(memory, links, 3), &[2, 3, 3])?,
+        Call::At => expect_sizes(rt, Cut::at(memory, links, &[2, 2, 8]), &[2, 0, 6, 0])?,
         Call::PlainForest => {
-            let forest = links_of_six(rt, alloc, SMALL_NET.forest);
-            expect_forest(rt, memory, links, forest.as_slice())
+            let forest = plain_forest(memory, 6, links)?;
+            expect_forest(rt, alloc, forest.links(), &SMALL_NET);
         }
     }
-}
-
-// Labels of three vertices.
-fn expect_apart(rt: &impl Abort, memory: &Memory) -> Result<(), AllocError> {
-    let labels = Labels::apart(memory, 3)?;
-    assert!(rt; labels.as_slice() == [1, 2, 3].as_slice());
-    Ok(())
-}
-
-// The forest of these links of six vertices.
-fn expect_forest(
-    rt: &impl Abort,
-    memory: &Memory,
-    links: &[Link],
-    forest: &[Link],
-) -> Result<(), AllocError>
-    requires { EndsUpTo 6 links.now }
-{
-    let found = plain_forest(memory, 6, links)?;
-    assert!(rt; found.links() == forest);
     Ok(())
 }
 

@@ -1,24 +1,21 @@
 // The board of claims, the book of a round, and the solver. Claims, answers that are taken and what is judged before
 // anything grows need no memory.
-ghost use Rattle.std.specs.Prelude.{◌≡◌, ◌<◌, ◌≤◌, length, IfOk};
+ghost use Rattle.std.specs.Prelude.{◌≡◌, ◌<◌, length, IfOk};
 ghost use Rattle.claim_board.specs.State.{AreSeats};
-ghost use Rattle.link_key.specs.Link.{EndsUpTo};
 ghost use Rattle.round_core.specs.Picks.{ArePicksOfHearings};
 
 use crate::in_turn::{Memory, expect_each, or_refused};
-use crate::lists::links_of_six;
+use crate::lists::{even_cut, expect_forest, few_links};
 use crate::same::expect_same;
 use claim_board::{Board, BoardFault, Claim, Seat};
 use frames::Answer;
-use link_key::{Cut, CutFault, Labels, Link, Offers};
+use link_key::{Cut, Forest, Labels, Link, Offers};
 use round_core::{Picks, RoundBook, SolveFault, Solver, Turn, hook_relabel, solve_alone};
 use std::alloc::{AllocError, Global};
 use std::process::Abort;
-use std::test::Fail;
 use test_memory::{Refusals, Refusing};
 use worked_graphs::{
     A_PATH_OF_EIGHT, EQUAL_WEIGHTS, SMALL_NET, WIDE_WEIGHTS, Worked, all_have_labels, have_labels,
-    links_of,
 };
 use worker_engine::scan;
 
@@ -78,56 +75,98 @@ fn expect_claims(rt: &impl Abort, memory: &Memory) -> Result<(), AllocError> {
     Ok(())
 }
 
-// The answer of a scan. It is taken without memory.
-fn answer<'a>(
+// A book of the first round over the cut.
+fn opened<'a, 'b>(
+    rt: &impl Abort,
     memory: &'a Memory,
-    shard: u32,
+    cut: &'b Cut<'b, &'a Memory>,
+    labels: &'b Labels<&'a Memory>,
+) -> Result<RoundBook<'b, &'a Memory>, AllocError>
+    ensures { IfOk result (λ book. book.labels ≡ labels.now) }
+{
+    assert!(rt; all_have_labels(cut, labels.n()));
+    RoundBook::open(memory, 1, cut, labels)
+}
+
+/// What a shard's answer offers: what a scan finds, this alone, or nothing.
+#[derive(Clone, Copy)]
+enum Offered {
+    Scanned,
+    Only((u32, u32)),
+    Nothing,
+}
+
+// The offers of a shard with these links.
+fn offers_of<'a>(
+    rt: &impl Abort,
+    memory: &'a Memory,
     links: &[Link],
     labels: &Labels<&'a Memory>,
-) -> Result<Answer<&'a Memory>, AllocError>
-    requires few { length links.now ≤ 1024 }
-    requires ends { EndsUpTo (length labels.now) links.now }
+    offered: Offered,
+) -> Result<Offers<&'a Memory>, AllocError> {
+    let pairs = match offered {
+        Offered::Scanned => {
+            assert!(rt; links.len() <= 1024 && have_labels(links, labels.n()));
+            return scan(memory, links, labels);
+        }
+        Offered::Only(pair) => [pair].to_vec(memory)?,
+        Offered::Nothing => Vec::new(memory),
+    };
+    Ok(Offers::of_pairs(pairs).expect(rt, "offers"))
+}
+
+// The book takes the answer, and no memory for it.
+fn expect_taken<'a>(
+    rt: &impl Abort,
+    memory: &'a Memory,
+    book: &mut RoundBook<'_, &'a Memory>,
+    answer: Answer<&'a Memory>,
+)
+    ensures { book.new.labels ≡ book.old.labels }
 {
-    Ok(Answer {
-        round: 1,
-        shard,
-        offers: scan(memory, links, labels)?,
-    })
+    let shard = answer.shard;
+    assert!(rt; shard < book.len());
+    let asked = memory.asked();
+    let taken = book.take(shard, answer).is_ok();
+    assert!(rt; taken && memory.asked() == asked);
 }
 
-// The answers of two shards that are scanned.
-fn answers<'a>(
+// The picks of the book's round where each shard's answer offers this.
+fn picks_of<'a>(
+    rt: &impl Abort,
+    memory: &'a Memory,
+    mut book: RoundBook<'_, &'a Memory>,
+    offered: Offered,
+) -> Result<Picks<&'a Memory>, AllocError>
+    ensures heard { IfOk result (ArePicksOfHearings book.entry.labels) }
+    ensures each_vertex { IfOk result (λ picks. length picks ≡ length book.entry.labels) }
+{
+    let (cut, labels) = (book.cut(), book.labels());
+    for shard in 0..cut.len() {
+        let answer = Answer {
+            round: 1,
+            shard,
+            offers: offers_of(rt, memory, cut.shard(shard).links, labels, offered)?,
+        };
+        expect_taken(rt, memory, &mut book, answer);
+    }
+    assert!(rt; book.missing() == 0);
+    Ok(book.close())
+}
+
+// The picks of a round over the cut where each shard's answer offers this.
+fn picks_over<'a>(
     rt: &impl Abort,
     memory: &'a Memory,
     cut: &Cut<&'a Memory>,
     labels: &Labels<&'a Memory>,
-) -> Result<(Answer<&'a Memory>, Answer<&'a Memory>), AllocError> {
-    assert!(rt; cut.len() == 2);
-    let (first, second) = (cut.shard(0).links, cut.shard(1).links);
-    assert!(rt; first.len() <= 1024 && have_labels(first, labels.n()));
-    assert!(rt; second.len() <= 1024 && have_labels(second, labels.n()));
-    let first = answer(memory, 0, first, labels)?;
-    Ok((first, answer(memory, 1, second, labels)?))
-}
-
-// The picks of a round over two shards that are scanned.
-fn picks_of_scans<'a>(
-    rt: &impl Abort,
-    memory: &'a Memory,
-    cut: &Cut<&'a Memory>,
-    labels: &Labels<&'a Memory>,
+    offered: Offered,
 ) -> Result<Picks<&'a Memory>, AllocError>
     ensures heard { IfOk result (ArePicksOfHearings labels.now) }
     ensures each_vertex { IfOk result (λ picks. length picks ≡ length labels.now) }
 {
-    let (first, second) = answers(rt, memory, cut, labels)?;
-    assert!(rt; all_have_labels(cut, labels.n()));
-    let mut book = RoundBook::open(memory, 1, cut, labels)?;
-    assert!(rt; book.len() == 2);
-    let asked = memory.asked();
-    assert!(rt; book.take(0, first).is_ok() && book.take(1, second).is_ok());
-    assert!(rt; memory.asked() == asked && book.missing() == 0);
-    Ok(book.close())
+    let book = opened(rt, memory, cut, labels)?;
+    picks_of(rt, memory, book, offered)
 }
 
 // The solver's labels keep their bytes until a step makes others. Where they find no memory for them, they are as before;
@@ -163,15 +202,14 @@ fn expect_step<'a>(
     memory: &'a Memory,
     cut: &Cut<&'a Memory>,
     solver: &mut Solver<&'a Memory>,
-    expected: Turn,
-    behind: &[u32],
+    expected: (Turn, &[u32]),
 ) -> Result<(), AllocError> {
     let before = solver.labels().as_slice().to_vec(memory)?;
     expect_spelled(rt, solver)?;
     assert!(rt; solver.labels().as_slice() == before.as_slice());
-    let picks = picks_of_scans(rt, memory, cut, solver.labels())?;
+    let picks = picks_over(rt, memory, cut, solver.labels(), Offered::Scanned)?;
     let turn = step(rt, solver, &picks, before.as_slice())?;
-    assert!(rt; turn == expected && solver.labels().as_slice() == behind);
+    assert!(rt; (turn, solver.labels().as_slice()) == expected);
     Ok(())
 }
 
@@ -196,138 +234,75 @@ fn step<'a>(
     }
 }
 
-// A net in two shards: two merging rounds, and the forest. The small net's components are the same with either weights.
-fn expect_solved(
-    rt: &impl Abort,
-    alloc: Global,
-    memory: &Memory,
-    graph: Worked,
-) -> Result<(), AllocError> {
-    let links = links_of_six(rt, alloc, graph.arcs);
-    let forest = links_of_six(rt, alloc, graph.forest);
-    assert!(rt; links.len() == 8);
-    let cut = or_refused(rt, Cut::even(memory, links.as_slice(), 2), CutFault::Memory)?;
-    expect_rounds(rt, memory, &cut, forest.as_slice())
-}
-
-// What each step does, and the labels behind it.
+// What each step over a net in two shards does, and the labels behind it: two merging rounds. The small net's components
+// are the same with either weights.
 const STEPS: [(Turn, [u32; 6]); 3] = [
     (Turn::Merged(4), [1, 2, 1, 1, 2, 1]),
     (Turn::Merged(1), [1; 6]),
     (Turn::Done, [1; 6]),
 ];
 
-// These steps over the cut, and its forest at the end.
-fn expect_rounds<'a>(
+// These steps over the cut, and the graph's forest at the end.
+fn expect_solved<'a>(
     rt: &impl Abort,
+    alloc: Global,
     memory: &'a Memory,
     cut: &Cut<&'a Memory>,
-    forest: &[Link],
+    graph: &Worked,
 ) -> Result<(), AllocError> {
     let mut solver = Solver::new(memory, 6)?;
     for (turn, behind) in STEPS {
-        expect_step(rt, memory, cut, &mut solver, turn, &behind)?;
+        expect_step(rt, memory, cut, &mut solver, (turn, &behind))?;
     }
-    expect_finished(rt, &solver, cut, forest)
+    let forest = finished(rt, &solver, cut)?;
+    expect_forest(rt, alloc, forest.links(), graph);
+    Ok(())
 }
 
-// The solver's end is this forest; it is tried again where it wants memory.
-fn expect_finished<'a>(
+// The solver's end; it is tried again where it wants memory.
+fn finished<'a>(
     rt: &impl Abort,
     solver: &Solver<&'a Memory>,
     cut: &Cut<&'a Memory>,
-    forest: &[Link],
-) -> Result<(), AllocError> {
+) -> Result<Forest<&'a Memory>, AllocError> {
     assert!(rt; all_have_labels(cut, solver.labels().n()));
-    let found = match solver.finish(cut) {
-        Ok(found) => found,
+    match solver.finish(cut) {
+        Ok(found) => Ok(found),
         Err(fault) => {
             assert!(rt; fault == SolveFault::Memory);
-            or_refused(rt, solver.finish(cut), SolveFault::Memory)?
+            or_refused(rt, solver.finish(cut), SolveFault::Memory)
         }
-    };
-    assert!(rt; found.links() == forest);
-    Ok(())
-}
-
-// The first round's labels.
-fn expect_relabelled(
-    rt: &impl Abort,
-    alloc: Global,
-    memory: &Memory,
-    graph: Worked,
-) -> Result<(), AllocError> {
-    let links = links_of_six(rt, alloc, graph.arcs);
-    let links = links.as_slice();
-    assert!(rt; links.len() == 8);
-    let cut = or_refused(rt, Cut::even(memory, links, 2), CutFault::Memory)?;
-    expect_hooked(rt, memory, &cut, &[1, 2, 1, 1, 2, 1])
+    }
 }
 
 // The labels behind the first round over the cut.
-fn expect_hooked<'a>(
+fn expect_relabelled<'a>(
     rt: &impl Abort,
     memory: &'a Memory,
     cut: &Cut<&'a Memory>,
-    behind: &[u32],
 ) -> Result<(), AllocError> {
     let labels = Labels::apart(memory, 6)?;
-    let picks = picks_of_scans(rt, memory, cut, &labels)?;
+    let picks = picks_over(rt, memory, cut, &labels, Offered::Scanned)?;
     let made = hook_relabel(memory, &labels, &picks)?;
-    assert!(rt; made.as_slice() == behind);
+    assert!(rt; made.as_slice() == [1, 2, 1, 1, 2, 1].as_slice());
     Ok(())
 }
 
-// All rounds by one thread, over three shards: so many merge components.
-fn expect_alone(
+// All rounds by one thread: so many merge components.
+fn expect_alone<'a>(
     rt: &impl Abort,
     alloc: Global,
-    memory: &Memory,
-    graph: Worked,
-    merging: u32,
-) -> Result<(), AllocError> {
-    let n = graph.n;
-    let links = links_of(alloc, n, graph.arcs).expect(rt, "memory");
-    let links = links.expect(rt, "arcs");
-    let links = links.as_slice();
-    assert!(rt; links.len() <= 8 && n <= 8);
-    let cut = or_refused(rt, Cut::even(memory, links, 3), CutFault::Memory)?;
-    assert!(rt; all_have_labels(&cut, n));
-    let (found, rounds) = or_refused(rt, solve_alone(memory, n, &cut), SolveFault::Memory)?;
-    let forest = links_of(alloc, n, graph.forest).expect(rt, "memory");
-    let forest = forest.expect(rt, "arcs");
-    assert!(rt; found.links() == forest.as_slice() && rounds == merging);
-    Ok(())
-}
-
-// The answer of the only shard of a round, which offers this.
-fn only_answer<'a>(
-    rt: &impl Abort,
-    memory: &'a Memory,
-    pair: (u32, u32),
-) -> Result<Answer<&'a Memory>, AllocError> {
-    Ok(Answer {
-        round: 1,
-        shard: 0,
-        offers: Offers::of_pairs([pair].to_vec(memory)?).expect(rt, "offers"),
-    })
-}
-
-// The picks of a round over one shard whose only answer offers this.
-fn picks_of<'a>(
-    rt: &impl Abort,
     memory: &'a Memory,
     cut: &Cut<&'a Memory>,
-    labels: &Labels<&'a Memory>,
-    pair: (u32, u32),
-) -> Result<Picks<&'a Memory>, AllocError>
-    ensures heard { IfOk result (ArePicksOfHearings labels.now) }
-{
-    let answer = only_answer(rt, memory, pair)?;
-    assert!(rt; all_have_labels(cut, labels.n()));
-    let mut book = RoundBook::open(memory, 1, cut, labels)?;
-    assert!(rt; book.len() == 1 && book.take(0, answer).is_ok() && book.missing() == 0);
-    Ok(book.close())
+    expected: (&Worked, u32),
+) -> Result<(), AllocError> {
+    let (graph, merging) = expected;
+    assert!(rt; graph.n <= 8 && all_have_labels(cut, graph.n));
+    let solved = solve_alone(memory, graph.n, cut);
+    let (forest, rounds) = or_refused(rt, solved, SolveFault::Memory)?;
+    expect_same(rt, rounds, merging);
+    expect_forest(rt, alloc, forest.links(), graph);
+    Ok(())
 }
 
 // The step by one link that is offered.
@@ -337,9 +312,9 @@ fn expect_merged<'a>(
     cut: &Cut<&'a Memory>,
     solver: &mut Solver<&'a Memory>,
 ) -> Result<(), AllocError> {
-    let picks = picks_of(rt, memory, cut, solver.labels(), (1, 0))?;
+    let picks = picks_over(rt, memory, cut, solver.labels(), Offered::Only((1, 0)))?;
     let turn = or_refused(rt, solver.step(&picks), SolveFault::Memory)?;
-    assert!(rt; turn == Turn::Merged(1));
+    expect_same(rt, turn, Turn::Merged(1));
     Ok(())
 }
 
@@ -350,10 +325,14 @@ fn expect_past_bound<'a>(
     cut: &Cut<&'a Memory>,
     solver: &mut Solver<&'a Memory>,
 ) -> Result<(), AllocError> {
-    let picks = picks_of(rt, memory, cut, solver.labels(), (3, 1))?;
+    let picks = picks_over(rt, memory, cut, solver.labels(), Offered::Only((3, 1)))?;
     let asked = memory.asked();
-    assert!(rt; solver.step(&picks) == Err(SolveFault::Rounds { round: 2 }));
-    expect_same(rt, memory.asked(), asked);
+    let turn = solver.step(&picks);
+    expect_same(
+        rt,
+        (turn, memory.asked()),
+        (Err(SolveFault::Rounds { round: 2 }), asked),
+    );
     Ok(())
 }
 
@@ -367,93 +346,112 @@ fn expect_missed<'a>(
     assert!(rt; all_have_labels(cut, solver.labels().n()));
     let link = Link::of_arc(2, 3, 5).expect(rt, "a link");
     let asked = memory.asked();
-    assert!(rt; solver.finish(cut).err() == Some(SolveFault::Missed { link }));
-    expect_same(rt, memory.asked(), asked);
+    let fault = solver.finish(cut).err();
+    expect_same(
+        rt,
+        (fault, memory.asked()),
+        (Some(SolveFault::Missed { link }), asked),
+    );
 }
 
 // The triangle's worker offers one link a round and hides the third.
-fn expect_lies(rt: &impl Abort, alloc: Global, memory: &Memory) -> Result<(), AllocError> {
-    let links = links_of_six(rt, alloc, EQUAL_WEIGHTS.arcs);
-    let links = links.as_slice();
-    assert!(rt; links.len() == 3);
-    let cut = or_refused(rt, Cut::even(memory, links, 1), CutFault::Memory)?;
+fn expect_lies<'a>(
+    rt: &impl Abort,
+    memory: &'a Memory,
+    cut: &Cut<&'a Memory>,
+) -> Result<(), AllocError> {
     let mut solver = Solver::new(memory, 3)?;
-    expect_merged(rt, memory, &cut, &mut solver)?;
-    expect_past_bound(rt, memory, &cut, &mut solver)?;
-    expect_missed(rt, memory, &cut, &solver);
+    expect_merged(rt, memory, cut, &mut solver)?;
+    expect_past_bound(rt, memory, cut, &mut solver)?;
+    expect_missed(rt, memory, cut, &solver);
     Ok(())
 }
 
 #[derive(Clone, Copy)]
 enum Call {
-    Board,
-    Relabel(Worked),
-    Solver(Worked),
-    SolveAlone(Worked, u32),
+    Relabel,
+    Solver,
+    SolveAlone(u32),
     Lies,
 }
 
-const CALLS: [Call; 8] = [
-    Call::Board,
-    Call::Relabel(SMALL_NET),
-    Call::Relabel(WIDE_WEIGHTS),
-    Call::Solver(SMALL_NET),
-    Call::Solver(WIDE_WEIGHTS),
-    Call::SolveAlone(A_PATH_OF_EIGHT, 3),
-    Call::SolveAlone(WIDE_WEIGHTS, 2),
-    Call::Lies,
+// Each over a cut of a graph's links into so many shards.
+const CALLS: [(Call, Worked, u32); 7] = [
+    (Call::Relabel, SMALL_NET, 2),
+    (Call::Relabel, WIDE_WEIGHTS, 2),
+    (Call::Solver, SMALL_NET, 2),
+    (Call::Solver, WIDE_WEIGHTS, 2),
+    (Call::SolveAlone(3), A_PATH_OF_EIGHT, 3),
+    (Call::SolveAlone(2), WIDE_WEIGHTS, 3),
+    (Call::Lies, EQUAL_WEIGHTS, 1),
 ];
+
+// The call over the cut.
+fn make<'a>(
+    rt: &impl Abort,
+    alloc: Global,
+    memory: &'a Memory,
+    cut: &Cut<&'a Memory>,
+    called: (Call, &Worked),
+) -> Result<(), AllocError> {
+    let (call, graph) = called;
+    match call {
+        Call::Relabel => expect_relabelled(rt, memory, cut),
+        Call::Solver => expect_solved(rt, alloc, memory, cut, graph),
+        Call::SolveAlone(merging) => expect_alone(rt, alloc, memory, cut, (graph, merging)),
+        Call::Lies => expect_lies(rt, memory, cut),
+    }
+}
 
 #[test]
 fn boards_books_and_solvers(rt: HostRuntime) {
-    for call in CALLS {
+    expect_each(
+        &rt,
+        rt.alloc(),
+        |memory: &Memory| -> Result<(), AllocError> { expect_claims(&rt, memory) },
+    );
+    for (call, graph, count) in CALLS {
         expect_each(
             &rt,
             rt.alloc(),
             |memory: &Memory| -> Result<(), AllocError> {
-                match call {
-                    Call::Board => expect_claims(&rt, memory),
-                    Call::Relabel(graph) => expect_relabelled(&rt, rt.alloc(), memory, graph),
-                    Call::Solver(graph) => expect_solved(&rt, rt.alloc(), memory, graph),
-                    Call::SolveAlone(graph, merging) => {
-                        expect_alone(&rt, rt.alloc(), memory, graph, merging)
-                    }
-                    Call::Lies => expect_lies(&rt, rt.alloc(), memory),
-                }
+                let links = few_links(&rt, rt.alloc(), graph.n, graph.arcs);
+                let cut = even_cut(&rt, memory, links.as_slice(), graph.n, count)?;
+                make(&rt, rt.alloc(), memory, &cut, (call, &graph))
             },
         );
     }
 }
 
-// How many blocks a book for so many labels takes that is opened in the room of picks of six.
-fn blocks_in_room(rt: &impl Abort, alloc: Global, n: u32) -> Result<u64, Fail> {
+// How many blocks a book over the cut for so many labels takes that is opened in the room of picks of six.
+fn blocks_in_room<'a>(
+    rt: &impl Abort,
+    memory: &'a Memory,
+    cut: &Cut<&'a Memory>,
+    n: u32,
+) -> Result<u64, AllocError> {
     assert!(rt; n < 1 << 20);
+    let labels = Labels::apart(memory, 6)?;
+    let picks = picks_over(rt, memory, cut, &labels, Offered::Nothing)?;
+    let labels = Labels::apart(memory, n)?;
+    assert!(rt; all_have_labels(cut, labels.n()));
+    let before = memory.given();
+    let _book = RoundBook::open_over(picks, 1, cut, &labels)?;
+    Ok(memory.given().wrapping_sub(before))
+}
+
+// It takes so many.
+fn expect_blocks(rt: &impl Abort, alloc: Global, n: u32, blocks: u64) {
     let memory = Refusing::new(alloc, Refusals::none());
     let cut = Cut::even(&memory, &[], 1).expect(rt, "a cut");
-    let labels = Labels::apart(&memory, 6)?;
-    assert!(rt; all_have_labels(&cut, labels.n()));
-    let mut book = RoundBook::open(&memory, 1, &cut, &labels)?;
-    let answer = Answer {
-        round: 1,
-        shard: 0,
-        offers: Offers::of_pairs(Vec::new(&memory)).expect(rt, "offers"),
-    };
-    assert!(rt; book.len() == 1 && book.take(0, answer).is_ok() && book.missing() == 0);
-    let picks = book.close();
-    let labels = Labels::apart(&memory, n)?;
-    assert!(rt; all_have_labels(&cut, labels.n()));
-    let before = memory.given();
-    let book = RoundBook::open_over(picks, 1, &cut, &labels)?;
-    let blocks = memory.given().wrapping_sub(before);
-    drop(book);
-    Ok(blocks)
+    let found = blocks_in_room(rt, &memory, &cut, n);
+    expect_same(rt, found, Ok(blocks));
 }
 
 // A book takes two blocks for its shards, and one for its picks: none where those before had as many labels, or more.
 #[test]
-fn a_book_in_the_room_of_picks(rt: HostRuntime) -> Result<(), Fail> {
+fn a_book_in_the_room_of_picks(rt: HostRuntime) {
     for (n, blocks) in [(6, 2), (4, 2), (7, 3)] {
-        expect_same(&rt, blocks_in_room(&rt, rt.alloc(), n)?, blocks);
+        expect_blocks(&rt, rt.alloc(), n, blocks);
     }
-    Ok(())
 }

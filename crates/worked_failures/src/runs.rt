@@ -1,13 +1,13 @@
 // Whole runs over the small net, also with weights past 32 bits. (Rounds over lanes come with the run over workers: lanes
 // in memory that is borrowed are refused by the borrow checker today.)
-ghost use Rattle.std.specs.Prelude.{◌<◌, ◌≤◌, length, All, IfOk};
+ghost use Rattle.std.specs.Prelude.{◌≤◌, length, All, IfOk};
 ghost use Rattle.ports.specs.EngineLines.{line_of};
 ghost use Rattle.ports.specs.Lines.{HasRoom};
 
 use crate::in_turn::{Memory, expect_any, was_refused};
 use crate::same::expect_same;
 use crate::wires::FIRST_HELLO;
-use byte_streams::FusedSink;
+use byte_streams::{FusedSink, Sink, Source};
 use forest_run::{Cutting, Report, RunFault, run_lines, run_plain};
 use gr_text::ReadFault;
 use limits::MAX_WORKERS;
@@ -61,38 +61,43 @@ fn expect_plain(
     Ok(())
 }
 
-// A new line to the worker of this number, in memory.
-pub(crate) fn worker<A: Allocator + Copy>(
+// New lines to two workers, each in memory.
+pub(crate) fn two_workers<A: Allocator + Copy>(
     alloc: A,
-    number: u32,
-) -> Result<EngineLine<A>, AllocError>
-    requires number { number < 64 }
-    ensures room { IfOk result (λ line. HasRoom (line_of line)) }
+) -> Result<Vec<EngineLine<A>, A>, AllocError>
+    ensures few { IfOk result (λ lines. length lines.items ≤ MAX_WORKERS) }
+    ensures room { IfOk result (λ lines. All (λ line. HasRoom (line_of line)) lines.items) }
 {
-    EngineLine::new(alloc, number)
+    let mut lines = Vec::new(alloc);
+    for worker in 0..2u32 {
+        lines.push(EngineLine::new(alloc, worker)?)?;
+    }
+    Ok(lines)
 }
 
-// A run over these lines, in so many shards: its report, and how many lines it gave back.
-fn run_over<'a, L: Line + Send + Drop, R: Threads + Wait + Sync + Abort>(
-    rt: &R,
-    alloc: Global,
-    memory: &'a Memory,
-    graph: &Worked,
+// A run over these lines in so many shards: how it ended, and how many lines it gave back.
+pub(crate) fn run_over<
+    L: Line + Send + Drop,
+    A: Allocator + Copy + Send + Sync,
+    S: Source,
+    W: Sink,
+>(
+    rt: &(impl Threads + Wait + Sync),
+    lines: Vec<L, A>,
     shards: u32,
-    lines: Vec<L, &'a Memory>,
-) -> Result<(Report, usize), AllocError>
+    source: &mut S,
+    sink: &mut W,
+) -> (Result<Report, RunFault>, usize)
+    requires can_read { S.can_read source.old }
+    requires can_write { W.can_write sink.old }
     requires few { length lines.items ≤ MAX_WORKERS }
     requires room { All (λ line. HasRoom (L.state line)) lines.items }
 {
-    let mut source = graph.file;
-    let mut sink = FusedSink::new(alloc, 100, 7)?;
-    let cutting = Cutting::Even(shards);
-    let (ended, count) = match run_lines(rt, memory, &mut source, cutting, lines, &mut sink) {
+    let alloc = *lines.allocator();
+    match run_lines(rt, alloc, source, Cutting::Even(shards), lines, sink) {
         Ok((report, lines)) => (Ok(report), lines.len()),
         Err(fault) => (Err(fault), 0),
-    };
-    let report = expect_ended(rt, memory, graph, ended, sink.held())?;
-    Ok((report, count))
+    }
 }
 
 // Over two workers, each in memory. Where one of them or its wire wants memory it is given up, and the run goes on.
@@ -102,10 +107,10 @@ fn expect_over_workers<R: Threads + Wait + Sync + Abort>(
     memory: &Memory,
     graph: Worked,
 ) -> Result<(), AllocError> {
-    let Ok(lines) = Vec::from_array(memory, [worker(memory, 0)?, worker(memory, 1)?]) else {
-        return Err(AllocError);
-    };
-    let (report, count) = run_over(rt, alloc, memory, &graph, 2, lines)?;
+    let mut source = graph.file;
+    let mut sink = FusedSink::new(alloc, 100, 7)?;
+    let (ended, count) = run_over(rt, two_workers(memory)?, 2, &mut source, &mut sink);
+    let report = expect_ended(rt, memory, &graph, ended, sink.held())?;
     expect_same(rt, (count, report.rounds, report.shards), (2, 2, 2));
     assert!(rt; report.closed == 0 || was_refused(memory));
     Ok(())
@@ -119,13 +124,13 @@ fn expect_over_an_old_worker<R: Threads + Wait + Sync + Abort>(
 ) -> Result<(), AllocError> {
     let mut lines = Vec::new(memory);
     lines.push(ScriptLine::new(FIRST_HELLO.to_vec(memory)?))?;
-    let (report, _) = run_over(rt, alloc, memory, &WIDE_WEIGHTS, 1, lines)?;
-    expect_same(
-        rt,
-        (report.rounds, report.asked, report.answered),
-        (2, 1, 0),
-    );
-    expect_same(rt, (report.alone, report.closed), (3, 1));
+    let mut source = WIDE_WEIGHTS.file;
+    let mut sink = FusedSink::new(alloc, 100, 7)?;
+    let (ended, _) = run_over(rt, lines, 1, &mut source, &mut sink);
+    let report = expect_ended(rt, memory, &WIDE_WEIGHTS, ended, sink.held())?;
+    let asks = (report.asked, report.answered, report.alone);
+    expect_same(rt, asks, (1, 0, 3));
+    expect_same(rt, (report.rounds, report.closed), (2, 1));
     Ok(())
 }
 

@@ -2,7 +2,7 @@
 ghost use Rattle.std.specs.Prelude.{◌<◌, ◌-◌, ◌^◌, IfOk};
 
 use crate::in_turn::{Memory, expect_each, or_refused};
-use crate::lists::links_of_six;
+use crate::lists::few_links;
 use crate::same::expect_same;
 use gr_text::{
     FusedSink, GrFault, GrKind, GrReader, Graph, MAX_BYTES, ReadFault, WriteFault, parse,
@@ -59,7 +59,7 @@ const CALLS: [Call; 6] = [
 
 // The small net is read, or its forest written into a sink with room for ten bytes.
 fn make(rt: &impl Abort, alloc: Global, memory: &Memory, call: Call) -> Result<(), AllocError> {
-    let links = links_of_six(rt, alloc, SMALL_NET.arcs);
+    let links = few_links(rt, alloc, 6, SMALL_NET.arcs);
     let links = links.as_slice();
     let mut source = SMALL_NET.file;
     match call {
@@ -141,7 +141,7 @@ fn expect_ten_bytes(
     requires { IfOk sink (λ sink. sink.setbacks < 2 ^ 64 - 1) }
 {
     let mut sink = sink?;
-    let links = links_of_six(rt, alloc, SMALL_NET.forest);
+    let links = few_links(rt, alloc, 6, SMALL_NET.forest);
     let forest = Forest::of_list(links).expect(rt, "ascending");
     let asked = memory.asked();
     expect_same(

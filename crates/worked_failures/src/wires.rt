@@ -1,8 +1,13 @@
 // A worker in memory, and asks over a wire to it, and to a script of one of the first version.
-use crate::in_turn::{Memory, expect_any, expect_each, or_refused, was_refused};
-use crate::lists::links_of_six;
-use link_key::{Cut, CutFault, Labels};
-use ports::{EngineLine, Port, PortFault, ScriptLine, Wire};
+ghost use Rattle.std.specs.Prelude.{◌<◌, length, All};
+ghost use Rattle.link_key.specs.Link.{EndsUpTo};
+ghost use Rattle.ports.specs.Lines.{HasRoom};
+
+use crate::in_turn::{Memory, expect_any, expect_each, was_refused};
+use crate::lists::{even_cut, few_links};
+use crate::same::expect_same;
+use link_key::{Cut, Labels};
+use ports::{EngineLine, Line, Port, PortFault, ScriptLine, Wire};
 use std::alloc::{AllocError, Global};
 use std::process::Abort;
 use worked_graphs::{SMALL_NET, WIDE_WEIGHTS, Worked, have_labels};
@@ -12,61 +17,92 @@ pub(crate) const FIRST_HELLO: [u8; 11] = [1, 0, 0, 0, 6, 0, 1, 0, 0, 0, 0];
 // The offers of the small net in one shard, each vertex a component by itself, whatever its weights.
 const OFFERS: [(u32, u32); 6] = [(1, 1), (2, 6), (3, 4), (4, 4), (5, 6), (6, 5)];
 
-// An ask of a graph in one shard is answered; or it wants memory, here or at the worker, which ends then. The wire is
-// closed then, and stays so.
-fn expect_ask(
+// Why an ask for the cut's last shard over a wire with this line, each of six vertices a component by itself, isn't
+// answered; an answer has the offers. The wire is closed just where it doesn't answer.
+fn fault_over<'a, 'b, L: Line + Drop>(
     rt: &impl Abort,
-    alloc: Global,
-    memory: &Memory,
-    graph: Worked,
-) -> Result<(), AllocError> {
-    let links = links_of_six(rt, alloc, graph.arcs);
-    let links = links.as_slice();
-    assert!(rt; links.len() == 8);
-    let cut = or_refused(rt, Cut::even(memory, links, 1), CutFault::Memory)?;
+    memory: &'a Memory,
+    line: L,
+    cut: &'b Cut<'b, &'a Memory>,
+) -> Result<Option<PortFault>, AllocError>
+    requires room { HasRoom (L.state line) }
+{
     let labels = Labels::apart(memory, 6)?;
-    assert!(rt; cut.len() == 1 && have_labels(cut.shard(0).links, labels.n()));
-    let line = EngineLine::new(memory, 0)?;
-    let mut wire = Wire::new(memory, line, &cut, 0);
-    assert!(rt; wire.asks() < 100);
-    match wire.ask(1, 0, &labels) {
+    let shard = cut.len() - 1;
+    assert!(rt; have_labels(cut.shard(shard).links, labels.n()));
+    let mut wire = Wire::new(memory, line, cut, 0);
+    let fault = match wire.ask(1, shard, &labels) {
         Ok(answer) => {
-            assert!(rt; answer.offers.pairs() == OFFERS.as_slice() && wire.is_open());
-            Ok(())
+            assert!(rt; answer.offers.pairs() == OFFERS.as_slice());
+            None
         }
-        Err(fault) => {
-            let wants = [PortFault::Memory, PortFault::Down, PortFault::Gave(1)];
-            assert!(rt; was_refused(memory) && wants.contains(&fault) && !wire.is_open());
-            Err(AllocError)
-        }
-    }
+        Err(fault) => Some(fault),
+    };
+    expect_same(rt, wire.is_open(), fault.is_none());
+    Ok(fault)
 }
 
-// A worker of the first version is too old for a shard with a weight past 32 bits; or the wire wants memory. Either way
-// it is closed.
-fn expect_too_old(rt: &impl Abort, alloc: Global, memory: &Memory) -> Result<(), AllocError> {
-    let links = links_of_six(rt, alloc, WIDE_WEIGHTS.arcs);
-    let links = links.as_slice();
-    assert!(rt; links.len() == 8);
-    let cut = or_refused(rt, Cut::even(memory, links, 2), CutFault::Memory)?;
-    let labels = Labels::apart(memory, 6)?;
-    assert!(rt; cut.len() == 2 && have_labels(cut.shard(1).links, labels.n()));
-    let line = ScriptLine::new(FIRST_HELLO.to_vec(memory)?);
-    let mut wire = Wire::new(memory, line, &cut, 0);
-    assert!(rt; wire.asks() < 100);
-    let fault = wire.ask(1, 1, &labels).err();
-    assert!(rt; !wire.is_open());
-    if fault == Some(PortFault::TooOld) {
-        return Ok(());
-    }
-    assert!(rt; was_refused(memory) && fault == Some(PortFault::Memory));
-    Err(AllocError)
-}
-
+/// A graph in one shard is asked of a worker in memory, and the half of one that has weights past 32 bits of a worker of
+/// the first version, which is too old for it.
 #[derive(Clone, Copy)]
 enum Asked {
     Answered(Worked),
     TooOld,
+}
+
+// The ask is answered, or the worker is too old; or it wants memory, here or at the worker, which ends then.
+fn expect_asked(
+    rt: &impl Abort,
+    alloc: Global,
+    memory: &Memory,
+    asked: Asked,
+) -> Result<(), AllocError> {
+    let (graph, count) = match asked {
+        Asked::Answered(graph) => (graph, 1),
+        Asked::TooOld => (WIDE_WEIGHTS, 2),
+    };
+    let links = few_links(rt, alloc, 6, graph.arcs);
+    let cut = even_cut(rt, memory, links.as_slice(), 6, count)?;
+    expect_over_cut(rt, memory, &cut, asked)
+}
+
+// The same over the cut.
+fn expect_over_cut<'a>(
+    rt: &impl Abort,
+    memory: &'a Memory,
+    cut: &Cut<&'a Memory>,
+    asked: Asked,
+) -> Result<(), AllocError> {
+    let fault = match asked {
+        Asked::Answered(_) => fault_over(rt, memory, EngineLine::new(memory, 0)?, cut)?,
+        Asked::TooOld => fault_over(
+            rt,
+            memory,
+            ScriptLine::new(FIRST_HELLO.to_vec(memory)?),
+            cut,
+        )?,
+    };
+    if went_well(asked, fault) {
+        return Ok(());
+    }
+    assert!(rt; was_refused(memory) && wants_memory(asked, fault));
+    Err(AllocError)
+}
+
+fn went_well(asked: Asked, fault: Option<PortFault>) -> bool {
+    match asked {
+        Asked::Answered(_) => fault.is_none(),
+        Asked::TooOld => fault == Some(PortFault::TooOld),
+    }
+}
+
+// The script needs none.
+fn wants_memory(asked: Asked, fault: Option<PortFault>) -> bool {
+    match (asked, fault) {
+        (_, Some(PortFault::Memory)) => true,
+        (Asked::Answered(_), Some(PortFault::Down | PortFault::Gave(1))) => true,
+        _ => false,
+    }
 }
 
 #[test]
@@ -80,10 +116,7 @@ fn asks_of_the_small_net(rt: HostRuntime) {
             &rt,
             rt.alloc(),
             |memory: &Memory| -> Result<(), AllocError> {
-                match asked {
-                    Asked::Answered(graph) => expect_ask(&rt, rt.alloc(), memory, graph),
-                    Asked::TooOld => expect_too_old(&rt, rt.alloc(), memory),
-                }
+                expect_asked(&rt, rt.alloc(), memory, asked)
             },
         );
     }

@@ -1,11 +1,11 @@
 // What a worker does: scans, what its engine hears, and whole sessions.
-use crate::frame_texts::{ANSWER, ASK, HELLO, NO_MEMORY, SHARD, SHARD64, WIDE_ARCS};
+use crate::frame_texts::{ANSWER, ASK, HELLO, NO_MEMORY, SHARD, SHARD64, WIDE_ARCS, written};
 use crate::in_turn::{Memory, expect_any, expect_each, or_refused, was_refused};
-use crate::lists::links_of_six;
+use crate::lists::few_links;
 use crate::same::expect_same;
 use crate::sessions::joined;
-use frames::{FrameFault, encode, read_frame};
-use link_key::Labels;
+use frames::{Frame, FrameFault, read_frame};
+use link_key::{Labels, Link, Offers};
 use std::alloc::{AllocError, Global};
 use std::process::Abort;
 use std::thread::Threads;
@@ -18,6 +18,21 @@ enum By {
     Threads,
 }
 
+// What a scan of the links offers.
+fn offers<'a>(
+    rt: &(impl Abort + Threads + Sync),
+    memory: &'a Memory,
+    by: By,
+    links: &[Link],
+    labels: &Labels,
+) -> Result<Offers<&'a Memory>, AllocError> {
+    assert!(rt; links.len() <= 8 && have_labels(links, labels.n()));
+    match by {
+        By::OneThread => scan(memory, links, labels),
+        By::Threads => scan_par(rt, memory, links, labels),
+    }
+}
+
 // A triangle's offers, each vertex a component by itself.
 fn expect_offers(
     rt: &(impl Abort + Threads + Sync),
@@ -26,16 +41,25 @@ fn expect_offers(
     by: By,
     arcs: &[Row],
 ) -> Result<(), AllocError> {
-    let links = links_of_six(rt, alloc, arcs);
-    let links = links.as_slice();
+    let links = few_links(rt, alloc, 3, arcs);
     let labels = Labels::apart(alloc, 3).expect(rt, "memory");
-    assert!(rt; links.len() == 3 && have_labels(links, labels.n()));
-    let offers = match by {
-        By::OneThread => scan(memory, links, &labels)?,
-        By::Threads => scan_par(rt, memory, links, &labels)?,
-    };
+    let offers = offers(rt, memory, by, links.as_slice(), &labels)?;
     assert!(rt; offers.pairs() == [(1, 0), (2, 0), (3, 2)].as_slice());
     Ok(())
+}
+
+// The engine's reply to a frame.
+fn heard<'a>(
+    rt: &(impl Abort + Threads + Sync),
+    by: By,
+    engine: &mut Engine<&'a Memory>,
+    frame: Frame<&'a Memory>,
+) -> Result<Option<Frame<&'a Memory>>, AllocError> {
+    assert!(rt; frame.is_lawful());
+    match by {
+        By::OneThread => engine.hear(frame),
+        By::Threads => engine.hear_par(rt, frame),
+    }
 }
 
 // What the engine replies to the frame with these bytes, as bytes.
@@ -44,20 +68,12 @@ fn reply<'a>(
     memory: &'a Memory,
     by: By,
     engine: &mut Engine<&'a Memory>,
-    heard: &[u8],
+    bytes: &[u8],
 ) -> Result<Vec<u8, &'a Memory>, AllocError> {
-    let mut source = heard;
+    let mut source = bytes;
     let frame = or_refused(rt, read_frame(memory, &mut source), FrameFault::Memory)?;
-    assert!(rt; frame.is_lawful());
-    let reply = match by {
-        By::OneThread => engine.hear(frame)?,
-        By::Threads => engine.hear_par(rt, frame)?,
-    };
-    match reply {
-        Some(frame) => {
-            assert!(rt; frame.is_lawful());
-            encode(memory, &frame)
-        }
+    match heard(rt, by, engine, frame)? {
+        Some(frame) => written(rt, memory, &frame),
         None => Ok(Vec::new(memory)),
     }
 }
@@ -69,14 +85,14 @@ fn expect_reply<'a>(
     memory: &'a Memory,
     by: By,
     engine: &mut Engine<&'a Memory>,
-    heard: &[u8],
-    expected: &[u8],
+    exchange: (&[u8], &[u8]),
 ) -> Result<(), AllocError> {
-    let told = match reply(rt, memory, by, engine, heard) {
+    let (bytes, expected) = exchange;
+    let told = match reply(rt, memory, by, engine, bytes) {
         Ok(told) => told,
-        Err(AllocError) => reply(rt, memory, by, engine, heard)?,
+        Err(AllocError) => reply(rt, memory, by, engine, bytes)?,
     };
-    assert!(rt; told.as_slice() == expected);
+    expect_same(rt, told.as_slice(), expected);
     Ok(())
 }
 
@@ -88,8 +104,8 @@ fn expect_replies(
     shard: &[u8],
 ) -> Result<(), AllocError> {
     let mut engine = Engine::new(memory);
-    expect_reply(rt, memory, by, &mut engine, shard, &[])?;
-    expect_reply(rt, memory, by, &mut engine, &ASK, &ANSWER)
+    expect_reply(rt, memory, by, &mut engine, (shard, &[]))?;
+    expect_reply(rt, memory, by, &mut engine, (&ASK, &ANSWER))
 }
 
 #[derive(Clone, Copy)]

@@ -1,0 +1,48 @@
+// The source and the sink of a run or a session, one of which fails, or takes nothing more, at a chosen byte.
+ghost use Rattle.std.specs.Prelude.{◌<◌, ◌≤◌, ◌-◌, ◌^◌, IfOk};
+
+use byte_streams::{FusedSink, FusedSource};
+use std::alloc::{AllocError, Global};
+
+// More bytes than any run or session here reads or writes.
+const ALL: usize = 1000;
+
+/// The source fails; or each write and each flush of the sink fails; or the sink takes nothing more, and its flush passes.
+#[derive(Clone, Copy)]
+pub(crate) enum Setback {
+    Source,
+    Sink,
+    FullSink,
+}
+
+/// The setback comes once so many bytes passed, of which so many pass at a time.
+#[derive(Clone, Copy)]
+pub(crate) struct Place {
+    pub(crate) setback: Setback,
+    pub(crate) passes: usize,
+    pub(crate) piece: usize,
+}
+
+// A source of these bytes.
+pub(crate) fn source_of(bytes: Vec<u8>, place: Place) -> FusedSource
+    requires piece { 1 ≤ place.piece }
+    ensures can_read { (result.failures < 2 ^ 64 - 1) × (result.ends < 2 ^ 64 - 1) }
+{
+    let passes = match place.setback {
+        Setback::Source => place.passes,
+        Setback::Sink | Setback::FullSink => ALL,
+    };
+    FusedSource::new(bytes, passes, place.piece)
+}
+
+// A sink that took nothing yet.
+pub(crate) fn sink_at(alloc: Global, place: Place) -> Result<FusedSink, AllocError>
+    requires piece { 1 ≤ place.piece }
+    ensures can_write { IfOk result (λ sink. sink.setbacks < 2 ^ 64 - 1) }
+{
+    match place.setback {
+        Setback::Source => FusedSink::new(alloc, ALL, place.piece),
+        Setback::Sink => FusedSink::new(alloc, place.passes, place.piece),
+        Setback::FullSink => FusedSink::stopped(alloc, place.passes, place.piece),
+    }
+}
