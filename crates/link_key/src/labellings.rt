@@ -1,8 +1,7 @@
-ghost use Rattle.std.specs.Prelude.{◌≡◌, ℕ, ◌+◌, ◌<◌, ◌≤◌, ◌^◌, ◌↔◌, length, map, slice_index, All, IsSome, IfSome, IfOk, IsTrue};
+ghost use Rattle.std.specs.Prelude.{◌≡◌, ℕ, ◌+◌, ◌<◌, ◌≤◌, ◌^◌, ◌↔◌, length, map, slice_index, IsSome, IfSome, IfOk, IsTrue};
 ghost use Rattle.std.specs.Int.{w32, to_be_bytes};
 ghost use Rattle.std.specs.List.{flat_map};
 ghost use Rattle.link_key.specs.Labels.{label_of, IsLabelled, AreLabels, AreApart, Coarsens};
-ghost use Rattle.link_key.specs.Rounds.{renamed};
 
 use limits::MAX_VERTICES;
 use std::alloc::{AllocError, Allocator, Global};
@@ -88,21 +87,6 @@ impl<A: Allocator> Labels<A> {
         }
     }
 
-    /// Gives each vertex, in place of its label, the name of that label: the number that stands at the label's place, where
-    /// the new numbers are labels too. Where the bytes of the labels are kept, those of the new ones are written over them.
-    ///
-    /// One pass, or two; takes no memory.
-    pub fn rename(&mut self, names: &[u32])
-        requires within { All (λ c. c < length names.now) self.old }
-        requires labels { AreLabels (renamed names.now self.old) }
-        ensures { self.new ≡ renamed names.now self.old }
-    {
-        rename_each(self.labels.as_mut_slice(), names);
-        if let Some(cells) = &mut self.cells {
-            spell_each(cells.as_mut_slice(), self.labels.as_slice());
-        }
-    }
-
     /// The label of vertex `v`.
     pub fn of(&self, v: u32) -> u32
         requires from_one { 1 ≤ v }
@@ -163,26 +147,6 @@ fn cells_of<A: Allocator>(alloc: A, labels: &[u32]) -> Result<Vec<[u8; 4], A>, A
         cells.push_reserved(label.to_be_bytes());
     }
     Ok(cells)
-}
-
-// Gives each label its name.
-fn rename_each(labels: &mut [u32], names: &[u32])
-    requires { All (λ c. c < length names.now) labels.old }
-    ensures { labels.new ≡ renamed names.now labels.old }
-{
-    for i in 0..labels.len() {
-        labels[i] = names[labels[i] as usize];
-    }
-}
-
-// Writes the four bytes of each label, the most significant first.
-fn spell_each(cells: &mut [[u8; 4]], labels: &[u32])
-    requires { length cells.old ≡ length labels.now }
-    ensures { cells.new ≡ map (to_be_bytes w32) labels.now }
-{
-    for i in 0..labels.len() {
-        cells[i] = labels[i].to_be_bytes();
-    }
 }
 
 // How many labels are compared at once.

@@ -1,10 +1,10 @@
 -- The labels that name components, as they stay from round to round, and where picks lead each of them.
-use Rattle.std.specs.Prelude.{◌≡◌, ◌≢◌, ℕ, ◌+◌, ◌-◌, ◌<◌, ◌≤◌, ◌^◌, ◌⊎◌, ◌↔◌, min, Bool, true, false, List, ◌++◌, length, slice_index, slice_index_or, AllPairs, Contains, Option, Some, None}
+use Rattle.std.specs.Prelude.{◌≡◌, ◌≢◌, ℕ, ◌+◌, ◌-◌, ◌<◌, ◌≤◌, ◌^◌, ◌⊎◌, ◌↔◌, min, Bool, true, false, List, length, slice_index, slice_index_or, AllPairs, Contains, Option, Some, None}
 use Rattle.link_key.specs.declared.links.Link.{Link}
 use Rattle.link_key.specs.Labels.{label_of}
 use Rattle.round_theory.specs.Labelling.{IsVertex, JoinsOver}
 use Rattle.round_core.specs.Picks.{pick_of, Picked}
-use Rattle.round_core.specs.Solver.{IsFirstPickedAt, IsPickedBefore, ArePickedOnce}
+use Rattle.round_core.specs.Solver.{IsFirstPickedAt, IsPickedBefore}
 
 -- c is a vertex that labels itself
 abbrev pub IsRoot : List ℕ → ℕ → Type 0
@@ -59,14 +59,6 @@ abbrev pub TakesBatch : List (Option Link) → List ℕ → List Link → List L
 TakesBatch picks batch before after =
     (labels roots : List ℕ) (k : ℕ) → AreRoots labels roots → StandsAt roots k batch
     → AreGiven picks roots k before → AreGiven picks roots (k + length batch) after
-
--- behind the links taken before stand those picked, each once: so many, and no more than there are roots
-pub record TakesPicked (picks : List (Option Link)) (roots : List ℕ) (count : ℕ) (before after : List Link) : Type 0 where
-  pub links : List Link
-  pub once : ArePickedOnce picks links
-  pub few : length links ≤ length roots
-  pub counted : length links ≡ count
-  pub behind : after ≡ before ++ links
 
 -- the parent of each root is a root
 pub record ArePointers (roots parents : List ℕ) : Type 0 where

@@ -1,11 +1,11 @@
-ghost use Rattle.std.specs.Prelude.{◌≡◌, ℕ, List, Option, ◌+◌, ◌<◌, ◌≤◌, ◌==◌, ◌↔◌, length, map, filter, slice_index, All, AllPairs, Contains, slice_index_or, Some, None, EachIndex, IsTrue, IfOk, OnOk, OnErr, false};
+ghost use Rattle.std.specs.Prelude.{◌≡◌, ℕ, List, Option, ◌+◌, ◌<◌, ◌≤◌, ◌==◌, ◌↔◌, length, map, filter, slice_index, All, AllPairs, Contains, slice_index_or, Some, None, EachIndex, IsTrue, IfOk, OnOk, false};
 ghost use Rattle.link_key.specs.declared.links.Link.{Link as TheLink};
 ghost use Rattle.link_key.specs.Labels.{label_of, AreLabels, AreApart};
 ghost use Rattle.round_theory.specs.Labelling.{IsVertex, IsRelabelling};
 ghost use Rattle.round_theory.specs.Offers.{Leaves};
 ghost use Rattle.round_core.specs.Picks.{pick_of, Picked, ArePicksOfHearings};
 ghost use Rattle.round_core.specs.Solver.{ArePickedOnce};
-ghost use Rattle.round_core.specs.Roots.{IsRoot, AreRoots, HasEndLabels, IsLed, IsLedBy, IsTaker, AreTakers, TakesBatch, TakesPicked, ArePointers, AreParents, AreSettled, AreNear, IsLeastUnder};
+ghost use Rattle.round_core.specs.Roots.{IsRoot, AreRoots, HasEndLabels, IsLed, IsLedBy, IsTaker, AreTakers, TakesBatch, ArePointers, AreParents, AreSettled, AreNear, IsLeastUnder};
 
 use crate::picks::Picks;
 use limits::MAX_VERTICES;
@@ -53,33 +53,29 @@ impl<A: Allocator + Copy> Roots<A> {
         })
     }
 
-    // Merges the components that the picks join. The links picked, each once and in the order of the least roots that pick
-    // them, go behind those taken before; the vertices get the labels of the next round, as `hook_relabel` gives them, in
-    // place of their own. It says how many links it took; for k roots of n vertices it takes O(n + k log k) time.
+    // Merges the components that the picks join. The links picked, each once, in the order of the least roots that pick
+    // them, and the labels of the next round, as `hook_relabel` gives them: for k roots of n vertices in O(n + k log k)
+    // time.
     pub(crate) fn merge(
         &mut self,
-        labels: &mut Labels<A>,
+        alloc: A,
+        labels: &Labels<A>,
         picks: &Picks<A>,
-        taken: &mut Vec<Link, A>,
-    ) -> Result<u32, AllocError>
-        requires roots { AreRoots labels.old self.old }
-        requires picks { ArePicksOfHearings labels.old picks.now }
-        ensures taken { IfOk result (λ count. TakesPicked picks.now self.old count taken.old.items taken.new.items) }
-        ensures relabelled { OnOk result (IsRelabelling (length labels.old) labels.old (Picked picks.now) labels.new) }
-        ensures labels { OnErr result (labels.new ≡ labels.old) }
-        ensures none_taken { OnErr result (taken.new.items ≡ taken.old.items) }
+    ) -> Result<(Vec<Link, A>, Labels<A>), AllocError>
+        requires roots { AreRoots labels.now self.old }
+        requires picks { ArePicksOfHearings labels.now picks.now }
+        ensures once { IfOk result (λ merged. ArePickedOnce picks.now merged.0.items) }
+        ensures few { IfOk result (λ merged. length merged.0.items ≤ length self.old) }
+        ensures relabelled { IfOk result (λ merged. IsRelabelling (length labels.now) labels.now (Picked picks.now) merged.1) }
         ensures same { self.new ≡ self.old }
     {
-        let alloc = *taken.allocator();
         let old = labels.as_slice();
         make_room(alloc, &mut self.parents, old.len())?;
         make_room(alloc, &mut self.least, old.len())?;
-        let mut links = join_roots(alloc, old, &self.roots, picks, &mut self.parents)?;
-        let count = links.len() as u32;
-        taken.append(&mut links)?;
+        let links = join_roots(alloc, old, &self.roots, picks, &mut self.parents)?;
         name_roots(&self.roots, &mut self.parents, &mut self.least);
-        labels.rename(&self.parents);
-        Ok(count)
+        let new = labels_by(alloc, old, &self.parents)?;
+        Ok((links, Labels::of_known(new)))
     }
 }
 
@@ -310,6 +306,22 @@ fn find_least(roots: &[u32], parents: &[u32], least: &mut [u32])
         let root = roots[roots.len() - 1 - done];
         least[parents[root as usize] as usize] = root;
     }
+}
+
+// For each vertex the name of its label.
+fn labels_by<A: Allocator + Copy>(
+    alloc: A,
+    labels: &[u32],
+    names: &[u32],
+) -> Result<Vec<u32, A>, AllocError>
+    requires { All (λ c. c < length names.now) labels.now }
+    ensures { IfOk result (λ new. new.items ≡ map (λ c. slice_index names.now c) labels.now) }
+{
+    let mut new = Vec::with_capacity(alloc, labels.len())?;
+    for label in labels {
+        new.push_reserved(names[*label as usize]);
+    }
+    Ok(new)
 }
 
 // Where its pick leads a root, and whether the root takes it.

@@ -98,9 +98,8 @@ impl<A: Allocator + Copy> Solver<A> {
     /// for. After an error the solver is as it was.
     ///
     /// It looks at the picks of the k vertices that are their own label, and once at each of n vertices: O(n + k log k)
-    /// time. The new labels are written over the old ones, and so are their bytes where these are kept. Memory: 8 bytes a
-    /// vertex that stay from the first step that takes links on, and 16 bytes for each link of the round in a list of its
-    /// own, until they stand behind those taken before.
+    /// time. Memory: 4 bytes a vertex for the new labels, 8 more that stay from the first step that takes links on, and 16
+    /// bytes for each link of the round in a list of its own, until they stand behind those taken before.
     pub fn step(&mut self, picks: &Picks<A>) -> Result<Turn, SolveFault>
         requires picks { ArePicksOfHearings self.old.labels picks.now }
         ensures turn { IfOk result (IsTurn picks.now self.old self.new) }
@@ -114,14 +113,18 @@ impl<A: Allocator + Copy> Solver<A> {
         if is_past_bound(round, self.labels.n()) {
             return Err(SolveFault::Rounds { round });
         }
-        let count = self.roots.merge(&mut self.labels, picks, &mut self.taken)?;
-        self.roots.keep(self.labels.as_slice());
+        let alloc = *self.taken.allocator();
+        let (mut links, labels) = self.roots.merge(alloc, &self.labels, picks)?;
+        let count = links.len() as u32;
+        self.taken.append(&mut links)?;
+        self.roots.keep(labels.as_slice());
+        self.labels = labels;
         self.rounds = round;
         Ok(Turn::Merged(count))
     }
 
-    /// Keeps the bytes of the labels beside them ([`Labels::spell`]), for all who are asked under them; each step keeps them
-    /// so from then on. 4 bytes a vertex. The only error is want of memory; then they are not kept.
+    /// Keeps the bytes of the labels beside them ([`Labels::spell`]), for all who are asked under them, until a step makes
+    /// others: 4 bytes a vertex. The only error is want of memory; then they are not kept.
     pub fn spell_labels(&mut self) -> Result<(), AllocError>
         ensures { self.new ≡ self.old }
     {

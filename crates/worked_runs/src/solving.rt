@@ -22,22 +22,12 @@ struct Rounds<'a> {
     forest: &'a [Row],
 }
 
-// Whether the labels' bytes are kept, and are theirs: four of each, the highest first.
-fn keep_bytes(labels: &Labels) -> bool {
-    let Some(mut rest) = labels.spelled() else {
-        return false;
-    };
-    for label in labels.as_slice() {
-        match rest.split_first_chunk::<4>() {
-            Some((first, behind)) if *first == label.to_be_bytes() => rest = behind,
-            _ => return false,
-        }
-    }
-    rest.is_empty()
+// How many bytes of the labels are kept, where they are.
+fn bytes_kept(labels: &Labels) -> Option<usize> {
+    labels.spelled().map(|bytes| bytes.len())
 }
 
-// A round whose shards are scanned in this order. The labels keep their bytes from its beginning on, and so do those that
-// the step writes over them.
+// A round whose shards are scanned in this order. The labels keep their bytes from its beginning until others are made.
 fn step(
     rt: &impl Abort,
     alloc: Global,
@@ -47,11 +37,15 @@ fn step(
 ) -> Result<Turn, Fail> {
     let before = solver.labels().as_slice().to_vec(alloc)?;
     solver.spell_labels()?;
-    assert!(rt; solver.labels().as_slice() == before.as_slice() && keep_bytes(solver.labels()));
+    assert!(rt; solver.labels().as_slice() == before.as_slice());
+    assert_eq!(rt;
+        bytes_kept(solver.labels()),
+        Some(before.len().wrapping_mul(4))
+    );
     let book = opened(rt, alloc, cut, solver.round(), solver.labels())?;
     let picks = picks_of_scans(rt, alloc, book, order)?;
     let turn = solver.step(&picks).expect(rt, "a turn");
-    assert!(rt; keep_bytes(solver.labels()));
+    assert!(rt; turn == Turn::Done || bytes_kept(solver.labels()).is_none());
     Ok(turn)
 }
 
