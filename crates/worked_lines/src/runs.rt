@@ -37,7 +37,8 @@ fn lawful_counts(rt: &impl Abort, report: &Report, lines: usize) -> Counts {
     [rounds, shards, asked, answered, alone, closed]
 }
 
-// A file, the text of its forest, how many vertices and links it has, and what the forest weighs.
+/// A file, the text of its forest, how many vertices and links it has, and what the forest weighs.
+#[derive(Clone, Copy)]
 pub(crate) struct Solved<'a> {
     pub(crate) file: &'a [u8],
     pub(crate) text: &'a [u8],
