@@ -23,7 +23,7 @@ use Rattle.boruvka.specs.Arguments.{given, number_of, is_set, file_named}
 use Rattle.boruvka.specs.Messages.{fault_line, unopened_line}
 use Rattle.boruvka.specs.declared.chosen.Options.{Options}
 use Rattle.boruvka.specs.Streams.{Standard, of_run}
-use Rattle.boruvka.specs.Status.{Asked, asked_of, asked_by, EndsAs, EndsOn, Obeys, EndsWith, EndsOver, EndsOverWorkers, HasNoGraph, IsDone, IsReported, IsWritten, LeavesOutput, IsUntouched, report_of, status_for, status_of_run, untold}
+use Rattle.boruvka.specs.Status.{Asked, asked_of, asked_by, EndsAs, EndsOn, Obeys, EndsWith, EndsOver, EndsOverWorkers, HasNoGraph, IsDone, IsReported, IsWritten, LeavesOutput, IsUntouched, report_of, status_for, status_of_run, uncounted}
 
 -- ---- how a run ends
 
@@ -83,7 +83,7 @@ wants_memory_as false asked s a e f text = wants_memory_over asked.workers asked
 wants_memory_on : (file : Option (List ℕ)) (asked : Asked) (s : SourceState) (a e f : SinkState) → IsWritten no_memory e f
     → EndsOn file asked 4 (record { source = s; sink = a; errors = e }) (record { source = s; sink = a; errors = f })
 wants_memory_on None asked s a e f text = wants_memory_as asked.plain asked s a e f text
-wants_memory_on (Some name) asked s a e f text = inr (wants_memory_as asked.plain asked untold a e f text)
+wants_memory_on (Some name) asked s a e f text = inr (wants_memory_as asked.plain asked uncounted a e f text)
 
 pub wants_memory_obeys : (asked : Asked) (s : SourceState) (a e f : SinkState) → IsWritten no_memory e f
     → Obeys asked 4 (record { source = s; sink = a; errors = e }) (record { source = s; sink = a; errors = f })

@@ -2,7 +2,7 @@
 use Rattle.std.specs.Prelude.{◌≡◌, ◌≢◌, ◌≤◌, ℕ, ◌⊎◌, List, [], ◌∷◌, ◌++◌, length, All, Option, None, Some, Bool, true, false, Result, Ok, Err, codes, option_map}
 use Rattle.std.specs.Global.{Vec}
 use Rattle.std.specs.String.{string_bytes}
-use Rattle.byte_streams.specs.Streams.{SourceState, SinkState, tells_left, Took, WentOut, HadNoSetback}
+use Rattle.byte_streams.specs.Streams.{SourceState, SinkState, only_left, Took, WentOut, HadNoSetback}
 use Rattle.gr_text.specs.declared.faults.ReadFault.TheVariants as read
 use Rattle.clap.specs.Words.{IsAmong}
 use Rattle.clap.specs.declared.error.kind.ErrorKind.{ErrorKind}
@@ -140,12 +140,12 @@ asked_of chosen = record {
 }
 
 -- a source that tells nothing of itself
-abbrev pub untold : SourceState
-untold = tells_left None
+abbrev pub uncounted : SourceState
+uncounted = only_left None
 
 -- the streams with such a source
 abbrev pub from_file : Standard → Standard
-from_file all = record { source = untold; sink = all.sink; errors = all.errors }
+from_file all = record { source = uncounted; sink = all.sink; errors = all.errors }
 
 -- a run by one thread, or over workers
 abbrev pub EndsAs : Bool → Asked → ℕ → Standard → Standard → Type 0

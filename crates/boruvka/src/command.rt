@@ -19,7 +19,7 @@ use crate::chosen::{Options, OptionsFault};
 use crate::messages::{tell, tell_no_text, tell_report, tell_unopened, write_text};
 use crate::standard::{StandardStreams, workers_beside};
 use crate::statuses::{DEVICE, NO_MEMORY, USAGE, status_of};
-use byte_streams::{Sink, Source, Untold, put};
+use byte_streams::{Sink, Source, Uncounted, put};
 use forest_run::{Cutting, Report, RunFault, run_lines, run_plain};
 use ports::Line;
 use std::alloc::{Alloc, AllocError, Global};
@@ -231,7 +231,7 @@ where
         output,
         errors,
     } = io;
-    let input = &mut Untold(file);
+    let input = &mut Uncounted(file);
     run_on(
         rt,
         chosen,

@@ -17,12 +17,12 @@ pub struct StandardStreams<'i, 'o, 'e, I, O, E> {
 
 /// What holds the standard descriptors that weren't open.
 #[derive(Drop)]
-pub struct HeldDescriptors {
+pub struct ReservedDescriptors {
     _files: [Option<File>; 3],
 }
 
 // Holds each of the three standard descriptors that isn't open. `None` where one may still be free.
-fn hold_closed<R: Files<File = File>>(rt: &R) -> Option<HeldDescriptors> {
+fn hold_closed<R: Files<File = File>>(rt: &R) -> Option<ReservedDescriptors> {
     let mut files = [None, None, None];
     for place in &mut files {
         let folder = File::open(rt, "/").ok()?;
@@ -31,19 +31,22 @@ fn hold_closed<R: Files<File = File>>(rt: &R) -> Option<HeldDescriptors> {
         }
         *place = Some(folder);
     }
-    Some(HeldDescriptors { _files: files })
+    Some(ReservedDescriptors { _files: files })
 }
 
 /// How many of so many workers may be started, while what comes with the number is kept.
 ///
-/// Each of the three standard descriptors that isn't open is held, so that no file or socket opened later gets its
+/// Each of the three standard descriptors that isn't open is reserved, so that no file or socket opened later gets its
 /// number. A folder holds it, which can neither be read nor written: the stream fails as a closed one does. Where one
 /// of them may still be free no worker may be started, and else all.
-pub fn workers_beside<R: Files<File = File>>(rt: &R, workers: u32) -> (Option<HeldDescriptors>, u32)
+pub fn workers_beside<R: Files<File = File>>(
+    rt: &R,
+    workers: u32,
+) -> (Option<ReservedDescriptors>, u32)
     ensures { result.1 ≤ workers }
 {
     match hold_closed(rt) {
-        Some(held) => (Some(held), workers),
+        Some(reserved) => (Some(reserved), workers),
         None => (None, 0),
     }
 }

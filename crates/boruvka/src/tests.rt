@@ -10,7 +10,7 @@ use crate::command::{command, run_over, without_words};
 use crate::messages::{tell, tell_report, write_text};
 use crate::standard::{StandardStreams, workers_beside};
 use crate::statuses::status_of;
-use byte_streams::{FusedSink, FusedSource, Untold};
+use byte_streams::{FusedSink, FusedSource, Uncounted};
 use forest_run::{Report, RunFault};
 use gr_text::{GrFault, GrKind, ReadFault};
 use link_key::{CutFault, Link};
@@ -437,7 +437,7 @@ fn expect_one_write(
 ) {
     let mut input = SMALL_NET.as_slice();
     let mut output = Vec::new(rt.alloc());
-    let mut errors = Untold(CountingWriter {
+    let mut errors = Uncounted(CountingWriter {
         writes: 0,
         taken: Vec::new(rt.alloc()),
     });
@@ -708,8 +708,8 @@ fn writes_a_report_of_the_largest_numbers(rt: HostRuntime) -> Result<(), Fail> {
 
 #[test]
 fn starts_as_many_workers_as_are_asked_for(rt: HostRuntime) -> Result<(), Fail> {
-    let (held, count) = workers_beside(&rt, 3);
-    assert!(rt; held.is_some());
+    let (reserved, count) = workers_beside(&rt, 3);
+    assert!(rt; reserved.is_some());
     assert_eq!(rt; count, 3);
     Ok(())
 }

@@ -21,8 +21,8 @@ pub record SourceState : Type 0 where
   pub ends : Option ℕ
 
 -- a source that tells at most its bytes to come
-abbrev pub tells_left : Option (List ℕ) → SourceState
-tells_left left = record { left = left; given = None; failures = None; ends = None }
+abbrev pub only_left : Option (List ℕ) → SourceState
+only_left left = record { left = left; given = None; failures = None; ends = None }
 
 -- from `before` to `after` a source gave these bytes; so many reads failed, and so many found the end
 pub record Gave (failed ended : ℕ) (bytes : List ℕ) (before after : SourceState) : Type 0 where
@@ -60,8 +60,8 @@ pub record SinkState : Type 0 where
   pub setbacks : Option ℕ
 
 -- a sink that tells at most its bytes
-abbrev pub tells_held : Option (List ℕ) → SinkState
-tells_held held = record { held = held; setbacks = None }
+abbrev pub only_held : Option (List ℕ) → SinkState
+only_held held = record { held = held; setbacks = None }
 
 -- from `before` to `after` a sink took these bytes, and was hindered so many times
 pub record Took (hindered : ℕ) (bytes : List ℕ) (before after : SinkState) : Type 0 where

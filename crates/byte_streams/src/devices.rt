@@ -1,10 +1,10 @@
 //! Files, standard streams and sockets, and a wrapper for any other reader or writer of std. Nobody
 //! counts the failures of a device, so these tell none; nor does std tell a device's bytes. So no clause sees
-//! that a device is called once, nor that its failure isn't told as its end. That is tested: of [`Untold`] by
+//! that a device is called once, nor that its failure isn't told as its end. That is tested: of [`Uncounted`] by
 //! readers and writers that fail once, of the others over the built program.
 ghost use Rattle.std.specs.Prelude.{◌<◌, length, None};
 ghost use Rattle.std.specs.Io.{ReadsAtMost, WritesAtMost};
-ghost use Rattle.byte_streams.specs.Streams.{tells_left, tells_held, ReadGave, WriteTook, FlushTook};
+ghost use Rattle.byte_streams.specs.Streams.{only_left, only_held, ReadGave, WriteTook, FlushTook};
 
 use crate::{Failed, Sink, Source};
 use std::fs::File;
@@ -13,35 +13,35 @@ use std::net::TcpStream;
 
 /// Any other reader or writer of std. It tells the bytes that std tells of it, and no failures.
 #[derive(Debug, Drop)]
-pub struct Untold<T>(pub T);
+pub struct Uncounted<T>(pub T);
 
 // One call of std's, with no second try: an interrupted one has failed too.
 fn read_from<R: Read>(reader: &mut R, buf: &mut [u8]) -> Result<usize, Failed>
     requires { 0 < length buf.old }
     ensures bound { ReadsAtMost result buf.new }
-    ensures gave { ReadGave result buf.new (tells_left (R.remaining reader.old))
-        (tells_left (R.remaining reader.new)) }
+    ensures gave { ReadGave result buf.new (only_left (R.remaining reader.old))
+        (only_left (R.remaining reader.new)) }
 {
     reader.read(buf).map_err(|_| Failed)
 }
 
 fn write_to<W: Write>(writer: &mut W, buf: &[u8]) -> Result<usize, Failed>
     ensures bound { WritesAtMost result buf.now }
-    ensures took { WriteTook result buf.now (tells_held (W.contents writer.old))
-        (tells_held (W.contents writer.new)) }
+    ensures took { WriteTook result buf.now (only_held (W.contents writer.old))
+        (only_held (W.contents writer.new)) }
 {
     writer.write(buf).map_err(|_| Failed)
 }
 
 fn flush_of<W: Write>(writer: &mut W) -> Result<(), Failed>
-    ensures { FlushTook result (tells_held (W.contents writer.old))
-        (tells_held (W.contents writer.new)) }
+    ensures { FlushTook result (only_held (W.contents writer.old))
+        (only_held (W.contents writer.new)) }
 {
     writer.flush().map_err(|_| Failed)
 }
 
-impl<R: Read> Source for Untold<R> {
-    ghost state = { λ u. tells_left (R.remaining u.0) };
+impl<R: Read> Source for Uncounted<R> {
+    ghost state = { λ u. only_left (R.remaining u.0) };
 
     ghost lasts = { λ _ _. Unit {0} };
 
@@ -50,8 +50,8 @@ impl<R: Read> Source for Untold<R> {
     }
 }
 
-impl<W: Write> Sink for Untold<W> {
-    ghost state = { λ u. tells_held (W.contents u.0) };
+impl<W: Write> Sink for Uncounted<W> {
+    ghost state = { λ u. only_held (W.contents u.0) };
 
     fn write(&mut self, buf: &[u8]) -> Result<usize, Failed> {
         write_to(&mut self.0, buf)

@@ -2,7 +2,7 @@
 //! of failures; a [`Source`] and a [`Sink`] tell both in one value, their state, each part where the stream knows it.
 //!
 //! ```text
-//!   &[u8]   File   Stdin   TcpStream   Untold(reader)       Vec   File   Stdout   TcpStream   Untold(writer)
+//!   &[u8]   File   Stdin   TcpStream   Uncounted(reader)       Vec   File   Stdout   TcpStream   Uncounted(writer)
 //!      \      \      |        /          /                    \     \      |        /           /
 //!                  Source::read                                          Sink::write, flush
 //!                       |                                                     |
@@ -25,7 +25,7 @@ mod memory;
 mod traits;
 mod transfer;
 
-pub use devices::Untold;
+pub use devices::Uncounted;
 pub use fused::{FusedSink, FusedSource};
 pub use traits::{Failed, Sink, Source};
 pub use transfer::{FillFault, PutFault, fill, put};

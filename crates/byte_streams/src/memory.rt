@@ -2,7 +2,7 @@
 //! no count of that.
 ghost use Rattle.std.specs.Prelude.{◌≡◌, ◌+◌, ◌<◌, length, Some, None, IsOk, IfOk, OnErr, vec_len, vec_capacity};
 ghost use Rattle.std.specs.Io.{WritesAtMost};
-ghost use Rattle.byte_streams.specs.Streams.{tells_held, WriteTook, FlushTook};
+ghost use Rattle.byte_streams.specs.Streams.{only_held, WriteTook, FlushTook};
 
 use crate::{Failed, Sink, Source};
 use std::alloc::Allocator;
@@ -19,12 +19,12 @@ impl Source for &[u8] {
 }
 
 impl<A: Allocator> Sink for Vec<u8, A> {
-    ghost state = { λ v. tells_held (Some v.items) };
+    ghost state = { λ v. only_held (Some v.items) };
 
     fn write(&mut self, buf: &[u8]) -> Result<usize, Failed>
         ensures bound { WritesAtMost result buf.now }
-        ensures took { WriteTook result buf.now (tells_held (Some self.old.items))
-            (tells_held (Some self.new.items)) }
+        ensures took { WriteTook result buf.now (only_held (Some self.old.items))
+            (only_held (Some self.new.items)) }
 
         // It takes the whole buffer, and fails only where it has no room for it.
         ensures whole { IfOk result (λ n. n ≡ length buf.now) }
@@ -36,8 +36,8 @@ impl<A: Allocator> Sink for Vec<u8, A> {
     }
 
     fn flush(&mut self) -> Result<(), Failed>
-        ensures took { FlushTook result (tells_held (Some self.old.items))
-            (tells_held (Some self.new.items)) }
+        ensures took { FlushTook result (only_held (Some self.old.items))
+            (only_held (Some self.new.items)) }
         ensures unchanged { self.new ≡ self.old }
         ensures passes { IsOk result }
     {

@@ -1,7 +1,7 @@
 //! The two traits.
 ghost use Rattle.std.specs.Prelude.{ℕ, ◌<◌, length, None, IfOk, OnOk};
 ghost use Rattle.std.specs.Io.{ReadsAtMost, WritesAtMost};
-ghost use Rattle.byte_streams.specs.Streams.{SourceState, SinkState, tells_left, tells_held, ReadGave, WriteTook, FlushTook, IsRefusal};
+ghost use Rattle.byte_streams.specs.Streams.{SourceState, SinkState, only_left, only_held, ReadGave, WriteTook, FlushTook, IsRefusal};
 
 use thiserror::Error;
 
@@ -19,7 +19,7 @@ pub struct Failed;
 /// another program tells what it gave and not what will come.
 pub trait Source {
     // What the source tells, each thing where it is known.
-    ghost state: { Self → SourceState } = { λ _. tells_left None };
+    ghost state: { Self → SourceState } = { λ _. only_left None };
 
     // Facts that reads keep true: of a line to another program, what was sent on it. They are a member
     // of their own since such a fact may be any proposition, which no field of a record can be.
@@ -50,7 +50,7 @@ pub trait Source {
 /// [`FusedSink`](crate::FusedSink) tells both, a `Vec` its bytes alone.
 pub trait Sink {
     // What the sink tells, each thing where it is known.
-    ghost state: { Self → SinkState } = { λ _. tells_held None };
+    ghost state: { Self → SinkState } = { λ _. only_held None };
 
     // The count has room for one more. A sink that counts nothing asks for nothing.
     ghost can_write: { Self → Type 0 } = { λ _. Unit {0} };

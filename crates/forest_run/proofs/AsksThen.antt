@@ -7,7 +7,7 @@ use Rattle.frames.specs.AnswerValue.{AnswerValue}
 use Rattle.ports.specs.declared.port.Port as Port
 use Rattle.ports.specs.Exchanges.{Exchange, answers_of}
 use Rattle.forest_run.specs.Lanes.{count_if}
-use Rattle.round_core.specs.Page.{Page}
+use Rattle.round_core.specs.BookValue.{BookValue}
 use Rattle.forest_run.specs.Asks.{AnswersAsks, TakesExchange, AreInRounds, SameFaults, answered}
 
 pub either : (v : Bool) → (v ≡ true) ⊎ (v ≡ false)
@@ -19,8 +19,8 @@ abbrev pub ComeFirst : List Exchange → List Exchange → Type 0
 ComeFirst xs ys = All (λ (x : Exchange). All (λ (y : Exchange). x.round ≤ y.round) ys) xs
 
 -- those of one book come in any order
-pub one_round : (page : Page) (xs ys : List Exchange) → All (TakesExchange page) xs → All (TakesExchange page) ys → ComeFirst xs ys
-one_round page xs ys first second i d b j e c = omega (arith, (first i d b).asked.ask.round, (second j e c).asked.ask.round)
+pub one_round : (value : BookValue) (xs ys : List Exchange) → All (TakesExchange value) xs → All (TakesExchange value) ys → ComeFirst xs ys
+one_round value xs ys first second i d b j e c = omega (arith, (first i d b).asked.ask.round, (second j e c).asked.ask.round)
 
 first_of_all : (x : Exchange) (zs : List Exchange) → All (λ (y : Exchange). x.round ≤ y.round) zs → AreInRounds zs → AreInRounds (x ∷ zs)
 first_of_all x zs h p zero zero d l b = absurd (omega arith)

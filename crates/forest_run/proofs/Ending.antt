@@ -16,7 +16,7 @@ use Rattle.link_key.proofs.Least.{lightest_forest}
 use Rattle.link_key.specs.Labels.{AreLabels}
 use Rattle.round_theory.specs.Rounds.{IsMergingRounds}
 use Rattle.round_theory.proofs.Labels.{labelling_is_labels}
-use Rattle.round_core.specs.Page.{Page, IsPage, opened}
+use Rattle.round_core.specs.BookValue.{BookValue, IsBookValue, opened}
 use Rattle.round_core.specs.Picks.{ArePicks, AreNoPicks}
 use Rattle.round_core.specs.Solver.{Progress, IsProgress, vertices, IsAtStart, IsMerged, IsTurn, IsFinished, IsFinishFault, HasRoundsOf}
 use Rattle.round_core.specs.declared.solver.Turn.{Turn}
@@ -37,10 +37,10 @@ use Rattle.forest_run.specs.Chains.{MergesFromStart}
 use Rattle.forest_run.specs.Reports.{IsReportOf}
 use Rattle.forest_run.specs.Solved.{AreHonest, StepsOnce, AsksInRound, IsTurnFault, PicksAfterRounds, MergesAll, AsksInRun, IsSolveFault, FindsForest}
 use Rattle.forest_run.proofs.AsksThen.{stayed, asks_then}
-use Rattle.forest_run.proofs.Once.{page_of}
+use Rattle.forest_run.proofs.Once.{value_of_book}
 use Rattle.forest_run.proofs.Passing.{SameRound, asks_more}
 use Rattle.forest_run.proofs.Scanning.{scanned_none}
-use Rattle.forest_run.proofs.Running.{one, heard_same, closing_still, kept_still, same_still, whole_pages, kept_none, kept_in, kept_then, just_new, books_first, rounds_none, rounds_then}
+use Rattle.forest_run.proofs.Running.{one, heard_same, closing_still, kept_still, same_still, whole_books, kept_none, shelf_list, kept_then, just_new, books_first, rounds_none, rounds_then}
 use Rattle.forest_run.proofs.Chained.{merged_then, light_picks}
 use Rattle.forest_run.proofs.Solving.{named_more, named_given, from_cut, wide_still}
 
@@ -52,9 +52,9 @@ rounds_few n r few in_time = elim (cases_lt 26 r) [
 ]
 
 -- books that are light with others are light
-light_first : (books more : List Page) → AreLightBooks (books ++ more) → AreLightBooks books
+light_first : (books more : List BookValue) → AreLightBooks (books ++ more) → AreLightBooks books
 light_first books more light i d b =
-    subst (λ (book : Page). All (IsLight book) book.answers) (get_or_append_left books more d i b) (light i d (omega (arith, b, length-append books more)))
+    subst (λ (book : BookValue). All (IsLight book) book.answers) (get_or_append_left books more d i b) (light i d (omega (arith, b, length-append books more)))
 
 module _ {P A : Type 0} (port : Port.Ghosts P A) where
   pub asked_none : (n : ℕ) (cut : List (List Link)) (xs : List (LaneState P)) → AsksInRun port n cut xs xs
@@ -67,18 +67,18 @@ module _ {P A : Type 0} (port : Port.Ghosts P A) where
   }
 
   -- passes over the book of the solver's next round
-  pub turn_asked : (r : ℕ) (cut : List (List Link)) (ls : List ℕ) (old : Progress) (middle : Page) (xs ys : List (LaneState P)) → r ≡ old.rounds + 1 → ls ≡ old.labels → IsProgress old → All (EndsUpTo (vertices old)) cut
+  pub turn_asked : (r : ℕ) (cut : List (List Link)) (ls : List ℕ) (old : Progress) (middle : BookValue) (xs ys : List (LaneState P)) → r ≡ old.rounds + 1 → ls ≡ old.labels → IsProgress old → All (EndsUpTo (vertices old)) cut
       → length cut ≤ MAX_SHARDS → RunsPasses port (opened r cut ls) middle xs ys → AsksInRound port cut old xs ys
   turn_asked r cut ls old middle xs ys same_round same_labels is ends few u =
       let first = opened (old.rounds + 1) cut old.labels in
       let v : RunsPasses port first middle xs ys =
       subst (λ (k : ℕ). RunsPasses port (opened k cut old.labels) middle xs ys) same_round (subst (λ (k : List ℕ). RunsPasses port (opened r cut k) middle xs ys) same_labels u) in
       let labels : AreLabels old.labels = labelling_is_labels (vertices old) (Contains old.taken) old.labels is.few_vertices is.labelling in
-      let same : SameRound first middle = heard_same first middle v.answers v.page in
+      let same : SameRound first middle = heard_same first middle v.answers v.value in
       record {
         book = middle;
         next = record {
-          page = subst IsPage (sym v.page) (page_of (old.rounds + 1) cut old.labels v.answers labels ends few v.taken);
+          value = subst IsBookValue (sym v.value) (value_of_book (old.rounds + 1) cut old.labels v.answers labels ends few v.taken);
           cut_is = same.cut;
           round = same.round;
           labels = same.labels;
@@ -89,12 +89,12 @@ module _ {P A : Type 0} (port : Port.Ghosts P A) where
           each = λ i d b. asks_more port (TakesExchange first) (IsKeptIn (middle ∷ [])) (ClosesPort first) (ClosesPortIn (middle ∷ []))
               (λ x q. (middle, (0, omega arith, refl), kept_still first middle same x q)) (λ w t q. (middle, (0, omega arith, refl), closing_still first middle same w t q)) _ _ (v.answers_at i) (v.each i d b);
         };
-        kept = kept_in port first middle middle xs ys 0 v (scanned_none middle) refl;
+        kept = shelf_list port first middle middle xs ys 0 v (scanned_none middle) refl;
       }
 
   -- what a run has done after its merging rounds
   pub record SoFar (n : ℕ) (cut : List (List Link)) (xs ys : List (LaneState P)) (solver : Progress) (alone : ℕ) : Type 0 where
-    pub books : List Page
+    pub books : List BookValue
     pub answered : ℕ
     pub rounds : RunsRounds port cut xs ys books answered alone
     pub solved : MergesFromStart n books solver
@@ -102,7 +102,7 @@ module _ {P A : Type 0} (port : Port.Ghosts P A) where
     pub in_time : 2 ^ solver.rounds ≤ max 1 n
     pub vertices_are : vertices solver ≡ n
     pub named : All (IsNamedIn books) solver.taken
-    pub earlier : All (λ (book : Page). book.round < solver.rounds + 1) books
+    pub earlier : All (λ (book : BookValue). book.round < solver.rounds + 1) books
     pub right : AreLightBooks books → HasRoundsOf (joined cut) solver
 
   -- a round more, whether it was ended or not
@@ -126,11 +126,11 @@ module _ {P A : Type 0} (port : Port.Ghosts P A) where
               (asks_more port (IsKeptIn last) (IsKeptIn books) (ClosesPortIn last) (ClosesPortIn books)
               (λ x q. (q.0, Contains-append_right u.books last q.0 q.1, q.2)) (λ w t q. (q.0, Contains-append_right u.books last q.0 q.1, q.2)) _ _ (v.answers_at i) (v.ports.each i d within))
               (books_first u.books (solver.rounds + 1) (p.each i d b).exchanges (v.ports.each i d within).exchanges u.earlier (p.each i d b).keeps
-              (λ j e c. let (book, is_in, is) = (v.ports.each i d within).keeps j e c in is.asked.ask.round ∙ (ap (λ (o : Page). o.round) (just_new v.book book is_in) ∙ v.next.round))));
+              (λ j e c. let (book, is_in, is) = (v.ports.each i d within).keeps j e c in is.asked.ask.round ∙ (ap (λ (o : BookValue). o.round) (just_new v.book book is_in) ∙ v.next.round))));
         };
         kept =
-            kept_then port.honest xs ys u.books v.book u.rounds.answers_at v.answers_at p.same_lanes (λ i d b. (p.each i d b).honest_is) (whole_pages cut u.books u.rounds.whole) v.next.page
-            (subst (λ (r : ℕ). All (λ (book : Page). book.round < r) u.books) (sym v.next.round) u.earlier) u.rounds.kept v.kept;
+            kept_then port.honest xs ys u.books v.book u.rounds.answers_at v.answers_at p.same_lanes (λ i d b. (p.each i d b).honest_is) (whole_books cut u.books u.rounds.whole) v.next.value
+            (subst (λ (r : ℕ). All (λ (book : BookValue). book.round < r) u.books) (sym v.next.round) u.earlier) u.rounds.kept v.kept;
       }
 
   pub so_far_none : (n : ℕ) (cut : List (List Link)) (xs : List (LaneState P)) (solver : Progress) → IsAtStart n solver → SoFar n cut xs xs solver 0
@@ -156,7 +156,7 @@ module _ {P A : Type 0} (port : Port.Ghosts P A) where
       record {
         merging = u.books;
         last = r.book;
-        rounds = rounds_then port cut (solver.rounds + 1) solver.labels r.book xs ys zs u.books u.answered alone k u.rounds u.earlier r.went r.page;
+        rounds = rounds_then port cut (solver.rounds + 1) solver.labels r.book xs ys zs u.books u.answered alone k u.rounds u.earlier r.went r.value;
         solved = u.solved;
         picked = record { round = same.round; labels = same.labels; picked = r.picked };
       }
@@ -168,7 +168,7 @@ module _ {P A : Type 0} (port : Port.Ghosts P A) where
       let books = v.merging ++ v.last ∷ [] in
       let here : Contains books v.last = Contains-append_right v.merging (v.last ∷ []) v.last (0, omega arith, refl) in
       light_picks cut solver.labels v.last picks (All-contains (IsFullBook cut) books v.last v.rounds.whole here) v.picked.labels
-      (All-contains (λ (book : Page). All (IsLight book) book.answers) books v.last light here) v.picked.picked
+      (All-contains (λ (book : BookValue). All (IsLight book) book.answers) books v.last light here) v.picked.picked
 
   ends_of : (n : ℕ) (cut : List (List Link)) (solver : Progress) → vertices solver ≡ n → All (EndsUpTo n) cut → EndsUpTo (vertices solver) (joined cut)
   ends_of n cut solver same ends = subst (λ (m : ℕ). EndsUpTo m (joined cut)) (sym same) (joined_ends n cut ends)
@@ -191,8 +191,8 @@ module _ {P A : Type 0} (port : Port.Ghosts P A) where
         earlier = (
             let same = same_still port (old.rounds + 1) cut old.labels r.book ys zs k r.went in
             let e = m.rounds in
-            All-append (λ (book : Page). book.round < new.rounds + 1) u.books (r.book ∷ []) (λ i d b. (let f = u.earlier i d b in omega arith))
-            (one (λ (book : Page). book.round < new.rounds + 1) r.book (let f = same.round in omega arith)));
+            All-append (λ (book : BookValue). book.round < new.rounds + 1) u.books (r.book ∷ []) (λ i d b. (let f = u.earlier i d b in omega arith))
+            (one (λ (book : BookValue). book.round < new.rounds + 1) r.book (let f = same.round in omega arith)));
         right = λ light.
             (one_round (joined cut) old picks is (ends_of n cut old u.vertices_are ends) (u.right (light_first u.books (r.book ∷ []) light)) (least_picks n cut xs zs old picks _ _ v light) new count m).right;
       }
@@ -308,8 +308,8 @@ module _ {P A : Type 0} (port : Port.Ghosts P A) where
       let run : MergesAll port n cut xs ys solver report.answered report.alone =
       subst (λ (k : ℕ). MergesAll port n cut xs ys solver report.answered k) (sym alone_is)
       (subst (λ (k : ℕ). MergesAll port n cut xs ys solver k alone) same u) in
-      let merging : List Page = run.went.merging in
-      let last : List Page = run.went.last ∷ [] in
+      let merging : List BookValue = run.went.merging in
+      let last : List BookValue = run.went.last ∷ [] in
       let right_forest : AreLightBooks (merging ++ last) → IsForestOf (joined cut) forest = λ light. is_forest (joined cut) solver (run.right light).so_far forest f in
       let right_total : AreLightBooks (merging ++ last) → IsLightest (joined cut) report.total =
       λ light. subst (λ t. IsLightest (joined cut) t) (sym counts.total) (lightest_forest (joined cut) forest (right_forest light)) in

@@ -17,6 +17,6 @@ pub mod Ending
 mod Telling
 mod PlainRunning
 mod NewWires
-mod TalkedLines
+mod Transcripts
 mod LinesRunning
 mod Again

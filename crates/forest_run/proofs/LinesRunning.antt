@@ -38,7 +38,7 @@ use Rattle.forest_run.specs.WiredLines.{AreServed, FindsOverLines, RefusesOverLi
 use Rattle.forest_run.specs.LinesRun.{IsLinesReport, RunsOverLines, IsLinesFault, told_fault, RanLines, IsHonestReport, IsServedReport, IsServedFault, RanServed}
 use Rattle.forest_run.proofs.PlainRunning.{unsolved, broken_off}
 use Rattle.forest_run.proofs.NewWires.{served_honest}
-use Rattle.forest_run.proofs.TalkedLines.{have_talked}
+use Rattle.forest_run.proofs.Transcripts.{have_transcripts}
 
 -- ---- a list that ascends
 
@@ -98,7 +98,7 @@ module _ {L A : Type 0} (over : Line.Ghosts L) (n : ℕ) (cut : List (List Link)
       omega (arith, sum_by-cons (λ (l : LaneState (WireState L)). count_if (port_of l.port).is_open) lane lanes, here, open_all lanes (λ i d b. opened (suc i) d (omega arith)))
 
   pub opened_all : open_count port_of solved.lanes ≡ length before
-  opened_all = open_all solved.lanes (λ i d b. (solved.new.each i d.port.talk.line d (let e = solved.new.number in omega arith)).opened) ∙ solved.new.number
+  opened_all = open_all solved.lanes (λ i d b. (solved.new.each i d.port.client.line d (let e = solved.new.number in omega arith)).opened) ∙ solved.new.number
 
   pub reported : (graph : GraphValue) → n ≡ graph.vertices → graph.links ≡ links → IsLinesReport (length before) graph (length cut) forest report
   reported graph vertices same =
@@ -142,7 +142,7 @@ module _ {L A : Type 0} (over : Line.Ghosts L) (cutting : Cutting) (graph : Grap
     report_is = reported over graph.vertices shards graph.links is.whole before after forest report solved graph refl refl;
     solved = solved;
     least = λ served. (least over graph.vertices shards graph.links is.whole before after forest report solved served, honest_report served);
-    talked = λ scanned closed fresh. have_talked over graph.vertices shards before after forest report solved scanned (open_still scanned closed) fresh;
+    transcripts = λ scanned closed fresh. have_transcripts over graph.vertices shards before after forest report solved scanned (open_still scanned closed) fresh;
   }
     where
       open_still : report.alone ≡ 0 → report.closed ≡ 0 → open_count port_of solved.ended ≡ length before

@@ -16,7 +16,7 @@ use Rattle.forest_run.specs.Runs.{PortsAnswer}
 use Rattle.forest_run.specs.WiredLines.{AreServed, AreNewLanes, lines_of, TellsOfWires, FindsOverLines, RefusesOverLines}
 use Rattle.forest_run.specs.Solved.{AreHonest, FindsForest, IsSolveFault}
 use Rattle.forest_run.specs.declared.report.Report.{Report}
-use Rattle.round_core.specs.Page.{Page}
+use Rattle.round_core.specs.BookValue.{BookValue}
 use Rattle.round_core.specs.declared.solver.SolveFault.{SolveFault}
 use Rattle.round_core.specs.declared.solver.SolveFault.TheVariants.{Memory}
 use Rattle.forest_run.proofs.Solving.{all_front}
@@ -54,10 +54,10 @@ module _ {L : Type 0} (state : L → LineState) (cut : List (List Link)) (all : 
       → IsNewWire line cut (length lanes) lane.port → IsIdle lane → SomeLanes lanes left → SomeLanes (lanes ++ lane ∷ []) rest
   lane_more lanes left rest line lane e new idle some =
       let split : all ≡ lines_of lanes ++ line ∷ reverse rest = some.split ∙ ap (λ zs. lines_of lanes ++ zs) (reverse_last rest left line e) in
-      let number : length (lines_of lanes) ≡ length lanes = length-map lanes (λ lane. lane.port.talk.line) in
+      let number : length (lines_of lanes) ≡ length lanes = length-map lanes (λ lane. lane.port.client.line) in
       record {
         split = split ∙ (sym (append_assoc (lines_of lanes) (line ∷ []) (reverse rest))
-            ∙ ap (λ zs. zs ++ reverse rest) (ap (λ l. lines_of lanes ++ l ∷ []) (sym new.line_is) ∙ sym (map-append (λ lane. lane.port.talk.line) lanes (lane ∷ []))));
+            ∙ ap (λ zs. zs ++ reverse rest) (ap (λ l. lines_of lanes ++ l ∷ []) (sym new.line_is) ∙ sym (map-append (λ lane. lane.port.client.line) lanes (lane ∷ []))));
         each = λ worker d lane' b. elim (cases_lt worker (length lanes)) [
           | inl before ↦
               subst (λ (w : WireState L). IsNewWire (get_or all worker d) cut worker w) (ap (λ l. l.port) (sym (get_or_append_left lanes (lane ∷ []) lane' worker before))) (some.each worker d lane' before)
@@ -78,7 +78,7 @@ module _ {L : Type 0} (state : L → LineState) (cut : List (List Link)) (all : 
 
   pub lanes_number : (lanes : List (LaneState (WireState L))) (left : List L) → SomeLanes lanes left → length lanes + length left ≡ length all
   lanes_number lanes left some =
-      omega (arith, ap (λ zs. length zs) some.split, length-append (lines_of lanes) (reverse left), length-map lanes (λ (lane : LaneState (WireState L)). lane.port.talk.line), length-reverse left)
+      omega (arith, ap (λ zs. length zs) some.split, length-append (lines_of lanes) (reverse left), length-map lanes (λ (lane : LaneState (WireState L)). lane.port.client.line), length-reverse left)
 
   pub all_lanes : (lanes : List (LaneState (WireState L))) (left : List L) → left ≡ [] → SomeLanes lanes left → AreNewLanes all cut lanes
   all_lanes lanes left none some =
@@ -92,9 +92,9 @@ module _ {L : Type 0} where
   lines_reversed lanes = reverse-reverse lanes
 
   pub line_out : (all : List L) (lines : List L) (left rest : List (LaneState (WireState L))) (lane : LaneState (WireState L)) → left ≡ rest ++ lane ∷ []
-      → all ≡ lines ++ lines_of (reverse left) → all ≡ (lines ++ lane.port.talk.line ∷ []) ++ lines_of (reverse rest)
+      → all ≡ lines ++ lines_of (reverse left) → all ≡ (lines ++ lane.port.client.line ∷ []) ++ lines_of (reverse rest)
   line_out all lines left rest lane e split =
-      split ∙ (ap (λ zs. lines ++ lines_of zs) (reverse_last rest left lane e) ∙ sym (append_assoc lines (lane.port.talk.line ∷ []) (lines_of (reverse rest))))
+      split ∙ (ap (λ zs. lines ++ lines_of zs) (reverse_last rest left lane e) ∙ sym (append_assoc lines (lane.port.client.line ∷ []) (lines_of (reverse rest))))
 
 -- ---- what new wires over new lines are
 
@@ -109,14 +109,14 @@ module _ {L : Type 0} (over : Line.Ghosts L) where
   pub new_honest : (line : L) (cut : List (List Link)) (worker : ℕ) (wire : WireState L) → IsNewWire line cut worker wire → IsFresh (over.state line) → TellsBytes (over.state line) → over.faithful line worker
       → IsHonestWire over wire
   new_honest line cut worker wire new fresh tells carries =
-      (subst (λ w. over.faithful wire.talk.line w) (sym new.worker_is) (subst (λ l. over.faithful l worker) (sym new.line_is) carries), ((over.state line).ends, [], inl ([], new_calm line cut worker wire new fresh tells)))
+      (subst (λ w. over.faithful wire.client.line w) (sym new.worker_is) (subst (λ l. over.faithful l worker) (sym new.line_is) carries), ((over.state line).ends, [], inl ([], new_calm line cut worker wire new fresh tells)))
 
   -- over lines that are served each wire is honest
   pub served_honest : (lines : List L) (cut : List (List Link)) (lanes : List (LaneState (WireState L))) → AreNewLanes lines cut lanes → AreServed over lines
       → AreHonest (IsHonestWire over) lanes
   served_honest lines cut lanes new served i d b =
       let within : i < length lines = (let e = new.number in omega arith) in
-      let line : L = d.port.talk.line in
+      let line : L = d.port.client.line in
       let fresh = served.0 i line within in
       new_honest (get_or lines i line) cut i (get_or lanes i d).port (new.each i line d within) fresh.0 fresh.1 (served.1 i line within)
 
@@ -125,18 +125,18 @@ module _ {L : Type 0} (over : Line.Ghosts L) where
 module _ {L : Type 0} where
   pub new_cut : (lines : List L) (cut : List (List Link)) (lanes : List (LaneState (WireState L))) → AreNewLanes lines cut lanes
       → All (λ (lane : LaneState (WireState L)). (port_of lane.port).cut ≡ cut) lanes
-  new_cut lines cut lanes new k d b = (new.each k d.port.talk.line d (let e = new.number in omega arith)).cut_is
+  new_cut lines cut lanes new k d b = (new.each k d.port.client.line d (let e = new.number in omega arith)).cut_is
 
   pub new_counts : (lines : List L) (cut : List (List Link)) (lanes : List (LaneState (WireState L))) → AreNewLanes lines cut lanes
       → All (λ (lane : LaneState (WireState L)). (port_of lane.port).asks < 2 ^ 63) lanes
-  new_counts lines cut lanes new k d b = (let none = (new.each k d.port.talk.line d (let e = new.number in omega arith)).asks in omega arith)
+  new_counts lines cut lanes new k d b = (let none = (new.each k d.port.client.line d (let e = new.number in omega arith)).asks in omega arith)
 
 -- the whole list was written
 pub written_back : {X : Type 0} (n : ℕ) (xs ys : List X) → length ys ≡ n → take n (ys ++ drop (length ys) xs) ≡ ys
 written_back n xs ys e = take_at ys (drop (length ys) xs) n e
 
 module _ {L A : Type 0} (over : Line.Ghosts L) (n : ℕ) (cut : List (List Link)) (lines : List L) (before after : List (LaneState (WireState L))) (new : AreNewLanes lines cut before) where
-  wires_went : (books : List Page) (answers_at : ℕ → List AnswerValue)
+  wires_went : (books : List BookValue) (answers_at : ℕ → List AnswerValue)
       → PortsAnswer (wire_port A over) books before after answers_at → TellsOfWires over lines after
   wires_went books answers_at ports =
       let number = new.number in

@@ -9,7 +9,7 @@ use Rattle.link_key.specs.declared.links.Link.{Link}
 use Rattle.link_key.specs.Link.{EndsUpTo}
 use Rattle.link_key.specs.Labels.{AreLabels}
 use Rattle.frames.specs.AnswerValue.{AnswerValue}
-use Rattle.round_core.specs.Page.{Page, IsPage, IsBook, opened, heard, is_taken}
+use Rattle.round_core.specs.BookValue.{BookValue, IsBookValue, IsBook, opened, heard, is_taken}
 use Rattle.round_core.proofs.Books.{book_opened}
 use Rattle.round_core.proofs.Full.{book_heard}
 use Rattle.forest_run.specs.Lanes.{LaneState, kept_answers}
@@ -22,13 +22,13 @@ use Rattle.forest_run.proofs.Takes.{Distinct, untaken, kept_at, kept_to, taken_b
 -- ---- what went into a book
 
 -- an answer that went into a book was one of a shard that it missed
-pub was_free : (p : Page) (ts : List AnswerValue) (t : AnswerValue) → TakesAll p ts → Contains ts t → is_taken p t.shard ≡ false
+pub was_free : (p : BookValue) (ts : List AnswerValue) (t : AnswerValue) → TakesAll p ts → Contains ts t → is_taken p t.shard ≡ false
 was_free p [] t are h = absurd (omega (arith, h.1))
 was_free p (x ∷ ts) t are (zero, b, e) = subst (λ (a : AnswerValue). is_taken p a.shard ≡ false) e (untaken p x are.0)
 was_free p (x ∷ ts) t are (suc k, b, e) = taken_before p (x ∷ []) t.shard (was_free (heard p x) ts t are.1 (k, omega arith, e))
 
 -- and now the book misses it no more
-pub is_taken_now : (p : Page) (ts : List AnswerValue) (t : AnswerValue) → Contains ts t → is_taken (with_answers p ts) t.shard ≡ true
+pub is_taken_now : (p : BookValue) (ts : List AnswerValue) (t : AnswerValue) → Contains ts t → is_taken (with_answers p ts) t.shard ≡ true
 is_taken_now p [] t h = absurd (omega (arith, h.1))
 is_taken_now p (x ∷ ts) t (zero, b, e) = elim (either (is_taken (with_answers (heard p x) ts) t.shard)) [
   | inl e1 ↦ e1
@@ -39,20 +39,20 @@ is_taken_now p (x ∷ ts) t (zero, b, e) = elim (either (is_taken (with_answers 
 ]
 is_taken_now p (x ∷ ts) t (suc k, b, e) = is_taken_now (heard p x) ts t (k, omega arith, e)
 
-pub page_opened : (round : ℕ) (cut : List (List Link)) (labels : List ℕ) → AreLabels labels → All (EndsUpTo (length labels)) cut → length cut ≤ MAX_SHARDS → IsBook (opened round cut labels) (length cut) (replicate (length labels) None)
-page_opened round cut labels are ends few =
+pub value_opened : (round : ℕ) (cut : List (List Link)) (labels : List ℕ) → AreLabels labels → All (EndsUpTo (length labels)) cut → length cut ≤ MAX_SHARDS → IsBook (opened round cut labels) (length cut) (replicate (length labels) None)
+value_opened round cut labels are ends few =
     let nothing : List (Option Link) = replicate (length labels) None in
     let long : length nothing ≡ length labels = length-replicate (length labels) None in
     book_opened round (length cut) cut labels (replicate (length cut) false) [] nothing are ends few refl refl (omega arith) long
     (λ i d b. get_or-replicate (length labels) i None d (omega (arith, b, long)))
 
-book_all : (p : Page) (ts : List AnswerValue) (room : ℕ) (best : List (Option Link)) → IsBook p room best → TakesAll p ts → IsBook (with_answers p ts) room best
+book_all : (p : BookValue) (ts : List AnswerValue) (room : ℕ) (best : List (Option Link)) → IsBook p room best → TakesAll p ts → IsBook (with_answers p ts) room best
 book_all p [] room best is are = is
 book_all p (t ∷ ts) room best is are = book_all (heard p t) ts room best (book_heard p room best t.shard t is are.0.within are.0.taken) are.1
 
 -- a book that was opened stays a book
-pub page_of : (round : ℕ) (cut : List (List Link)) (labels : List ℕ) (ts : List AnswerValue) → AreLabels labels → All (EndsUpTo (length labels)) cut → length cut ≤ MAX_SHARDS → TakesAll (opened round cut labels) ts → IsPage (with_answers (opened round cut labels) ts)
-page_of round cut labels ts labels_are ends few are = (book_all (opened round cut labels) ts _ _ (page_opened round cut labels labels_are ends few) are).page
+pub value_of_book : (round : ℕ) (cut : List (List Link)) (labels : List ℕ) (ts : List AnswerValue) → AreLabels labels → All (EndsUpTo (length labels)) cut → length cut ≤ MAX_SHARDS → TakesAll (opened round cut labels) ts → IsBookValue (with_answers (opened round cut labels) ts)
+value_of_book round cut labels ts labels_are ends few are = (book_all (opened round cut labels) ts _ _ (value_opened round cut labels labels_are ends few) are).value
 
 -- ---- lists of numbers, none of which stands twice
 

@@ -6,7 +6,7 @@ use Rattle.std.proofs.lemmas.Grind.{common_steps}
 use Rattle.std.proofs.lemmas.Bool.Decides.{nat_tests}
 use Rattle.link_key.specs.declared.links.Link.{Link}
 use Rattle.frames.specs.AnswerValue.{AnswerValue}
-use Rattle.round_core.specs.Page.{Page, refusal, is_taken, LightOffersAreTaken}
+use Rattle.round_core.specs.BookValue.{BookValue, refusal, is_taken, LightOffersAreTaken}
 use Rattle.round_core.specs.declared.refusals.Refusal.{Refusal}
 use Rattle.ports.specs.declared.port.Port as Port
 use Rattle.ports.specs.declared.fault.PortFault.{PortFault}
@@ -17,33 +17,33 @@ use Rattle.forest_run.specs.Lanes.{count_if}
 use Rattle.forest_run.specs.Asks.{IsAskOf, IsExchangeOf, TakesExchange, ClosesPort, Takes, IsLight, AnswersAsks}
 
 -- an honest answer to an ask under the book's labels
-pub told_of : (page : Page) (cut : List (List Link)) (round shard : ℕ) (labels : List ℕ) (t : AnswerValue) → cut ≡ page.cut → round ≡ page.round → page.labels ≡ labels
-    → IsHonestAnswer cut round shard labels t → IsHonestAnswer page.cut page.round shard page.labels t
-told_of page cut round shard labels t a b c h =
-    subst (λ (x : List (List Link)). IsHonestAnswer x page.round shard page.labels t) a
-    (subst (λ (x : ℕ). IsHonestAnswer cut x shard page.labels t) b (subst (λ (x : List ℕ). IsHonestAnswer cut round shard x t) (sym c) h))
+pub told_of : (value : BookValue) (cut : List (List Link)) (round shard : ℕ) (labels : List ℕ) (t : AnswerValue) → cut ≡ value.cut → round ≡ value.round → value.labels ≡ labels
+    → IsHonestAnswer cut round shard labels t → IsHonestAnswer value.cut value.round shard value.labels t
+told_of value cut round shard labels t a b c h =
+    subst (λ (x : List (List Link)). IsHonestAnswer x value.round shard value.labels t) a
+    (subst (λ (x : ℕ). IsHonestAnswer cut x shard value.labels t) b (subst (λ (x : List ℕ). IsHonestAnswer cut round shard x t) (sym c) h))
 
 -- it is the light offers of the shard that it names
-pub light_of : (page : Page) (shard : ℕ) (t : AnswerValue) → IsHonestAnswer page.cut page.round shard page.labels t → IsLight page t
-light_of page shard t h = subst (λ (s : ℕ). IsHonestAnswer page.cut page.round s page.labels t) (sym h.shard_is) h
+pub light_of : (value : BookValue) (shard : ℕ) (t : AnswerValue) → IsHonestAnswer value.cut value.round shard value.labels t → IsLight value t
+light_of value shard t h = subst (λ (s : ℕ). IsHonestAnswer value.cut value.round s value.labels t) (sym h.shard_is) h
 
 -- what isn't refused names the shard that was asked
-pub names_shard : (page : Page) (shard : ℕ) (t : AnswerValue) → refusal page shard t ≡ None → t.shard ≡ shard
-names_shard page shard t e = grind (arith, common_steps, nat_tests)
+pub names_shard : (value : BookValue) (shard : ℕ) (t : AnswerValue) → refusal value shard t ≡ None → t.shard ≡ shard
+names_shard value shard t e = grind (arith, common_steps, nat_tests)
 
-pub is_taken_of : (page : Page) (shard : ℕ) (t : AnswerValue) → shard < length page.cut → refusal page shard t ≡ None → Takes page t
-is_taken_of page shard t within e =
-    let same : t.shard ≡ shard = names_shard page shard t e in
-    record { within = subst (λ (s : ℕ). s < length page.cut) (sym same) within; taken = subst (λ (s : ℕ). refusal page s t ≡ None) (sym same) e }
+pub is_taken_of : (value : BookValue) (shard : ℕ) (t : AnswerValue) → shard < length value.cut → refusal value shard t ≡ None → Takes value t
+is_taken_of value shard t within e =
+    let same : t.shard ≡ shard = names_shard value shard t e in
+    record { within = subst (λ (s : ℕ). s < length value.cut) (sym same) within; taken = subst (λ (s : ℕ). refusal value s t ≡ None) (sym same) e }
 
 pub nothing_of : {X : Type 0} (o : Option X) → is_some o ≡ false → o ≡ None
 nothing_of None e = refl
 nothing_of (Some x) e = absurd (cc)
 
 -- the book doesn't refuse an honest answer
-pub honest_taken : (page : Page) (cut : List (List Link)) (round shard : ℕ) (labels : List ℕ) (t : AnswerValue) → LightOffersAreTaken → cut ≡ page.cut → round ≡ page.round → page.labels ≡ labels → is_taken page shard ≡ false
-    → IsHonestAnswer cut round shard labels t → refusal page shard t ≡ None
-honest_taken page cut round shard labels t law a b c missed h = (let r = told_of page cut round shard labels t a b c h in law page shard t missed r.round_is r.shard_is r.light)
+pub honest_taken : (value : BookValue) (cut : List (List Link)) (round shard : ℕ) (labels : List ℕ) (t : AnswerValue) → LightOffersAreTaken → cut ≡ value.cut → round ≡ value.round → value.labels ≡ labels → is_taken value shard ≡ false
+    → IsHonestAnswer cut round shard labels t → refusal value shard t ≡ None
+honest_taken value cut round shard labels t law a b c missed h = (let r = told_of value cut round shard labels t a b c h in law value shard t missed r.round_is r.shard_is r.light)
 
 -- what a call says where it is refused, and where it isn't
 pub some_of_err : {X E : Type 0} (o : Option E) (r : Result X E) → IfErr r (λ e. o ≡ Some e) → is_err r ≡ true → IsSome o
@@ -56,23 +56,23 @@ none_of_ok o (Err x) h e = absurd (cc)
 
 -- ---- one ask of an open port, for a shard that the book misses
 
-module _ {P A : Type 0} (port : Port.Ghosts P A) (page : Page) (a : P) (round shard : ℕ) (labels : List ℕ)
-    (round_is : round ≡ page.round) (labels_are : labels ≡ page.labels) (inside : shard < length page.cut) (missed : is_taken page shard ≡ false) (live : (port.state a).is_open ≡ true) where
-  asked_of : IsAskOf page (round, shard)
+module _ {P A : Type 0} (port : Port.Ghosts P A) (value : BookValue) (a : P) (round shard : ℕ) (labels : List ℕ)
+    (round_is : round ≡ value.round) (labels_are : labels ≡ value.labels) (inside : shard < length value.cut) (missed : is_taken value shard ≡ false) (live : (port.state a).is_open ≡ true) where
+  asked_of : IsAskOf value (round, shard)
   asked_of = record { round = round_is; within = inside; missed = missed }
 
-  exchange_is : (t : AnswerValue) → IsExchangeOf page (exchange_of round shard labels t)
+  exchange_is : (t : AnswerValue) → IsExchangeOf value (exchange_of round shard labels t)
   exchange_is t = record { ask = asked_of; labels = labels_are }
 
-  one_kept : (e : Exchange) → TakesExchange page e → All (TakesExchange page) (e ∷ [])
+  one_kept : (e : Exchange) → TakesExchange value e → All (TakesExchange value) (e ∷ [])
   one_kept e is zero d b = is
   one_kept e is (suc i) d b = absurd (omega arith)
 
   -- the answer is kept
-  pub kept_one : (b : P) (t : AnswerValue) → refusal page shard t ≡ None → (port.state b).is_open ≡ true → CountsAsks 1 0 0 (port.state a) (port.state b)
+  pub kept_one : (b : P) (t : AnswerValue) → refusal value shard t ≡ None → (port.state b).is_open ≡ true → CountsAsks 1 0 0 (port.state a) (port.state b)
       → ((before : List Exchange) → port.exchanged a before → port.exchanged b (before ++ exchange_of round shard labels t ∷ [])) → (port.honest a → port.honest b)
       → ((ends : ℕ) (before : List Exchange) → port.sound a ends before → port.sound b ends (before ++ exchange_of round shard labels t ∷ []))
-      → AnswersAsks port (TakesExchange page) (ClosesPort page) a b (t ∷ [])
+      → AnswersAsks port (TakesExchange value) (ClosesPort value) a b (t ∷ [])
   kept_one b t taken still_live went exchanges stays sounds = record {
     cut = went.cut;
     worker = went.worker;
@@ -95,12 +95,12 @@ module _ {P A : Type 0} (port : Port.Ghosts P A) (page : Page) (a : P) (round sh
   }
 
   -- the answer is refused, and the port shut
-  pub refused_one : (m b : P) (t : AnswerValue) → IsSome (refusal page shard t) → (port.honest a → refusal page shard t ≡ None) → CountsAsks 1 0 0 (port.state a) (port.state m) → (port.state m).last ≡ (round, shard)
+  pub refused_one : (m b : P) (t : AnswerValue) → IsSome (refusal value shard t) → (port.honest a → refusal value shard t ≡ None) → CountsAsks 1 0 0 (port.state a) (port.state m) → (port.state m).last ≡ (round, shard)
       → CountsAsks 0 0 0 (port.state m) (port.state b) → (port.state b).is_open ≡ false
       → ((before : List Exchange) → port.exchanged a before → port.exchanged m (before ++ exchange_of round shard labels t ∷ [])) → ((others : List Exchange) → port.exchanged m others → port.exchanged b others)
       → (port.honest a → port.honest m) → (port.honest m → port.honest b)
       → ((ends : ℕ) (before : List Exchange) → port.sound a ends before → port.sound m ends (before ++ exchange_of round shard labels t ∷ [])) → ((ends : ℕ) (others : List Exchange) → port.sound m ends others → port.sound b ends others)
-      → AnswersAsks port (TakesExchange page) (ClosesPort page) a b []
+      → AnswersAsks port (TakesExchange value) (ClosesPort value) a b []
   refused_one m b t some none_of_honest went last shut closed exchanges exchanges' stays stays' sounds sounds' = record {
     cut = shut.cut ∙ went.cut;
     worker = shut.worker ∙ went.worker;
@@ -128,7 +128,7 @@ module _ {P A : Type 0} (port : Port.Ghosts P A) (page : Page) (a : P) (round sh
   }
 
   closed_one : (b : P) (failed wanted : ℕ) → failed + wanted ≡ 1 → CountsAsks 1 failed wanted (port.state a) (port.state b) → (port.state b).last ≡ (round, shard) → (port.state b).is_open ≡ false
-      → (port.honest a → port.honest b) → ((ends : ℕ) (others : List Exchange) → port.sound a ends others → port.sound b ends others) → AnswersAsks port (TakesExchange page) (ClosesPort page) a b []
+      → (port.honest a → port.honest b) → ((ends : ℕ) (others : List Exchange) → port.sound a ends others → port.sound b ends others) → AnswersAsks port (TakesExchange value) (ClosesPort value) a b []
   closed_one b failed wanted one went last closed stays sounds = record {
     cut = went.cut;
     worker = went.worker;
@@ -146,13 +146,13 @@ module _ {P A : Type 0} (port : Port.Ghosts P A) (page : Page) (a : P) (round sh
     given = λ s others g. absurd (omega (arith, s.failures, s.wants, went.failures, went.wants, one));
     honest_is = stays;
     sound_is = λ ends others x. subst (port.sound b ends) (sym (append-nil others)) (sounds ends others x);
-    why = λ e f. inl (omega (arith, went.failures, went.wants, one), refl, subst (IsAskOf page) (sym last) asked_of);
+    why = λ e f. inl (omega (arith, went.failures, went.wants, one), refl, subst (IsAskOf value) (sym last) asked_of);
     why_honest = λ x e f. omega (arith, went.failures, went.wants, one);
   }
 
   -- there is no answer
   pub failed_one : (b : P) (fault : PortFault) → AnswersAsk {T = AnswerValue} (Err fault) round shard (port.state a) (port.state b) → (port.honest a → port.honest b)
-      → ((ends : ℕ) (others : List Exchange) → port.sound a ends others → port.sound b ends others) → AnswersAsks port (TakesExchange page) (ClosesPort page) a b []
+      → ((ends : ℕ) (others : List Exchange) → port.sound a ends others → port.sound b ends others) → AnswersAsks port (TakesExchange value) (ClosesPort value) a b []
   failed_one b TooOld went stays sounds = closed_one b 1 0 refl went.2 went.3 went.1 stays sounds
   failed_one b Closed went stays sounds = absurd (let e = went.0 in cc)
   failed_one b Memory went stays sounds = closed_one b 0 1 refl went.2 went.3 went.1 stays sounds

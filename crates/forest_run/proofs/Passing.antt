@@ -7,7 +7,7 @@ use Rattle.std.proofs.lemmas.List.Sums.{sum_by-cons}
 use Rattle.std.proofs.lemmas.List.Elements.{All-append, Contains-append_left, Contains-append_right, Contains-append_cases}
 use Rattle.frames.specs.AnswerValue.{AnswerValue}
 use Rattle.link_key.specs.declared.links.Link.{Link}
-use Rattle.round_core.specs.Page.{Page, is_taken, heard, refusal}
+use Rattle.round_core.specs.BookValue.{BookValue, is_taken, heard, refusal}
 use Rattle.ports.specs.declared.port.Port as Port
 use Rattle.ports.specs.Ports.{PortState}
 use Rattle.ports.specs.Exchanges.{Exchange}
@@ -66,23 +66,23 @@ fewer false false h = omega arith
 
 module _ {P A : Type 0} (port : Port.Ghosts P A) where
   -- no ferry opens a port
-  fewer_open : (page : Page) (xs ys : List (LaneState P)) → AllZip (RunsFerry port page) xs ys → open_count port.state ys ≤ open_count port.state xs
-  fewer_open page [] [] p = omega arith
-  fewer_open page [] (y ∷ ys) p = absurd p
-  fewer_open page (x ∷ xs) [] p = absurd p
-  fewer_open page (x ∷ xs) (y ∷ ys) p =
+  fewer_open : (value : BookValue) (xs ys : List (LaneState P)) → AllZip (RunsFerry port value) xs ys → open_count port.state ys ≤ open_count port.state xs
+  fewer_open value [] [] p = omega arith
+  fewer_open value [] (y ∷ ys) p = absurd p
+  fewer_open value (x ∷ xs) [] p = absurd p
+  fewer_open value (x ∷ xs) (y ∷ ys) p =
       omega (
         arith,
-        fewer_open page xs ys p.1,
+        fewer_open value xs ys p.1,
         fewer (port.state x.port).is_open (port.state y.port).is_open (λ t. (p.0.asked.opened t).0),
         sum_by-cons (λ (l : LaneState P). count_if (port.state l.port).is_open) y ys,
         sum_by-cons (λ (l : LaneState P). count_if (port.state l.port).is_open) x xs,
       )
 
   -- ferries between steps that ask no port
-  pub passed_of : (old new : Page) (xs ys zs ws : List (LaneState P)) → AllZip SamePort xs ys → AllZip (RunsFerry port old) ys zs → AllZip SamePort zs ws
+  pub passed_of : (old new : BookValue) (xs ys zs ws : List (LaneState P)) → AllZip SamePort xs ys → AllZip (RunsFerry port old) ys zs → AllZip SamePort zs ws
       → Distinct (shards_of (kept_answers zs)) → TakesAll old (kept_answers zs) → new ≡ with_answers old (kept_answers zs) → RunsPasses port old new xs ws
-  passed_of old new xs ys zs ws before f after apart fresh page =
+  passed_of old new xs ys zs ws before f after apart fresh value =
       let l1 = each_length SamePort xs ys before in
       let l2 = each_length (RunsFerry port old) ys zs f in
       let l3 = each_length SamePort zs ws after in
@@ -112,8 +112,8 @@ module _ {P A : Type 0} (port : Port.Ghosts P A) where
             let b = same_asks port.state zs ws after in
             omega (arith, a.1, b.1, fewer_open old ys zs f));
         taken = fresh;
-        page = page;
-        missed = rw page (taken_all old (kept_answers zs) fresh);
+        value = value;
+        missed = rw value (taken_all old (kept_answers zs) fresh);
         light_at = λ i d b h. (
             let e = (each_at SamePort xs ys before i d b).port in
             let v = (each_at (RunsFerry port old) ys zs f i d (omega arith)).light (subst port.honest (sym e) h) in
@@ -122,12 +122,12 @@ module _ {P A : Type 0} (port : Port.Ghosts P A) where
       }
 
   -- nothing was asked
-  pub passed_none : (page : Page) (xs ys : List (LaneState P)) → AllZip SamePort xs ys → RunsPasses port page page xs ys
-  passed_none page xs ys same = record {
+  pub passed_none : (value : BookValue) (xs ys : List (LaneState P)) → AllZip SamePort xs ys → RunsPasses port value value xs ys
+  passed_none value xs ys same = record {
     answers = [];
     answers_at = λ i. [];
     same_lanes = each_length SamePort xs ys same;
-    each = λ i d b. (let e = (each_at SamePort xs ys same i d b).port in subst (λ q. AnswersAsks port (TakesExchange page) (ClosesPort page) (get_or xs i d).port q []) (sym e) (stayed port (TakesExchange page) (ClosesPort page) (get_or xs i d).port));
+    each = λ i d b. (let e = (each_at SamePort xs ys same i d b).port in subst (λ q. AnswersAsks port (TakesExchange value) (ClosesPort value) (get_or xs i d).port q []) (sym e) (stayed port (TakesExchange value) (ClosesPort value) (get_or xs i d).port));
     few = λ i. omega arith;
     reached = λ i t b h. absurd (omega arith);
     given = λ t h. absurd (omega arith);
@@ -135,18 +135,18 @@ module _ {P A : Type 0} (port : Port.Ghosts P A) where
     never_opened = (let a = same_asks port.state xs ys same in omega (arith, a.1));
     once = λ i j k l d bi bj bk bl same. absurd (omega arith);
     taken = tt;
-    page = refl;
+    value = refl;
     missed = omega arith;
     light_at = λ i d b h k e below. absurd (omega arith);
   }
 
 -- answers change nothing else of the book
-pub record SameRound (p q : Page) : Type 0 where
+pub record SameRound (p q : BookValue) : Type 0 where
   pub round : q.round ≡ p.round
   pub cut : q.cut ≡ p.cut
   pub labels : q.labels ≡ p.labels
 
-pub same_round : (p : Page) (ts : List AnswerValue) → SameRound p (with_answers p ts)
+pub same_round : (p : BookValue) (ts : List AnswerValue) → SameRound p (with_answers p ts)
 same_round p [] = record { round = refl; cut = refl; labels = refl }
 same_round p (t ∷ ts) = (let r = same_round (heard p t) ts in record { round = r.round; cut = r.cut; labels = r.labels })
 
@@ -154,30 +154,30 @@ refusal_of : (r r' : ℕ) (cut cut' : List (List Link)) (labels labels' : List �
     → refusal (record { round = r'; cut = cut'; labels = labels'; taken = taken'; answers = answers' }) s t ≡ refusal (record { round = r; cut = cut; labels = labels; taken = taken; answers = answers }) s t
 refusal_of r r' cut cut' labels labels' taken taken' answers answers' s t a b c d e = rw (a, b, c, d, e) refl
 
-ask_before : (p : Page) (ts : List AnswerValue) (w : ℕ × ℕ) → IsAskOf (with_answers p ts) w → IsAskOf p w
+ask_before : (p : BookValue) (ts : List AnswerValue) (w : ℕ × ℕ) → IsAskOf (with_answers p ts) w → IsAskOf p w
 ask_before p ts w r =
     let s = same_round p ts in
     record { round = r.round ∙ s.round; within = rw s.cut at r.within; missed = taken_before p ts w.1 r.missed }
 
-exchange_before : (p : Page) (ts : List AnswerValue) (x : Exchange) → IsExchangeOf (with_answers p ts) x → IsExchangeOf p x
+exchange_before : (p : BookValue) (ts : List AnswerValue) (x : Exchange) → IsExchangeOf (with_answers p ts) x → IsExchangeOf p x
 exchange_before p ts x r = record { ask = ask_before p ts (x.round, x.shard) r.ask; labels = r.labels ∙ (same_round p ts).labels }
 
 -- the book says of an answer to such an ask what it said before
-same_refusal : (p : Page) (ts : List AnswerValue) (x : Exchange) → IsExchangeOf (with_answers p ts) x → refusal (with_answers p ts) x.shard x.answer ≡ refusal p x.shard x.answer
+same_refusal : (p : BookValue) (ts : List AnswerValue) (x : Exchange) → IsExchangeOf (with_answers p ts) x → refusal (with_answers p ts) x.shard x.answer ≡ refusal p x.shard x.answer
 same_refusal p ts x r =
     let q = with_answers p ts in
     let s = same_round p ts in
     refusal_of p.round q.round p.cut q.cut p.labels q.labels p.taken q.taken p.answers q.answers x.shard x.answer s.round s.cut s.labels (taken_before p ts x.shard r.ask.missed) r.ask.missed
 
-closing_before : (p : Page) (ts : List AnswerValue) (w : ℕ × ℕ) (o : Option Exchange) → ClosesPort (with_answers p ts) w o → ClosesPort p w o
+closing_before : (p : BookValue) (ts : List AnswerValue) (w : ℕ × ℕ) (o : Option Exchange) → ClosesPort (with_answers p ts) w o → ClosesPort p w o
 closing_before p ts w None r = ask_before p ts w r
 closing_before p ts w (Some x) r =
     record { last_is = r.last_is; asked = exchange_before p ts x r.asked; refused = subst (λ o. IsSome o) (same_refusal p ts x r.asked) r.refused }
 
-kept_before : (p : Page) (ts : List AnswerValue) (x : Exchange) → TakesExchange (with_answers p ts) x → TakesExchange p x
+kept_before : (p : BookValue) (ts : List AnswerValue) (x : Exchange) → TakesExchange (with_answers p ts) x → TakesExchange p x
 kept_before p ts x r = record { asked = exchange_before p ts x r.asked; taken = sym (same_refusal p ts x r.asked) ∙ r.taken }
 
-pub light_before : (p : Page) (ts : List AnswerValue) (t : AnswerValue) → IsLight (with_answers p ts) t → IsLight p t
+pub light_before : (p : BookValue) (ts : List AnswerValue) (t : AnswerValue) → IsLight (with_answers p ts) t → IsLight p t
 light_before p ts t r = (let s = same_round p ts in rw (s.cut, s.round, s.labels) at r)
 
 abbrev pub asks_more : {P A : Type 0} (port : Port.Ghosts P A) (keeping keeping' : Exchange → Type 0) (R Q : ℕ × ℕ → Option Exchange → Type 0)
@@ -206,7 +206,7 @@ asks_more port keeping keeping' R Q k h a b kept v = record {
 
 -- one pass after another
 module _ {P A : Type 0} (port : Port.Ghosts P A) where
-  pub passed_then : (p q r : Page) (xs ys zs : List (LaneState P)) → RunsPasses port p q xs ys → RunsPasses port q r ys zs → RunsPasses port p r xs zs
+  pub passed_then : (p q r : BookValue) (xs ys zs : List (LaneState P)) → RunsPasses port p q xs ys → RunsPasses port q r ys zs → RunsPasses port p r xs zs
   passed_then p q r xs ys zs u v = record {
     answers = u.answers ++ v.answers;
     answers_at = λ i. u.answers_at i ++ v.answers_at i;
@@ -214,10 +214,10 @@ module _ {P A : Type 0} (port : Port.Ghosts P A) where
     each = λ i d b. (
         let w = v.each i d (let e = u.same_lanes in omega arith) in
         asks_then port (TakesExchange p) (ClosesPort p) _ _ _ (u.answers_at i) (v.answers_at i) (u.each i d b)
-        (asks_more port (TakesExchange q) (TakesExchange p) (ClosesPort q) (ClosesPort p) (λ x k. kept_before p u.answers x (subst (λ page. TakesExchange page x) u.page k))
-        (λ w o k. closing_before p u.answers w o (subst (λ page. ClosesPort page w o) u.page k)) _ _ (v.answers_at i) w)
+        (asks_more port (TakesExchange q) (TakesExchange p) (ClosesPort q) (ClosesPort p) (λ x k. kept_before p u.answers x (subst (λ value. TakesExchange value x) u.value k))
+        (λ w o k. closing_before p u.answers w o (subst (λ value. ClosesPort value w o) u.value k)) _ _ (v.answers_at i) w)
         (one_round p (u.each i d b).exchanges w.exchanges (u.each i d b).keeps
-        (λ j e c. kept_before p u.answers (get_or w.exchanges j e) (subst (λ page. TakesExchange page (get_or w.exchanges j e)) u.page (w.keeps j e c)))));
+        (λ j e c. kept_before p u.answers (get_or w.exchanges j e) (subst (λ value. TakesExchange value (get_or w.exchanges j e)) u.value (w.keeps j e c)))));
     given = λ t h. elim (Contains-append_cases u.answers v.answers t h) [
       | inl a ↦ (let k = u.given t a in (k.0, k.1, Contains-append_left (u.answers_at k.0) (v.answers_at k.0) t k.2))
       | inr a ↦ (let k = v.given t a in (k.0, (let e = u.same_lanes in let l = k.1 in omega arith), Contains-append_right (u.answers_at k.0) (v.answers_at k.0) t k.2))
@@ -230,14 +230,14 @@ module _ {P A : Type 0} (port : Port.Ghosts P A) where
     asks = (let a = u.asks in let b = v.asks in omega (arith, length-append u.answers v.answers));
     never_opened = omega (arith, u.never_opened, v.never_opened);
     once = once_then (length xs) u.answers_at v.answers_at u.once (subst (λ n. AnswersOnce n v.answers_at) u.same_lanes v.once) (λ i j a b bi bj ha hb same. (
-        let taken : is_taken q a.shard ≡ true = subst (λ o. is_taken o a.shard ≡ true) (sym u.page) (is_taken_now p u.answers a (u.reached i a bi ha)) in
+        let taken : is_taken q a.shard ≡ true = subst (λ o. is_taken o a.shard ≡ true) (sym u.value) (is_taken_now p u.answers a (u.reached i a bi ha)) in
         let free : is_taken q b.shard ≡ false = was_free q v.answers b v.taken (v.reached j b (let e = u.same_lanes in omega arith) hb) in
         let also : is_taken q a.shard ≡ false = subst (λ (s : ℕ). is_taken q s ≡ false) (sym same.1) free in
         absurd (cc)));
-    taken = taken_both p u.answers v.answers u.taken (subst (λ o. TakesAll o v.answers) u.page v.taken);
-    page = v.page ∙ (ap (λ o. with_answers o v.answers) u.page ∙ sym (heard_append p u.answers v.answers));
+    taken = taken_both p u.answers v.answers u.taken (subst (λ o. TakesAll o v.answers) u.value v.taken);
+    value = v.value ∙ (ap (λ o. with_answers o v.answers) u.value ∙ sym (heard_append p u.answers v.answers));
     missed = (let a = u.missed in let b = v.missed in omega (arith, length-append u.answers v.answers));
     light_at = λ i d b h. All-append (IsLight p) (u.answers_at i) (v.answers_at i) (u.light_at i d b h) (λ k e below.
-        light_before p u.answers (get_or (v.answers_at i) k e) (subst (λ o. IsLight o (get_or (v.answers_at i) k e)) u.page
+        light_before p u.answers (get_or (v.answers_at i) k e) (subst (λ o. IsLight o (get_or (v.answers_at i) k e)) u.value
         (v.light_at i d (let s = u.same_lanes in omega arith) ((u.each i d b).honest_is h) k e below)));
   }

@@ -7,7 +7,7 @@ use Rattle.std.proofs.lemmas.List.Elements.{All-append, Contains-append_left, Co
 use Rattle.link_key.specs.declared.links.Link.{Link}
 use Rattle.link_key.specs.Link.{EndsUpTo}
 use Rattle.frames.specs.AnswerValue.{AnswerValue}
-use Rattle.round_core.specs.Page.{Page, IsRight, IsPage, opened, heard, missing}
+use Rattle.round_core.specs.BookValue.{BookValue, IsRight, IsBookValue, opened, heard, missing}
 use Rattle.ports.specs.declared.port.Port as Port
 use Rattle.ports.specs.Exchanges.{Exchange}
 use Rattle.forest_run.specs.Lanes.{LaneState}
@@ -44,7 +44,7 @@ opened_round round cut labels some ends first = record {
 }
 
 -- answers are added behind those that the book has
-pub heard_answers : (p : Page) (ts : List AnswerValue) → (with_answers p ts).answers ≡ p.answers ++ ts
+pub heard_answers : (p : BookValue) (ts : List AnswerValue) → (with_answers p ts).answers ≡ p.answers ++ ts
 heard_answers p [] = sym (append-nil p.answers)
 heard_answers p (t ∷ ts) = heard_answers (heard p t) ts ∙ append_assoc p.answers (t ∷ []) ts
 
@@ -56,30 +56,30 @@ none_or_some : (k : ℕ) → (k ≡ 0) ⊎ (0 < k)
 none_or_some zero = inl refl
 none_or_some (suc k) = inr (omega arith)
 
-same_then : (p q r : Page) → SameRound p q → SameRound q r → SameRound p r
+same_then : (p q r : BookValue) → SameRound p q → SameRound q r → SameRound p r
 same_then p q r s t = record { round = t.round ∙ s.round; cut = t.cut ∙ s.cut; labels = t.labels ∙ s.labels }
 
-pub heard_same : (p q : Page) (ts : List AnswerValue) → q ≡ with_answers p ts → SameRound p q
+pub heard_same : (p q : BookValue) (ts : List AnswerValue) → q ≡ with_answers p ts → SameRound p q
 heard_same p q ts e =
     let s = same_round p ts in
     record { round = ap (λ o. o.round) e ∙ s.round; cut = ap (λ o. o.cut) e ∙ s.cut; labels = ap (λ o. o.labels) e ∙ s.labels }
 
-light_still : (p q : Page) → SameRound p q → (t : AnswerValue) → IsLight p t → IsLight q t
+light_still : (p q : BookValue) → SameRound p q → (t : AnswerValue) → IsLight p t → IsLight q t
 light_still p q s t l = rw (s.cut, s.round, s.labels) l
 
-pub closing_still : (p q : Page) → SameRound p q → (w : ℕ × ℕ) (o : Option Exchange) → ClosesPort (opened_book p) w o → ClosesPort (opened_book q) w o
+pub closing_still : (p q : BookValue) → SameRound p q → (w : ℕ × ℕ) (o : Option Exchange) → ClosesPort (opened_book p) w o → ClosesPort (opened_book q) w o
 closing_still p q s w None r = rw (s.cut, s.round, s.labels) r
 closing_still p q s w (Some t) r = rw (s.cut, s.round, s.labels) r
 
-pub kept_still : (p q : Page) → SameRound p q → (x : Exchange) → TakesExchange (opened_book p) x → TakesExchange (opened_book q) x
+pub kept_still : (p q : BookValue) → SameRound p q → (x : Exchange) → TakesExchange (opened_book p) x → TakesExchange (opened_book q) x
 kept_still p q s x r = rw (s.cut, s.round, s.labels) r
 
 module _ {P A : Type 0} (port : Port.Ghosts P A) where
   -- a round leaves the book's round, cut and labels
-  pub same_still : (round : ℕ) (cut : List (List Link)) (labels : List ℕ) (new : Page) (xs ys : List (LaneState P)) (k : ℕ)
+  pub same_still : (round : ℕ) (cut : List (List Link)) (labels : List ℕ) (new : BookValue) (xs ys : List (LaneState P)) (k : ℕ)
       → RunsRound port (opened round cut labels) new xs ys k → SameRound (opened round cut labels) new
   same_still round cut labels new xs ys k r =
-      same_then (opened round cut labels) r.middle new (heard_same _ _ r.passes.answers r.passes.page) (heard_same _ _ r.scans.answers r.scans.page)
+      same_then (opened round cut labels) r.middle new (heard_same _ _ r.passes.answers r.passes.value) (heard_same _ _ r.scans.answers r.scans.value)
 
 lane_at : {X : Type 0} (xs : List X) (i : ℕ) → i < length xs → X
 lane_at [] i b = absurd (omega arith)
@@ -88,23 +88,23 @@ lane_at (x ∷ xs) i b = x
 -- ---- kept answers beside the books
 
 -- the answers of a book that passes and scans filled
-filled : (old middle new : Page) (ts us : List AnswerValue) → middle ≡ with_answers old ts → new ≡ with_answers middle us → old.answers ≡ [] → new.answers ≡ ts ++ us
+filled : (old middle new : BookValue) (ts us : List AnswerValue) → middle ≡ with_answers old ts → new ≡ with_answers middle us → old.answers ≡ [] → new.answers ≡ ts ++ us
 filled old middle new ts us first second none =
     ap (λ o. o.answers) second
     ∙ (heard_answers middle us ∙ ap (λ zs. zs ++ us) (ap (λ o. o.answers) first ∙ (heard_answers old ts ∙ ap (λ zs. zs ++ ts) none)))
 
-pub just_new : (new book : Page) → Contains (new ∷ []) book → book ≡ new
+pub just_new : (new book : BookValue) → Contains (new ∷ []) book → book ≡ new
 just_new new book (zero, b, e) = sym e
 just_new new book (suc k, b, e) = absurd (omega (arith, b))
 
-pub whole_pages : (cut : List (List Link)) (books : List Page) → All (IsFullBook cut) books → All IsPage books
-whole_pages cut books whole = each_more (IsFullBook cut) IsPage books (λ book w. w.page) whole
+pub whole_books : (cut : List (List Link)) (books : List BookValue) → All (IsFullBook cut) books → All IsBookValue books
+whole_books cut books whole = each_more (IsFullBook cut) IsBookValue books (λ book w. w.value) whole
 
 -- exchanges of books of earlier rounds come before those of a round
-pub books_first : (books : List Page) (round : ℕ) (xs ys : List Exchange) → All (λ (book : Page). book.round < round) books → All (IsKeptIn books) xs → All (λ (y : Exchange). y.round ≡ round) ys → ComeFirst xs ys
+pub books_first : (books : List BookValue) (round : ℕ) (xs ys : List Exchange) → All (λ (book : BookValue). book.round < round) books → All (IsKeptIn books) xs → All (λ (y : Exchange). y.round ≡ round) ys → ComeFirst xs ys
 books_first books round xs ys earlier kept now i d b j e c =
     let (book, is_in, is) = kept i d b in
-    omega (arith, is.asked.ask.round, All-contains (λ (book : Page). book.round < round) books book earlier is_in, now j e c)
+    omega (arith, is.asked.ask.round, All-contains (λ (book : BookValue). book.round < round) books book earlier is_in, now j e c)
 
 -- nothing was kept
 pub kept_none : {P : Type 0} (honest : P → Type 0) (xs : List (LaneState P)) → MatchesBooks honest xs [] (λ i. [])
@@ -116,12 +116,12 @@ kept_none honest xs = record {
 }
 
 -- what passes kept stands in the book that they and scans filled
-pub kept_in : {P A : Type 0} (port : Port.Ghosts P A) (old middle new : Page) (xs ys : List (LaneState P)) (k : ℕ)
+pub shelf_list : {P A : Type 0} (port : Port.Ghosts P A) (old middle new : BookValue) (xs ys : List (LaneState P)) (k : ℕ)
     → (v : RunsPasses port old middle xs ys) → ScansShards middle new k → old.answers ≡ [] → MatchesBooks port.honest xs (new ∷ []) v.answers_at
-kept_in port old middle new xs ys k v w none =
-    let answers : new.answers ≡ v.answers ++ w.answers = filled old middle new v.answers w.answers v.page w.page none in
-    let second : SameRound middle new = heard_same middle new w.answers w.page in
-    let same : SameRound old new = same_then old middle new (heard_same old middle v.answers v.page) second in
+shelf_list port old middle new xs ys k v w none =
+    let answers : new.answers ≡ v.answers ++ w.answers = filled old middle new v.answers w.answers v.value w.value none in
+    let second : SameRound middle new = heard_same middle new w.answers w.value in
+    let same : SameRound old new = same_then old middle new (heard_same old middle v.answers v.value) second in
     let here : Contains (new ∷ []) new = (0, omega arith, refl) in
     let Right : AnswerValue → Type 0 = λ t. IsLight new t ⊎ IsGivenBy (length xs) v.answers_at t in
     let there : (i : ℕ) (t : AnswerValue) → i < length xs → Contains (v.answers_at i) t → Contains new.answers t =
@@ -129,7 +129,7 @@ kept_in port old middle new xs ys k v w none =
     record {
       reached = λ i t b h. (new, here, there i t b h);
       each_is =
-          one (λ (book : Page). All (λ t. IsLight book t ⊎ IsGivenBy (length xs) v.answers_at t) book.answers) new
+          one (λ (book : BookValue). All (λ t. IsLight book t ⊎ IsGivenBy (length xs) v.answers_at t) book.answers) new
           (subst (λ (ts : List AnswerValue). All Right ts) (sym answers)
           (All-append Right v.answers w.answers (contains_all Right v.answers (λ t c. inr (v.given t c)))
           (each_more (IsLight middle) Right w.answers (λ t l. inl (light_still middle new second t l)) w.light)));
@@ -139,33 +139,33 @@ kept_in port old middle new xs ys k v w none =
     }
 
 -- an answer that was kept is of the round of a book
-pub kept_round : {P : Type 0} (honest : P → Type 0) (xs : List (LaneState P)) (books : List Page) (at : ℕ → List AnswerValue) (i : ℕ) (t : AnswerValue) → All IsPage books → MatchesBooks honest xs books at
-    → i < length xs → Contains (at i) t → (book : Page) × Contains books book × (t.round ≡ book.round)
-kept_round honest xs books at i t pages u b h =
+pub kept_round : {P : Type 0} (honest : P → Type 0) (xs : List (LaneState P)) (books : List BookValue) (at : ℕ → List AnswerValue) (i : ℕ) (t : AnswerValue) → All IsBookValue books → MatchesBooks honest xs books at
+    → i < length xs → Contains (at i) t → (book : BookValue) × Contains books book × (t.round ≡ book.round)
+kept_round honest xs books at i t values u b h =
     let r = u.reached i t b h in
-    let page : IsPage r.0 = All-contains IsPage books r.0 pages r.1 in
-    (r.0, r.1, (All-contains (IsRight r.0.round r.0.cut r.0.labels) r.0.answers t page.right r.2).round_is)
+    let value : IsBookValue r.0 = All-contains IsBookValue books r.0 values r.1 in
+    (r.0, r.1, (All-contains (IsRight r.0.round r.0.cut r.0.labels) r.0.answers t value.right r.2).round_is)
 
 -- kept answers beside books, and beside one book more of a later round
-pub kept_then : {P : Type 0} (honest : P → Type 0) (xs ys : List (LaneState P)) (books : List Page) (new : Page) (at bt : ℕ → List AnswerValue) → length ys ≡ length xs
-    → ((i : ℕ) (d : LaneState P) → i < length xs → honest (get_or xs i d).port → honest (get_or ys i d).port) → All IsPage books → IsPage new → All (λ (book : Page). book.round < new.round) books
+pub kept_then : {P : Type 0} (honest : P → Type 0) (xs ys : List (LaneState P)) (books : List BookValue) (new : BookValue) (at bt : ℕ → List AnswerValue) → length ys ≡ length xs
+    → ((i : ℕ) (d : LaneState P) → i < length xs → honest (get_or xs i d).port → honest (get_or ys i d).port) → All IsBookValue books → IsBookValue new → All (λ (book : BookValue). book.round < new.round) books
     → MatchesBooks honest xs books at → MatchesBooks honest ys (new ∷ []) bt → MatchesBooks honest xs (books ++ new ∷ []) (λ i. at i ++ bt i)
-kept_then {P} honest xs ys books new at bt same stays pages page earlier u v =
+kept_then {P} honest xs ys books new at bt same stays values value earlier u v =
     let both : ℕ → List AnswerValue = λ i. at i ++ bt i in
-    let left : (book : Page) → Contains books book → Contains (books ++ new ∷ []) book = λ book c. Contains-append_left books (new ∷ []) book c in
-    let right : (book : Page) → Contains (new ∷ []) book → Contains (books ++ new ∷ []) book = λ book c. Contains-append_right books (new ∷ []) book c in
+    let left : (book : BookValue) → Contains books book → Contains (books ++ new ∷ []) book = λ book c. Contains-append_left books (new ∷ []) book c in
+    let right : (book : BookValue) → Contains (new ∷ []) book → Contains (books ++ new ∷ []) book = λ book c. Contains-append_right books (new ∷ []) book c in
     record {
       reached = λ i t b h. elim (Contains-append_cases (at i) (bt i) t h) [
         | inl a ↦ (let q = u.reached i t b a in (q.0, left q.0 q.1, q.2))
         | inr a ↦ (let q = v.reached i t (omega arith) a in (q.0, right q.0 q.1, q.2))
       ];
       each_is =
-          All-append (λ (book : Page). All (λ t. IsLight book t ⊎ IsGivenBy (length xs) both t) book.answers) books (new ∷ [])
-          (each_more (λ (book : Page). All (λ t. IsLight book t ⊎ IsGivenBy (length xs) at t) book.answers) (λ (book : Page). All (λ t. IsLight book t ⊎ IsGivenBy (length xs) both t) book.answers) books
+          All-append (λ (book : BookValue). All (λ t. IsLight book t ⊎ IsGivenBy (length xs) both t) book.answers) books (new ∷ [])
+          (each_more (λ (book : BookValue). All (λ t. IsLight book t ⊎ IsGivenBy (length xs) at t) book.answers) (λ (book : BookValue). All (λ t. IsLight book t ⊎ IsGivenBy (length xs) both t) book.answers) books
           (λ book a. each_more (λ t. IsLight book t ⊎ IsGivenBy (length xs) at t) (λ t. IsLight book t ⊎ IsGivenBy (length xs) both t) book.answers
           (λ t e. elim e [ inl l ↦ inl l | inr g ↦ inr (g.0, g.1, Contains-append_left (at g.0) (bt g.0) t g.2) ]) a)
           u.each_is)
-          (each_more (λ (book : Page). All (λ t. IsLight book t ⊎ IsGivenBy (length ys) bt t) book.answers) (λ (book : Page). All (λ t. IsLight book t ⊎ IsGivenBy (length xs) both t) book.answers) (new ∷ [])
+          (each_more (λ (book : BookValue). All (λ t. IsLight book t ⊎ IsGivenBy (length ys) bt t) book.answers) (λ (book : BookValue). All (λ t. IsLight book t ⊎ IsGivenBy (length xs) both t) book.answers) (new ∷ [])
           (λ book a. each_more (λ t. IsLight book t ⊎ IsGivenBy (length ys) bt t) (λ t. IsLight book t ⊎ IsGivenBy (length xs) both t) book.answers
           (λ t e. elim e [ inl l ↦ inl l | inr g ↦ inr (g.0, (let l = g.1 in omega arith), Contains-append_right (at g.0) (bt g.0) t g.2) ]) a)
           v.each_is);
@@ -174,11 +174,11 @@ kept_then {P} honest xs ys books new at bt same stays pages page earlier u v =
           (each_more (IsLightIn books) (IsLightIn (books ++ new ∷ [])) (at i) (λ t q. (q.0, left q.0 q.1, q.2, q.3)) (u.light_at i d b h))
           (each_more (IsLightIn (new ∷ [])) (IsLightIn (books ++ new ∷ [])) (bt i) (λ t q. (q.0, right q.0 q.1, q.2, q.3)) (v.light_at i d (omega arith) (stays i d b h)));
       once = once_then (length xs) at bt u.once (subst (λ n. AnswersOnce n bt) same v.once) (λ i j a b bi bj ha hb for_one. (
-          let p = kept_round honest xs books at i a pages u bi ha in
-          let q = kept_round honest ys (new ∷ []) bt j b (one IsPage new page) v (omega arith) hb in
-          let before : p.0.round < new.round = All-contains (λ (book : Page). book.round < new.round) books p.0 earlier p.1 in
+          let p = kept_round honest xs books at i a values u bi ha in
+          let q = kept_round honest ys (new ∷ []) bt j b (one IsBookValue new value) v (omega arith) hb in
+          let before : p.0.round < new.round = All-contains (λ (book : BookValue). book.round < new.round) books p.0 earlier p.1 in
           let is : q.0 ≡ new = just_new new q.0 q.1 in
-          let now : q.0.round ≡ new.round = ap (λ (o : Page). o.round) is in
+          let now : q.0.round ≡ new.round = ap (λ (o : BookValue). o.round) is in
           let e : a.round ≡ p.0.round = p.2 in
           let f : b.round ≡ q.0.round = q.2 in
           let g : a.round ≡ b.round = for_one.0 in
@@ -202,23 +202,23 @@ module _ {P A : Type 0} (port : Port.Ghosts P A) where
   }
 
   -- a round more, over a book that was opened for the cut
-  pub rounds_then : (cut : List (List Link)) (round : ℕ) (labels : List ℕ) (new : Page) (xs ys zs : List (LaneState P)) (books : List Page) (answered alone k : ℕ)
-      → RunsRounds port cut xs ys books answered alone → All (λ (book : Page). book.round < round) books → (r : RunsRound port (opened round cut labels) new ys zs k) → IsPage new
+  pub rounds_then : (cut : List (List Link)) (round : ℕ) (labels : List ℕ) (new : BookValue) (xs ys zs : List (LaneState P)) (books : List BookValue) (answered alone k : ℕ)
+      → RunsRounds port cut xs ys books answered alone → All (λ (book : BookValue). book.round < round) books → (r : RunsRound port (opened round cut labels) new ys zs k) → IsBookValue new
       → RunsRounds port cut xs zs (books ++ new ∷ []) (answered + length r.passes.answers) (alone + k)
-  rounds_then cut round labels new xs ys zs books answered alone k u earlier r page =
+  rounds_then cut round labels new xs ys zs books answered alone k u earlier r value =
       let old = opened round cut labels in
       let v = r.passes in
       let w = r.scans in
-      let first : SameRound old r.middle = heard_same old r.middle v.answers v.page in
-      let second : SameRound r.middle new = heard_same r.middle new w.answers w.page in
+      let first : SameRound old r.middle = heard_same old r.middle v.answers v.value in
+      let second : SameRound r.middle new = heard_same r.middle new w.answers w.value in
       let same : SameRound old new = same_then old r.middle new first second in
-      let answers : new.answers ≡ v.answers ++ w.answers = filled old r.middle new v.answers w.answers v.page w.page refl in
+      let answers : new.answers ≡ v.answers ++ w.answers = filled old r.middle new v.answers w.answers v.value w.value refl in
       let shards : length v.answers + k ≡ length cut =
       (let a = v.missed in let b = w.missed in let c = r.all in let d = opened_misses round cut labels in omega arith) in
       let at : ℕ → List AnswerValue = λ i. u.answers_at i ++ v.answers_at i in
       let here : Contains (books ++ new ∷ []) new = Contains-append_right books (new ∷ []) new (0, omega arith, refl) in
       record {
-        whole = All-append (IsFullBook cut) books (new ∷ []) u.whole (one (IsFullBook cut) new (record { cut_is = same.cut; page = page; all = r.all }));
+        whole = All-append (IsFullBook cut) books (new ∷ []) u.whole (one (IsFullBook cut) new (record { cut_is = same.cut; value = value; all = r.all }));
         answers_at = λ i. u.answers_at i ++ v.answers_at i;
         ports = record {
           same_lanes = v.same_lanes ∙ u.ports.same_lanes;
@@ -232,9 +232,9 @@ module _ {P A : Type 0} (port : Port.Ghosts P A) where
               (books_first books round (u.ports.each i d b).exchanges (v.each i d within).exchanges earlier (u.ports.each i d b).keeps (λ j e c. ((v.each i d within).keeps j e c).asked.ask.round)));
         };
         kept =
-            kept_then port.honest xs ys books new u.answers_at v.answers_at u.ports.same_lanes (λ i d b. (u.ports.each i d b).honest_is) (whole_pages cut books u.whole) page
-            (subst (λ (r : ℕ). All (λ (book : Page). book.round < r) books) (sym same.round) earlier) u.kept
-            (kept_in port old r.middle new ys zs k v w refl);
+            kept_then port.honest xs ys books new u.answers_at v.answers_at u.ports.same_lanes (λ i d b. (u.ports.each i d b).honest_is) (whole_books cut books u.whole) value
+            (subst (λ (r : ℕ). All (λ (book : BookValue). book.round < r) books) (sym same.round) earlier) u.kept
+            (shelf_list port old r.middle new ys zs k v w refl);
         few = λ i. (let a = u.few i in let b = v.few i in omega (arith, length-append (u.answers_at i) (v.answers_at i)));
         counted = (
             let one_more : length (books ++ new ∷ []) ≡ suc (length books) = omega (arith, length-append books (new ∷ [])) in
@@ -248,18 +248,18 @@ module _ {P A : Type 0} (port : Port.Ghosts P A) where
           | inr scanned ↦ r.closed scanned
         ];
         given = λ none.
-            All-append (λ (book : Page). All (IsGivenBy (length xs) at) book.answers) books (new ∷ [])
-            (each_more (λ (book : Page). All (IsGivenBy (length xs) u.answers_at) book.answers) (λ (book : Page). All (IsGivenBy (length xs) at) book.answers) books
+            All-append (λ (book : BookValue). All (IsGivenBy (length xs) at) book.answers) books (new ∷ [])
+            (each_more (λ (book : BookValue). All (IsGivenBy (length xs) u.answers_at) book.answers) (λ (book : BookValue). All (IsGivenBy (length xs) at) book.answers) books
             (λ book a. each_more (IsGivenBy (length xs) u.answers_at) (IsGivenBy (length xs) at) book.answers (λ t q. (q.0, q.1, Contains-append_left (u.answers_at q.0) (v.answers_at q.0) t q.2)) a)
             (u.given (omega arith)))
-            (one (λ (book : Page). All (IsGivenBy (length xs) at) book.answers) new (
+            (one (λ (book : BookValue). All (IsGivenBy (length xs) at) book.answers) new (
             let nothing_scanned : w.answers ≡ [] = nothing w.answers (let e = w.count_is in omega arith) in
             let just : v.answers ≡ new.answers = sym (append-nil v.answers) ∙ (ap (λ zs. v.answers ++ zs) (sym nothing_scanned) ∙ sym answers) in
             subst (λ (ts : List AnswerValue). All (IsGivenBy (length xs) at) ts) just
             (contains_all (IsGivenBy (length xs) at) v.answers (λ t c. (let q = v.given t c in (q.0, (let e = u.ports.same_lanes in let l = q.1 in omega arith), Contains-append_right (u.answers_at q.0) (v.answers_at q.0) t q.2))))));
         light = λ h.
-            All-append (λ (book : Page). All (IsLight book) book.answers) books (new ∷ []) (u.light h)
-            (one (λ (book : Page). All (IsLight book) book.answers) new (subst (λ (ts : List AnswerValue). All (IsLight new) ts) (sym answers)
+            All-append (λ (book : BookValue). All (IsLight book) book.answers) books (new ∷ []) (u.light h)
+            (one (λ (book : BookValue). All (IsLight book) book.answers) new (subst (λ (ts : List AnswerValue). All (IsLight new) ts) (sym answers)
             (All-append (IsLight new) v.answers w.answers
             (contains_all (IsLight new) v.answers (λ t c. (
             let g = v.given t c in

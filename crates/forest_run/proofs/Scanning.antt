@@ -3,7 +3,7 @@ use Rattle.std.proofs.Common.{◌≡◌, ℕ, ◌+◌, ◌<◌, inl, inr, not, B
 use Rattle.std.specs.Prelude.{All, count_by}
 use Rattle.std.proofs.lemmas.List.Elements.{All-append}
 use Rattle.frames.specs.AnswerValue.{AnswerValue}
-use Rattle.round_core.specs.Page.{Page, missing, heard, is_taken}
+use Rattle.round_core.specs.BookValue.{BookValue, missing, heard, is_taken}
 use Rattle.forest_run.specs.Bounds.{IsAskable}
 use Rattle.forest_run.specs.Asks.{Takes, IsLight}
 use Rattle.forest_run.specs.Taking.{with_answers}
@@ -20,26 +20,26 @@ one : (P : AnswerValue → Type 0) (t : AnswerValue) → P t → All P (t ∷ []
 one P t p zero d b = p
 one P t p (suc i) d b = absurd (omega arith)
 
-pub scanned_one : (p q : Page) (t : AnswerValue) → Takes p t → IsLight p t → q ≡ heard p t → ScansShards p q 1
-scanned_one p q t k r e = record { answers = t ∷ []; count_is = refl; page = e; missed = rw e (taken_one p t k); light = one (IsLight p) t r }
+pub scanned_one : (p q : BookValue) (t : AnswerValue) → Takes p t → IsLight p t → q ≡ heard p t → ScansShards p q 1
+scanned_one p q t k r e = record { answers = t ∷ []; count_is = refl; value = e; missed = rw e (taken_one p t k); light = one (IsLight p) t r }
 
-pub scanned_none : (p : Page) → ScansShards p p 0
-scanned_none p = record { answers = []; count_is = refl; page = refl; missed = omega arith; light = λ i d b. absurd (omega arith) }
+pub scanned_none : (p : BookValue) → ScansShards p p 0
+scanned_none p = record { answers = []; count_is = refl; value = refl; missed = omega arith; light = λ i d b. absurd (omega arith) }
 
-pub scanned_then : (p q r : Page) (n m : ℕ) → ScansShards p q n → ScansShards q r m → ScansShards p r (n + m)
+pub scanned_then : (p q r : BookValue) (n m : ℕ) → ScansShards p q n → ScansShards q r m → ScansShards p r (n + m)
 scanned_then p q r n m u v = record {
   answers = u.answers ++ v.answers;
   count_is = (let a = u.count_is in let b = v.count_is in omega (arith, length-append u.answers v.answers));
-  page = v.page ∙ (ap (λ o. with_answers o v.answers) u.page ∙ sym (heard_append p u.answers v.answers));
+  value = v.value ∙ (ap (λ o. with_answers o v.answers) u.value ∙ sym (heard_append p u.answers v.answers));
   missed = (let a = u.missed in let b = v.missed in omega arith);
-  light = All-append (IsLight p) u.answers v.answers u.light (λ i d b. light_before p u.answers (get_or v.answers i d) (subst (λ o. IsLight o (get_or v.answers i d)) u.page (v.light i d b)));
+  light = All-append (IsLight p) u.answers v.answers u.light (λ i d b. light_before p u.answers (get_or v.answers i d) (subst (λ o. IsLight o (get_or v.answers i d)) u.value (v.light i d b)));
 }
 
 -- what was taken stays taken
-pub stays_taken : (p q : Page) (n : ℕ) (k : ℕ) → ScansShards p q n → is_taken p k ≡ true → is_taken q k ≡ true
+pub stays_taken : (p q : BookValue) (n : ℕ) (k : ℕ) → ScansShards p q n → is_taken p k ≡ true → is_taken q k ≡ true
 stays_taken p q n k u t = elim (either (is_taken q k)) [
   | inl e ↦ e
-  | inr e ↦ absurd (let f = taken_before p u.answers k (subst (λ o. is_taken o k ≡ false) u.page e) in cc)
+  | inr e ↦ absurd (let f = taken_before p u.answers k (subst (λ o. is_taken o k ≡ false) u.value e) in cc)
 ]
 
 -- one scan took the shard that was missing: it took one
@@ -48,31 +48,31 @@ all_taken [] h = refl
 all_taken (true ∷ xs) h = all_taken xs (λ k b. h (suc k) (omega arith))
 all_taken (false ∷ xs) h = absurd (let f = h 0 (omega arith) in cc)
 
-pub heard_long : (p : Page) (ts : List AnswerValue) → length (with_answers p ts).taken ≡ length p.taken
+pub heard_long : (p : BookValue) (ts : List AnswerValue) → length (with_answers p ts).taken ≡ length p.taken
 heard_long p [] = refl
 heard_long p (t ∷ ts) = heard_long (heard p t) ts ∙ length-set p.taken t.shard true
 
-pub scanned_long : (p q : Page) (n : ℕ) → ScansShards p q n → length q.taken ≡ length p.taken
-scanned_long p q n u = ap (λ o. length o.taken) u.page ∙ heard_long p u.answers
+pub scanned_long : (p q : BookValue) (n : ℕ) → ScansShards p q n → length q.taken ≡ length p.taken
+scanned_long p q n u = ap (λ o. length o.taken) u.value ∙ heard_long p u.answers
 
-pub scanned_cut : (p q : Page) (n : ℕ) → ScansShards p q n → q.cut ≡ p.cut
-scanned_cut p q n u = ap (λ o. o.cut) u.page ∙ (same_round p u.answers).cut
+pub scanned_cut : (p q : BookValue) (n : ℕ) → ScansShards p q n → q.cut ≡ p.cut
+scanned_cut p q n u = ap (λ o. o.cut) u.value ∙ (same_round p u.answers).cut
 
-pub now_taken : (p q : Page) (t : AnswerValue) (s : ℕ) → t.shard ≡ s → q ≡ heard p t → is_taken q s ≡ true
+pub now_taken : (p q : BookValue) (t : AnswerValue) (s : ℕ) → t.shard ≡ s → q ≡ heard p t → is_taken q s ≡ true
 now_taken p q t s e f = ap (λ o. is_taken o s) f ∙ subst (λ (k : ℕ). get_or (set p.taken t.shard true) k true ≡ true) e (set_takes p.taken t.shard)
 
-pub rounded : {P A : Type 0} (port : Port.Ghosts P A) (p q r : Page) (xs ys : List (LaneState P)) (alone : ℕ)
+pub rounded : {P A : Type 0} (port : Port.Ghosts P A) (p q r : BookValue) (xs ys : List (LaneState P)) (alone : ℕ)
     → RunsPasses port p q xs ys → (0 < missing q → open_count port.state ys ≡ 0) → ScansShards q r alone → missing r ≡ 0 → RunsRound port p r xs ys alone
 rounded port p q r xs ys alone u end s all =
     record { middle = q; passes = u; scans = s; all = all; closed = λ some. end (let m = s.missed in omega arith) }
 
-pub round_after : (p q : Page) (n : ℕ) → ScansShards p q n → IsAskable p → IsAskable q
+pub round_after : (p q : BookValue) (n : ℕ) → ScansShards p q n → IsAskable p → IsAskable q
 round_after p q n u r =
     let s = same_round p u.answers in
     let cut : q.cut ≡ p.cut = scanned_cut p q n u in
-    let labels : q.labels ≡ p.labels = ap (λ o. o.labels) u.page ∙ s.labels in
+    let labels : q.labels ≡ p.labels = ap (λ o. o.labels) u.value ∙ s.labels in
     record {
       some_shard = rw cut r.some_shard;
       ends = rw (cut, labels) r.ends;
-      round = rw (ap (λ o. o.round) u.page ∙ s.round) r.round;
+      round = rw (ap (λ o. o.round) u.value ∙ s.round) r.round;
     }

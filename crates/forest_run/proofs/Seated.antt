@@ -8,7 +8,7 @@ use Rattle.std.proofs.lemmas.List.Concat.{flat_map-append, flat_map-cons}
 use Rattle.std.proofs.lemmas.List.Elements.{All-append, All-tail}
 use Rattle.claim_board.specs.State.{BoardState, SeatState, AreSeats, IsUnusedSeat, all_held}
 use Rattle.claim_board.specs.Machine.{held}
-use Rattle.round_core.specs.Page.{Page}
+use Rattle.round_core.specs.BookValue.{BookValue}
 use Rattle.ports.specs.declared.port.Port as Port
 use Rattle.ports.specs.Ports.{PortState}
 use Rattle.forest_run.specs.Lanes.{LaneState, count_if, seats_of, kept_answers, ask_count, open_count, IsIdle}
@@ -33,16 +33,16 @@ seat_at Q [] a i d b = absurd (omega arith)
 seat_at Q (l ∷ ls) a zero d b = if_some Q l.seat (seats_of ls) a
 seat_at Q (l ∷ ls) a (suc i) d b = seat_at Q ls (all_rest Q (option_to_list l.seat) (seats_of ls) a) i d (omega arith)
 
-pub ready_all : {P : Type 0} (state : P → PortState) (board : BoardState) (page : Page) (xs ys : List (LaneState P))
-    → All (λ (l : LaneState P). HasRoomForPass state page l.port) xs → All IsIdle xs
-    → All (λ (l : LaneState P). length page.cut ≤ l.room) xs → AllZip (GainsSeat state) xs ys → All (IsUnusedSeat board) (seats_of ys) → All (IsReady state board page) ys
-ready_all state board page xs ys bound idle room got fresh i d b =
+pub ready_all : {P : Type 0} (state : P → PortState) (board : BoardState) (value : BookValue) (xs ys : List (LaneState P))
+    → All (λ (l : LaneState P). HasRoomForPass state value l.port) xs → All IsIdle xs
+    → All (λ (l : LaneState P). length value.cut ≤ l.room) xs → AllZip (GainsSeat state) xs ys → All (IsUnusedSeat board) (seats_of ys) → All (IsReady state board value) ys
+ready_all state board value xs ys bound idle room got fresh i d b =
     let within : i < length xs = omega (arith, each_length (GainsSeat state) xs ys got) in
     let r = each_at (GainsSeat state) xs ys got i d within in
     let k = bound i d within in
     let e : (get_or ys i d).port ≡ (get_or xs i d).port = r.port in
     record {
-      bound = subst (λ p. HasRoomForPass state page p) (sym e) k;
+      bound = subst (λ p. HasRoomForPass state value p) (sym e) k;
       seated = ap (λ p. (state p).is_open) e ∙ sym r.seat;
       seat = seat_at (IsUnusedSeat board) ys fresh i d b;
       none_kept = r.kept ∙ (idle i d within).none_kept;
@@ -79,8 +79,8 @@ holds_of None b shards h = ap (λ o. flat_map (λ (s : SeatState). held s.events
 holds_of (Some s) None shards h = absurd h
 holds_of (Some s) (Some t) shards h = append-nil (held t.events) ∙ h.2
 
-module _ {P A : Type 0} (port : Port.Ghosts P A) (page : Page) where
-  pub same_seats : (xs ys : List (LaneState P)) → AllZip (RunsFerry port page) xs ys → AllZip SameSeat (seats_of xs) (seats_of ys)
+module _ {P A : Type 0} (port : Port.Ghosts P A) (value : BookValue) where
+  pub same_seats : (xs ys : List (LaneState P)) → AllZip (RunsFerry port value) xs ys → AllZip SameSeat (seats_of xs) (seats_of ys)
   same_seats [] [] p = tt
   same_seats [] (y ∷ ys) p = absurd p
   same_seats (x ∷ xs) [] p = absurd p
@@ -88,7 +88,7 @@ module _ {P A : Type 0} (port : Port.Ghosts P A) (page : Page) where
       each_append SameSeat (option_to_list x.seat) (option_to_list y.seat) (seats_of xs) (seats_of ys) (same_of x.seat y.seat (shards_of y.kept) p.0.seat) (same_seats xs ys p.1)
 
   -- the lists of the seats are the shards of what was kept
-  pub held_kept : (xs ys : List (LaneState P)) → AllZip (RunsFerry port page) xs ys → all_held (seats_of ys) ≡ shards_of (kept_answers ys)
+  pub held_kept : (xs ys : List (LaneState P)) → AllZip (RunsFerry port value) xs ys → all_held (seats_of ys) ≡ shards_of (kept_answers ys)
   held_kept [] [] p = refl
   held_kept [] (y ∷ ys) p = absurd p
   held_kept (x ∷ xs) [] p = absurd p
@@ -97,14 +97,14 @@ module _ {P A : Type 0} (port : Port.Ghosts P A) (page : Page) where
       ∙ (ap (λ zs. zs ++ all_held (seats_of ys)) (holds_of x.seat y.seat (shards_of y.kept) p.0.seat)
       ∙ (ap (λ zs. shards_of y.kept ++ zs) (held_kept xs ys p.1) ∙ sym (map-append (λ t. t.shard) y.kept (kept_answers ys))))
 
-  pub kept_all : (xs ys : List (LaneState P)) → AllZip (RunsFerry port page) xs ys → All (Takes page) (kept_answers ys)
+  pub kept_all : (xs ys : List (LaneState P)) → AllZip (RunsFerry port value) xs ys → All (Takes value) (kept_answers ys)
   kept_all [] [] p = λ i d b. absurd (omega arith)
   kept_all [] (y ∷ ys) p = absurd p
   kept_all (x ∷ xs) [] p = absurd p
-  kept_all (x ∷ xs) (y ∷ ys) p = All-append (Takes page) y.kept (kept_answers ys) p.0.taken (kept_all xs ys p.1)
+  kept_all (x ∷ xs) (y ∷ ys) p = All-append (Takes value) y.kept (kept_answers ys) p.0.taken (kept_all xs ys p.1)
 
   -- the asks of all ports rose by the kept answers and by the ports that closed
-  pub counted : (xs ys : List (LaneState P)) → AllZip (RunsFerry port page) xs ys → ask_count port.state ys + open_count port.state ys ≡ (ask_count port.state xs + length (kept_answers ys)) + open_count port.state xs
+  pub counted : (xs ys : List (LaneState P)) → AllZip (RunsFerry port value) xs ys → ask_count port.state ys + open_count port.state ys ≡ (ask_count port.state xs + length (kept_answers ys)) + open_count port.state xs
   counted [] [] p = refl
   counted [] (y ∷ ys) p = absurd p
   counted (x ∷ xs) [] p = absurd p

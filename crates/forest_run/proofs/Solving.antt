@@ -10,7 +10,7 @@ use Rattle.frames.specs.AnswerValue.{AnswerValue}
 use Rattle.round_theory.specs.LinkSet.{SameLinks}
 use Rattle.round_theory.specs.Labelling.{IsVertex}
 use Rattle.round_theory.specs.Offers.{Hearing, Names, IsNamed}
-use Rattle.round_core.specs.Page.{Page, opened, hearing_of, hearings}
+use Rattle.round_core.specs.BookValue.{BookValue, opened, hearing_of, hearings}
 use Rattle.round_core.proofs.Full.{full_book_has_all_links}
 use Rattle.round_core.specs.Picks.{pick_of, Picked, IsPickOf, ArePicks}
 use Rattle.ports.specs.declared.port.Port as Port
@@ -45,7 +45,7 @@ picked_named labels heard picks l are picked =
     let pick : pick_of picks (i + 1) ≡ Some l = ap (λ k. get_or picks k None) place ∙ here in
     (subst (IsPickOf labels (IsNamed heard) (i + 1)) pick (are.least (i + 1) vertex)).member
 
-pub named_more : (books : List Page) (book : Page) (labels : List ℕ) (picks : List (Option Link)) (taken added : List Link) → ArePicks labels (IsNamed (hearings book)) picks
+pub named_more : (books : List BookValue) (book : BookValue) (labels : List ℕ) (picks : List (Option Link)) (taken added : List Link) → ArePicks labels (IsNamed (hearings book)) picks
     → SameLinks (Contains added) (Picked picks) → All (IsNamedIn books) taken → All (IsNamedIn (books ++ book ∷ [])) (taken ++ added)
 named_more books book labels picks taken added are same all =
     let more = books ++ book ∷ [] in
@@ -63,29 +63,29 @@ any_more : {X : Type 0} (P Q : X → Type 0) (xs : List X) → ((x : X) → P x 
 any_more P Q xs h (k, y, lt, at, here) = (k, y, lt, at, h y here)
 
 -- a link that an answer of a whole book names is one of the cut
-pub from_cut : (cut : List (List Link)) (books : List Page) (l : Link) → All (IsFullBook cut) books → IsNamedIn books l → Contains (joined cut) l
+pub from_cut : (cut : List (List Link)) (books : List BookValue) (l : Link) → All (IsFullBook cut) books → IsNamedIn books l → Contains (joined cut) l
 from_cut cut books l whole named =
     let book = named.0 in
     let is : IsFullBook cut book = All-contains (IsFullBook cut) books book whole named.1 in
     let there : Any (λ (h : Hearing). Contains h.shard l) (hearings book) =
     any_more (λ h. Names h l) (λ h. Contains h.shard l) (hearings book) (λ h names. (names.place, names.within, names.here)) named.2 in
-    subst (λ (c : List (List Link)). Contains (joined c) l) is.cut_is ((full_book_has_all_links book is.page is.all l).1 there)
+    subst (λ (c : List (List Link)). Contains (joined c) l) is.cut_is ((full_book_has_all_links book is.value is.all l).1 there)
 
 module _ {P A : Type 0} (port : Port.Ghosts P A) where
   -- where the coordinator scanned nothing, a lane kept the answer that named it
-  pub named_given : (cut : List (List Link)) (xs ys : List (LaneState P)) (books : List Page) (answered alone : ℕ) (u : RunsRounds port cut xs ys books answered alone)
+  pub named_given : (cut : List (List Link)) (xs ys : List (LaneState P)) (books : List BookValue) (answered alone : ℕ) (u : RunsRounds port cut xs ys books answered alone)
       → alone ≡ 0 → (l : Link) → IsNamedIn books l → (answer : AnswerValue) × IsGivenBy (length xs) u.answers_at answer × Names (hearing_of cut answer) l
   named_given cut xs ys books answered alone u none l named =
       let book = named.0 in
       let whole : IsFullBook cut book = All-contains (IsFullBook cut) books book u.whole named.1 in
       let given : All (IsGivenBy (length xs) u.answers_at) book.answers =
-      All-contains (λ (b : Page). All (IsGivenBy (length xs) u.answers_at) b.answers) books book (u.given none) named.1 in
+      All-contains (λ (b : BookValue). All (IsGivenBy (length xs) u.answers_at) b.answers) books book (u.given none) named.1 in
       let r = any_of_map (λ h. Names h l) (hearing_of book.cut) book.answers named.2 in
       (r.0, All-contains (IsGivenBy (length xs) u.answers_at) book.answers r.0 given r.1, subst (λ (c : List (List Link)). Names (hearing_of c r.0) l) whole.cut_is r.2)
 
   -- ---- the room for a round more
 
-  pub wide_still : (cut : List (List Link)) (round : ℕ) (labels : List ℕ) (xs ys : List (LaneState P)) (books : List Page) (answered alone : ℕ)
+  pub wide_still : (cut : List (List Link)) (round : ℕ) (labels : List ℕ) (xs ys : List (LaneState P)) (books : List BookValue) (answered alone : ℕ)
       → RunsRounds port cut xs ys books answered alone → length cut ≤ 4096 → length books ≤ 32
       → All (λ (lane : LaneState P). (port.state lane.port).cut ≡ cut) xs → All (λ (lane : LaneState P). (port.state lane.port).asks < 2 ^ 63) xs
       → All (λ (lane : LaneState P). HasRoomForRound port.state (opened round cut labels) lane.port) ys

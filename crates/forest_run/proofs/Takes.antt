@@ -7,7 +7,7 @@ use Rattle.std.proofs.lemmas.List.Sums.{sum_by-set, fold-append}
 use Rattle.std.proofs.lemmas.List.Concat.{flat_map-cons}
 use Rattle.std.proofs.lemmas.List.Elements.{All-head, All-tail, Contains-append_left, Contains-append_right}
 use Rattle.frames.specs.AnswerValue.{AnswerValue}
-use Rattle.round_core.specs.Page.{Page, heard, missing, is_taken}
+use Rattle.round_core.specs.BookValue.{BookValue, heard, missing, is_taken}
 use Rattle.forest_run.specs.Asks.{Takes, shards_of}
 use Rattle.forest_run.specs.Lanes.{LaneState, kept_answers}
 use Rattle.forest_run.specs.Taking.{with_answers, TakesAll}
@@ -17,15 +17,15 @@ pub popped : (xs ys : List AnswerValue) (t : AnswerValue) → ys ≡ xs ++ t ∷
 popped xs ys t e = rw e (grind (arith, common_steps))
 
 -- a list that is taken is taken in two parts
-pub taken_append : (p : Page) (xs ys : List AnswerValue) → TakesAll p (xs ++ ys) → TakesAll p xs × TakesAll (with_answers p xs) ys
+pub taken_append : (p : BookValue) (xs ys : List AnswerValue) → TakesAll p (xs ++ ys) → TakesAll p xs × TakesAll (with_answers p xs) ys
 taken_append p [] ys f = (tt, f)
 taken_append p (x ∷ xs) ys f = let r = taken_append (heard p x) xs ys f.1 in ((f.0, r.0), r.1)
 
 -- another shard is as it was
-kept_stays : (p : Page) (s t : AnswerValue) → (t.shard ≡ s.shard → ⊥) → Takes p t → Takes (heard p s) t
+kept_stays : (p : BookValue) (s t : AnswerValue) → (t.shard ≡ s.shard → ⊥) → Takes p t → Takes (heard p s) t
 kept_stays p s t other k = record { within = k.within; taken = rw (get_or-set_other p.taken s.shard t.shard true true other) k.taken }
 
-stay_all : (p : Page) (s : AnswerValue) (ts : List AnswerValue) → ¬ Contains (shards_of ts) s.shard → All (Takes p) ts → All (Takes (heard p s)) ts
+stay_all : (p : BookValue) (s : AnswerValue) (ts : List AnswerValue) → ¬ Contains (shards_of ts) s.shard → All (Takes p) ts → All (Takes (heard p s)) ts
 stay_all p s [] none k = λ i d below. absurd (omega arith)
 stay_all p s (t ∷ ts) none k =
     let other : t.shard ≡ s.shard → ⊥ = λ e. none (0, omega arith, e) in
@@ -46,11 +46,11 @@ distinct_of [] a = tt
 distinct_of (x ∷ xs) a = ((λ h. a 0 (suc h.0) x (omega arith) (omega arith) (sym h.2)), distinct_of xs (λ i j d l b. a (suc i) (suc j) d (omega arith) (omega arith)))
 
 -- answers of different shards, each of which the book takes, are taken one after the other
-pub taken_of : (p : Page) (ts : List AnswerValue) → Distinct (shards_of ts) → All (Takes p) ts → TakesAll p ts
+pub taken_of : (p : BookValue) (ts : List AnswerValue) → Distinct (shards_of ts) → All (Takes p) ts → TakesAll p ts
 taken_of p [] d k = tt
 taken_of p (t ∷ ts) d k = (All-head (Takes p) t ts k, taken_of (heard p t) ts d.1 (stay_all p t ts d.0 (All-tail (Takes p) t ts k)))
 
-pub untaken : (p : Page) (t : AnswerValue) → Takes p t → is_taken p t.shard ≡ false
+pub untaken : (p : BookValue) (t : AnswerValue) → Takes p t → is_taken p t.shard ≡ false
 untaken p t k = (let e = k.taken in grind (arith, common_steps))
 
 within : (xs : List Bool) (i : ℕ) → get_or xs i true ≡ false → i < length xs
@@ -59,25 +59,25 @@ within (x ∷ xs) zero e = omega arith
 within (x ∷ xs) (suc i) e = omega (arith, within xs i e)
 
 -- each answer taken is one shard fewer that is missing
-pub taken_one : (p : Page) (t : AnswerValue) → Takes p t → missing (heard p t) + 1 ≡ missing p
+pub taken_one : (p : BookValue) (t : AnswerValue) → Takes p t → missing (heard p t) + 1 ≡ missing p
 taken_one p t k =
     let free : is_taken p t.shard ≡ false = untaken p t k in
     let inside : t.shard < length p.taken = within p.taken t.shard free in
     let step = sum_by-set (λ x. cond (not x) 1 0) p.taken t.shard true true inside in
     omega (arith, rw free at step)
 
-pub taken_all : (p : Page) (ts : List AnswerValue) → TakesAll p ts → missing (with_answers p ts) + length ts ≡ missing p
+pub taken_all : (p : BookValue) (ts : List AnswerValue) → TakesAll p ts → missing (with_answers p ts) + length ts ≡ missing p
 taken_all p [] f = omega arith
 taken_all p (t ∷ ts) f = omega (arith, taken_all (heard p t) ts f.1, taken_one p t f.0)
 
 pub all_kept_cons : {P : Type 0} (zs : List (LaneState P)) (x : LaneState P) (xs : List (LaneState P)) → zs ≡ x ∷ xs → kept_answers zs ≡ x.kept ++ kept_answers xs
 all_kept_cons zs x xs e = rw e (flat_map-cons (λ l. l.kept) x xs)
 
-pub heard_append : (p : Page) (xs ys : List AnswerValue) → with_answers p (xs ++ ys) ≡ with_answers (with_answers p xs) ys
+pub heard_append : (p : BookValue) (xs ys : List AnswerValue) → with_answers p (xs ++ ys) ≡ with_answers (with_answers p xs) ys
 heard_append p xs ys = fold-append heard p xs ys
 
 -- and answers that are taken after others are taken with them
-pub taken_both : (p : Page) (xs ys : List AnswerValue) → TakesAll p xs → TakesAll (with_answers p xs) ys → TakesAll p (xs ++ ys)
+pub taken_both : (p : BookValue) (xs ys : List AnswerValue) → TakesAll p xs → TakesAll (with_answers p xs) ys → TakesAll p (xs ++ ys)
 taken_both p [] ys f g = g
 taken_both p (x ∷ xs) ys f g = (f.0, taken_both (heard p x) xs ys f.1 g)
 
@@ -89,7 +89,7 @@ set_before (x ∷ xs) zero (suc k) e = e
 set_before (x ∷ xs) (suc i) zero e = e
 set_before (x ∷ xs) (suc i) (suc k) e = set_before xs i k e
 
-pub taken_before : (p : Page) (ts : List AnswerValue) (s : ℕ) → is_taken (with_answers p ts) s ≡ false → is_taken p s ≡ false
+pub taken_before : (p : BookValue) (ts : List AnswerValue) (s : ℕ) → is_taken (with_answers p ts) s ≡ false → is_taken p s ≡ false
 taken_before p [] s e = e
 taken_before p (t ∷ ts) s e = set_before p.taken t.shard s (taken_before (heard p t) ts s e)
 

@@ -1,47 +1,47 @@
 -- What some asks did to a port.
 use Rattle.std.specs.Prelude.{◌≡◌, ℕ, ◌+◌, ◌<◌, ◌≤◌, ◌⊎◌, true, false, List, [], ◌++◌, length, map, All, AllPairs, IsSome, Option, Some, None, option_to_list}
 use Rattle.frames.specs.AnswerValue.{AnswerValue}
-use Rattle.round_core.specs.Page.{Page, refusal, is_taken}
+use Rattle.round_core.specs.BookValue.{BookValue, refusal, is_taken}
 use Rattle.ports.specs.declared.port.Port as Port
 use Rattle.ports.specs.Ports.{PortState, IsHonestAnswer}
 use Rattle.ports.specs.Exchanges.{Exchange, answers_of}
 use Rattle.forest_run.specs.Lanes.{count_if}
 
 -- the ask is of the book's round, for a shard that it misses
-pub record IsAskOf (page : Page) (ask : ℕ × ℕ) : Type 0 where
-  pub round : ask.0 ≡ page.round
-  pub within : ask.1 < length page.cut
-  pub missed : is_taken page ask.1 ≡ false
+pub record IsAskOf (value : BookValue) (ask : ℕ × ℕ) : Type 0 where
+  pub round : ask.0 ≡ value.round
+  pub within : ask.1 < length value.cut
+  pub missed : is_taken value ask.1 ≡ false
 
 -- an exchange whose ask is one of the book, under its labels
-pub record IsExchangeOf (page : Page) (exchange : Exchange) : Type 0 where
-  pub ask : IsAskOf page (exchange.round, exchange.shard)
-  pub labels : exchange.labels ≡ page.labels
+pub record IsExchangeOf (value : BookValue) (exchange : Exchange) : Type 0 where
+  pub ask : IsAskOf value (exchange.round, exchange.shard)
+  pub labels : exchange.labels ≡ value.labels
 
 -- and whose answer the book takes for the shard that was asked
-pub record TakesExchange (page : Page) (exchange : Exchange) : Type 0 where
-  pub asked : IsExchangeOf page exchange
-  pub taken : refusal page exchange.shard exchange.answer ≡ None
+pub record TakesExchange (value : BookValue) (exchange : Exchange) : Type 0 where
+  pub asked : IsExchangeOf value exchange
+  pub taken : refusal value exchange.shard exchange.answer ≡ None
 
 -- the last ask of a port got an answer that the book refuses for the shard that was asked
-pub record RefusesExchange (page : Page) (last : ℕ × ℕ) (exchange : Exchange) : Type 0 where
+pub record RefusesExchange (value : BookValue) (last : ℕ × ℕ) (exchange : Exchange) : Type 0 where
   pub last_is : last ≡ (exchange.round, exchange.shard)
-  pub asked : IsExchangeOf page exchange
-  pub refused : IsSome (refusal page exchange.shard exchange.answer)
+  pub asked : IsExchangeOf value exchange
+  pub refused : IsSome (refusal value exchange.shard exchange.answer)
 
 -- an ask of the book, the last one of a port, brought no answer, or one that the book refuses
-abbrev pub ClosesPort : Page → ℕ × ℕ → Option Exchange → Type 0
-ClosesPort page last None = IsAskOf page last
-ClosesPort page last (Some exchange) = RefusesExchange page last exchange
+abbrev pub ClosesPort : BookValue → ℕ × ℕ → Option Exchange → Type 0
+ClosesPort value last None = IsAskOf value last
+ClosesPort value last (Some exchange) = RefusesExchange value last exchange
 
 -- the book takes the answer
-pub record Takes (page : Page) (answer : AnswerValue) : Type 0 where
-  pub within : answer.shard < length page.cut
-  pub taken : refusal page answer.shard answer ≡ None
+pub record Takes (value : BookValue) (answer : AnswerValue) : Type 0 where
+  pub within : answer.shard < length value.cut
+  pub taken : refusal value answer.shard answer ≡ None
 
 -- the answer has the light offers of its shard, told of the book's round
-abbrev pub IsLight : Page → AnswerValue → Type 0
-IsLight page answer = IsHonestAnswer page.cut page.round answer.shard page.labels answer
+abbrev pub IsLight : BookValue → AnswerValue → Type 0
+IsLight value answer = IsHonestAnswer value.cut value.round answer.shard value.labels answer
 
 -- both answers are for one shard of one round
 abbrev pub SameShard : AnswerValue → AnswerValue → Type 0

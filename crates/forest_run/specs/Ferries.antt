@@ -3,7 +3,7 @@ use Rattle.std.specs.Prelude.{◌≡◌, ℕ, ◌+◌, ◌*◌, ◌/◌, ◌%◌
 use Rattle.claim_board.specs.State.{BoardState, SeatState, IsUnusedSeat}
 use Rattle.claim_board.specs.Machine.{held}
 use Rattle.frames.specs.AnswerValue.{AnswerValue}
-use Rattle.round_core.specs.Page.{Page}
+use Rattle.round_core.specs.BookValue.{BookValue}
 use Rattle.ports.specs.declared.port.Port as Port
 use Rattle.ports.specs.Ports.{PortState}
 use Rattle.forest_run.specs.Lanes.{LaneState}
@@ -11,12 +11,12 @@ use Rattle.forest_run.specs.Bounds.{HasRoomForPass}
 use Rattle.forest_run.specs.Asks.{AnswersAsks, TakesExchange, ClosesPort, Takes, IsLight, shards_of}
 
 -- a lane that a ferry may begin with, over a board and a book
-pub record IsReady {P : Type 0} (state : P → PortState) (board : BoardState) (page : Page) (lane : LaneState P) : Type 0 where
-  pub bound : HasRoomForPass state page lane.port
+pub record IsReady {P : Type 0} (state : P → PortState) (board : BoardState) (value : BookValue) (lane : LaneState P) : Type 0 where
+  pub bound : HasRoomForPass state value lane.port
   pub seated : (state lane.port).is_open ≡ is_some lane.seat
   pub seat : IfSome lane.seat (IsUnusedSeat board)
   pub none_kept : lane.kept ≡ []
-  pub room : length page.cut ≤ lane.room
+  pub room : length value.cut ≤ lane.room
 
 -- the seat after a ferry: what it holds are these shards
 abbrev pub HoldsShards : Option SeatState → Option SeatState → List ℕ → Type 0
@@ -44,11 +44,11 @@ abbrev pub IsWayOf : SeatState → List ℕ → Type 0
 IsWayOf seat passed = AreOnWay (first_of seat.number seat.board.seats seat.board.shards) seat.board.shards seat.board.shards passed
 
 -- a lane before and after its ferry: it kept answers that the book takes, each for a shard that its seat holds, in the order of the seat's way round
-pub record RunsFerry {P A : Type 0} (port : Port.Ghosts P A) (page : Page) (before after : LaneState P) : Type 0 where
-  pub asked : AnswersAsks port (TakesExchange page) (ClosesPort page) before.port after.port after.kept
+pub record RunsFerry {P A : Type 0} (port : Port.Ghosts P A) (value : BookValue) (before after : LaneState P) : Type 0 where
+  pub asked : AnswersAsks port (TakesExchange value) (ClosesPort value) before.port after.port after.kept
   pub seat : HoldsShards before.seat after.seat (shards_of after.kept)
-  pub taken : All (Takes page) after.kept
-  pub light : port.honest before.port → All (IsLight page) after.kept
+  pub taken : All (Takes value) after.kept
+  pub light : port.honest before.port → All (IsLight value) after.kept
   pub way : IfSome before.seat (λ seat. IsWayOf seat (shards_of after.kept))
 
 -- a lane with a seat, from its parts

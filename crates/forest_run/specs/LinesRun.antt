@@ -18,7 +18,7 @@ use Rattle.forest_run.specs.declared.cutting.Cutting.{Cutting}
 use Rattle.forest_run.specs.Cuttings.{cut_refusal, IsCutOf}
 use Rattle.forest_run.specs.Files.{IsFileOf, HasFile}
 use Rattle.forest_run.specs.Outcomes.{Streams, Ran, IsSpanning, IsLeast}
-use Rattle.forest_run.specs.WiredLines.{AreFresh, AreServed, FindsOverLines, RefusesOverLines, HaveTalked}
+use Rattle.forest_run.specs.WiredLines.{AreFresh, AreServed, FindsOverLines, RefusesOverLines, HaveTranscripts}
 
 -- ---- a run whatever the workers answer
 
@@ -54,7 +54,7 @@ pub record RunsOverLines {L : Type 0} (A : Type 0) (over : Line.Ghosts L) (cutti
   -- merging rounds and the least total
   pub least : AreServed over before → IsLeast graph forest × IsHonestReport graph report
   -- where no port was closed and nothing scanned alone: each line's bytes are the asks and their answers, which name all links of the forest
-  pub talked : report.alone ≡ 0 → report.closed ≡ 0 → AreFresh over.state before → HaveTalked over.state cut forest report.asked after
+  pub transcripts : report.alone ≡ 0 → report.closed ≡ 0 → AreFresh over.state before → HaveTranscripts over.state cut forest report.asked after
 
 -- a run over new wires, whose rounds' answers the solver refuses by this fault
 pub record IsRefusedRun {L : Type 0} (A : Type 0) (over : Line.Ghosts L) (cutting : Cutting) (lines : List L)

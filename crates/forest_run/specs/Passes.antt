@@ -1,7 +1,7 @@
 -- What passes do: to each lane, and to the book.
 use Rattle.std.specs.Prelude.{◌≡◌, ℕ, ◌+◌, ◌<◌, ◌≤◌, List, length, slice_index_or, All, Contains}
 use Rattle.frames.specs.AnswerValue.{AnswerValue}
-use Rattle.round_core.specs.Page.{Page, missing}
+use Rattle.round_core.specs.BookValue.{BookValue, missing}
 use Rattle.ports.specs.declared.port.Port as Port
 use Rattle.forest_run.specs.Lanes.{LaneState, ask_count, open_count}
 use Rattle.forest_run.specs.Asks.{AnswersAsks, TakesExchange, ClosesPort, IsLight, SameShard}
@@ -19,7 +19,7 @@ KeepsHonestly {P = P} honest is lanes answers_at =
     (i : ℕ) (d : LaneState P) → i < length lanes → honest (slice_index_or lanes i d).port → All is (answers_at i)
 
 -- lanes and a book before and after some passes: these answers went into the book, and each is one that a lane's port gave
-pub record RunsPasses {P A : Type 0} (port : Port.Ghosts P A) (old new : Page) (before after : List (LaneState P)) : Type 0 where
+pub record RunsPasses {P A : Type 0} (port : Port.Ghosts P A) (old new : BookValue) (before after : List (LaneState P)) : Type 0 where
   pub answers : List AnswerValue
   -- those of the lane at each place
   pub answers_at : ℕ → List AnswerValue
@@ -35,7 +35,7 @@ pub record RunsPasses {P A : Type 0} (port : Port.Ghosts P A) (old new : Page) (
       ≡ (ask_count port.state before + length answers) + open_count port.state before
   pub never_opened : open_count port.state after ≤ open_count port.state before
   pub taken : TakesAll old answers
-  pub page : new ≡ with_answers old answers
+  pub value : new ≡ with_answers old answers
   pub missed : missing new + length answers ≡ missing old
   -- what a lane with an honest port kept is light
   pub light_at : KeepsHonestly port.honest (IsLight old) before answers_at

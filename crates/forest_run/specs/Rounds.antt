@@ -2,7 +2,7 @@
 use Rattle.std.specs.Prelude.{◌≡◌, ℕ, ◌<◌, List, Option}
 use Rattle.link_key.specs.declared.links.Link.{Link}
 use Rattle.round_theory.specs.Offers.{IsNamed}
-use Rattle.round_core.specs.Page.{Page, IsPage, opened, missing, hearings}
+use Rattle.round_core.specs.BookValue.{BookValue, IsBookValue, opened, missing, hearings}
 use Rattle.round_core.specs.Picks.{ArePicks}
 use Rattle.ports.specs.declared.port.Port as Port
 use Rattle.forest_run.specs.Lanes.{LaneState, open_count}
@@ -10,8 +10,8 @@ use Rattle.forest_run.specs.Passes.{RunsPasses}
 use Rattle.forest_run.specs.Scanned.{ScansShards}
 
 -- first the ports were asked, and then the coordinator scanned so many shards alone, which it does only where no port is open
-pub record RunsRound {P A : Type 0} (port : Port.Ghosts P A) (old new : Page) (before after : List (LaneState P)) (alone : ℕ) : Type 0 where
-  pub middle : Page
+pub record RunsRound {P A : Type 0} (port : Port.Ghosts P A) (old new : BookValue) (before after : List (LaneState P)) (alone : ℕ) : Type 0 where
+  pub middle : BookValue
   pub passes : RunsPasses port old middle before after
   pub scans : ScansShards middle new alone
   pub all : missing new ≡ 0
@@ -20,7 +20,7 @@ pub record RunsRound {P A : Type 0} (port : Port.Ghosts P A) (old new : Page) (b
 -- a whole round over a book that was opened for the cut under the labels: these are the picks of its answers
 pub record PicksInRound {P A : Type 0} (port : Port.Ghosts P A) (round : ℕ) (cut : List (List Link)) (labels : List ℕ)
     (before after : List (LaneState P)) (picks : List (Option Link)) (alone : ℕ) : Type 0 where
-  pub book : Page
+  pub book : BookValue
   pub went : RunsRound port (opened round cut labels) book before after alone
-  pub page : IsPage book
+  pub value : IsBookValue book
   pub picked : ArePicks labels (IsNamed (hearings book)) picks

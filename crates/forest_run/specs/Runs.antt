@@ -3,7 +3,7 @@ use Rattle.std.specs.Prelude.{◌≡◌, ℕ, ◌+◌, ◌*◌, ◌<◌, ◌≤�
 use Rattle.link_key.specs.declared.links.Link.{Link}
 use Rattle.frames.specs.AnswerValue.{AnswerValue}
 use Rattle.round_theory.specs.Offers.{IsNamed}
-use Rattle.round_core.specs.Page.{Page, IsPage, opened, missing, hearings}
+use Rattle.round_core.specs.BookValue.{BookValue, IsBookValue, opened, missing, hearings}
 use Rattle.ports.specs.declared.port.Port as Port
 use Rattle.ports.specs.Exchanges.{Exchange}
 use Rattle.forest_run.specs.Lanes.{LaneState, ask_count, open_count}
@@ -11,19 +11,19 @@ use Rattle.forest_run.specs.Asks.{AnswersAsks, TakesExchange, ClosesPort, IsLigh
 use Rattle.forest_run.specs.Passes.{AnswersOnce, KeepsHonestly}
 
 -- the book, as it was opened
-abbrev pub opened_book : Page → Page
+abbrev pub opened_book : BookValue → BookValue
 opened_book book = opened book.round book.cut book.labels
 
 -- an ask of one of the books, as it was opened, the last one of a port, brought no answer, or one that the book refuses
-abbrev pub ClosesPortIn : List Page → ℕ × ℕ → Option Exchange → Type 0
-ClosesPortIn books last refused = (book : Page) × Contains books book × ClosesPort (opened_book book) last refused
+abbrev pub ClosesPortIn : List BookValue → ℕ × ℕ → Option Exchange → Type 0
+ClosesPortIn books last refused = (book : BookValue) × Contains books book × ClosesPort (opened_book book) last refused
 
 -- an exchange of one of the books, as it was opened, whose answer it takes for the shard that was asked
-abbrev pub IsKeptIn : List Page → Exchange → Type 0
-IsKeptIn books exchange = (book : Page) × Contains books book × TakesExchange (opened_book book) exchange
+abbrev pub IsKeptIn : List BookValue → Exchange → Type 0
+IsKeptIn books exchange = (book : BookValue) × Contains books book × TakesExchange (opened_book book) exchange
 
 -- the ports of lanes before and after asks of these books, of which these answers were kept at each lane's place
-pub record PortsAnswer {P A : Type 0} (port : Port.Ghosts P A) (books : List Page)
+pub record PortsAnswer {P A : Type 0} (port : Port.Ghosts P A) (books : List BookValue)
     (before after : List (LaneState P)) (answers_at : ℕ → List AnswerValue) : Type 0 where
   pub same_lanes : length after ≡ length before
   pub each : (i : ℕ) (d : LaneState P) → i < length before
@@ -34,20 +34,20 @@ abbrev pub IsGivenBy : ℕ → (ℕ → List AnswerValue) → AnswerValue → Ty
 IsGivenBy lanes answers_at answer = (i : ℕ) × (i < lanes) × Contains (answers_at i) answer
 
 -- one of the books has the answer
-abbrev pub IsAnswerIn : List Page → AnswerValue → Type 0
-IsAnswerIn books answer = (book : Page) × Contains books book × Contains book.answers answer
+abbrev pub IsAnswerIn : List BookValue → AnswerValue → Type 0
+IsAnswerIn books answer = (book : BookValue) × Contains books book × Contains book.answers answer
 
 -- the answer is light in a book that has it
-abbrev pub IsLightIn : List Page → AnswerValue → Type 0
-IsLightIn books answer = (book : Page) × Contains books book × Contains book.answers answer × IsLight book answer
+abbrev pub IsLightIn : List BookValue → AnswerValue → Type 0
+IsLightIn books answer = (book : BookValue) × Contains books book × Contains book.answers answer × IsLight book answer
 
 -- each answer of the books is light
-abbrev pub AreLightBooks : List Page → Type 0
+abbrev pub AreLightBooks : List BookValue → Type 0
 AreLightBooks books = All (λ book. All (IsLight book) book.answers) books
 
 -- the answers that lanes kept, beside the books that they went into
 pub record MatchesBooks {P : Type 0} (honest : P → Type 0) (before : List (LaneState P))
-    (books : List Page) (answers_at : ℕ → List AnswerValue) : Type 0 where
+    (books : List BookValue) (answers_at : ℕ → List AnswerValue) : Type 0 where
   pub reached : (i : ℕ) (answer : AnswerValue) → i < length before → Contains (answers_at i) answer → IsAnswerIn books answer
   -- each answer in a book is light, or a lane kept it
   pub each_is : All (λ book. All (λ answer. IsLight book answer ⊎ IsGivenBy (length before) answers_at answer) book.answers) books
@@ -56,19 +56,19 @@ pub record MatchesBooks {P : Type 0} (honest : P → Type 0) (before : List (Lan
   pub once : AnswersOnce (length before) answers_at
 
 -- an answer that a book took names the link
-abbrev pub IsNamedIn : List Page → Link → Type 0
-IsNamedIn books l = (book : Page) × Contains books book × IsNamed (hearings book) l
+abbrev pub IsNamedIn : List BookValue → Link → Type 0
+IsNamedIn books l = (book : BookValue) × Contains books book × IsNamed (hearings book) l
 
 -- a whole book of the cut: each shard has one answer, and no other stands in it
-pub record IsFullBook (cut : List (List Link)) (book : Page) : Type 0 where
+pub record IsFullBook (cut : List (List Link)) (book : BookValue) : Type 0 where
   pub cut_is : book.cut ≡ cut
-  pub page : IsPage book
+  pub value : IsBookValue book
   pub all : missing book ≡ 0
 
 -- lanes before and after whole rounds over books of a cut: the books have so many answers that lanes kept, and so many
 -- others, each of which is light: those the coordinator scanned itself
 pub record RunsRounds {P A : Type 0} (port : Port.Ghosts P A) (cut : List (List Link))
-    (before after : List (LaneState P)) (books : List Page) (answered alone : ℕ) : Type 0 where
+    (before after : List (LaneState P)) (books : List BookValue) (answered alone : ℕ) : Type 0 where
   pub whole : All (IsFullBook cut) books
   pub answers_at : ℕ → List AnswerValue
   pub ports : PortsAnswer port books before after answers_at

@@ -7,7 +7,7 @@ use Rattle.link_key.specs.Least.{IsLightest}
 use Rattle.frames.specs.AnswerValue.{AnswerValue}
 use Rattle.round_theory.specs.Offers.{Names}
 use Rattle.round_theory.specs.Rounds.{IsMergingRounds}
-use Rattle.round_core.specs.Page.{Page, hearing_of}
+use Rattle.round_core.specs.BookValue.{BookValue, hearing_of}
 use Rattle.round_core.specs.Picks.{AreNoPicks}
 use Rattle.round_core.specs.Solver.{Progress, IsProgress, vertices, IsTurn, IsStepFault, IsFinished, IsFinishFault, HasRoundsOf}
 use Rattle.round_core.specs.declared.solver.Turn.{Turn}
@@ -38,7 +38,7 @@ pub record StepsOnce {P A : Type 0} (port : Port.Ghosts P A) (cut : List (List L
 -- however a turn ended: what it did to the lanes' ports, and the book that it filled, as far as it came
 pub record AsksInRound {P A : Type 0} (port : Port.Ghosts P A) (cut : List (List Link)) (old : Progress)
     (before after : List (LaneState P)) : Type 0 where
-  pub book : Page
+  pub book : BookValue
   pub next : IsNextBook cut old book
   pub answers_at : ℕ → List AnswerValue
   pub ports : PortsAnswer port (book ∷ []) before after answers_at
@@ -63,22 +63,22 @@ IsTurnFault port cut old before after fault = (fault ≡ Memory) ⊎ RefusesPick
 -- merging rounds from a run's start, which led to this solver, and one whole round more, of which these are the picks
 pub record PicksAfterRounds {P A : Type 0} (port : Port.Ghosts P A) (n : ℕ) (cut : List (List Link)) (before after : List (LaneState P))
     (solver : Progress) (picks : List (Option Link)) (answered alone : ℕ) : Type 0 where
-  pub merging : List Page
-  pub last : Page
+  pub merging : List BookValue
+  pub last : BookValue
   pub rounds : RunsRounds port cut before after (merging ++ last ∷ []) answered alone
   pub solved : MergesFromStart n merging solver
   pub picked : HasPicks solver last picks
 
 -- the books that a run asked for: none, or a whole one for each merging round, and the one of the solver's next round, as far as it was filled
-abbrev pub AreRunBooks : ℕ → List (List Link) → List Page → Type 0
+abbrev pub AreRunBooks : ℕ → List (List Link) → List BookValue → Type 0
 AreRunBooks n cut books =
     (books ≡ [])
-    ⊎ ((merging : List Page) × (solver : Progress) × (last : Page) × (books ≡ merging ++ last ∷ [])
+    ⊎ ((merging : List BookValue) × (solver : Progress) × (last : BookValue) × (books ≡ merging ++ last ∷ [])
     × All (IsFullBook cut) merging × MergesFromStart n merging solver × IsNextBook cut solver last)
 
 -- however a run ended: what it did to the lanes' ports, and the books that it filled
 pub record AsksInRun {P A : Type 0} (port : Port.Ghosts P A) (n : ℕ) (cut : List (List Link)) (before after : List (LaneState P)) : Type 0 where
-  pub books : List Page
+  pub books : List BookValue
   pub are_books : AreRunBooks n cut books
   pub answers_at : ℕ → List AnswerValue
   pub ports : PortsAnswer port books before after answers_at

@@ -1,14 +1,14 @@
 -- How kept answers go into the book.
 use Rattle.std.specs.Prelude.{List, [], ◌∷◌, ⊤, fold}
 use Rattle.frames.specs.AnswerValue.{AnswerValue}
-use Rattle.round_core.specs.Page.{Page, heard}
+use Rattle.round_core.specs.BookValue.{BookValue, heard}
 use Rattle.forest_run.specs.Asks.{Takes}
 
 -- the book after all these answers
-abbrev pub with_answers : Page → List AnswerValue → Page
-with_answers page answers = fold heard page answers
+abbrev pub with_answers : BookValue → List AnswerValue → BookValue
+with_answers value answers = fold heard value answers
 
 -- the book takes each of these answers, one after the other
-abbrev pub TakesAll : Page → List AnswerValue → Type 0
-TakesAll page [] = ⊤
-TakesAll page (answer ∷ answers) = Takes page answer × TakesAll (heard page answer) answers
+abbrev pub TakesAll : BookValue → List AnswerValue → Type 0
+TakesAll value [] = ⊤
+TakesAll value (answer ∷ answers) = Takes value answer × TakesAll (heard value answer) answers

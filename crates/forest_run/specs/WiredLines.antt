@@ -4,12 +4,12 @@ use Rattle.link_key.specs.declared.links.Link.{Link}
 use Rattle.frames.specs.FrameValue.{FrameValue}
 use Rattle.round_theory.specs.Offers.{Names}
 use Rattle.worker_engine.specs.Serving.{asks_in}
-use Rattle.round_core.specs.Page.{hearing_of}
+use Rattle.round_core.specs.BookValue.{hearing_of}
 use Rattle.round_core.specs.declared.solver.SolveFault.{SolveFault}
 use Rattle.ports.specs.declared.line.Line as Line
 use Rattle.ports.specs.Lines.{LineState, IsFresh, TellsBytes}
 use Rattle.ports.specs.Exchanges.{Exchange}
-use Rattle.ports.specs.Talking.{Talk, MatchesLine}
+use Rattle.ports.specs.Clients.{Client, MatchesLine}
 use Rattle.ports.specs.Wires.{WireState, IsNewWire, wire_port, IsHonestWire, IsSoundWire}
 use Rattle.forest_run.specs.declared.report.Report.{Report}
 use Rattle.forest_run.specs.Lanes.{LaneState, IsIdle}
@@ -38,14 +38,14 @@ pub record AreNewLanes {L : Type 0} (lines : List L) (cut : List (List Link)) (l
 
 -- the lines of lanes, in their order
 abbrev pub lines_of : {L : Type 0} → List (LaneState (WireState L)) → List L
-lines_of lanes = map (λ lane. lane.port.talk.line) lanes
+lines_of lanes = map (λ lane. lane.port.client.line) lanes
 
 -- ---- what a run does to them
 
 -- what a wire over this line, which was new before a run, is after it: it is of this worker, and tells why it was shut if
 -- it is, whatever the other lines are
 pub record TellsOfWire {L : Type 0} (over : Line.Ghosts L) (worker : ℕ) (line : L) (wire : WireState L) : Type 0 where
-  pub worker_is : wire.talk.worker ≡ worker
+  pub worker_is : wire.client.worker ≡ worker
   -- where the line was new and tells its bytes, from the ends on that it had found before the run
   pub sound : IsFresh (over.state line) → TellsBytes (over.state line)
       → (exchanges : List Exchange) × IsSoundWire over.state wire (over.state line).ends exchanges
@@ -83,28 +83,28 @@ pub record RefusesOverLines {L : Type 0} (A : Type 0) (over : Line.Ghosts L) (n 
 abbrev pub Transcript : Type 0
 Transcript = List FrameValue × List Exchange
 
--- a new line's whole talk with this worker about shards of the cut: these frames were sent, shards that were asked for
+-- all that was said over a new line with this worker about shards of the cut: these frames were sent, shards that were asked for
 -- there, once each and before their first ask, and the asks of these exchanges, and nothing else; and the worker's hello and
 -- the answers of the exchanges got, and nothing else, or nothing where no hello came
-pub record HasTalked (cut : List (List Link)) (worker : ℕ) (line : LineState) (said : Transcript) : Type 0 where
-  pub talk : Talk
-  pub worker_is : talk.worker ≡ worker
-  pub line_is : talk.line ≡ line
-  pub cut_is : talk.cut ≡ cut
-  pub in_step : MatchesLine talk said.0 said.1
+pub record HasTranscript (cut : List (List Link)) (worker : ℕ) (line : LineState) (said : Transcript) : Type 0 where
+  pub client : Client
+  pub worker_is : client.worker ≡ worker
+  pub line_is : client.line ≡ line
+  pub cut_is : client.cut ≡ cut
+  pub in_step : MatchesLine client said.0 said.1
 
 -- an answer that was heard names the link
-abbrev pub IsNamedInTalks : List (List Link) → List Transcript → Link → Type 0
-IsNamedInTalks cut talks l =
+abbrev pub IsNamedInTranscripts : List (List Link) → List Transcript → Link → Type 0
+IsNamedInTranscripts cut transcripts l =
     (said : Transcript) × (exchange : Exchange)
-    × Contains talks said × Contains said.1 exchange × Names (hearing_of cut exchange.answer) l
+    × Contains transcripts said × Contains said.1 exchange × Names (hearing_of cut exchange.answer) l
 
 -- what was said and heard over all lines, at each place: so many asks in all, and each link of the forest is named by one of the answers
-pub record HaveTalked {L : Type 0} (state : L → LineState) (cut : List (List Link)) (forest : List Link) (asked : ℕ)
+pub record HaveTranscripts {L : Type 0} (state : L → LineState) (cut : List (List Link)) (forest : List Link) (asked : ℕ)
     (lines : List L) : Type 0 where
-  pub talks : List Transcript
-  pub number : length talks ≡ length lines
+  pub transcripts : List Transcript
+  pub number : length transcripts ≡ length lines
   pub each : (worker : ℕ) (line : L) (said : Transcript) → worker < length lines
-      → HasTalked cut worker (state (slice_index_or lines worker line)) (slice_index_or talks worker said)
-  pub asks : sum_by (λ said. asks_in said.0) talks ≡ asked
-  pub named : (l : Link) → Contains forest l → IsNamedInTalks cut talks l
+      → HasTranscript cut worker (state (slice_index_or lines worker line)) (slice_index_or transcripts worker said)
+  pub asks : sum_by (λ said. asks_in said.0) transcripts ≡ asked
+  pub named : (l : Link) → Contains forest l → IsNamedInTranscripts cut transcripts l

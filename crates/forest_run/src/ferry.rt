@@ -2,7 +2,7 @@
 ghost use Rattle.std.specs.Prelude.{◌≡◌, ◌-◌, ◌<◌, ◌≤◌, ◌^◌, ◌++◌, ℕ, length, slice_index_or, All, IfSome, option_to_list, true, false};
 ghost use Rattle.claim_board.specs.Machine.{held};
 ghost use Rattle.limits.specs.declared.TheConstants.{MAX_SHARDS, MAX_WORKERS};
-ghost use Rattle.round_core.specs.Page.{is_taken};
+ghost use Rattle.round_core.specs.BookValue.{is_taken};
 ghost use Rattle.forest_run.specs.Asks.{AnswersAsks, TakesExchange, ClosesPort, Takes, IsLight, shards_of};
 ghost use Rattle.forest_run.specs.Bounds.{IsAskable, IsBoardOf};
 ghost use Rattle.forest_run.specs.Ferries.{IsReady, RunsFerry, seated_lane, first_of, shard_at};

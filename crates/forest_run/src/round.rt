@@ -2,7 +2,7 @@
 ghost use Rattle.std.specs.Prelude.{◌≡◌, ◌+◌, ◌<◌, ◌≤◌, length, All, OnOk, IfOk};
 ghost use Rattle.limits.specs.declared.TheConstants.{MAX_SHARDS, MAX_WORKERS};
 ghost use Rattle.link_key.specs.Link.{EndsUpTo};
-ghost use Rattle.round_core.specs.Page.{Page, opened, missing};
+ghost use Rattle.round_core.specs.BookValue.{BookValue, opened, missing};
 ghost use Rattle.round_core.specs.Solver.{vertices, IsProgress};
 ghost use Rattle.forest_run.specs.Lanes.{open_count, IsIdle};
 ghost use Rattle.forest_run.specs.Bounds.{IsAskable, HasRoomForRound};
@@ -66,7 +66,7 @@ pub(crate) fn run_round<
     requires wide { All (λ lane. HasRoomForRound P.state book.old lane.port) lanes.old }
     requires idle { All IsIdle lanes.old }
     ensures went { IfOk result (λ alone. RunsRound P.Port book.old book.new lanes.old lanes.new alone) }
-    ensures asked { (middle : Page) × RunsPasses P.Port book.old middle lanes.old lanes.new }
+    ensures asked { (middle : BookValue) × RunsPasses P.Port book.old middle lanes.old lanes.new }
     ensures idle { All IsIdle lanes.new }
 {
     ask_ports(rt, alloc, book, lanes)?;

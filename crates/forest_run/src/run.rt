@@ -2,7 +2,7 @@
 ghost use Rattle.std.specs.Prelude.{◌≡◌, ℕ, ◌+◌, ◌<◌, ◌≤◌, ◌^◌, length, All, IfOk, IfErr};
 ghost use Rattle.limits.specs.declared.TheConstants.{MAX_SHARDS, MAX_VERTICES, MAX_WORKERS};
 ghost use Rattle.link_key.specs.Link.{EndsUpTo};
-ghost use Rattle.round_core.specs.Page.{opened};
+ghost use Rattle.round_core.specs.BookValue.{opened};
 ghost use Rattle.round_core.specs.Solver.{vertices};
 ghost use Rattle.round_core.specs.declared.solver.SolveFault.TheVariants.{Memory};
 ghost use Rattle.forest_run.specs.Lanes.{IsIdle};

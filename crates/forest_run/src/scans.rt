@@ -1,6 +1,6 @@
 //! What the coordinator scans itself.
 ghost use Rattle.std.specs.Prelude.{◌≡◌, ◌<◌, length, OnOk, IfOk, true, false};
-ghost use Rattle.round_core.specs.Page.{missing, is_taken};
+ghost use Rattle.round_core.specs.BookValue.{missing, is_taken};
 ghost use Rattle.forest_run.specs.Bounds.{IsAskable};
 ghost use Rattle.forest_run.specs.Scanned.{ScansShards};
 

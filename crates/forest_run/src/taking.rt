@@ -14,7 +14,7 @@ use std::alloc::Allocator;
 #[tactic(auto, using(crate::proofs::Takes::popped))]
 fn take_list<A: Allocator>(book: &mut RoundBook<A>, kept: &mut Vec<Answer<A>, A>)
     requires taken { TakesAll book.old kept.old.items }
-    ensures page { book.new ≡ with_answers book.old kept.old.items }
+    ensures value { book.new ≡ with_answers book.old kept.old.items }
     ensures none { kept.new.items ≡ [] }
 {
     kept.reverse();
@@ -26,7 +26,7 @@ fn take_list<A: Allocator>(book: &mut RoundBook<A>, kept: &mut Vec<Answer<A>, A>
 // Takes a lane's kept answers into the book.
 fn take_answers_of<A: Allocator, P>(book: &mut RoundBook<A>, lane: &mut Lane<P, A>)
     requires taken { TakesAll book.old lane.old.kept }
-    ensures page { book.new ≡ with_answers book.old lane.old.kept }
+    ensures value { book.new ≡ with_answers book.old lane.old.kept }
     ensures lane { LosesAnswers lane.old lane.new }
 {
     take_list(book, &mut lane.kept);
@@ -36,7 +36,7 @@ fn take_answers_of<A: Allocator, P>(book: &mut RoundBook<A>, lane: &mut Lane<P, 
 #[tactic(auto, using(crate::proofs::Eaches::each_cons))]
 pub(crate) fn take_answers<A: Allocator, P>(book: &mut RoundBook<A>, lanes: &mut [Lane<P, A>])
     requires taken { TakesAll book.old (kept_answers lanes.old) }
-    ensures page { book.new ≡ with_answers book.old (kept_answers lanes.old) }
+    ensures value { book.new ≡ with_answers book.old (kept_answers lanes.old) }
     ensures lanes { AllZip LosesAnswers lanes.old lanes.new }
 {
     if let Some((lane, rest)) = lanes.split_first_mut() {

@@ -25,7 +25,7 @@ use Rattle.ports.specs.Lines.{LineState, Transfers, ServesSoFar}
 use Rattle.ports.specs.Causes.{IsNoReply, Receives, Cause, IsBlameless}
 use Rattle.ports.specs.Ports.{IsHonestAnswer}
 use Rattle.ports.specs.Exchanges.{Exchange, exchange_of, IsAskedIn, answers_of}
-use Rattle.ports.specs.Talking.{Talk, TalkState, HelloCame, HasFrames, told_talk, hello_due, shard_due, frames_put, Brings, AnswersOverLine, frames_got, HasGiven, IsOfCut, times_sent, asks_among, FollowTheirShards, MatchesLine}
+use Rattle.ports.specs.Clients.{Client, ClientState, HelloCame, HasFrames, seen_client, hello_due, shard_due, frames_put, Brings, AnswersOverLine, frames_got, HasGiven, IsOfCut, times_sent, asks_among, FollowTheirShards, MatchesLine}
 use Rattle.std.proofs.lemmas.List.Sums.{take_while-cons}
 use Rattle.ports.proofs.Going.{then_came}
 use Rattle.ports.proofs.Refused.{bad_never}
@@ -83,18 +83,18 @@ among_count (HelloFrame v w ∷ fs) = omega (arith, among_count fs)
 among_count (AnswerFrame a ∷ fs) = omega (arith, among_count fs)
 among_count (FaultFrame r k c ∷ fs) = omega (arith, among_count fs)
 
--- a talk in step asked once for each exchange
-pub asks_made : (talk : Talk) (said : List FrameValue) (exchanges : List Exchange) → MatchesLine talk said exchanges → asks_in said ≡ length exchanges
-asks_made talk said exchanges step =
+-- a client that matches its line asked once for each exchange
+pub asks_made : (client : Client) (said : List FrameValue) (exchanges : List Exchange) → MatchesLine client said exchanges → asks_in said ≡ length exchanges
+asks_made client said exchanges step =
     omega (arith, among_count said, ap (λ (fs : List FrameValue). length fs) step.asked, length-map exchanges (λ (e : Exchange). AskFrame e.round e.shard e.labels))
 
 shard_lawful : (sent : Bool) (shard : ℕ) (links : List Link) → IsShard shard links → AreLawful (shard_due sent shard links)
 shard_lawful true shard links is = tt
 shard_lawful false shard links is = (is, tt)
 
-pub put_lawful : (round shard : ℕ) (labels : List ℕ) (talk : Talk) → IsShard shard (links_at talk.cut shard) → IsAsk round shard labels → AreLawful (frames_put talk round shard labels)
-put_lawful round shard labels talk is ask =
-    lawful-append (shard_due (has_shard talk.sent shard) shard (links_at talk.cut shard)) (AskFrame round shard labels ∷ []) (shard_lawful (has_shard talk.sent shard) shard (links_at talk.cut shard) is) (ask, tt)
+pub put_lawful : (round shard : ℕ) (labels : List ℕ) (client : Client) → IsShard shard (links_at client.cut shard) → IsAsk round shard labels → AreLawful (frames_put client round shard labels)
+put_lawful round shard labels client is ask =
+    lawful-append (shard_due (has_shard client.sent shard) shard (links_at client.cut shard)) (AskFrame round shard labels ∷ []) (shard_lawful (has_shard client.sent shard) shard (links_at client.cut shard) is) (ask, tt)
 
 shelf_there : (sent : Bool) (shelf : Shelf) (shard : ℕ) (links : List Link) → shelf shard ≡ (if sent then Some links else None)
     → shelf_after shelf (shard_due sent shard links) shard ≡ Some links
@@ -162,24 +162,24 @@ all_heard version (v ∷ frames) has =
     ∙ ap (λ (fs : List FrameValue). v ∷ fs) (all_heard version frames (All-tail fits v frames has))
 
 -- what an ask brought, and what it put before that
-pub all_brought : {L : Type 0} (state : L → LineState) (round shard : ℕ) (labels bytes : List ℕ) (old new : TalkState L) (brought : Brings state round shard labels bytes old new)
-    → Transfers 0 0 (texts_of (frames_put (told_talk state old) round shard labels)) (hello_due old.version brought.version old.worker ++ bytes) (state old.line) (state new.line)
+pub all_brought : {L : Type 0} (state : L → LineState) (round shard : ℕ) (labels bytes : List ℕ) (old new : ClientState L) (brought : Brings state round shard labels bytes old new)
+    → Transfers 0 0 (texts_of (frames_put (seen_client state old) round shard labels)) (hello_due old.version brought.version old.worker ++ bytes) (state old.line) (state new.line)
 all_brought state round shard labels bytes old new brought = then_came (state old.line) (state brought.asked) (state new.line) _ _ bytes brought.sends.went brought.came
 
 -- ---- an ask that was answered
 
-module _ {L : Type 0} (state : L → LineState) (round shard : ℕ) (labels : List ℕ) (a : AnswerValue) (old new : TalkState L) (asked : AnswersOverLine state round shard labels a old new) where
+module _ {L : Type 0} (state : L → LineState) (round shard : ℕ) (labels : List ℕ) (a : AnswerValue) (old new : ClientState L) (asked : AnswersOverLine state round shard labels a old new) where
   abbrev version : ℕ
   version = asked.brought.version
 
   greeted : HelloCame version old.version new.version
   greeted = asked.brought.greeted
 
-  brought : Transfers 0 0 (texts_of (frames_put (told_talk state old) round shard labels)) (hello_due old.version version old.worker ++ text_of (AnswerFrame a)) (state old.line) (state new.line)
+  brought : Transfers 0 0 (texts_of (frames_put (seen_client state old) round shard labels)) (hello_due old.version version old.worker ++ text_of (AnswerFrame a)) (state old.line) (state new.line)
   brought = all_brought state round shard labels (text_of (AnswerFrame a)) old new asked.brought
 
   -- the answer is added at the end of those given
-  pub gave_more : (answers : List AnswerValue) → HasGiven (told_talk state old) answers → HasGiven (told_talk state new) (answers ++ a ∷ [])
+  pub gave_more : (answers : List AnswerValue) → HasGiven (seen_client state old) answers → HasGiven (seen_client state new) (answers ++ a ∷ [])
   gave_more answers given =
       let got : (state new.line).got ≡ Some (texts_of (frames_got (Some version) old.worker (answers ++ a ∷ []))) =
       appends-told (state old.line).got (state new.line).got _ _ given.got (brought.got refl)
@@ -195,19 +195,19 @@ module _ {L : Type 0} (state : L → LineState) (round shard : ℕ) (labels : Li
   answers_then exchanges = map-append (λ (e : Exchange). e.answer) exchanges (exchange_of round shard labels a ∷ [])
 
   -- and so with its ask behind the exchanges before
-  pub exchanged_more : (exchanges : List Exchange) → HasGiven (told_talk state old) (answers_of exchanges) → HasGiven (told_talk state new) (answers_of (exchanges ++ exchange_of round shard labels a ∷ []))
-  exchanged_more exchanges given = subst (HasGiven (told_talk state new)) (sym (answers_then exchanges)) (gave_more (answers_of exchanges) given)
+  pub exchanged_more : (exchanges : List Exchange) → HasGiven (seen_client state old) (answers_of exchanges) → HasGiven (seen_client state new) (answers_of (exchanges ++ exchange_of round shard labels a ∷ []))
+  exchanged_more exchanges given = subst (HasGiven (seen_client state new)) (sym (answers_then exchanges)) (gave_more (answers_of exchanges) given)
 
   module _ (in_cut : shard < length old.cut) (is : IsShard shard (links_at old.cut shard)) (ask : IsAsk round shard labels) where
-    module _ (said : List FrameValue) (exchanges : List Exchange) (step : MatchesLine (told_talk state old) said exchanges) where
+    module _ (said : List FrameValue) (exchanges : List Exchange) (step : MatchesLine (seen_client state old) said exchanges) where
       shelves_step : (s : ℕ) → s < length old.cut
-          → shelf_after empty_shelf (said ++ frames_put (told_talk state old) round shard labels) s ≡ (if has_shard new.sent s then Some (links_at old.cut s) else None)
+          → shelf_after empty_shelf (said ++ frames_put (seen_client state old) round shard labels) s ≡ (if has_shard new.sent s then Some (links_at old.cut s) else None)
       shelves_step s within =
           let shelf : Shelf = shelf_after empty_shelf said in
           let links : List Link = links_at old.cut shard in
           let sent : Bool = has_shard old.sent shard in
-          let whole : shelf_after empty_shelf (said ++ frames_put (told_talk state old) round shard labels) s ≡ shelf_after shelf (shard_due sent shard links) s =
-          ap (λ (f : Shelf). f s) (shelf_after-append empty_shelf said (frames_put (told_talk state old) round shard labels)) ∙ shelf_put sent shelf shard s links round labels in
+          let whole : shelf_after empty_shelf (said ++ frames_put (seen_client state old) round shard labels) s ≡ shelf_after shelf (shard_due sent shard links) s =
+          ap (λ (f : Shelf). f s) (shelf_after-append empty_shelf said (frames_put (seen_client state old) round shard labels)) ∙ shelf_put sent shelf shard s links round labels in
           ⊎_elim
           (λ (e : s ≡ shard).
           let now : has_shard new.sent s ≡ true = asked.sent s ∙ ap (λ b. b || has_shard old.sent s) (eq-eqb s shard e) in
@@ -219,21 +219,21 @@ module _ {L : Type 0} (state : L → LineState) (round shard : ℕ) (labels : Li
           whole ∙ shelf_elsewhere sent shelf shard s links apart ∙ step.shelves s within ∙ ap (λ b. if b then Some (links_at old.cut s) else None) (sym now))
           (cases_eq s shard)
 
-      once_step : (s : ℕ) → times_sent s (said ++ frames_put (told_talk state old) round shard labels) ≡ (if has_shard new.sent s then 1 else 0)
+      once_step : (s : ℕ) → times_sent s (said ++ frames_put (seen_client state old) round shard labels) ≡ (if has_shard new.sent s then 1 else 0)
       once_step s =
           let links : List Link = links_at old.cut shard in
           let sent : Bool = has_shard old.sent shard in
-          let whole = times-append s said (frames_put (told_talk state old) round shard labels) in
+          let whole = times-append s said (frames_put (seen_client state old) round shard labels) in
           ⊎_elim
           (λ (e : s ≡ shard).
           let now : has_shard new.sent s ≡ true = asked.sent s ∙ ap (λ b. b || has_shard old.sent s) (eq-eqb s shard e) in
-          let count : times_sent s said + times_sent s (frames_put (told_talk state old) round shard labels) ≡ 1 =
-          subst (λ (k : ℕ). times_sent k said + times_sent k (frames_put (told_talk state old) round shard labels) ≡ 1) (sym e)
-          (ap (λ (n : ℕ). n + times_sent shard (frames_put (told_talk state old) round shard labels)) (step.once shard) ∙ once_put sent shard links round labels) in
+          let count : times_sent s said + times_sent s (frames_put (seen_client state old) round shard labels) ≡ 1 =
+          subst (λ (k : ℕ). times_sent k said + times_sent k (frames_put (seen_client state old) round shard labels) ≡ 1) (sym e)
+          (ap (λ (n : ℕ). n + times_sent shard (frames_put (seen_client state old) round shard labels)) (step.once shard) ∙ once_put sent shard links round labels) in
           whole ∙ count ∙ ap (λ b. if b then 1 else 0) (sym now))
           (λ (apart : s ≢ shard).
           let now : has_shard new.sent s ≡ has_shard old.sent s = asked.sent s ∙ ap (λ b. b || has_shard old.sent s) (ne_eqb s shard apart) in
-          let count : times_sent s said + times_sent s (frames_put (told_talk state old) round shard labels) ≡ times_sent s said = omega (arith, none_put sent shard s links round labels apart) in
+          let count : times_sent s said + times_sent s (frames_put (seen_client state old) round shard labels) ≡ times_sent s said = omega (arith, none_put sent shard s links round labels apart) in
           whole ∙ count ∙ step.once s ∙ ap (λ b. if b then 1 else 0) (sym now))
           (cases_eq s shard)
 
@@ -249,13 +249,13 @@ module _ {L : Type 0} (state : L → LineState) (round shard : ℕ) (labels : Li
           (other, Contains-append_left exchanges (exchange ∷ []) other is_in, is))
           (cases_eq s shard)
 
-      pub step_more : MatchesLine (told_talk state new) (said ++ frames_put (told_talk state old) round shard labels) (exchanges ++ exchange_of round shard labels a ∷ [])
+      pub step_more : MatchesLine (seen_client state new) (said ++ frames_put (seen_client state old) round shard labels) (exchanges ++ exchange_of round shard labels a ∷ [])
       step_more =
-          let more : List FrameValue = frames_put (told_talk state old) round shard labels in
+          let more : List FrameValue = frames_put (seen_client state old) round shard labels in
           record {
             calm = omega (arith, brought.failures, step.calm);
             sent = appends-told (state old.line).sent (state new.line).sent (texts_of said) (texts_of more) step.sent (brought.sent refl) ∙ ap (λ t. Some t) (sym (texts-append said more));
-            lawful = lawful-append said more step.lawful (put_lawful round shard labels (told_talk state old) is ask);
+            lawful = lawful-append said more step.lawful (put_lawful round shard labels (seen_client state old) is ask);
             only = subst (λ (k : List (List Link)). All (IsOfCut k) (said ++ more)) (sym asked.cut) (All-append (IsOfCut old.cut) said more step.only (of_cut_put (has_shard old.sent shard) old.cut round shard labels in_cut));
             once = once_step;
             needed = needed_step;
@@ -276,13 +276,13 @@ module _ {L : Type 0} (state : L → LineState) (round shard : ℕ) (labels : Li
 same_version : (v w worker : ℕ) (fs gs : List FrameValue) → HelloFrame v worker ∷ fs ≡ HelloFrame w worker ∷ gs → v ≡ w
 same_version v w worker fs gs same = cc
 
-module _ {L : Type 0} (state : L → LineState) (round shard : ℕ) (labels : List ℕ) (old new : TalkState L) (said : List FrameValue) (exchanges : List Exchange) (step : MatchesLine (told_talk state old) said exchanges) (below : old.worker < MAX_WORKERS)
+module _ {L : Type 0} (state : L → LineState) (round shard : ℕ) (labels : List ℕ) (old new : ClientState L) (said : List FrameValue) (exchanges : List Exchange) (step : MatchesLine (seen_client state old) said exchanges) (below : old.worker < MAX_WORKERS)
     (faithful : ServesSoFar old.worker (state new.line)) where
-  abbrev before : Talk
-  before = told_talk state old
+  abbrev before : Client
+  before = seen_client state old
 
-  abbrev after : Talk
-  after = told_talk state new
+  abbrev after : Client
+  after = seen_client state new
 
   hello_is : (version : ℕ) → IsVersion version → IsLawful (HelloFrame version before.worker)
   hello_is version known = record { version = known; worker = below }

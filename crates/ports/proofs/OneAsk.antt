@@ -13,7 +13,7 @@ use Rattle.ports.specs.declared.fault.PortFault.{PortFault}
 use Rattle.ports.specs.declared.fault.PortFault.TheVariants.{Down, Garbled, WrongHello, Gave, Memory, TooOld, Closed}
 use Rattle.shard_set.specs.Shards.{has_shard}
 use Rattle.ports.specs.Lines.{LineState, Transfers}
-use Rattle.ports.specs.Talking.{TalkState, HelloCame, HasFrames, hello_due, shard_due, SendsAsk, BringsUpTo, AnswersOverLine}
+use Rattle.ports.specs.Clients.{ClientState, HelloCame, HasFrames, hello_due, shard_due, SendsAsk, BringsUpTo, AnswersOverLine}
 use Rattle.ports.specs.Causes.{Receives, SendingFault, AnswerFault, Cause, InAsk, InReply}
 use Rattle.std.proofs.lemmas.List.Elements.{All-nil, All-cons, All-append}
 use Rattle.ports.proofs.Going.{went_then, then_failed}
@@ -29,7 +29,7 @@ has_put version due round shard labels known has =
     All-append fits due (AskFrame round shard labels ∷ []) has (All-cons fits (AskFrame round shard labels) [] known.from_first (All-nil fits))
 
 -- the hello came, the shard and the ask were sent
-module _ {L : Type 0} (state : L → LineState) (round shard : ℕ) (labels : List ℕ) (version : ℕ) (before : TalkState L) where
+module _ {L : Type 0} (state : L → LineState) (round shard : ℕ) (labels : List ℕ) (version : ℕ) (before : ClientState L) where
   pub asked_so_far : (number : ℕ) (links : List Link) (r1 r2 : LineState) (r3 : L) → number ≡ shard → links ≡ links_at before.cut shard
       → Receives (hello_due before.version version before.worker) (state before.line) r1 → IsVersion version → HasFrames version (shard_due (has_shard before.sent number) number links)
       → Transfers 0 0 (texts_of (shard_due (has_shard before.sent number) number links)) [] r1 r2
@@ -51,7 +51,7 @@ module _ {L : Type 0} (state : L → LineState) (round shard : ℕ) (labels : Li
       }
 
 -- the ask itself wasn't sent, behind the hello and the shard
-module _ {L : Type 0} (state : L → LineState) (round shard : ℕ) (labels : List ℕ) (version : ℕ) (before after : TalkState L) where
+module _ {L : Type 0} (state : L → LineState) (round shard : ℕ) (labels : List ℕ) (version : ℕ) (before after : ClientState L) where
   unsent_of : (r : LineState) (e : PortFault) → HelloCame version before.version after.version
       → Transfers 0 0 (texts_of (shard_due (has_shard before.sent shard) shard (links_at before.cut shard))) (hello_due before.version version before.worker) (state before.line) r
       → HasFrames version (shard_due (has_shard before.sent shard) shard (links_at before.cut shard)) → SendingFault e r (state after.line) → Cause state e round shard labels before after
@@ -82,7 +82,7 @@ module _ {L : Type 0} (state : L → LineState) (round shard : ℕ) (labels : Li
       unsent_of r2 e greeted went (subst (HasFrames version) is has) fault
 
 -- the line `r` was asked, and the reply, or what is at fault, came behind that
-module _ {L : Type 0} (state : L → LineState) (round shard : ℕ) (labels : List ℕ) (version : ℕ) (before : TalkState L) (r : L) (so_far : SendsAsk state round shard labels version before r) (after : TalkState L) (greeted : HelloCame version before.version after.version) where
+module _ {L : Type 0} (state : L → LineState) (round shard : ℕ) (labels : List ℕ) (version : ℕ) (before : ClientState L) (r : L) (so_far : SendsAsk state round shard labels version before r) (after : ClientState L) (greeted : HelloCame version before.version after.version) where
   brings : (ends : ℕ) (bytes : List ℕ) → Transfers 0 ends [] bytes (state r) (state after.line) → BringsUpTo ends state round shard labels bytes before after
   brings ends bytes came = record { version = version; greeted = greeted; asked = r; sends = so_far; came = came }
 

@@ -18,7 +18,7 @@ use Rattle.ports.specs.Lines.{LineState, IsFresh, TellsBytes, Counted, ServesSoF
 use Rattle.ports.specs.Ports.{IsHonestAnswer, failure_of, want_of}
 use Rattle.ports.specs.Causes.{GoesDown, IsWanting, Cause, CountedFault, IsBlameless}
 use Rattle.ports.specs.Exchanges.{Exchange, exchange_of}
-use Rattle.ports.specs.Talking.{Talk, TalkState, told_talk, shard_due, frames_put, Brings, EndsAfterAsk, AnswersOverLine, IsOfCut, MatchesLine}
+use Rattle.ports.specs.Clients.{Client, ClientState, seen_client, shard_due, frames_put, Brings, EndsAfterAsk, AnswersOverLine, IsOfCut, MatchesLine}
 use Rattle.ports.specs.Wires.{WireState, last_ask, IsQuiet, IsCountedWire, IsFaultless, IsTrueSoFar, WireCause}
 use Rattle.ports.proofs.Asking.{all_brought, step_more, honest_answer, blameless}
 
@@ -26,20 +26,20 @@ told_none : (told : Option (List ℕ)) → IsSome told → IfSome told (λ bytes
 told_none None tells none = cc
 told_none (Some bytes) tells none = ap (λ t. Some t) none
 
--- a talk that said nothing yet, over a fresh line that tells its bytes
-pub fresh_step : (talk : Talk) → IsFresh talk.line → TellsBytes talk.line → talk.version ≡ None → ((s : ℕ) → has_shard talk.sent s ≡ false) → MatchesLine talk [] []
-fresh_step talk fresh tells quiet none = record {
+-- a client that said nothing yet, over a fresh line that tells its bytes
+pub fresh_step : (client : Client) → IsFresh client.line → TellsBytes client.line → client.version ≡ None → ((s : ℕ) → has_shard client.sent s ≡ false) → MatchesLine client [] []
+fresh_step client fresh tells quiet none = record {
   calm = fresh.failures;
-  sent = told_none talk.line.sent tells.sent fresh.sent;
+  sent = told_none client.line.sent tells.sent fresh.sent;
   lawful = tt;
-  only = All-nil (IsOfCut talk.cut);
+  only = All-nil (IsOfCut client.cut);
   once = λ s. sym (ap (λ b. if b then 1 else 0) (none s));
   needed = λ s there. absurd (let nothing = none s in cc);
   asked = refl;
   first = tt;
-  gave = record { got = rw quiet (told_none talk.line.got tells.got fresh.got); lawful = tt; known = rw quiet tt; silent = λ e. refl };
+  gave = record { got = rw quiet (told_none client.line.got tells.got fresh.got); lawful = tt; known = rw quiet tt; silent = λ e. refl };
   has = rw quiet refl;
-  shelves = λ s within. sym (ap (λ b. if b then Some (links_at talk.cut s) else None) (none s));
+  shelves = λ s within. sym (ap (λ b. if b then Some (links_at client.cut s) else None) (none s));
 }
 
 -- the last ask of frames that end in one
@@ -52,7 +52,7 @@ last_put last (AnswerFrame a ∷ said) round shard labels = last_put last said r
 last_put last (FaultFrame r s c ∷ said) round shard labels = last_put last said round shard labels
 
 -- an ask that was open never ends with Closed
-pub not_closed : {L : Type 0} (state : L → LineState) (round shard : ℕ) (labels : List ℕ) (before after : TalkState L) (fault : PortFault) → Cause state fault round shard labels before after → fault ≢ Closed
+pub not_closed : {L : Type 0} (state : L → LineState) (round shard : ℕ) (labels : List ℕ) (before after : ClientState L) (fault : PortFault) → Cause state fault round shard labels before after → fault ≢ Closed
 not_closed state round shard labels before after fault cause same = subst (λ (f : PortFault). Cause state f round shard labels before after) same cause
 
 -- ---- by what the line counts
@@ -67,7 +67,7 @@ down_counted before after down = elim down [
   | inr ended ↦ inr (ended.2.failures, ended.2.ends)
 ]
 
-module _ {L : Type 0} (state : L → LineState) (round shard : ℕ) (labels : List ℕ) (before after : TalkState L) where
+module _ {L : Type 0} (state : L → LineState) (round shard : ℕ) (labels : List ℕ) (before after : ClientState L) where
   brought_counted : (bytes : List ℕ) → Brings state round shard labels bytes before after → Counted 0 0 (state before.line) (state after.line)
   brought_counted bytes brought = (let first = brought.sends.went in let behind = brought.came in (omega (arith, first.failures, behind.failures), omega (arith, first.ends, behind.ends)))
 
@@ -111,32 +111,32 @@ module _ {L : Type 0} (state : L → LineState) (old new : WireState L) (start :
   ]
 
   -- an ask of it that was answered, and one that wasn't
-  pub quiet_more : Counted 0 0 (state old.talk.line) (state new.talk.line) → new.failures ≡ old.failures → new.wants ≡ old.wants → IsCountedWire state old start → IsCountedWire state new start
+  pub quiet_more : Counted 0 0 (state old.client.line) (state new.client.line) → new.failures ≡ old.failures → new.wants ≡ old.wants → IsCountedWire state old start → IsCountedWire state new start
   quiet_more more failures wants counted =
       let quiet = quiet_open counted in
-      inl (record { counted = quiet_first 0 0 start (state old.talk.line) (state new.talk.line) quiet.counted more; failures = failures ∙ quiet.failures; wants = wants ∙ quiet.wants })
+      inl (record { counted = quiet_first 0 0 start (state old.client.line) (state new.client.line) quiet.counted more; failures = failures ∙ quiet.failures; wants = wants ∙ quiet.wants })
 
-  pub faulted_more : (fault : PortFault) → CountedFault fault (state old.talk.line) (state new.talk.line) → new.is_open ≡ false → new.failures ≡ old.failures + failure_of fault → new.wants ≡ old.wants + want_of fault
+  pub faulted_more : (fault : PortFault) → CountedFault fault (state old.client.line) (state new.client.line) → new.is_open ≡ false → new.failures ≡ old.failures + failure_of fault → new.wants ≡ old.wants + want_of fault
       → IsCountedWire state old start → IsCountedWire state new start
   faulted_more fault more closed failures wants counted =
       let quiet = quiet_open counted in
       inr (record { closed = closed; fault = fault; counted = fault_since fault quiet.counted more; failures = omega (arith, failures, quiet.failures); wants = omega (arith, wants, quiet.wants) })
     where
-      fault_since : (fault : PortFault) → Counted 0 0 start (state old.talk.line) → CountedFault fault (state old.talk.line) (state new.talk.line) → CountedFault fault start (state new.talk.line)
+      fault_since : (fault : PortFault) → Counted 0 0 start (state old.client.line) → CountedFault fault (state old.client.line) (state new.client.line) → CountedFault fault start (state new.client.line)
       fault_since Down first behind = elim behind [
-        | inl failed ↦ inl (quiet_first 1 0 start (state old.talk.line) (state new.talk.line) first failed)
-        | inr ended ↦ inr (quiet_first 0 1 start (state old.talk.line) (state new.talk.line) first ended)
+        | inl failed ↦ inl (quiet_first 1 0 start (state old.client.line) (state new.client.line) first failed)
+        | inr ended ↦ inr (quiet_first 0 1 start (state old.client.line) (state new.client.line) first ended)
       ]
-      fault_since Garbled first behind = quiet_first 0 0 start (state old.talk.line) (state new.talk.line) first behind
-      fault_since WrongHello first behind = quiet_first 0 0 start (state old.talk.line) (state new.talk.line) first behind
-      fault_since (Gave code) first behind = quiet_first 0 0 start (state old.talk.line) (state new.talk.line) first behind
-      fault_since Memory first behind = quiet_first 0 0 start (state old.talk.line) (state new.talk.line) first behind
-      fault_since TooOld first behind = quiet_first 0 0 start (state old.talk.line) (state new.talk.line) first behind
+      fault_since Garbled first behind = quiet_first 0 0 start (state old.client.line) (state new.client.line) first behind
+      fault_since WrongHello first behind = quiet_first 0 0 start (state old.client.line) (state new.client.line) first behind
+      fault_since (Gave code) first behind = quiet_first 0 0 start (state old.client.line) (state new.client.line) first behind
+      fault_since Memory first behind = quiet_first 0 0 start (state old.client.line) (state new.client.line) first behind
+      fault_since TooOld first behind = quiet_first 0 0 start (state old.client.line) (state new.client.line) first behind
       fault_since Closed first behind = behind
 
 module _ {L : Type 0} (state : L → LineState) where
   -- a wire that was never asked
-  pub new_quiet : (wire : WireState L) → wire.failures ≡ 0 → wire.wants ≡ 0 → IsCountedWire state wire (state wire.talk.line)
+  pub new_quiet : (wire : WireState L) → wire.failures ≡ 0 → wire.wants ≡ 0 → IsCountedWire state wire (state wire.client.line)
   new_quiet wire failures wants = inl (record { counted = (omega arith, omega arith); failures = failures; wants = wants })
 
   -- one that is shut keeps what it counted
@@ -148,10 +148,10 @@ module _ {L : Type 0} (state : L → LineState) where
 
 module _ {L : Type 0} (state : L → LineState) where
   -- a wire that asked nothing yet, over a fresh line that tells its bytes
-  pub fresh_calm : (wire : WireState L) (ends : ℕ) → IsFresh (state wire.talk.line) → TellsBytes (state wire.talk.line) → (state wire.talk.line).ends ≡ ends → wire.talk.version ≡ None → ((s : ℕ) → has_shard wire.talk.sent s ≡ false)
+  pub fresh_calm : (wire : WireState L) (ends : ℕ) → IsFresh (state wire.client.line) → TellsBytes (state wire.client.line) → (state wire.client.line).ends ≡ ends → wire.client.version ≡ None → ((s : ℕ) → has_shard wire.client.sent s ≡ false)
       → wire.asks ≡ 0 → wire.failures ≡ 0 → wire.wants ≡ 0 → wire.last ≡ (0, 0) → IsFaultless state ends wire [] []
   fresh_calm wire ends fresh tells ends_are quiet none asks failures wants last = record {
-    in_step = fresh_step (told_talk state wire.talk) fresh tells quiet none;
+    in_step = fresh_step (seen_client state wire.client) fresh tells quiet none;
     ends_are = ends_are;
     asks = asks;
     failures = failures;
@@ -196,19 +196,19 @@ module _ {L : Type 0} (state : L → LineState) where
 
   -- ---- one ask of an open wire
 
-  module _ (round shard : ℕ) (labels : List ℕ) (old new : WireState L) (in_cut : shard < length old.talk.cut) (live : old.is_open ≡ true) (asks : new.asks ≡ old.asks + 1) (last : new.last ≡ (round, shard)) where
+  module _ (round shard : ℕ) (labels : List ℕ) (old new : WireState L) (in_cut : shard < length old.client.cut) (live : old.is_open ≡ true) (asks : new.asks ≡ old.asks + 1) (last : new.last ≡ (round, shard)) where
     -- it was answered
-    module _ (is : IsShard shard (links_at old.talk.cut shard)) (ask : IsAsk round shard labels) (a : AnswerValue) (asked : AnswersOverLine state round shard labels a old.talk new.talk) where
+    module _ (is : IsShard shard (links_at old.client.cut shard)) (ask : IsAsk round shard labels) (a : AnswerValue) (asked : AnswersOverLine state round shard labels a old.client new.client) where
       pub answered : (kind kind' : PortFault → Type 0) (ends : ℕ) (exchanges : List Exchange) → new.failures ≡ old.failures → new.wants ≡ old.wants → IsTrueSoFar state kind old ends exchanges
           → IsTrueSoFar state kind' new ends (exchanges ++ exchange_of round shard labels a ∷ [])
       answered kind kind' ends exchanges failures wants went =
           let (said, calm) = calm_open kind old ends exchanges live went in
-          let first : List FrameValue = shard_due (has_shard old.talk.sent shard) shard (links_at old.talk.cut shard) in
+          let first : List FrameValue = shard_due (has_shard old.client.sent shard) shard (links_at old.client.cut shard) in
           inl (
-            said ++ frames_put (told_talk state old.talk) round shard labels,
+            said ++ frames_put (seen_client state old.client) round shard labels,
             record {
-              in_step = step_more state round shard labels a old.talk new.talk asked in_cut is ask said exchanges calm.in_step;
-              ends_are = omega (arith, (all_brought state round shard labels _ old.talk new.talk asked.brought).ends, calm.ends_are);
+              in_step = step_more state round shard labels a old.client new.client asked in_cut is ask said exchanges calm.in_step;
+              ends_are = omega (arith, (all_brought state round shard labels _ old.client new.client asked.brought).ends, calm.ends_are);
               asks = omega (arith, asks, calm.asks, length-append exchanges (exchange_of round shard labels a ∷ []));
               failures = failures ∙ calm.failures;
               wants = wants ∙ calm.wants;
@@ -218,7 +218,7 @@ module _ {L : Type 0} (state : L → LineState) where
 
     -- it wasn't
     module _ (fault : PortFault) (cause : WireCause state fault round shard labels old new) where
-      pub failed : (kind kind' : PortFault → Type 0) (ends : ℕ) (exchanges : List Exchange) → kind' fault → new.is_open ≡ false → new.talk.cut ≡ old.talk.cut → new.talk.worker ≡ old.talk.worker
+      pub failed : (kind kind' : PortFault → Type 0) (ends : ℕ) (exchanges : List Exchange) → kind' fault → new.is_open ≡ false → new.client.cut ≡ old.client.cut → new.client.worker ≡ old.client.worker
           → new.failures ≡ old.failures + failure_of fault → new.wants ≡ old.wants + want_of fault → IsTrueSoFar state kind old ends exchanges → IsTrueSoFar state kind' new ends exchanges
       failed kind kind' ends exchanges is_kind closed cut worker failures wants went =
           let (said, calm) = calm_open kind old ends exchanges live went in
@@ -235,7 +235,7 @@ module _ {L : Type 0} (state : L → LineState) where
               same_worker = worker;
               fault = fault;
               is_kind = is_kind;
-              in_cut = subst (λ (s : ℕ). s < length new.talk.cut) shard_is (subst (λ (c : List (List Link)). shard < length c) (sym cut) in_cut);
+              in_cut = subst (λ (s : ℕ). s < length new.client.cut) shard_is (subst (λ (c : List (List Link)). shard < length c) (sym cut) in_cut);
               labels = labels;
               cause = subst (λ (r : ℕ). WireCause state fault r new.last.1 labels old new) round_is (subst (λ (s : ℕ). WireCause state fault round s labels old new) shard_is cause);
               asks = asks;
@@ -246,25 +246,25 @@ module _ {L : Type 0} (state : L → LineState) where
 
   -- ---- what a faithful line leads to, whatever the wire counts
 
-  module _ (round shard : ℕ) (labels : List ℕ) (old : WireState L) (new : TalkState L) (in_cut : shard < length old.talk.cut) (live : old.is_open ≡ true) (is : IsShard shard (links_at old.talk.cut shard)) (ask : IsAsk round shard labels)
-      (below : old.talk.worker < MAX_WORKERS) (kind : PortFault → Type 0) where
+  module _ (round shard : ℕ) (labels : List ℕ) (old : WireState L) (new : ClientState L) (in_cut : shard < length old.client.cut) (live : old.is_open ≡ true) (is : IsShard shard (links_at old.client.cut shard)) (ask : IsAsk round shard labels)
+      (below : old.client.worker < MAX_WORKERS) (kind : PortFault → Type 0) where
     -- what the line told by the end of the ask is enough
-    pub served_answer : (a : AnswerValue) → AnswersOverLine state round shard labels a old.talk new → (ends : ℕ) (exchanges : List Exchange) → IsTrueSoFar state kind old ends exchanges → ServesSoFar old.talk.worker (state new.line)
-        → IsHonestAnswer old.talk.cut round shard labels a
+    pub served_answer : (a : AnswerValue) → AnswersOverLine state round shard labels a old.client new → (ends : ℕ) (exchanges : List Exchange) → IsTrueSoFar state kind old ends exchanges → ServesSoFar old.client.worker (state new.line)
+        → IsHonestAnswer old.client.cut round shard labels a
     served_answer a asked ends exchanges went serves =
         let (said, calm) = calm_open kind old ends exchanges live went in
-        honest_answer state round shard labels old.talk new said exchanges calm.in_step below serves in_cut is ask a asked
+        honest_answer state round shard labels old.client new said exchanges calm.in_step below serves in_cut is ask a asked
 
-    module _ (line line' : ℕ → Type 0) (kept : (w : ℕ) → line w → line' w) (serves : (w : ℕ) → line' w → ServesSoFar w (state new.line)) (honest : line old.talk.worker × ((ends : ℕ) × (exchanges : List Exchange) × IsTrueSoFar state kind old ends exchanges)) where
-      pub light_answer : (a : AnswerValue) → AnswersOverLine state round shard labels a old.talk new → IsHonestAnswer old.talk.cut round shard labels a
+    module _ (line line' : ℕ → Type 0) (kept : (w : ℕ) → line w → line' w) (serves : (w : ℕ) → line' w → ServesSoFar w (state new.line)) (honest : line old.client.worker × ((ends : ℕ) × (exchanges : List Exchange) × IsTrueSoFar state kind old ends exchanges)) where
+      pub light_answer : (a : AnswerValue) → AnswersOverLine state round shard labels a old.client new → IsHonestAnswer old.client.cut round shard labels a
       light_answer a asked =
           let (carries, some) = honest in
           let (ends, exchanges, went) = some in
-          served_answer a asked ends exchanges went (serves old.talk.worker (kept old.talk.worker carries))
+          served_answer a asked ends exchanges went (serves old.client.worker (kept old.client.worker carries))
 
-      pub blameless_fault : (fault : PortFault) → EndsUpTo (length labels) (links_at old.talk.cut shard) → Cause state fault round shard labels old.talk new → IsBlameless fault
+      pub blameless_fault : (fault : PortFault) → EndsUpTo (length labels) (links_at old.client.cut shard) → Cause state fault round shard labels old.client new → IsBlameless fault
       blameless_fault fault ends cause =
           let (carries, some) = honest in
           let (found, exchanges, went) = some in
           let (said, calm) = calm_open kind old found exchanges live went in
-          blameless state round shard labels old.talk new said exchanges calm.in_step below (serves old.talk.worker (kept old.talk.worker carries)) in_cut is ask fault ends cause
+          blameless state round shard labels old.client new said exchanges calm.in_step below (serves old.client.worker (kept old.client.worker carries)) in_cut is ask fault ends cause

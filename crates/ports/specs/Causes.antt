@@ -15,7 +15,7 @@ use Rattle.frames.specs.declared.fault.FrameFault.TheVariants.{Memory as NoMemor
 use Rattle.ports.specs.declared.fault.PortFault.{PortFault}
 use Rattle.ports.specs.declared.fault.PortFault.TheVariants.{Down, Garbled, WrongHello, Gave, Memory, TooOld, Closed}
 use Rattle.ports.specs.Lines.{LineState, Transfers, Counted}
-use Rattle.ports.specs.Talking.{Talk, TalkState, HelloCame, HasFrames, told_talk, hello_due, shard_put, Brings, EndsAfterAsk}
+use Rattle.ports.specs.Clients.{Client, ClientState, HelloCame, HasFrames, seen_client, hello_due, shard_put, Brings, EndsAfterAsk}
 
 -- a fault that tells of bytes which no lawful frame begins with
 abbrev pub IsGarble : FrameFault → Type 0
@@ -103,51 +103,51 @@ AnswerFault _ before after = ⊥
 -- ---- of the whole ask
 
 -- before the hello, the first bytes are at fault
-abbrev pub MissesHello : PortFault → Talk → Talk → Type 0
+abbrev pub MissesHello : PortFault → Client → Client → Type 0
 MissesHello fault before after = (before.version ≡ None) × GreetingFault fault before.worker before.line after.line
 
 -- the hello of this version came by now, these frames were put, and nothing else went out or came
-pub record SendsTo (version : ℕ) (frames : List FrameValue) (before after : Talk) : Type 0 where
+pub record SendsTo (version : ℕ) (frames : List FrameValue) (before after : Client) : Type 0 where
   pub greeted : HelloCame version before.version after.version
   pub went : Transfers 0 0 (texts_of frames) (hello_due before.version version before.worker) before.line after.line
   pub has : HasFrames version frames
 
 -- the hello came by now, these frames were put, all of which its version has, and nothing else went out or came
-abbrev pub Sends : List FrameValue → Talk → Talk → Type 0
+abbrev pub Sends : List FrameValue → Client → Client → Type 0
 Sends frames before after = (version : ℕ) × SendsTo version frames before after
 
 -- where memory was wanting in an ask: for the hello that came, for the frame of a shard that wasn't sent before, for the
 -- frame of the ask, or for the reply that came. In each case nothing failed and no end was found
-pub data IsWanting {L : Type 0} (state : L → LineState) (round shard : ℕ) (labels : List ℕ) (before after : TalkState L) : Type 0 where
-  InHello : MissesHello Memory (told_talk state before) (told_talk state after) → IsWanting state round shard labels before after
-  InShard : has_shard before.sent shard ≡ false → Sends [] (told_talk state before) (told_talk state after)
+pub data IsWanting {L : Type 0} (state : L → LineState) (round shard : ℕ) (labels : List ℕ) (before after : ClientState L) : Type 0 where
+  InHello : MissesHello Memory (seen_client state before) (seen_client state after) → IsWanting state round shard labels before after
+  InShard : has_shard before.sent shard ≡ false → Sends [] (seen_client state before) (seen_client state after)
       → IsWanting state round shard labels before after
-  InAsk : Sends (shard_put before.sent shard (links_at before.cut shard)) (told_talk state before) (told_talk state after)
+  InAsk : Sends (shard_put before.sent shard (links_at before.cut shard)) (seen_client state before) (seen_client state after)
       → IsWanting state round shard labels before after
   InReply : (bytes : List ℕ) → StreamRefused NoMemory bytes → Brings state round shard labels bytes before after
       → IsWanting state round shard labels before after
 
 -- the worker told the first version by now, the shard wasn't sent before, and no frame of that version has its links; nothing was put
-pub record IsTooOld (shard : ℕ) (before after : Talk) : Type 0 where
+pub record IsTooOld (shard : ℕ) (before after : Client) : Type 0 where
   pub unsent : has_shard before.sent shard ≡ false
   pub wide : are_narrow (links_at before.cut shard) ≡ false
   pub sends : SendsTo 1 [] before after
 
 -- why an ask that was open got no answer: by the bytes that came in it, and by what the line counted. It is down where
 -- it failed, or ended in place of the hello, or of the reply once it was asked
-abbrev pub Cause : {L : Type 0} → (L → LineState) → PortFault → ℕ → ℕ → List ℕ → TalkState L → TalkState L → Type 0
+abbrev pub Cause : {L : Type 0} → (L → LineState) → PortFault → ℕ → ℕ → List ℕ → ClientState L → ClientState L → Type 0
 Cause state Down round shard labels before after =
     LineFailed (state before.line) (state after.line)
-    ⊎ (MissesHello Down (told_talk state before) (told_talk state after)
+    ⊎ (MissesHello Down (seen_client state before) (seen_client state after)
     ⊎ ((bytes : List ℕ) × IsCutOff bytes × EndsAfterAsk state round shard labels bytes before after))
 Cause state Garbled round shard labels before after =
-    MissesHello Garbled (told_talk state before) (told_talk state after)
+    MissesHello Garbled (seen_client state before) (seen_client state after)
     ⊎ ((bytes : List ℕ) × IsGarbled bytes × Brings state round shard labels bytes before after)
-Cause state WrongHello round shard labels before after = MissesHello WrongHello (told_talk state before) (told_talk state after)
+Cause state WrongHello round shard labels before after = MissesHello WrongHello (seen_client state before) (seen_client state after)
 Cause state (Gave code) round shard labels before after =
     (bytes : List ℕ) × IsFaultText code bytes × Brings state round shard labels bytes before after
 Cause state Memory round shard labels before after = IsWanting state round shard labels before after
-Cause state TooOld round shard labels before after = IsTooOld shard (told_talk state before) (told_talk state after)
+Cause state TooOld round shard labels before after = IsTooOld shard (seen_client state before) (seen_client state after)
 Cause state Closed round shard labels before after = ⊥
 
 -- what a line counted in an ask that got no answer, whether or not it tells its bytes: it is down where one call failed,

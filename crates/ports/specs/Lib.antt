@@ -3,7 +3,7 @@ pub mod Testing
 pub mod Ports
 pub mod Exchanges
 pub mod LineSources
-pub mod Talking
+pub mod Clients
 pub mod Causes
 pub mod EngineLines
 pub mod LineLaws

@@ -9,14 +9,14 @@ use Rattle.ports.specs.declared.port.Port as Port
 use Rattle.ports.specs.Lines.{LineState, HasRoom, Counted, ServesSoFar}
 use Rattle.ports.specs.Exchanges.{Exchange, answers_of}
 use Rattle.ports.specs.Ports.{PortState, failure_of, want_of}
-use Rattle.ports.specs.Talking.{TalkState, told_talk, HasGiven, MatchesLine}
+use Rattle.ports.specs.Clients.{ClientState, seen_client, HasGiven, MatchesLine}
 use Rattle.ports.specs.declared.fault.PortFault.{PortFault}
 use Rattle.ports.specs.declared.fault.PortFault.TheVariants.{Closed}
 use Rattle.ports.specs.Causes.{Cause, CountedFault, IsBlameless}
 
--- a wire: its talk, whether it is open, its counts, and the round and the shard of its last ask
+-- a wire: its client, whether it is open, its counts, and the round and the shard of its last ask
 pub record WireState (L : Type 0) : Type 0 where
-  pub talk : TalkState L
+  pub client : ClientState L
   pub is_open : Bool
   pub asks : ℕ
   pub failures : ℕ
@@ -31,11 +31,11 @@ pub record IsWire (line : LineState) (worker : ℕ) (is_open : Bool) (asks failu
 
 -- a wire that asked nothing yet
 pub record IsNewWire {L : Type 0} (line : L) (cut : List (List Link)) (worker : ℕ) (wire : WireState L) : Type 0 where
-  pub line_is : wire.talk.line ≡ line
-  pub cut_is : wire.talk.cut ≡ cut
-  pub worker_is : wire.talk.worker ≡ worker
-  pub ungreeted : wire.talk.version ≡ None
-  pub nothing_sent : (s : ℕ) → has_shard wire.talk.sent s ≡ false
+  pub line_is : wire.client.line ≡ line
+  pub cut_is : wire.client.cut ≡ cut
+  pub worker_is : wire.client.worker ≡ worker
+  pub ungreeted : wire.client.version ≡ None
+  pub nothing_sent : (s : ℕ) → has_shard wire.client.sent s ≡ false
   pub opened : wire.is_open ≡ true
   pub asks : wire.asks ≡ 0
   pub failures : wire.failures ≡ 0
@@ -45,8 +45,8 @@ pub record IsNewWire {L : Type 0} (line : L) (cut : List (List Link)) (worker : 
 -- as a port
 abbrev pub port_of : {L : Type 0} → WireState L → PortState
 port_of wire = record {
-  cut = wire.talk.cut;
-  worker = wire.talk.worker;
+  cut = wire.client.cut;
+  worker = wire.client.worker;
   is_open = wire.is_open;
   asks = wire.asks;
   failures = wire.failures;
@@ -58,7 +58,7 @@ port_of wire = record {
 
 -- no ask that found it open got a fault, and since the line told this no call failed and none found the end
 pub record IsQuiet {L : Type 0} (state : L → LineState) (wire : WireState L) (start : LineState) : Type 0 where
-  pub counted : Counted 0 0 start (state wire.talk.line)
+  pub counted : Counted 0 0 start (state wire.client.line)
   pub failures : wire.failures ≡ 0
   pub wants : wire.wants ≡ 0
 
@@ -66,7 +66,7 @@ pub record IsQuiet {L : Type 0} (state : L → LineState) (wire : WireState L) (
 pub record HasFaulted {L : Type 0} (state : L → LineState) (wire : WireState L) (start : LineState) : Type 0 where
   pub closed : wire.is_open ≡ false
   pub fault : PortFault
-  pub counted : CountedFault fault start (state wire.talk.line)
+  pub counted : CountedFault fault start (state wire.client.line)
   pub failures : wire.failures ≡ failure_of fault
   pub wants : wire.wants ≡ want_of fault
 
@@ -78,11 +78,11 @@ IsCountedWire state wire start = IsQuiet state wire start ⊎ HasFaulted state w
 
 -- its line got just the answers of these exchanges
 abbrev pub WireExchanged : {L : Type 0} → (L → LineState) → WireState L → List Exchange → Type 0
-WireExchanged state wire exchanges = HasGiven (told_talk state wire.talk) (answers_of exchanges)
+WireExchanged state wire exchanges = HasGiven (seen_client state wire.client) (answers_of exchanges)
 
 -- why one of its asks gave no answer
 abbrev pub WireCause : {L : Type 0} → (L → LineState) → PortFault → (round shard : ℕ) → List ℕ → WireState L → WireState L → Type 0
-WireCause state fault round shard labels before after = Cause state fault round shard labels before.talk after.talk
+WireCause state fault round shard labels before after = Cause state fault round shard labels before.client after.client
 
 -- the round and the shard of the last ask among these frames, or of `last` where there is none
 abbrev pub last_ask : ℕ × ℕ → List FrameValue → ℕ × ℕ
@@ -95,8 +95,8 @@ last_ask last (v ∷ frames) = last_ask last frames
 -- exchanges were got, one for each ask that it counts
 pub record IsFaultless {L : Type 0} (state : L → LineState) (ends : ℕ) (wire : WireState L)
     (said : List FrameValue) (exchanges : List Exchange) : Type 0 where
-  pub in_step : MatchesLine (told_talk state wire.talk) said exchanges
-  pub ends_are : (state wire.talk.line).ends ≡ ends
+  pub in_step : MatchesLine (seen_client state wire.client) said exchanges
+  pub ends_are : (state wire.client.line).ends ≡ ends
   pub asks : wire.asks ≡ length exchanges
   pub failures : wire.failures ≡ 0
   pub wants : wire.wants ≡ 0
@@ -110,11 +110,11 @@ pub record HasFailed {L : Type 0} (state : L → LineState) (ends : ℕ) (exchan
   pub said : List FrameValue
   pub calm : IsFaultless state ends before said exchanges
   pub was_open : before.is_open ≡ true
-  pub same_cut : wire.talk.cut ≡ before.talk.cut
-  pub same_worker : wire.talk.worker ≡ before.talk.worker
+  pub same_cut : wire.client.cut ≡ before.client.cut
+  pub same_worker : wire.client.worker ≡ before.client.worker
   pub fault : PortFault
   pub is_kind : kind fault
-  pub in_cut : wire.last.1 < length wire.talk.cut
+  pub in_cut : wire.last.1 < length wire.client.cut
   pub labels : List ℕ
   pub cause : WireCause state fault wire.last.0 wire.last.1 labels before wire
   pub asks : wire.asks ≡ before.asks + 1
@@ -136,7 +136,7 @@ IsSoundWire state wire ends exchanges = IsTrueSoFar state (λ fault. fault ≢ C
 abbrev pub ServesWire : {L : Type 0} → (L → LineState) → (before after : WireState L) → Type 0
 ServesWire state before after =
     ((ends : ℕ) × (exchanges : List Exchange) × IsSoundWire state before ends exchanges)
-    × ServesSoFar before.talk.worker (state after.talk.line)
+    × ServesSoFar before.client.worker (state after.client.line)
 
 -- it is faultless, or a fault closed it that is nobody's blame. How many ends the line had found, and what was exchanged,
 -- isn't told here: who asks that has the sound wire beside it
@@ -145,7 +145,7 @@ IsBlamelessWire state wire = (ends : ℕ) × (exchanges : List Exchange) × IsTr
 
 -- its line is faithful for its worker, and it is blameless
 abbrev pub IsHonestWire : {L : Type 0} → Line.Ghosts L → WireState L → Type 0
-IsHonestWire over wire = over.faithful wire.talk.line wire.talk.worker × IsBlamelessWire over.state wire
+IsHonestWire over wire = over.faithful wire.client.line wire.client.worker × IsBlamelessWire over.state wire
 
 -- what wires over such lines tell as ports
 abbrev pub wire_port : {L : Type 0} → (A : Type 0) → Line.Ghosts L → Port.Ghosts (WireState L) A

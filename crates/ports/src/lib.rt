@@ -5,7 +5,7 @@
 //!     Port::ask, shut, is_open, asks        what rounds ask
 //!              |
 //!            Wire                           is it open? counts
-//!            Talk::ask                      one ask: hello, shard, ask, answer
+//!            Client::ask                      one ask: hello, shard, ask, answer
 //!            steps                          greet, check_version, send_shard, send_ask, hear_answer
 //!              |                 \
 //!         Line::put           LineSource, which owns the line: frames are read of it
@@ -22,10 +22,11 @@
 //!   asks, and got the hello and the answers, and nothing else.
 //!
 //! Where to start a change: `line` and `specs/Lines` for what a line tells; `port`, `specs/Ports` and `specs/Exchanges`
-//! for what a port does; `steps` and `specs/Causes` for a new fault or step; `specs/Talking` for what a wire said and
+//! for what a port does; `steps` and `specs/Causes` for a new fault or step; `specs/Clients` for what a wire said and
 //! heard.
 #![tactic(auto)]
 
+mod client;
 mod engine_line;
 mod fault;
 mod fused;
@@ -36,7 +37,6 @@ mod port;
 mod script;
 mod session;
 mod steps;
-mod talk;
 mod wire;
 
 pub use engine_line::EngineLine;

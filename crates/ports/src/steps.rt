@@ -7,7 +7,7 @@ ghost use Rattle.frames.specs.FrameStream.{texts_of};
 ghost use Rattle.shard_set.specs.Shards.{has_shard};
 ghost use Rattle.ports.specs.Lines.{HasRoom};
 ghost use Rattle.ports.specs.Causes.{Transmits, Receives, GreetingFault, SendingFault, LacksFrame, AnswerFault, FailsToRead, port_fault};
-ghost use Rattle.ports.specs.Talking.{HasFrames, hello_due, shard_put};
+ghost use Rattle.ports.specs.Clients.{HasFrames, hello_due, shard_put};
 
 use crate::fault::PortFault;
 use crate::line::Line;

@@ -6,14 +6,14 @@ ghost use Rattle.ports.specs.Lines.{LineState, HasRoom, IsFresh, TellsBytes};
 ghost use Rattle.ports.specs.Exchanges.{exchange_of, KeepsExchanges, AddsExchange, StaysSound, StaysSoundWith};
 ghost use Rattle.ports.specs.Ports.{CountsAsks, AnswersAsk, IsHonestAnswer, failure_of, want_of};
 ghost use Rattle.ports.specs.Causes.{IsBlameless};
-ghost use Rattle.ports.specs.Talking.{AnswersOverLine};
+ghost use Rattle.ports.specs.Clients.{AnswersOverLine};
 ghost use Rattle.ports.specs.Wires.{port_of, IsNewWire, IsCountedWire, IsSoundWire, ServesWire, IsHonestWire, WireExchanged, WireCause};
 
+use crate::client::Client;
 use crate::fault::PortFault;
 use crate::line::Line;
 use crate::line_source::LineSource;
 use crate::port::Port;
-use crate::talk::Talk;
 use frames::Answer;
 use limits::MAX_WORKERS;
 use link_key::{Cut, Labels};
@@ -30,7 +30,7 @@ use std::marker::Model;
 /// the cut, and 4 bytes a vertex for the labels of the last ask that it turned into bytes.
 #[derive(Drop)]
 pub struct Wire<'a, L: Line, A: Allocator> {
-    talk: Talk<'a, L, A>,
+    client: Client<'a, L, A>,
     is_open: bool,
     asks: u64,
     failures: u64,
@@ -45,7 +45,7 @@ impl<'a, L: Line, A: Allocator> Model for Wire<'a, L, A> {
     ghost Value = { WireState L };
 
     ghost view = { λ s. record {
-      talk = s.talk;
+      client = s.client;
       is_open = s.is_open;
       asks = s.asks;
       failures = s.failures;
@@ -53,7 +53,7 @@ impl<'a, L: Line, A: Allocator> Model for Wire<'a, L, A> {
       last = (s.last_round, s.last_shard);
     } };
 
-    ghost invariant = { λ s. IsWire (L.state s.talk.line) s.talk.worker s.is_open s.asks s.failures s.wants };
+    ghost invariant = { λ s. IsWire (L.state s.client.line) s.client.worker s.is_open s.asks s.failures s.wants };
 }
 
 impl<'a, L: Line, A: Allocator + Copy> Wire<'a, L, A> {
@@ -74,7 +74,7 @@ impl<'a, L: Line, A: Allocator + Copy> Wire<'a, L, A> {
             → IsHonestWire L.Line result }
     {
         Wire {
-            talk: Talk {
+            client: Client {
                 alloc,
                 source: LineSource { line },
                 cut,
@@ -94,10 +94,10 @@ impl<'a, L: Line, A: Allocator + Copy> Wire<'a, L, A> {
 
     /// The line, as the asks left it. It takes no memory.
     pub fn into_line(self) -> L
-        ensures { result ≡ self.entry.talk.line }
+        ensures { result ≡ self.entry.client.line }
     {
-        let Wire { talk, .. } = self;
-        let Talk { source, .. } = talk;
+        let Wire { client, .. } = self;
+        let Client { source, .. } = client;
         source.line
     }
 }
@@ -113,13 +113,13 @@ impl<'a, L: Line, A: Allocator + Copy> Port<A> for Wire<'a, L, A> {
 
     fn ask(&mut self, round: u32, shard: u32, labels: &Labels<A>) -> Result<Answer<A>, PortFault>
         requires round { 1 ≤ round }
-        requires shard { shard < length self.old.talk.cut }
-        requires ends { EndsUpTo (length labels.now) (links_at self.old.talk.cut shard) }
+        requires shard { shard < length self.old.client.cut }
+        requires ends { EndsUpTo (length labels.now) (links_at self.old.client.cut shard) }
         requires room { self.old.asks < 2 ^ 64 - 1 }
 
         ensures went { AnswersAsk result round shard (port_of self.old) (port_of self.new) }
         ensures honest_answer { IfOk result (λ a. IsHonestWire L.Line self.old
-            → IsHonestAnswer self.old.talk.cut round shard labels.now a) }
+            → IsHonestAnswer self.old.client.cut round shard labels.now a) }
         ensures exchanged { IfOk result (λ a. AddsExchange
             (WireExchanged L.state self.old) (WireExchanged L.state self.new) (exchange_of round shard labels.now a)) }
         ensures silent { self.old.is_open ≡ false
@@ -131,12 +131,12 @@ impl<'a, L: Line, A: Allocator + Copy> Port<A> for Wire<'a, L, A> {
             (StaysSound (IsSoundWire L.state self.old) (IsSoundWire L.state self.new)) }
 
         // An answer: which frames were sent for it, which bytes came behind them, and which shards are sent by now.
-        ensures asked { IfOk result (λ a. AnswersOverLine L.state round shard labels.now a self.old.talk self.new.talk) }
+        ensures asked { IfOk result (λ a. AnswersOverLine L.state round shard labels.now a self.old.client self.new.client) }
 
         // Over a line that tells its bytes, known to be faithful or not: where what came by now begins what the
         // worker may write, the answer is honest.
         ensures served { IfOk result (λ a. ServesWire L.state self.old self.new
-            → IsHonestAnswer self.old.talk.cut round shard labels.now a) }
+            → IsHonestAnswer self.old.client.cut round shard labels.now a) }
 
         // Why there is no answer: by the bytes that came in the ask, and by what the line counted.
         ensures cause { IfErr result (λ e. self.old.is_open ≡ true
@@ -158,7 +158,7 @@ impl<'a, L: Line, A: Allocator + Copy> Port<A> for Wire<'a, L, A> {
         self.asks += 1;
         self.last_round = round;
         self.last_shard = shard;
-        match self.talk.ask(round, shard, labels) {
+        match self.client.ask(round, shard, labels) {
             Ok(answer) => Ok(answer),
             Err(fault) => {
                 self.is_open = false;
@@ -179,7 +179,7 @@ impl<'a, L: Line, A: Allocator + Copy> Port<A> for Wire<'a, L, A> {
         ensures counted { (start : LineState) → IsCountedWire L.state self.old start → IsCountedWire L.state self.new start }
 
         // Nothing else changes: the line is as it was.
-        ensures talk { self.new.talk ≡ self.old.talk }
+        ensures client { self.new.client ≡ self.old.client }
     {
         self.is_open = false;
     }

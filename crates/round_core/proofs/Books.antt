@@ -21,7 +21,7 @@ use Rattle.round_theory.specs.Offers.{Hearing, Names, IsNamed}
 use Rattle.round_theory.proofs.Cutting.{any_from, flat_map_contains}
 use Rattle.round_core.specs.Picks.{ArePicks, AreNoPicks, Counts}
 use Rattle.round_core.proofs.Counts.{no_picks, picks_alike}
-use Rattle.round_core.specs.Page.{opened, is_leaving, is_offer, Page, hearing_of, hearings, named_links, all_named, IsPage, IsBook}
+use Rattle.round_core.specs.BookValue.{opened, is_leaving, is_offer, BookValue, hearing_of, hearings, named_links, all_named, IsBookValue, IsBook}
 
 -- all are missing at first
 all_missing : (k : ℕ) → count_by not (replicate k false) ≡ k
@@ -32,14 +32,14 @@ pub book_opened : (round room : ℕ) (cut : List (List Link)) (labels : List ℕ
     → AreLabels labels → All (EndsUpTo (length labels)) cut → length cut ≤ MAX_SHARDS → taken ≡ replicate (length cut) false → answers ≡ [] → length cut ≤ room → length best ≡ length labels → AreNoPicks best
     → IsBook (record { round = round; cut = cut; labels = labels; taken = taken; answers = answers }) room best
 book_opened round room cut labels taken answers best are ends few taken_is answers_is room_is best_len best_is = record {
-  page = rw (taken_is, answers_is) page;
+  value = rw (taken_is, answers_is) value;
   room_for_answers = room_is;
   room_for_picks = best_len;
   no_picks = best_is;
 }
   where
-    page : IsPage (opened round cut labels)
-    page = record {
+    value : IsBookValue (opened round cut labels)
+    value = record {
       labels = are;
       ends = ends;
       few = few;
@@ -171,6 +171,6 @@ pub offer_at : (links : List Link) (labels : List ℕ) (offers : List Offer) (i 
 offer_at links labels offers i lt all = offered links labels (get_or offers i (0, 0)) (all_at (is_offer links labels) offers i (0, 0) lt all)
 
 -- all answers of a book, counted into no picks, make the picks of what was heard
-pub picks_of_book : (p : Page) (best best' : List (Option Link)) → length best ≡ length p.labels → AreNoPicks best → Counts p.labels (all_named p.cut p.answers) best best' → ArePicks p.labels (IsNamed (hearings p)) best'
+pub picks_of_book : (p : BookValue) (best best' : List (Option Link)) → length best ≡ length p.labels → AreNoPicks best → Counts p.labels (all_named p.cut p.answers) best best' → ArePicks p.labels (IsNamed (hearings p)) best'
 picks_of_book p best best' long none counts =
     picks_alike p.labels (Contains (all_named p.cut p.answers)) (IsNamed (hearings p)) best' (same_named p.cut p.answers) (counts [] (no_picks p.labels best long none))

@@ -15,19 +15,19 @@ use Rattle.round_theory.specs.Offers.{Hearing, IsNamed, AreLightOffers, AreAllLi
 use Rattle.round_theory.proofs.Cutting.{any_from, flat_map_contains, light_offers_suffice}
 use Rattle.round_theory.proofs.Leaving.{least_leaving_exists}
 use Rattle.round_core.specs.Picks.{pick_of, IsPickOf}
-use Rattle.round_core.specs.Page.{Page, is_taken, missing, is_offer, refusal, heard, hearing_of, hearings, IsAnswered, IsRight, IsPage, IsBook, FullBookHasAllLinks, FullBookIsLeast}
+use Rattle.round_core.specs.BookValue.{BookValue, is_taken, missing, is_offer, refusal, heard, hearing_of, hearings, IsAnswered, IsRight, IsBookValue, IsBook, FullBookHasAllLinks, FullBookIsLeast}
 use Rattle.round_core.specs.declared.refusals.Refusal.{Refusal}
 use Rattle.round_core.specs.declared.refusals.Refusal.TheVariants.{Stale, Stranger, Double, NotALink}
 use Rattle.round_core.proofs.Books.{map_contains, map_from}
 
 -- an answer that isn't refused
-pub record IsAccepted (p : Page) (s : ℕ) (a : AnswerValue) : Type 0 where
+pub record IsAccepted (p : BookValue) (s : ℕ) (a : AnswerValue) : Type 0 where
   pub round : a.round ≡ p.round
   pub shard : a.shard ≡ s
   pub missing : is_taken p s ≡ false
   pub offers : list_all (is_offer (links_at p.cut s) p.labels) a.offers ≡ true
 
-pub accepted : (p : Page) (s : ℕ) (a : AnswerValue) → refusal p s a ≡ None → IsAccepted p s a
+pub accepted : (p : BookValue) (s : ℕ) (a : AnswerValue) → refusal p s a ≡ None → IsAccepted p s a
 accepted p s a none = by_tests (a.round == p.round) (a.shard == s) (is_taken p s) (list_all (is_offer (links_at p.cut s) p.labels) a.offers) refl refl refl refl none
   where
     by_tests : (b c d e : Bool) → (a.round == p.round) ≡ b → (a.shard == s) ≡ c → is_taken p s ≡ d → list_all (is_offer (links_at p.cut s) p.labels) a.offers ≡ e
@@ -45,14 +45,14 @@ free_within (x ∷ taken) zero free = omega arith
 free_within (x ∷ taken) (suc s) free = omega (arith, free_within taken s free)
 
 -- which shards are taken once an answer is
-pub heard_here : (p : Page) (a : AnswerValue) (s t : ℕ) → s < length p.taken → a.shard ≡ s → t ≡ s → is_taken (heard p a) t ≡ true
+pub heard_here : (p : BookValue) (a : AnswerValue) (s t : ℕ) → s < length p.taken → a.shard ≡ s → t ≡ s → is_taken (heard p a) t ≡ true
 heard_here p a s t within for_s same = ap (λ k. get_or (set p.taken k true) t true) for_s ∙ ap (λ k. get_or (set p.taken s true) k true) same ∙ get_or-set_same p.taken s true true within
 
-pub heard_other : (p : Page) (a : AnswerValue) (s t : ℕ) → a.shard ≡ s → t ≢ s → is_taken (heard p a) t ≡ is_taken p t
+pub heard_other : (p : BookValue) (a : AnswerValue) (s t : ℕ) → a.shard ≡ s → t ≢ s → is_taken (heard p a) t ≡ is_taken p t
 heard_other p a s t for_s other = ap (λ k. get_or (set p.taken k true) t true) for_s ∙ get_or-set_other p.taken s t true true other
 
 -- what an answer that is taken changes
-module _ (p : Page) (s : ℕ) (a : AnswerValue) (is : IsPage p) (lt : s < length p.cut) (fits : IsAccepted p s a) where
+module _ (p : BookValue) (s : ℕ) (a : AnswerValue) (is : IsBookValue p) (lt : s < length p.cut) (fits : IsAccepted p s a) where
   in_taken : s < length p.taken
   in_taken = omega (arith, lt, is.each_shard)
 
@@ -100,8 +100,8 @@ module _ (p : Page) (s : ℕ) (a : AnswerValue) (is : IsPage p) (lt : s < length
     offers = subst (λ k. list_all (is_offer (links_at p.cut k) p.labels) a.offers ≡ true) (sym fits.shard) fits.offers;
   }
 
-  pub page_heard : IsPage (heard p a)
-  page_heard = record {
+  pub value_heard : IsBookValue (heard p a)
+  value_heard = record {
     labels = is.labels;
     ends = is.ends;
     few = is.few;
@@ -112,9 +112,9 @@ module _ (p : Page) (s : ℕ) (a : AnswerValue) (is : IsPage p) (lt : s < length
     once = all_pairs_push (λ (b c : AnswerValue). b.shard ≢ c.shard) p.answers a is.once apart;
   }
 
-pub book_heard : (p : Page) (room : ℕ) (best : List (Option Link)) (s : ℕ) (a : AnswerValue) → IsBook p room best → s < length p.cut → refusal p s a ≡ None → IsBook (heard p a) room best
+pub book_heard : (p : BookValue) (room : ℕ) (best : List (Option Link)) (s : ℕ) (a : AnswerValue) → IsBook p room best → s < length p.cut → refusal p s a ≡ None → IsBook (heard p a) room best
 book_heard p room best s a is lt none = record {
-  page = page_heard p s a is.page lt (accepted p s a none);
+  value = value_heard p s a is.value lt (accepted p s a none);
   room_for_answers = is.room_for_answers;
   room_for_picks = is.room_for_picks;
   no_picks = is.no_picks;
@@ -173,7 +173,7 @@ full_book_is_least p picks is full light are = record {
         none best.0 named.member named.leaves
 
 -- of light answers
-pub heard_light : (labels : List ℕ) (p : Page) (a : AnswerValue) → AreAllLight labels (hearings p) → AreLightOffers (links_at p.cut a.shard) labels a.offers → AreAllLight labels (hearings (heard p a))
+pub heard_light : (labels : List ℕ) (p : BookValue) (a : AnswerValue) → AreAllLight labels (hearings p) → AreLightOffers (links_at p.cut a.shard) labels a.offers → AreAllLight labels (hearings (heard p a))
 heard_light labels p a all light =
     subst (AreAllLight labels) (sym (map-append (hearing_of p.cut) p.answers (a ∷ [])))
     (All-push (λ (h : Hearing). AreLightOffers h.shard labels h.offers) (hearings p) (hearing_of p.cut a) all light)

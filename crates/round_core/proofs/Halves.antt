@@ -8,7 +8,7 @@ use Rattle.link_key.specs.declared.links.Link.{Link}
 use Rattle.link_key.specs.Cut.{links_at}
 use Rattle.link_key.specs.Offers.{Offer}
 use Rattle.frames.specs.AnswerValue.{AnswerValue}
-use Rattle.round_core.specs.Page.{named_links, all_named}
+use Rattle.round_core.specs.BookValue.{named_links, all_named}
 use Rattle.round_core.specs.Picks.{ArePicks, AreNoPicks, Counts}
 use Rattle.round_core.proofs.Counts.{no_picks}
 use Rattle.round_core.proofs.Books.{one_more_answer}

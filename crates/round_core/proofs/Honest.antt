@@ -10,7 +10,7 @@ use Rattle.link_key.specs.Offers.{Offer}
 use Rattle.link_key.specs.Cut.{links_at}
 use Rattle.round_theory.specs.Offers.{Leaves, OffersLeaving}
 use Rattle.round_theory.proofs.LightOffers.{light_offers_leave}
-use Rattle.round_core.specs.Page.{is_leaving, is_offer, LightOffersAreTaken}
+use Rattle.round_core.specs.BookValue.{is_leaving, is_offer, LightOffersAreTaken}
 
 leaving_is : (labels : List ℕ) (c : ℕ) (l : Link) → Leaves labels l c → is_leaving labels c l ≡ true
 leaving_is labels c l (inl (low, high)) = rw (eq-eqb (label_of labels l.low) c low, ne_eqb (label_of labels l.high) c high) refl

@@ -13,7 +13,7 @@ use Rattle.link_key.specs.Offers.{Offer}
 use Rattle.round_core.specs.declared.picks.LookedUp.{LookedUp}
 use Rattle.round_core.specs.PickNumbers.{IsPickNumber, pick_in}
 use Rattle.round_core.specs.Picks.{ArePicks, Counts}
-use Rattle.round_core.specs.Page.{named_links}
+use Rattle.round_core.specs.BookValue.{named_links}
 use Rattle.round_core.specs.LookedUp.{IsLookedUp, AreLookedUp, IsCountable, CountsFound}
 use Rattle.round_core.proofs.Counts.{AreCounted}
 use Rattle.round_core.proofs.PickNumbers.{picks_counted}

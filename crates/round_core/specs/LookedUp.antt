@@ -6,7 +6,7 @@ use Rattle.link_key.specs.Offers.{Offer}
 use Rattle.round_core.specs.declared.picks.LookedUp.{LookedUp}
 use Rattle.round_core.specs.PickNumbers.{IsKeyNumber, IsPickNumber}
 use Rattle.round_core.specs.Picks.{Counts}
-use Rattle.round_core.specs.Page.{named_links}
+use Rattle.round_core.specs.BookValue.{named_links}
 
 -- what was looked up of a link under the labels: the number of its key, and the labels of its ends, which differ
 pub record IsLookedUp (labels : List ℕ) (l : Link) (found : LookedUp) : Type 0 where

@@ -4,7 +4,7 @@ ghost use Rattle.link_key.specs.declared.links.Link.{Link as TheLink};
 ghost use Rattle.link_key.specs.Link.{EndsUpTo};
 ghost use Rattle.link_key.specs.Labels.{AreLabels};
 ghost use Rattle.round_theory.specs.Offers.{IsNamed};
-ghost use Rattle.round_core.specs.Page.{Page, opened, is_taken, missing, is_leaving, is_offer, refusal, heard, hearings, named_links, IsPage};
+ghost use Rattle.round_core.specs.BookValue.{BookValue, opened, is_taken, missing, is_leaving, is_offer, refusal, heard, hearings, named_links, IsBookValue};
 ghost use Rattle.round_core.specs.Picks.{ArePicks, AreNoPicks};
 
 use crate::picks::Picks;
@@ -34,10 +34,10 @@ pub struct RoundBook<'a, A: Allocator = Global> {
 }
 
 impl<'a, A: Allocator> Model for RoundBook<'a, A> {
-    ghost use Rattle.round_core.specs.Page.{Page, IsBook};
+    ghost use Rattle.round_core.specs.BookValue.{BookValue, IsBook};
     ghost use Rattle.std.specs.Prelude.{vec_capacity};
 
-    ghost Value = { Page };
+    ghost Value = { BookValue };
 
     ghost view = { λ s. record { round = s.round; cut = s.cut.now; labels = s.labels.now; taken = s.taken.items; answers = s.answers.items } };
 
@@ -181,7 +181,7 @@ impl<'a, A: Allocator> RoundBook<'a, A> {
     pub fn close(self) -> Picks<A>
         requires { missing self ≡ 0 }
         ensures picks { ArePicks self.entry.labels (IsNamed (hearings self.entry)) result }
-        ensures page { IsPage self.entry }
+        ensures value { IsBookValue self.entry }
     {
         let RoundBook {
             round: _,
@@ -205,7 +205,7 @@ impl<'a, A: Allocator + Copy + Send + Sync> RoundBook<'a, A> {
     pub fn close_par<R: Threads + Sync>(self, rt: &R) -> Picks<A>
         requires { missing self ≡ 0 }
         ensures picks { ArePicks self.entry.labels (IsNamed (hearings self.entry)) result }
-        ensures page { IsPage self.entry }
+        ensures value { IsBookValue self.entry }
     {
         let RoundBook {
             round: _,

@@ -1,5 +1,5 @@
 //! What the definitions themselves promise, each as the contract of a function that does nothing.
-ghost use Rattle.round_core.specs.Page.{LightOffersAreTaken, FullBookHasAllLinks, FullBookIsLeast};
+ghost use Rattle.round_core.specs.BookValue.{LightOffersAreTaken, FullBookHasAllLinks, FullBookIsLeast};
 ghost use Rattle.round_core.specs.SolverLaws.{StartIsBeforeRounds, StepByLeastIsRound, StepByLeastIsInTime, NoneMissedWhereAllRounds, FinishedIsForest};
 
 /// An honest answer for a missing shard is never refused: each light offer names a link that leaves its component.

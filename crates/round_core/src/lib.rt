@@ -13,7 +13,7 @@
 //! - Whatever was offered, a solver's links close no cycle, its labels are the labelling by them, and it finishes only
 //!   where they span; by the least links it makes just the merging rounds, and the forest.
 //!
-//! Where to start a change: `specs/Page` says what a book is and when it refuses, `specs/Picks` what picks are,
+//! Where to start a change: `specs/BookValue` says what a book is and when it refuses, `specs/Picks` what picks are,
 //! `specs/LookedUp` what is read of a batch of offers before it is counted, `specs/Hooks` how components are joined,
 //! `specs/Roots` how a solver joins those that are left, and `specs/Solver` what a round and the end are; `laws` ties
 //! them to the theory. `book`, `tally`, `picks`, `hooks`, `roots`, `solver` and `alone` do it.

@@ -4,7 +4,7 @@ ghost use Rattle.std.specs.List.{list_all};
 ghost use denote.Param.Send.{IsSync, IsSend, Frees};
 ghost use Rattle.link_key.specs.Link.{EndsUpTo};
 ghost use Rattle.link_key.specs.Labels.{AreLabels};
-ghost use Rattle.round_core.specs.Page.{is_offer, named_links, all_named, CanCount, CanCountOffers};
+ghost use Rattle.round_core.specs.BookValue.{is_offer, named_links, all_named, CanCount, CanCountOffers};
 ghost use Rattle.round_core.specs.Picks.{Counts};
 ghost use Rattle.round_core.specs.LookedUp.{AreLookedUp};
 

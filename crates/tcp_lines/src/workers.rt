@@ -5,7 +5,7 @@ ghost use Rattle.tcp_lines.specs.Lines.{unused};
 
 use crate::line::TcpLine;
 use crate::pairs::pair;
-use byte_streams::Untold;
+use byte_streams::Uncounted;
 use limits::MAX_WORKERS;
 use std::alloc::{AllocError, Global};
 use std::marker::Model;
@@ -98,8 +98,8 @@ fn start_one<R: Threads + Sync + Copy + Send + 'static>(
             &own,
             alloc,
             worker,
-            &mut Untold(&stream),
-            &mut Untold(&stream),
+            &mut Uncounted(&stream),
+            &mut Uncounted(&stream),
         );
     };
     thread::spawn(rt, serves).ok()

@@ -3,7 +3,7 @@ use Rattle.std.proofs.Common.{◌≡◌, ◌<◌, ℕ, List, [], ◌∷◌, ◌+
 use Rattle.std.proofs.lemmas.Bool.{cases_lt}
 use Rattle.std.proofs.lemmas.List.{get_or_append_left, get_or_push}
 use Rattle.std.proofs.lemmas.List.Elements.{All-nil, All-push}
-use Rattle.byte_streams.specs.Streams.{SourceState, SinkState, tells_held}
+use Rattle.byte_streams.specs.Streams.{SourceState, SinkState, only_held}
 use Rattle.byte_streams.proofs.Streaming.{gave_to_end, took_told}
 use Rattle.gr_text.specs.ForestText.{forest_text}
 use Rattle.gr_text.specs.Graph.{GraphValue}
@@ -46,7 +46,7 @@ text_is says bytes text s t a b told empty held ran =
     (ran.graph, ran.forest, record { file = subst (λ (xs : List ℕ). IsFileOf xs ran.graph) same ran.file; least = ran.found_is }, cc)
 
 -- a fault that fits a run into a sink that tells its bytes alone fits one into a sink that tells nothing
-pub unhindered : (why : RunFault) (a b : SinkState) → IsUnhindered {X = Unit {0}} (Err why) a b → IsUnhindered {X = Unit {0}} (Err why) (tells_held None) (tells_held None)
+pub unhindered : (why : RunFault) (a b : SinkState) → IsUnhindered {X = Unit {0}} (Err why) a b → IsUnhindered {X = Unit {0}} (Err why) (only_held None) (only_held None)
 unhindered (fault.Read why) a b is = is
 unhindered (fault.Cut why) a b is = is
 unhindered (fault.Rounds round) a b is = absurd is

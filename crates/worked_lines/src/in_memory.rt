@@ -2,7 +2,7 @@
 //! and a sink that tells those that it took.
 ghost use Rattle.std.specs.Prelude.{◌≡◌, ◌≤◌, None, length, All, IfOk};
 ghost use Rattle.limits.specs.declared.TheConstants.{MAX_WORKERS};
-ghost use Rattle.byte_streams.specs.Streams.{tells_held};
+ghost use Rattle.byte_streams.specs.Streams.{only_held};
 ghost use Rattle.ports.specs.EngineLines.{line_of, engine_line};
 ghost use Rattle.ports.specs.Lines.{HasRoom};
 ghost use Rattle.forest_run.specs.Files.{IsForestTextOf};
@@ -50,7 +50,7 @@ pub fn text_over_workers<A: Allocator + Copy + Send + Sync, R: Threads + Wait + 
 
     // Where the cut of the file's graph is allowed, want of memory alone can hinder it.
     ensures ends_well { MeansGraphToCut cutting.entry bytes.now
-        → IsUnhindered result (tells_held None) (tells_held None) }
+        → IsUnhindered result (only_held None) (only_held None) }
 {
     let Ok(lines) = engines(alloc, workers) else {
         return Err(RunFault::Memory);

@@ -61,7 +61,7 @@ const ANSWER: [u8; 41] = [
     0, 0, 0, 0, 0, 3, 0, 0, 0, 2,
 ];
 
-const NOT_HELD: [u8; 14] = [5, 0, 0, 0, 9, 0, 0, 0, 1, 0, 0, 0, 0, 2];
+const NOT_KEPT: [u8; 14] = [5, 0, 0, 0, 9, 0, 0, 0, 1, 0, 0, 0, 0, 2];
 
 const NO_LABEL: [u8; 14] = [5, 0, 0, 0, 9, 0, 0, 0, 1, 0, 0, 0, 0, 3];
 
@@ -153,7 +153,7 @@ fn sessions_over_the_triangle(rt: HostRuntime) -> Result<(), Fail> {
     let sessions: [(&[&[u8]], Result<Served, ServeFault>, &[&[u8]]); 10] = [
         (&[&SHARD, &ASK], served(2, 1, 0), &[&HELLO, &ANSWER]),
         (&[&SHARD, &ASK[..10]], torn, &[&HELLO]),
-        (&[&ASK], served(1, 0, 1), &[&HELLO, &NOT_HELD]),
+        (&[&ASK], served(1, 0, 1), &[&HELLO, &NOT_KEPT]),
         (&[&SHARD, &SHORT_ASK], served(2, 0, 1), &[&HELLO, &NO_LABEL]),
         (
             &[&FIRST_HELLO, &SHARD, &ASK],
@@ -244,13 +244,13 @@ fn lawful_text(rt: &impl Abort, alloc: Global, frame: &Frame) -> Result<Vec<u8>,
 
 // What a worker hears, and what it replies.
 const HEARD: [(&[u8], Option<&[u8]>); 8] = [
-    (&ASK, Some(&NOT_HELD)),
+    (&ASK, Some(&NOT_KEPT)),
     (&SHARD, None),
     (&ASK, Some(&ANSWER)),
     (&SHORT_ASK, Some(&NO_LABEL)),
     (&FIRST_HELLO, None),
     (&ANSWER, None),
-    (&NOT_HELD, None),
+    (&NOT_KEPT, None),
     (&ASK, Some(&ANSWER)),
 ];
 

@@ -1,7 +1,7 @@
 // Books closed in threads: the picks are those of closing in one, and the least of what was offered, whether the offers
 // are worth threads or too few, of equal links and of links of equal weight, and whoever answers first.
 ghost use Rattle.std.specs.Prelude.{◌≡◌, ◌<◌, ◌≤◌, ◌^◌, length, IfOk};
-ghost use Rattle.round_core.specs.Page.{missing};
+ghost use Rattle.round_core.specs.BookValue.{missing};
 
 use crate::rounds::opened;
 use frames::Answer;

@@ -20,7 +20,7 @@ type Worker<'a> = Lane<Wire<'a, EngineLine<Global>, Global>, Global>;
 // A lane to the worker of this number.
 fn lane<'a>(alloc: Global, cut: &'a Cut<'a>, worker: u32) -> Result<Worker<'a>, AllocError>
     requires { worker < 64 }
-    ensures cut { IfOk result (λ lane. lane.port.talk.cut ≡ cut.now) }
+    ensures cut { IfOk result (λ lane. lane.port.client.cut ≡ cut.now) }
     ensures asks { IfOk result (λ lane. lane.port.asks ≡ 0) }
     ensures idle { IfOk result IsIdle }
 {
@@ -32,7 +32,7 @@ fn lane<'a>(alloc: Global, cut: &'a Cut<'a>, worker: u32) -> Result<Worker<'a>, 
 fn lanes<'a>(alloc: Global, cut: &'a Cut<'a>, count: u32) -> Result<Vec<Worker<'a>>, AllocError>
     requires { count ≤ 64 }
     ensures count { IfOk result (λ lanes. length lanes.items ≡ count) }
-    ensures cut { IfOk result (λ lanes. All (λ lane. lane.port.talk.cut ≡ cut.now) lanes.items) }
+    ensures cut { IfOk result (λ lanes. All (λ lane. lane.port.client.cut ≡ cut.now) lanes.items) }
     ensures asks { IfOk result (λ lanes. All (λ lane. lane.port.asks ≡ 0) lanes.items) }
     ensures idle { IfOk result (λ lanes. All IsIdle lanes.items) }
 {

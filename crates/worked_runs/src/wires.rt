@@ -28,7 +28,7 @@ const CLOSED: Reply = Err(PortFault::Closed);
 
 const HELLO: [u8; 11] = [1, 0, 0, 0, 6, 0, 1, 0, 0, 0, 0];
 
-const NOT_HELD: [u8; 14] = [5, 0, 0, 0, 9, 0, 0, 0, 1, 0, 0, 0, 5, 2];
+const NOT_KEPT: [u8; 14] = [5, 0, 0, 0, 9, 0, 0, 0, 1, 0, 0, 0, 5, 2];
 
 // A head of no kind.
 const NO_KIND: [u8; 5] = [7, 0, 0, 0, 0];
@@ -80,7 +80,7 @@ fn take_steps<P: Port<Global>>(
 /// Arcs between vertices 1 to n, in so many even shards; what is done with a wire that asks for them, and how many asks it
 /// counts.
 #[derive(Clone, Copy)]
-struct Talk<'a> {
+struct Client<'a> {
     n: u32,
     arcs: &'a [Row],
     shards: u32,
@@ -88,24 +88,24 @@ struct Talk<'a> {
     asks: u64,
 }
 
-// A new wire over the line talks so. What the line is then.
-fn expect_talk<L: Line + Drop>(
+// A new wire over the line transcripts so. What the line is then.
+fn expect_transcript<L: Line + Drop>(
     rt: &impl Abort,
     alloc: Global,
-    talk: Talk,
+    client: Client,
     line: L,
     worker: u32,
 ) -> Result<L, Fail>
     requires worker { worker < 64 }
     requires room { HasRoom (L.state line) }
 {
-    let links = links_to_cut(rt, alloc, talk.n, talk.arcs)?;
-    assert!(rt; talk.n <= 1 << 26);
-    let cut = Cut::even(alloc, links.as_slice(), talk.shards).expect(rt, "a cut");
-    let labels = Labels::apart(alloc, talk.n)?;
+    let links = links_to_cut(rt, alloc, client.n, client.arcs)?;
+    assert!(rt; client.n <= 1 << 26);
+    let cut = Cut::even(alloc, links.as_slice(), client.shards).expect(rt, "a cut");
+    let labels = Labels::apart(alloc, client.n)?;
     let mut wire = Wire::new(alloc, line, &cut, worker);
-    take_steps(rt, &mut wire, &cut, &labels, talk.steps);
-    assert_eq!(rt; wire.asks(), talk.asks);
+    take_steps(rt, &mut wire, &cut, &labels, client.steps);
+    assert_eq!(rt; wire.asks(), client.asks);
     Ok(wire.into_line())
 }
 
@@ -122,14 +122,14 @@ fn expect_two<L: Line + Drop>(
 {
     let steps = [Step::Ask(1, 0, replies.0), Step::Ask(2, 0, replies.1)];
     let asks = if replies.1 == CLOSED { 1 } else { 2 };
-    let talk = Talk {
+    let client = Client {
         n: 3,
         arcs: EQUAL_WEIGHTS.arcs,
         shards: 1,
         steps: &steps,
         asks,
     };
-    expect_talk(rt, alloc, talk, line, worker)?;
+    expect_transcript(rt, alloc, client, line, worker)?;
     Ok(())
 }
 
@@ -172,14 +172,14 @@ fn a_wire_that_was_shut(rt: HostRuntime) -> Result<(), Fail> {
     let alloc = rt.alloc();
     let line = EngineLine::new(alloc, 0)?;
     let steps = [Step::Ask(1, 0, OFFERS), Step::Shut, Step::Ask(2, 0, CLOSED)];
-    let talk = Talk {
+    let client = Client {
         n: 3,
         arcs: EQUAL_WEIGHTS.arcs,
         shards: 1,
         steps: &steps,
         asks: 1,
     };
-    expect_talk(&rt, alloc, talk, line, 0)?;
+    expect_transcript(&rt, alloc, client, line, 0)?;
     Ok(())
 }
 
@@ -198,13 +198,13 @@ fn a_script_in_place_of_a_worker(rt: HostRuntime) -> Result<(), Fail> {
     let alloc = rt.alloc();
     let scripts: [(u32, &[&[u8]], PortFault); 9] = [
         (1, &[&HELLO], PortFault::WrongHello),
-        (0, &[&NOT_HELD], PortFault::WrongHello),
-        (0, &[&HELLO, &NOT_HELD], PortFault::Gave(2)),
+        (0, &[&NOT_KEPT], PortFault::WrongHello),
+        (0, &[&HELLO, &NOT_KEPT], PortFault::Gave(2)),
         (0, &[&HELLO, &HELLO], PortFault::Garbled),
         (0, &[&HELLO, &NO_KIND], PortFault::Garbled),
         (0, &[&NO_KIND], PortFault::Garbled),
         (0, &[&HELLO], PortFault::Down),
-        (0, &[&HELLO, &NOT_HELD[..13]], PortFault::Down),
+        (0, &[&HELLO, &NOT_KEPT[..13]], PortFault::Down),
         (0, &[], PortFault::Down),
     ];
     for (worker, parts, fault) in scripts {
@@ -277,17 +277,17 @@ fn text_of(alloc: Global, frames: &[Numbers]) -> Result<Vec<u8>, AllocError> {
     Ok(text)
 }
 
-// A new wire over the line talks so, and puts these frames meanwhile, each by one put.
+// A new wire over the line transcripts so, and puts these frames meanwhile, each by one put.
 fn expect_put<L: Line + Drop>(
     rt: &impl Abort,
     alloc: Global,
-    talk: Talk,
+    client: Client,
     line: L,
     frames: &[Numbers],
 ) -> Result<(), Fail>
     requires room { HasRoom (L.state line) }
 {
-    let line = expect_talk(rt, alloc, talk, kept_line(alloc, line), 0)?;
+    let line = expect_transcript(rt, alloc, client, kept_line(alloc, line), 0)?;
     assert!(rt; line.are_all_kept && line.puts == frames.len());
     assert_eq!(rt; line.kept.as_slice(), text_of(alloc, frames)?.as_slice());
     Ok(())
@@ -324,20 +324,20 @@ fn a_worker_of_the_first_version(rt: HostRuntime) -> Result<(), Fail> {
         Step::Ask(1, 0, CLOSED),
         Step::Ask(1, 1, CLOSED),
     ];
-    let talks: [(&[Step], u64, &[Numbers]); 2] = [
+    let transcripts: [(&[Step], u64, &[Numbers]); 2] = [
         (&steps, 2, &[NARROW_SHARD, NARROW_ASK]),
         (&steps[1..], 1, &[]),
     ];
-    for (steps, asks, put) in talks {
+    for (steps, asks, put) in transcripts {
         let line = ScriptLine::new(script(alloc, &[&HELLO, &answer])?);
-        let talk = Talk {
+        let client = Client {
             n: 3,
             arcs: &NARROW_AND_WIDE,
             shards: 2,
             steps,
             asks,
         };
-        expect_put(&rt, alloc, talk, line, put)?;
+        expect_put(&rt, alloc, client, line, put)?;
     }
     Ok(())
 }
@@ -352,14 +352,14 @@ fn shards_of_64_bits(rt: HostRuntime) -> Result<(), Fail> {
         Step::Ask(2, 1, WIDE),
     ];
     let put = [NARROW_SHARD, NARROW_ASK, WIDE_SHARD, WIDE_ASK, AGAIN];
-    let talk = Talk {
+    let client = Client {
         n: 3,
         arcs: &NARROW_AND_WIDE,
         shards: 2,
         steps: &steps,
         asks: 3,
     };
-    expect_put(&rt, alloc, talk, EngineLine::new(alloc, 0)?, &put)
+    expect_put(&rt, alloc, client, EngineLine::new(alloc, 0)?, &put)
 }
 
 // The two shards of the triangle, and asks for them under three labels.
@@ -382,14 +382,14 @@ fn each_shard_is_sent_before_its_first_ask_alone(rt: HostRuntime) -> Result<(), 
         (3, &[2, 0, 3, 1, 2, 3]),
         (3, &[2, 1, 3, 1, 2, 3]),
     ];
-    let talk = Talk {
+    let client = Client {
         n: 3,
         arcs: EQUAL_WEIGHTS.arcs,
         shards: 2,
         steps: &steps,
         asks: 4,
     };
-    expect_put(&rt, alloc, talk, EngineLine::new(alloc, 0)?, &put)
+    expect_put(&rt, alloc, client, EngineLine::new(alloc, 0)?, &put)
 }
 
 // Two asks under these labels of vertices that are apart, of which the first and the last are linked, over a new wire
@@ -475,14 +475,14 @@ fn a_wire_at_ten_thousand_links(rt: HostRuntime) -> Result<(), Fail> {
     }
     let reply: Reply = Ok(offers.as_slice());
     let steps = [Step::Ask(1, 0, reply), Step::Ask(2, 0, reply)];
-    let talk = Talk {
+    let client = Client {
         n: MANY + 1,
         arcs: arcs.as_slice(),
         shards: 1,
         steps: &steps,
         asks: 2,
     };
-    expect_talk(&rt, alloc, talk, EngineLine::new(alloc, 0)?, 0)?;
+    expect_transcript(&rt, alloc, client, EngineLine::new(alloc, 0)?, 0)?;
     Ok(())
 }
 
@@ -503,14 +503,14 @@ fn asks_at_their_bounds(rt: HostRuntime) -> Result<(), Fail> {
             Step::Ask(1, shard, reply),
             Step::Ask(u32::MAX, shard, reply),
         ];
-        let talk = Talk {
+        let client = Client {
             n,
             arcs,
             shards,
             steps: &steps,
             asks: 2,
         };
-        expect_talk(&rt, alloc, talk, EngineLine::new(alloc, 0)?, 0)?;
+        expect_transcript(&rt, alloc, client, EngineLine::new(alloc, 0)?, 0)?;
     }
     Ok(())
 }

@@ -23,8 +23,8 @@ fn expect_offers(
     round: u32,
     labels: &Labels,
 )
-    requires { wire.old.talk.cut ≡ cut.now }
-    ensures { wire.new.talk.cut ≡ cut.now }
+    requires { wire.old.client.cut ≡ cut.now }
+    ensures { wire.new.client.cut ≡ cut.now }
 {
     assert!(rt; 1 <= round && cut.len() == 1 && wire.asks() < 100);
     assert!(rt; have_labels(cut.shard(0).links, labels.n()));

@@ -1,6 +1,6 @@
 // Readers and writers of std that fail once: the failure is told, and nothing is tried again.
 use crate::same::expect_same;
-use byte_streams::{Failed, FillFault, PutFault, Sink, Source, Untold, fill, put};
+use byte_streams::{Failed, FillFault, PutFault, Sink, Source, Uncounted, fill, put};
 use std::io;
 use std::io::{ErrorKind, Read, Write};
 use std::test::Fail;
@@ -45,7 +45,7 @@ impl Write for InterruptedWriter {
 
 #[test]
 fn an_interrupted_read_is_told_and_the_next_one_reads(rt: HostRuntime) {
-    let mut source = Untold(InterruptedReader {
+    let mut source = Uncounted(InterruptedReader {
         has_failed: false,
         bytes: b"p sp",
     });
@@ -57,7 +57,7 @@ fn an_interrupted_read_is_told_and_the_next_one_reads(rt: HostRuntime) {
 
 #[test]
 fn a_fill_ends_at_an_interrupted_read(rt: HostRuntime) {
-    let mut source = Untold(InterruptedReader {
+    let mut source = Uncounted(InterruptedReader {
         has_failed: false,
         bytes: b"p sp",
     });
@@ -69,7 +69,7 @@ fn a_fill_ends_at_an_interrupted_read(rt: HostRuntime) {
 
 #[test]
 fn an_interrupted_write_is_told_and_the_next_one_writes(rt: HostRuntime) {
-    let mut sink = Untold(InterruptedWriter {
+    let mut sink = Uncounted(InterruptedWriter {
         has_failed: false,
         taken: Vec::new(rt.alloc()),
     });
@@ -80,7 +80,7 @@ fn an_interrupted_write_is_told_and_the_next_one_writes(rt: HostRuntime) {
 
 #[test]
 fn a_put_ends_at_an_interrupted_write(rt: HostRuntime) {
-    let mut sink = Untold(InterruptedWriter {
+    let mut sink = Uncounted(InterruptedWriter {
         has_failed: false,
         taken: Vec::new(rt.alloc()),
     });
@@ -95,7 +95,7 @@ fn a_put_ends_at_an_interrupted_write(rt: HostRuntime) {
 
 #[test]
 fn a_failed_flush_is_told_and_takes_nothing(rt: HostRuntime) -> Result<(), Fail> {
-    let mut sink = Untold(InterruptedWriter {
+    let mut sink = Uncounted(InterruptedWriter {
         has_failed: true,
         taken: Vec::new(rt.alloc()),
     });

@@ -1,7 +1,7 @@
 // Sources and sinks, and those that fail at a chosen byte.
 use crate::same::expect_same;
 use byte_streams::{
-    Failed, FillFault, FusedSink, FusedSource, PutFault, Sink, Source, Untold, fill, put,
+    Failed, FillFault, FusedSink, FusedSource, PutFault, Sink, Source, Uncounted, fill, put,
 };
 use std::fs::{File, OpenOptions};
 use std::test::Fail;
@@ -131,11 +131,11 @@ fn stopped_sink_takes_nothing_more(rt: HostRuntime) -> Result<(), Fail> {
 
 #[test]
 fn wraps_other_readers_and_writers(rt: HostRuntime) -> Result<(), Fail> {
-    let mut source = Untold(b"hello".as_slice());
+    let mut source = Uncounted(b"hello".as_slice());
     let mut buf = [0; 4];
     expect_same(&rt, fill(&mut source, &mut buf), Ok(()));
     expect_same(&rt, buf.as_slice(), b"hell".as_slice());
-    let mut sink = Untold(Vec::new(rt.alloc()));
+    let mut sink = Uncounted(Vec::new(rt.alloc()));
     expect_same(&rt, put(&mut sink, 0, &buf), Ok(4));
     expect_same(&rt, sink.flush(), Ok(()));
     expect_same(&rt, sink.0.as_slice(), b"hell".as_slice());

@@ -15,77 +15,77 @@ use Rattle.frames.specs.FrameValue.{ShardFrame}
 use Rattle.worker_engine.specs.Serving.{shelf_of, shelf_with}
 use Rattle.worker_engine.proofs.Written.{live_links_coarser}
 use Rattle.worker_engine.specs.declared.live.LiveLink.{LiveLink}
-use Rattle.worker_engine.specs.Live.{Holding, AreLiveLinks, kept_in, IsLive, IsAllLive, AreAllLive, AreAllUnder}
+use Rattle.worker_engine.specs.Live.{KeptShardState, AreLiveLinks, shelf_list, IsLive, IsAllLive, AreAllLive, AreAllUnder}
 
-abbrev links_of : Holding → List Link
-links_of held = held.links
+abbrev links_of : KeptShardState → List Link
+links_of kept = kept.links
 
 -- what is kept under a number
-shelf_at : (shards : List (ℕ × Holding)) (s : ℕ) → shelf_of (kept_in shards) s ≡ option_map links_of (lookup (is_at (nat_cmp s)) shards)
+shelf_at : (shards : List (ℕ × KeptShardState)) (s : ℕ) → shelf_of (shelf_list shards) s ≡ option_map links_of (lookup (is_at (nat_cmp s)) shards)
 shelf_at shards s = lookup-map_values links_of (is_at (nat_cmp s)) shards
 
-pub shelf_some : (shards : List (ℕ × Holding)) (s : ℕ) (held : Holding) → Some held ≡ lookup (is_at (nat_cmp s)) shards → shelf_of (kept_in shards) s ≡ Some held.links
-shelf_some shards s held found = shelf_at shards s ∙ ap (λ o. option_map links_of o) (sym found)
+pub shelf_some : (shards : List (ℕ × KeptShardState)) (s : ℕ) (kept : KeptShardState) → Some kept ≡ lookup (is_at (nat_cmp s)) shards → shelf_of (shelf_list shards) s ≡ Some kept.links
+shelf_some shards s kept found = shelf_at shards s ∙ ap (λ o. option_map links_of o) (sym found)
 
-pub shelf_none : (shards : List (ℕ × Holding)) (s : ℕ) → None ≡ lookup (is_at (nat_cmp s)) shards → shelf_of (kept_in shards) s ≡ None
+pub shelf_none : (shards : List (ℕ × KeptShardState)) (s : ℕ) → None ≡ lookup (is_at (nat_cmp s)) shards → shelf_of (shelf_list shards) s ≡ None
 shelf_none shards s none = shelf_at shards s ∙ ap (λ o. option_map links_of o) (sym none)
 
-pub held_at : {T E : Type 0} (result : Result T E) (shards : List (ℕ × Holding)) (s : ℕ) (held : Holding) → Some held ≡ lookup (is_at (nat_cmp s)) shards
-    → OnErr result (IsSome (shelf_of (kept_in shards) s))
-held_at (Ok x) shards s held found = tt
-held_at (Err e) shards s held found = subst (λ (o : Option (List Link)). IsSome o) (sym (shelf_some shards s held found)) refl
+pub kept_at : {T E : Type 0} (result : Result T E) (shards : List (ℕ × KeptShardState)) (s : ℕ) (kept : KeptShardState) → Some kept ≡ lookup (is_at (nat_cmp s)) shards
+    → OnErr result (IsSome (shelf_of (shelf_list shards) s))
+kept_at (Ok x) shards s kept found = tt
+kept_at (Err e) shards s kept found = subst (λ (o : Option (List Link)). IsSome o) (sym (shelf_some shards s kept found)) refl
 
 -- a value with the same links is written
-pub kept_same : (test : ℕ → Bool) (shards : List (ℕ × Holding)) (held new : Holding) → Some held ≡ lookup test shards → new.links ≡ held.links → kept_in (set_value test shards new) ≡ kept_in shards
-kept_same test [] held new found same = refl
-kept_same test (e ∷ es) held new found same = go (test e.0) found (λ there. kept_same test es held new there same)
+pub kept_same : (test : ℕ → Bool) (shards : List (ℕ × KeptShardState)) (kept new : KeptShardState) → Some kept ≡ lookup test shards → new.links ≡ kept.links → shelf_list (set_value test shards new) ≡ shelf_list shards
+kept_same test [] kept new found same = refl
+kept_same test (e ∷ es) kept new found same = go (test e.0) found (λ there. kept_same test es kept new there same)
   where
-    go : (b : Bool) → Some held ≡ cond b (Some e.1) (lookup test es) → (Some held ≡ lookup test es → kept_in (set_value test es new) ≡ kept_in es) → kept_in (cond b ((e.0, new) ∷ es) (e ∷ set_value test es new)) ≡ kept_in (e ∷ es)
+    go : (b : Bool) → Some kept ≡ cond b (Some e.1) (lookup test es) → (Some kept ≡ lookup test es → shelf_list (set_value test es new) ≡ shelf_list es) → shelf_list (cond b ((e.0, new) ∷ es) (e ∷ set_value test es new)) ≡ shelf_list (e ∷ es)
     go true found later =
-        let is : held ≡ e.1 = cc in
-        ap (λ (l : List Link). (e.0, l) ∷ kept_in es) (same ∙ ap links_of is)
+        let is : kept ≡ e.1 = cc in
+        ap (λ (l : List Link). (e.0, l) ∷ shelf_list es) (same ∙ ap links_of is)
     go false found later = ap (λ (t : List (ℕ × List Link)). (e.0, e.1.links) ∷ t) (later found)
 
 -- all values are written, each with the same links, all of them live
-pub kept_by_retain : {F : Type 0} (T : F → ℕ → Holding → Bool → Holding → F → Type 0)
-    → ((f : F) (k : ℕ) (v : Holding) (b : Bool) (w : Holding) (f' : F) → T f k v b w f' → (b ≡ true) × (w.links ≡ v.links) × IsAllLive w)
-    → (f : F) (es kept : List (ℕ × Holding)) → RetainsPairs T f es kept → (kept_in kept ≡ kept_in es) × AreAllLive kept
-kept_by_retain T each f [] kept is = (ap (λ (t : List (ℕ × Holding)). kept_in t) is, λ s. subst (λ t. IfSome (lookup (is_at (nat_cmp s)) t) IsAllLive) (sym is) tt)
+pub kept_by_retain : {F : Type 0} (T : F → ℕ → KeptShardState → Bool → KeptShardState → F → Type 0)
+    → ((f : F) (k : ℕ) (v : KeptShardState) (b : Bool) (w : KeptShardState) (f' : F) → T f k v b w f' → (b ≡ true) × (w.links ≡ v.links) × IsAllLive w)
+    → (f : F) (es kept : List (ℕ × KeptShardState)) → RetainsPairs T f es kept → (shelf_list kept ≡ shelf_list es) × AreAllLive kept
+kept_by_retain T each f [] kept is = (ap (λ (t : List (ℕ × KeptShardState)). shelf_list t) is, λ s. subst (λ t. IfSome (lookup (is_at (nat_cmp s)) t) IsAllLive) (sym is) tt)
 kept_by_retain T each f (e ∷ es) kept (b, w, f', rest, called, more, is) =
     let (keeps, same, live) = each f e.0 e.1 b w f' called in
     let (others, all) = kept_by_retain T each f' es rest more in
     let here : kept ≡ (e.0, w) ∷ rest = is ∙ ap (λ (k : Bool). cond k ((e.0, w) ∷ rest) rest) keeps in (
-      ap (λ (t : List (ℕ × Holding)). kept_in t) here ∙ ap (λ (l : List Link). (e.0, l) ∷ kept_in rest) same ∙ ap (λ (t : List (ℕ × List Link)). (e.0, e.1.links) ∷ t) others,
+      ap (λ (t : List (ℕ × KeptShardState)). shelf_list t) here ∙ ap (λ (l : List Link). (e.0, l) ∷ shelf_list rest) same ∙ ap (λ (t : List (ℕ × List Link)). (e.0, e.1.links) ∷ t) others,
       λ s. subst (λ t. IfSome (lookup (is_at (nat_cmp s)) t) IsAllLive) (sym here) (found s (is_at (nat_cmp s) e.0) w rest live (all s)),
     )
   where
-    found : (s : ℕ) (b : Bool) (w : Holding) (rest : List (ℕ × Holding)) → IsAllLive w → IfSome (lookup (is_at (nat_cmp s)) rest) IsAllLive → IfSome (cond b (Some w) (lookup (is_at (nat_cmp s)) rest)) IsAllLive
+    found : (s : ℕ) (b : Bool) (w : KeptShardState) (rest : List (ℕ × KeptShardState)) → IsAllLive w → IfSome (lookup (is_at (nat_cmp s)) rest) IsAllLive → IfSome (cond b (Some w) (lookup (is_at (nat_cmp s)) rest)) IsAllLive
     found s true w rest live all = live
     found s false w rest live all = all
 
 -- where all are live, they are so under any labels
-pub live_under : (labels : List ℕ) (shards : List (ℕ × Holding)) → AreAllLive shards → AreAllUnder labels shards
+pub live_under : (labels : List ℕ) (shards : List (ℕ × KeptShardState)) → AreAllLive shards → AreAllUnder labels shards
 live_under labels shards all s = go (lookup (is_at (nat_cmp s)) shards) (all s)
   where
-    go : (o : Option Holding) → IfSome o IsAllLive → IfSome o (IsLive labels)
+    go : (o : Option KeptShardState) → IfSome o IsAllLive → IfSome o (IsLive labels)
     go None none = tt
-    go (Some held) live = subst (λ told. IfSome told (AreLiveLinks held.links labels)) (sym live) tt
+    go (Some kept) live = subst (λ told. IfSome told (AreLiveLinks kept.links labels)) (sym live) tt
 
 -- what is quiet stays so under labels that coarsen
-pub under_coarser : (labels finer : List ℕ) (shards : List (ℕ × Holding)) → Coarsens labels finer → AreAllUnder finer shards → AreAllUnder labels shards
+pub under_coarser : (labels finer : List ℕ) (shards : List (ℕ × KeptShardState)) → Coarsens labels finer → AreAllUnder finer shards → AreAllUnder labels shards
 under_coarser labels finer shards coarsens all s = go (lookup (is_at (nat_cmp s)) shards) (all s)
   where
-    go : (o : Option Holding) → IfSome o (IsLive finer) → IfSome o (IsLive labels)
+    go : (o : Option KeptShardState) → IfSome o (IsLive finer) → IfSome o (IsLive labels)
     go None none = tt
-    go (Some held) live = told held.live live
+    go (Some kept) live = told kept.live live
       where
-        told : (live : Option (List LiveLink)) → IfSome live (AreLiveLinks held.links finer) → IfSome live (AreLiveLinks held.links labels)
+        told : (live : Option (List LiveLink)) → IfSome live (AreLiveLinks kept.links finer) → IfSome live (AreLiveLinks kept.links labels)
         told None none = tt
-        told (Some live) are = live_links_coarser held.links labels finer live coarsens are
+        told (Some live) are = live_links_coarser kept.links labels finer live coarsens are
 
 -- a shard that is found
-pub live_there : (labels : List ℕ) (shards : List (ℕ × Holding)) (s : ℕ) (held : Holding) → Some held ≡ lookup (is_at (nat_cmp s)) shards → AreAllUnder labels shards → IsLive labels held
-live_there labels shards s held found all = subst (λ o. IfSome o (IsLive labels)) (sym found) (all s)
+pub live_there : (labels : List ℕ) (shards : List (ℕ × KeptShardState)) (s : ℕ) (kept : KeptShardState) → Some kept ≡ lookup (is_at (nat_cmp s)) shards → AreAllUnder labels shards → IsLive labels kept
+live_there labels shards s kept found all = subst (λ o. IfSome o (IsLive labels)) (sym found) (all s)
 
 -- a number is found by itself alone
 at_key : (n q : ℕ) → is_at (nat_cmp n) q ≡ (q == n)
@@ -97,22 +97,22 @@ at_key n q = elim (cases_eq q n) [
   ]
 ]
 
-module _ (old new : List (ℕ × Holding)) (number : ℕ) (held : Holding) (inserted : (q : ℕ) → lookup (is_at (nat_cmp q)) new ≡ cond (is_at (nat_cmp number) q) (Some held) (lookup (is_at (nat_cmp q)) old)) where
+module _ (old new : List (ℕ × KeptShardState)) (number : ℕ) (kept : KeptShardState) (inserted : (q : ℕ) → lookup (is_at (nat_cmp q)) new ≡ cond (is_at (nat_cmp number) q) (Some kept) (lookup (is_at (nat_cmp q)) old)) where
   -- a shard is kept in place of an earlier one
-  pub shelf_inserted : shelf_of (kept_in new) ≡ shelf_with (shelf_of (kept_in old)) (ShardFrame number held.links)
+  pub shelf_inserted : shelf_of (shelf_list new) ≡ shelf_with (shelf_of (shelf_list old)) (ShardFrame number kept.links)
   shelf_inserted = λ i s. at s i
     where
-      go : (s : ℕ) (b : Bool) → option_map links_of (cond b (Some held) (lookup (is_at (nat_cmp s)) old)) ≡ cond b (Some held.links) (shelf_of (kept_in old) s)
+      go : (s : ℕ) (b : Bool) → option_map links_of (cond b (Some kept) (lookup (is_at (nat_cmp s)) old)) ≡ cond b (Some kept.links) (shelf_of (shelf_list old) s)
       go s true = refl
       go s false = sym (shelf_at old s)
 
-      at : (s : ℕ) → shelf_of (kept_in new) s ≡ cond (s == number) (Some held.links) (shelf_of (kept_in old) s)
-      at s = shelf_at new s ∙ ap (λ o. option_map links_of o) (inserted s) ∙ go s (is_at (nat_cmp number) s) ∙ ap (λ (b : Bool). cond b (Some held.links) (shelf_of (kept_in old) s)) (at_key number s)
+      at : (s : ℕ) → shelf_of (shelf_list new) s ≡ cond (s == number) (Some kept.links) (shelf_of (shelf_list old) s)
+      at s = shelf_at new s ∙ ap (λ o. option_map links_of o) (inserted s) ∙ go s (is_at (nat_cmp number) s) ∙ ap (λ (b : Bool). cond b (Some kept.links) (shelf_of (shelf_list old) s)) (at_key number s)
 
   -- one all of whose links are live
-  pub under_inserted : (labels : List ℕ) → IsAllLive held → AreAllUnder labels old → AreAllUnder labels new
+  pub under_inserted : (labels : List ℕ) → IsAllLive kept → AreAllUnder labels old → AreAllUnder labels new
   under_inserted labels live all s = subst (λ o. IfSome o (IsLive labels)) (sym (inserted s)) (go (is_at (nat_cmp number) s))
     where
-      go : (b : Bool) → IfSome (cond b (Some held) (lookup (is_at (nat_cmp s)) old)) (IsLive labels)
-      go true = subst (λ told. IfSome told (AreLiveLinks held.links labels)) (sym live) tt
+      go : (b : Bool) → IfSome (cond b (Some kept) (lookup (is_at (nat_cmp s)) old)) (IsLive labels)
+      go true = subst (λ told. IfSome told (AreLiveLinks kept.links labels)) (sym live) tt
       go false = all s

@@ -13,7 +13,7 @@ use Rattle.round_theory.specs.Offers.{AreLightOffers}
 use Rattle.frames.specs.FrameValue.{FrameValue}
 use Rattle.frames.specs.Lawful.{IsLawful, IsAsk}
 use Rattle.worker_engine.specs.declared.live.LiveLink.{LiveLink}
-use Rattle.worker_engine.specs.Serving.{Kept, IsReply}
+use Rattle.worker_engine.specs.Serving.{ShelfList, IsReply}
 
 -- both ends of the link have one label
 pub record IsQuiet (labels : List ℕ) (l : Link) : Type 0 where
@@ -56,7 +56,7 @@ abbrev pub relabelled : List ℕ → LiveLink → LiveLink
 relabelled labels l = record { low = label_of labels l.low; high = label_of labels l.high; weight = l.weight; place = l.place }
 
 -- a shard's links, and which of them are live: all, or those that are told
-pub record Holding : Type 0 where
+pub record KeptShardState : Type 0 where
   pub links : List Link
   pub live : Option (List LiveLink)
 
@@ -75,21 +75,21 @@ IsReplyWith round shard offers v = (links : List Link) (labels : List ℕ) → l
     → AreOffersOf links labels offers → IsReply (Some links) round shard labels v × IsLawful v
 
 -- where live links are kept, they are those of the shard's links under these labels
-abbrev pub IsLive : List ℕ → Holding → Type 0
-IsLive labels held = IfSome held.live (AreLiveLinks held.links labels)
+abbrev pub IsLive : List ℕ → KeptShardState → Type 0
+IsLive labels kept = IfSome kept.live (AreLiveLinks kept.links labels)
 
 -- all links are live
-abbrev pub IsAllLive : Holding → Type 0
-IsAllLive held = held.live ≡ None
+abbrev pub IsAllLive : KeptShardState → Type 0
+IsAllLive kept = kept.live ≡ None
 
 -- what is kept, without what is live of it
-abbrev pub kept_in : List (ℕ × Holding) → Kept
-kept_in shards = map (λ (entry : ℕ × Holding). (entry.0, entry.1.links)) shards
+abbrev pub shelf_list : List (ℕ × KeptShardState) → ShelfList
+shelf_list shards = map (λ (entry : ℕ × KeptShardState). (entry.0, entry.1.links)) shards
 
 -- of each shard
-abbrev pub AreAllUnder : List ℕ → List (ℕ × Holding) → Type 0
+abbrev pub AreAllUnder : List ℕ → List (ℕ × KeptShardState) → Type 0
 AreAllUnder labels shards = (s : ℕ) → IfSome (lookup (is_at (nat_cmp s)) shards) (IsLive labels)
 
 -- all links of all shards are live
-abbrev pub AreAllLive : List (ℕ × Holding) → Type 0
+abbrev pub AreAllLive : List (ℕ × KeptShardState) → Type 0
 AreAllLive shards = (s : ℕ) → IfSome (lookup (is_at (nat_cmp s)) shards) IsAllLive

@@ -22,11 +22,11 @@ abbrev pub empty_shelf : Shelf
 empty_shelf = λ s. None
 
 -- shards that are kept, each with its number
-abbrev pub Kept : Type 0
-Kept = List (ℕ × List Link)
+abbrev pub ShelfList : Type 0
+ShelfList = List (ℕ × List Link)
 
 -- the links that are kept under a number
-abbrev pub shelf_of : Kept → Shelf
+abbrev pub shelf_of : ShelfList → Shelf
 shelf_of kept = λ s. lookup (is_at (nat_cmp s)) kept
 
 -- none has more links than a shard may have

@@ -4,12 +4,12 @@ ghost use Rattle.frames.specs.FrameValue.{value_of, ShardFrame, FaultFrame};
 ghost use Rattle.frames.specs.Lawful.{IsLawful, IsShard, IsAsk};
 ghost use Rattle.frames.specs.FrameStream.{AreLawful};
 ghost use Rattle.worker_engine.specs.Serving.{shelf_of, shelf_with, IsReply, MayWantMemory, AreReplyTo, replies_in};
-ghost use Rattle.worker_engine.specs.Live.{kept_in, IsReplyWith, IsAllLive, AreAllLive, AreAllUnder};
+ghost use Rattle.worker_engine.specs.Live.{shelf_list, IsReplyWith, IsAllLive, AreAllLive, AreAllUnder};
 
 mod hearing;
 mod threads;
 
-use crate::held::Held;
+use crate::kept_shard::KeptShard;
 use crate::scanning::Scanner;
 use frames::{Answer, Frame, Links};
 pub(crate) use hearing::Owed;
@@ -21,8 +21,8 @@ use std::marker::Model;
 /// The code of a fault for want of memory.
 pub const NO_MEMORY: u8 = 1;
 
-/// The code of a fault for a shard that isn't held.
-pub const NOT_HELD: u8 = 2;
+/// The code of a fault for a shard that isn't kept.
+pub const NOT_KEPT: u8 = 2;
 
 /// The code of a fault for a link whose end has no label.
 pub const NO_LABEL: u8 = 3;
@@ -36,19 +36,19 @@ pub const NO_LABEL: u8 = 3;
 /// for the table. Where the labels of an ask don't coarsen them, the lists are given back, and all links are live again.
 #[derive(Drop)]
 pub struct Engine<A: Allocator = Global> {
-    shards: BTreeMap<u32, Held<A>, A>,
+    shards: BTreeMap<u32, KeptShard<A>, A>,
     // those of the last ask; at first of no vertices
     labels: Labels<A>,
     scanner: Scanner<A>,
 }
 
 impl<A: Allocator> Model for Engine<A> {
-    ghost use Rattle.worker_engine.specs.Serving.{Kept};
-    ghost use Rattle.worker_engine.specs.Live.{kept_in, AreAllUnder};
+    ghost use Rattle.worker_engine.specs.Serving.{ShelfList};
+    ghost use Rattle.worker_engine.specs.Live.{shelf_list, AreAllUnder};
 
-    ghost Value = { Kept };
+    ghost Value = { ShelfList };
 
-    ghost view = { λ e. kept_in e.shards.entries };
+    ghost view = { λ e. shelf_list e.shards.entries };
 
     ghost invariant = { λ e. AreAllUnder e.labels e.shards.entries };
 }
@@ -68,7 +68,7 @@ impl<A: Allocator + Copy> Engine<A> {
     /// Hears one frame, and gives the reply to it: one to an ask, none to any other frame.
     ///
     /// A shard is kept under its number, in place of an earlier one; its list is kept as it is, without a copy. An
-    /// ask is answered by the light offers of its shard, or by a fault: [`NOT_HELD`] where no such shard is kept,
+    /// ask is answered by the light offers of its shard, or by a fault: [`NOT_KEPT`] where no such shard is kept,
     /// else [`NO_LABEL`] where an end of a link is greater than the number of labels.
     ///
     /// An ask costs a scan, and memory for the offers; the table of the scan is used again. The only error is want
@@ -104,8 +104,8 @@ impl<A: Allocator + Copy> Engine<A> {
         ensures kept { OnOk result (shelf_of self.new ≡ shelf_with (shelf_of self.old) (ShardFrame number links)) }
         ensures unchanged { OnErr result (self.new ≡ self.old) }
     {
-        let held = Held::new(links);
-        self.shards.insert(number, held)?;
+        let kept = KeptShard::new(links);
+        self.shards.insert(number, kept)?;
         Ok(())
     }
 
@@ -115,7 +115,7 @@ impl<A: Allocator + Copy> Engine<A> {
         ensures reply { IfOk result (λ reply. IsReply (shelf_of self.old ask.shard) ask.round ask.shard labels (value_of reply)) }
         ensures lawful { IfOk result (λ reply. IsLawful (value_of reply)) }
         ensures unchanged { self.new ≡ self.old }
-        ensures held { OnErr result (IsSome (shelf_of self.old ask.shard)) }
+        ensures is_kept { OnErr result (IsSome (shelf_of self.old ask.shard)) }
     {
         make_live(&mut self.shards, &labels, &self.labels);
         self.labels = labels;
@@ -160,34 +160,34 @@ impl Ask {
 
 // The reply to an ask under the labels that the shards are live under.
 fn reply_under<A: Allocator + Copy>(
-    shards: &mut BTreeMap<u32, Held<A>, A>,
+    shards: &mut BTreeMap<u32, KeptShard<A>, A>,
     scanner: &mut Scanner<A>,
     labels: &Labels<A>,
     ask: Ask,
 ) -> Result<Frame<A>, AllocError>
     requires ask { IsAsk ask.round ask.shard labels.now }
     requires live { AreAllUnder labels.now shards.old.entries }
-    ensures reply { IfOk result (λ reply. IsReply (shelf_of (kept_in shards.old.entries) ask.shard) ask.round ask.shard labels.now (value_of reply)) }
+    ensures reply { IfOk result (λ reply. IsReply (shelf_of (shelf_list shards.old.entries) ask.shard) ask.round ask.shard labels.now (value_of reply)) }
     ensures lawful { IfOk result (λ reply. IsLawful (value_of reply)) }
-    ensures kept { kept_in shards.new.entries ≡ kept_in shards.old.entries }
+    ensures kept { shelf_list shards.new.entries ≡ shelf_list shards.old.entries }
     ensures live { AreAllUnder labels.now shards.new.entries }
-    ensures held { OnErr result (IsSome (shelf_of (kept_in shards.old.entries) ask.shard)) }
+    ensures is_kept { OnErr result (IsSome (shelf_of (shelf_list shards.old.entries) ask.shard)) }
 {
-    let Some(held) = shards.get_mut(&ask.shard) else {
-        return Ok(ask.fault(NOT_HELD));
+    let Some(kept) = shards.get_mut(&ask.shard) else {
+        return Ok(ask.fault(NOT_KEPT));
     };
-    let offers = held.offers(scanner, labels)?;
+    let offers = kept.offers(scanner, labels)?;
     Ok(ask.reply_with(offers))
 }
 
 // Makes all links of all shards live, but where labels coarsen those that the shards are live under.
 fn make_live<A: Allocator>(
-    shards: &mut BTreeMap<u32, Held<A>, A>,
+    shards: &mut BTreeMap<u32, KeptShard<A>, A>,
     labels: &Labels<A>,
     last: &Labels<A>,
 )
     requires { AreAllUnder last.now shards.old.entries }
-    ensures kept { kept_in shards.new.entries ≡ kept_in shards.old.entries }
+    ensures kept { shelf_list shards.new.entries ≡ shelf_list shards.old.entries }
     ensures live { AreAllUnder labels.now shards.new.entries }
 {
     if !labels.coarsens(last) {
@@ -196,15 +196,15 @@ fn make_live<A: Allocator>(
 }
 
 // Makes all links of all shards live.
-fn make_all_live<A: Allocator>(shards: &mut BTreeMap<u32, Held<A>, A>)
-    ensures kept { kept_in shards.new.entries ≡ kept_in shards.old.entries }
+fn make_all_live<A: Allocator>(shards: &mut BTreeMap<u32, KeptShard<A>, A>)
+    ensures kept { shelf_list shards.new.entries ≡ shelf_list shards.old.entries }
     ensures live { AreAllLive shards.new.entries }
 {
     shards.retain(
-        |_: &u32, held: &mut Held<A>| -> bool
-            ensures { (result ≡ true) × (held.exit.now.links ≡ held.entry.now.links) × IsAllLive held.exit.now }
+        |_: &u32, kept: &mut KeptShard<A>| -> bool
+            ensures { (result ≡ true) × (kept.exit.now.links ≡ kept.entry.now.links) × IsAllLive kept.exit.now }
         {
-            held.make_all_live();
+            kept.make_all_live();
             true
         },
     );

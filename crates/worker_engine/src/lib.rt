@@ -17,14 +17,14 @@
 //! Where to start a change: what may be written for a stream stands in `specs/Serving`, over whole streams, and how a
 //! session ends in `specs/Served`. `scanning` has the pass over the links (`specs/Scanning`), `table` what is kept for
 //! each label (`specs/Tables`), `batches` what is looked up before it is kept (`specs/Batches`), `live` the passes over
-//! live links (`specs/Live`), `parallel` those over `parts` of the links (`specs/Parts`), `held` lays links aside,
+//! live links (`specs/Live`), `parallel` those over `parts` of the links (`specs/Parts`), `kept_shard` lays links aside,
 //! `engine` keeps and replies, and `session` reads and writes.
 #![tactic(auto)]
 
 mod batches;
 mod engine;
 pub mod examples;
-mod held;
+mod kept_shard;
 pub mod laws;
 mod live;
 mod parallel;
@@ -33,6 +33,6 @@ mod scanning;
 mod session;
 mod table;
 
-pub use engine::{Engine, NO_LABEL, NO_MEMORY, NOT_HELD};
+pub use engine::{Engine, NO_LABEL, NO_MEMORY, NOT_KEPT};
 pub use scanning::{Scanner, scan, scan_par};
 pub use session::{ServeFault, Served, serve, serve_upto};

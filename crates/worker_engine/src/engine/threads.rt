@@ -4,10 +4,10 @@ ghost use Rattle.frames.specs.FrameValue.{value_of};
 ghost use Rattle.frames.specs.Lawful.{IsLawful, IsAsk};
 ghost use Rattle.frames.specs.FrameStream.{AreLawful};
 ghost use Rattle.worker_engine.specs.Serving.{shelf_of, shelf_with, IsReply, MayWantMemory, AreReplyTo, replies_in};
-ghost use Rattle.worker_engine.specs.Live.{kept_in, AreAllUnder};
+ghost use Rattle.worker_engine.specs.Live.{shelf_list, AreAllUnder};
 
-use super::{Ask, Engine, NOT_HELD, make_live};
-use crate::held::Held;
+use super::{Ask, Engine, NOT_KEPT, make_live};
+use crate::kept_shard::KeptShard;
 use crate::scanning::Scanner;
 use frames::Frame;
 use link_key::Labels;
@@ -57,7 +57,7 @@ impl<A: Allocator + Copy + Send + Sync> Engine<A> {
         ensures reply { IfOk result (λ reply. IsReply (shelf_of self.old ask.shard) ask.round ask.shard labels (value_of reply)) }
         ensures lawful { IfOk result (λ reply. IsLawful (value_of reply)) }
         ensures unchanged { self.new ≡ self.old }
-        ensures held { OnErr result (IsSome (shelf_of self.old ask.shard)) }
+        ensures is_kept { OnErr result (IsSome (shelf_of self.old ask.shard)) }
     {
         make_live(&mut self.shards, &labels, &self.labels);
         self.labels = labels;
@@ -68,22 +68,22 @@ impl<A: Allocator + Copy + Send + Sync> Engine<A> {
 // The reply to an ask, as `reply_under` gives it, by threads.
 pub(super) fn reply_under_par<R: Threads + Sync, A: Allocator + Copy + Send + Sync>(
     rt: &R,
-    shards: &mut BTreeMap<u32, Held<A>, A>,
+    shards: &mut BTreeMap<u32, KeptShard<A>, A>,
     scanner: &mut Scanner<A>,
     labels: &Labels<A>,
     ask: Ask,
 ) -> Result<Frame<A>, AllocError>
     requires ask { IsAsk ask.round ask.shard labels.now }
     requires live { AreAllUnder labels.now shards.old.entries }
-    ensures reply { IfOk result (λ reply. IsReply (shelf_of (kept_in shards.old.entries) ask.shard) ask.round ask.shard labels.now (value_of reply)) }
+    ensures reply { IfOk result (λ reply. IsReply (shelf_of (shelf_list shards.old.entries) ask.shard) ask.round ask.shard labels.now (value_of reply)) }
     ensures lawful { IfOk result (λ reply. IsLawful (value_of reply)) }
-    ensures kept { kept_in shards.new.entries ≡ kept_in shards.old.entries }
+    ensures kept { shelf_list shards.new.entries ≡ shelf_list shards.old.entries }
     ensures live { AreAllUnder labels.now shards.new.entries }
-    ensures held { OnErr result (IsSome (shelf_of (kept_in shards.old.entries) ask.shard)) }
+    ensures is_kept { OnErr result (IsSome (shelf_of (shelf_list shards.old.entries) ask.shard)) }
 {
-    let Some(held) = shards.get_mut(&ask.shard) else {
-        return Ok(ask.fault(NOT_HELD));
+    let Some(kept) = shards.get_mut(&ask.shard) else {
+        return Ok(ask.fault(NOT_KEPT));
     };
-    let offers = held.offers_par(rt, scanner, labels)?;
+    let offers = kept.offers_par(rt, scanner, labels)?;
     Ok(ask.reply_with(offers))
 }

@@ -1,5 +1,5 @@
 use Rattle.std.proofs.Common.{rules, ap, ℕ, List, Some, refl}
-use Rattle.byte_streams.specs.Streams.{tells_held}
+use Rattle.byte_streams.specs.Streams.{only_held}
 use Rattle.forest_run.specs.PlainRun.{IsPlainReport}
 use Rattle.std.proofs.lemmas.Result.{err_from_is_err_and}
 use Rattle.forest_run.proofs.PlainRunning.{fault_in_memory, text_in_memory}
@@ -22,8 +22,8 @@ returns-in_err-run_plain-clause-lawful g c =
 
 pub returns-clause-text : goal.returns-clause-text
 returns-clause-text g c =
-    text_in_memory (λ graph forest. IsPlainReport graph forest c.in_ok-run_plain.field-0) c.args.bytes.now _ _ _ (tells_held (Some c.new-text.result.items))
-    (tells_held (Some c.run_plain.new.sink.items)) refl (ap (λ (l : List ℕ). Some l) (search rules)) refl c.in_ok-run_plain.ensures.ran
+    text_in_memory (λ graph forest. IsPlainReport graph forest c.in_ok-run_plain.field-0) c.args.bytes.now _ _ _ (only_held (Some c.new-text.result.items))
+    (only_held (Some c.run_plain.new.sink.items)) refl (ap (λ (l : List ℕ). Some l) (search rules)) refl c.in_ok-run_plain.ensures.ran
 
 pub returns-clause-malformed : goal.returns-clause-malformed
 returns-clause-malformed g c =

@@ -4,7 +4,7 @@ use Rattle.forest_run.proofs.lines.close_lanes.Goals as goal
 
 pub loop-lane-preserved : goal.loop-lane-preserved
 loop-lane-preserved g c =
-    let line : c.into_line.result ≡ c.in-Some.lane.port.talk.line = c.into_line.ensures ∙ ap (λ w. w.talk.line) c.into_port.ensures in
+    let line : c.into_line.result ≡ c.in-Some.lane.port.client.line = c.into_line.ensures ∙ ap (λ w. w.client.line) c.into_port.ensures in
     record {
       split =
           rw (c.push_reserved.ensures.items, line)

@@ -41,33 +41,33 @@ close-requires g c =
 
 pub take_answers-requires : goal.take_answers-requires
 take_answers-requires g c =
-    let page = c.args.book.now in
+    let value = c.args.book.now in
     let long : length c.run.new.lanes ≡ length c.seat_lanes.new.lanes = omega arith in
-    let f : AllZip (RunsFerry g.P.Port page) c.seat_lanes.new.lanes c.run.new.lanes = each_from _ _ _ long c.run.ensures in
+    let f : AllZip (RunsFerry g.P.Port value) c.seat_lanes.new.lanes c.run.new.lanes = each_from _ _ _ long c.run.ensures in
     let back : c.unseat_lanes.new.row.items ≡ seats_of c.run.new.lanes = c.unseat_lanes.ensures.seats ∙ ap (λ xs. xs ++ seats_of c.run.new.lanes) c.seat_lanes.ensures.row.0 in
     let apart : Distinct (all_held c.unseat_lanes.new.row.items) = distinct_of _ c.close.ensures.apart in
-    let shards : all_held (seats_of c.run.new.lanes) ≡ shards_of (kept_answers c.run.new.lanes) = held_kept g.P.Port page c.seat_lanes.new.lanes c.run.new.lanes f in
+    let shards : all_held (seats_of c.run.new.lanes) ≡ shards_of (kept_answers c.run.new.lanes) = held_kept g.P.Port value c.seat_lanes.new.lanes c.run.new.lanes f in
     let different : Distinct (shards_of (kept_answers c.run.new.lanes)) = rw (← shards) (rw back at apart) in
     record {
       taken = rw (same_kept c.run.new.lanes c.unseat_lanes.new.lanes c.unseat_lanes.ensures.lanes)
-          (taken_of page (kept_answers c.run.new.lanes) different (kept_all g.P.Port page c.seat_lanes.new.lanes c.run.new.lanes f));
+          (taken_of value (kept_answers c.run.new.lanes) different (kept_all g.P.Port value c.seat_lanes.new.lanes c.run.new.lanes f));
     }
 
 pub returns-clause-went : goal.returns-clause-went
 returns-clause-went g c =
-    let page = c.args.book.now in
+    let value = c.args.book.now in
     let long : length c.run.new.lanes ≡ length c.seat_lanes.new.lanes = omega arith in
-    let f : AllZip (RunsFerry g.P.Port page) c.seat_lanes.new.lanes c.run.new.lanes = each_from _ _ _ long c.run.ensures in
+    let f : AllZip (RunsFerry g.P.Port value) c.seat_lanes.new.lanes c.run.new.lanes = each_from _ _ _ long c.run.ensures in
     let back : c.unseat_lanes.new.row.items ≡ seats_of c.run.new.lanes = c.unseat_lanes.ensures.seats ∙ ap (λ xs. xs ++ seats_of c.run.new.lanes) c.seat_lanes.ensures.row.0 in
     let apart : Distinct (all_held c.unseat_lanes.new.row.items) = distinct_of _ c.close.ensures.apart in
-    let shards : all_held (seats_of c.run.new.lanes) ≡ shards_of (kept_answers c.run.new.lanes) = held_kept g.P.Port page c.seat_lanes.new.lanes c.run.new.lanes f in
+    let shards : all_held (seats_of c.run.new.lanes) ≡ shards_of (kept_answers c.run.new.lanes) = held_kept g.P.Port value c.seat_lanes.new.lanes c.run.new.lanes f in
     let different : Distinct (shards_of (kept_answers c.run.new.lanes)) = rw (← shards) (rw back at apart) in
-    let taken = taken_of page (kept_answers c.run.new.lanes) different (kept_all g.P.Port page c.seat_lanes.new.lanes c.run.new.lanes f) in
+    let taken = taken_of value (kept_answers c.run.new.lanes) different (kept_all g.P.Port value c.seat_lanes.new.lanes c.run.new.lanes f) in
     let before : AllZip SamePort c.args.lanes.now c.seat_lanes.new.lanes = each_map (GainsSeat g.P.Port.state) SamePort (λ x y r. record { port = r.port }) _ _ c.seat_lanes.ensures.lanes in
     let after : AllZip SamePort c.run.new.lanes c.take_answers.new.lanes =
     each_then LosesSeat LosesAnswers SamePort (λ x y z r s. record { port = s.port ∙ r.port }) _ _ _ c.unseat_lanes.ensures.lanes c.take_answers.ensures.lanes in
-    passed_of g.P.Port page c.take_answers.new.book c.args.lanes.now c.seat_lanes.new.lanes c.run.new.lanes c.take_answers.new.lanes before f after different taken
-    (c.take_answers.ensures.page ∙ ap (with_answers page) (same_kept c.run.new.lanes c.unseat_lanes.new.lanes c.unseat_lanes.ensures.lanes))
+    passed_of g.P.Port value c.take_answers.new.book c.args.lanes.now c.seat_lanes.new.lanes c.run.new.lanes c.take_answers.new.lanes before f after different taken
+    (c.take_answers.ensures.value ∙ ap (with_answers value) (same_kept c.run.new.lanes c.unseat_lanes.new.lanes c.unseat_lanes.ensures.lanes))
 
 pub returns-clause-idle : goal.returns-clause-idle
 returns-clause-idle g c i d below =

@@ -1,6 +1,6 @@
 use Rattle.std.proofs.Common.{List, ℕ, ◌+◌, refl, subst, arith}
 use Rattle.round_theory.specs.Offers.{IsNamed}
-use Rattle.round_core.specs.Page.{opened, hearings}
+use Rattle.round_core.specs.BookValue.{opened, hearings}
 use Rattle.round_core.specs.Picks.{ArePicks}
 use Rattle.forest_run.specs.Rounds.{RunsRound}
 use Rattle.forest_run.proofs.Eaches.{each_refl}
@@ -21,9 +21,9 @@ run_round-requires-clause-wide g c κs within = rw (c.in_ok-book.ensures.opened,
 
 pub returns-in_err-book-clause-asked : goal.returns-in_err-book-clause-asked
 returns-in_err-book-clause-asked g c =
-    let page = opened c.round.result c.args.cut.now c.labels.result.now in
-    turn_asked g.P.Port c.round.result c.args.cut.now c.labels.result.now c.args.solver.now page c.args.lanes.now c.args.lanes.now c.round.ensures.round c.labels.ensures.labels c.round.ensures.progress c.requires.ends c.requires.few_shards
-    (passed_none g.P.Port page c.args.lanes.now c.args.lanes.now (each_refl SamePort c.args.lanes.now (λ x. record { port = refl })))
+    let value = opened c.round.result c.args.cut.now c.labels.result.now in
+    turn_asked g.P.Port c.round.result c.args.cut.now c.labels.result.now c.args.solver.now value c.args.lanes.now c.args.lanes.now c.round.ensures.round c.labels.ensures.labels c.round.ensures.progress c.requires.ends c.requires.few_shards
+    (passed_none g.P.Port value c.args.lanes.now c.args.lanes.now (each_refl SamePort c.args.lanes.now (λ x. record { port = refl })))
 
 pub returns-in_err-alone-clause-asked : goal.returns-in_err-alone-clause-asked
 returns-in_err-alone-clause-asked g c =
@@ -49,7 +49,7 @@ returns-clause-picked g c =
     record {
       book = book;
       went = went;
-      page = c.close_par.ensures.page;
+      value = c.close_par.ensures.value;
       picked = subst (λ (ls : List ℕ). ArePicks ls (IsNamed (hearings book)) c.close_par.result)
           (same_still g.P.Port round c.args.cut.now labels book c.args.lanes.now c.run_round.new.lanes c.in_ok-alone.alone went).labels c.close_par.ensures.picks;
     }

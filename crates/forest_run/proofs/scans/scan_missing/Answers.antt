@@ -1,5 +1,5 @@
 use Rattle.std.proofs.Common.{rules, arith, ◌≡◌, true}
-use Rattle.round_core.specs.Page.{is_taken}
+use Rattle.round_core.specs.BookValue.{is_taken}
 use Rattle.forest_run.proofs.Scanning.{scanned_then, scanned_long, scanned_cut, stays_taken, all_taken, round_after}
 use borrow.Author.Count.{below_more}
 use Rattle.forest_run.specs.Scanned.{ScansShards}

@@ -1,5 +1,5 @@
 use Rattle.std.proofs.Common.{◌≡◌, ◌≤◌, ◌<◌, ℕ, true}
-use Rattle.round_core.specs.Page.{is_taken}
+use Rattle.round_core.specs.BookValue.{is_taken}
 use Rattle.forest_run.specs.Scanned.{ScansShards}
 use Rattle.forest_run.proofs.scans.scan_missing.Given as goal
 

@@ -13,5 +13,5 @@ pub take_answers-requires : goal.take_answers-requires
 take_answers-requires g t c κs within =
     let e = all_kept_cons c.args.lanes.now c.in-Some.lane.now c.in-Some.rest.now c.in-Some.ensures.cases.0 in
     let taken : TakesAll c.take_answers_of.new.book (kept_answers c.in-Some.rest.now) =
-    rw c.take_answers_of.ensures.page ((taken_append c.args.book.now c.in-Some.lane.now.kept (kept_answers c.in-Some.rest.now) (rw e at c.requires.taken)).1) in
+    rw c.take_answers_of.ensures.value ((taken_append c.args.book.now c.in-Some.lane.now.kept (kept_answers c.in-Some.rest.now) (rw e at c.requires.taken)).1) in
     search (rules, taken)

@@ -6,7 +6,7 @@ use Rattle.forest_run.proofs.taking.take_list.Given as goal
 abbrev pub invariant-loop-answer : goal.invariant-loop-answer
 invariant-loop-answer g l = record {
   taken : TakesAll l.book (reverse l.kept.items);
-  page : with_answers l.book (reverse l.kept.items) ≡ with_answers l.fn.book l.fn.kept.items;
+  value : with_answers l.book (reverse l.kept.items) ≡ with_answers l.fn.book l.fn.kept.items;
 }
 
 abbrev pub decreases-loop-answer : goal.decreases-loop-answer

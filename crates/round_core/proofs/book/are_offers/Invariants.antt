@@ -1,6 +1,6 @@
 use Rattle.std.proofs.Common.{◌≡◌, take, true}
 use Rattle.std.specs.List.{list_all}
-use Rattle.round_core.specs.Page.{is_offer}
+use Rattle.round_core.specs.BookValue.{is_offer}
 use Rattle.round_core.proofs.book.are_offers.Given as goal
 
 abbrev pub invariant-loop-pair : goal.invariant-loop-pair

@@ -1,5 +1,5 @@
 use Rattle.std.proofs.Common.{rules, ◌≡◌, ◌++◌, ◌∙◌}
-use Rattle.round_core.specs.Page.{named_links}
+use Rattle.round_core.specs.BookValue.{named_links}
 use Rattle.round_core.proofs.Halves.{offers_in_halves, halves_together}
 use Rattle.round_core.proofs.tally.+offers.Goals as goal
 

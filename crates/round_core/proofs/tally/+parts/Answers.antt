@@ -1,5 +1,5 @@
 use Rattle.std.proofs.Common.{rules, ◌≡◌, ◌++◌, ◌∙◌}
-use Rattle.round_core.specs.Page.{all_named}
+use Rattle.round_core.specs.BookValue.{all_named}
 use Rattle.round_core.proofs.Halves.{named_in_halves, halves_together}
 use Rattle.round_core.proofs.tally.+parts.Goals as goal
 

@@ -1,6 +1,6 @@
 use Rattle.std.proofs.Common.{◌≡◌, ℕ, length, take, drop, sym, subst, ◌∙◌, rules}
 use Rattle.std.specs.Prelude.{All}
-use Rattle.round_core.specs.Page.{is_offer, named_links}
+use Rattle.round_core.specs.BookValue.{is_offer, named_links}
 use Rattle.round_core.specs.Picks.{Counts}
 use Rattle.round_core.specs.LookedUp.{IsCountable}
 use Rattle.round_core.proofs.LookedUp.{countable_each, batches_together, all_behind, none_left}

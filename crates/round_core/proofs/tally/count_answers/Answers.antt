@@ -2,7 +2,7 @@ use Rattle.std.proofs.Common.{◌≡◌, ◌++◌, List, get_or, take, Contains,
 use Rattle.link_key.specs.declared.links.Link.{Link}
 use Rattle.link_key.specs.Cut.{links_at}
 use Rattle.frames.specs.AnswerValue.{AnswerValue}
-use Rattle.round_core.specs.Page.{named_links, all_named}
+use Rattle.round_core.specs.BookValue.{named_links, all_named}
 use Rattle.round_core.specs.Picks.{ArePicks, Counts}
 use Rattle.round_core.proofs.Books.{one_more_answer}
 use Rattle.round_core.proofs.tally.count_answers.Goals as goal

@@ -1,5 +1,5 @@
 use Rattle.std.proofs.Common.{◌≡◌, length, take}
-use Rattle.round_core.specs.Page.{all_named}
+use Rattle.round_core.specs.BookValue.{all_named}
 use Rattle.round_core.specs.Picks.{Counts}
 use Rattle.round_core.proofs.tally.count_answers.Given as goal
 

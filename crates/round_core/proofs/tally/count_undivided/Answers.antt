@@ -2,7 +2,7 @@ use Rattle.std.proofs.Common.{◌≡◌, List, length, get_or, sym, subst, arith
 use Rattle.link_key.specs.declared.links.Link.{Link}
 use Rattle.link_key.specs.Cut.{links_at}
 use Rattle.frames.specs.AnswerValue.{AnswerValue}
-use Rattle.round_core.specs.Page.{named_links}
+use Rattle.round_core.specs.BookValue.{named_links}
 use Rattle.round_core.specs.Picks.{Counts}
 use Rattle.round_core.proofs.Halves.{named_by_one}
 use Rattle.round_core.proofs.tally.count_undivided.Goals as goal

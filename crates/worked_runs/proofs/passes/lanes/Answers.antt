@@ -17,7 +17,7 @@ loop-worker-preserved c =
     let before = c.loop-worker.invariant in
     record {
       count = search (rules, arith);
-      cut = rw c.in_ok-push.ensures.items (All-push (λ (w : Worker). w.port.talk.cut ≡ c.args.cut.now) lanes lane before.cut c.in_ok-lane.ensures.cut);
+      cut = rw c.in_ok-push.ensures.items (All-push (λ (w : Worker). w.port.client.cut ≡ c.args.cut.now) lanes lane before.cut c.in_ok-lane.ensures.cut);
       asks = rw c.in_ok-push.ensures.items (All-push (λ (w : Worker). w.port.asks ≡ 0) lanes lane before.asks c.in_ok-lane.ensures.asks);
       idle = rw c.in_ok-push.ensures.items (All-push (λ (w : Worker). IsIdle w) lanes lane before.idle c.in_ok-lane.ensures.idle);
     }

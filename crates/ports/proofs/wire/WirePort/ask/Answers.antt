@@ -12,14 +12,14 @@ returns-in-Ok-clause-exchanged g c =
 pub returns-in-Ok-clause-sound : goal.returns-in-Ok-clause-sound
 returns-in-Ok-clause-sound g c =
     let live : c.self.inside.is_open ≡ true = search rules in
-    let in_cut : c.args.shard < length c.self.inside.talk.cut = rw (sym c.self.view_is) at c.requires.shard in
+    let in_cut : c.args.shard < length c.self.inside.client.cut = rw (sym c.self.view_is) at c.requires.shard in
     rw (sym c.self.view_is)
     (λ ends exchanges. answered g.L.Line.state c.args.round c.args.shard c.args.labels.now _ _ in_cut live refl refl c.ask.ensures.shard_lawful c.ask.ensures.ask_lawful c.in-Ok.answer c.in-Ok.ensures.asked _ _ ends exchanges refl refl)
 
 pub returns-in-Ok-clause-honest : goal.returns-in-Ok-clause-honest
 returns-in-Ok-clause-honest g c =
     let live : c.self.inside.is_open ≡ true = search rules in
-    let in_cut : c.args.shard < length c.self.inside.talk.cut = rw (sym c.self.view_is) at c.requires.shard in
+    let in_cut : c.args.shard < length c.self.inside.client.cut = rw (sym c.self.view_is) at c.requires.shard in
     rw (sym c.self.view_is) (λ honest.
     let (carries, some) = honest in
     let (ends, exchanges, went) = some in (
@@ -30,7 +30,7 @@ returns-in-Ok-clause-honest g c =
 pub returns-in-Ok-clause-served : goal.returns-in-Ok-clause-served
 returns-in-Ok-clause-served g c =
     let live : c.self.inside.is_open ≡ true = search rules in
-    let in_cut : c.args.shard < length c.self.inside.talk.cut = rw (sym c.self.view_is) at c.requires.shard in
+    let in_cut : c.args.shard < length c.self.inside.client.cut = rw (sym c.self.view_is) at c.requires.shard in
     rw (sym c.self.view_is) (λ served.
     let ((ends, exchanges, sound), serves) = served in
     served_answer g.L.Line.state c.args.round c.args.shard c.args.labels.now _ _ in_cut live c.ask.ensures.shard_lawful c.ask.ensures.ask_lawful c.self.invariant.below _ c.in-Ok.answer c.in-Ok.ensures.asked ends exchanges sound serves)
@@ -38,13 +38,13 @@ returns-in-Ok-clause-served g c =
 pub returns-in-Ok-clause-honest_answer : goal.returns-in-Ok-clause-honest_answer
 returns-in-Ok-clause-honest_answer g c =
     let live : c.self.inside.is_open ≡ true = search rules in
-    let in_cut : c.args.shard < length c.self.inside.talk.cut = rw (sym c.self.view_is) at c.requires.shard in
-    rw (sym c.self.view_is) (λ honest. light_answer g.L.Line.state c.args.round c.args.shard c.args.labels.now _ _ in_cut live c.ask.ensures.shard_lawful c.ask.ensures.ask_lawful c.self.invariant.below _ (g.L.Line.faithful c.self.inside.talk.line) (g.L.Line.faithful c.ask.new.self.line) c.ask.ensures.faithful (g.met.L.Line.serves c.ask.new.self.line) honest c.in-Ok.answer c.in-Ok.ensures.asked)
+    let in_cut : c.args.shard < length c.self.inside.client.cut = rw (sym c.self.view_is) at c.requires.shard in
+    rw (sym c.self.view_is) (λ honest. light_answer g.L.Line.state c.args.round c.args.shard c.args.labels.now _ _ in_cut live c.ask.ensures.shard_lawful c.ask.ensures.ask_lawful c.self.invariant.below _ (g.L.Line.faithful c.self.inside.client.line) (g.L.Line.faithful c.ask.new.self.line) c.ask.ensures.faithful (g.met.L.Line.serves c.ask.new.self.line) honest c.in-Ok.answer c.in-Ok.ensures.asked)
 
 pub returns-in-Err-clause-sound_fault : goal.returns-in-Err-clause-sound_fault
 returns-in-Err-clause-sound_fault g c =
     let live : c.self.inside.is_open ≡ true = search rules in
-    let in_cut : c.args.shard < length c.self.inside.talk.cut = rw (sym c.self.view_is) at c.requires.shard in
+    let in_cut : c.args.shard < length c.self.inside.client.cut = rw (sym c.self.view_is) at c.requires.shard in
     rw (sym c.self.view_is)
     (λ ends exchanges. failed g.L.Line.state c.args.round c.args.shard c.args.labels.now _ _ in_cut live refl refl c.in-Err.fault c.in-Err.ensures.cause _ _ ends exchanges (not_closed g.L.Line.state c.args.round c.args.shard c.args.labels.now _ _ c.in-Err.fault c.in-Err.ensures.cause) refl c.ask.ensures.cut c.ask.ensures.worker (ap (λ n. c.self.inside.failures + n) c.failure_of.ensures) (ap (λ n. c.self.inside.wants + n) c.want_of.ensures))
 
@@ -64,17 +64,17 @@ returns-in-Err-clause-counted g c =
 pub returns-in-Err-clause-blameless : goal.returns-in-Err-clause-blameless
 returns-in-Err-clause-blameless g c =
     let live : c.self.inside.is_open ≡ true = search rules in
-    let in_cut : c.args.shard < length c.self.inside.talk.cut = rw (sym c.self.view_is) at c.requires.shard in
+    let in_cut : c.args.shard < length c.self.inside.client.cut = rw (sym c.self.view_is) at c.requires.shard in
     let ends = rw (sym c.self.view_is) at c.requires.ends in
-    rw (sym c.self.view_is) (λ honest. blameless_fault g.L.Line.state c.args.round c.args.shard c.args.labels.now _ _ in_cut live c.ask.ensures.shard_lawful c.ask.ensures.ask_lawful c.self.invariant.below _ (g.L.Line.faithful c.self.inside.talk.line) (g.L.Line.faithful c.ask.new.self.line) c.ask.ensures.faithful (g.met.L.Line.serves c.ask.new.self.line) honest c.in-Err.fault ends c.in-Err.ensures.cause)
+    rw (sym c.self.view_is) (λ honest. blameless_fault g.L.Line.state c.args.round c.args.shard c.args.labels.now _ _ in_cut live c.ask.ensures.shard_lawful c.ask.ensures.ask_lawful c.self.invariant.below _ (g.L.Line.faithful c.self.inside.client.line) (g.L.Line.faithful c.ask.new.self.line) c.ask.ensures.faithful (g.met.L.Line.serves c.ask.new.self.line) honest c.in-Err.fault ends c.in-Err.ensures.cause)
 
 pub returns-in-Err-clause-honest : goal.returns-in-Err-clause-honest
 returns-in-Err-clause-honest g c =
     let live : c.self.inside.is_open ≡ true = search rules in
-    let in_cut : c.args.shard < length c.self.inside.talk.cut = rw (sym c.self.view_is) at c.requires.shard in
+    let in_cut : c.args.shard < length c.self.inside.client.cut = rw (sym c.self.view_is) at c.requires.shard in
     let ends = rw (sym c.self.view_is) at c.requires.ends in
     rw (sym c.self.view_is) (λ honest.
-    let may = blameless_fault g.L.Line.state c.args.round c.args.shard c.args.labels.now _ _ in_cut live c.ask.ensures.shard_lawful c.ask.ensures.ask_lawful c.self.invariant.below _ (g.L.Line.faithful c.self.inside.talk.line) (g.L.Line.faithful c.ask.new.self.line) c.ask.ensures.faithful (g.met.L.Line.serves c.ask.new.self.line) honest c.in-Err.fault ends c.in-Err.ensures.cause in
+    let may = blameless_fault g.L.Line.state c.args.round c.args.shard c.args.labels.now _ _ in_cut live c.ask.ensures.shard_lawful c.ask.ensures.ask_lawful c.self.invariant.below _ (g.L.Line.faithful c.self.inside.client.line) (g.L.Line.faithful c.ask.new.self.line) c.ask.ensures.faithful (g.met.L.Line.serves c.ask.new.self.line) honest c.in-Err.fault ends c.in-Err.ensures.cause in
     let (carries, some) = honest in
     let (found, exchanges, went) = some in (
       subst (g.L.Line.faithful c.ask.new.self.line) (sym c.ask.ensures.worker) (c.ask.ensures.faithful _ carries),

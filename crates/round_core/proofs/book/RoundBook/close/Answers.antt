@@ -1,7 +1,7 @@
 use Rattle.std.proofs.Common.{ℕ, List, subst}
 use Rattle.frames.specs.AnswerValue.{AnswerValue}
 use Rattle.round_theory.specs.Offers.{IsNamed}
-use Rattle.round_core.specs.Page.{Page, hearings, all_named}
+use Rattle.round_core.specs.BookValue.{BookValue, hearings, all_named}
 use Rattle.round_core.specs.Picks.{ArePicks, Counts}
 use Rattle.round_core.proofs.Books.{picks_of_book}
 use Rattle.round_core.proofs.book.RoundBook.close.Goals as goal
@@ -9,8 +9,8 @@ use Rattle.round_core.proofs.book.RoundBook.close.Goals as goal
 pub returns-clause-picks : goal.returns-clause-picks
 returns-clause-picks g c =
     let book = c.self.inside in
-    let page : Page = record { round = book.round; cut = book.cut.now; labels = book.labels.now; taken = book.taken.items; answers = book.answers.items } in
-    let answers = subst (λ (xs : List AnswerValue). Counts c.as_slice.result.now (all_named page.cut xs) book.picks c.count_answers.new.picks) c.as_slice-2.ensures.value c.count_answers.ensures.picks in
-    let counts = subst (λ (ls : List ℕ). Counts ls (all_named page.cut page.answers) book.picks c.count_answers.new.picks) c.as_slice.ensures.labels answers in
-    let picks = picks_of_book page book.picks c.count_answers.new.picks c.self.invariant.room_for_picks c.self.invariant.no_picks counts in
-    subst (λ (p : Page). ArePicks p.labels (IsNamed (hearings p)) c.count_answers.new.picks) c.self.view_is picks
+    let value : BookValue = record { round = book.round; cut = book.cut.now; labels = book.labels.now; taken = book.taken.items; answers = book.answers.items } in
+    let answers = subst (λ (xs : List AnswerValue). Counts c.as_slice.result.now (all_named value.cut xs) book.picks c.count_answers.new.picks) c.as_slice-2.ensures.value c.count_answers.ensures.picks in
+    let counts = subst (λ (ls : List ℕ). Counts ls (all_named value.cut value.answers) book.picks c.count_answers.new.picks) c.as_slice.ensures.labels answers in
+    let picks = picks_of_book value book.picks c.count_answers.new.picks c.self.invariant.room_for_picks c.self.invariant.no_picks counts in
+    subst (λ (p : BookValue). ArePicks p.labels (IsNamed (hearings p)) c.count_answers.new.picks) c.self.view_is picks

@@ -1,5 +1,5 @@
 use Rattle.std.proofs.Common.{◌≡◌, ℕ, None, sym, subst}
-use Rattle.round_core.specs.Page.{refusal}
+use Rattle.round_core.specs.BookValue.{refusal}
 use Rattle.round_core.proofs.Full.{accepted}
 use Rattle.round_core.proofs.book.RoundBook.take.Goals as goal
 

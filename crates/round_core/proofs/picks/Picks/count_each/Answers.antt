@@ -1,7 +1,7 @@
 use Rattle.std.proofs.Common.{◌≡◌, List, take, get_or, ◌∙◌, subst, take_all, arith}
 use Rattle.std.proofs.lemmas.List.{get_or_default}
 use Rattle.link_key.specs.Offers.{Offer}
-use Rattle.round_core.specs.Page.{named_links}
+use Rattle.round_core.specs.BookValue.{named_links}
 use Rattle.round_core.specs.Picks.{Counts}
 use Rattle.round_core.proofs.LookedUp.{each_next}
 use Rattle.round_core.proofs.picks.Picks.count_each.Goals as goal

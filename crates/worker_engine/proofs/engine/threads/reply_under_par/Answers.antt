@@ -1,6 +1,6 @@
 use Rattle.std.proofs.Common.{ap, ◌∙◌}
-use Rattle.worker_engine.specs.Live.{kept_in}
-use Rattle.worker_engine.proofs.Shelves.{shelf_some, shelf_none, held_at, kept_same}
+use Rattle.worker_engine.specs.Live.{shelf_list}
+use Rattle.worker_engine.proofs.Shelves.{shelf_some, shelf_none, kept_at, kept_same}
 use Rattle.worker_engine.proofs.engine.threads.reply_under_par.Goals as goal
 
 pub returns-in_default-clause-reply : goal.returns-in_default-clause-reply
@@ -8,17 +8,17 @@ returns-in_default-clause-reply g c = rw (shelf_none c.args.shards.now.entries c
 
 pub returns-in_err-offers-clause-kept : goal.returns-in_err-offers-clause-kept
 returns-in_err-offers-clause-kept g c =
-    ap kept_in (c.get_mut.follows.holds c.offers_par.new.self).0 ∙ kept_same _ c.args.shards.now.entries c.in-Some.held.now c.offers_par.new.self c.in-Some.ensures.value c.offers_par.ensures.links
+    ap shelf_list (c.get_mut.follows.holds c.offers_par.new.self).0 ∙ kept_same _ c.args.shards.now.entries c.in-Some.kept.now c.offers_par.new.self c.in-Some.ensures.value c.offers_par.ensures.links
 
-pub returns-in_err-offers-clause-held : goal.returns-in_err-offers-clause-held
-returns-in_err-offers-clause-held g c =
-    held_at c.from_residual.result c.args.shards.now.entries c.args.ask.shard c.in-Some.held.now c.in-Some.ensures.value
+pub returns-in_err-offers-clause-is_kept : goal.returns-in_err-offers-clause-is_kept
+returns-in_err-offers-clause-is_kept g c =
+    kept_at c.from_residual.result c.args.shards.now.entries c.args.ask.shard c.in-Some.kept.now c.in-Some.ensures.value
 
 pub returns-clause-reply : goal.returns-clause-reply
 returns-clause-reply g c =
-    rw (shelf_some c.args.shards.now.entries c.args.ask.shard c.in-Some.held.now c.in-Some.ensures.value)
-    (c.reply_with.ensures c.in-Some.held.now.links c.args.labels.now c.in_ok-offers.ensures.few_links c.requires.ask c.in_ok-offers.ensures.offers).0
+    rw (shelf_some c.args.shards.now.entries c.args.ask.shard c.in-Some.kept.now c.in-Some.ensures.value)
+    (c.reply_with.ensures c.in-Some.kept.now.links c.args.labels.now c.in_ok-offers.ensures.few_links c.requires.ask c.in_ok-offers.ensures.offers).0
 
 pub returns-clause-kept : goal.returns-clause-kept
 returns-clause-kept g c =
-    ap kept_in (c.get_mut.follows.holds c.offers_par.new.self).0 ∙ kept_same _ c.args.shards.now.entries c.in-Some.held.now c.offers_par.new.self c.in-Some.ensures.value c.offers_par.ensures.links
+    ap shelf_list (c.get_mut.follows.holds c.offers_par.new.self).0 ∙ kept_same _ c.args.shards.now.entries c.in-Some.kept.now c.offers_par.new.self c.in-Some.ensures.value c.offers_par.ensures.links

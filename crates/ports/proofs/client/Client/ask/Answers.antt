@@ -1,7 +1,7 @@
 use Rattle.std.proofs.Common.{refl, sym}
 use Rattle.std.proofs.lemmas.Result.{err_from_is_err_and}
 use Rattle.ports.proofs.OneAsk.{hello_came, unsent_ask, asked_so_far, asked_of, cause_of}
-use Rattle.ports.proofs.talk.Talk.ask.Goals as goal
+use Rattle.ports.proofs.client.Client.ask.Goals as goal
 
 pub returns-clause-asked : goal.returns-clause-asked
 returns-clause-asked g c =

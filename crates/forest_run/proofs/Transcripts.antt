@@ -9,7 +9,7 @@ use Rattle.frames.specs.AnswerValue.{AnswerValue}
 use Rattle.worker_engine.specs.Serving.{asks_in}
 use Rattle.ports.specs.declared.line.Line as Line
 use Rattle.ports.specs.Exchanges.{Exchange, answers_of}
-use Rattle.ports.specs.Talking.{told_talk}
+use Rattle.ports.specs.Clients.{seen_client}
 use Rattle.ports.specs.Wires.{WireState, port_of, IsSoundWire}
 use Rattle.ports.specs.declared.fault.PortFault.{PortFault}
 use Rattle.ports.specs.declared.fault.PortFault.TheVariants.{Closed}
@@ -17,9 +17,9 @@ use Rattle.ports.proofs.Asking.{asks_made}
 use Rattle.ports.proofs.Wiring.{calm_open}
 use Rattle.forest_run.specs.declared.report.Report.{Report}
 use Rattle.forest_run.specs.Lanes.{LaneState, count_if, ask_count, open_count}
-use Rattle.forest_run.specs.WiredLines.{AreFresh, FindsOverLines, Transcript, HasTalked, HaveTalked}
+use Rattle.forest_run.specs.WiredLines.{AreFresh, FindsOverLines, Transcript, HasTranscript, HaveTranscripts}
 use Rattle.round_theory.specs.Offers.{Names}
-use Rattle.round_core.specs.Page.{hearing_of}
+use Rattle.round_core.specs.BookValue.{hearing_of}
 use Rattle.forest_run.specs.Asks.{answered}
 use Rattle.forest_run.proofs.NewWires.{new_sound}
 
@@ -75,13 +75,13 @@ each_open {P = P} is (x ∷ xs) many zero d b =
 each_open {P = P} is (x ∷ xs) many (suc i) d b =
     each_open is xs (omega (arith, many, sum_by-cons (λ x. count_if (is x)) x xs, one_most (is x))) i d (omega arith)
 
--- ---- the talks of a run
+-- ---- the transcripts of a run
 
 module _ {L A : Type 0} (over : Line.Ghosts L) (n : ℕ) (cut : List (List Link)) (before after : List L) (forest : List Link) (report : Report)
     (solved : FindsOverLines A over n cut before after forest report) where
   -- what was said and heard over the line at a place, and how often it was asked
-  record Talked (i : ℕ) (said : Transcript) : Type 0 where
-    pub each : (line : L) → HasTalked cut i (over.state (get_or after i line)) said
+  record IsTranscriptAt (i : ℕ) (said : Transcript) : Type 0 where
+    pub each : (line : L) → HasTranscript cut i (over.state (get_or after i line)) said
     pub answers : solved.went.went.rounds.answers_at i ≡ answers_of said.1
     pub asks : (lane : LaneState (WireState L)) → asks_in said.0 ≡ (port_of (get_or solved.ended i lane).port).asks
 
@@ -89,11 +89,11 @@ module _ {L A : Type 0} (over : Line.Ghosts L) (n : ℕ) (cut : List (List Link)
     number : length solved.ended ≡ length before
     number = solved.went.went.rounds.ports.same_lanes ∙ solved.new.number
 
-    talked_at : (i : ℕ) → i < length before → (said : Transcript) × Talked i said
-    talked_at i within =
+    transcript_at : (i : ℕ) → i < length before → (said : Transcript) × IsTranscriptAt i said
+    transcript_at i within =
         let rounds = solved.went.went.rounds in
         let d : LaneState (WireState L) = at_place solved.ended i (omega (arith, number)) in
-        let line : L = d.port.talk.line in
+        let line : L = d.port.client.line in
         let first = get_or solved.lanes i d in
         let last = get_or solved.ended i d in
         let went = rounds.ports.each i d (omega (arith, solved.new.number)) in
@@ -110,12 +110,12 @@ module _ {L A : Type 0} (over : Line.Ghosts L) (n : ℕ) (cut : List (List Link)
         let one_open : count_if last.port.is_open ≡ 1 = ap count_if opened in
         let one_new : count_if first.port.is_open ≡ 1 = ap count_if new.opened in
         let many : length (rounds.answers_at i) ≡ length went.exchanges = ap (λ ts. length ts) went.kept_are ∙ length-map went.exchanges (λ (e : Exchange). e.answer) in
-        let asks : asks_in said ≡ last.port.asks = omega (arith, asks_made (told_talk over.state last.port.talk) said went.exchanges step, many, went.asks, one_open, one_new, new.asks) in
-        let out : (line' : L) → get_or after i line' ≡ last.port.talk.line =
-        λ line'. ap (λ ls. get_or ls i line') solved.lines_are ∙ get_or-map (λ (lane : LaneState (WireState L)). lane.port.talk.line) solved.ended i d line' (omega (arith, number)) in (
+        let asks : asks_in said ≡ last.port.asks = omega (arith, asks_made (seen_client over.state last.port.client) said went.exchanges step, many, went.asks, one_open, one_new, new.asks) in
+        let out : (line' : L) → get_or after i line' ≡ last.port.client.line =
+        λ line'. ap (λ ls. get_or ls i line') solved.lines_are ∙ get_or-map (λ (lane : LaneState (WireState L)). lane.port.client.line) solved.ended i d line' (omega (arith, number)) in (
           (said, went.exchanges),
           record {
-            each = λ line'. record { talk = told_talk over.state last.port.talk; worker_is = went.worker ∙ new.worker_is; line_is = ap over.state (sym (out line')); cut_is = went.cut ∙ new.cut_is; in_step = step };
+            each = λ line'. record { client = seen_client over.state last.port.client; worker_is = went.worker ∙ new.worker_is; line_is = ap over.state (sym (out line')); cut_is = went.cut ∙ new.cut_is; in_step = step };
             answers = went.kept_are;
             asks = λ lane. asks ∙ ap (λ (l : LaneState (WireState L)). l.port.asks) (same_place solved.ended i d lane (omega (arith, number)));
           },
@@ -132,16 +132,16 @@ module _ {L A : Type 0} (over : Line.Ghosts L) (n : ℕ) (cut : List (List Link)
     none_asked (lane ∷ lanes) none =
         omega (arith, sum_by-cons (λ (l : LaneState (WireState L)). (port_of l.port).asks) lane lanes, none 0 lane (omega arith), none_asked lanes (λ i d b. none (suc i) d (omega arith)))
 
-    pub have_talked : HaveTalked over.state cut forest report.asked after
-    have_talked =
-        let (talks, many, each) = choose (length before) Talked talked_at in
-        let outs : length after ≡ length before = ap (λ ls. length ls) solved.lines_are ∙ (length-map solved.ended (λ (lane : LaneState (WireState L)). lane.port.talk.line) ∙ number) in
-        let start = none_asked solved.lanes (λ i d b. (solved.new.each i d.port.talk.line d (omega (arith, solved.new.number))).asks) in
-        let sums : sum_by (λ (said : Transcript). asks_in said.0) talks ≡ ask_count port_of solved.ended =
-        same_sums (λ (said : Transcript). asks_in said.0) (λ (lane : LaneState (WireState L)). (port_of lane.port).asks) talks solved.ended (many ∙ sym number)
+    pub have_transcripts : HaveTranscripts over.state cut forest report.asked after
+    have_transcripts =
+        let (transcripts, many, each) = choose (length before) IsTranscriptAt transcript_at in
+        let outs : length after ≡ length before = ap (λ ls. length ls) solved.lines_are ∙ (length-map solved.ended (λ (lane : LaneState (WireState L)). lane.port.client.line) ∙ number) in
+        let start = none_asked solved.lanes (λ i d b. (solved.new.each i d.port.client.line d (omega (arith, solved.new.number))).asks) in
+        let sums : sum_by (λ (said : Transcript). asks_in said.0) transcripts ≡ ask_count port_of solved.ended =
+        same_sums (λ (said : Transcript). asks_in said.0) (λ (lane : LaneState (WireState L)). (port_of lane.port).asks) transcripts solved.ended (many ∙ sym number)
         (λ i d e b. (each i d (omega (arith, many))).asks e) in
         record {
-          talks = talks;
+          transcripts = transcripts;
           number = many ∙ sym outs;
           each = λ worker line said b. (each worker said (omega (arith, outs))).each line;
           asks = omega (arith, sums, start, solved.went.asked);
@@ -150,11 +150,11 @@ module _ {L A : Type 0} (over : Line.Ghosts L) (n : ℕ) (cut : List (List Link)
               let i : ℕ = given.0 in
               let within : i < length before = (let b = given.1 in omega (arith, solved.new.number)) in
               let d : Transcript = ([], []) in
-              let said : Transcript = get_or talks i d in
+              let said : Transcript = get_or transcripts i d in
               let (exchange, there, is) = exchange_with said.1 answer (subst (λ (ts : List AnswerValue). Contains ts answer) (each i d within).answers given.2) in (
                 said,
                 exchange,
-                Contains-get_or talks i d (omega (arith, many)),
+                Contains-get_or transcripts i d (omega (arith, many)),
                 there,
                 subst (λ (t : AnswerValue). Names (hearing_of cut t) l) (sym is) names,
               );

@@ -1,6 +1,6 @@
 use Rattle.std.proofs.Common.{rules}
 use Rattle.worker_engine.specs.Live.{IsGreatestEnd}
-use Rattle.worker_engine.proofs.held.Held.new.Goals as goal
+use Rattle.worker_engine.proofs.kept_shard.KeptShard.new.Goals as goal
 
 pub invariant_of-result : goal.invariant_of-result
 invariant_of-result g c =

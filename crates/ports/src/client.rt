@@ -1,10 +1,10 @@
-//! What was said with a worker so far, and one ask more.
+//! The client of a worker: what was said with it so far, and one ask more.
 ghost use Rattle.std.specs.Prelude.{◌≡◌, ℕ, ◌<◌, length, IfOk, IfErr};
 ghost use Rattle.frames.specs.Lawful.{IsShard, IsAsk};
 ghost use Rattle.link_key.specs.Cut.{links_at};
 ghost use Rattle.ports.specs.Lines.{HasRoom};
 ghost use Rattle.ports.specs.Causes.{Cause};
-ghost use Rattle.ports.specs.Talking.{AnswersOverLine};
+ghost use Rattle.ports.specs.Clients.{AnswersOverLine};
 
 use crate::fault::PortFault;
 use crate::line::Line;
@@ -16,11 +16,11 @@ use shard_set::ShardSet;
 use std::alloc::Allocator;
 use std::marker::Model;
 
-/// A talk with a worker over a line that it owns: the cut whose shards are asked, the version that its hello told, once it
+/// The client of a worker, over a line that it owns: the cut whose shards are asked, the version that its hello told, once it
 /// came, which shards were sent, a bit each, and the text of the last ask that went out by one put, whose labels the next
 /// one may have too.
 #[derive(Drop)]
-pub struct Talk<'a, L, A: Allocator> {
+pub struct Client<'a, L, A: Allocator> {
     pub alloc: A,
     pub source: LineSource<L>,
     pub cut: &'a Cut<'a, A>,
@@ -30,19 +30,19 @@ pub struct Talk<'a, L, A: Allocator> {
     pub text: Vec<u8, A>,
 }
 
-impl<'a, L, A: Allocator> Model for Talk<'a, L, A> {
+impl<'a, L, A: Allocator> Model for Client<'a, L, A> {
     ghost use Rattle.std.specs.Prelude.{IfSome};
     ghost use Rattle.frames.specs.Lawful.{IsVersion};
-    ghost use Rattle.ports.specs.Talking.{TalkState};
+    ghost use Rattle.ports.specs.Clients.{ClientState};
 
-    ghost Value = { TalkState L };
+    ghost Value = { ClientState L };
 
     ghost view = { λ s. record { line = s.source.line; cut = s.cut.now; worker = s.worker; version = s.version; sent = s.sent } };
 
     ghost invariant = { λ s. IfSome s.version IsVersion };
 }
 
-impl<'a, L: Line, A: Allocator + Copy> Talk<'a, L, A> {
+impl<'a, L: Line, A: Allocator + Copy> Client<'a, L, A> {
     // One ask, from the first hello on.
     pub fn ask(
         &mut self,

@@ -1,4 +1,4 @@
--- A talk with a worker over a line: what an ask says, and what was said and heard so far.
+-- The client of a worker over a line: what an ask says, and what was said and heard so far.
 use Rattle.std.specs.Prelude.{◌≡◌, ℕ, ◌+◌, ◌<◌, ◌≤◌, ⊤, Bool, true, false, ◌||◌, ◌==◌, if◌then◌else◌, List, [], ◌∷◌, ◌++◌, length, map, Option, Some, None, IsSome, IfSome, MatchOption}
 use Rattle.std.specs.List.{All}
 use Rattle.link_key.specs.declared.links.Link.{Link}
@@ -13,21 +13,21 @@ use Rattle.shard_set.specs.Shards.{has_shard}
 use Rattle.ports.specs.Lines.{LineState, Transfers}
 use Rattle.ports.specs.Exchanges.{Exchange, IsAskedIn, answers_of, ask_frames}
 
--- a talk: the line, the cut whose shards are asked, the number of the worker, the version that its hello told, once it
+-- a client: the line, the cut whose shards are asked, the number of the worker, the version that its hello told, once it
 -- came, and the shards that were sent
-pub record TalkState (L : Type 0) : Type 0 where
+pub record ClientState (L : Type 0) : Type 0 where
   pub line : L
   pub cut : List (List Link)
   pub worker : ℕ
   pub version : Option ℕ
   pub sent : List ℕ
 
--- a talk, with what its line tells in place of the line
-abbrev pub Talk : Type 0
-Talk = TalkState LineState
+-- a client, with the state of its line in place of the line
+abbrev pub Client : Type 0
+Client = ClientState LineState
 
-abbrev pub told_talk : {L : Type 0} → (L → LineState) → TalkState L → Talk
-told_talk state talk = record { line = state talk.line; cut = talk.cut; worker = talk.worker; version = talk.version; sent = talk.sent }
+abbrev pub seen_client : {L : Type 0} → (L → LineState) → ClientState L → Client
+seen_client state client = record { line = state client.line; cut = client.cut; worker = client.worker; version = client.version; sent = client.sent }
 
 -- ---- one ask
 
@@ -52,8 +52,8 @@ abbrev pub shard_put : List ℕ → ℕ → List Link → List FrameValue
 shard_put sent shard links = shard_due (has_shard sent shard) shard links
 
 -- the frames that an ask puts
-abbrev pub frames_put : Talk → ℕ → ℕ → List ℕ → List FrameValue
-frames_put talk round shard labels = shard_put talk.sent shard (links_at talk.cut shard) ++ AskFrame round shard labels ∷ []
+abbrev pub frames_put : Client → ℕ → ℕ → List ℕ → List FrameValue
+frames_put client round shard labels = shard_put client.sent shard (links_at client.cut shard) ++ AskFrame round shard labels ∷ []
 
 -- a worker of this version has all these frames
 abbrev pub HasFrames : ℕ → List FrameValue → Type 0
@@ -62,14 +62,14 @@ HasFrames version frames = All (λ v. version_of v ≤ version) frames
 -- up to this state of the line a first hello of this version came and the frames of an ask were put, all of which the
 -- version has, and no end was found
 pub record SendsAsk {L : Type 0} (state : L → LineState) (round shard : ℕ) (labels : List ℕ) (version : ℕ)
-    (before : TalkState L) (asked : L) : Type 0 where
-  pub went : Transfers 0 0 (texts_of (frames_put (told_talk state before) round shard labels))
+    (before : ClientState L) (asked : L) : Type 0 where
+  pub went : Transfers 0 0 (texts_of (frames_put (seen_client state before) round shard labels))
       (hello_due before.version version before.worker) (state before.line) (state asked)
-  pub has : HasFrames version (frames_put (told_talk state before) round shard labels)
+  pub has : HasFrames version (frames_put (seen_client state before) round shard labels)
 
 -- an ask was put, and behind that these bytes came, and so many ends were found
 pub record BringsUpTo {L : Type 0} (ends : ℕ) (state : L → LineState) (round shard : ℕ) (labels bytes : List ℕ)
-    (before after : TalkState L) : Type 0 where
+    (before after : ClientState L) : Type 0 where
   pub version : ℕ
   pub greeted : HelloCame version before.version after.version
   pub asked : L
@@ -77,24 +77,24 @@ pub record BringsUpTo {L : Type 0} (ends : ℕ) (state : L → LineState) (round
   pub came : Transfers 0 ends [] bytes (state asked) (state after.line)
 
 -- an ask was put, and behind that these bytes came
-abbrev pub Brings : {L : Type 0} → (L → LineState) → ℕ → ℕ → List ℕ → List ℕ → TalkState L → TalkState L → Type 0
+abbrev pub Brings : {L : Type 0} → (L → LineState) → ℕ → ℕ → List ℕ → List ℕ → ClientState L → ClientState L → Type 0
 Brings = BringsUpTo 0
 
 -- the same, and then the line ended
-abbrev pub EndsAfterAsk : {L : Type 0} → (L → LineState) → ℕ → ℕ → List ℕ → List ℕ → TalkState L → TalkState L → Type 0
+abbrev pub EndsAfterAsk : {L : Type 0} → (L → LineState) → ℕ → ℕ → List ℕ → List ℕ → ClientState L → ClientState L → Type 0
 EndsAfterAsk = BringsUpTo 1
 
 -- an ask that was answered: its frames went out and no others, and then the answer came; the hello came by now, the
--- shard was sent by now, and the rest of the talk stands
+-- shard was sent by now, and the rest of the client stays
 pub record AnswersOverLine {L : Type 0} (state : L → LineState) (round shard : ℕ) (labels : List ℕ) (answer : AnswerValue)
-    (before after : TalkState L) : Type 0 where
+    (before after : ClientState L) : Type 0 where
   pub brought : Brings state round shard labels (text_of (AnswerFrame answer)) before after
   pub lawful : IsAnswer answer
   pub sent : (s : ℕ) → has_shard after.sent s ≡ (s == shard || has_shard before.sent s)
   pub cut : after.cut ≡ before.cut
   pub worker : after.worker ≡ before.worker
 
--- ---- the whole talk
+-- ---- all that was said
 
 -- the hello and the answers, where the hello came
 abbrev pub frames_got : Option ℕ → ℕ → List AnswerValue → List FrameValue
@@ -102,11 +102,11 @@ frames_got (Some version) worker answers = HelloFrame version worker ∷ map Ans
 frames_got None worker answers = []
 
 -- the line got the hello and just these answers, in their order
-pub record HasGiven (talk : Talk) (answers : List AnswerValue) : Type 0 where
-  pub got : talk.line.got ≡ Some (texts_of (frames_got talk.version talk.worker answers))
+pub record HasGiven (client : Client) (answers : List AnswerValue) : Type 0 where
+  pub got : client.line.got ≡ Some (texts_of (frames_got client.version client.worker answers))
   pub lawful : AreLawful (map AnswerFrame answers)
-  pub known : IfSome talk.version IsVersion
-  pub silent : talk.version ≡ None → answers ≡ []
+  pub known : IfSome client.version IsVersion
+  pub silent : client.version ≡ None → answers ≡ []
 
 -- a shard of the cut, with its links there, or an ask for one
 abbrev pub IsOfCut : List (List Link) → FrameValue → Type 0
@@ -136,15 +136,15 @@ FollowTheirShards shelf (v ∷ frames) = FollowTheirShards (shelf_with shelf v) 
 -- which was asked for, and, behind their shards, asks for such shards, just those of the exchanges, in their order; all
 -- of which the version of the worker has, and none before its hello came; and the hello and just the answers of the
 -- exchanges were got
-pub record MatchesLine (talk : Talk) (said : List FrameValue) (exchanges : List Exchange) : Type 0 where
-  pub calm : talk.line.failures ≡ 0
-  pub sent : talk.line.sent ≡ Some (texts_of said)
+pub record MatchesLine (client : Client) (said : List FrameValue) (exchanges : List Exchange) : Type 0 where
+  pub calm : client.line.failures ≡ 0
+  pub sent : client.line.sent ≡ Some (texts_of said)
   pub lawful : AreLawful said
-  pub only : All (IsOfCut talk.cut) said
-  pub once : (s : ℕ) → times_sent s said ≡ (if has_shard talk.sent s then 1 else 0)
-  pub needed : (s : ℕ) → has_shard talk.sent s ≡ true → IsAskedIn exchanges s
+  pub only : All (IsOfCut client.cut) said
+  pub once : (s : ℕ) → times_sent s said ≡ (if has_shard client.sent s then 1 else 0)
+  pub needed : (s : ℕ) → has_shard client.sent s ≡ true → IsAskedIn exchanges s
   pub asked : asks_among said ≡ ask_frames exchanges
   pub first : FollowTheirShards empty_shelf said
-  pub has : MatchOption talk.version (said ≡ []) (λ version. HasFrames version said)
-  pub gave : HasGiven talk (answers_of exchanges)
-  pub shelves : (s : ℕ) → s < length talk.cut → shelf_after empty_shelf said s ≡ (if has_shard talk.sent s then Some (links_at talk.cut s) else None)
+  pub has : MatchOption client.version (said ≡ []) (λ version. HasFrames version said)
+  pub gave : HasGiven client (answers_of exchanges)
+  pub shelves : (s : ℕ) → s < length client.cut → shelf_after empty_shelf said s ≡ (if has_shard client.sent s then Some (links_at client.cut s) else None)

@@ -3,7 +3,7 @@ use Rattle.std.specs.Prelude.{◌↔◌}
 use Rattle.link_key.specs.declared.links.Link.{Link}
 use Rattle.link_key.specs.Link.{EndsUpTo}
 use Rattle.worker_engine.proofs.Ends.{greatest_more}
-use Rattle.worker_engine.proofs.held.greatest_end.Goals as goal
+use Rattle.worker_engine.proofs.kept_shard.greatest_end.Goals as goal
 
 pub loop-link-preserved : goal.loop-link-preserved
 loop-link-preserved c = λ n.

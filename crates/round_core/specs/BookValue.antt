@@ -15,7 +15,7 @@ use Rattle.round_core.specs.declared.refusals.Refusal.{Refusal}
 use Rattle.round_core.specs.declared.refusals.Refusal.TheVariants.{Stale, Stranger, Double, NotALink}
 
 -- the round, the cut and the labels that are asked about, which shards were taken, and the answers taken, in order
-pub record Page : Type 0 where
+pub record BookValue : Type 0 where
   pub round : ℕ
   pub cut : List (List Link)
   pub labels : List ℕ
@@ -23,15 +23,15 @@ pub record Page : Type 0 where
   pub answers : List AnswerValue
 
 -- no answer is taken yet
-abbrev pub opened : ℕ → List (List Link) → List ℕ → Page
+abbrev pub opened : ℕ → List (List Link) → List ℕ → BookValue
 opened round cut labels = record { round = round; cut = cut; labels = labels; taken = replicate (length cut) false; answers = [] }
 
 -- whether an answer for the shard was taken
-abbrev pub is_taken : Page → ℕ → Bool
+abbrev pub is_taken : BookValue → ℕ → Bool
 is_taken p s = slice_index_or p.taken s true
 
 -- how many shards are missing
-abbrev pub missing : Page → ℕ
+abbrev pub missing : BookValue → ℕ
 missing p = count_by not p.taken
 
 -- whether exactly one end of the link has the label c
@@ -43,14 +43,14 @@ abbrev pub is_offer : List Link → List ℕ → Offer → Bool
 is_offer links labels o = option_map_or (is_leaving labels o.0) (slice_get links o.1) false
 
 -- why an answer to an ask for the shard is refused
-abbrev pub refusal : Page → ℕ → AnswerValue → Option Refusal
+abbrev pub refusal : BookValue → ℕ → AnswerValue → Option Refusal
 refusal p s a =
     if a.round == p.round then (if a.shard == s then (if is_taken p s then Some Double
     else (if list_all (is_offer (links_at p.cut s) p.labels) a.offers then None else Some NotALink))
     else Some Stranger) else Some Stale
 
 -- the book once an answer is taken
-abbrev pub heard : Page → AnswerValue → Page
+abbrev pub heard : BookValue → AnswerValue → BookValue
 heard p a = record { round = p.round; cut = p.cut; labels = p.labels; taken = slice_set p.taken a.shard true; answers = p.answers ++ a ∷ [] }
 
 -- an answer beside the links of its shard
@@ -58,7 +58,7 @@ abbrev pub hearing_of : List (List Link) → AnswerValue → Hearing
 hearing_of cut a = record { shard = links_at cut a.shard; offers = a.offers }
 
 -- what was heard of the shards
-abbrev pub hearings : Page → List Hearing
+abbrev pub hearings : BookValue → List Hearing
 hearings p = map (hearing_of p.cut) p.answers
 
 -- the answer is one of this round for a shard of the cut, and each of its offers names a link that leaves its component
@@ -68,11 +68,11 @@ pub record IsRight (round : ℕ) (cut : List (List Link)) (labels : List ℕ) (a
   pub offers : list_all (is_offer (links_at cut a.shard) labels) a.offers ≡ true
 
 -- one of the answers taken is for the shard
-abbrev pub IsAnswered : Page → ℕ → Type 0
+abbrev pub IsAnswered : BookValue → ℕ → Type 0
 IsAnswered p s = Any (λ (a : AnswerValue). a.shard ≡ s) p.answers
 
 -- what holds of each book: the shards that were taken are those that have an answer, and each has one at most
-pub record IsPage (p : Page) : Type 0 where
+pub record IsBookValue (p : BookValue) : Type 0 where
   pub labels : AreLabels p.labels
   pub ends : All (EndsUpTo (length p.labels)) p.cut
   pub few : length p.cut ≤ MAX_SHARDS
@@ -83,8 +83,8 @@ pub record IsPage (p : Page) : Type 0 where
   pub once : AllPairs (λ (a b : AnswerValue). a.shard ≢ b.shard) p.answers
 
 -- a book whose memory has room for an answer of each shard and a pick of each label
-pub record IsBook (p : Page) (room : ℕ) (best : List (Option Link)) : Type 0 where
-  pub page : IsPage p
+pub record IsBook (p : BookValue) (room : ℕ) (best : List (Option Link)) : Type 0 where
+  pub value : IsBookValue p
   pub room_for_answers : length p.cut ≤ room
   pub room_for_picks : length best ≡ length p.labels
   pub no_picks : AreNoPicks best
@@ -112,15 +112,15 @@ pub record CanCount (cut : List (List Link)) (labels : List ℕ) (answers : List
 -- the light offers of a shard that is missing, told of this round and for that shard, are no answer to refuse
 abbrev pub LightOffersAreTaken : Type 0
 LightOffersAreTaken =
-    (p : Page) (s : ℕ) (a : AnswerValue) → is_taken p s ≡ false → a.round ≡ p.round → a.shard ≡ s
+    (p : BookValue) (s : ℕ) (a : AnswerValue) → is_taken p s ≡ false → a.round ≡ p.round → a.shard ≡ s
     → AreLightOffers (links_at p.cut s) p.labels a.offers → refusal p s a ≡ None
 
 -- where no shard is missing, what was heard are shards with the links of the cut, and no others
 abbrev pub FullBookHasAllLinks : Type 0
-FullBookHasAllLinks = (p : Page) → IsPage p → missing p ≡ 0 → HaveLinksOf (hearings p) (joined p.cut)
+FullBookHasAllLinks = (p : BookValue) → IsBookValue p → missing p ≡ 0 → HaveLinksOf (hearings p) (joined p.cut)
 
 -- and where each answer has the light offers of its shard, the picks are those of all links of the cut
 abbrev pub FullBookIsLeast : Type 0
 FullBookIsLeast =
-    (p : Page) (picks : List (Option Link)) → IsPage p → missing p ≡ 0 → AreAllLight p.labels (hearings p)
+    (p : BookValue) (picks : List (Option Link)) → IsBookValue p → missing p ≡ 0 → AreAllLight p.labels (hearings p)
     → ArePicks p.labels (IsNamed (hearings p)) picks → ArePicks p.labels (Contains (joined p.cut)) picks

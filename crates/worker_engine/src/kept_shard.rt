@@ -16,26 +16,26 @@ use std::thread::Threads;
 // A shard's links, the greatest vertex at an end of one, and the live links; none where all are live. A list of these is
 // made once some are to be laid aside, with room for the others. Contracts see the links and the live ones.
 #[derive(Drop)]
-pub(crate) struct Held<A: Allocator> {
+pub(crate) struct KeptShard<A: Allocator> {
     links: Vec<Link, A>,
     greatest: u32,
     live: Option<Vec<LiveLink, A>>,
 }
 
-impl<A: Allocator> Model for Held<A> {
+impl<A: Allocator> Model for KeptShard<A> {
     ghost use Rattle.std.specs.Prelude.{◌≤◌, length};
     ghost use Rattle.std.specs.Option.{option_map};
     ghost use Rattle.limits.specs.declared.TheConstants.{MAX_SHARD_LINKS};
-    ghost use Rattle.worker_engine.specs.Live.{Holding, IsGreatestEnd};
+    ghost use Rattle.worker_engine.specs.Live.{KeptShardState, IsGreatestEnd};
 
-    ghost Value = { Holding };
+    ghost Value = { KeptShardState };
 
     ghost view = { λ h. record { links = h.links.items; live = option_map (λ told. told.items) h.live } };
 
     ghost invariant = { λ h. (length h.links.items ≤ MAX_SHARD_LINKS) × IsGreatestEnd h.links.items h.greatest };
 }
 
-impl<A: Allocator + Copy> Held<A> {
+impl<A: Allocator + Copy> KeptShard<A> {
     // A shard all of whose links are live. It takes no memory beside the list.
     pub(crate) fn new(links: Links<A>) -> Self
         requires few_links { length links ≤ MAX_SHARD_LINKS }
@@ -44,7 +44,7 @@ impl<A: Allocator + Copy> Held<A> {
     {
         let links = links.into_list();
         let greatest = greatest_end(links.as_slice());
-        Held {
+        KeptShard {
             links,
             greatest,
             live: None,
@@ -101,7 +101,7 @@ impl<A: Allocator + Copy> Held<A> {
     }
 }
 
-impl<A: Allocator + Copy + Send + Sync> Held<A> {
+impl<A: Allocator + Copy + Send + Sync> KeptShard<A> {
     // The same, by threads.
     pub(crate) fn offers_par<R: Threads + Sync>(
         &mut self,
@@ -143,7 +143,7 @@ impl<A: Allocator + Copy + Send + Sync> Held<A> {
     }
 }
 
-impl<A: Allocator> Held<A> {
+impl<A: Allocator> KeptShard<A> {
     // Whether each end of a link is one of the vertices 1 to n. It looks at no link.
     fn has_ends_up_to(&self, n: u32) -> bool
         ensures ends { IsTrue result ↔ EndsUpTo n self.now.links }
