@@ -12,7 +12,7 @@ use Rattle.claim_board.specs.declared.rule.View.{View}
 use Rattle.claim_board.specs.Machine.{owner, held}
 use Rattle.claim_board.specs.State.{SeatState, IsHeldBy, owner_told, CameFromRun}
 use Rattle.claim_board.specs.Rule.{word_of, Knows, AgreesWithRun, several, lone}
-use Rattle.claim_board.specs.ShelfList.{among, owner_of_word, owners_of}
+use Rattle.claim_board.specs.Kept.{among, owner_of_word, owners_of}
 use Rattle.claim_board.proofs.Lists.{among_decides}
 use Rattle.claim_board.proofs.Runs.{owns, Some-owns, owner_has}
 use Rattle.claim_board.proofs.Steps.{not_owner, owner_below}

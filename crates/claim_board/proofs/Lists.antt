@@ -5,7 +5,7 @@ use lib.ListN.{get_elem?}
 use Rattle.std.proofs.lemmas.Bool.{eqb-true, eq-eqb}
 use Rattle.std.proofs.lemmas.List.Elements.{filter-append}
 use Rattle.std.proofs.lemmas.List.Folds.{Any-from_list_any, list_any-from_Any, list_any-append}
-use Rattle.claim_board.specs.ShelfList.{among}
+use Rattle.claim_board.specs.Kept.{among}
 
 pub among_decides : (shard : ℕ) (shards : List ℕ) → Decides (among shard shards) (Contains shards shard)
 among_decides shard shards = (there, found)

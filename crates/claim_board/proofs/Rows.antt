@@ -8,7 +8,7 @@ use Rattle.claim_board.specs.declared.rule.Size.{Size}
 use Rattle.claim_board.specs.declared.rule.View.{View}
 use Rattle.claim_board.specs.State.{BoardState, SeatState, InOrder}
 use Rattle.claim_board.specs.Rule.{several, lone, without_first, with_before, nobody}
-use Rattle.claim_board.specs.ShelfList.{InOrderAt}
+use Rattle.claim_board.specs.Kept.{InOrderAt}
 use Rattle.claim_board.proofs.Steps.{Rules}
 use Rattle.claim_board.proofs.Places.{join_allowed}
 

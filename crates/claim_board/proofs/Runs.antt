@@ -6,7 +6,7 @@ use Rattle.std.proofs.lemmas.List.Elements.{filter-append}
 use Rattle.claim_board.specs.declared.event.Event.{Event}
 use Rattle.claim_board.specs.declared.event.Event.TheVariants.{Win, Turned, GiveBack}
 use Rattle.claim_board.specs.Machine.{seat_of, owner_after, owner, IsAllowed, IsRun, of_seat, held_after, held}
-use Rattle.claim_board.specs.ShelfList.{among}
+use Rattle.claim_board.specs.Kept.{among}
 use Rattle.claim_board.proofs.Lists.{among-push, among-filter}
 
 -- ---- one event more

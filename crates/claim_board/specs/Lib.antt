@@ -1,5 +1,5 @@
 pub mod Machine
 pub mod State
 pub mod Rule
-pub mod ShelfList
+pub mod Kept
 pub mod Laws

@@ -4,7 +4,7 @@ ghost use Rattle.limits.specs.declared.TheConstants.{MAX_WORKERS};
 ghost use Rattle.claim_board.specs.Machine.{held};
 ghost use Rattle.claim_board.specs.State.{OnWon, IfHeld, AreSeats, IsUnusedSeat, all_held, IsHeldBy, owner_told, CameFromRun};
 ghost use Rattle.claim_board.specs.Rule.{opener};
-ghost use Rattle.claim_board.specs.ShelfList.{IsInRange};
+ghost use Rattle.claim_board.specs.Kept.{IsInRange};
 ghost use Rattle.claim_board.specs.declared.claim.Claim.TheVariants.{Held};
 ghost use Rattle.claim_board.specs.declared.event.Event.TheVariants.{Win, Turned, GiveBack};
 ghost use Rattle.claim_board.specs.declared.fault.BoardFault.TheVariants.{Memory};
@@ -28,7 +28,7 @@ pub struct Board<A: Allocator> {
 
 impl<A: Allocator> Model for Board<A> {
     ghost use Rattle.claim_board.specs.State.{BoardState};
-    ghost use Rattle.claim_board.specs.ShelfList.{board_state, IsBoard};
+    ghost use Rattle.claim_board.specs.Kept.{board_state, IsBoard};
 
     ghost Value = { BoardState };
 

@@ -15,7 +15,7 @@ pub struct Owners<A: Allocator> {
 impl<A: Allocator> Model for Owners<A> {
     ghost use Rattle.std.specs.Prelude.{ℕ, List, Option};
     ghost use Rattle.std.specs.Mem.Slots.{slots_items, slots_len, IsFull};
-    ghost use Rattle.claim_board.specs.ShelfList.{owners_of, IsClosed};
+    ghost use Rattle.claim_board.specs.Kept.{owners_of, IsClosed};
 
     ghost Value = { List (Option ℕ) };
 

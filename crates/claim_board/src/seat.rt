@@ -20,7 +20,7 @@ impl Model for Seat {
 
     ghost Value = { SeatState };
 
-    ghost use Rattle.claim_board.specs.ShelfList.{seat_state, IsSeat};
+    ghost use Rattle.claim_board.specs.Kept.{seat_state, IsSeat};
 
     ghost view = { λ s. seat_state s.token.table_id s.token.me.0 };
 
@@ -30,7 +30,7 @@ impl Model for Seat {
 impl Seat {
     ghost use Rattle.claim_board.specs.State.{SeatState};
     ghost use Rattle.claim_board.specs.Rule.{lone};
-    ghost use Rattle.claim_board.specs.ShelfList.{board_state, IsInRange, IsTokenOf};
+    ghost use Rattle.claim_board.specs.Kept.{board_state, IsInRange, IsTokenOf};
 
     /// A seat that did nothing yet, with the token of its number.
     pub(crate) fn fresh(token: Token, number: u32) -> Seat

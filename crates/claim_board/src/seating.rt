@@ -2,7 +2,7 @@
 ghost use Rattle.std.specs.Prelude.{◌≡◌, ◌+◌, ◌<◌, ◌≤◌, [], ◌++◌, All, length, map, replicate, vec_capacity};
 ghost use Rattle.claim_board.specs.State.{SeatState, InOrder};
 ghost use Rattle.claim_board.specs.Rule.{several};
-ghost use Rattle.claim_board.specs.ShelfList.{board_state, IsInRange, InOrderAt};
+ghost use Rattle.claim_board.specs.Kept.{board_state, IsInRange, InOrderAt};
 
 use crate::rule::{OneNumber, Token, Words};
 use crate::seat::Seat;

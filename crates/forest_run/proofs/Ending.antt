@@ -40,7 +40,7 @@ use Rattle.forest_run.proofs.AsksThen.{stayed, asks_then}
 use Rattle.forest_run.proofs.Once.{value_of_book}
 use Rattle.forest_run.proofs.Passing.{SameRound, asks_more}
 use Rattle.forest_run.proofs.Scanning.{scanned_none}
-use Rattle.forest_run.proofs.Running.{one, heard_same, closing_still, kept_still, same_still, whole_books, kept_none, shelf_list, kept_then, just_new, books_first, rounds_none, rounds_then}
+use Rattle.forest_run.proofs.Running.{one, heard_same, closing_still, kept_still, same_still, whole_books, kept_none, kept_in, kept_then, just_new, books_first, rounds_none, rounds_then}
 use Rattle.forest_run.proofs.Chained.{merged_then, light_picks}
 use Rattle.forest_run.proofs.Solving.{named_more, named_given, from_cut, wide_still}
 
@@ -89,7 +89,7 @@ module _ {P A : Type 0} (port : Port.Ghosts P A) where
           each = λ i d b. asks_more port (TakesExchange first) (IsKeptIn (middle ∷ [])) (ClosesPort first) (ClosesPortIn (middle ∷ []))
               (λ x q. (middle, (0, omega arith, refl), kept_still first middle same x q)) (λ w t q. (middle, (0, omega arith, refl), closing_still first middle same w t q)) _ _ (v.answers_at i) (v.each i d b);
         };
-        kept = shelf_list port first middle middle xs ys 0 v (scanned_none middle) refl;
+        kept = kept_in port first middle middle xs ys 0 v (scanned_none middle) refl;
       }
 
   -- what a run has done after its merging rounds

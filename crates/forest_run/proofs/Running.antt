@@ -116,9 +116,9 @@ kept_none honest xs = record {
 }
 
 -- what passes kept stands in the book that they and scans filled
-pub shelf_list : {P A : Type 0} (port : Port.Ghosts P A) (old middle new : BookValue) (xs ys : List (LaneState P)) (k : ℕ)
+pub kept_in : {P A : Type 0} (port : Port.Ghosts P A) (old middle new : BookValue) (xs ys : List (LaneState P)) (k : ℕ)
     → (v : RunsPasses port old middle xs ys) → ScansShards middle new k → old.answers ≡ [] → MatchesBooks port.honest xs (new ∷ []) v.answers_at
-shelf_list port old middle new xs ys k v w none =
+kept_in port old middle new xs ys k v w none =
     let answers : new.answers ≡ v.answers ++ w.answers = filled old middle new v.answers w.answers v.value w.value none in
     let second : SameRound middle new = heard_same middle new w.answers w.value in
     let same : SameRound old new = same_then old middle new (heard_same old middle v.answers v.value) second in
@@ -234,7 +234,7 @@ module _ {P A : Type 0} (port : Port.Ghosts P A) where
         kept =
             kept_then port.honest xs ys books new u.answers_at v.answers_at u.ports.same_lanes (λ i d b. (u.ports.each i d b).honest_is) (whole_books cut books u.whole) value
             (subst (λ (r : ℕ). All (λ (book : BookValue). book.round < r) books) (sym same.round) earlier) u.kept
-            (shelf_list port old r.middle new ys zs k v w refl);
+            (kept_in port old r.middle new ys zs k v w refl);
         few = λ i. (let a = u.few i in let b = v.few i in omega (arith, length-append (u.answers_at i) (v.answers_at i)));
         counted = (
             let one_more : length (books ++ new ∷ []) ≡ suc (length books) = omega (arith, length-append books (new ∷ [])) in

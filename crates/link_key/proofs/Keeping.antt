@@ -26,10 +26,10 @@ counted a b n n' is = elim (cases_eq a b) [
 -- What passes a test is written behind what was kept before it, and counted; what doesn't pass is written there too, and
 -- not counted.
 pub written_behind : {X : Type 0} (p : X → Bool) (before start now : List X) {i kept kept' : ℕ} (x : X) → i < length start → x ≡ get_or start i x → kept < length now → take kept now ≡ before ++ filter p (take i start) → ((kept' ≡ kept) × (p x ≡ false)) ⊎ ((kept' ≡ kept + 1) × (p x ≡ true)) → take kept' (set now kept x) ≡ before ++ filter p (take (i + 1) start)
-written_behind {X} p before start now {i} {kept} {kept'} x i_in is shelf_list so_far counted =
+written_behind {X} p before start now {i} {kept} {kept'} x i_in is kept_in so_far counted =
     elim counted [
       | inl (same, fails) ↦ ap (λ n. take n (set now kept x)) same ∙ take-set now kept x ∙ so_far ∙ ap (λ (xs : List X). before ++ xs) (sym (one_more ∙ ap (λ b. filter p (take i start) ++ cond b (x ∷ []) []) fails ∙ append-nil (filter p (take i start))))
-      | inr (more, passes) ↦ ap (λ n. take n (set now kept x)) more ∙ take_more_set now kept x shelf_list ∙ ap (λ xs. xs ++ x ∷ []) so_far ∙ append_assoc before (filter p (take i start)) (x ∷ []) ∙ ap (λ (xs : List X). before ++ xs) (sym (one_more ∙ ap (λ b. filter p (take i start) ++ cond b (x ∷ []) []) passes))
+      | inr (more, passes) ↦ ap (λ n. take n (set now kept x)) more ∙ take_more_set now kept x kept_in ∙ ap (λ xs. xs ++ x ∷ []) so_far ∙ append_assoc before (filter p (take i start)) (x ∷ []) ∙ ap (λ (xs : List X). before ++ xs) (sym (one_more ∙ ap (λ b. filter p (take i start) ++ cond b (x ∷ []) []) passes))
     ]
   where
     one_more : filter p (take (i + 1) start) ≡ filter p (take i start) ++ filter p (x ∷ [])
@@ -67,8 +67,8 @@ module _ (numbers : List ℕ) (start : List Open) {i : ℕ} (x : Open) (i_in : i
 
   -- it is written behind those kept, and counted where it is kept
   pub kept_passed : {kept kept' : ℕ} (now : List Open) → kept < length now → take kept now ≡ kept_of numbers (take i start) → ((kept' ≡ kept) × (is_open (renumbered numbers x) ≡ false)) ⊎ ((kept' ≡ kept + 1) × (is_open (renumbered numbers x) ≡ true)) → take kept' (set now kept (renumbered numbers x)) ≡ kept_of numbers (take (i + 1) start)
-  kept_passed {kept} {kept'} now shelf_list so_far (inl (same, shut)) = ap (λ n. take n (set now kept (renumbered numbers x))) same ∙ take-set now kept (renumbered numbers x) ∙ so_far ∙ sym (kept_closed shut)
-  kept_passed {kept} {kept'} now shelf_list so_far (inr (more, apart)) = ap (λ n. take n (set now kept (renumbered numbers x))) more ∙ take_more_set now kept (renumbered numbers x) shelf_list ∙ ap (λ xs. xs ++ renumbered numbers x ∷ []) so_far ∙ sym (kept_open apart)
+  kept_passed {kept} {kept'} now kept_in so_far (inl (same, shut)) = ap (λ n. take n (set now kept (renumbered numbers x))) same ∙ take-set now kept (renumbered numbers x) ∙ so_far ∙ sym (kept_closed shut)
+  kept_passed {kept} {kept'} now kept_in so_far (inr (more, apart)) = ap (λ n. take n (set now kept (renumbered numbers x))) more ∙ take_more_set now kept (renumbered numbers x) kept_in ∙ ap (λ xs. xs ++ renumbered numbers x ∷ []) so_far ∙ sym (kept_open apart)
 
 -- one more link whose labels have numbers
 pub given_more : (numbers : List ℕ) (start : List Open) {i : ℕ} (x : Open) → i < length start → x ≡ get_or start i x → (0 < get_or numbers x.low 0) × (0 < get_or numbers x.high 0) → HaveNumbers numbers (take i start) → HaveNumbers numbers (take (i + 1) start)

@@ -9,7 +9,7 @@ use Rattle.std.specs.Prelude.{◌+ℤ◌, neg_ℤ}
 use Rattle.std.specs.Int.Signed.{◌≤ℤ◌, ◌<ℤ◌}
 use Rattle.std.specs.Ordering.{ordering_then, MatchOrdering}
 use Rattle.std.proofs.lemmas.Int.{ints}
-use Rattle.std.proofs.lemmas.List.ShelfList.{AllPairs-cons}
+use Rattle.std.proofs.lemmas.List.Kept.{AllPairs-cons}
 use Rattle.std.proofs.lemmas.List.Elements.{Contains-get_or, Contains-append_cases, Contains-append_left, Contains-append_right}
 use Rattle.link_key.specs.declared.links.Link.{Link}
 use Rattle.link_key.specs.Link.{IsBelow, IsAscending}
@@ -236,7 +236,7 @@ record Taking (links taken left : List Link) : Type 0 where
   ascending : IsAscending left
 
 -- a spanning forest has the links that are taken, and these others
-record KeptShardState (links taken others : List Link) : Type 0 where
+record Holding (links taken others : List Link) : Type 0 where
   none : HasNoCycle (Contains (taken ++ others))
   part : IsPartOf (Contains (taken ++ others)) (Contains links)
   spans : Spans (Contains (taken ++ others)) links
@@ -267,9 +267,9 @@ record Exchanged (links taken : List Link) (l : Link) (others : List Link) : Typ
   heavier : l.weight ≤ℤ given.weight
   rest : List Link
   sum_is : sum_of_weights others ≡ given.weight +ℤ sum_of_weights rest
-  holding : KeptShardState links (l ∷ taken) rest
+  holding : Holding links (l ∷ taken) rest
 
-module _ (links taken : List Link) (l : Link) (left others : List Link) (taking : Taking links taken (l ∷ left)) (holding : KeptShardState links taken others) where
+module _ (links taken : List Link) (l : Link) (left others : List Link) (taking : Taking links taken (l ∷ left)) (holding : Holding links taken others) where
   -- the set before, and the set with the link in place of the one given
   abbrev Before : LinkSet
   Before = Contains (taken ++ others)
@@ -380,7 +380,7 @@ module _ (links taken : List Link) (l : Link) (left others : List Link) (taking 
 -- ---- the law
 
 -- where the whole forest is taken, a spanning forest has no others: one more would close a cycle
-no_others : (links taken others : List Link) → Taking links taken [] → KeptShardState links taken others → others ≡ []
+no_others : (links taken others : List Link) → Taking links taken [] → Holding links taken others → others ≡ []
 no_others links taken [] taking holding = refl
 no_others links taken (l ∷ others) taking holding =
     absurd (holding.none l (Contains-append_right taken (l ∷ others) l (contains_head l others))
@@ -394,7 +394,7 @@ no_others links taken (l ∷ others) taking holding =
     other m is = (Contains-append_left taken (l ∷ others) m (in_taken m is), λ same. holding.apart l (contains_head l others) (subst (Contains taken) same (in_taken m is)))
 
 -- the links left weigh no more than a spanning forest's others
-no_heavier : (links taken left others : List Link) → Taking links taken left → KeptShardState links taken others → sum_of_weights left ≤ℤ sum_of_weights others
+no_heavier : (links taken left others : List Link) → Taking links taken left → Holding links taken others → sum_of_weights left ≤ℤ sum_of_weights others
 no_heavier links taken [] others taking holding = subst (λ xs. sum_of_weights [] ≤ℤ sum_of_weights xs) (sym (no_others links taken others taking holding)) (omega (arith, ints))
 no_heavier links taken (l ∷ left) others taking holding =
     let step = exchange links taken l left others taking holding in

@@ -83,12 +83,12 @@ marked_next (m ∷ links) (false ∷ marks) (suc i) x i_in i_in' is = marked_nex
 
 -- one more link is written behind those that were marked before it, and counted where it is marked
 pub marked_behind : (links : List Link) (marks : List Bool) (now : List Link) {i kept kept' : ℕ} (x : Link) → i < length links → i < length marks → x ≡ get_or links i x → kept < length now → take kept now ≡ marked (take i links) (take i marks) → kept' ≡ kept + bool_byte (get_or marks i false) → take kept' (set now kept x) ≡ marked (take (i + 1) links) (take (i + 1) marks)
-marked_behind links marks now {i} {kept} {kept'} x i_in i_in' is shelf_list so_far counts =
+marked_behind links marks now {i} {kept} {kept'} x i_in i_in' is kept_in so_far counts =
     by_mark (get_or marks i false) counts ∙ sym (ap (λ n. marked (take n links) (take n marks)) next ∙ marked_next links marks i x i_in i_in' is)
   where
     next : i + 1 ≡ suc i
     next = omega arith
 
     by_mark : (b : Bool) → kept' ≡ kept + bool_byte b → take kept' (set now kept x) ≡ marked (take i links) (take i marks) ++ (if b then x ∷ [] else [])
-    by_mark true one = ap (λ n. take n (set now kept x)) one ∙ take_more_set now kept x shelf_list ∙ ap (λ (xs : List Link). xs ++ x ∷ []) so_far
+    by_mark true one = ap (λ n. take n (set now kept x)) one ∙ take_more_set now kept x kept_in ∙ ap (λ (xs : List Link). xs ++ x ∷ []) so_far
     by_mark false none = ap (λ n. take n (set now kept x)) (none ∙ omega arith) ∙ take-set now kept x ∙ so_far ∙ sym (append-nil (marked (take i links) (take i marks)))

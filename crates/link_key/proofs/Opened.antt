@@ -7,7 +7,7 @@ use Rattle.std.proofs.lemmas.List.{same_lists, get_or-map, get_or_default, lengt
 use Rattle.std.proofs.lemmas.Bool.{cases_lt}
 use Rattle.std.proofs.lemmas.List.Elements.{All-contains, All-filter, All-map}
 use Rattle.std.proofs.lemmas.List.Filters.{length-filter_both}
-use Rattle.std.proofs.lemmas.List.ShelfList.{IsSortedBy-filter}
+use Rattle.std.proofs.lemmas.List.Kept.{IsSortedBy-filter}
 use Rattle.std.proofs.lemmas.List.Sorted.{ranks_by}
 use Rattle.std.proofs.lemmas.Bool.Decides.{nat_tests}
 use Rattle.link_key.specs.declared.links.Link.{Link}
@@ -18,7 +18,7 @@ use Rattle.link_key.specs.Rounds.{renamed}
 use Rattle.link_key.specs.OpenLinks.{link_of, links_of, open_cmp, renumbered, is_open, AreOpened, IsLabelled, AreLabelled, AreOpenOf, IsBetween, AreBetween, AreAllNumbers, AreFilled, HaveFirst}
 use Rattle.link_key.proofs.Members.{contains_cases, contains_head, contains_tail, contains_none}
 use Rattle.link_key.proofs.Keys.{key_cmp_total}
-use Rattle.link_key.proofs.Stages.{shelf_list, kept_if, kept_fewer, renamed_to, renamed_len}
+use Rattle.link_key.proofs.Stages.{kept_in, kept_if, kept_fewer, renamed_to, renamed_len}
 
 in_map : {X Y : Type 0} (f : X → Y) (xs : List X) (x : X) → Contains xs x → Contains (map f xs) (f x)
 in_map f [] x x_in = absurd (contains_none x x_in)
@@ -175,7 +175,7 @@ module _ (numbers : List ℕ) (candidates : List Open) where
     left_in l l_in =
         let found = from_map (link_of d links) (filter is_open (map (renumbered numbers) candidates)) l l_in in
         let o' = found.0 in
-        let kept = shelf_list is_open (map (renumbered numbers) candidates) o' found.1 in
+        let kept = kept_in is_open (map (renumbered numbers) candidates) o' found.1 in
         let old = from_map (renumbered numbers) candidates o' kept.0 in
         let o = old.0 in
         let same : link_of d links o ≡ l = ap (link_of d links) old.2 ∙ found.2 in

@@ -19,9 +19,9 @@ use Rattle.link_key.proofs.Walks.{joins_same, joins_symm, joins_replace, joins_m
 use Rattle.link_key.proofs.Spanning.{spanning_part}
 
 -- what a test keeps of a list
-pub shelf_list : {X : Type 0} (p : X → Bool) (xs : List X) (x : X) → Contains (filter p xs) x → Contains xs x × (p x ≡ true)
-shelf_list p [] x x_in = absurd (contains_none x x_in)
-shelf_list {X} p (y ∷ xs) x x_in = by_test (p y) refl (shelf_list p xs x)
+pub kept_in : {X : Type 0} (p : X → Bool) (xs : List X) (x : X) → Contains (filter p xs) x → Contains xs x × (p x ≡ true)
+kept_in p [] x x_in = absurd (contains_none x x_in)
+kept_in {X} p (y ∷ xs) x x_in = by_test (p y) refl (kept_in p xs x)
   where
     by_test : (b : Bool) → p y ≡ b → (Contains (filter p xs) x → Contains xs x × (p x ≡ true)) → Contains (y ∷ xs) x × (p x ≡ true)
     by_test true passes later = elim (contains_cases y x (filter p xs) (subst (λ b. Contains (cond b (y ∷ filter p xs) (filter p xs)) x) passes x_in)) [
@@ -277,8 +277,8 @@ stage_rest {links} {rest} {light} {later} {labels} {labels'} parts before stage 
   ends = stage.ends;
   joined = stage.joined;
   forest = stage.forest;
-  among = λ l l_in. before.among l (parts.later_in l (shelf_list (is_apart labels') later l l_in).0);
-  apart = λ l l_in. apart_from labels' l (shelf_list (is_apart labels') later l l_in).1;
+  among = λ l l_in. before.among l (parts.later_in l (kept_in (is_apart labels') later l l_in).0);
+  apart = λ l l_in. apart_from labels' l (kept_in (is_apart labels') later l l_in).1;
   left = left;
   above = λ l m l_in m_in. absurd (contains_none m m_in);
 }

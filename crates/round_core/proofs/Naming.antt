@@ -5,10 +5,10 @@ use Rattle.std.proofs.lemmas.Bool.{cases_eq, cases_lt, eqb-true, eq-eqb}
 use Rattle.std.proofs.lemmas.Bool.Decides.{nat_tests}
 use Rattle.std.proofs.lemmas.List.{length-set, length-map, get_or-map, get_or-set_same, get_or-set_other, get_or_default}
 use Rattle.std.proofs.lemmas.List.Elements.{Contains-get_or, All-contains}
-use Rattle.std.proofs.lemmas.List.ShelfList.{AllPairs-filter}
+use Rattle.std.proofs.lemmas.List.Kept.{AllPairs-filter}
 use Rattle.link_key.specs.declared.links.Link.{Link}
 use Rattle.link_key.specs.Labels.{label_of, AreLabels, AreApart}
-use Rattle.link_key.proofs.Stages.{shelf_list, kept_if}
+use Rattle.link_key.proofs.Stages.{kept_in, kept_if}
 use Rattle.round_theory.specs.Labelling.{IsVertex, JoinsOver, IsRelabelling, IsLeastJoinedOver}
 use Rattle.round_core.specs.Picks.{Picked}
 use Rattle.round_core.specs.Roots.{IsRoot, AreRoots, ArePointers, AreParents, AreSettled, IsLeastUnder}
@@ -208,7 +208,7 @@ kept_roots labels roots new picks are are_new are_roots is = record {
   where
     to : (c : ℕ) → Contains (filter (λ c. label_of new c == c) roots) c → IsRoot new c
     to c c_in =
-        let (in_roots, own) = shelf_list (λ c. label_of new c == c) roots c c_in in
+        let (in_roots, own) = kept_in (λ c. label_of new c == c) roots c c_in in
         let vertex : IsVertex (length labels) c = ((are_roots.exact c).0 in_roots).0 in
         (subst (λ n. IsVertex n c) (sym is.each_vertex) vertex, eqb-true (label_of new c) c own)
 

@@ -3,7 +3,7 @@ use Rattle.atomic_table.specs.Table.{Me}
 use Rattle.claim_board.specs.declared.rule.Size.{Size}
 use Rattle.claim_board.specs.declared.rule.View.{View}
 use Rattle.claim_board.specs.State.{BoardState, InOrder}
-use Rattle.claim_board.specs.ShelfList.{board_state, IsInRange}
+use Rattle.claim_board.specs.Kept.{board_state, IsInRange}
 use Rattle.claim_board.proofs.Places.{split_allowed}
 use Rattle.claim_board.proofs.Rows.{InOrder-push, no_events-push, lists_are, dealt}
 use Rattle.claim_board.proofs.seating.+deal.Goals as goal

@@ -2,7 +2,7 @@ use Rattle.std.proofs.Common.{ℕ, List, sym, ap, ◌∙◌, subst}
 use Rattle.std.specs.Mem.Slots.{slots_items}
 use Rattle.claim_board.specs.State.{BoardState}
 use Rattle.claim_board.specs.Rule.{AgreesWithRun}
-use Rattle.claim_board.specs.ShelfList.{owners_of}
+use Rattle.claim_board.specs.Kept.{owners_of}
 use Rattle.claim_board.proofs.Closing.{word_within, came, owners_are, kept_view}
 use Rattle.claim_board.proofs.Apart.{closed_apart}
 use Rattle.claim_board.proofs.board.Board.close.Goals as goal

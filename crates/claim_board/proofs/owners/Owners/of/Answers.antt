@@ -1,7 +1,7 @@
 use Rattle.std.proofs.Common.{◌≤◌, arith, sym, ap, ◌∙◌, subst}
 use Rattle.std.specs.Mem.Slots.{slots_items}
 use Rattle.claim_board.specs.State.{owner_told}
-use Rattle.claim_board.specs.ShelfList.{owner_of_word}
+use Rattle.claim_board.specs.Kept.{owner_of_word}
 use Rattle.claim_board.proofs.Closing.{index_at, told_at, owner_of_some}
 use Rattle.claim_board.proofs.owners.Owners.of.Goals as goal
 

@@ -1,7 +1,7 @@
 use Rattle.std.proofs.Common.{Decides, Contains, ap, sym, subst, ◌∙◌}
 use Rattle.claim_board.specs.Machine.{held}
 use Rattle.claim_board.specs.State.{SeatState}
-use Rattle.claim_board.specs.ShelfList.{among}
+use Rattle.claim_board.specs.Kept.{among}
 use Rattle.claim_board.proofs.Lists.{among_decides}
 use Rattle.claim_board.proofs.seat.Seat.holds.Goals as goal
 

@@ -35,7 +35,7 @@ offset_bounds-candidates-kept c =
     let few = c.loop-i.invariant.few in
     let len = c.loop-i.invariant.len in
     let lt = c.loop-i-test.true in
-    let shelf_list : c.loop-i.kept < length c.loop-i.candidates = omega (arith, few, len, lt) in
+    let kept_in : c.loop-i.kept < length c.loop-i.candidates = omega (arith, few, len, lt) in
     search rules
 
 pub bounds-candidates-kept : goal.bounds-candidates-kept
@@ -92,7 +92,7 @@ loop-i-preserved c =
           let had_low = c.touch.ensures.had_a w.if-touch.false in
           let had_high = c.touch.ensures.had_b w.if-touch.false in
           let same = c.touch.ensures.same w.if-touch.false in
-          let shelf_list : l.kept < length l.candidates = let few = l.invariant.few in let len = l.invariant.len in omega (arith, few, len, i_in) in
+          let kept_in : l.kept < length l.candidates = let few = l.invariant.few in let len = l.invariant.len in omega (arith, few, len, i_in) in
           let low_is : w.entry-low.result ≡ get_or l.numbers x.low 0 = w.entry-low.ensures ∙ ap (λ (ks : List ℕ). get_or ks x.low 0) same in
           let high_is : w.entry-high.result ≡ get_or l.numbers x.high 0 = w.entry-high.ensures ∙ ap (λ (ks : List ℕ). get_or ks x.high 0) same in
           let now : c.if-touch.candidates ≡ set l.candidates l.kept (renumbered l.numbers x) = w.candidates-is ∙ ap₂ (λ (a b : ℕ). set l.candidates l.kept (record { low = a; high = b; rank = x.rank })) low_is high_is in
@@ -101,7 +101,7 @@ loop-i-preserved c =
             len = ap length now ∙ length-set l.candidates l.kept (renumbered l.numbers x) ∙ l.invariant.len;
             ahead = λ k o lt. ap (λ (xs : List Open). get_or xs k o) now ∙ get_or-set_other l.candidates l.kept k (renumbered l.numbers x) o (let few = l.invariant.few in λ is'. omega (arith, is', few, lt)) ∙ l.invariant.ahead k o (omega (arith, lt));
             few = let few = l.invariant.few in elim count [ inl (is', _) ↦ omega (arith, is', few) | inr (is', _) ↦ omega (arith, is', few) ];
-            kept = rw (now, same) (kept_passed l.numbers start x i_in is l.candidates shelf_list l.invariant.kept count);
+            kept = rw (now, same) (kept_passed l.numbers start x i_in is l.candidates kept_in l.invariant.kept count);
             given = rw same (given_more l.numbers start x i_in is (had_low, had_high) l.invariant.given);
             numbers = rw same l.invariant.numbers;
             first = rw same (first_passed x had_low l.invariant.first);

@@ -37,7 +37,7 @@ loop-i-preserved c =
     let more = l.invariant.more in
     let len = l.invariant.len in
     let first_in = c.requires.before in
-    let shelf_list : l.kept < length l.links = omega (arith, few, len, i_in, first_in) in
+    let kept_in : l.kept < length l.links = omega (arith, few, len, i_in, first_in) in
     let count = counted (get_or labels x.low 0) (get_or labels x.high 0) l.kept _ (ap₂ (λ (a b : ℕ). l.kept + bool_byte (not (a == b))) c.entry.ensures c.entry-in-loop-i.ensures) in
     let place : from + (i - from) ≡ i = omega (arith, after) in
     let is : x ≡ get_or (drop from start) (i - from) x = c.index-links-i.is ∙ l.invariant.ahead i x (omega arith) ∙ sym (get_or-drop from start (i - from) x ∙ ap (λ k. get_or start k x) place) in
@@ -51,7 +51,7 @@ loop-i-preserved c =
       more = elim count [ inl (same, _) ↦ omega (arith, same, more) | inr (one, _) ↦ omega (arith, one, more) ];
       few = elim count [ inl (same, _) ↦ omega (arith, same, few) | inr (one, _) ↦ omega (arith, one, few) ];
       kept =
-          written_behind (is_apart labels) (take c.args.first start) (drop from start) l.links x in_rest is shelf_list l.invariant.kept count
+          written_behind (is_apart labels) (take c.args.first start) (drop from start) l.links x in_rest is kept_in l.invariant.kept count
           ∙ ap (λ n. take c.args.first start ++ filter (is_apart labels) (take n (drop from start))) next;
     }
 
