@@ -21,9 +21,9 @@ module _ {A E : Type 0} (owed : Owed A) (reply : Result (Frame A) E) (r s : ℕ)
       → IfOk reply (λ f. IsReply (shelf_of before s) r s labels (value_of f)) → IfOk reply (λ f. IsLawful (value_of f)) → OnErr reply (IsSome (shelf_of before s))
       → ((shelf : Shelf) (ls : List ℕ) → IsReplied shelf r s ls reply → IsOwed (AskFrame r s ls) shelf shelf owed)
       → HearsNext owed (shelf_of now) (shelf_of after) source source'
-  hears_again v source source' is lawful gave view kept replied good kept owes =
+  hears_again v source source' is lawful gave view kept replied good is_kept owes =
       let first : IsOwed (AskFrame r s labels) (shelf_of before) (shelf_of before) owed =
-      owes (shelf_of before) labels (both (λ f. IsReply (shelf_of before s) r s labels (value_of f)) (λ f. IsLawful (value_of f)) reply replied good, kept) in
+      owes (shelf_of before) labels (both (λ f. IsReply (shelf_of before s) r s labels (value_of f)) (λ f. IsLawful (value_of f)) reply replied good, is_kept) in
       let second : IsOwed (AskFrame r s labels) (shelf_of before) (shelf_of after) owed = subst (λ (k : ShelfList). IsOwed (AskFrame r s labels) (shelf_of before) (shelf_of k) owed) (sym kept) first in
       record {
         v = AskFrame r s labels;
