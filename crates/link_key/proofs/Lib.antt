@@ -29,4 +29,5 @@ pub mod Stages
 pub mod Opened
 pub mod Filling
 pub mod Distinct
+pub mod InPlace
 mod Rising

@@ -95,6 +95,13 @@ impl<'a, A: Allocator> Cut<'a, A> {
         self.places.len() as u32 + 1
     }
 
+    /// The list that was cut: the links of all shards, one shard behind the other.
+    pub fn links(&self) -> &'a [Link]
+        ensures { result.now ≡ joined self.now }
+    {
+        self.links
+    }
+
     /// The shard of this number. It costs no time for the shard's links, and takes no memory.
     pub fn shard(&self, number: u32) -> Shard<'a>
         requires { number < length self.now }

@@ -4,10 +4,12 @@ ghost use Rattle.std.specs.List.Sorted.{IsPermutation};
 ghost use Rattle.link_key.specs.Link.{IsAscending};
 ghost use Rattle.link_key.specs.Least.{AreDistinct};
 
+use super::by_threads::put_in_key_order_par;
 use super::sorting::put_in_key_order;
 use crate::forests::Forest;
 use crate::links::Link;
 use std::alloc::{AllocError, Allocator};
+use std::thread::Threads;
 
 impl<A: Allocator + Copy> Forest<A> {
     /// The links of a list of which no two are one, in whatever order they stand: they are put in the order of their
@@ -24,6 +26,22 @@ impl<A: Allocator + Copy> Forest<A> {
     {
         let mut links = links;
         put_in_key_order(alloc, links.as_mut_slice())?;
+        Ok(Forest::of_ascending(links))
+    }
+
+    /// The same by threads where there are many links, as many threads as there are processors: they sort packed keys.
+    /// Time, memory and the error are those of [`Forest::of_distinct`].
+    pub fn of_distinct_par<R: Threads + Sync>(
+        rt: &R,
+        alloc: A,
+        links: Vec<Link, A>,
+    ) -> Result<Self, AllocError>
+        requires distinct { AreDistinct links.items }
+        ensures same { IfOk result (IsPermutation links.items) }
+        ensures ascending { IfOk result IsAscending }
+    {
+        let mut links = links;
+        put_in_key_order_par(rt, alloc, links.as_mut_slice())?;
         Ok(Forest::of_ascending(links))
     }
 }

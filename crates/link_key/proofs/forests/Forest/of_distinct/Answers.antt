@@ -1,18 +1,9 @@
-use Rattle.std.proofs.Common.{◌≡◌, ℕ, ◌++◌, List, length, take, drop, sym, ◌∙◌, subst}
+use Rattle.std.proofs.Common.{sym, ◌∙◌, subst}
 use Rattle.std.specs.List.Sorted.{IsPermutation}
-use Rattle.std.proofs.lemmas.List.Sorted.{length_permutation}
-use Rattle.link_key.specs.declared.links.Link.{Link}
 use Rattle.link_key.specs.Link.{IsAscending}
 use Rattle.link_key.proofs.Distinct.{ascending_once}
-use Rattle.link_key.proofs.Opened.{written}
+use Rattle.link_key.proofs.InPlace.{whole_of}
 use Rattle.link_key.proofs.forests.Forest.of_distinct.Goals as goal
-
--- the whole list, which was put in order through a slice
-whole_of : (n : ℕ) (links slice now : List Link) → n ≡ length links → slice ≡ links → IsPermutation slice now → IsPermutation links now × (take n (now ++ drop (length now) links) ≡ now)
-whole_of n links slice now len is put = (put', written n now links (length_permutation links now put') len)
-  where
-    put' : IsPermutation links now
-    put' = subst (λ (xs : List Link). IsPermutation xs now) is put
 
 pub of_ascending-requires : goal.of_ascending-requires
 of_ascending-requires g c =
