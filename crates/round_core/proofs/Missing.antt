@@ -3,7 +3,6 @@ use Rattle.std.proofs.Common.{◌≡◌, ◌≢◌, ℕ, ◌+◌, ◌<◌, ◌�
 use Rattle.std.specs.Prelude.{All}
 use Rattle.std.specs.List.Sorted.{IsPermutation}
 use Rattle.std.specs.Option.{option_or}
-use Rattle.std.proofs.lemmas.Grind.{flat_map-append}
 use Rattle.std.proofs.lemmas.List.{take_more, take-append-drop}
 use Rattle.std.proofs.lemmas.List.Folds.{find-append}
 use Rattle.std.proofs.lemmas.List.Elements.{Contains-get_or, All-contains}
@@ -11,7 +10,7 @@ use Rattle.std.proofs.lemmas.List.Sorted.{Contains-permutation, IsPermutation-sy
 use Rattle.link_key.specs.declared.links.Link.{Link}
 use Rattle.link_key.specs.Link.{EndsUpTo, IsAscending}
 use Rattle.link_key.specs.Labels.{label_of}
-use Rattle.link_key.specs.Cut.{joined, links_at}
+use Rattle.link_key.specs.Cut.{joined}
 use Rattle.link_key.proofs.Members.{contains_none, contains_cases}
 use Rattle.link_key.proofs.Walks.{joins_more}
 use Rattle.round_theory.specs.LinkSet.{SameLinks}
@@ -21,7 +20,7 @@ use Rattle.link_key.proofs.Cycles.{no_cycle_part}
 use Rattle.round_theory.proofs.Leaving.{leaves_apart, spans_where_none_leaves}
 use Rattle.round_core.specs.Solver.{Progress, vertices, IsProgress, is_apart, missed, IsFinished}
 
--- one more link, or one more shard, after none was missed
+-- one more link, after none was missed
 pub missed_more : (labels : List ℕ) (links : List Link) (i : ℕ) (l : Link) → i < length links → l ≡ get_or links i l → missed labels (take i links) ≡ None
     → missed labels (take (i + 1) links) ≡ cond (is_apart labels l) (Some l) None
 missed_more labels links i l lt at none =
@@ -29,29 +28,15 @@ missed_more labels links i l lt at none =
     ∙ find-append (is_apart labels) (take i links) (l ∷ [])
     ∙ ap (λ o. option_or o (cond (is_apart labels l) (Some l) None)) none
 
-pub missed_in_shard : (labels : List ℕ) (cut : List (List Link)) (i : ℕ) → i < length cut → missed labels (joined (take i cut)) ≡ None
-    → missed labels (joined (take (i + 1) cut)) ≡ missed labels (links_at cut i)
-missed_in_shard labels cut i lt none =
-    ap (λ shards. missed labels (joined shards)) (take_more cut i [] lt)
-    ∙ ap (missed labels) (flat_map-append (λ (s : List Link). s) (take i cut) (get_or cut i [] ∷ []) ∙ ap (λ xs. joined (take i cut) ++ xs) (append_nil (get_or cut i [])))
-    ∙ find-append (is_apart labels) (joined (take i cut)) (get_or cut i [])
-    ∙ ap (λ o. option_or o (missed labels (get_or cut i []))) none
-  where
-    append_nil : (xs : List Link) → xs ++ [] ≡ xs
-    append_nil [] = refl
-    append_nil (x ∷ xs) = ap (λ ys. x ∷ ys) (append_nil xs)
-
 -- what is missed at the front is missed
 pub missed_at_front : (labels : List ℕ) (links : List Link) (i : ℕ) (l : Link) → missed labels (take i links) ≡ Some l → missed labels links ≡ Some l
 missed_at_front labels links i l here =
     ap (missed labels) (sym (take-append-drop i links)) ∙ find-append (is_apart labels) (take i links) (drop i links)
     ∙ ap (λ o. option_or o (missed labels (drop i links))) here
 
-pub missed_in_front : (labels : List ℕ) (cut : List (List Link)) (i : ℕ) (l : Link) → missed labels (joined (take i cut)) ≡ Some l → missed labels (joined cut) ≡ Some l
-missed_in_front labels cut i l here =
-    ap (λ shards. missed labels (joined shards)) (sym (take-append-drop i cut)) ∙ ap (missed labels) (flat_map-append (λ (s : List Link). s) (take i cut) (drop i cut))
-    ∙ find-append (is_apart labels) (joined (take i cut)) (joined (drop i cut))
-    ∙ ap (λ o. option_or o (missed labels (joined (drop i cut)))) here
+-- the first that is missed in halves is the first of all
+pub missed_in_halves : (labels : List ℕ) (links : List Link) (i : ℕ) → option_or (missed labels (take i links)) (missed labels (drop i links)) ≡ missed labels links
+missed_in_halves labels links i = sym (find-append (is_apart labels) (take i links) (drop i links)) ∙ ap (missed labels) (take-append-drop i links)
 
 -- where none is missed each link's ends have one label
 not_apart : (labels : List ℕ) (links : List Link) (l : Link) → missed labels links ≡ None → Contains links l → is_apart labels l ≡ false

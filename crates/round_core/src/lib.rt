@@ -16,7 +16,7 @@
 //! Where to start a change: `specs/BookValue` says what a book is and when it refuses, `specs/Picks` what picks are,
 //! `specs/LookedUp` what is read of a batch of offers before it is counted, `specs/Hooks` how components are joined,
 //! `specs/Roots` how a solver joins those that are left, and `specs/Solver` what a round and the end are; `laws` ties
-//! them to the theory. `book`, `tally`, `picks`, `hooks`, `roots`, `solver` and `alone` do it.
+//! them to the theory. `book`, `tally`, `picks`, `hooks`, `roots`, `missed`, `solver` and `alone` do it.
 #![tactic(auto)]
 
 pub mod alone;
@@ -24,6 +24,7 @@ pub mod book;
 pub mod examples;
 pub mod hooks;
 pub mod laws;
+mod missed;
 pub mod picks;
 pub mod refusals;
 mod roots;

@@ -5,15 +5,17 @@ ghost use Rattle.link_key.specs.Link.{EndsUpTo, IsAscending};
 ghost use Rattle.link_key.specs.Labels.{AreLabels};
 ghost use Rattle.link_key.specs.Cut.{joined};
 ghost use Rattle.round_core.specs.Picks.{AreNoPicks, ArePicksOfHearings};
-ghost use Rattle.round_core.specs.Solver.{vertices, IsProgress, IsAtStart, IsPastBound, IsFirstPickedAt, ArePickedOnce, IsTurn, IsStepFault, missed, IsFinished, IsFinishFault};
+ghost use Rattle.round_core.specs.Solver.{vertices, IsProgress, IsAtStart, IsPastBound, IsFirstPickedAt, ArePickedOnce, IsTurn, IsStepFault, IsFinished, IsFinishFault};
 ghost use Rattle.round_core.specs.declared.solver.SolveFault.TheVariants.{Memory};
 
+use crate::missed::{first_missed, first_missed_par};
 use crate::picks::Picks;
 use crate::roots::Roots;
 use limits::MAX_VERTICES;
 use link_key::{Cut, Forest, Labels, Link};
 use std::alloc::{AllocError, Allocator, Global};
 use std::marker::Model;
+use std::thread::Threads;
 use thiserror::Error;
 
 /// What a step did.
@@ -141,10 +143,33 @@ impl<A: Allocator + Copy> Solver<A> {
         ensures forest { IfOk result (IsFinished self.now (joined cut.now)) }
         ensures fault { IfErr result (IsFinishFault self.now (joined cut.now)) }
     {
-        if let Some(link) = first_missed(self.labels.as_slice(), cut) {
+        if let Some(link) = first_missed(self.labels.as_slice(), cut.links()) {
             return Err(SolveFault::Missed { link });
         }
         Ok(in_key_order(*self.taken.allocator(), self.taken.as_slice())?)
+    }
+
+    /// The same by threads, as there are processors for, and without a copy of the links taken: the forest stays in their
+    /// list. Beside it the memory is what [`Forest::of_distinct_par`] takes while it sorts.
+    pub fn finish_par<R: Threads + Sync>(
+        self,
+        rt: &R,
+        cut: &Cut<A>,
+    ) -> Result<Forest<A>, SolveFault>
+        requires ends { All (EndsUpTo (vertices self)) cut.now }
+        ensures forest { IfOk result (IsFinished self (joined cut.now)) }
+        ensures fault { IfErr result (IsFinishFault self (joined cut.now)) }
+    {
+        let Solver {
+            labels,
+            roots: _,
+            taken,
+            rounds: _,
+        } = self;
+        if let Some(link) = first_missed_par(rt, labels.as_slice(), cut.links()) {
+            return Err(SolveFault::Missed { link });
+        }
+        Ok(Forest::of_distinct_par(rt, *taken.allocator(), taken)?)
     }
 }
 
@@ -182,33 +207,6 @@ fn is_past_bound(round: u32, n: u32) -> bool
     ensures { IsTrue result ↔ IsPastBound n round }
 {
     1 << round > n.max(1)
-}
-
-// The first link of the cut whose ends have different labels.
-fn first_missed<A: Allocator>(labels: &[u32], cut: &Cut<A>) -> Option<Link>
-    requires labels { AreLabels labels.now }
-    requires ends { All (EndsUpTo (length labels.now)) cut.now }
-    ensures { result ≡ missed labels.now (joined cut.now) }
-{
-    for number in 0..cut.len() {
-        if let Some(link) = first_apart(labels, cut.shard(number).links) {
-            return Some(link);
-        }
-    }
-    None
-}
-
-// The first of the links whose ends have different labels.
-fn first_apart(labels: &[u32], links: &[Link]) -> Option<Link>
-    requires ends { EndsUpTo (length labels.now) links.now }
-    ensures { result ≡ missed labels.now links.now }
-{
-    for link in links {
-        if labels[link.low as usize - 1] != labels[link.high as usize - 1] {
-            return Some(*link);
-        }
-    }
-    None
 }
 
 // The links in the order of their keys.

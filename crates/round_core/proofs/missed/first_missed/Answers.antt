@@ -1,6 +1,6 @@
 use Rattle.std.proofs.Common.{sym, ap, ◌∙◌, cond, ◌+◌, Some, None}
 use Rattle.round_core.proofs.Missing.{missed_more, missed_at_front, apart_is, not_apart_is}
-use Rattle.round_core.proofs.solver.first_apart.Goals as goal
+use Rattle.round_core.proofs.missed.first_missed.Goals as goal
 
 pub returns-then-labels-link : goal.returns-then-labels-link
 returns-then-labels-link c =
