@@ -132,9 +132,10 @@ pub fn solve<
     let shards = cut.len();
     let open = count_open(lanes);
     let (solver, alone) = merge_rounds(rt, alloc, n, cut, lanes)?;
-    let forest = solver.finish(cut)?;
+    let last = solver.round();
+    let forest = solver.finish_par(rt, cut)?;
     let counts = Counts {
-        last: solver.round(),
+        last,
         alone,
         closed: open - count_open(lanes),
     };

@@ -18,8 +18,8 @@ returns-in_err-forest-clause-honest_fault g c =
     (finish_honest g.P.Port c.args.n c.args.cut.now c.args.lanes.now c.merge_rounds.new.lanes c.in_ok-solver.solver c.in_ok-solver.ensures.went.0 c.in_ok-solver.alone
     c.in_err-forest.field-0.0 c.requires.ends c.in_ok-solver.ensures.went.1 c.in_err-forest.ensures.fault)
 
-pub finish-requires : goal.finish-requires
-finish-requires g c = record { ends = rw c.in_ok-solver.ensures.went.1.vertices_are c.requires.ends }
+pub finish_par-requires-clause-ends : goal.finish_par-requires-clause-ends
+finish_par-requires-clause-ends g c κs within = rw c.in_ok-solver.ensures.went.1.vertices_are c.requires.ends
 
 pub report_of-report-requires-clause-few : goal.report_of-report-requires-clause-few
 report_of-report-requires-clause-few g c =
