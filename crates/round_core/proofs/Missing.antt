@@ -1,16 +1,16 @@
 -- Links that a solver missed, and a forest that misses none.
-use Rattle.std.proofs.Common.{◌≡◌, ◌≢◌, ℕ, ◌+◌, ◌<◌, ◌≤◌, Bool, true, false, not, cond, List, [], ◌∷◌, ◌++◌, length, get_or, take, drop, Contains, Some, None, refl, sym, ap, ◌∙◌, inl, inr, eq-eqb, ne_eqb}
+use Rattle.std.proofs.Common.{◌≡◌, ◌≢◌, ℕ, ◌+◌, ◌<◌, ◌≤◌, Bool, true, false, not, cond, List, [], ◌∷◌, ◌++◌, length, get_or, take, drop, Contains, Some, None, refl, sym, ap, ◌∙◌, inl, inr, eq-eqb, ne_eqb, arith}
 use Rattle.std.specs.Prelude.{All}
 use Rattle.std.specs.List.Sorted.{IsPermutation}
 use Rattle.std.specs.Option.{option_or}
 use Rattle.std.proofs.lemmas.Grind.{flat_map-append}
-use Rattle.std.proofs.lemmas.List.{take_more, take-append-drop}
+use Rattle.std.proofs.lemmas.List.{get_or_default, take_more, take-append-drop}
 use Rattle.std.proofs.lemmas.List.Folds.{find-append}
-use Rattle.std.proofs.lemmas.List.Elements.{Contains-get_or, All-contains}
+use Rattle.std.proofs.lemmas.List.Elements.{Contains-append_right, Contains-get_or, All-contains}
 use Rattle.std.proofs.lemmas.List.Sorted.{Contains-permutation, IsPermutation-sym}
 use Rattle.link_key.specs.declared.links.Link.{Link}
 use Rattle.link_key.specs.Link.{EndsUpTo, IsAscending}
-use Rattle.link_key.specs.Labels.{label_of}
+use Rattle.link_key.specs.Labels.{label_of, AreLabels}
 use Rattle.link_key.specs.Cut.{joined, links_at}
 use Rattle.link_key.proofs.Members.{contains_none, contains_cases}
 use Rattle.link_key.proofs.Walks.{joins_more}
@@ -19,7 +19,10 @@ use Rattle.round_theory.specs.Offers.{Leaves}
 use Rattle.round_theory.proofs.Cutting.{flat_map_contains}
 use Rattle.link_key.proofs.Cycles.{no_cycle_part}
 use Rattle.round_theory.proofs.Leaving.{leaves_apart, spans_where_none_leaves}
+use Rattle.round_theory.proofs.Labels.{labelling_is_labels}
+use Rattle.round_core.specs.Roots.{IsRoot, AreRoots}
 use Rattle.round_core.specs.Solver.{Progress, vertices, IsProgress, is_apart, missed, IsFinished}
+use Rattle.round_core.proofs.Leading.{end_root, low_vertex, high_vertex}
 
 -- one more link, or one more shard, after none was missed
 pub missed_more : (labels : List ℕ) (links : List Link) (i : ℕ) (l : Link) → i < length links → l ≡ get_or links i l → missed labels (take i links) ≡ None
@@ -71,6 +74,11 @@ apart_is labels l other = ap not (ne_eqb (label_of labels l.low) (label_of label
 pub not_apart_is : (labels : List ℕ) (l : Link) → label_of labels l.low ≡ label_of labels l.high → is_apart labels l ≡ false
 not_apart_is labels l same = ap not (eq-eqb (label_of labels l.low) (label_of labels l.high) same)
 
+-- where that is so none is missed
+none_missed : (labels : List ℕ) (links : List Link) → ((l : Link) → Contains links l → is_apart labels l ≡ false) → missed labels links ≡ None
+none_missed labels [] each = refl
+none_missed labels (x ∷ links) each = ap (λ b. cond b (Some x) (missed labels links)) (each x (0, omega arith, refl)) ∙ none_missed labels links (λ l l_in. each l (Contains-append_right (x ∷ []) links l l_in))
+
 -- so none leaves a label
 pub none_leave : (labels : List ℕ) (links : List Link) → missed labels links ≡ None → (l : Link) (c : ℕ) → Contains links l → ¬ (Leaves labels l c)
 none_leave labels links none l c l_in leaves =
@@ -99,3 +107,21 @@ finished p cut forest is ends none moved up = record {
   where
     same : SameLinks (Contains forest) (Contains p.taken)
     same l = (Contains-permutation forest p.taken l (IsPermutation-sym p.taken forest moved), Contains-permutation p.taken forest l moved)
+
+-- Where there is one root at most, each end of a link has it for its label, so none is missed.
+pub none_missed_by_one : (p : Progress) (roots : List ℕ) (cut : List (List Link)) → IsProgress p → AreRoots p.labels roots → length roots ≤ 1 → All (EndsUpTo (vertices p)) cut → missed p.labels (joined cut) ≡ None
+none_missed_by_one p roots cut is are few ends = none_missed p.labels (joined cut) (λ l l_in.
+    let end : l.high ≤ vertices p = All-contains (λ (m : Link). m.high ≤ vertices p) (joined cut) l (joined_ends (vertices p) cut ends) l_in in
+    not_apart_is p.labels l (one (label_of p.labels l.low) (label_of p.labels l.high) (end_root p.labels labels l.low (low_vertex p.labels l end)) (end_root p.labels labels l.high (high_vertex p.labels l end))))
+  where
+    labels : AreLabels p.labels
+    labels = labelling_is_labels (vertices p) (Contains p.taken) p.labels is.few_vertices is.labelling
+
+    first : (c : ℕ) → IsRoot p.labels c → get_or roots 0 0 ≡ c
+    first c root =
+        let (j, within, here) = (are.exact c).1 root in
+        let none : j ≡ 0 = omega (arith, within, few) in
+        ap (λ i. get_or roots i 0) (sym none) ∙ get_or_default roots j 0 c within ∙ here
+
+    one : (c d : ℕ) → IsRoot p.labels c → IsRoot p.labels d → c ≡ d
+    one c d c_root d_root = sym (first c c_root) ∙ first d d_root

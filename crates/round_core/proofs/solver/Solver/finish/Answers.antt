@@ -14,6 +14,6 @@ returns-clause-forest g c =
     let forest = c.in_ok-in_key_order.field-0 in
     let p : Progress = record { labels = c.self.inside.labels; taken = c.self.inside.taken.items; rounds = c.self.inside.rounds } in
     let ends : All (EndsUpTo (vertices p)) cut = subst (λ (q : Progress). All (EndsUpTo (vertices q)) cut) (sym c.self.view_is) c.requires.ends in
-    let none : missed p.labels (joined cut) ≡ None = ap (λ labels. missed labels (joined cut)) (sym c.as_slice.ensures.labels) ∙ sym c.in_default.ensures in
-    let moved : IsPermutation p.taken forest = subst (λ (xs : List Link). IsPermutation xs forest) c.as_slice-2.ensures.value c.in_ok-in_key_order.ensures.same in
+    let none : missed p.labels (joined cut) ≡ None = ap (λ (q : Progress). missed q.labels (joined cut)) c.self.view_is ∙ sym c.in_default.ensures in
+    let moved : IsPermutation p.taken forest = subst (λ (xs : List Link). IsPermutation xs forest) c.as_slice.ensures.value c.in_ok-in_key_order.ensures.same in
     subst (λ (q : Progress). IsFinished q (joined cut) forest) c.self.view_is (finished p cut forest c.self.invariant.0 ends none moved c.in_ok-in_key_order.ensures.ascending)
