@@ -1,11 +1,21 @@
-ghost use Rattle.std.specs.Prelude.{◌≡◌, ℕ, ◌+◌, ◌<◌, ◌≤◌, ◌^◌, ◌↔◌, length, map, slice_index, IsSome, IfSome, IfOk, IsTrue};
+ghost use Rattle.std.specs.Prelude.{◌≡◌, ℕ, ◌+◌, ◌<◌, ◌≤◌, ◌^◌, ◌↔◌, length, map, slice_index, All, IsSome, IfSome, IfOk, IsTrue};
 ghost use Rattle.std.specs.Int.{w32, to_be_bytes};
 ghost use Rattle.std.specs.List.{flat_map};
-ghost use Rattle.link_key.specs.Labels.{label_of, IsLabelled, AreLabels, AreApart, Coarsens};
+ghost use Rattle.link_key.specs.Labels.{label_of, IsLabelled, AreLabels, AreApart, Coarsens, HasBytesFrom};
+ghost use Rattle.link_key.specs.Rounds.{renamed};
+ghost use Rattle.std.specs.Thread.{IsSync};
 
 use limits::MAX_VERTICES;
 use std::alloc::{AllocError, Allocator, Global};
 use std::marker::Model;
+use std::thread;
+use std::thread::Threads;
+
+// So few labels are worth no thread of their own.
+const FEW_LABELS: usize = 1 << 17;
+
+// By so many threads the labels are renamed, where there are many.
+const PARTS: usize = 4;
 
 /// Labels of the vertices 1 to n of a graph: vertices with one label are one component.
 ///
@@ -87,6 +97,22 @@ impl<A: Allocator> Labels<A> {
         }
     }
 
+    /// Gives each vertex, in place of its label, the name of that label: the number that stands at the label's place, where
+    /// the new numbers are labels too. Where the bytes of the labels are kept, those of the new ones are written over them.
+    ///
+    /// One pass, or two, by up to four threads where there are many labels; where no thread can be made the caller's does
+    /// it. It takes no memory.
+    pub fn rename_par<R: Threads + Sync>(&mut self, rt: &R, names: &[u32])
+        requires within { All (λ c. c < length names.now) self.old }
+        requires labels { AreLabels (renamed names.now self.old) }
+        ensures { self.new ≡ renamed names.now self.old }
+    {
+        rename_by_parts(rt, self.labels.as_mut_slice(), names);
+        if let Some(cells) = &mut self.cells {
+            spell_by_parts(rt, cells.as_mut_slice(), self.labels.as_slice());
+        }
+    }
+
     /// The label of vertex `v`.
     pub fn of(&self, v: u32) -> u32
         requires from_one { 1 ≤ v }
@@ -147,6 +173,76 @@ fn cells_of<A: Allocator>(alloc: A, labels: &[u32]) -> Result<Vec<[u8; 4], A>, A
         cells.push_reserved(label.to_be_bytes());
     }
     Ok(cells)
+}
+
+// How many of so many labels a part has: all of them where they are few.
+fn part_of(labels: usize) -> usize
+    ensures { 0 < result }
+{
+    labels.div_ceil(PARTS).max(FEW_LABELS)
+}
+
+// Gives each label its name, part by part, each part in a thread of its own where one can be made.
+fn rename_by_parts<R: Threads + Sync>(rt: &R, labels: &mut [u32], names: &[u32])
+    requires { All (λ c. c < length names.now) labels.old }
+    ensures { labels.new ≡ renamed names.now labels.old }
+{
+    let size = part_of(labels.len());
+    thread::for_each_chunk_mut(
+        rt,
+        labels,
+        size,
+        &|_: usize, part: &mut [u32]|
+            requires { All (λ c. c < length names.now) part.now }
+            ensures { part.exit.now ≡ renamed names.entry.now part.entry.now }
+        { rename_each(part, names) },
+    );
+}
+
+// Gives each label its name.
+fn rename_each(labels: &mut [u32], names: &[u32])
+    requires { All (λ c. c < length names.now) labels.old }
+    ensures { labels.new ≡ renamed names.now labels.old }
+{
+    for i in 0..labels.len() {
+        labels[i] = names[labels[i] as usize];
+    }
+}
+
+// Writes the four bytes of each label, the most significant first, part by part, each part in a thread of its own where
+// one can be made.
+fn spell_by_parts<R: Threads + Sync>(rt: &R, cells: &mut [[u8; 4]], labels: &[u32])
+    requires { length cells.old ≡ length labels.now }
+    ensures { cells.new ≡ map (to_be_bytes w32) labels.now }
+{
+    let size = part_of(labels.len());
+    thread::for_each_chunk_mut(
+        rt,
+        cells,
+        size,
+        &|start: usize, part: &mut [[u8; 4]]|
+            requires { start + length part.now ≤ length labels.now }
+            ensures { HasBytesFrom labels.entry.now start (length part.entry.now) part.exit.now }
+        { spell_part(part, labels, start) },
+    );
+}
+
+// Writes the four bytes of each of the labels behind the first so many.
+fn spell_part(cells: &mut [[u8; 4]], labels: &[u32], start: usize)
+    requires { start + length cells.old ≤ length labels.now }
+    ensures { HasBytesFrom labels.now start (length cells.old) cells.new }
+{
+    spell_each(cells, &labels[start..start + cells.len()]);
+}
+
+// Writes the four bytes of each label, the most significant first.
+fn spell_each(cells: &mut [[u8; 4]], labels: &[u32])
+    requires { length cells.old ≡ length labels.now }
+    ensures { cells.new ≡ map (to_be_bytes w32) labels.now }
+{
+    for i in 0..labels.len() {
+        cells[i] = labels[i].to_be_bytes();
+    }
 }
 
 // How many labels are compared at once.

@@ -1,8 +1,9 @@
 -- The links that roots pick, each given by the least root that picks it.
-use Rattle.std.proofs.Common.{◌≡◌, ℕ, ◌+◌, ◌-◌, ◌<◌, ◌≤◌, ◌↔◌, Bool, true, false, List, [], ◌∷◌, ◌++◌, length, get_or, take, drop, length-drop, Contains, Some, None, sym, ap, ◌∙◌, subst, inl, inr, arith}
+use Rattle.std.proofs.Common.{◌≡◌, ℕ, ◌+◌, ◌-◌, ◌<◌, ◌≤◌, ◌↔◌, Bool, true, false, List, [], ◌∷◌, ◌++◌, length, get_or, take, drop, set, length-drop, length-append, Contains, refl, Some, None, sym, ap, ◌∙◌, subst, inl, inr, arith}
+use mir.Val.{bool_byte}
 use Rattle.std.specs.Prelude.{Option, All}
 use Rattle.std.proofs.lemmas.Bool.{cases_eq, cases_lt}
-use Rattle.std.proofs.lemmas.List.{get_or_default, get_or_past, get_or-take, get_or-drop, length-take-le}
+use Rattle.std.proofs.lemmas.List.{append_assoc, append-nil, get_or_default, get_or_past, get_or-take, get_or-drop, length-take-le, take-set, take_more_set}
 use Rattle.std.proofs.lemmas.List.Elements.{Contains-append_left, Contains-push, Contains-push_cases, Contains-get_or, All-contains}
 use Rattle.std.proofs.lemmas.List.Quantifiers.{all_pairs_push}
 use Rattle.link_key.specs.declared.links.Link.{Link}
@@ -11,7 +12,8 @@ use Rattle.link_key.proofs.Members.{contains_none}
 use Rattle.round_theory.specs.Offers.{Hearing, IsNamed}
 use Rattle.round_theory.proofs.Labels.{labelling_is_labels}
 use Rattle.round_core.specs.Picks.{pick_of, ArePicks, ArePicksOfHearings, AreNoPicks}
-use Rattle.round_core.specs.Roots.{IsRoot, AreRoots, IsLedBy, IsTaker, StandsAt, IsGiven, AreGiven}
+use Rattle.round_core.specs.declared.roots.Lead.{Lead}
+use Rattle.round_core.specs.Roots.{IsRoot, AreRoots, IsLed, IsLedBy, IsTaker, AreLeads, Follows, StandsAt, StandsBefore, TakesBatch, TakesPicked, IsGiven, AreGiven}
 use Rattle.round_core.specs.Solver.{Progress, vertices, IsProgress, IsFirstPickedAt, IsPickedBefore, ArePickedOnce}
 use Rattle.round_core.proofs.Leading.{root_at}
 use Rattle.round_core.proofs.Picking.{place_of, picked_there, first_place}
@@ -89,6 +91,24 @@ next_skipped picks roots batch k i links stands lt none are =
     let next : k + i + 1 ≡ k + (i + 1) = omega arith in
     subst (λ m. AreGiven picks roots m links) next (given_skip picks roots (k + i) links (subst (λ c. (m : Link) → ¬ (IsFirstPickedAt picks m (c - 1))) is none) are)
 
+-- The pick of the next root is written behind those that the batch gave so far, and counted where the root takes it.
+pub next_written : (picks : List (Option Link)) (labels roots batch : List ℕ) (k i : ℕ) (given links : List Link) (count count' : ℕ) (l : Link) (takes : Bool) → AreRoots labels roots → StandsAt roots k batch → i < length batch
+    → count < length links → pick_of picks (get_or batch i 0) ≡ Some l → IsTaker picks (get_or batch i 0) takes → count' ≡ count + bool_byte takes → AreGiven picks roots (k + i) (given ++ take count links)
+    → AreGiven picks roots (k + (i + 1)) (given ++ take count' (set links count l))
+next_written picks labels roots batch k i given links count count' l true are_roots stands lt within here taker count_is so_far =
+    let taken : take count' (set links count l) ≡ take count links ++ l ∷ [] = ap (λ n. take n (set links count l)) count_is ∙ take_more_set links count l within in
+    subst (AreGiven picks roots (k + (i + 1))) (append_assoc given (take count links) (l ∷ []) ∙ ap (λ xs. given ++ xs) (sym taken))
+    (next_given picks labels roots batch k i (given ++ take count links) l are_roots stands lt ((taker l here).0 refl) so_far)
+next_written picks labels roots batch k i given links count count' l false are_roots stands lt within here taker count_is so_far =
+    let same : count' ≡ count = omega (arith, count_is) in
+    let taken : take count' (set links count l) ≡ take count links = ap (λ n. take n (set links count l)) same ∙ take-set links count l in
+    subst (λ xs. AreGiven picks roots (k + (i + 1)) (given ++ xs)) (sym taken)
+    (next_skipped picks roots batch k i (given ++ take count links) stands lt (not_taken picks (get_or batch i 0) false taker refl) so_far)
+
+pub count_more : (b : Bool) (count count' i : ℕ) → count ≤ i → count' ≡ count + bool_byte b → count' ≤ i + 1
+count_more true count count' i few is = omega (arith, few, is)
+count_more false count count' i few is = omega (arith, few, is)
+
 -- all roots gave theirs: these are all links picked, since no other vertex has a pick
 pub given_all : (picks : List (Option Link)) (heard : List Hearing) (labels roots : List ℕ) (k : ℕ) (links : List Link) → AreLabels labels → ArePicks labels (IsNamed heard) picks → AreRoots labels roots → length roots ≤ k
     → AreGiven picks roots k links → ArePickedOnce picks links
@@ -131,76 +151,101 @@ pub none_in_progress : (p : Progress) (roots : List ℕ) (picks : List (Option L
 none_in_progress p roots picks is are_roots (heard, are) =
     none_of_roots picks heard p.labels roots (labelling_is_labels (vertices p) (Contains p.taken) p.labels is.few_vertices is.labelling) are are_roots
 
--- the roots before the rest are led, and gave their links
-pub record AreMergedTo (labels : List ℕ) (picks : List (Option Link)) (roots rest parents : List ℕ) (links : List Link) : Type 0 where
-  pub done : ℕ
-  pub long : done + length rest ≡ length roots
-  pub stands : StandsAt roots done rest
-  pub led : (j : ℕ) → j < done → IsLedBy labels picks parents (get_or roots j 0)
-  pub given : AreGiven picks roots done links
-  pub few : length links ≤ done
+-- a part of a list, from one place to another
+pub part_long : {X : Type 0} (batch part : List X) (done next : ℕ) → next ≤ length batch → part ≡ take (next - done) (drop done batch) → length part ≡ next - done
+part_long {X} batch part done next within is = ap length is ∙ length-take-le (next - done) (drop done batch) (let rest = length-drop done batch in omega (arith, rest, within))
 
-pub merged_none : (labels : List ℕ) (picks : List (Option Link)) (roots parents : List ℕ) → AreMergedTo labels picks roots roots parents []
-merged_none labels picks roots parents = record {
-  done = 0;
-  long = omega arith;
-  stands = λ i lt. let place : i ≡ 0 + i = omega arith in (omega (arith, lt), ap (λ j. get_or roots j 0) place);
-  led = λ j none. absurd (omega (arith, none));
-  given = given_none picks roots;
+-- a part of a list, from one place to another, stands where they are
+pub part_stands : (roots batch part : List ℕ) (k done next : ℕ) → done ≤ next → next ≤ length batch → part ≡ take (next - done) (drop done batch) → StandsAt roots k batch → StandsAt roots (k + done) part
+part_stands roots batch part k done next le within is stands i lt =
+    let long : length part ≡ next - done = part_long batch part done next within is in
+    let (there, at) = stands (done + i) (omega (arith, lt, long, within)) in
+    let place : k + (done + i) ≡ k + done + i = omega arith in (
+      omega (arith, there),
+      ap (λ xs. get_or xs i 0) is ∙ get_or-take (next - done) (drop done batch) i 0 (omega (arith, lt, long)) ∙ get_or-drop done batch i 0 ∙ at ∙ ap (λ j. get_or roots j 0) place,
+    )
+
+-- so what holds of all holds of the part
+pub part_all : (batch part : List ℕ) (done next : ℕ) → next ≤ length batch → part ≡ take (next - done) (drop done batch) → (P : ℕ → Type 0) → All P batch → All P part
+part_all batch part done next within is P all i d lt =
+    let long : length part ≡ next - done = part_long batch part done next within is in
+    let at : get_or batch (done + i) d ≡ get_or part i d = sym (ap (λ xs. get_or xs i d) is ∙ get_or-take (next - done) (drop done batch) i d (omega (arith, lt, long)) ∙ get_or-drop done batch i d) in
+    subst P at (all (done + i) d (omega (arith, lt, long, within)))
+
+-- the first so many of a batch gave their links, behind what was taken before
+pub record HaveTaken (picks : List (Option Link)) (batch : List ℕ) (done : ℕ) (before after : List Link) : Type 0 where
+  pub added : List Link
+  pub behind : after ≡ before ++ added
+  pub few : length added ≤ done
+  pub within : done ≤ length batch
+  pub given : (labels roots : List ℕ) (k : ℕ) (given : List Link) → AreRoots labels roots → StandsAt roots k batch → AreGiven picks roots k given → AreGiven picks roots (k + done) (given ++ added)
+
+pub taken_none : (picks : List (Option Link)) (batch : List ℕ) (before : List Link) → HaveTaken picks batch 0 before before
+taken_none picks batch before = record {
+  added = [];
+  behind = sym (append-nil before);
   few = omega arith;
+  within = omega arith;
+  given = λ labels roots k given are_roots stands so_far.
+      let place : k ≡ k + 0 = omega arith in
+      subst (λ xs. AreGiven picks roots (k + 0) xs) (sym (append-nil given)) (subst (λ m. AreGiven picks roots m given) place so_far);
 }
 
--- a batch, the first of the rest, stands where the rest does
-module _ (roots rest batch : List ℕ) (k n : ℕ) (le : n ≤ length rest) (front : batch ≡ take n rest) (stands : StandsAt roots k rest) where
-  batch_long : length batch ≡ n
-  batch_long = ap length front ∙ length-take-le n rest le
-
-  pub batch_stands : StandsAt roots k batch
-  batch_stands i lt =
-      let below : i < n = omega (arith, lt, batch_long) in
-      let (within, is) = stands i (omega (arith, below, le)) in
-      (within, ap (λ xs. get_or xs i 0) front ∙ get_or-take n rest i 0 below ∙ is)
-
-  -- so what holds of all roots holds of the batch
-  pub batch_all : (P : ℕ → Type 0) → All P roots → All P batch
-  batch_all P all i d lt =
-      let (within, is) = batch_stands i lt in
-      subst P (sym is ∙ get_or_default batch i 0 d lt) (all (k + i) 0 within)
-
--- a batch of the rest is led, and gave its links
-pub merged_more : (labels : List ℕ) (picks : List (Option Link)) (roots rest batch after parents parents' : List ℕ) (links links' : List Link) (n : ℕ) → n ≤ length rest → batch ≡ take n rest → after ≡ drop n rest
-    → (are : AreMergedTo labels picks roots rest parents links) → ((c : ℕ) → IsLedBy labels picks parents c → IsLedBy labels picks parents' c)
-    → ((i : ℕ) → i < length batch → IsLedBy labels picks parents' (get_or batch i 0)) → AreGiven picks roots (are.done + length batch) links' → length links' ≤ length links + length batch
-    → AreMergedTo labels picks roots after parents' links'
-merged_more labels picks roots rest batch after parents parents' links links' n le front back are kept led given few =
-    let taken = batch_long roots rest batch are.done n le front are.stands in
-    let dropped : length after ≡ length rest - n = ap length back ∙ length-drop n rest in
-    let before = are.few in
-    let whole = are.long in
+pub taken_more : (picks : List (Option Link)) (batch part : List ℕ) (done next : ℕ) (before taken taken' : List Link) → done ≤ next → next ≤ length batch → part ≡ take (next - done) (drop done batch)
+    → HaveTaken picks batch done before taken → TakesBatch picks part taken taken' → HaveTaken picks batch next before taken'
+taken_more picks batch part done next before taken taken' le within is have takes =
+    let long : length part ≡ next - done = part_long batch part done next within is in
+    let few = have.few in
+    let more = takes.few in
     record {
-      done = are.done + n;
-      long = omega (arith, dropped, whole, le);
-      stands = λ i lt.
-          let (within, is) = are.stands (n + i) (omega (arith, lt, dropped)) in
-          let place : are.done + (n + i) ≡ are.done + n + i = omega arith in
-          (omega (arith, within), ap (λ xs. get_or xs i 0) back ∙ get_or-drop n rest i 0 ∙ is ∙ ap (λ j. get_or roots j 0) place);
-      led = λ j lt. elim (cases_lt j are.done) [
-        | inl earlier ↦ kept (get_or roots j 0) (are.led j earlier)
-        | inr ge ↦
-            let below : j - are.done < length batch = omega (arith, ge, lt, taken) in
-            let (_, is) = batch_stands roots rest batch are.done n le front are.stands (j - are.done) below in
-            let place : are.done + (j - are.done) ≡ j = omega (arith, ge) in
-            subst (IsLedBy labels picks parents') (is ∙ ap (λ i. get_or roots i 0) place) (led (j - are.done) below)
-      ];
-      given = subst (λ m. AreGiven picks roots (are.done + m) links') taken given;
-      few = omega (arith, few, taken, before);
+      added = have.added ++ takes.added;
+      behind = takes.behind ∙ ap (λ xs. xs ++ takes.added) have.behind ∙ append_assoc before have.added takes.added;
+      few = omega (arith, few, more, long, le, length-append have.added takes.added);
+      within = within;
+      given = λ labels roots k given are_roots stands so_far.
+          let place : k + done + length part ≡ k + next = omega (arith, long, le) in
+          subst (AreGiven picks roots (k + next)) (append_assoc given have.added takes.added)
+          (subst (λ m. AreGiven picks roots m (given ++ have.added ++ takes.added)) place
+          (takes.given labels roots (k + done) (given ++ have.added) are_roots (part_stands roots batch part k done next le within is stands) (have.given labels roots k given are_roots stands so_far)));
     }
 
--- where no rest is left all roots are led
-pub led_all : (labels : List ℕ) (picks : List (Option Link)) (roots rest parents : List ℕ) (links : List Link) → length rest ≡ 0 → AreMergedTo labels picks roots rest parents links → (c : ℕ) → Contains roots c → IsLedBy labels picks parents c
-led_all labels picks roots rest parents links none are c (j, within, here) =
-    let whole = are.long in
-    subst (IsLedBy labels picks parents) (get_or_default roots j 0 c within ∙ here) (are.led j (omega (arith, within, whole, none)))
+pub taken_all : (picks : List (Option Link)) (batch : List ℕ) (done : ℕ) (before after : List Link) → length batch ≤ done → HaveTaken picks batch done before after → TakesBatch picks batch before after
+taken_all picks batch done before after past have =
+    let within = have.within in
+    let all : done ≡ length batch = omega (arith, past, within) in
+    record {
+      added = have.added;
+      behind = have.behind;
+      few = let few = have.few in omega (arith, few, all);
+      given = λ labels roots k given are_roots stands so_far. subst (λ n. AreGiven picks roots (k + n) (given ++ have.added)) all (have.given labels roots k given are_roots stands so_far);
+    }
+
+-- all roots gave theirs, behind what was taken before
+pub picked_behind : (picks : List (Option Link)) (heard : List Hearing) (labels roots : List ℕ) (before after : List Link) → AreLabels labels → ArePicks labels (IsNamed heard) picks → AreRoots labels roots
+    → TakesBatch picks roots before after → TakesPicked picks (length roots) before after
+picked_behind picks heard labels roots before after are_labels are_picks are_roots takes = record {
+  added = takes.added;
+  behind = takes.behind;
+  few = takes.few;
+  once = given_all picks heard labels roots (0 + length roots) takes.added are_labels are_picks are_roots (omega arith)
+      (takes.given labels roots 0 [] are_roots (λ i lt. let place : i ≡ 0 + i = omega arith in (omega (arith, lt), ap (λ j. get_or roots j 0) place)) (given_none picks roots));
+}
 
 pub roots_all : (labels roots : List ℕ) → AreRoots labels roots → All (IsRoot labels) roots
 roots_all labels roots are k d lt = (are.exact (get_or roots k d)).0 (Contains-get_or roots k d lt)
+
+-- nothing was taken yet
+pub nothing_added : (links : List Link) → StandsBefore links links
+nothing_added links = ([], sym (append-nil links))
+
+-- where leads are followed each root is led
+pub led_by_leads : (labels : List ℕ) (picks : List (Option Link)) (roots parents : List ℕ) (leads : List Lead) → length leads ≡ length roots → AreLeads labels picks roots leads → Follows roots leads parents
+    → (c : ℕ) → Contains roots c → IsLedBy labels picks parents c
+led_by_leads labels picks roots parents leads long are follows c (i, within, here) =
+    subst (IsLedBy labels picks parents) (get_or_default roots i 0 c within ∙ here) (subst (λ p. IsLed labels picks (get_or roots i 0) p × IsRoot labels p) (sym (follows i lead within at)) (are.led i lead within at))
+  where
+    lead : Lead
+    lead = get_or leads i (record { parent = 0; takes = false })
+
+    at : lead ≡ get_or leads i lead
+    at = get_or_default leads i (record { parent = 0; takes = false }) lead (omega (arith, within, long))

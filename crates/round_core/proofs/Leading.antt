@@ -74,11 +74,16 @@ end_root labels are v vertex =
     let le : label_of labels v ≤ v = at.at_most_itself in
     ((one, omega (arith, le, vertex.1)), at.own)
 
-low_vertex : (labels : List ℕ) (l : Link) → l.high ≤ length labels → IsVertex (length labels) l.low
+pub low_vertex : (labels : List ℕ) (l : Link) → l.high ≤ length labels → IsVertex (length labels) l.low
 low_vertex labels l end = (l.from_one, omega (arith, l.ascending, end))
 
-high_vertex : (labels : List ℕ) (l : Link) → l.high ≤ length labels → IsVertex (length labels) l.high
+pub high_vertex : (labels : List ℕ) (l : Link) → l.high ≤ length labels → IsVertex (length labels) l.high
 high_vertex labels l end = (omega (arith, l.from_one, l.ascending), end)
+
+-- What the labels of both ends add up to, less the one that the link leaves, is the other one.
+pub other_of_sum : (labels : List ℕ) (l : Link) (c d : ℕ) → Leaves labels l c → d ≡ label_of labels l.low + label_of labels l.high - c → HasEndLabels labels l c d
+other_of_sum labels l c d (inl (low, other)) is = inl (low, sym (let e : d ≡ label_of labels l.high = omega (arith, low, is) in e))
+other_of_sum labels l c d (inr (other, high)) is = inr (sym (let e : d ≡ label_of labels l.low = omega (arith, high, is) in e), high)
 
 pub ends_root : (labels : List ℕ) (l : Link) (c d : ℕ) → AreLabels labels → l.high ≤ length labels → HasEndLabels labels l c d → IsRoot labels c × IsRoot labels d
 ends_root labels l c d are end (inl (low, high)) =

@@ -1,6 +1,7 @@
 pub mod Counts
 pub mod PickNumbers
 pub mod Lessers
+pub mod Clearing
 pub mod Books
 pub mod Halves
 pub mod Honest
@@ -11,6 +12,7 @@ pub mod Full
 pub mod Picking
 pub mod Leading
 pub mod Giving
+pub mod Leads
 pub mod Jumping
 pub mod Naming
 pub mod Merging

@@ -1,9 +1,10 @@
 -- The least root under each parent, and the labels that it gives.
-use Rattle.std.proofs.Common.{◌≡◌, ◌≢◌, ℕ, zero, suc, ◌+◌, ◌-◌, ◌<◌, ◌≤◌, ◌==◌, false, List, length, get_or, set, map, Contains, refl, sym, ap, ◌∙◌, subst, inl, inr, arith}
+use Rattle.std.proofs.Common.{◌≡◌, ◌≢◌, ℕ, zero, suc, ◌+◌, ◌-◌, ◌<◌, ◌≤◌, ◌==◌, Bool, true, false, List, length, get_or, set, map, Contains, refl, sym, ap, ◌∙◌, subst, inl, inr, arith}
+use mir.Val.{bool_byte}
 use Rattle.std.specs.Prelude.{Option, AllPairs, All, filter}
 use Rattle.std.proofs.lemmas.Bool.{cases_eq, cases_lt, eqb-true, eq-eqb}
-use Rattle.std.proofs.lemmas.Bool.Decides.{nat_tests}
-use Rattle.std.proofs.lemmas.List.{length-set, length-map, get_or-map, get_or-set_same, get_or-set_other, get_or_default}
+use Rattle.std.proofs.lemmas.List.Filters.{FiltersInPlace, FiltersInPlace-more_no, FiltersInPlace-more_set}
+use Rattle.std.proofs.lemmas.List.{drop-set-lt, take-set, length-set, length-map, get_or-map, get_or-set_same, get_or-set_other, get_or_default}
 use Rattle.std.proofs.lemmas.List.Elements.{Contains-get_or, All-contains}
 use Rattle.std.proofs.lemmas.List.Kept.{AllPairs-filter}
 use Rattle.link_key.specs.declared.links.Link.{Link}
@@ -223,9 +224,25 @@ kept_roots labels roots new picks are are_new are_roots is = record {
         let same : label_of labels c ≡ c = omega (arith, label, least, own) in
         kept_if (λ c. label_of new c == c) roots c ((are_roots.exact c).1 (here, same)) (eq-eqb (label_of new c) c own)
 
--- a test for equal numbers that fails
-pub other_fails : (m n : ℕ) → m ≢ n → (m == n) ≡ false
-other_fails m n other = grind (arith, nat_tests)
+-- A vertex is written behind those kept, and counted where it passes.
+pub kept_by_test : (p : ℕ → Bool) (xs ys : List ℕ) (k k' i x : ℕ) → FiltersInPlace p xs ys k i → i < length ys → x ≡ get_or ys i x → k' ≡ k + bool_byte (p x) → FiltersInPlace p xs (set ys k x) k' (i + 1)
+kept_by_test p xs ys k k' i x so_far within at count = by_test (p x) refl
+  where
+    by_test : (b : Bool) → p x ≡ b → FiltersInPlace p xs (set ys k x) k' (i + 1)
+    by_test true is =
+        let more : k + 1 ≡ k' = sym (count ∙ ap (λ b. k + bool_byte b) is) in
+        subst (λ n. FiltersInPlace p xs (set ys k x) n (i + 1)) more (FiltersInPlace-more_set {x = x} so_far within is at)
+    by_test false is =
+        let passed : FiltersInPlace p xs ys k (i + 1) = FiltersInPlace-more_no {x = x} so_far within is at in
+        let same : k ≡ k' = omega (arith, count ∙ ap (λ b. k + bool_byte b) is) in
+        let before = so_far.behind in
+        subst (λ n. FiltersInPlace p xs (set ys k x) n (i + 1)) same (record {
+          front = take-set ys k x ∙ passed.front;
+          rest = drop-set-lt (i + 1) ys k x (omega (arith, before)) ∙ passed.rest;
+          behind = passed.behind;
+          within = passed.within;
+          long = length-set ys k x ∙ passed.long;
+        })
 
 -- what is above all roots is above all labels
 pub labels_within : (labels roots : List ℕ) (m : ℕ) → AreLabels labels → AreRoots labels roots → All (λ c. c < m) roots → All (λ c. c < m) labels

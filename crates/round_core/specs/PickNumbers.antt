@@ -27,6 +27,12 @@ IsPickNumber k = (k ≡ no_pick) ⊎ ((l : Link) × IsKeyNumber l k)
 abbrev pub AreLesserOf : List ℕ → List ℕ → List ℕ → Type 0
 AreLesserOf xs ys zs = (i : ℕ) → i < length xs → slice_index zs i ≡ min (slice_index xs i) (slice_index ys i)
 
+-- the labels have the number of no pick, and the others what they had
+pub record AreCleared (labels old new : List ℕ) : Type 0 where
+  pub long : length new ≡ length old
+  pub cleared : (j : ℕ) → j < length labels → slice_index new (slice_index labels j - 1) ≡ no_pick
+  pub rest : (i : ℕ) → (slice_index new i ≡ slice_index old i) ⊎ (slice_index new i ≡ no_pick)
+
 -- a weight, counted from the least one on, has 64 bits
 pub weight_fits : (above : ℕ) → above < 2 ^ 64 → FitsSigned w64 (pos above -ℤ pos (2 ^ 63))
 weight_fits above few = omega (arith, ints)

@@ -1,5 +1,5 @@
 -- The picks of a round: for each label the least link that was offered of those that leave it.
-use Rattle.std.specs.Prelude.{◌≡◌, ℕ, ◌-◌, ◌≤◌, List, ◌++◌, length, All, Contains, Option, Some, None, slice_index_or, MatchOption}
+use Rattle.std.specs.Prelude.{◌≡◌, ℕ, ◌+◌, ◌-◌, ◌≤◌, List, ◌++◌, length, All, Contains, Option, Some, None, slice_index_or, MatchOption}
 use Rattle.link_key.specs.declared.links.Link.{Link}
 use Rattle.round_theory.specs.LinkSet.{LinkSet}
 use Rattle.round_theory.specs.Labelling.{IsVertex}
@@ -34,3 +34,7 @@ Counts labels links old new = (seen : List Link) → ArePicks labels (Contains s
 -- no label has a pick
 abbrev pub AreNoPicks : List (Option Link) → Type 0
 AreNoPicks picks = All (λ pick. pick ≡ None) picks
+
+-- no other label than these has a pick
+abbrev pub HaveAllPicks : List (Option Link) → List ℕ → Type 0
+HaveAllPicks picks labels = (i : ℕ) (l : Link) → slice_index_or picks i None ≡ Some l → Contains labels (i + 1)

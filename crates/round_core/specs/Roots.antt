@@ -1,10 +1,11 @@
 -- The labels that name components, as they stay from round to round, and where picks lead each of them.
-use Rattle.std.specs.Prelude.{◌≡◌, ◌≢◌, ℕ, ◌+◌, ◌-◌, ◌<◌, ◌≤◌, ◌^◌, ◌⊎◌, ◌↔◌, min, Bool, true, false, List, length, slice_index, slice_index_or, AllPairs, Contains, Option, Some, None}
+use Rattle.std.specs.Prelude.{◌≡◌, ◌≢◌, ℕ, ◌+◌, ◌-◌, ◌<◌, ◌≤◌, ◌^◌, ◌⊎◌, ◌↔◌, min, Bool, true, List, ◌++◌, length, slice_index, slice_index_or, AllPairs, Contains, Option, Some, None}
 use Rattle.link_key.specs.declared.links.Link.{Link}
 use Rattle.link_key.specs.Labels.{label_of}
 use Rattle.round_theory.specs.Labelling.{IsVertex, JoinsOver}
 use Rattle.round_core.specs.Picks.{pick_of, Picked}
-use Rattle.round_core.specs.Solver.{IsFirstPickedAt, IsPickedBefore}
+use Rattle.round_core.specs.declared.roots.Lead.{Lead}
+use Rattle.round_core.specs.Solver.{IsFirstPickedAt, IsPickedBefore, ArePickedOnce}
 
 -- c is a vertex that labels itself
 abbrev pub IsRoot : List ℕ → ℕ → Type 0
@@ -38,8 +39,26 @@ abbrev pub IsTaker : List (Option Link) → ℕ → Bool → Type 0
 IsTaker picks c takes = (l : Link) → pick_of picks c ≡ Some l → (takes ≡ true) ↔ IsFirstPickedAt picks l (c - 1)
 
 -- so it is said of each root, at its place
-abbrev pub AreTakers : List (Option Link) → List ℕ → List Bool → Type 0
-AreTakers picks roots takes = (i : ℕ) → i < length roots → IsTaker picks (slice_index roots i) (slice_index_or takes i false)
+abbrev pub AreTakers : List (Option Link) → List ℕ → List Lead → Type 0
+AreTakers picks roots leads = (i : ℕ) (lead : Lead) → i < length roots → lead ≡ slice_index_or leads i lead → IsTaker picks (slice_index roots i) lead.takes
+
+-- each root is led to a root, and takes its pick just where no lesser label has it too
+pub record AreLeads (labels : List ℕ) (picks : List (Option Link)) (roots : List ℕ) (leads : List Lead) : Type 0 where
+  pub led : (i : ℕ) (lead : Lead) → i < length roots → lead ≡ slice_index_or leads i lead
+      → IsLed labels picks (slice_index roots i) lead.parent × IsRoot labels lead.parent
+  pub takes : AreTakers picks roots leads
+
+-- so it is with so many roots from place `start` on
+pub record ArePartLeads (labels : List ℕ) (picks : List (Option Link)) (roots : List ℕ) (start many : ℕ) (leads : List Lead) : Type 0 where
+  pub led : (i : ℕ) (lead : Lead) → i < many → lead ≡ slice_index_or leads i lead
+      → IsLed labels picks (slice_index roots (start + i)) lead.parent × IsRoot labels lead.parent
+  pub takes : (i : ℕ) (lead : Lead) → i < many → lead ≡ slice_index_or leads i lead
+      → IsTaker picks (slice_index roots (start + i)) lead.takes
+
+-- each of the roots has the parent that it is led to
+abbrev pub Follows : List ℕ → List Lead → List ℕ → Type 0
+Follows roots leads parents =
+    (i : ℕ) (lead : Lead) → i < length roots → lead ≡ slice_index_or leads i lead → slice_index parents (slice_index roots i) ≡ lead.parent
 
 -- the roots of a batch are those from place k on
 abbrev pub StandsAt : List ℕ → ℕ → List ℕ → Type 0
@@ -54,11 +73,29 @@ pub record AreGiven (picks : List (Option Link)) (roots : List ℕ) (k : ℕ) (l
   pub exact : (l : Link) → Contains links l ↔ IsGiven picks roots k l
   pub in_order : AllPairs (IsPickedBefore picks) links
 
--- behind the links that the first k roots give stand those that a batch of the next ones gives
-abbrev pub TakesBatch : List (Option Link) → List ℕ → List Link → List Link → Type 0
-TakesBatch picks batch before after =
-    (labels roots : List ℕ) (k : ℕ) → AreRoots labels roots → StandsAt roots k batch
-    → AreGiven picks roots k before → AreGiven picks roots (k + length batch) after
+-- what stood in a list before still stands first in it
+abbrev pub StandsBefore : List Link → List Link → Type 0
+StandsBefore before after = (added : List Link) × (after ≡ before ++ added)
+
+-- behind the links that the first k roots give, these are those that a batch of the next ones gives
+abbrev pub AreGivenNext : List (Option Link) → List ℕ → List Link → Type 0
+AreGivenNext picks batch added =
+    (labels roots : List ℕ) (k : ℕ) (given : List Link) → AreRoots labels roots → StandsAt roots k batch
+    → AreGiven picks roots k given → AreGiven picks roots (k + length batch) (given ++ added)
+
+-- behind what was taken before stand the links that a batch of roots gives
+pub record TakesBatch (picks : List (Option Link)) (batch : List ℕ) (before after : List Link) : Type 0 where
+  pub added : List Link
+  pub behind : after ≡ before ++ added
+  pub few : length added ≤ length batch
+  pub given : AreGivenNext picks batch added
+
+-- behind what was taken before stand the links picked, each once, which are no more than so many
+pub record TakesPicked (picks : List (Option Link)) (most : ℕ) (before after : List Link) : Type 0 where
+  pub added : List Link
+  pub behind : after ≡ before ++ added
+  pub few : length added ≤ most
+  pub once : ArePickedOnce picks added
 
 -- the parent of each root is a root
 pub record ArePointers (roots parents : List ℕ) : Type 0 where

@@ -58,14 +58,15 @@ impl<'a, A: Allocator + Copy> RoundBook<'a, A> {
         RoundBook::open_over(Picks::empty(alloc), round, cut, labels)
     }
 
-    /// The same in the room of picks that are done with, as those of the round before, whatever they are: it is cleared, which
-    /// costs less than room that is new, and asks for more only where there are more labels.
+    /// The same in the room of picks that are done with, as a step leaves them ([`Solver::step_par`](crate::Solver::step_par)):
+    /// none is left, so that nothing is written, and it asks for more room only where there are more labels.
     pub fn open_over(
         picks: Picks<A>,
         round: u32,
         cut: &'a Cut<'a, A>,
         labels: &'a Labels<A>,
     ) -> Result<Self, AllocError>
+        requires none { AreNoPicks picks }
         requires ends { All (EndsUpTo (length labels.now)) cut.now }
         ensures opened { IfOk result (λ book. book ≡ opened round cut.now labels.now) }
     {

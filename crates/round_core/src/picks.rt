@@ -1,9 +1,9 @@
-ghost use Rattle.std.specs.Prelude.{replicate, OnOk, ◌≡◌, ◌≢◌, ℕ, List, ◌+◌, ◌-◌, ◌<◌, ◌≤◌, ◌↔◌, [], ◌∷◌, ◌++◌, length, slice_index_or, All, Some, None, IsTrue, IfOk, Contains};
+ghost use Rattle.std.specs.Prelude.{OnOk, ◌≡◌, ◌≢◌, ℕ, List, ◌+◌, ◌-◌, ◌<◌, ◌≤◌, ◌↔◌, [], ◌∷◌, ◌++◌, length, slice_index_or, All, Some, None, IsTrue, IfOk, Contains};
 ghost use Rattle.link_key.specs.declared.links.Link.{Link as TheLink};
 ghost use Rattle.link_key.specs.Labels.{label_of, AreLabels};
 ghost use Rattle.round_theory.specs.Labelling.{IsVertex};
-ghost use Rattle.round_core.specs.Picks.{pick_of, AreNoPicks, ArePicks, Counts};
-ghost use Rattle.round_core.specs.PickNumbers.{IsKeyNumber, IsPickNumber, AreLesserOf, pick_in};
+ghost use Rattle.round_core.specs.Picks.{pick_of, AreNoPicks, HaveAllPicks, ArePicks, Counts};
+ghost use Rattle.round_core.specs.PickNumbers.{IsKeyNumber, IsPickNumber, AreLesserOf, AreCleared, pick_in};
 ghost use Rattle.round_core.specs.LookedUp.{IsLookedUp, IsCountable, CountsFound, CountsEach};
 
 use link_key::Link;
@@ -74,13 +74,14 @@ impl<A: Allocator + Copy> Picks<A> {
         Picks::empty(alloc).none_over(n)
     }
 
-    // No pick for each of n labels, in the room that these have.
+    // No pick for each of n labels, in the room of such for others. It writes only those that are not there yet.
     pub(crate) fn none_over(self, n: u32) -> Result<Self, AllocError>
+        requires { AreNoPicks self }
         ensures each_vertex { IfOk result (λ picks. length picks ≡ n) }
         ensures none { IfOk result AreNoPicks }
     {
         let Picks { mut numbers } = self;
-        fill_anew(&mut numbers, n as usize)?;
+        fill_up(&mut numbers, n as usize)?;
         Ok(Picks { numbers })
     }
 }
@@ -139,6 +140,14 @@ impl<A: Allocator> Picks<A> {
         lower_each(self.numbers.as_mut_slice(), others.numbers.as_slice());
     }
 
+    // Leaves these labels without a pick. Where no other has one, none is left.
+    pub(crate) fn clear_each(&mut self, labels: &[u32])
+        requires { All (IsVertex (length self.old)) labels.now }
+        ensures { HaveAllPicks self.old labels.now → AreNoPicks self.new }
+    {
+        clear_each(self.numbers.as_mut_slice(), labels);
+    }
+
     // The pick of the vertex that so many vertices stand before.
     #[inline]
     pub(crate) fn at(&self, before: usize) -> Option<Link>
@@ -187,11 +196,12 @@ impl<A: Allocator> Picks<A> {
     }
 }
 
-// Writes the number of no pick so many times, in the room that there is.
-fn fill_anew<A: Allocator>(numbers: &mut Vec<u128, A>, count: usize) -> Result<(), AllocError>
-    ensures { OnOk result (numbers.new.items ≡ replicate count NO_PICK) }
+// Makes so many numbers of no pick of others.
+fn fill_up<A: Allocator>(numbers: &mut Vec<u128, A>, count: usize) -> Result<(), AllocError>
+    requires { All (λ k. k ≡ NO_PICK) numbers.old.items }
+    ensures none { OnOk result (All (λ k. k ≡ NO_PICK) numbers.new.items) }
+    ensures each { OnOk result (length numbers.new.items ≡ count) }
 {
-    numbers.clear();
     numbers.resize(count, NO_PICK)
 }
 
@@ -241,6 +251,16 @@ fn lower_each(numbers: &mut [u128], others: &[u128])
 {
     for i in 0..others.len() {
         numbers[i] = numbers[i].min(others[i]);
+    }
+}
+
+// Gives these labels the number of no pick.
+fn clear_each(numbers: &mut [u128], labels: &[u32])
+    requires { All (IsVertex (length numbers.old)) labels.now }
+    ensures { AreCleared labels.now numbers.old numbers.new }
+{
+    for label in labels {
+        numbers[*label as usize - 1] = NO_PICK;
     }
 }
 

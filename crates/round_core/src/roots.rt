@@ -1,24 +1,38 @@
-ghost use Rattle.std.specs.Prelude.{◌≡◌, ℕ, List, Option, ◌+◌, ◌<◌, ◌≤◌, ◌==◌, ◌↔◌, length, map, filter, slice_index, All, AllPairs, Contains, slice_index_or, Some, None, EachIndex, IsTrue, IfOk, OnOk, false};
+ghost use Rattle.std.specs.Prelude.{◌≡◌, ℕ, List, Option, ◌+◌, ◌<◌, ◌≤◌, ◌==◌, ◌↔◌, length, map, filter, slice_index, All, AllPairs, Contains, slice_index_or, Some, None, EachIndex, IsTrue, IfOk, OnOk, OnErr, false};
 ghost use Rattle.link_key.specs.declared.links.Link.{Link as TheLink};
 ghost use Rattle.link_key.specs.Labels.{label_of, AreLabels, AreApart};
 ghost use Rattle.round_theory.specs.Labelling.{IsVertex, IsRelabelling};
 ghost use Rattle.round_theory.specs.Offers.{Leaves};
-ghost use Rattle.round_core.specs.Picks.{pick_of, Picked, ArePicksOfHearings};
-ghost use Rattle.round_core.specs.Solver.{ArePickedOnce};
-ghost use Rattle.round_core.specs.Roots.{IsRoot, AreRoots, HasEndLabels, IsLed, IsLedBy, IsTaker, AreTakers, TakesBatch, ArePointers, AreParents, AreSettled, AreNear, IsLeastUnder};
+ghost use Rattle.round_core.specs.Picks.{pick_of, Picked, AreNoPicks, HaveAllPicks, ArePicksOfHearings};
+ghost use Rattle.round_core.specs.Roots.{IsRoot, AreRoots, HasEndLabels, IsLed, IsLedBy, IsTaker, AreLeads, ArePartLeads, AreTakers, Follows, TakesBatch, TakesPicked, StandsBefore, ArePointers, AreParents, AreSettled, AreNear, IsLeastUnder};
 
 use crate::picks::Picks;
 use limits::MAX_VERTICES;
 use link_key::{Labels, Link};
 use std::alloc::{AllocError, Allocator, Global};
 use std::marker::Model;
+use std::thread;
+use std::thread::Threads;
 
 // How often parents are jumped over at most: each time doubles how far the rank of a parent is below that of its root,
 // and a rank, the key of a pick, has 128 bits.
 const JUMPS: u32 = 129;
 
-// So many roots are led before the picks of any of them are taken.
+// So few roots are worth no thread of their own.
+const FEW_ROOTS: usize = 1 << 14;
+
+// By so many threads roots are led, where there are many.
+const PARTS: usize = 4;
+
+// The picks of so many roots are taken at once.
 const BATCH: usize = 64;
+
+// What stands where no link was taken yet.
+const BLANK: Link = Link {
+    weight: 0,
+    low: 1,
+    high: 2,
+};
 
 /// The vertices that label themselves, in ascending order: each names a component, and no other vertex has a pick.
 ///
@@ -53,29 +67,65 @@ impl<A: Allocator + Copy> Roots<A> {
         })
     }
 
-    // Merges the components that the picks join. The links picked, each once, in the order of the least roots that pick
-    // them, and the labels of the next round, as `hook_relabel` gives them: for k roots of n vertices in O(n + k log k)
-    // time.
+    // Merges the components that the picks join. The links picked go behind those taken before, each once, in the order of
+    // the least roots that pick them; and the labels of the next round, as `hook_relabel` gives them: for k roots of n
+    // vertices in O(n + k log k) time. After an error some links may stand behind those taken before.
     pub(crate) fn merge(
         &mut self,
-        alloc: A,
         labels: &Labels<A>,
         picks: &Picks<A>,
-    ) -> Result<(Vec<Link, A>, Labels<A>), AllocError>
+        taken: &mut Vec<Link, A>,
+    ) -> Result<Labels<A>, AllocError>
         requires roots { AreRoots labels.now self.old }
         requires picks { ArePicksOfHearings labels.now picks.now }
-        ensures once { IfOk result (λ merged. ArePickedOnce picks.now merged.0.items) }
-        ensures few { IfOk result (λ merged. length merged.0.items ≤ length self.old) }
-        ensures relabelled { IfOk result (λ merged. IsRelabelling (length labels.now) labels.now (Picked picks.now) merged.1) }
+        ensures once { OnOk result (TakesPicked picks.now (length self.old) taken.old.items taken.new.items) }
+        ensures relabelled { IfOk result (IsRelabelling (length labels.now) labels.now (Picked picks.now)) }
+        ensures before { StandsBefore taken.old.items taken.new.items }
         ensures same { self.new ≡ self.old }
     {
+        let alloc = *taken.allocator();
         let old = labels.as_slice();
         make_room(alloc, &mut self.parents, old.len())?;
         make_room(alloc, &mut self.least, old.len())?;
-        let links = join_roots(alloc, old, &self.roots, picks, &mut self.parents)?;
+        let leads = leads_of(alloc, old, &self.roots, picks)?;
+        take_all(&self.roots, &leads, picks, taken)?;
+        join_roots(old, &self.roots, picks, &leads, &mut self.parents);
         name_roots(&self.roots, &mut self.parents, &mut self.least);
         let new = labels_by(alloc, old, &self.parents)?;
-        Ok((links, Labels::of_known(new)))
+        Ok(Labels::of_known(new))
+    }
+}
+
+impl<A: Allocator + Copy + Send + Sync> Roots<A> {
+    // The same by threads, where there are many roots and labels. The new labels are written over the old ones, and in
+    // the end no vertex has a pick.
+    pub(crate) fn merge_par<R: Threads + Sync>(
+        &mut self,
+        rt: &R,
+        labels: &mut Labels<A>,
+        picks: &mut Picks<A>,
+        taken: &mut Vec<Link, A>,
+    ) -> Result<(), AllocError>
+        requires roots { AreRoots labels.old self.old }
+        requires picks { ArePicksOfHearings labels.old picks.old }
+        ensures once { OnOk result (TakesPicked picks.old (length self.old) taken.old.items taken.new.items) }
+        ensures relabelled { OnOk result (IsRelabelling (length labels.old) labels.old (Picked picks.old) labels.new) }
+        ensures none { OnOk result (AreNoPicks picks.new) }
+        ensures before { StandsBefore taken.old.items taken.new.items }
+        ensures labels { OnErr result (labels.new ≡ labels.old) }
+        ensures same { self.new ≡ self.old }
+    {
+        let alloc = *taken.allocator();
+        let old = labels.as_slice();
+        make_room(alloc, &mut self.parents, old.len())?;
+        make_room(alloc, &mut self.least, old.len())?;
+        let leads = leads_by_parts(rt, alloc, old, &self.roots, picks)?;
+        take_all(&self.roots, &leads, picks, taken)?;
+        join_roots(old, &self.roots, picks, &leads, &mut self.parents);
+        name_roots(&self.roots, &mut self.parents, &mut self.least);
+        picks.clear_each(&self.roots);
+        labels.rename_par(rt, &self.parents);
+        Ok(())
     }
 }
 
@@ -110,7 +160,7 @@ fn have_no_picks<A: Allocator>(vertices: &[u32], picks: &Picks<A>) -> bool
     true
 }
 
-// Keeps the vertices that label themselves, in place.
+// Keeps the vertices that label themselves, in place. It takes no branch on the labels.
 fn keep_own<A: Allocator>(vertices: &mut Vec<u32, A>, labels: &[u32])
     requires { All (IsVertex (length labels.now)) vertices.old.items }
     ensures { vertices.new.items ≡ filter (λ c. label_of labels.now c == c) vertices.old.items }
@@ -118,10 +168,8 @@ fn keep_own<A: Allocator>(vertices: &mut Vec<u32, A>, labels: &[u32])
     let mut kept = 0;
     for place in 0..vertices.len() {
         let vertex = vertices[place];
-        if labels[vertex as usize - 1] == vertex {
-            vertices[kept] = vertex;
-            kept += 1;
-        }
+        vertices[kept] = vertex;
+        kept += (labels[vertex as usize - 1] == vertex) as usize;
     }
     vertices.truncate(kept);
 }
@@ -154,109 +202,187 @@ fn make_room<A: Allocator + Copy>(
     Ok(())
 }
 
-// Gives all roots that the picks join one parent, which is one of them, and takes the links picked.
-fn join_roots<A: Allocator + Copy>(
+// Where its pick leads each root.
+fn leads_of<A: Allocator + Copy>(
     alloc: A,
     labels: &[u32],
     roots: &[u32],
     picks: &Picks<A>,
-    parents: &mut [u32],
-) -> Result<Vec<Link, A>, AllocError>
+) -> Result<Vec<Lead, A>, AllocError>
     requires labels { AreLabels labels.now }
     requires picks { ArePicksOfHearings labels.now picks.now }
-    requires roots { AreRoots labels.now roots.now }
-    requires within { All (λ c. c < length parents.old) roots.now }
-    ensures once { IfOk result (λ links. ArePickedOnce picks.now links.items) }
-    ensures few { IfOk result (λ links. length links.items ≤ length roots.now) }
-    ensures pointers { OnOk result (ArePointers roots.now parents.new) }
-    ensures parents { OnOk result (AreParents labels.now roots.now picks.now parents.new) }
-    ensures settled { OnOk result (AreSettled roots.now parents.new) }
+    requires roots { All (IsRoot labels.now) roots.now }
+    ensures each { IfOk result (λ leads. length leads.items ≡ length roots.now) }
+    ensures leads { IfOk result (λ leads. AreLeads labels.now picks.now roots.now leads.items) }
 {
-    let links = lead_roots(alloc, labels, roots, picks, parents)?;
-    for _ in 0..JUMPS {
-        if !jump(roots, parents) {
-            return Ok(links);
-        }
-    }
-    Ok(links)
+    let mut leads = vec![in alloc; Lead::BLANK; roots.len()]?;
+    lead_each(labels, roots, picks, &mut leads);
+    Ok(leads)
 }
 
-// Gives each root the parent that its pick leads it to, and takes the links picked. What is looked up of a root's pick
-// stands anywhere, and decides whether the root takes it: a branch on that would wait for it, so it comes after a batch of
-// look-ups.
-fn lead_roots<A: Allocator + Copy>(
+// The same part by part, each part in a thread of its own where one can be made. What is looked up of a root's pick stands
+// anywhere, so that threads wait side by side.
+fn leads_by_parts<R: Threads + Sync, A: Allocator + Copy + Sync>(
+    rt: &R,
     alloc: A,
     labels: &[u32],
     roots: &[u32],
     picks: &Picks<A>,
-    parents: &mut [u32],
-) -> Result<Vec<Link, A>, AllocError>
+) -> Result<Vec<Lead, A>, AllocError>
     requires labels { AreLabels labels.now }
     requires picks { ArePicksOfHearings labels.now picks.now }
-    requires roots { AreRoots labels.now roots.now }
-    requires within { All (λ c. c < length parents.old) roots.now }
-    ensures once { IfOk result (λ links. ArePickedOnce picks.now links.items) }
-    ensures few { IfOk result (λ links. length links.items ≤ length roots.now) }
-    ensures led { OnOk result ((c : ℕ) → Contains roots.now c → IsLedBy labels.now picks.now parents.new c) }
+    requires roots { All (IsRoot labels.now) roots.now }
+    ensures each { IfOk result (λ leads. length leads.items ≡ length roots.now) }
+    ensures leads { IfOk result (λ leads. AreLeads labels.now picks.now roots.now leads.items) }
 {
-    let mut links = Vec::new(alloc);
-    let mut takes = [false; BATCH];
-    let mut rest = roots;
-    while !rest.is_empty() {
-        let (batch, after) = rest.split_at(BATCH.min(rest.len()));
-        lead_each(labels, batch, picks, parents, &mut takes);
-        take_each(batch, &takes, picks, &mut links)?;
-        rest = after;
-    }
-    Ok(links)
+    let mut leads = vec![in alloc; Lead::BLANK; roots.len()]?;
+    lead_parts(rt, labels, roots, picks, &mut leads);
+    Ok(leads)
 }
 
-// Gives each root of a batch the parent that its pick leads it to, and tells of each whether it takes its pick.
-fn lead_each<A: Allocator>(
+// The same into room for as many leads.
+fn lead_parts<R: Threads + Sync, A: Allocator + Sync>(
+    rt: &R,
     labels: &[u32],
-    batch: &[u32],
+    roots: &[u32],
     picks: &Picks<A>,
-    parents: &mut [u32],
-    takes: &mut [bool],
+    leads: &mut [Lead],
 )
     requires labels { AreLabels labels.now }
     requires picks { ArePicksOfHearings labels.now picks.now }
-    requires roots { All (IsRoot labels.now) batch.now }
-    requires within { All (λ c. c < length parents.old) batch.now }
-    requires room { length batch.now ≤ length takes.old }
-    ensures room { length takes.new ≡ length takes.old }
-    ensures kept { (c : ℕ) → IsLedBy labels.now picks.now parents.old c → IsLedBy labels.now picks.now parents.new c }
-    ensures led { (i : ℕ) → i < length batch.now → IsLedBy labels.now picks.now parents.new (slice_index batch.now i) }
-    ensures takes { AreTakers picks.now batch.now takes.new }
+    requires roots { All (IsRoot labels.now) roots.now }
+    requires room { length leads.old ≡ length roots.now }
+    ensures room { length leads.new ≡ length leads.old }
+    ensures leads { AreLeads labels.now picks.now roots.now leads.new }
 {
-    for i in 0..batch.len() {
-        let root = batch[i];
-        let lead = lead_of(labels, picks, root);
-        parents[root as usize] = lead.parent;
-        takes[i] = lead.takes;
+    let size = roots.len().div_ceil(PARTS).max(FEW_ROOTS);
+    thread::for_each_chunk_mut(
+        rt,
+        leads,
+        size,
+        &|start: usize, part: &mut [Lead]|
+            requires { AreLabels labels.now × ArePicksOfHearings labels.now picks.now × All (IsRoot labels.now) roots.now
+                × (start + length part.now ≤ length roots.now) }
+            ensures { ArePartLeads labels.entry.now picks.entry.now roots.entry.now start (length part.entry.now) part.exit.now }
+        { lead_part(labels, roots, start, picks, part) },
+    );
+}
+
+// Looks up where its pick leads each root of a part, from a place on.
+fn lead_part<A: Allocator>(
+    labels: &[u32],
+    roots: &[u32],
+    start: usize,
+    picks: &Picks<A>,
+    leads: &mut [Lead],
+)
+    requires labels { AreLabels labels.now }
+    requires picks { ArePicksOfHearings labels.now picks.now }
+    requires roots { All (IsRoot labels.now) roots.now }
+    requires room { start + length leads.old ≤ length roots.now }
+    ensures { ArePartLeads labels.now picks.now roots.now start (length leads.old) leads.new }
+{
+    lead_each(labels, &roots[start..start + leads.len()], picks, leads);
+}
+
+// Looks up where its pick leads each root.
+fn lead_each<A: Allocator>(labels: &[u32], roots: &[u32], picks: &Picks<A>, leads: &mut [Lead])
+    requires labels { AreLabels labels.now }
+    requires picks { ArePicksOfHearings labels.now picks.now }
+    requires roots { All (IsRoot labels.now) roots.now }
+    requires room { length leads.old ≡ length roots.now }
+    ensures room { length leads.new ≡ length leads.old }
+    ensures leads { AreLeads labels.now picks.now roots.now leads.new }
+{
+    for i in 0..roots.len() {
+        leads[i] = lead_of(labels, picks, roots[i]);
     }
 }
 
-// Takes the pick of each root of a batch that is to take it.
-fn take_each<A: Allocator>(
-    batch: &[u32],
-    takes: &[bool],
+// Gives all roots that the picks join one parent, which is one of them.
+fn join_roots<A: Allocator>(
+    labels: &[u32],
+    roots: &[u32],
     picks: &Picks<A>,
-    links: &mut Vec<Link, A>,
-) -> Result<(), AllocError>
-    requires roots { All (IsVertex (length picks.now)) batch.now }
-    requires room { length batch.now ≤ length takes.now }
-    requires takes { AreTakers picks.now batch.now takes.now }
-    ensures few { OnOk result (length links.new.items ≤ length links.old.items + length batch.now) }
-    ensures given { OnOk result (TakesBatch picks.now batch.now links.old.items links.new.items) }
+    leads: &[Lead],
+    parents: &mut [u32],
+)
+    requires labels { AreLabels labels.now }
+    requires picks { ArePicksOfHearings labels.now picks.now }
+    requires roots { AreRoots labels.now roots.now }
+    requires within { All (λ c. c < length parents.old) roots.now }
+    requires room { length leads.now ≡ length roots.now }
+    requires leads { AreLeads labels.now picks.now roots.now leads.now }
+    ensures pointers { ArePointers roots.now parents.new }
+    ensures parents { AreParents labels.now roots.now picks.now parents.new }
+    ensures settled { AreSettled roots.now parents.new }
 {
-    for i in 0..batch.len() {
-        if takes[i] {
-            if let Some(link) = picks.of(batch[i]) {
-                links.push(link)?;
-            }
+    follow_each(roots, leads, parents);
+    for _ in 0..JUMPS {
+        if !jump(roots, parents) {
+            return;
         }
     }
+}
+
+// Gives each root the parent that it is led to.
+fn follow_each(roots: &[u32], leads: &[Lead], parents: &mut [u32])
+    requires ascending { AllPairs (λ b c. b < c) roots.now }
+    requires within { All (λ c. c < length parents.old) roots.now }
+    requires room { length leads.now ≡ length roots.now }
+    ensures { Follows roots.now leads.now parents.new }
+{
+    for i in 0..roots.len() {
+        parents[roots[i] as usize] = leads[i].parent;
+    }
+}
+
+// Takes the pick of each root that is to take it, behind what was taken before.
+fn take_all<A: Allocator>(
+    roots: &[u32],
+    leads: &[Lead],
+    picks: &Picks<A>,
+    taken: &mut Vec<Link, A>,
+) -> Result<(), AllocError>
+    requires roots { All (IsVertex (length picks.now)) roots.now }
+    requires room { length leads.now ≡ length roots.now }
+    requires takes { AreTakers picks.now roots.now leads.now }
+    ensures given { OnOk result (TakesBatch picks.now roots.now taken.old.items taken.new.items) }
+    ensures before { StandsBefore taken.old.items taken.new.items }
+{
+    let mut done = 0;
+    while done < roots.len() {
+        let next = roots.len().min(done + BATCH);
+        take_each(&roots[done..next], &leads[done..next], picks, taken)?;
+        done = next;
+    }
+    Ok(())
+}
+
+// Takes the pick of each root of a batch that is to take it, behind what was taken before. It takes no branch on which
+// these are: each pick is written behind those that are taken, and only these are counted.
+fn take_each<A: Allocator>(
+    batch: &[u32],
+    leads: &[Lead],
+    picks: &Picks<A>,
+    taken: &mut Vec<Link, A>,
+) -> Result<(), AllocError>
+    requires roots { All (IsVertex (length picks.now)) batch.now }
+    requires few { length batch.now ≤ BATCH }
+    requires room { length leads.now ≡ length batch.now }
+    requires takes { AreTakers picks.now batch.now leads.now }
+    ensures given { OnOk result (TakesBatch picks.now batch.now taken.old.items taken.new.items) }
+    ensures same { OnErr result (taken.new.items ≡ taken.old.items) }
+{
+    let mut links = [BLANK; BATCH];
+    let mut count = 0;
+    for i in 0..batch.len() {
+        if let Some(link) = picks.of(batch[i]) {
+            links[count] = link;
+            count += leads[i].takes as usize;
+        }
+    }
+    taken.extend_from_slice(&links[..count])?;
     Ok(())
 }
 
@@ -331,6 +457,14 @@ struct Lead {
     takes: bool,
 }
 
+impl Lead {
+    // What stands where no root was led yet.
+    const BLANK: Lead = Lead {
+        parent: 0,
+        takes: false,
+    };
+}
+
 // The lead of a root. Of two roots that pick one link both go to the lesser, which takes it.
 #[inline]
 fn lead_of<A: Allocator>(labels: &[u32], picks: &Picks<A>, root: u32) -> Lead
@@ -357,7 +491,7 @@ fn lead_of<A: Allocator>(labels: &[u32], picks: &Picks<A>, root: u32) -> Lead
     }
 }
 
-// The label of the link's other end.
+// The label of the link's other end: what the labels of both ends add up to, less the root. So no branch waits for either.
 #[inline]
 fn other_label(labels: &[u32], link: Link, root: u32) -> u32
     requires labels { AreLabels labels.now }
@@ -366,7 +500,5 @@ fn other_label(labels: &[u32], link: Link, root: u32) -> u32
     ensures other { HasEndLabels labels.now link root result }
     ensures root { IsRoot labels.now result }
 {
-    let low = labels[link.low as usize - 1];
-    let high = labels[link.high as usize - 1];
-    if low == root { high } else { low }
+    labels[link.low as usize - 1] + labels[link.high as usize - 1] - root
 }

@@ -1,5 +1,5 @@
 //! The solver of a coordinator: it takes the picks of round after round, and is finished where the links taken span.
-ghost use Rattle.std.specs.Prelude.{◌≡◌, ◌≢◌, ℕ, ◌+◌, ◌-◌, ◌<◌, ◌≤◌, ◌^◌, ◌↔◌, max, length, slice_index_or, All, AllPairs, Some, None, IsTrue, IfOk, IfErr, OnErr};
+ghost use Rattle.std.specs.Prelude.{◌≡◌, ◌≢◌, ℕ, ◌+◌, ◌-◌, ◌<◌, ◌≤◌, ◌^◌, ◌↔◌, max, length, slice_index_or, All, AllPairs, Some, None, IsTrue, IfOk, IfErr, OnErr, OnOk};
 ghost use Rattle.std.specs.List.Sorted.{IsPermutation};
 ghost use Rattle.link_key.specs.Link.{EndsUpTo, IsAscending};
 ghost use Rattle.link_key.specs.Labels.{AreLabels};
@@ -101,7 +101,7 @@ impl<A: Allocator + Copy> Solver<A> {
     ///
     /// It looks at the picks of the k vertices that are their own label, and once at each of n vertices: O(n + k log k)
     /// time. Memory: 4 bytes a vertex for the new labels, 8 more that stay from the first step that takes links on, and 16
-    /// bytes for each link of the round in a list of its own, until they stand behind those taken before.
+    /// bytes for each link of the round, in the list of those taken before.
     pub fn step(&mut self, picks: &Picks<A>) -> Result<Turn, SolveFault>
         requires picks { ArePicksOfHearings self.old.labels picks.now }
         ensures turn { IfOk result (IsTurn picks.now self.old self.new) }
@@ -115,18 +115,21 @@ impl<A: Allocator + Copy> Solver<A> {
         if is_past_bound(round, self.labels.n()) {
             return Err(SolveFault::Rounds { round });
         }
-        let alloc = *self.taken.allocator();
-        let (mut links, labels) = self.roots.merge(alloc, &self.labels, picks)?;
-        let count = links.len() as u32;
-        self.taken.append(&mut links)?;
+        let before = self.taken.len();
+        let Ok(labels) = self.roots.merge(&self.labels, picks, &mut self.taken) else {
+            self.taken.truncate(before);
+            return Err(SolveFault::Memory);
+        };
+        let count = (self.taken.len() - before) as u32;
         self.roots.keep(labels.as_slice());
         self.labels = labels;
         self.rounds = round;
         Ok(Turn::Merged(count))
     }
 
-    /// Keeps the bytes of the labels beside them ([`Labels::spell`]), for all who are asked under them, until a step makes
-    /// others: 4 bytes a vertex. The only error is want of memory; then they are not kept.
+    /// Keeps the bytes of the labels beside them ([`Labels::spell`]), for all who are asked under them: 4 bytes a vertex. A
+    /// step by threads keeps them so, one in one thread lets go of them. The only error is want of memory; then they are not
+    /// kept.
     pub fn spell_labels(&mut self) -> Result<(), AllocError>
         ensures { self.new ≡ self.old }
     {
@@ -136,8 +139,9 @@ impl<A: Allocator + Copy> Solver<A> {
     /// The links taken, as a forest, where they join the ends of each link of the cut. Else the first link of the cut,
     /// in its order, whose ends they don't join; that is looked for before memory is asked for.
     ///
-    /// It looks at each link of the cut once, and sorts the links taken: for m links of n vertices O(m + n log n) time.
-    /// Memory: 16 bytes for each link taken, and while it sorts what [`Forest::of_distinct`] takes beside them.
+    /// Where one component is left it looks at no link of the cut, else at each once; and it sorts the links taken: for m
+    /// links of n vertices O(m + n log n) time. Memory: 16 bytes for each link taken, and while it sorts what
+    /// [`Forest::of_distinct`] takes beside them.
     pub fn finish(&self, cut: &Cut<A>) -> Result<Forest<A>, SolveFault>
         requires ends { All (EndsUpTo (vertices self.now)) cut.now }
         ensures forest { IfOk result (IsFinished self.now (joined cut.now)) }
@@ -170,6 +174,46 @@ impl<A: Allocator + Copy> Solver<A> {
             return Err(SolveFault::Missed { link });
         }
         Ok(Forest::of_distinct_par(rt, *taken.allocator(), taken)?)
+    }
+}
+
+impl<A: Allocator + Copy + Send + Sync> Solver<A> {
+    /// The same as [`step`](Solver::step) by up to four threads, where there are many vertices, and in the room that there
+    /// is: the new labels are written over the old ones, with their bytes where these are kept, and each pick is let go of, so
+    /// that a book can be opened over the picks ([`RoundBook::open_over`](crate::RoundBook::open_over)) without clearing them.
+    ///
+    /// Where no thread can be made the caller's does it. Memory: as `step` does, but for the labels, and 8 bytes for each of
+    /// the k vertices meanwhile.
+    pub fn step_par<R: Threads + Sync>(
+        &mut self,
+        rt: &R,
+        picks: &mut Picks<A>,
+    ) -> Result<Turn, SolveFault>
+        requires picks { ArePicksOfHearings self.old.labels picks.old }
+        ensures turn { IfOk result (IsTurn picks.old self.old self.new) }
+        ensures fault { IfErr result (IsStepFault self.old picks.old) }
+        ensures same { OnErr result (self.new ≡ self.old) }
+        ensures none { OnOk result (AreNoPicks picks.new) }
+    {
+        if self.has_no_picks(&*picks) {
+            return Ok(Turn::Done);
+        }
+        let round = self.rounds + 1;
+        if is_past_bound(round, self.labels.n()) {
+            return Err(SolveFault::Rounds { round });
+        }
+        let before = self.taken.len();
+        let Ok(()) = self
+            .roots
+            .merge_par(rt, &mut self.labels, picks, &mut self.taken)
+        else {
+            self.taken.truncate(before);
+            return Err(SolveFault::Memory);
+        };
+        let count = (self.taken.len() - before) as u32;
+        self.roots.keep(self.labels.as_slice());
+        self.rounds += 1;
+        Ok(Turn::Merged(count))
     }
 }
 

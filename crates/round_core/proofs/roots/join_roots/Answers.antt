@@ -3,6 +3,7 @@ use Rattle.std.proofs.lemmas.Nat.{pow_below}
 use Rattle.std.proofs.lemmas.List.Elements.{All-contains}
 use Rattle.round_core.proofs.Leading.{rank_of, rank_few, are_parents, near_at_first}
 use Rattle.round_core.proofs.Jumping.{all_settled}
+use Rattle.round_core.proofs.Giving.{led_by_leads}
 use Rattle.round_core.proofs.roots.join_roots.Goals as goal
 
 pub loop-init : goal.loop-init
@@ -10,13 +11,13 @@ loop-init g c =
     let labels = c.args.labels.now in
     let roots = c.args.roots.now in
     let picks = c.args.picks.now in
-    let parents = c.lead_roots.new.parents in
+    let parents = c.follow_each.new.parents in
     let (heard, are) = c.requires.picks in
-    let led = c.in_ok-links.ensures.led in
+    let led = led_by_leads labels picks roots parents c.args.leads.now c.requires.room c.requires.leads c.follow_each.ensures in
     let leads = λ (r : ℕ) (r_in : Contains roots r). (led r r_in).0 in
     record {
       pointers = record {
-        within = λ r r_in. let within : r < length c.args.parents.now = All-contains (λ x. x < length c.args.parents.now) roots r c.requires.within r_in in omega (arith, within, c.lead_roots.auto.parents);
+        within = λ r r_in. let within : r < length c.args.parents.now = All-contains (λ x. x < length c.args.parents.now) roots r c.requires.within r_in in omega (arith, within, c.follow_each.auto.parents);
         closed = λ r r_in. (c.requires.roots.exact (get_or parents r 0)).1 (led r r_in).1;
       };
       parents = are_parents labels heard picks c.requires.labels are roots parents c.requires.roots leads;

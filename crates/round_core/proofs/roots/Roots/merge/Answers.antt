@@ -5,21 +5,22 @@ use Rattle.link_key.specs.Labels.{AreLabels}
 use Rattle.round_theory.specs.Labelling.{IsRelabelling}
 use Rattle.round_theory.proofs.Steps.{relabelling_is_labels}
 use Rattle.round_core.specs.Picks.{Picked}
-use Rattle.round_core.specs.Roots.{AreRoots}
-use Rattle.round_core.proofs.Naming.{labels_within, roots_below, relabelled_behind}
+use Rattle.round_core.specs.Roots.{AreRoots, AreTakers, TakesPicked}
+use Rattle.round_core.proofs.Giving.{picked_behind, roots_all}
+use Rattle.round_core.proofs.Naming.{labels_within, roots_within, roots_below, relabelled_behind}
 use Rattle.round_core.proofs.roots.Roots.merge.Goals as goal
 
 pub join_roots-requires-clause-within : goal.join_roots-requires-clause-within
 join_roots-requires-clause-within g c =
-    let are_roots : AreRoots c.args.labels.now c.deref.result.now = rw (c.deref.ensures.value, c.self.view_is) c.requires.roots in
+    let are_roots : AreRoots c.args.labels.now c.deref-4.result.now = rw (c.deref-4.ensures.value, c.self.view_is) c.requires.roots in
     let room : length c.as_slice-old.result.now < length c.make_room.new.numbers.items = c.in_ok-make_room.ensures in
-    roots_below c.args.labels.now c.deref.result.now (length c.as_slice-old.result.now) (length c.deref_mut.result.now) (ap length c.as_slice-old.ensures.labels) (omega (arith, room, ap length c.deref_mut.ensures.value)) are_roots
+    roots_below c.args.labels.now c.deref-4.result.now (length c.as_slice-old.result.now) (length c.deref_mut.result.now) (ap length c.as_slice-old.ensures.labels) (omega (arith, room, ap length c.deref_mut.ensures.value)) are_roots
 
 pub name_roots-requires-clause-room : goal.name_roots-requires-clause-room
 name_roots-requires-clause-room g c =
-    let are_roots : AreRoots c.args.labels.now c.deref-2.result.now = rw (c.deref-2.ensures.value, c.self.view_is) c.requires.roots in
+    let are_roots : AreRoots c.args.labels.now c.deref-6.result.now = rw (c.deref-6.ensures.value, c.self.view_is) c.requires.roots in
     let room : length c.as_slice-old.result.now < length c.make_room-2.new.numbers.items = c.in_ok-make_room-2.ensures in
-    roots_below c.args.labels.now c.deref-2.result.now (length c.as_slice-old.result.now) (length c.deref_mut-3.result.now) (ap length c.as_slice-old.ensures.labels) (omega (arith, room, ap length c.deref_mut-3.ensures.value)) are_roots
+    roots_below c.args.labels.now c.deref-6.result.now (length c.as_slice-old.result.now) (length c.deref_mut-3.result.now) (ap length c.as_slice-old.ensures.labels) (omega (arith, room, ap length c.deref_mut-3.ensures.value)) are_roots
 
 pub labels_by-requires : goal.labels_by-requires
 labels_by-requires g c =
@@ -28,21 +29,21 @@ labels_by-requires g c =
     let are_roots : AreRoots old c.self.inside.roots.items = rw (c.as_slice-old.ensures.labels, c.self.view_is) c.requires.roots in
     let room : length old < length c.make_room.new.numbers.items = c.in_ok-make_room.ensures in
     let joined : c.deref_mut-2.result.now ≡ c.join_roots.new.parents = c.deref_mut-2.ensures.value ∙ with_items_is c.make_room.new.numbers c.join_roots.new.parents (c.join_roots.auto.parents ∙ c.deref_mut.ensures.len) in
-    let named : c.deref-3.result.now ≡ c.name_roots.new.parents = c.deref-3.ensures.value ∙ with_items_is (with_items c.make_room.new.numbers c.join_roots.new.parents) c.name_roots.new.parents (c.name_roots.auto.parents ∙ c.deref_mut-2.ensures.len) in
-    let long : length c.deref-3.result.now ≡ length c.make_room.new.numbers.items =
+    let named : c.deref-7.result.now ≡ c.name_roots.new.parents = c.deref-7.ensures.value ∙ with_items_is (with_items c.make_room.new.numbers c.join_roots.new.parents) c.name_roots.new.parents (c.name_roots.auto.parents ∙ c.deref_mut-2.ensures.len) in
+    let long : length c.deref-7.result.now ≡ length c.make_room.new.numbers.items =
     ap length named ∙ c.name_roots.auto.parents ∙ ap length joined ∙ c.join_roots.auto.parents ∙ ap length c.deref_mut.ensures.value in
-    labels_within old c.self.inside.roots.items (length c.deref-3.result.now) are are_roots (roots_below old c.self.inside.roots.items (length old) (length c.deref-3.result.now) refl (omega (arith, room, long)) are_roots)
+    labels_within old c.self.inside.roots.items (length c.deref-7.result.now) are are_roots (roots_below old c.self.inside.roots.items (length old) (length c.deref-7.result.now) refl (omega (arith, room, long)) are_roots)
 
 pub of_known-requires : goal.of_known-requires
 of_known-requires g c =
     let old : List ℕ = c.as_slice-old.result.now in
     let are : AreLabels old = rw c.as_slice-old.ensures.labels c.as_slice-old.ensures.are_labels in
-    let are_roots : AreRoots old c.deref.result.now = rw (c.as_slice-old.ensures.labels, c.deref.ensures.value, c.self.view_is) c.requires.roots in
+    let are_roots : AreRoots old c.deref-4.result.now = rw (c.as_slice-old.ensures.labels, c.deref-4.ensures.value, c.self.view_is) c.requires.roots in
     let names = c.name_roots.new.parents in
     let joined : c.deref_mut-2.result.now ≡ c.join_roots.new.parents = c.deref_mut-2.ensures.value ∙ with_items_is c.make_room.new.numbers c.join_roots.new.parents (c.join_roots.auto.parents ∙ c.deref_mut.ensures.len) in
-    let named : c.deref-3.result.now ≡ names = c.deref-3.ensures.value ∙ with_items_is (with_items c.make_room.new.numbers c.join_roots.new.parents) names (c.name_roots.auto.parents ∙ c.deref_mut-2.ensures.len) in
+    let named : c.deref-7.result.now ≡ names = c.deref-7.ensures.value ∙ with_items_is (with_items c.make_room.new.numbers c.join_roots.new.parents) names (c.name_roots.auto.parents ∙ c.deref_mut-2.ensures.len) in
     let made : c.in_ok-new.new.items ≡ map (λ r. get_or names r 0) old = c.in_ok-new.ensures ∙ ap (λ (xs : List ℕ). map (λ r. get_or xs r 0) old) named in
-    let relabelled = relabelled_behind old c.deref.result.now c.deref-2.result.now c.join_roots.new.parents c.deref_mut-2.result.now names c.args.picks.now are are_roots c.in_ok-links.ensures.parents c.in_ok-links.ensures.settled (c.deref.ensures.value ∙ sym c.deref-2.ensures.value) (sym joined) c.name_roots.ensures in
+    let relabelled = relabelled_behind old c.deref-4.result.now c.deref-6.result.now c.join_roots.new.parents c.deref_mut-2.result.now names c.args.picks.now are are_roots c.join_roots.ensures.parents c.join_roots.ensures.settled (c.deref-4.ensures.value ∙ sym c.deref-6.ensures.value) (sym joined) c.name_roots.ensures in
     relabelling_is_labels (length old) (Picked c.args.picks.now) old c.in_ok-new.new.items are.few_vertices
     (subst (IsRelabelling (length old) old (Picked c.args.picks.now)) (sym made) relabelled)
 
@@ -50,11 +51,33 @@ pub returns-clause-relabelled : goal.returns-clause-relabelled
 returns-clause-relabelled g c =
     let old : List ℕ = c.as_slice-old.result.now in
     let are : AreLabels old = rw c.as_slice-old.ensures.labels c.as_slice-old.ensures.are_labels in
-    let are_roots : AreRoots old c.deref.result.now = rw (c.as_slice-old.ensures.labels, c.deref.ensures.value, c.self.view_is) c.requires.roots in
+    let are_roots : AreRoots old c.deref-4.result.now = rw (c.as_slice-old.ensures.labels, c.deref-4.ensures.value, c.self.view_is) c.requires.roots in
     let names = c.name_roots.new.parents in
     let joined : c.deref_mut-2.result.now ≡ c.join_roots.new.parents = c.deref_mut-2.ensures.value ∙ with_items_is c.make_room.new.numbers c.join_roots.new.parents (c.join_roots.auto.parents ∙ c.deref_mut.ensures.len) in
-    let named : c.deref-3.result.now ≡ names = c.deref-3.ensures.value ∙ with_items_is (with_items c.make_room.new.numbers c.join_roots.new.parents) names (c.name_roots.auto.parents ∙ c.deref_mut-2.ensures.len) in
+    let named : c.deref-7.result.now ≡ names = c.deref-7.ensures.value ∙ with_items_is (with_items c.make_room.new.numbers c.join_roots.new.parents) names (c.name_roots.auto.parents ∙ c.deref_mut-2.ensures.len) in
     let made : c.of_known.result ≡ map (λ r. get_or names r 0) old = c.of_known.ensures ∙ c.in_ok-new.ensures ∙ ap (λ (xs : List ℕ). map (λ r. get_or xs r 0) old) named in
-    let relabelled = relabelled_behind old c.deref.result.now c.deref-2.result.now c.join_roots.new.parents c.deref_mut-2.result.now names c.args.picks.now are are_roots c.in_ok-links.ensures.parents c.in_ok-links.ensures.settled (c.deref.ensures.value ∙ sym c.deref-2.ensures.value) (sym joined) c.name_roots.ensures in
+    let relabelled = relabelled_behind old c.deref-4.result.now c.deref-6.result.now c.join_roots.new.parents c.deref_mut-2.result.now names c.args.picks.now are are_roots c.join_roots.ensures.parents c.join_roots.ensures.settled (c.deref-4.ensures.value ∙ sym c.deref-6.ensures.value) (sym joined) c.name_roots.ensures in
     let here : IsRelabelling (length old) old (Picked c.args.picks.now) c.of_known.result = subst (IsRelabelling (length old) old (Picked c.args.picks.now)) (sym made) relabelled in
     subst (λ (xs : List ℕ). IsRelabelling (length xs) xs (Picked c.args.picks.now) c.of_known.result) c.as_slice-old.ensures.labels here
+
+pub leads_of-requires-clause-roots : goal.leads_of-requires-clause-roots
+leads_of-requires-clause-roots g c =
+    let are : AreRoots c.as_slice-old.result.now c.deref.result.now = rw (c.as_slice-old.ensures.labels, c.deref.ensures.value, c.self.view_is) c.requires.roots in
+    roots_all c.as_slice-old.result.now c.deref.result.now are
+
+pub take_all-requires-clause-roots : goal.take_all-requires-clause-roots
+take_all-requires-clause-roots g c =
+    let are : AreRoots c.args.labels.now c.deref-2.result.now = rw (c.deref-2.ensures.value, c.self.view_is) c.requires.roots in
+    roots_within c.args.labels.now c.deref-2.result.now (length c.args.picks.now) c.requires.picks.1.each_vertex are
+
+pub take_all-requires-clause-takes : goal.take_all-requires-clause-takes
+take_all-requires-clause-takes g c =
+    let takes : AreTakers c.args.picks.now c.self.inside.roots.items c.in_ok-leads.leads.items = rw c.deref.ensures.value at (c.in_ok-leads.ensures.leads.takes) in
+    rw (c.deref-2.ensures.value, c.deref-3.ensures.value) takes
+
+pub returns-clause-once : goal.returns-clause-once
+returns-clause-once g c =
+    let (heard, are) = c.requires.picks in
+    let roots : AreRoots c.args.labels.now c.deref-2.result.now = rw (c.deref-2.ensures.value, c.self.view_is) c.requires.roots in
+    subst (λ (xs : List ℕ). TakesPicked c.args.picks.now (length xs) c.args.taken.now.items c.take_all.new.taken.items) (c.deref-2.ensures.value ∙ c.self.view_is)
+    (picked_behind c.args.picks.now heard c.args.labels.now c.deref-2.result.now c.args.taken.now.items c.take_all.new.taken.items c.as_slice-old.ensures.are_labels are roots c.in_ok-take_all.ensures.given)
