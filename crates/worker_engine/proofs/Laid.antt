@@ -1,7 +1,6 @@
 -- Live places of a shard's links.
-use Rattle.std.proofs.Common.{◌≡◌, ℕ, zero, suc, ◌+◌, ◌<◌, ◌≤◌, List, [], ◌∷◌, ◌++◌, length, get_or, take, set, refl, sym, subst, inl, inr, arith}
+use Rattle.std.proofs.Common.{◌≡◌, ℕ, zero, suc, ◌+◌, ◌<◌, ◌≤◌, List, [], ◌∷◌, ◌++◌, length, get_or, ◌⊎◌, refl, subst, inl, inr, arith}
 use Rattle.std.proofs.lemmas.Bool.{cases_lt}
-use Rattle.std.proofs.lemmas.List.{get_or_default, take_more_set}
 use Rattle.link_key.specs.declared.links.Link.{Link}
 use Rattle.link_key.specs.Labels.{label_of, Coarsens}
 use Rattle.worker_engine.specs.Live.{IsQuiet, AreQuiet, AreLive}
@@ -83,27 +82,38 @@ module _ (links : List Link) (labels : List ℕ) where
   live_push from at [] (le, quiet) = (le, quiet, (omega arith, λ q l from_start before_end read. absurd (omega (arith, from_start, before_end))))
   live_push from at (p ∷ places) (le, quiet, rest) = (le, quiet, live_push (p + 1) at places rest)
 
-  module _ (to : ℕ) (old : List ℕ) (i : ℕ) (live : AreLive links labels 0 to old) (within : i < length old) (kept : ℕ) (places : List ℕ) (front : AreLive links labels 0 (get_or old i to) (take kept places)) where
-    -- the place that stands next
-    abbrev next : ℕ
-    next = get_or old i 0
+  -- the range begins earlier over quiet links
+  pub live_before : (from at to : ℕ) (places : List ℕ) → from ≤ at → AreQuiet links labels from at → AreLive links labels at to places → AreLive links labels from to places
+  live_before from at to [] le quiet (le', quiet') = (
+    omega (arith, le, le'),
+    λ q l from_start before_end read. elim (cases_lt q at) [
+      | inl lt ↦ quiet q l from_start lt read
+      | inr later ↦ quiet' q l later before_end read
+    ],
+  )
+  live_before from at to (p ∷ places) le quiet (le', quiet', rest) = (
+    omega (arith, le, le'),
+    λ q l from_start before_end read. elim (cases_lt q at) [
+      | inl lt ↦ quiet q l from_start lt read
+      | inr later ↦ quiet' q l later before_end read
+    ],
+    rest,
+  )
 
-    -- up to it
-    up_to_next : AreLive links labels 0 next (take kept places)
-    up_to_next = subst (λ k. AreLive links labels 0 k (take kept places)) (get_or_default old i to 0 within) front
-
-    -- it is moved to the front
-    pub live_moved : kept < length places → AreLive links labels 0 (get_or old (i + 1) to) (take (kept + 1) (set places kept next))
-    live_moved room =
-        let (le, quiet) = live_next 0 to old i 0 live within in
-        subst (AreLive links labels 0 (get_or old (i + 1) to)) (sym (take_more_set places kept next room))
-        (live_goes_on 0 (next + 1) (get_or old (i + 1) to) (take kept places ++ next ∷ []) (live_push 0 next (take kept places) up_to_next) le quiet)
-
-    -- it is left out
-    pub live_left_out : AreQuiet links labels next (next + 1) → AreLive links labels 0 (get_or old (i + 1) to) (take kept places)
-    live_left_out alone =
-        let (le, quiet) = live_next 0 to old i 0 live within in
-        live_goes_on 0 (next + 1) (get_or old (i + 1) to) (take kept places) (live_goes_on 0 next (next + 1) (take kept places) up_to_next (omega arith) alone) le quiet
+  -- a place of the range is live, or the link there is quiet
+  pub live_or_quiet : (from to : ℕ) (places : List ℕ) (q : ℕ) (l : Link) → AreLive links labels from to places → from ≤ q → q < to → l ≡ get_or links q l
+      → IsQuiet labels l ⊎ ((k : ℕ) × (k < length places) × (get_or places k q ≡ q))
+  live_or_quiet from to [] q l (le, quiet) low high read = inl (quiet q l low high read)
+  live_or_quiet from to (p ∷ places) q l (le, quiet, rest) low high read = elim (cases_lt q p) [
+    | inl before ↦ inl (quiet q l low before read)
+    | inr later ↦ elim (cases_lt p q) [
+      | inl behind ↦ elim (live_or_quiet (p + 1) to places q l rest (omega (arith, behind)) high read) [
+        | inl is ↦ inl is
+        | inr (k, lt, at) ↦ inr (suc k, omega (arith, lt), at)
+      ]
+      | inr not_behind ↦ inr (0, omega arith, omega (arith, later, not_behind))
+    ]
+  ]
 
   -- a link both of whose ends have one label is quiet
   pub quiet_alone : (i : ℕ) (l : Link) → i < length links → l ≡ get_or links i l → l.high ≤ length labels → label_of labels l.low ≡ label_of labels l.high → AreQuiet links labels i (i + 1)

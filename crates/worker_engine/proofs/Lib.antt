@@ -5,6 +5,11 @@ pub mod Written
 pub mod Ahead
 pub mod Merging
 pub mod Tables
+pub mod Packed
+pub mod Numbering
+pub mod ByNumbers
+pub mod Relisting
+pub mod NextScan
 pub mod Ends
 pub mod Shelves
 pub mod Offering

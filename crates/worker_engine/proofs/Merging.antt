@@ -24,7 +24,7 @@ bests_say links labels from to table are i d within some = go keeps.best keeps.s
     kept = get_or table i d
 
     keeps : Keeps links labels from to (i + 1) kept
-    keeps = kept_at links labels from to table (i + 1) i d are (omega arith, omega (arith, within, are.each_vertex)) (omega arith)
+    keeps = kept_at (length labels) links labels from to table (i + 1) i d are (omega arith, omega (arith, within, are.each_vertex)) (omega arith)
 
     go : (best : Option ℕ) → Says links kept best → Says links kept (Some kept.place)
     go None says = absurd (some (ap (λ (b : Best). b.place) says))
@@ -56,7 +56,7 @@ module _ (links : List Link) (labels : List ℕ) (from at to : ℕ) where
     vertex = (omega arith, omega (arith, within, later_are.each_vertex))
 
     next_keeps : Keeps links labels at to (i + 1) next
-    next_keeps = kept_at links labels at to later (i + 1) i d later_are vertex (omega arith)
+    next_keeps = kept_at (length labels) links labels at to later (i + 1) i d later_are vertex (omega arith)
 
     at_next : best_of table (i + 1) ≡ get_or table i d
     at_next = ap (λ k. get_or table k no_best) (omega arith) ∙ get_or_default table i no_best d (omega (arith, vertex, are.each_vertex))

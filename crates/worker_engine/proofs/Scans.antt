@@ -14,7 +14,7 @@ use Rattle.round_theory.specs.Offers.{Leaves}
 use Rattle.round_theory.proofs.Leaving.{leaves_apart, leaves_end}
 use Rattle.worker_engine.proofs.BestSoFar.{one_read, not_below_from_le, below_from_gt, best_goes_on, best_first, best_stays, best_new}
 use Rattle.worker_engine.specs.declared.scanning.Best.{Best}
-use Rattle.worker_engine.specs.Scanning.{no_best, IsBestPlace, NoneLeavesIn, IsBest, Says, Keeps, best_of, AreBest}
+use Rattle.worker_engine.specs.Scanning.{no_best, IsBestPlace, NoneLeavesIn, IsBest, Says, Keeps, best_of, AreBestUpTo}
 
 -- of two links the one of the smaller weight is below the other
 lighter_is_below : (l m : Link) → l.weight <ℤ m.weight → is_le (key_cmp l m) ≡ true
@@ -43,10 +43,10 @@ said_weight links kept best says x = go best says
         by l.weight (says.2 l (get_or_default links p x l says.1)) (to_z-of_z w64 l.weight l.weight_fits)
 
 -- a table of nothing keeps the best places of no links
-pub best_of_none : (links : List Link) (labels : List ℕ) (from : ℕ) → AreBest links labels from from (replicate (length labels) no_best)
-best_of_none links labels from = record {
-  each_vertex = length-replicate (length labels) no_best;
-  best = λ c vertex. subst (Keeps links labels from from c) (sym (get_or-replicate (length labels) (c - 1) no_best no_best (omega (arith, vertex))))
+pub best_of_none : (count : ℕ) (links : List Link) (labels : List ℕ) (from : ℕ) → AreBestUpTo count links labels from from (replicate count no_best)
+best_of_none count links labels from = record {
+  each_vertex = length-replicate count no_best;
+  best = λ c vertex. subst (Keeps links labels from from c) (sym (get_or-replicate count (c - 1) no_best no_best (omega (arith, vertex))))
       (record { best = None; says = refl; is = λ q m from_start before_end in_list read leaves. absurd (omega (arith, from_start, before_end)) });
 }
 
@@ -138,21 +138,21 @@ pub keeps_out : (links : List Link) (labels : List ℕ) (from at to c : ℕ) (ke
 keeps_out links labels from at to c kept le none keeps = record { best = keeps.best; says = keeps.says; is = best_goes_on links labels c from at to keeps.best le none keeps.is }
 
 -- links whose ends have one label leave none
-pub bests_stay : (links : List Link) (labels : List ℕ) (from at to : ℕ) (table : List Best) → at ≤ to
+pub bests_stay : (count : ℕ) (links : List Link) (labels : List ℕ) (from at to : ℕ) (table : List Best) → at ≤ to
     → ((q : ℕ) (l : Link) → at ≤ q → q < to → q < length links → l ≡ get_or links q l → label_of labels l.low ≡ label_of labels l.high)
-    → AreBest links labels from at table → AreBest links labels from to table
-bests_stay links labels from at to table le same are = record {
+    → AreBestUpTo count links labels from at table → AreBestUpTo count links labels from to table
+bests_stay count links labels from at to table le same are = record {
   each_vertex = are.each_vertex;
   best = λ c vertex. keeps_out links labels from at to c (best_of table c) le
       (λ q l from_start before_end in_list read leaves. leaves_apart labels l c leaves (same q l from_start before_end in_list read)) (are.best c vertex);
 }
 
-module _ (links : List Link) (labels : List ℕ) (from i : ℕ) (within : i < length links) where
+module _ (count : ℕ) (links : List Link) (labels : List ℕ) (from i : ℕ) (within : i < length links) where
   -- another one leaves the labels of its two ends, and no others
   pub bests_change : (table : List Best) (l : Link) (low high : ℕ) (at_low at_high : Best) → l ≡ get_or links i l
-      → low ≡ label_of labels l.low → high ≡ label_of labels l.high → low ≢ high → IsVertex (length labels) low → IsVertex (length labels) high
+      → low ≡ label_of labels l.low → high ≡ label_of labels l.high → low ≢ high → IsVertex count low → IsVertex count high
       → Keeps links labels from (i + 1) low at_low → Keeps links labels from (i + 1) high at_high
-      → AreBest links labels from i table → AreBest links labels from (i + 1) (set (set table (low - 1) at_low) (high - 1) at_high)
+      → AreBestUpTo count links labels from i table → AreBestUpTo count links labels from (i + 1) (set (set table (low - 1) at_low) (high - 1) at_high)
   bests_change table l low high at_low at_high read low_is high_is apart low_vertex high_vertex low_best high_best are = record {
     each_vertex = length-set (set table (low - 1) at_low) (high - 1) at_high ∙ length-set table (low - 1) at_low ∙ are.each_vertex;
     best = best;
@@ -167,7 +167,7 @@ module _ (links : List Link) (labels : List ℕ) (from i : ℕ) (within : i < le
           let same = one_read links i l m within read (subst (λ k. m ≡ get_or links k m) at m_read) in
           elim (leaves_end labels l c (subst (λ k. Leaves labels k c) (sym same) leaves)) [ inl is ↦ not_low (is ∙ sym low_is) | inr is ↦ not_high (is ∙ sym high_is) ]
 
-      best : (c : ℕ) → IsVertex (length labels) c → Keeps links labels from (i + 1) c (best_of (set first (high - 1) at_high) c)
+      best : (c : ℕ) → IsVertex count c → Keeps links labels from (i + 1) c (best_of (set first (high - 1) at_high) c)
       best c vertex = elim (cases_eq c high) [
         | inl is ↦ subst (Keeps links labels from (i + 1) c)
             (sym (ap (λ k. get_or (set first (high - 1) at_high) (k - 1) no_best) is ∙ get_or-set_same first (high - 1) at_high no_best (omega (arith, length-set table (low - 1) at_low, are.each_vertex, high_vertex))))
@@ -189,6 +189,6 @@ pub end_at : (n : ℕ) (links : List Link) (i : ℕ) (l : Link) → EndsUpTo n l
 end_at n links i l ends within read = subst (λ (k : Link). k.high ≤ n) (sym read) (ends i l within)
 
 -- what a table keeps for a label, read by any default
-pub kept_at : (links : List Link) (labels : List ℕ) (from to : ℕ) (table : List Best) (c k : ℕ) (d : Best) → AreBest links labels from to table → IsVertex (length labels) c → k ≡ c - 1 → Keeps links labels from to c (get_or table k d)
-kept_at links labels from to table c k d are vertex at =
+pub kept_at : (count : ℕ) (links : List Link) (labels : List ℕ) (from to : ℕ) (table : List Best) (c k : ℕ) (d : Best) → AreBestUpTo count links labels from to table → IsVertex count c → k ≡ c - 1 → Keeps links labels from to c (get_or table k d)
+kept_at count links labels from to table c k d are vertex at =
     subst (Keeps links labels from to c) (get_or_default table (c - 1) no_best d (omega (arith, are.each_vertex, vertex)) ∙ ap (λ n. get_or table n d) (sym at)) (are.best c vertex)

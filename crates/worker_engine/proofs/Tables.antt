@@ -17,7 +17,7 @@ use Rattle.round_theory.proofs.Lists.{set_ends}
 use Rattle.round_theory.proofs.OfferSteps.{left_label_is_vertex}
 use Rattle.worker_engine.specs.declared.scanning.Best.{Best}
 use Rattle.worker_engine.specs.Scanning.{no_best, IsBestPlace, best_of, AreBest}
-use Rattle.worker_engine.specs.Tables.{HaveNotes, AreNone, KeepNoMore, IsKept, ArePlacesBelow}
+use Rattle.worker_engine.specs.Tables.{HaveNotes, AreNone, KeepNoMore, IsKept, ArePlacesBelow, ArePlaces}
 use Rattle.worker_engine.proofs.BestSoFar.{best_is_light, none_leaves}
 use Rattle.worker_engine.proofs.Scans.{kept_place, kept_none}
 
@@ -131,6 +131,33 @@ places_push bests before place pairs here some are = record {
           subst (λ (p : ℕ × ℕ). Contains (pairs ++ (before + 1, place) ∷ []) p) (λ k. (sym same k, sym one k)) (Contains-push pairs (before + 1, place))
     ]
 
+-- the link that is offered is the one at the best place, and stands first there
+pub same_place : (links : List Link) (labels : List ℕ) (label p place : ℕ) → IsBestPlace links labels 0 (length links) label p → IsLightOffer links labels label place → p ≡ place
+same_place links labels label p place best (l, least, at) = elim (best.first place l (omega arith) at.within at.within (sym at.here) least.leaves) [
+  | inl below ↦ absurd (least.least best.link (p, best.in_list, sym best.here) best.leaves below)
+  | inr (same, le) ↦ elim (cases_lt p place) [
+    | inl lt ↦ absurd (at.first p lt (sym (subst (λ (k : Link). k ≡ get_or links p k) same best.here)))
+    | inr ge ↦ omega (arith, le, ge)
+  ]
+]
+
+-- a place is kept for a label of the table alone
+pub kept_below : (bests : List Best) (label place : ℕ) → IsKept bests label place → label < length bests + 1
+kept_below bests label place kept = elim (cases_lt label (length bests + 1)) [
+  | inl lt ↦ lt
+  | inr le ↦ absurd (kept.some (sym kept.here ∙ ap (λ (b : Best). b.place) (get_or_past bests (label - 1) no_best (omega (arith, le)))))
+]
+
+-- below a bound behind the last label are all that are kept
+pub places_all : (bests : List Best) (bound : ℕ) (pairs : List Offer) → length bests < bound → ArePlacesBelow bests bound pairs → ArePlaces bests pairs
+places_all bests bound pairs past are = record {
+  ascending = are.ascending;
+  exact = λ label place. (
+    λ is_in. ((are.exact label place).0 is_in).1,
+    λ kept. (are.exact label place).1 (omega (arith, kept_below bests label place kept, past), kept),
+  );
+}
+
 -- the best places are the light offers
 module _ (links : List Link) (labels : List ℕ) (bests : List Best) (few : length links ≤ 2 ^ 24) (ends : EndsUpTo (length labels) links) (all : AreLabels labels) (are : AreBest links labels 0 (length links) bests) where
   kept_is_light : (label place : ℕ) → label < length bests + 1 → IsKept bests label place → IsLightOffer links labels label place
@@ -139,32 +166,19 @@ module _ (links : List Link) (labels : List ℕ) (bests : List Best) (few : leng
       let best = kept_place links labels 0 (length links) label (best_of bests label) (are.best label vertex) (λ none. kept.some (sym kept.here ∙ none)) in
       best_is_light links labels label place (subst (IsBestPlace links labels 0 (length links) label) kept.here best)
 
-  -- the link that is offered is the one at the best place, and stands first there
-  same_place : (label p place : ℕ) → IsBestPlace links labels 0 (length links) label p → IsLightOffer links labels label place → p ≡ place
-  same_place label p place best (l, least, at) = elim (best.first place l (omega arith) at.within at.within (sym at.here) least.leaves) [
-    | inl below ↦ absurd (least.least best.link (p, best.in_list, sym best.here) best.leaves below)
-    | inr (same, le) ↦ elim (cases_lt p place) [
-      | inl lt ↦ absurd (at.first p lt (sym (subst (λ (k : Link). k ≡ get_or links p k) same best.here)))
-      | inr ge ↦ omega (arith, le, ge)
-    ]
-  ]
-
   light_is_kept : (label place : ℕ) → IsLightOffer links labels label place → (label < length bests + 1) × IsKept bests label place
   light_is_kept label place (l, least, at) =
       let vertex = left_label_is_vertex labels l label all (set_ends (length labels) links ends l least.member) least.leaves in
       let keeps = are.best label vertex in
       let some : (best_of bests label).place ≢ no_best.place = λ none. none_leaves links labels label (kept_none links labels 0 (length links) label (best_of bests label) keeps few none) l least.member least.leaves in
-      let same = same_place label (best_of bests label).place place (kept_place links labels 0 (length links) label (best_of bests label) keeps some) (l, least, at) in
+      let same = same_place links labels label (best_of bests label).place place (kept_place links labels 0 (length links) label (best_of bests label) keeps some) (l, least, at) in
       (omega (arith, vertex, are.each_vertex), record { from_one = vertex.0; here = same; some = λ none. some (same ∙ none) })
 
-  pub places_are_light : (bound : ℕ) (pairs : List Offer) → length bests < bound → ArePlacesBelow bests bound pairs → AreLightOffers links labels pairs
-  places_are_light bound pairs past places = record {
+  pub places_are_light : (pairs : List Offer) → ArePlaces bests pairs → AreLightOffers links labels pairs
+  places_are_light pairs places = record {
     ascending = places.ascending;
     exact = λ label place. (
-      λ is_in. let kept = ((places.exact label place).0 is_in).1 in elim (cases_lt label (length bests + 1)) [
-        | inl lt ↦ kept_is_light label place lt kept
-        | inr le ↦ absurd (kept.some (sym kept.here ∙ ap (λ (b : Best). b.place) (get_or_past bests (label - 1) no_best (omega (arith, le)))))
-      ],
-      λ light. let kept = light_is_kept label place light in (places.exact label place).1 (omega (arith, kept.0, past), kept.1),
+      λ is_in. let kept = (places.exact label place).0 is_in in kept_is_light label place (kept_below bests label place kept) kept,
+      λ light. (places.exact label place).1 (light_is_kept label place light).1,
     );
   }

@@ -1,17 +1,17 @@
 -- Live links, each written with labels of its ends.
-use Rattle.std.proofs.Common.{◌≡◌, ◌≢◌, ◌↔◌, ℕ, ◌+◌, ◌<◌, ◌≤◌, List, [], ◌∷◌, ◌++◌, length, get_or, take, set, All, Bool, true, false, Some, inl, inr, refl, sym, ap, ◌∙◌, subst, arith}
+use Rattle.std.proofs.Common.{◌≡◌, ◌≢◌, ◌↔◌, ℕ, ◌+◌, ◌<◌, ◌≤◌, List, [], ◌∷◌, ◌++◌, length, get_or, All, Bool, true, false, Some, inl, inr, refl, sym, ap, ◌∙◌, subst, arith}
 use Rattle.std.proofs.lemmas.Bool.{cases_eq}
-use Rattle.std.proofs.lemmas.List.{get_or_default, get_or-map, take-map, map-append, map-set, take_more_set, length-map, length-set, get_or-set_other}
+use Rattle.std.proofs.lemmas.List.{get_or_default, get_or-map, map-append, length-map}
 use Rattle.std.proofs.lemmas.List.Elements.{All-append, All-cons, All-nil}
 use Rattle.link_key.specs.declared.links.Link.{Link}
 use Rattle.link_key.specs.Labels.{label_of, AreLabels, Coarsens}
 use Rattle.round_theory.specs.Labelling.{IsVertex}
 use Rattle.worker_engine.specs.declared.scanning.Best.{Best}
 use Rattle.worker_engine.specs.declared.live.LiveLink.{LiveLink}
-use Rattle.worker_engine.specs.Scanning.{Says, AreBest, TakesIn}
+use Rattle.worker_engine.specs.Scanning.{Says, AreBestUpTo, TakesIn}
 use Rattle.worker_engine.specs.Batches.{written_at}
-use Rattle.worker_engine.specs.Live.{AreQuiet, AreLive, HaveOneLabel, IsWritten, places_of, AreLiveLinks, relabelled}
-use Rattle.worker_engine.proofs.Laid.{live_coarser, live_first, live_next, live_within, live_end, live_push, live_goes_on, live_moved, live_left_out, quiet_alone}
+use Rattle.worker_engine.specs.Live.{AreLive, HaveOneLabel, IsWritten, places_of, AreLiveLinks, relabelled}
+use Rattle.worker_engine.proofs.Laid.{live_coarser, live_first, live_next, live_within, live_end, live_push, live_goes_on, quiet_alone}
 use Rattle.worker_engine.proofs.BestSoFar.{one_read}
 use Rattle.worker_engine.proofs.Scans.{bests_stay}
 
@@ -71,57 +71,18 @@ one_unless b u v is fails = elim (cases_eq u v) [
   | inr apart ↦ let holds = is.1 apart in cc
 ]
 
--- of the first entries, up to one, so many are written at the front, and the others stand
-pub record AreMoved (old : List LiveLink) (i kept : ℕ) (live : List LiveLink) : Type 0 where
-  pub count : kept ≤ i
-  pub each : length live ≡ length old
-  pub rest : (k : ℕ) (d : LiveLink) → i ≤ k → k < length live → get_or live k d ≡ get_or old k d
-
-pub moved_none : (old : List LiveLink) → AreMoved old 0 0 old
-moved_none old = record { count = omega arith; each = refl; rest = λ k d le lt. refl }
-
-pub moved_kept : (old : List LiveLink) (i kept : ℕ) (live : List LiveLink) (next : LiveLink) → AreMoved old i kept live → AreMoved old (i + 1) (kept + 1) (set live kept next)
-moved_kept old i kept live next is = record {
-  count = omega (arith, is.count);
-  each = length-set live kept next ∙ is.each;
-  rest = λ k d le lt. get_or-set_other live kept k next d (omega (arith, le, is.count)) ∙ is.rest k d (omega (arith, le)) (omega (arith, lt, length-set live kept next));
-}
-
-pub moved_left_out : (old : List LiveLink) (i kept : ℕ) (live : List LiveLink) → AreMoved old i kept live → AreMoved old (i + 1) kept live
-moved_left_out old i kept live is = record { count = omega (arith, is.count); each = is.each; rest = λ k d le lt. is.rest k d (omega (arith, le)) lt }
-
 module _ (links : List Link) (labels : List ℕ) where
-  -- so many at the front are the live links before the next one
-  pub record ArePacked (old : List LiveLink) (i kept : ℕ) (live : List LiveLink) : Type 0 where
-    pub places : AreLive links labels 0 (get_or (places_of old) i (length links)) (take kept (places_of live))
-    pub written : All (λ e. (l : Link) → l ≡ get_or links e.place l → IsWritten labels l e) (take kept live)
-
   module _ (old : List LiveLink) (are : AreLiveLinks links labels old) where
-    -- at first none, and in the end all
-    pub packed_none : ArePacked old 0 0 old
-    packed_none = record {
-      places = live_first links labels 0 (length links) (places_of old) are.places;
-      written = All-nil (λ (e : LiveLink). (l : Link) → l ≡ get_or links e.place l → IsWritten labels l e);
-    }
-
-    pub packed_all : (i kept : ℕ) (live : List LiveLink) → i ≡ length old → ArePacked old i kept live → AreLiveLinks links labels (take kept live)
-    packed_all i kept live at is = record {
-      places =
-          let end = ap (λ k. get_or (places_of old) k (length links)) (at ∙ sym (places_count old)) ∙ live_end links labels (length links) (places_of old) in
-          subst (AreLive links labels 0 (length links)) (take-map (λ (l : LiveLink). l.place) kept live) (subst (λ k. AreLive links labels 0 k (take kept (places_of live))) end is.places);
-      written = is.written;
-    }
-
-    -- so has a table
-    pub bests_none : (table : List Best) → AreBest links labels 0 0 table → AreBest links labels 0 (get_or (places_of old) 0 (length links)) table
-    bests_none table none =
+    -- a table of no links stands before the first live one, and in the end all are seen
+    pub bests_none : (count : ℕ) (table : List Best) → AreBestUpTo count links labels 0 0 table → AreBestUpTo count links labels 0 (get_or (places_of old) 0 (length links)) table
+    bests_none count table none =
         let (le, quiet) = live_first links labels 0 (length links) (places_of old) are.places in
-        bests_stay links labels 0 0 (get_or (places_of old) 0 (length links)) table le (λ q l from_start before_end in_list read. (quiet q l from_start before_end read).one_label) none
+        bests_stay count links labels 0 0 (get_or (places_of old) 0 (length links)) table le (λ q l from_start before_end in_list read. (quiet q l from_start before_end read).one_label) none
 
-    pub bests_all : (i : ℕ) (table : List Best) → i ≡ length old → AreBest links labels 0 (get_or (places_of old) i (length links)) table → AreBest links labels 0 (length links) table
-    bests_all i table at best =
+    pub bests_all : (count i : ℕ) (table : List Best) → i ≡ length old → AreBestUpTo count links labels 0 (get_or (places_of old) i (length links)) table → AreBestUpTo count links labels 0 (length links) table
+    bests_all count i table at best =
         let end = ap (λ k. get_or (places_of old) k (length links)) (at ∙ sym (places_count old)) ∙ live_end links labels (length links) (places_of old) in
-        subst (λ k. AreBest links labels 0 k table) end best
+        subst (λ k. AreBestUpTo count links labels 0 k table) end best
 
     module _ (i : ℕ) (within : i < length old) (d : LiveLink) where
       abbrev here : LiveLink
@@ -157,54 +118,18 @@ module _ (links : List Link) (labels : List ℕ) where
             )
 
         -- once it is taken in, all before the next one is seen
-        pub bests_next : (from p : ℕ) (table table' : List Best) → p ≡ next.place → from ≤ get_or (places_of old) i (length links) → TakesIn links next.low next.high p table table'
-            → AreBest links labels from (get_or (places_of old) i (length links)) table → AreBest links labels from (get_or (places_of old) (i + 1) (length links)) table'
-        bests_next from p table table' p_is le takes best =
+        pub bests_next : (count from p : ℕ) (table table' : List Best) → p ≡ next.place → from ≤ get_or (places_of old) i (length links) → TakesIn links next.low next.high p table table'
+            → AreBestUpTo count links labels from (get_or (places_of old) i (length links)) table → AreBestUpTo count links labels from (get_or (places_of old) (i + 1) (length links)) table'
+        bests_next count from p table table' p_is le takes best =
             let (l, read, is) = written_here in
             let at : p ≡ here.place = p_is ∙ ap (λ (l : LiveLink). l.place) next_is in
             let end : get_or (places_of old) i (length links) ≡ p = get_or_default (places_of old) i (length links) 0 in_places ∙ place_is ∙ sym at in
-            let taken = takes labels from l (subst (λ k. l ≡ get_or links k l) (sym at) read) (ap (λ (k : LiveLink). k.low) next_is ∙ is.low.2) (ap (λ (k : LiveLink). k.high) next_is ∙ is.high.2)
-            (subst (λ k. from ≤ k) end le) (subst (λ k. AreBest links labels from k table) end best) in
+            let taken = takes count labels from l (subst (λ k. l ≡ get_or links k l) (sym at) read) (ap (λ (k : LiveLink). k.low) next_is ∙ is.low.2) (ap (λ (k : LiveLink). k.high) next_is ∙ is.high.2)
+            (subst (λ k. from ≤ k) end le) (subst (λ k. AreBestUpTo count links labels from k table) end best) in
             let (le', quiet) = live_next links labels 0 (length links) (places_of old) i 0 are.places in_places in
-            bests_stay links labels from (get_or (places_of old) i 0 + 1) (get_or (places_of old) (i + 1) (length links)) table' le'
+            bests_stay count links labels from (get_or (places_of old) i 0 + 1) (get_or (places_of old) (i + 1) (length links)) table' le'
             (λ q m from_start before_end in_list m_read. (quiet q m from_start before_end m_read).one_label)
-            (subst (λ k. AreBest links labels from (k + 1) table') (at ∙ sym place_is) taken)
-
-        -- one more is kept by its labels, or left out
-        pub packed_kept : (labelled : AreLabels labels) (kept : ℕ) (live : List LiveLink) → AreMoved old i kept live → ArePacked old i kept live → ArePacked old (i + 1) (kept + 1) (set live kept next)
-        packed_kept labelled kept live moved is = record {
-          places =
-              subst (λ p. AreLive links labels 0 (get_or (places_of old) (i + 1) (length links)) (take (kept + 1) p))
-              (ap (set (places_of live) kept) (place_is ∙ sym (ap (λ (l : LiveLink). l.place) next_is)) ∙ sym (map-set (λ (l : LiveLink). l.place) live kept next))
-              (live_moved links labels (length links) (places_of old) i are.places in_places kept (places_of live) is.places (omega (arith, places_count live, room)));
-          written = subst (All P) (sym (take_more_set live kept next room)) (All-append P (take kept live) (next ∷ []) is.written (All-cons P next [] written (All-nil P)));
-        }
-          where
-            P : LiveLink → Type 0
-            P e = (l : Link) → l ≡ get_or links e.place l → IsWritten labels l e
-
-            room : kept < length live
-            room = omega (arith, moved.count, moved.each, within)
-
-            written : (l : Link) → l ≡ get_or links next.place l → IsWritten labels l next
-            written l read =
-                subst (IsWritten labels l) (sym next_is)
-                (relabelled_written labels labelled l here (are.written i d within l (subst (λ (k : LiveLink). l ≡ get_or links k.place l) next_is read)))
-
-        pub packed_left_out : (kept : ℕ) (live : List LiveLink) → next.low ≡ next.high → ArePacked old i kept live → ArePacked old (i + 1) kept live
-        packed_left_out kept live same is = record {
-          places = live_left_out links labels (length links) (places_of old) i are.places in_places kept (places_of live) is.places (subst (λ p. AreQuiet links labels p (p + 1)) (sym place_is) alone);
-          written = is.written;
-        }
-          where
-            one : label_of labels here.low ≡ label_of labels here.high
-            one = subst (λ (k : LiveLink). k.low ≡ k.high) next_is same
-
-            alone : AreQuiet links labels here.place (here.place + 1)
-            alone q m from_start before_end read =
-                let at : q ≡ here.place = omega (arith, from_start, before_end) in
-                let w = are.written i d within m (subst (λ k. m ≡ get_or links k m) at read) in
-                record { labelled = w.high.1.1; one_label = sym w.low.2 ∙ one ∙ w.high.2 }
+            (subst (λ k. AreBestUpTo count links labels from (k + 1) table') (at ∙ sym place_is) taken)
 
   -- what is written of their ends are vertices
   pub live_ends : (live : List LiveLink) → AreLiveLinks links labels live → All (λ l. IsVertex (length labels) l.low × IsVertex (length labels) l.high) live

@@ -4,6 +4,7 @@ pub mod Live
 pub mod Batches
 pub mod Parts
 pub mod Tables
+pub mod Numbers
 pub mod Session
 pub mod Laws
 pub mod Served

@@ -1,5 +1,5 @@
 -- Links of a shard that are laid aside, since they leave no label.
-use Rattle.std.specs.Prelude.{◌≡◌, ℕ, ◌+◌, ◌<◌, ◌≤◌, ◌↔◌, List, [], ◌∷◌, length, map, slice_index_or, All, Option, None, Some, IfSome}
+use Rattle.std.specs.Prelude.{◌≡◌, ℕ, ◌+◌, ◌<◌, ◌≤◌, ◌↔◌, List, [], ◌∷◌, length, map, slice_index_or, All, Option, None, Some, IfSome, ◌==◌, if◌then◌else◌}
 use Rattle.std.specs.Ordering.{nat_cmp}
 use Rattle.std.specs.BTreeMap.{is_at}
 use Rattle.std.specs.Map.{lookup}
@@ -54,6 +54,11 @@ pub record AreLiveLinks (links : List Link) (labels : List ℕ) (live : List Liv
 -- what is written of a live link, with labels in place of its vertices
 abbrev pub relabelled : List ℕ → LiveLink → LiveLink
 relabelled labels l = record { low = label_of labels l.low; high = label_of labels l.high; weight = l.weight; place = l.place }
+
+-- so all live links, without those whose ends fall together
+abbrev pub packed : List ℕ → List LiveLink → List LiveLink
+packed labels [] = []
+packed labels (l ∷ live) = if label_of labels l.low == label_of labels l.high then packed labels live else relabelled labels l ∷ packed labels live
 
 -- a shard's links, and which of them are live: all, or those that are told
 pub record KeptShardState : Type 0 where

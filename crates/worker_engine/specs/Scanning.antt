@@ -55,13 +55,17 @@ KeepsLesser links next before after = (labels : List ℕ) (c from at to : ℕ) �
 abbrev pub best_of : List Best → ℕ → Best
 best_of table c = slice_index_or table (c - 1) no_best
 
+-- a table keeps the best place for each label from 1 to `count`
+pub record AreBestUpTo (count : ℕ) (links : List Link) (labels : List ℕ) (from to : ℕ) (table : List Best) : Type 0 where
+  pub each_vertex : length table ≡ count
+  pub best : (c : ℕ) → IsVertex count c → Keeps links labels from to c (best_of table c)
+
 -- a table keeps the best place for each label
-pub record AreBest (links : List Link) (labels : List ℕ) (from to : ℕ) (table : List Best) : Type 0 where
-  pub each_vertex : length table ≡ length labels
-  pub best : (c : ℕ) → IsVertex (length labels) c → Keeps links labels from to c (best_of table c)
+abbrev pub AreBest : List Link → List ℕ → ℕ → ℕ → List Best → Type 0
+AreBest links labels from to table = AreBestUpTo (length labels) links labels from to table
 
 -- a table of the links before a place took in the link there, whose ends have these labels
 abbrev pub TakesIn : List Link → ℕ → ℕ → ℕ → List Best → List Best → Type 0
-TakesIn links low high place old new = (labels : List ℕ) (from : ℕ) (l : Link) → l ≡ slice_index_or links place l
+TakesIn links low high place old new = (count : ℕ) (labels : List ℕ) (from : ℕ) (l : Link) → l ≡ slice_index_or links place l
     → low ≡ label_of labels l.low → high ≡ label_of labels l.high → from ≤ place
-    → AreBest links labels from place old → AreBest links labels from (place + 1) new
+    → AreBestUpTo count links labels from place old → AreBestUpTo count links labels from (place + 1) new

@@ -4,7 +4,7 @@ ghost use Rattle.link_key.specs.Link.{EndsUpTo};
 ghost use Rattle.round_theory.specs.Offers.{AreLightOffers};
 ghost use Rattle.worker_engine.specs.Live.{IsLive, IsAllLive, IsGreatestEnd, AreOffersOf};
 
-use crate::live::{LiveLink, live_links};
+use crate::listed::Listed;
 use crate::scanning::Scanner;
 use frames::Links;
 use limits::MAX_SHARD_LINKS;
@@ -19,20 +19,22 @@ use std::thread::Threads;
 pub(crate) struct KeptShard<A: Allocator> {
     links: Vec<Link, A>,
     greatest: u32,
-    live: Option<Vec<LiveLink, A>>,
+    live: Option<Listed<A>>,
 }
 
 impl<A: Allocator> Model for KeptShard<A> {
-    ghost use Rattle.std.specs.Prelude.{◌≤◌, length};
+    ghost use Rattle.std.specs.Prelude.{◌≤◌, length, IfSome};
     ghost use Rattle.std.specs.Option.{option_map};
+    ghost use Rattle.worker_engine.specs.Numbers.{shown, IsListed};
     ghost use Rattle.limits.specs.declared.TheConstants.{MAX_SHARD_LINKS};
     ghost use Rattle.worker_engine.specs.Live.{KeptShardState, IsGreatestEnd};
 
     ghost Value = { KeptShardState };
 
-    ghost view = { λ h. record { links = h.links.items; live = option_map (λ told. told.items) h.live } };
+    ghost view = { λ h. record { links = h.links.items; live = option_map (λ told. shown told.names.items told.links.items) h.live } };
 
-    ghost invariant = { λ h. (length h.links.items ≤ MAX_SHARD_LINKS) × IsGreatestEnd h.links.items h.greatest };
+    ghost invariant = { λ h. (length h.links.items ≤ MAX_SHARD_LINKS) × IsGreatestEnd h.links.items h.greatest
+        × IfSome h.live (λ told. IsListed told.names.items told.links.items) };
 }
 
 impl<A: Allocator + Copy> KeptShard<A> {
@@ -82,22 +84,12 @@ impl<A: Allocator + Copy> KeptShard<A> {
         ensures links { self.new.links ≡ self.old.links }
         ensures live { IsLive labels.now self.new }
     {
-        if let Some(live) = &mut self.live {
-            return scanner.scan_live(self.links.as_slice(), live, labels);
+        if let Some(listed) = &mut self.live {
+            return scanner.scan_listed(self.links.as_slice(), listed, labels);
         }
-        let (offers, leaving) = scanner.scan_and_count(self.links.as_slice(), labels)?;
-        self.lay_aside(labels, leaving);
+        let (offers, listed) = scanner.scan_and_list(self.links.as_slice(), labels)?;
+        self.live = listed;
         Ok(offers)
-    }
-
-    // Lays the links aside that are quiet, where that isn't none and there is memory for the others.
-    fn lay_aside(&mut self, labels: &Labels<A>, leaving: usize)
-        requires { EndsUpTo (length labels.now) self.old.links }
-        ensures links { self.new.links ≡ self.old.links }
-        ensures live { IsLive labels.now self.new }
-    {
-        let alloc = *self.links.allocator();
-        self.live = live_links(alloc, self.links.as_slice(), labels.as_slice(), leaving);
     }
 }
 
@@ -134,11 +126,11 @@ impl<A: Allocator + Copy + Send + Sync> KeptShard<A> {
         ensures links { self.new.links ≡ self.old.links }
         ensures live { IsLive labels.now self.new }
     {
-        if let Some(live) = &mut self.live {
-            return scanner.scan_live_par(rt, self.links.as_slice(), live, labels);
+        if let Some(listed) = &mut self.live {
+            return scanner.scan_listed_par(rt, self.links.as_slice(), listed, labels);
         }
-        let (offers, leaving) = scanner.scan_and_count_par(rt, self.links.as_slice(), labels)?;
-        self.lay_aside(labels, leaving);
+        let (offers, listed) = scanner.scan_and_list_par(rt, self.links.as_slice(), labels)?;
+        self.live = listed;
         Ok(offers)
     }
 }

@@ -22,11 +22,14 @@
 #![tactic(auto)]
 
 mod batches;
+mod by_numbers;
 mod engine;
 pub mod examples;
 mod kept_shard;
 pub mod laws;
+mod listed;
 mod live;
+mod numbers;
 mod parallel;
 mod parts;
 mod scanning;

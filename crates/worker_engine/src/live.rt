@@ -11,7 +11,7 @@ ghost use Rattle.link_key.specs.Link.{EndsUpTo};
 ghost use Rattle.link_key.specs.Labels.{AreLabels};
 ghost use Rattle.round_theory.specs.Labelling.{IsVertex};
 ghost use Rattle.worker_engine.specs.Scanning.{no_best, AreBest};
-ghost use Rattle.worker_engine.specs.Live.{AreLiveLinks, live_place, relabelled};
+ghost use Rattle.worker_engine.specs.Live.{AreLiveLinks, live_place, relabelled, packed};
 
 use crate::batches::{BATCH, NOTHING, keep_each, look_up_live};
 use crate::parts::Part;
@@ -40,6 +40,19 @@ impl LiveLink {
         LiveLink {
             low: labels[self.low as usize - 1],
             high: labels[self.high as usize - 1],
+            weight: self.weight,
+            place: self.place,
+        }
+    }
+
+    // The same with other ends.
+    #[inline]
+    pub(crate) fn between(self, low: u32, high: u32) -> Self
+        ensures { result ≡ record { low = low; high = high; weight = self.weight; place = self.place } }
+    {
+        LiveLink {
+            low,
+            high,
             weight: self.weight,
             place: self.place,
         }
@@ -103,14 +116,22 @@ pub(crate) fn find_best_and_pack<A: Allocator + Copy>(
     kept
 }
 
-// Writes the new labels of all live links, and moves those that aren't quiet to the front, in order. It says how many
-// these are.
-pub(crate) fn pack(live: &mut [LiveLink], labels: &[u32]) -> usize
+// Moves the live links that aren't quiet to the front, with their new labels, and says how many these are.
+pub(crate) fn pack_live(live: &mut [LiveLink], labels: &[u32]) -> usize
     requires labels { AreLabels labels.now }
     requires ends { All (λ l. IsVertex (length labels.now) l.low × IsVertex (length labels.now) l.high) live.old }
     ensures front { result ≤ length live.old }
     ensures live { (links : List Link) → AreLiveLinks links labels.now live.old → AreLiveLinks links labels.now (take result live.new) }
-    ensures own { All (λ l. relabelled labels.now l ≡ l) (take result live.new) }
+{
+    pack(live, labels)
+}
+
+// Writes the new labels of all live links, and moves those that aren't quiet to the front, in order. It says how many
+// these are.
+pub(crate) fn pack(live: &mut [LiveLink], labels: &[u32]) -> usize
+    requires ends { All (λ l. IsVertex (length labels.now) l.low × IsVertex (length labels.now) l.high) live.old }
+    ensures front { result ≤ length live.old }
+    ensures packed { take result live.new ≡ packed labels.now live.old }
 {
     let mut kept = 0;
     for i in 0..live.len() {
@@ -123,30 +144,8 @@ pub(crate) fn pack(live: &mut [LiveLink], labels: &[u32]) -> usize
     kept
 }
 
-// The live links of a shard, where so many leave a label and the others are to be laid aside; none where all leave one, or
-// where there is no memory for the list.
-pub(crate) fn live_links<A: Allocator + Copy>(
-    alloc: A,
-    links: &[Link],
-    labels: &[u32],
-    leaving: usize,
-) -> Option<Vec<LiveLink, A>>
-    requires few_links { length links.now ≤ MAX_SHARD_LINKS }
-    requires ends { EndsUpTo (length labels.now) links.now }
-    requires labels { AreLabels labels.now }
-    ensures live { IfSome result (λ live. AreLiveLinks links.now labels.now live.items) }
-{
-    if leaving == links.len() {
-        return None;
-    }
-    match write_live(alloc, links, labels, leaving) {
-        Ok(live) => Some(live),
-        Err(_) => None,
-    }
-}
-
 // The live links of a shard, with room for so many to begin with.
-fn write_live<A: Allocator + Copy>(
+pub(crate) fn write_live<A: Allocator + Copy>(
     alloc: A,
     links: &[Link],
     labels: &[u32],

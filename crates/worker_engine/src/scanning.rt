@@ -1,14 +1,18 @@
 //! The light offers of a shard, in one pass over its links.
-ghost use Rattle.std.specs.Prelude.{◌≡◌, ◌≢◌, ℕ, ◌+◌, ◌-◌, ◌<◌, ◌≤◌, ◌↔◌, length, replicate, Some, IfOk, OnOk, IsTrue};
+ghost use Rattle.std.specs.Prelude.{◌≡◌, ◌≢◌, ℕ, ◌+◌, ◌-◌, ◌<◌, ◌≤◌, ◌↔◌, length, replicate, Some, IfSome, IfOk, OnOk, IsTrue};
 ghost use Rattle.link_key.specs.Link.{EndsUpTo};
 ghost use Rattle.link_key.specs.Labels.{AreLabels};
 ghost use Rattle.round_theory.specs.Labelling.{IsVertex};
 ghost use Rattle.round_theory.specs.Offers.{AreLightOffers};
 ghost use Rattle.worker_engine.specs.Scanning.{no_best, Says, KeepsLesser, AreBest, TakesIn};
 ghost use Rattle.worker_engine.specs.Live.{AreLiveLinks};
+ghost use Rattle.worker_engine.specs.Numbers.{HaveNames, shown, IsListed};
 
 use crate::batches::{BATCH, NOTHING, keep_each, look_up};
-use crate::live::{LiveLink, find_best_and_pack, pack};
+use crate::by_numbers::{find_best_by_numbers, offers_by_numbers};
+use crate::listed::{Listed, NO_NAME, list_by_labels, list_by_numbers};
+use crate::live::{LiveLink, find_best_and_pack, pack_live};
+use crate::numbers::{Numbers, mark_ends, mark_names};
 use crate::parallel::{best_of_all, halvings_of};
 use crate::parts::{Part, Scanned};
 use crate::table::Table;
@@ -73,6 +77,7 @@ pub fn scan_par<R: Threads + Sync, A: Allocator + Copy + Send + Sync, B: Allocat
 #[derive(Drop)]
 pub struct Scanner<A: Allocator = Global> {
     table: Table<A>,
+    numbers: Numbers<A>,
 }
 
 impl<A: Allocator> Model for Scanner<A> {
@@ -90,6 +95,7 @@ impl<A: Allocator + Copy> Scanner<A> {
     {
         Scanner {
             table: Table::new(alloc),
+            numbers: Numbers::new(alloc),
         }
     }
 
@@ -132,7 +138,98 @@ impl<A: Allocator + Copy> Scanner<A> {
         Ok((offers, leaving))
     }
 
+    // The same offers, by numbers of the labels that the links have; and the live links, where some are to be laid aside and
+    // there is memory to list the others.
+    pub(crate) fn scan_and_list<B: Allocator>(
+        &mut self,
+        links: &[Link],
+        labels: &Labels<B>,
+    ) -> Result<(Offers<A>, Option<Listed<A>>), AllocError>
+        requires few_links { length links.now ≤ MAX_SHARD_LINKS }
+        requires ends { EndsUpTo (length labels.now) links.now }
+        ensures light { IfOk result (λ told. AreLightOffers links.now labels.now told.0) }
+        ensures live { IfOk result (λ told. IfSome told.1 (λ listed. AreLiveLinks links.now labels.now (shown listed.names.items listed.links.items))) }
+        ensures listed { IfOk result (λ told. IfSome told.1 (λ listed. IsListed listed.names.items listed.links.items)) }
+    {
+        let labels = labels.as_slice();
+        self.numbers.clear(labels.len())?;
+        mark_ends(links, labels, &mut self.numbers);
+        let count = self.numbers.count();
+        let mut names = Vec::new(self.table.allocator());
+        names.resize(count, NO_NAME)?;
+        self.table.clear(count)?;
+        let leaving = find_best_by_numbers(
+            links,
+            labels,
+            &self.numbers,
+            names.as_mut_slice(),
+            &mut self.table,
+        );
+        let offers = offers_by_numbers(
+            links,
+            labels,
+            &self.numbers,
+            names.as_slice(),
+            &self.table,
+        )?;
+        let listed = list_by_numbers(links, labels, &self.numbers, names, leaving);
+        Ok((offers, listed))
+    }
+
     // The same offers, by the live links alone, of which those that are quiet under the labels are laid aside.
+    pub(crate) fn scan_listed<B: Allocator>(
+        &mut self,
+        links: &[Link],
+        listed: &mut Listed<A>,
+        labels: &Labels<B>,
+    ) -> Result<Offers<A>, AllocError>
+        requires few_links { length links.now ≤ MAX_SHARD_LINKS }
+        requires ends { EndsUpTo (length labels.now) links.now }
+        requires live { AreLiveLinks links.now labels.now (shown listed.old.names.items listed.old.links.items) }
+        requires listed { IsListed listed.old.names.items listed.old.links.items }
+        ensures light { IfOk result (AreLightOffers links.now labels.now) }
+        ensures live { AreLiveLinks links.now labels.now (shown listed.new.names.items listed.new.links.items) }
+        ensures listed { IsListed listed.new.names.items listed.new.links.items }
+    {
+        if listed.names.is_empty() {
+            self.scan_live(links, &mut listed.links, labels)
+        } else {
+            self.scan_by_numbers(links, listed, labels)
+        }
+    }
+
+    fn scan_by_numbers<B: Allocator>(
+        &mut self,
+        links: &[Link],
+        listed: &mut Listed<A>,
+        labels: &Labels<B>,
+    ) -> Result<Offers<A>, AllocError>
+        requires few_links { length links.now ≤ MAX_SHARD_LINKS }
+        requires ends { EndsUpTo (length labels.now) links.now }
+        requires live { AreLiveLinks links.now labels.now (shown listed.old.names.items listed.old.links.items) }
+        requires have_names { HaveNames listed.old.names.items listed.old.links.items }
+        ensures light { IfOk result (AreLightOffers links.now labels.now) }
+        ensures live { AreLiveLinks links.now labels.now (shown listed.new.names.items listed.new.links.items) }
+        ensures have_names { HaveNames listed.new.names.items listed.new.links.items }
+    {
+        let labels = labels.as_slice();
+        self.numbers.clear(labels.len())?;
+        mark_names(listed.names.as_slice(), labels, &mut self.numbers);
+        let count = self.numbers.count();
+        self.table.clear(count)?;
+        listed.renumber(labels, &self.numbers, count)?;
+        let live = listed.links.as_slice();
+        keep_each(links, live, live.len(), &mut self.table);
+        offers_by_numbers(
+            links,
+            labels,
+            &self.numbers,
+            listed.names.as_slice(),
+            &self.table,
+        )
+    }
+
+    // The same offers, where all links are written with labels.
     pub(crate) fn scan_live<B: Allocator>(
         &mut self,
         links: &[Link],
@@ -199,7 +296,54 @@ impl<A: Allocator + Copy + Send + Sync> Scanner<A> {
         Ok((offers, count_leaving(links, labels)))
     }
 
-    // The same offers, by the live links alone, of which those that are quiet under the labels are laid aside first.
+    // The same as `scan_and_list`, by threads; they scan by labels.
+    pub(crate) fn scan_and_list_par<'a, R: Threads + Sync, B: Allocator>(
+        &mut self,
+        rt: &R,
+        links: &'a [Link],
+        labels: &'a Labels<B>,
+    ) -> Result<(Offers<A>, Option<Listed<A>>), AllocError>
+        requires few_links { length links.now ≤ MAX_SHARD_LINKS }
+        requires ends { EndsUpTo (length labels.now) links.now }
+        ensures light { IfOk result (λ told. AreLightOffers links.now labels.now told.0) }
+        ensures live { IfOk result (λ told. IfSome told.1 (λ listed. AreLiveLinks links.now labels.now (shown listed.names.items listed.links.items))) }
+        ensures listed { IfOk result (λ told. IfSome told.1 (λ listed. IsListed listed.names.items listed.links.items)) }
+    {
+        if halvings_of(rt, links.len(), labels.as_slice().len()) == 0 {
+            return self.scan_and_list(links, labels);
+        }
+        let (offers, leaving) = self.scan_and_count_par(rt, links, labels)?;
+        let alloc = self.table.allocator();
+        Ok((
+            offers,
+            list_by_labels(alloc, links, labels.as_slice(), leaving),
+        ))
+    }
+
+    // The same as `scan_listed`, by threads where the links are written with labels.
+    pub(crate) fn scan_listed_par<'a, R: Threads + Sync, B: Allocator>(
+        &mut self,
+        rt: &R,
+        links: &'a [Link],
+        listed: &mut Listed<A>,
+        labels: &'a Labels<B>,
+    ) -> Result<Offers<A>, AllocError>
+        requires few_links { length links.now ≤ MAX_SHARD_LINKS }
+        requires ends { EndsUpTo (length labels.now) links.now }
+        requires live { AreLiveLinks links.now labels.now (shown listed.old.names.items listed.old.links.items) }
+        requires listed { IsListed listed.old.names.items listed.old.links.items }
+        ensures light { IfOk result (AreLightOffers links.now labels.now) }
+        ensures live { AreLiveLinks links.now labels.now (shown listed.new.names.items listed.new.links.items) }
+        ensures listed { IsListed listed.new.names.items listed.new.links.items }
+    {
+        if listed.names.is_empty() {
+            self.scan_live_par(rt, links, &mut listed.links, labels)
+        } else {
+            self.scan_by_numbers(links, listed, labels)
+        }
+    }
+
+    // The same offers, where all links are written with labels: those that are quiet are laid aside first.
     pub(crate) fn scan_live_par<'a, R: Threads + Sync, B: Allocator>(
         &mut self,
         rt: &R,
@@ -218,7 +362,7 @@ impl<A: Allocator + Copy + Send + Sync> Scanner<A> {
             return self.scan_live(links, live, labels);
         }
         let labels = labels.as_slice();
-        let kept = pack(live.as_mut_slice(), labels);
+        let kept = pack_live(live.as_mut_slice(), labels);
         live.truncate(kept);
         let alloc = self.table.allocator();
         let scanned = Scanned {
@@ -243,7 +387,7 @@ fn offers_of<A: Allocator + Copy>(
     requires best { AreBest links.now labels.now 0 (length links.now) table.now }
     ensures light { IfOk result (AreLightOffers links.now labels.now) }
 {
-    Ok(Offers::of_known(table.gather(links, labels)?))
+    Ok(Offers::of_known(table.gather()?))
 }
 
 // The pass over a part of the links, a batch at a time. It says how many of them leave a label, on which no answer rests:

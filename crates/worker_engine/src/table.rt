@@ -2,13 +2,10 @@
 //!
 //! It also notes which labels were touched, a block of them at a time, and a part of the table at a time above that, so
 //! that a scan of few links neither clears nor reads the rest of the table.
-ghost use Rattle.std.specs.Prelude.{◌≡◌, ◌+◌, ◌*◌, ◌<◌, ◌≤◌, [], length, replicate, Some, IfOk, OnOk};
-ghost use Rattle.limits.specs.declared.TheConstants.{MAX_SHARD_LINKS, MAX_VERTICES};
-ghost use Rattle.link_key.specs.Link.{EndsUpTo};
-ghost use Rattle.link_key.specs.Labels.{AreLabels};
-ghost use Rattle.round_theory.specs.Offers.{AreLightOffers};
-ghost use Rattle.worker_engine.specs.Scanning.{no_best, Says, AreBest};
-ghost use Rattle.worker_engine.specs.Tables.{KeepsAt, HaveNotes, AreNoted, AreNone, KeepNoMore, ArePlacesBelow};
+ghost use Rattle.std.specs.Prelude.{◌≡◌, ◌+◌, ◌*◌, ◌^◌, ◌<◌, ◌≤◌, [], length, replicate, Some, IfOk, OnOk};
+ghost use Rattle.limits.specs.declared.TheConstants.{MAX_SHARD_LINKS};
+ghost use Rattle.worker_engine.specs.Scanning.{no_best, Says};
+ghost use Rattle.worker_engine.specs.Tables.{KeepsAt, HaveNotes, AreNoted, AreNone, KeepNoMore, ArePlacesBelow, ArePlaces};
 
 use crate::scanning::{Best, NO_PLACE, NO_WEIGHT, keep_lesser};
 use link_key::Link;
@@ -102,17 +99,10 @@ impl<A: Allocator + Copy> Table<A> {
         self.parts[before / PART] = true;
     }
 
-    // The offers: the labels that have a best place, in ascending order.
-    pub(crate) fn gather(
-        &self,
-        links: &[Link],
-        labels: &[u32],
-    ) -> Result<Vec<(u32, u32), A>, AllocError>
-        requires few_links { length links.now ≤ MAX_SHARD_LINKS }
-        requires ends { EndsUpTo (length labels.now) links.now }
-        requires labels { AreLabels labels.now }
-        requires best { AreBest links.now labels.now 0 (length links.now) self.now }
-        ensures light { IfOk result (λ pairs. AreLightOffers links.now labels.now pairs.items) }
+    // The labels that have a best place, each with it, in ascending order.
+    pub(crate) fn gather(&self) -> Result<Vec<(u32, u32), A>, AllocError>
+        requires few { length self.now < 2 ^ 32 }
+        ensures places { IfOk result (λ pairs. ArePlaces self.now pairs.items) }
     {
         let bests = self.bests.as_slice();
         let parts = self.parts.as_slice();
@@ -134,7 +124,7 @@ fn gather_part<A: Allocator>(
     part: usize,
     pairs: &mut Vec<(u32, u32), A>,
 ) -> Result<(), AllocError>
-    requires few { length bests.now ≤ MAX_VERTICES }
+    requires few { length bests.now < 2 ^ 32 }
     requires noted { HaveNotes BLOCK bests.now blocks.now }
     requires within { PART * part < length bests.now }
     requires so_far { ArePlacesBelow bests.now (PART * part + 1) pairs.old.items }
@@ -157,7 +147,7 @@ fn gather_block<A: Allocator>(
     block: usize,
     pairs: &mut Vec<(u32, u32), A>,
 ) -> Result<(), AllocError>
-    requires few { length bests.now ≤ MAX_VERTICES }
+    requires few { length bests.now < 2 ^ 32 }
     requires within { BLOCK * block < length bests.now }
     requires so_far { ArePlacesBelow bests.now (BLOCK * block + 1) pairs.old.items }
     ensures on { OnOk result (ArePlacesBelow bests.now (BLOCK * (block + 1) + 1) pairs.new.items) }

@@ -10,7 +10,7 @@ pub loop-at-init : goal.loop-at-init
 loop-at-init g c = record {
   from_start = omega arith;
   to_end = c.args.part.ordered;
-  best = rw c.requires.none_yet (best_of_none c.args.links.now c.args.labels.now (get_or (places_of c.args.live.now) c.args.part.from (length c.args.links.now)));
+  best = rw c.requires.none_yet (best_of_none (length c.args.labels.now) c.args.links.now c.args.labels.now (get_or (places_of c.args.live.now) c.args.part.from (length c.args.links.now)));
 }
 
 pub look_up_live-requires-clause-ends : goal.look_up_live-requires-clause-ends
@@ -36,7 +36,7 @@ loop-at-preserved g c =
       from_start = omega (arith, seen.from_start);
       to_end = omega (arith, count);
       best =
-          live_are_taken_in links labels live c.requires.live (get_or (places_of live) c.args.part.from (length links)) c.look_up_live.new.batch at next c.loop-at.table c.keep_each.new.table (omega arith)
+          live_are_taken_in links labels live c.requires.live (length labels) (get_or (places_of live) c.args.part.from (length links)) c.look_up_live.new.batch at next c.loop-at.table c.keep_each.new.table (omega arith)
           (omega (arith, count, c.requires.in_list)) (omega (arith, count, c.look_up_live.ensures.room))
           (λ j later. live_ascends links labels 0 (length links) (places_of live) c.args.part.from j c.requires.live.places (omega (arith, seen.from_start, later)))
           c.look_up_live.ensures.looked_up c.keep_each.ensures.taken seen.best;

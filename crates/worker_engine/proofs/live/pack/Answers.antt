@@ -1,15 +1,11 @@
-use Rattle.std.proofs.Common.{pos, ◌≡◌, ◌<◌, [], ◌∷◌, length, get_or, take, All, sym, ap, ◌∙◌, subst, arith}
-use Rattle.std.proofs.lemmas.List.{take_more_set}
-use Rattle.std.proofs.lemmas.List.Elements.{All-append, All-cons, All-nil}
+use Rattle.std.proofs.Common.{pos, ◌≡◌, ◌≢◌, ◌+◌, ◌<◌, ◌++◌, [], ◌∷◌, List, length, get_or, take, sym, ap, ◌∙◌, arith}
+use Rattle.std.proofs.lemmas.List.{take_more, take_more_set, take_all, get_or-set_other, append-nil}
 use Rattle.worker_engine.specs.declared.live.LiveLink.{LiveLink}
-use Rattle.worker_engine.specs.Live.{relabelled}
-use Rattle.worker_engine.proofs.Written.{moved_none, moved_kept, moved_left_out, packed_none, packed_all, packed_kept, packed_left_out}
-use Rattle.worker_engine.proofs.Ahead.{relabelled_stands}
+use Rattle.link_key.specs.Labels.{label_of}
+use Rattle.worker_engine.specs.Live.{relabelled, packed}
+use Rattle.worker_engine.proofs.Packed.{packed_append, packed_same, packed_apart}
 use Rattle.worker_engine.proofs.live.pack.Goals as goal
 use Rattle.worker_engine.proofs.live.pack.Goals.{then-next, else-next}
-
-pub loop-i-init : goal.loop-i-init
-loop-i-init c = record { moved = moved_none c.args.live.now; packed = λ links are. packed_none links c.args.labels.now c.args.live.now are; own = All-nil (λ (e : LiveLink). relabelled c.args.labels.now e ≡ e) }
 
 pub loop-i-preserved : goal.loop-i-preserved
 loop-i-preserved c =
@@ -21,25 +17,34 @@ loop-i-preserved c =
     let next = c.under-next.result in
     let seen = c.loop-i.invariant in
     let default : LiveLink = record { low = 0; high = 0; weight = pos 0; place = 0 } in
+    let x : LiveLink = get_or old i default in
     let in_live : i < length live = omega (arith, c.loop-i-test.true, c.loop-i.auto.live) in
     let within : i < length old = omega (arith, in_live, c.loop-i.auto.live) in
-    let next_is : next ≡ relabelled labels (get_or old i default) = c.under-next.ensures ∙ ap (relabelled labels) (seen.moved.rest i default (omega arith) in_live) in
-    let ends = c.requires.ends i default within in
-    let own = λ (e : LiveLink). relabelled labels e ≡ e in
-    let stands : relabelled labels next ≡ next = relabelled_stands labels next (get_or old i default) c.requires.labels ends.0 ends.1 next_is in
+    let next_is : next ≡ relabelled labels x = c.under-next.ensures ∙ ap (relabelled labels) (seen.rest i default (omega arith)) in
+    let more : packed labels (take (i + 1) old) ≡ packed labels (take i old) ++ packed labels (x ∷ []) =
+    ap (λ (t : List LiveLink). packed labels t) (take_more old i default within) ∙ packed_append labels (take i old) (x ∷ []) in
     elim c.if-next.branch [
-      | then-next w ↦ rw (w.kept-is, w.live-is) (record {
-        moved = moved_kept old i kept live next seen.moved;
-        packed = λ links are. packed_kept links labels old are i within default next next_is c.requires.labels kept live seen.moved (seen.packed links are);
-        own = subst (All own) (sym (take_more_set live kept next (omega (arith, seen.moved.count, in_live)))) (All-append own (take kept live) (next ∷ []) seen.own (All-cons own next [] stands (All-nil own)));
-      })
-      | else-next w ↦ rw (w.kept-is, w.live-is) (record {
-        moved = moved_left_out old i kept live seen.moved;
-        packed = λ links are. packed_left_out links labels old are i within default next next_is kept live w.if-next.false (seen.packed links are);
-        own = seen.own;
-      })
+      | then-next w ↦
+          let apart : label_of labels x.low ≢ label_of labels x.high = λ same. w.if-next.true (ap (λ (e : LiveLink). e.low) next_is ∙ same ∙ ap (λ (e : LiveLink). e.high) (sym next_is)) in
+          rw (w.kept-is, w.live-is) (record {
+            count = omega (arith, seen.count);
+            front =
+                take_more_set live kept next (omega (arith, seen.count, in_live))
+                ∙ ap (λ (t : List LiveLink). t ++ next ∷ []) seen.front
+                ∙ ap (λ (e : LiveLink). packed labels (take i old) ++ e ∷ []) next_is
+                ∙ ap (λ (t : List LiveLink). packed labels (take i old) ++ t) (sym (packed_apart labels x [] apart))
+                ∙ sym more;
+            rest = λ k d le. let other : k ≢ kept = omega (arith, le, seen.count) in get_or-set_other live kept k next d other ∙ seen.rest k d (omega (arith, le));
+          })
+      | else-next w ↦
+          let same : label_of labels x.low ≡ label_of labels x.high = ap (λ (e : LiveLink). e.low) (sym next_is) ∙ w.if-next.false ∙ ap (λ (e : LiveLink). e.high) next_is in
+          rw (w.kept-is, w.live-is) (record {
+            count = omega (arith, seen.count);
+            front = seen.front ∙ sym (more ∙ ap (λ (t : List LiveLink). packed labels (take i old) ++ t) (packed_same labels x [] same) ∙ append-nil (packed labels (take i old)));
+            rest = λ k d le. seen.rest k d (omega (arith, le));
+          })
     ]
 
-pub returns-clause-live : goal.returns-clause-live
-returns-clause-live c = λ links are.
-    packed_all links c.args.labels.now c.args.live.now are c.loop-i.i c.loop-i.kept c.loop-i.live (omega (arith, c.loop-i-test.false, c.loop-i.auto.i-end, c.loop-i.auto.live)) (c.loop-i.invariant.packed links are)
+pub returns-clause-packed : goal.returns-clause-packed
+returns-clause-packed c =
+    c.loop-i.invariant.front ∙ ap (λ (t : List LiveLink). packed c.args.labels.now t) (take_all c.loop-i.i c.args.live.now (omega (arith, c.loop-i-test.false, c.loop-i.auto.live)))

@@ -1,13 +1,12 @@
-use Rattle.std.proofs.Common.{◌≡◌, List, take, All}
-use Rattle.link_key.specs.declared.links.Link.{Link}
-use Rattle.worker_engine.specs.Live.{AreLiveLinks, relabelled}
-use Rattle.worker_engine.proofs.Written.{AreMoved, ArePacked}
+use Rattle.std.proofs.Common.{◌≡◌, ℕ, ◌≤◌, get_or, take}
+use Rattle.worker_engine.specs.declared.live.LiveLink.{LiveLink}
+use Rattle.worker_engine.specs.Live.{packed}
 use Rattle.worker_engine.proofs.live.pack.Given as goal
 
--- what isn't quiet before the next live link stands at the front
+-- those before the next live link that stay stand at the front, and the others as they were
 abbrev pub invariant-loop-i : goal.invariant-loop-i
 invariant-loop-i l = record {
-  moved : AreMoved l.initial.live l.i l.kept l.live;
-  packed : (links : List Link) → AreLiveLinks links l.labels l.initial.live → ArePacked links l.labels l.initial.live l.i l.kept l.live;
-  own : All (λ e. relabelled l.labels e ≡ e) (take l.kept l.live);
+  count : l.kept ≤ l.i;
+  front : take l.kept l.live ≡ packed l.labels (take l.i l.initial.live);
+  rest : (k : ℕ) (d : LiveLink) → l.i ≤ k → get_or l.live k d ≡ get_or l.initial.live k d;
 }

@@ -7,7 +7,7 @@ pub loop-at-init : goal.loop-at-init
 loop-at-init g c = record {
   from_start = omega arith;
   to_end = c.args.part.ordered;
-  best = rw c.requires.none_yet (best_of_none c.args.links.now c.args.labels.now c.args.part.from);
+  best = rw c.requires.none_yet (best_of_none (length c.args.labels.now) c.args.links.now c.args.labels.now c.args.part.from);
   leaving = omega arith;
 }
 
@@ -28,7 +28,7 @@ loop-at-preserved g c =
       from_start = omega (arith, seen.from_start);
       to_end = omega (arith, count);
       best =
-          row_is_taken_in c.args.links.now c.args.labels.now c.args.part.from c.look_up.new.batch at next c.loop-at.table c.keep_each-leaving.new.table (omega arith)
+          row_is_taken_in (length c.args.labels.now) c.args.links.now c.args.labels.now c.args.part.from c.look_up.new.batch at next c.loop-at.table c.keep_each-leaving.new.table (omega arith)
           (omega (arith, count, c.requires.in_list)) (omega (arith, count, c.look_up.ensures.room)) seen.from_start c.look_up.ensures.looked_up c.keep_each-leaving.ensures.taken seen.best;
       leaving = omega (arith, seen.leaving, seen.from_start, c.keep_each-leaving.ensures.leaving);
     }

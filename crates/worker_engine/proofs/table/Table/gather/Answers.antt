@@ -1,8 +1,7 @@
-use Rattle.std.proofs.Common.{◌≡◌, ◌+◌, ◌*◌, length, get_or, true, false, sym, subst, ◌∙◌, arith}
+use Rattle.std.proofs.Common.{◌≡◌, ◌+◌, ◌*◌, get_or, true, false, sym, subst, ◌∙◌, arith}
 use Rattle.std.proofs.lemmas.List.{get_or_default}
-use Rattle.worker_engine.specs.Scanning.{AreBest}
-use Rattle.worker_engine.specs.Tables.{HaveNotes}
-use Rattle.worker_engine.proofs.Tables.{unset_none, places_none, places_skip_none, places_are_light}
+use Rattle.worker_engine.specs.Tables.{HaveNotes, ArePlaces}
+use Rattle.worker_engine.proofs.Tables.{unset_none, places_none, places_skip_none, places_all}
 use Rattle.worker_engine.proofs.table.Table.gather.Goals as goal
 use Rattle.worker_engine.proofs.table.Table.gather.Goals.{then-parts-part+in_ok-gather_part, else-parts-part}
 
@@ -25,7 +24,5 @@ loop-part-preserved g c =
 pub returns : goal.returns
 returns g c =
     let bests = c.as_slice-bests.result.now in
-    let links = c.args.links.now in
-    let labels = c.args.labels.now in
-    let are : AreBest links labels 0 (length links) bests = subst (AreBest links labels 0 (length links)) (sym (c.as_slice-bests.ensures.value ∙ c.self.view_is)) c.requires.best in
-    record { light = places_are_light links labels bests c.requires.few_links c.requires.ends c.requires.labels are (64 * c.loop-part.part + 1) c.loop-part.pairs.items (omega (arith, c.loop-part-test.false, c.div_ceil-count.ensures)) c.loop-part.invariant }
+    let all : ArePlaces bests c.loop-part.pairs.items = places_all bests (64 * c.loop-part.part + 1) c.loop-part.pairs.items (omega (arith, c.loop-part-test.false, c.div_ceil-count.ensures)) c.loop-part.invariant in
+    record { places = subst (λ t. ArePlaces t c.loop-part.pairs.items) (c.as_slice-bests.ensures.value ∙ c.self.view_is) all }

@@ -1,0 +1,76 @@
+-- The next scan of links that are listed by numbers.
+use Rattle.std.proofs.Common.{◌≡◌, ℕ, ◌+◌, ◌-◌, ◌<◌, ◌≤◌, List, length, get_or, take, replicate, All, refl, sym, ap, ◌∙◌, subst, inl, inr, arith}
+use Rattle.std.proofs.lemmas.List.{get_or-map, length-map, take_all}
+use Rattle.link_key.specs.declared.links.Link.{Link}
+use Rattle.link_key.specs.Labels.{label_of}
+use Rattle.worker_engine.specs.declared.scanning.Best.{Best}
+use Rattle.worker_engine.specs.declared.live.LiveLink.{LiveLink}
+use Rattle.worker_engine.specs.Scanning.{no_best, AreBestUpTo}
+use Rattle.worker_engine.specs.Live.{places_of, AreLiveLinks, relabelled}
+use Rattle.worker_engine.specs.Batches.{CanBeTakenIn, TakesInAll}
+use Rattle.worker_engine.specs.Numbers.{IsMarked, number_of, numbered, numbered_labels, AreByNumbers, AreNumbered}
+use Rattle.worker_engine.proofs.Scans.{best_of_none}
+use Rattle.worker_engine.proofs.Laid.{live_or_quiet}
+use Rattle.worker_engine.proofs.Written.{next_says, live_ends, live_links_coarser, bests_none, bests_all}
+use Rattle.worker_engine.proofs.Ahead.{takes_live}
+use Rattle.worker_engine.proofs.ByNumbers.{own_label, own_coarsens}
+use Rattle.worker_engine.proofs.Relisting.{number_at, by_numbers_long}
+
+module _ (links : List Link) (labels marks names : List ℕ) (by_labels live : List LiveLink) (are : AreLiveLinks links labels by_labels) (own : All (λ e. relabelled labels e ≡ e) by_labels)
+    (within : (c : ℕ) → IsMarked marks c → number_of marks c ≤ length names) (by : AreByNumbers marks names by_labels live) where
+  -- each can be taken in
+  pub next_can_be_taken_in : (count k : ℕ) (d : LiveLink) → count ≡ length names → k < length live → CanBeTakenIn links count (get_or live k d)
+  next_can_be_taken_in count k d size lt =
+      let in_labels : k < length by_labels = omega (arith, lt, by_numbers_long marks names within by_labels live by) in
+      let e : LiveLink = get_or by_labels k d in
+      let says = next_says links labels by_labels are k in_labels d (relabelled labels e) refl (record { weight = e.weight; place = e.place }) refl refl in
+      let is = by.marked k d in_labels in
+      subst (CanBeTakenIn links count) (sym (number_at marks names within by_labels live by k d in_labels)) (record {
+        low = (omega arith, omega (arith, size, within e.low is.0));
+        high = (omega arith, omega (arith, size, within e.high is.1));
+        in_list = says.1;
+        weight = says.2;
+      })
+
+  -- of each link the ends have one label, or they have numbers
+  pub next_are_numbered : AreNumbered links labels marks names
+  next_are_numbered q l lt read = elim (live_or_quiet links labels 0 (length links) (places_of by_labels) q l are.places (omega arith) lt read) [
+    | inl quiet ↦ inl quiet.one_label
+    | inr (k, k_lt, at) ↦
+        let in_labels : k < length by_labels = omega (arith, k_lt, length-map by_labels (λ (x : LiveLink). x.place)) in
+        let d : LiveLink = record { low = 0; high = 0; weight = l.weight; place = q } in
+        let e : LiveLink = get_or by_labels k d in
+        let place : e.place ≡ q = sym (get_or-map (λ (x : LiveLink). x.place) by_labels k d q in_labels) ∙ at in
+        let w = are.written k d in_labels l (subst (λ p. l ≡ get_or links p l) (sym place) read) in
+        let low : e.low ≡ label_of labels l.low = ap (λ (x : LiveLink). x.low) (sym (own k d in_labels)) ∙ w.low.2 in
+        let high : e.high ≡ label_of labels l.high = ap (λ (x : LiveLink). x.high) (sym (own k d in_labels)) ∙ w.high.2 in
+        let is = by.marked k d in_labels in
+        let called = by.named_are k d in_labels in
+        inr (record {
+          low_marked = subst (IsMarked marks) low is.0;
+          high_marked = subst (IsMarked marks) high is.1;
+          low_named = subst (λ c. get_or names (number_of marks c - 1) 0 ≡ c) low called.0;
+          high_named = subst (λ c. get_or names (number_of marks c - 1) 0 ≡ c) high called.1;
+        })
+  ]
+
+  -- once all are taken in, the best places are kept
+  pub next_best : (count : ℕ) (table table' : List Best) → table ≡ replicate count no_best → TakesInAll links (take (length live) live) table table'
+      → AreBestUpTo count links (numbered_labels marks labels) 0 (length links) table'
+  next_best count table table' none takes =
+      let mine = numbered_labels marks labels in
+      let coarser = live_links_coarser links mine labels by_labels (own_coarsens marks labels) are in
+      let long = by_numbers_long marks names within by_labels live by in
+      let all : TakesInAll links live table table' = subst (λ t. TakesInAll links t table table') (take_all (length live) live (omega arith)) takes in
+      bests_all links mine by_labels coarser count (0 + length live) table' (omega (arith, long))
+      (takes_live links mine by_labels coarser count 0 live 0 table table' (omega (arith, long)) (λ j later. omega arith)
+      (λ k d lt.
+      let in_labels : k < length by_labels = omega (arith, lt, long) in
+      let e : LiveLink = get_or by_labels k d in
+      let ends = live_ends links labels by_labels are k d in_labels in
+      let low : number_of marks e.low ≡ label_of mine e.low = ap (number_of marks) (ap (λ (x : LiveLink). x.low) (sym (own k d in_labels))) ∙ sym (own_label marks labels e.low ends.0) in
+      let high : number_of marks e.high ≡ label_of mine e.high = ap (number_of marks) (ap (λ (x : LiveLink). x.high) (sym (own k d in_labels))) ∙ sym (own_label marks labels e.high ends.1) in
+      let same : numbered marks e ≡ relabelled mine e = λ j. record { low = low j; high = high j; weight = e.weight; place = e.place } in
+      let here : k ≡ 0 + k = omega arith in
+      number_at marks names within by_labels live by k d in_labels ∙ same ∙ ap (λ j. relabelled mine (get_or by_labels j d)) here)
+      all (bests_none links mine by_labels coarser count table (subst (AreBestUpTo count links mine 0 0) (sym none) (best_of_none count links mine 0))))

@@ -1,0 +1,237 @@
+-- Numbers of marked labels: they ascend as the labels do.
+use Rattle.std.proofs.Common.{◌≡◌, ◌≢◌, ℕ, zero, suc, ◌+◌, ◌-◌, ◌*◌, ◌/◌, ◌%◌, ◌^◌, ◌<◌, ◌≤◌, List, length, get_or, set, bit_or, count_ones, sym, ap, ◌∙◌, subst, inl, inr, arith, w64}
+use Rattle.std.specs.Int.{bit_at}
+use Rattle.std.proofs.lemmas.Bool.{cases_eq, cases_lt}
+use Rattle.std.proofs.lemmas.List.{get_or-set_same, get_or-set_other, get_or_past, get_or_default, length-set}
+use Rattle.std.proofs.lemmas.Nat.{ones_cat, ones-le, zero_from_ones, mod-pow-add, shr_split, mod_below, pow_pos}
+use Rattle.std.proofs.lemmas.Nat.Bits.{bit_at_set_same, bit_at_set_other}
+use Rattle.std.proofs.lemmas.List.{get_or-map, length-map, map-set, set-get_or}
+use Rattle.std.proofs.lemmas.Nat.{one_shl}
+use Rattle.link_key.specs.Labels.{label_of, AreLabels}
+use Rattle.round_theory.specs.Labelling.{IsVertex}
+use Rattle.worker_engine.proofs.Written.{label_vertex}
+use Rattle.worker_engine.specs.declared.numbers.Word.{Word}
+use Rattle.worker_engine.specs.Numbers.{marks_of, IsMarked, marked_in, AreCounted, number_of, IsNamed, new_name}
+
+some_ones : (n : ℕ) → 1 ≤ n → 1 ≤ count_ones n
+some_ones n some = elim (cases_eq (count_ones n) 0) [
+  | inl none ↦ absurd (omega (arith, some, zero_from_ones n none))
+  | inr not_none ↦ omega (arith, not_none)
+]
+
+-- the ones below a bit that is set are fewer than all, and fewer than those below a higher bit
+ones_below : (w i : ℕ) → bit_at w i ≡ 1 → count_ones (w % 2 ^ i) + 1 ≤ count_ones w
+ones_below w i set_there =
+    let cat : count_ones (w / 2 ^ i * 2 ^ i + w % 2 ^ i) ≡ count_ones (w / 2 ^ i) + count_ones (w % 2 ^ i) = ones_cat i (w / 2 ^ i) (w % 2 ^ i) (mod_below w (2 ^ i) (pow_pos i)) in
+    let whole : count_ones (w / 2 ^ i * 2 ^ i + w % 2 ^ i) ≡ count_ones w = ap count_ones (shr_split w i) in
+    let some = some_ones (w / 2 ^ i) (omega (arith, set_there)) in
+    omega (arith, cat, whole, some)
+
+ones_between : (w i m : ℕ) → bit_at w i ≡ 1 → count_ones (w % 2 ^ i) + 1 ≤ count_ones (w % 2 ^ (m + 1 + i))
+ones_between w i m set_there =
+    let high = w / 2 ^ i % 2 ^ (m + 1) in
+    let cat : count_ones (high * 2 ^ i + w % 2 ^ i) ≡ count_ones high + count_ones (w % 2 ^ i) = ones_cat i high (w % 2 ^ i) (mod_below w (2 ^ i) (pow_pos i)) in
+    let whole : count_ones (w % 2 ^ (m + 1 + i)) ≡ count_ones (high * 2 ^ i + w % 2 ^ i) = ap count_ones (mod-pow-add w (m + 1) i) in
+    let odd : high ≡ (w / 2 ^ i / 2 ^ 1 % 2 ^ m) * 2 ^ 1 + w / 2 ^ i % 2 ^ 1 = mod-pow-add (w / 2 ^ i) m 1 in
+    let some = some_ones high (omega (arith, odd, set_there)) in
+    omega (arith, cat, whole, some)
+
+ones_rise : (w i j : ℕ) → i < j → bit_at w i ≡ 1 → count_ones (w % 2 ^ i) + 1 ≤ count_ones (w % 2 ^ j)
+ones_rise w i j lt set_there =
+    let at : j - i - 1 + 1 + i ≡ j = omega (arith, lt) in
+    subst (λ k. count_ones (w % 2 ^ i) + 1 ≤ count_ones (w % 2 ^ k)) at (ones_between w i (j - i - 1) set_there)
+
+module _ (marks : List ℕ) where
+  -- more words have more marks
+  marked_more : (a k : ℕ) → marked_in marks a ≤ marked_in marks (k + a)
+  marked_more a zero = let same : zero + a ≡ a = omega arith in subst (λ n. marked_in marks a ≤ marked_in marks n) (sym same) (omega arith)
+  marked_more a (suc k) =
+      let next : suc k + a ≡ suc (k + a) = omega arith in
+      subst (λ n. marked_in marks a ≤ marked_in marks n) (sym next) (omega (arith, marked_more a k))
+
+  pub marked_rise : (a b : ℕ) → a ≤ b → marked_in marks a ≤ marked_in marks b
+  marked_rise a b le =
+      let at : b - a + a ≡ b = omega (arith, le) in
+      subst (λ k. marked_in marks a ≤ marked_in marks k) at (marked_more a (b - a))
+
+  -- the number of a marked label is one of as many as there are marks
+  within_word : (c : ℕ) → IsMarked marks c → number_of marks c ≤ marked_in marks (suc ((c - 1) / 64))
+  within_word c is = omega (arith, ones_below (get_or marks ((c - 1) / 64) 0) ((c - 1) % 64) is.bit)
+
+  pub number_within : (c : ℕ) → IsMarked marks c → number_of marks c ≤ marked_in marks (length marks)
+  number_within c is = omega (arith, within_word c is, marked_rise (suc ((c - 1) / 64)) (length marks) (omega (arith, is.in_words)))
+
+  -- numbers ascend
+  pub numbers_ascend : (c d : ℕ) → IsMarked marks c → c < d → number_of marks c < number_of marks d
+  numbers_ascend c d is lt = elim (cases_lt ((c - 1) / 64) ((d - 1) / 64)) [
+    | inl earlier ↦ omega (arith, within_word c is, marked_rise (suc ((c - 1) / 64)) ((d - 1) / 64) (omega (arith, earlier)))
+    | inr later ↦
+        let same : (d - 1) / 64 ≡ (c - 1) / 64 = omega (arith, later, lt, is.from_one) in
+        let below : (c - 1) % 64 < (d - 1) % 64 = omega (arith, same, lt, is.from_one) in
+        let rise = ones_rise (get_or marks ((c - 1) / 64) 0) ((c - 1) % 64) ((d - 1) % 64) below is.bit in
+        subst (λ w. number_of marks c < marked_in marks w + count_ones (get_or marks w 0 % 2 ^ ((d - 1) % 64)) + 1) (sym same) (omega (arith, rise))
+  ]
+
+  pub numbers_apart : (c d : ℕ) → IsMarked marks c → IsMarked marks d → number_of marks c ≡ number_of marks d → c ≡ d
+  numbers_apart c d c_is d_is same = elim (cases_lt c d) [
+    | inl lt ↦ absurd (omega (arith, same, numbers_ascend c d c_is lt))
+    | inr le ↦ elim (cases_lt d c) [
+      | inl lt ↦ absurd (omega (arith, same, numbers_ascend d c d_is lt))
+      | inr ge ↦ omega (arith, le, ge)
+    ]
+  ]
+
+  pub ascends_back : (c d : ℕ) → IsMarked marks c → IsMarked marks d → number_of marks c < number_of marks d → c < d
+  ascends_back c d c_is d_is lt = elim (cases_lt c d) [
+    | inl less ↦ less
+    | inr le ↦ elim (cases_eq c d) [
+      | inl same ↦ absurd (omega (arith, lt, ap (number_of marks) same))
+      | inr other ↦ absurd (omega (arith, lt, numbers_ascend d c d_is (omega (arith, le, other))))
+    ]
+  ]
+
+-- a bit is set
+abbrev pub with_bit : ℕ → ℕ → ℕ
+with_bit word at = bit_or word (1 * 2 ^ at % 18446744073709551616)
+
+module _ (marks : List ℕ) (label : ℕ) (from_one : 1 ≤ label) (within : (label - 1) / 64 < length marks) where
+  abbrev at : ℕ
+  at = (label - 1) / 64
+
+  abbrev bit : ℕ
+  bit = (label - 1) % 64
+
+  abbrev new : List ℕ
+  new = set marks at (with_bit (get_or marks at 0) bit)
+
+  small : (k : ℕ) → k % 64 < 64
+  small k = omega arith
+
+  pub mark_sets : IsMarked new label
+  mark_sets = record {
+    from_one = from_one;
+    in_words = omega (arith, within, length-set marks at (with_bit (get_or marks at 0) bit));
+    bit = rw (get_or-set_same marks at (with_bit (get_or marks at 0) bit) 0 within) (bit_at_set_same w64 (get_or marks at 0) bit (small (label - 1)));
+  }
+
+  pub mark_keeps : (c : ℕ) → IsMarked marks c → IsMarked new c
+  mark_keeps c is = elim (cases_eq c label) [
+    | inl same ↦ subst (IsMarked new) (sym same) mark_sets
+    | inr other ↦ record {
+      from_one = is.from_one;
+      in_words = omega (arith, is.in_words, length-set marks at (with_bit (get_or marks at 0) bit));
+      bit = elim (cases_eq ((c - 1) / 64) at) [
+        | inl one ↦
+            let apart : (c - 1) % 64 ≢ bit = λ same. other (omega (arith, one, same, is.from_one, from_one)) in
+            rw (one, get_or-set_same marks at (with_bit (get_or marks at 0) bit) 0 within, bit_at_set_other w64 (get_or marks at 0) bit (small (label - 1)) ((c - 1) % 64) apart)
+            (subst (λ w. bit_at (get_or marks w 0) ((c - 1) % 64) ≡ 1) one is.bit)
+        | inr far ↦ rw (get_or-set_other marks at ((c - 1) / 64) (with_bit (get_or marks at 0) bit) 0 far) is.bit
+      ];
+    }
+  ]
+
+abbrev marks_in : Word → ℕ
+marks_in w = w.marks
+
+-- a bit of a word is set
+pub marks_set : (words : List Word) (i bit : ℕ) (w new : Word) → i < length words → w ≡ get_or words i w → new.marks ≡ with_bit w.marks bit
+    → marks_of (set words i new) ≡ set (marks_of words) i (with_bit (get_or (marks_of words) i 0) bit)
+marks_set words i bit w new within read new_is =
+    map-set marks_in words i new
+    ∙ ap (set (marks_of words) i) (new_is ∙ ap (λ m. with_bit m bit) (ap marks_in read ∙ sym (get_or-map marks_in words i w 0 within)))
+
+-- the number that a word tells
+pub number_is : (words : List Word) (c : ℕ) (w : Word) → AreCounted words → (c - 1) / 64 < length words → w ≡ get_or words ((c - 1) / 64) w
+    → w.before + count_ones (w.marks % (1 * 2 ^ ((c - 1) % 64) % 18446744073709551616)) + 1 ≡ number_of (marks_of words) c
+number_is words c w counted within read =
+    let at = (c - 1) / 64 in
+    let before : w.before ≡ marked_in (marks_of words) at = ap (λ (x : Word). x.before) read ∙ counted.before at w within in
+    let marks : w.marks ≡ get_or (marks_of words) at 0 = ap marks_in read ∙ sym (get_or-map marks_in words at w 0 within) in
+    let shift : 1 * 2 ^ ((c - 1) % 64) % 18446744073709551616 ≡ 2 ^ ((c - 1) % 64) = one_shl ((c - 1) % 64) 64 (omega arith) in
+    ap (λ n. w.before + count_ones (w.marks % n) + 1) shift
+    ∙ ap (λ m. w.before + count_ones (m % 2 ^ ((c - 1) % 64)) + 1) marks
+    ∙ ap (λ n. n + count_ones (get_or (marks_of words) at 0 % 2 ^ ((c - 1) % 64)) + 1) before
+
+pub number_fits : (words : List Word) (c : ℕ) → AreCounted words → (c - 1) / 64 < length words → number_of (marks_of words) c ≤ 2 ^ 28 + 65
+number_fits words c counted within =
+    let at = (c - 1) / 64 in
+    let bit = (c - 1) % 64 in
+    let some : count_ones (get_or (marks_of words) at 0 % 2 ^ bit) ≤ bit = ones-le bit (get_or (marks_of words) at 0 % 2 ^ bit) (mod_below (get_or (marks_of words) at 0) (2 ^ bit) (pow_pos bit)) in
+    let rise = marked_rise (marks_of words) at (length words) (omega (arith, within)) in
+    let small : bit < 64 = omega arith in
+    omega (arith, some, rise, counted.few, small)
+
+-- the number of a marked label has a place among the names
+pub number_within_names : (words : List Word) (names : List ℕ) → length names ≡ marked_in (marks_of words) (length words) → (c : ℕ) → IsMarked (marks_of words) c → number_of (marks_of words) c ≤ length names
+number_within_names words names size c is =
+    let within : number_of (marks_of words) c ≤ marked_in (marks_of words) (length words) =
+    subst (λ n. number_of (marks_of words) c ≤ marked_in (marks_of words) n) (length-map words marks_in) (number_within (marks_of words) c is) in
+    omega (arith, size, within)
+
+pub number_has_place : (words : List Word) (names : List ℕ) (c : ℕ) → length names ≡ marked_in (marks_of words) (length words) → IsMarked (marks_of words) c → number_of (marks_of words) c - 1 < length names
+number_has_place words names c size is = omega (arith, number_within_names words names size c is)
+
+-- a name is written, and others stand
+module _ (marks names : List ℕ) (d : ℕ) (d_is : IsMarked marks d) where
+  pub named_here : number_of marks d - 1 < length names → IsNamed marks (set names (number_of marks d - 1) d) d
+  named_here within = get_or-set_same names (number_of marks d - 1) d 0 within
+
+  pub named_stays : (c : ℕ) → IsMarked marks c → IsNamed marks names c → IsNamed marks (set names (number_of marks d - 1) d) c
+  named_stays c c_is is = elim (cases_eq (number_of marks c - 1) (number_of marks d - 1)) [
+    | inl same ↦
+        let one : c ≡ d = numbers_apart marks c d c_is d_is (omega (arith, same)) in
+        elim (cases_lt (number_of marks d - 1) (length names)) [
+          | inl within ↦ subst (λ k. IsNamed marks (set names (number_of marks d - 1) d) k) (sym one) (named_here within)
+          | inr past ↦ absurd (omega (arith, past, same, is, c_is.from_one, get_or_past names (number_of marks c - 1) 0 (omega (arith, past, same))))
+        ]
+    | inr other ↦ get_or-set_other names (number_of marks d - 1) (number_of marks c - 1) d 0 other ∙ is
+  ]
+
+-- the label of a vertex has a word
+pub label_has_word : (labels : List ℕ) (v words : ℕ) → AreLabels labels → IsVertex (length labels) v → words ≡ length labels / 64 + 1 → (label_of labels v - 1) / 64 < words
+label_has_word labels v words are vertex size = let is = label_vertex labels are v vertex in omega (arith, is.1, size)
+
+-- one more word tells how many are marked before it
+module _ (words : List Word) (i total : ℕ) (w : Word) (within : i < length words) (read : w ≡ get_or words i w) (total_is : total ≡ marked_in (marks_of words) i) where
+  abbrev told : Word
+  told = record { marks = w.marks; before = total }
+
+  pub told_marks : marks_of (set words i told) ≡ marks_of words
+  told_marks =
+      map-set marks_in words i told
+      ∙ ap (set (marks_of words) i) (ap marks_in read ∙ sym (get_or-map marks_in words i w 0 within))
+      ∙ set-get_or (marks_of words) i 0
+
+  pub told_total : total + count_ones w.marks ≡ marked_in (marks_of (set words i told)) (i + 1)
+  told_total =
+      let next : suc i ≡ i + 1 = omega arith in
+      let here : w.marks ≡ get_or (marks_of words) i 0 = ap marks_in read ∙ sym (get_or-map marks_in words i w 0 within) in
+      ap (λ n. total + count_ones n) here
+      ∙ ap (λ n. n + count_ones (get_or (marks_of words) i 0)) total_is
+      ∙ ap (marked_in (marks_of words)) next
+      ∙ ap (λ m. marked_in m (i + 1)) (sym told_marks)
+
+  pub told_before : ((k : ℕ) (d : Word) → k < i → (get_or words k d).before ≡ marked_in (marks_of words) k)
+      → (k : ℕ) (d : Word) → k < i + 1 → (get_or (set words i told) k d).before ≡ marked_in (marks_of (set words i told)) k
+  told_before before k d lt = elim (cases_lt k i) [
+    | inl less ↦
+        let other : k ≢ i = omega (arith, less) in
+        ap (λ (x : Word). x.before) (get_or-set_other words i k told d other) ∙ before k d less ∙ ap (λ m. marked_in m k) (sym told_marks)
+    | inr le ↦
+        let at : k ≡ i = omega (arith, le, lt) in
+        subst (λ n. (get_or (set words i told) n d).before ≡ marked_in (marks_of (set words i told)) n) (sym at)
+        (ap (λ (x : Word). x.before) (get_or-set_same words i told d within) ∙ total_is ∙ ap (λ m. marked_in m i) (sym told_marks))
+  ]
+
+-- a new name has a word
+pub new_name_has_word : (labels : List ℕ) (name words : ℕ) → AreLabels labels → words ≡ length labels / 64 + 1 → (1 ≤ new_name labels name) × ((new_name labels name - 1) / 64 < words)
+new_name_has_word labels name words are size = elim (cases_lt (name - 1) (length labels)) [
+  | inl within ↦
+      let v = name - 1 + 1 in
+      let vertex : IsVertex (length labels) v = (omega arith, omega (arith, within)) in
+      let label = label_vertex labels are v vertex in
+      let at : v - 1 ≡ name - 1 = omega arith in
+      let is : label_of labels v ≡ new_name labels name = ap (λ k. get_or labels k 0) at ∙ get_or_default labels (name - 1) 0 1 within in
+      subst (λ c. (1 ≤ c) × ((c - 1) / 64 < words)) is (label.0, omega (arith, label.1, size))
+  | inr past ↦ subst (λ c. (1 ≤ c) × ((c - 1) / 64 < words)) (sym (get_or_past labels (name - 1) 1 past)) (omega arith, omega (arith, size))
+]
