@@ -3,6 +3,7 @@ ghost use Rattle.std.specs.Prelude.{◌≡◌, ◌+◌, ◌<◌, ◌≤◌, leng
 ghost use Rattle.limits.specs.declared.TheConstants.{MAX_SHARDS, MAX_WORKERS};
 ghost use Rattle.link_key.specs.Link.{EndsUpTo};
 ghost use Rattle.round_core.specs.BookValue.{BookValue, opened, missing};
+ghost use Rattle.round_core.specs.Picks.{AreNoPicks};
 ghost use Rattle.round_core.specs.Solver.{vertices, IsProgress};
 ghost use Rattle.forest_run.specs.Lanes.{open_count, IsIdle};
 ghost use Rattle.forest_run.specs.Bounds.{IsAskable, HasRoomForRound};
@@ -73,7 +74,8 @@ pub(crate) fn run_round<
     scan_missing(rt, alloc, book)
 }
 
-// What a run keeps from round to round: the picks of the last one, in whose room those of the next are counted.
+// What a run keeps from round to round: the picks of the last one, of which none is left, and in whose room those of the
+// next are counted.
 #[derive(Drop)]
 pub(crate) struct Reused<A: Allocator> {
     pub(crate) alloc: A,
@@ -96,6 +98,7 @@ pub(crate) fn picks_of_round<
     cut: &'a Cut<'a, A>,
     lanes: &mut [Lane<P, A>],
 ) -> Result<(Picks<A>, u32), AllocError>
+    requires none { AreNoPicks reused.old.picks }
     requires few { length lanes.old ≤ MAX_WORKERS }
     requires some_shard { 0 < length cut.now }
     requires few_shards { length cut.now ≤ MAX_SHARDS }

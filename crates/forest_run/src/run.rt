@@ -1,8 +1,9 @@
 //! The whole run over lanes: rounds, until one has no picks.
-ghost use Rattle.std.specs.Prelude.{◌≡◌, ℕ, ◌+◌, ◌<◌, ◌≤◌, ◌^◌, length, All, IfOk, IfErr};
+ghost use Rattle.std.specs.Prelude.{◌≡◌, ℕ, ◌+◌, ◌<◌, ◌≤◌, ◌^◌, length, All, IfOk, IfErr, OnOk};
 ghost use Rattle.limits.specs.declared.TheConstants.{MAX_SHARDS, MAX_VERTICES, MAX_WORKERS};
 ghost use Rattle.link_key.specs.Link.{EndsUpTo};
 ghost use Rattle.round_core.specs.BookValue.{opened};
+ghost use Rattle.round_core.specs.Picks.{AreNoPicks};
 ghost use Rattle.round_core.specs.Solver.{vertices};
 ghost use Rattle.round_core.specs.declared.solver.SolveFault.TheVariants.{Memory};
 ghost use Rattle.forest_run.specs.Lanes.{IsIdle};
@@ -20,7 +21,7 @@ use std::alloc::Allocator;
 use std::sync::Wait;
 use std::thread::Threads;
 
-// One round, and its picks into the solver; and how many shards were scanned alone.
+// One round, and its picks into the solver, which leaves none of them; and how many shards were scanned alone.
 fn turn<'a, A: Allocator + Copy + Send + Sync, P: Port<A> + Send + Drop, R: Threads + Wait + Sync>(
     rt: &R,
     reused: &mut Reused<A>,
@@ -28,6 +29,7 @@ fn turn<'a, A: Allocator + Copy + Send + Sync, P: Port<A> + Send + Drop, R: Thre
     cut: &'a Cut<'a, A>,
     lanes: &mut [Lane<P, A>],
 ) -> Result<(Turn, u32), SolveFault>
+    requires none { AreNoPicks reused.old.picks }
     requires few { length lanes.old ≤ MAX_WORKERS }
     requires some_shard { 0 < length cut.now }
     requires few_shards { length cut.now ≤ MAX_SHARDS }
@@ -37,12 +39,13 @@ fn turn<'a, A: Allocator + Copy + Send + Sync, P: Port<A> + Send + Drop, R: Thre
     ensures went { IfOk result (λ r. StepsOnce P.Port cut.now solver.old solver.new lanes.old lanes.new r.0 r.1) }
     ensures ports { AsksInRound P.Port cut.now solver.old lanes.old lanes.new }
     ensures fault { IfErr result (IsTurnFault P.Port cut.now solver.old lanes.old lanes.new) }
+    ensures none { OnOk result (AreNoPicks reused.new.picks) }
     ensures idle { All IsIdle lanes.new }
 {
     // Without memory for the bytes of the labels, each wire turns the labels into bytes for itself.
     let _ = solver.spell_labels();
-    let (picks, alone) = picks_of_round(rt, reused, solver, cut, lanes)?;
-    let turn = solver.step(&picks)?;
+    let (mut picks, alone) = picks_of_round(rt, reused, solver, cut, lanes)?;
+    let turn = solver.step_par(rt, &mut picks)?;
     reused.picks = picks;
     Ok((turn, alone))
 }

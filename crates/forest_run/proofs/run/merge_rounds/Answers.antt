@@ -1,11 +1,11 @@
-use Rattle.std.proofs.Common.{arith}
+use Rattle.std.proofs.Common.{length, ap, arith}
 use Rattle.std.proofs.lemmas.Result.{err_from_is_err_and}
 use Rattle.forest_run.proofs.Ending.{asked_none, so_far_none, wide_more, alone_few, turned_more, turned_last, turn_fault, turn_honest, asked_then}
 use Rattle.forest_run.proofs.run.merge_rounds.Goals as goal
 use Rattle.forest_run.proofs.run.merge_rounds.Goals.{in-None, in-Some+in_ok-turn+in-Done}
 
 pub loop-init : goal.loop-init
-loop-init g c = record { so_far = so_far_none g.P.Port c.args.n c.args.cut.now c.args.lanes.now c.in_ok-solver.solver c.in_ok-solver.ensures; idle = c.requires.idle }
+loop-init g c = record { so_far = so_far_none g.P.Port c.args.n c.args.cut.now c.args.lanes.now c.in_ok-solver.solver c.in_ok-solver.ensures; idle = c.requires.idle; none = λ i d lt. absurd (omega (arith, lt, ap length c.empty.ensures)) }
 
 pub returns-in_err-solver-clause-ports : goal.returns-in_err-solver-clause-ports
 returns-in_err-solver-clause-ports g c = asked_none g.P.Port c.args.n c.args.cut.now c.args.lanes.now
@@ -44,6 +44,7 @@ loop-preserved g c =
           turned_more g.P.Port c.args.n c.args.cut.now c.args.lanes.now c.loop.lanes c.turn.new.lanes c.loop.solver c.turn.new.solver c.in_ok-turn.turn c.loop.alone c.in_ok-turn.scanned c.requires.ends
           c.loop.invariant.so_far c.in_ok-turn.ensures.went c.in_default.not-Done;
       idle = c.turn.ensures.idle;
+      none = c.in_ok-turn.ensures.none;
     })
 
 pub returns-clause-went : goal.returns-clause-went
