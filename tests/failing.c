@@ -10,6 +10,7 @@
  * passes and tells that the connection has ended, though its socket names no error; under the name "getsockopt" it does
  * too, and then the call fails that asks for the error.
  * For each call that fails an 'x' goes to the descriptor TOLD. With SHORT each recv, read and send is of one byte.
+ * With PROCESSORS the program is told that it may run on so many, at most 64, whatever a cgroup grants.
  * With COUNTED an 'R' goes there for each read that asks for 64 KiB, an 'r' for each other, and a 'w' for each write.
  * Where a socket listens on more than the loopback address, an 'A' goes there.
  * Where the program ends and a thread that it started wasn't joined, a 'J' goes there; with JOINED a 'j' too, for each
@@ -39,7 +40,7 @@
 static const char *chosen = "";
 static unsigned long first, last, chosen_error;
 static atomic_ulong counted, started, joined;
-static int told = -1, is_short, is_counted;
+static int told = -1, is_short, is_counted, processors;
 static _Thread_local int is_hung_up;
 
 static unsigned long number(const char *name, unsigned long otherwise) {
@@ -53,6 +54,7 @@ __attribute__((constructor)) static void begin(void) {
     last = number("FAIL_LAST", first);
     is_short = getenv("SHORT") != 0;
     is_counted = getenv("COUNTED") != 0;
+    processors = (int)number("PROCESSORS", 0);
     chosen_error = number("FAIL_ERROR", NO_ERROR_CHOSEN);
     chosen = getenv("FAIL_CALL") ? getenv("FAIL_CALL") : chosen;
 }
@@ -115,6 +117,10 @@ int open(const char *path, int flags, ...) {
     va_start(more, flags);
     mode_t mode = flags & O_CREAT ? va_arg(more, mode_t) : 0;
     va_end(more);
+    if (processors && !strcmp(path, "/sys/fs/cgroup/cpu.max")) {
+        errno = ENOENT;
+        return -1;
+    }
     return fails("open", EACCES) ? -1 : REAL(open)(path, flags, mode);
 }
 
@@ -242,7 +248,21 @@ ssize_t write(int fd, const void *bytes, size_t count) {
 }
 
 int sched_getaffinity(pid_t which, size_t size, cpu_set_t *set) {
-    return fails("sched_getaffinity", EINVAL) ? -1 : REAL(sched_getaffinity)(which, size, set);
+    if (fails("sched_getaffinity", EINVAL)) {
+        return -1;
+    }
+    if (!processors) {
+        return REAL(sched_getaffinity)(which, size, set);
+    }
+    memset(set, 0, size);
+    for (int at = 0; at < processors && at < 64; at++) {
+        CPU_SET_S(at, size, set);
+    }
+    return 0;
+}
+
+long sysconf(int name) {
+    return processors && name == _SC_NPROCESSORS_ONLN ? processors : REAL(sysconf)(name);
 }
 
 int pthread_create(pthread_t *made, const pthread_attr_t *how_made, void *(*run)(void *), void *with) {

@@ -1,8 +1,9 @@
 /* Preloaded before a program: refuses chosen allocations of the C library's heap.
  *
  * REFUSE_FIRST is the number of the first allocation that is refused, from 1, and REFUSE_LAST that of the last (none:
- * all from the first on). For each that is refused a byte goes to the descriptor REFUSED, so that whoever started the
- * program sees whether one was. It takes no memory itself. */
+ * all from the first on). With REFUSE_ABOVE each of more bytes than so many is refused too. For each that is refused a
+ * byte goes to the descriptor REFUSED, so that whoever started the program sees whether one was. It takes no memory
+ * itself. */
 #include <errno.h>
 #include <stdatomic.h>
 #include <stdlib.h>
@@ -13,7 +14,7 @@ void *__libc_calloc(size_t count, size_t size);
 void *__libc_realloc(void *block, size_t size);
 void *__libc_memalign(size_t align, size_t size);
 
-static unsigned long first, last;
+static unsigned long first, last, above;
 static atomic_ulong asked;
 static int told = -1;
 
@@ -25,15 +26,18 @@ static unsigned long number(const char *name, unsigned long otherwise) {
 __attribute__((constructor)) static void begin(void) {
     told = (int)number("REFUSED", (unsigned long)-1);
     last = number("REFUSE_LAST", (unsigned long)-1);
+    above = number("REFUSE_ABOVE", (unsigned long)-1);
     first = number("REFUSE_FIRST", 0);
 }
 
-static int refuses_next(void) {
-    if (!first) {
-        return 0;
-    }
+/* whether the next allocation is one of those numbers */
+static int is_next_chosen(void) {
     unsigned long at = atomic_fetch_add(&asked, 1) + 1;
-    if (at < first || at > last) {
+    return first && at >= first && at <= last;
+}
+
+static int refuses(size_t size) {
+    if (!is_next_chosen() && size <= above) {
         return 0;
     }
     if (told >= 0 && write(told, "x", 1) < 0) {
@@ -43,18 +47,21 @@ static int refuses_next(void) {
     return 1;
 }
 
-void *malloc(size_t size) { return refuses_next() ? 0 : __libc_malloc(size); }
+/* so many bytes, or as many as there are where they can't be told */
+static size_t product(size_t count, size_t size) { return size && count > (size_t)-1 / size ? (size_t)-1 : count * size; }
 
-void *calloc(size_t count, size_t size) { return refuses_next() ? 0 : __libc_calloc(count, size); }
+void *malloc(size_t size) { return refuses(size) ? 0 : __libc_malloc(size); }
 
-void *realloc(void *block, size_t size) { return refuses_next() ? 0 : __libc_realloc(block, size); }
+void *calloc(size_t count, size_t size) { return refuses(product(count, size)) ? 0 : __libc_calloc(count, size); }
 
-void *memalign(size_t align, size_t size) { return refuses_next() ? 0 : __libc_memalign(align, size); }
+void *realloc(void *block, size_t size) { return refuses(size) ? 0 : __libc_realloc(block, size); }
 
-void *aligned_alloc(size_t align, size_t size) { return refuses_next() ? 0 : __libc_memalign(align, size); }
+void *memalign(size_t align, size_t size) { return refuses(size) ? 0 : __libc_memalign(align, size); }
+
+void *aligned_alloc(size_t align, size_t size) { return refuses(size) ? 0 : __libc_memalign(align, size); }
 
 int posix_memalign(void **block, size_t align, size_t size) {
-    if (refuses_next()) {
+    if (refuses(size)) {
         return ENOMEM;
     }
     *block = __libc_memalign(align, size);

@@ -86,6 +86,15 @@ def each_allocation_of_a_run_over_workers_refused(room):
 
 
 @case
+def no_allocation_of_twice_the_largest_list(room):
+    # (of 4,096 answers, of 32 bytes each beside its offers)
+    words = [Program.path, *over(64, 4096)]
+    found, told = told_by(room, words, SMALL_NET, {"REFUSE_ABOVE": str(2 * 4096 * 32 - 1)}, library="refusing")
+    expect(found, 0, SMALL_FOREST, b"")
+    expect((told, b"", b""), b"", b"", b"")
+
+
+@case
 def each_allocation_of_the_help_refused(room):
     each_refused(room, ["--help"], b"", ran(["--help"])[1], b"")
 

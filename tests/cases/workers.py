@@ -5,7 +5,20 @@ import random
 import resource
 import time
 
-from cases.running import SMALL_FOREST, SMALL_NET, Report, case, drawn_graph, expect, file_of, forest_text, ran, written
+from cases.running import (
+    SMALL_FOREST,
+    SMALL_NET,
+    Program,
+    Report,
+    case,
+    drawn_graph,
+    expect,
+    file_of,
+    forest_text,
+    ran,
+    told_by,
+    written,
+)
 
 
 def over(workers, shards):
@@ -13,9 +26,14 @@ def over(workers, shards):
 
 
 def expect_healthy(words, file, text, workers, shards):
-    """Runs over so many workers and shards give this text, and no worker is lost: a line is closed, and a shard scanned
-    alone beside workers, where one found no memory too, which the forest doesn't show. It answers the report."""
-    status, output, errors = ran([*over(workers, shards), "--report", *words], file)
+    """Runs over so many workers and shards give this text, and no worker is lost. It answers the report."""
+    return healthy_report(ran([*over(workers, shards), "--report", *words], file), text, workers, shards)
+
+
+def healthy_report(found, text, workers, shards):
+    """The report of a run that gave this text and lost no worker: a line is closed, and a shard scanned alone beside
+    workers, where one found no memory too, which the forest doesn't show."""
+    status, output, errors = found
     expect((status, output, b""), 0, text, b"")
     report = Report(errors)
     report.expect_equations(shards, workers)
@@ -169,12 +187,19 @@ def few_descriptors(_room):
 
 
 @case
-def a_list_halved_three_times(_room):
-    # forty times the same links are forty times as many, and the forest is the same
+def a_list_halved_three_times(room):
+    # forty times the same links are forty times as many, and the forest is the same; on eight processors a scan of all
+    # of them is by eight threads, one of which was there
     file, text = drawn_graph(13, 600, 30_000)
     more = b"p sp 600 1200000\n" + file.partition(b"\n")[2] * 40
     for workers, shards in [(0, 1), (1, 1)]:
-        expect_healthy([], more, text, workers, shards)
+        words = [Program.path, *over(workers, shards), "--report"]
+        found, told = told_by(room, words, more, {"PROCESSORS": "8", "JOINED": "1"})
+        report = healthy_report(found, text, workers, shards)
+        # each round scans all of them without a worker; a worker, in a thread of its own, does so in the first
+        threads = len(told)
+        if told.strip(b"j") or (threads < 8 if workers else threads != 7 * (report.rounds + 1)):
+            raise AssertionError(f"{workers} workers: told {told!r}: {vars(report)}")
 
 
 @case

@@ -1,5 +1,6 @@
 //! Whole runs, from the bytes of a `.gr` file to the text of its minimum spanning forest: by one thread, or over lines
-//! to workers. Over workers they go in rounds; ferries, a thread for each port, ask for light offers.
+//! to workers. Over workers they go in rounds; ferries, one for each open port, ask for light offers, in threads where
+//! these can be made: no contract says so.
 //!
 //! ```text
 //!     run_lines            read, cut, a wire and a lane a line, solve, write

@@ -13,7 +13,7 @@
 //!   totals          what forests weigh
 //!   fault_texts     what each fault, and a report, is told as
 //!   sizes           each call at and past the size of every inner piece
-//!   memory_of_graphs    what a reader asks for, by an allocator that refuses
+//!   memory_of_graphs    what a reader, and a forest of distinct links, ask for, by an allocator that refuses
 //! ```
 //!
 //! An example shows a call on its happy path with a value from outside, what no contract can see (that a call ends well

@@ -1,5 +1,8 @@
-// The memory that a reader asks for: that of the arcs that came, whatever its problem line states.
+// The memory that a reader asks for: that of the arcs that came, whatever its problem line states. And what a forest of
+// distinct links asks for beside their list.
+use crate::lists::have_lows_ascending;
 use gr_text::{GrFault, GrKind, GrReader, MAX_BYTES, ReadFault, parse, read_graph};
+use link_key::{Forest, Link};
 use std::alloc::{AllocError, Global};
 use std::process::Abort;
 use std::test::Fail;
@@ -62,5 +65,30 @@ fn arcs_take_it_as_they_come(rt: HostRuntime) -> Result<(), Fail> {
     }
     let asked = expect_fault(&rt, rt.alloc(), Refusals::none(), &text, lacks_arcs(1002));
     assert!(rt; asked > 6);
+    Ok(())
+}
+
+// How many blocks a list of a thousand links and their forest take, whose weights are so far apart. Their ends tell
+// twenty binary digits: ten of the lower one, and ten of how far the other is from it.
+fn blocks_of_forest(rt: &impl Abort, alloc: Global, spread: u64) -> Result<u64, Fail> {
+    let memory = Refusing::new(alloc, Refusals::none());
+    let mut links = Vec::with_capacity(&memory, 1000)?;
+    for low in 1..1001u32 {
+        let above = if low % 2 == 0 { 0 } else { spread };
+        let weight = i64::MIN.wrapping_add(above.cast_signed());
+        links.push(Link::of_arc(low, 2 * low + 1, weight).ok_or("a link")?)?;
+    }
+    assert!(rt; have_lows_ascending(links.as_slice()));
+    drop(Forest::of_distinct(&memory, links)?);
+    Ok(memory.given())
+}
+
+// Beside the list there is one block where the keys fit 64 binary digits, those of weights with 44 too, and else two.
+#[test]
+fn keys_that_fit_take_one_block(rt: HostRuntime) -> Result<(), Fail> {
+    let spreads = [(999, 2), ((1 << 44) - 1, 2), (1 << 44, 3), (u64::MAX, 3)];
+    for (spread, blocks) in spreads {
+        assert_eq!(rt; blocks_of_forest(&rt, rt.alloc(), spread)?, blocks);
+    }
     Ok(())
 }

@@ -13,6 +13,7 @@ use std::alloc::{AllocError, Global};
 use std::process::Abort;
 use std::test::Fail;
 use std::thread::Threads;
+use test_memory::{Refusals, Refusing};
 use worked_graphs::have_labels;
 use worker_engine::{ServeFault, Served, scan, serve, serve_upto};
 
@@ -218,6 +219,29 @@ fn an_ask_torn_at_each_byte(rt: HostRuntime) -> Result<(), Fail> {
         let heard: [&[u8]; 3] = [&SHARD, &ASK, &ASK[..count]];
         expect_session(&rt, rt.alloc(), &heard, None, torn)?;
     }
+    Ok(())
+}
+
+// How many blocks a session over these bytes takes, which ends well.
+fn blocks_of_session(
+    rt: &(impl Threads + Sync),
+    alloc: Global,
+    heard: &[&[u8]],
+) -> Result<u64, Fail> {
+    let bytes = joined(alloc, heard)?;
+    let memory = Refusing::new(alloc, Refusals::none());
+    let mut source = bytes.as_slice();
+    let mut sink = Vec::new(alloc);
+    serve(rt, &memory, 0, &mut source, &mut sink)?;
+    Ok(memory.given())
+}
+
+// An ask under the labels of the one before takes two blocks, of its offers and of the answer's text: none for what came.
+#[test]
+fn an_ask_that_comes_again_is_not_stored(rt: HostRuntime) -> Result<(), Fail> {
+    let once = blocks_of_session(&rt, rt.alloc(), &[&SHARD, &ASK])?;
+    let twice = blocks_of_session(&rt, rt.alloc(), &[&SHARD, &ASK, &ASK])?;
+    expect_same(&rt, twice.wrapping_sub(once), 2);
     Ok(())
 }
 

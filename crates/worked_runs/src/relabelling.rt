@@ -85,6 +85,30 @@ fn components_of_five(rt: HostRuntime) -> Result<(), Fail> {
     Ok(())
 }
 
+// The component of 2 and 4, which meets 5 alone, as the first or as the second of the two: all get its label.
+fn expect_larger_kept(rt: &impl Abort, alloc: Global, u: u32, v: u32) -> Result<(), Fail>
+    requires first { u < 6 }
+    requires second { v < 6 }
+{
+    let mut components = Components::apart(alloc, 5)?;
+    make_one(rt, &mut components, 2, 4);
+    let kept = components.label(2);
+    make_one(rt, &mut components, u, v);
+    let labels = (
+        components.label(2),
+        components.label(4),
+        components.label(5),
+    );
+    assert_eq!(rt; labels, (kept, kept, kept));
+    Ok(())
+}
+
+#[test]
+fn the_larger_of_two_components_keeps_its_label(rt: HostRuntime) -> Result<(), Fail> {
+    expect_larger_kept(&rt, rt.alloc(), 2, 5)?;
+    expect_larger_kept(&rt, rt.alloc(), 5, 2)
+}
+
 // Components of no vertex and of one: each number stands alone.
 #[test]
 fn components_at_their_bounds(rt: HostRuntime) -> Result<(), Fail> {

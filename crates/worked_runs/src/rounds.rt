@@ -212,6 +212,30 @@ fn answers_in_any_order(rt: HostRuntime) -> Result<(), Fail> {
     Ok(())
 }
 
+// In the first round of the triangle 1 and 2 pick the link between them, and 3 that to 1.
+fn are_of_triangle(picks: &Picks) -> bool
+    requires { length picks.now ≡ 3 }
+{
+    let (least, next) = (Link::of_arc(1, 2, 5), Link::of_arc(1, 3, 5));
+    picks.of(1) == least && picks.of(2) == least && picks.of(3) == next
+}
+
+// A book takes any number for its round's, those too that no run over so few vertices comes to: the picks are the same.
+#[test]
+fn books_of_late_rounds(rt: HostRuntime) -> Result<(), Fail> {
+    let alloc = rt.alloc();
+    let links = links_to_cut(&rt, alloc, 3, EQUAL_WEIGHTS.arcs)?;
+    let cut = Cut::even(alloc, links.as_slice(), 1).expect(&rt, "a cut");
+    let labels = Labels::apart(alloc, 3)?;
+    assert!(rt; labels.n() == 3);
+    for round in [14, 15, 26, 27, u32::MAX] {
+        let book = opened(&rt, alloc, &cut, round, &labels)?;
+        let picks = picks_of_offers(&rt, alloc, book, &[&[(1, 0), (2, 0), (3, 2)]])?;
+        assert!(rt; are_of_triangle(&picks));
+    }
+    Ok(())
+}
+
 // It is told as this text.
 pub(crate) fn expect_told(
     rt: &impl Abort,
