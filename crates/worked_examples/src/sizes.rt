@@ -11,6 +11,7 @@ use link_key::{Components, Forest, Labels, Link, Offers};
 use std::alloc::{AllocError, Global};
 use std::process::Abort;
 use std::test::Fail;
+use std::thread::Threads;
 use worked_graphs::{Row, links_of};
 
 // How many vertices a path has. Labels are looked at by 4 and by 256, a sample has 256 links, and 65,536 links are put
@@ -227,7 +228,12 @@ fn files_in_pieces(rt: HostRuntime) -> Result<(), Fail> {
 
 // A path whose weights are drawn from so many, the least being the least weight there is; as a forest it is what std's
 // sort gives.
-fn expect_distinct(rt: &impl Abort, alloc: Global, n: u32, weights: u64) -> Result<(), Fail> {
+fn expect_distinct(
+    rt: &(impl Abort + Threads + Sync),
+    alloc: Global,
+    n: u32,
+    weights: u64,
+) -> Result<(), Fail> {
     let mut arcs = Vec::new(alloc);
     let mut weight = 0u64;
     for v in 1..n {
@@ -244,9 +250,13 @@ fn expect_distinct(rt: &impl Abort, alloc: Global, n: u32, weights: u64) -> Resu
     let links = links_of(alloc, n, arcs.as_slice())?.expect(rt, "arcs");
     let mut wanted = links.clone()?;
     wanted.sort_unstable();
+    let again = links.clone()?;
     assert!(rt; have_lows_ascending(links.as_slice()));
     let forest = Forest::of_distinct(alloc, links)?;
     assert_eq!(rt; forest.links(), wanted.as_slice());
+    assert!(rt; have_lows_ascending(again.as_slice()));
+    let by_threads = Forest::of_distinct_par(rt, alloc, again)?;
+    assert_eq!(rt; by_threads.links(), wanted.as_slice());
     Ok(())
 }
 

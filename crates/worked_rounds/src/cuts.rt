@@ -50,6 +50,7 @@ fn expect_joined(
         joined.extend_from_slice(shard.links)?;
     }
     expect_same(rt, joined.as_slice(), links);
+    expect_same(rt, cut.links(), links);
     Ok(())
 }
 

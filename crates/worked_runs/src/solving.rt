@@ -5,6 +5,7 @@ use round_core::{SolveFault, Solver, Turn, solve_alone};
 use std::alloc::{AllocError, Global};
 use std::process::Abort;
 use std::test::Fail;
+use std::thread::Threads;
 use worked_graphs::{
     A_PATH_OF_EIGHT, EQUAL_WEIGHTS, Row, SMALL_NET, WIDE_WEIGHTS, all_have_labels, links_of,
 };
@@ -71,14 +72,21 @@ fn taken(
 }
 
 // The rounds go so, and lead to the forest.
-fn expect_rounds(rt: &impl Abort, alloc: Global, rounds: Rounds) -> Result<(), Fail> {
+fn expect_rounds(
+    rt: &(impl Abort + Threads + Sync),
+    alloc: Global,
+    rounds: Rounds,
+) -> Result<(), Fail> {
     let n = rounds.n;
     let links = links_to_cut(rt, alloc, n, rounds.arcs)?;
     let cut = Cut::at(alloc, links.as_slice(), rounds.places).expect(rt, "a cut");
     let solver = taken(rt, alloc, n, &cut, rounds.steps)?;
     assert!(rt; all_have_labels(&cut, solver.labels().n()));
     let found = solver.finish(&cut).expect(rt, "a forest");
-    expect_links(rt, alloc, &found, n, rounds.forest)
+    expect_links(rt, alloc, &found, n, rounds.forest)?;
+    let by_threads = solver.finish_par(rt, &cut).expect(rt, "a forest");
+    assert!(rt; by_threads.links() == found.links());
+    Ok(())
 }
 
 // The forest has the links of these arcs.
@@ -215,6 +223,33 @@ fn a_round_past_the_bound(rt: HostRuntime) -> Result<(), Fail> {
         assert_eq!(rt; solver.round(), 2);
     }
     expect_missed(&rt, &solver, &cut, Link::of_arc(2, 3, 5));
+    let missed = solver.finish_par(&rt, &cut).err();
+    assert!(rt; is_missed(missed, Link::of_arc(2, 3, 5)));
+    Ok(())
+}
+
+// Of a path of so many links the first ones alone are offered. The first of the others is missed, in whichever part of
+// the list threads look for it.
+#[test]
+fn the_first_missed_of_many_links(rt: HostRuntime) -> Result<(), Fail> {
+    let alloc = rt.alloc();
+    let arcs = path(alloc, 70_000)?;
+    let links = links_to_cut(&rt, alloc, 70_001, arcs.as_slice())?;
+    let cut = Cut::even(alloc, links.as_slice(), 1).expect(&rt, "a cut");
+    for count in [0u32, 1, 34_999, 35_000, 35_001, 69_999] {
+        let mut pairs = Vec::new(alloc);
+        for place in 0..count {
+            pairs.push((place.wrapping_add(2), place))?;
+        }
+        let mut solver = Solver::new(alloc, 70_001)?;
+        let said = offer(&rt, alloc, &cut, &mut solver, pairs.as_slice())?;
+        assert!(rt; said.is_ok());
+        let first = count.wrapping_add(1);
+        let expected = Link::of_arc(first, first.wrapping_add(1), 1);
+        expect_missed(&rt, &solver, &cut, expected);
+        let missed = solver.finish_par(&rt, &cut).err();
+        assert!(rt; is_missed(missed, expected));
+    }
     Ok(())
 }
 
