@@ -1,7 +1,7 @@
 -- A line to an engine in memory.
 use Rattle.std.specs.Prelude.{◌≡◌, ℕ, List, ◌++◌, take, drop, Bool, true, Some}
 use Rattle.frames.specs.FrameStream.{BeginsNone}
-use Rattle.worker_engine.specs.Serving.{Kept, shelf_of}
+use Rattle.worker_engine.specs.Serving.{ShelfList, shelf_of}
 use Rattle.worker_engine.specs.Session.{InSession}
 use Rattle.ports.specs.declared.line.Line as Line
 use Rattle.ports.specs.Causes.{IsBad}
@@ -9,7 +9,7 @@ use Rattle.ports.specs.Lines.{LineState}
 
 -- a session in memory: the shards that its engine keeps, the bytes that came, how many of them were heard, and the bytes that it wrote
 pub record SessionState : Type 0 where
-  pub kept : Kept
+  pub kept : ShelfList
   pub input : List ℕ
   pub heard : ℕ
   pub written : List ℕ
@@ -33,7 +33,7 @@ IsOver over s = over ≡ true → IsBad (rest_of s)
 -- the shards that the engine keeps, the bytes that were put and how many of them were heard, the bytes that the session
 -- wrote and how many of them were got, whether the session is over, and the counts
 pub record EngineLineState : Type 0 where
-  pub kept : Kept
+  pub kept : ShelfList
   pub input : List ℕ
   pub heard : ℕ
   pub written : List ℕ
