@@ -16,6 +16,8 @@
 #include <utility>
 #include <vector>
 
+#include "components.hpp"
+
 struct Link {
     int32_t weight;
     uint32_t low, high;
@@ -90,30 +92,6 @@ static Graph read_graph() {
     }
     return graph;
 }
-
-class Components {
-    std::vector<uint32_t> parents, sizes;
-
-public:
-    explicit Components(uint32_t n) : parents(n + 1), sizes(n + 1, 1) {
-        for (uint32_t v = 0; v <= n; ++v) parents[v] = v;
-    }
-
-    uint32_t find(uint32_t v) {
-        while (parents[v] != v) v = parents[v] = parents[parents[v]];
-        return v;
-    }
-
-    bool join(uint32_t u, uint32_t v) {
-        u = find(u);
-        v = find(v);
-        if (u == v) return false;
-        if (sizes[u] < sizes[v]) std::swap(u, v);
-        parents[v] = u;
-        sizes[u] += sizes[v];
-        return true;
-    }
-};
 
 static std::vector<Link> solve(const Graph& graph) {
     std::vector<Link> sorted = graph.links, taken;

@@ -16,6 +16,7 @@
 #include <vector>
 
 #include "boruvka.h"
+#include "components.hpp"
 
 using Link = boruvka_link;
 
@@ -52,30 +53,6 @@ struct IsBelow {
 static bool is_equal(const Link& one, const Link& other) {
     return std::tie(one.weight, one.low, one.high) == std::tie(other.weight, other.low, other.high);
 }
-
-class Components {
-    std::vector<uint32_t> parents, sizes;
-
-public:
-    explicit Components(uint32_t n) : parents(n + 1), sizes(n + 1, 1) {
-        for (uint32_t v = 0; v <= n; ++v) parents[v] = v;
-    }
-
-    uint32_t find(uint32_t v) {
-        while (parents[v] != v) v = parents[v] = parents[parents[v]];
-        return v;
-    }
-
-    bool join(uint32_t u, uint32_t v) {
-        u = find(u);
-        v = find(v);
-        if (u == v) return false;
-        if (sizes[u] < sizes[v]) std::swap(u, v);
-        parents[v] = u;
-        sizes[u] += sizes[v];
-        return true;
-    }
-};
 
 // Kruskal's forest, put first in the list.
 static size_t by_sorting(uint32_t n, std::vector<Link>& links) {

@@ -45,6 +45,11 @@ from concurrent.futures import ThreadPoolExecutor
 from dataclasses import dataclass, field
 
 ROOT = os.path.dirname(os.path.dirname(os.path.realpath(__file__)))
+sys.dont_write_bytecode = True
+sys.path.insert(0, f"{ROOT}/tools")
+
+from crates import below, crate_lines
+
 RT = shlex.split(os.environ.get("RT", "rt"))
 NAME_OF_EDIT = re.compile(r"[A-Za-z0-9_-][A-Za-z0-9_.-]*\.edit")
 # What a proof file says where it names something that the edit took away.
@@ -286,21 +291,6 @@ class Room:
                 it.write(text)
         said = subprocess.run([*RT, "check", *self.flags], cwd=self.folder, **HOW).stdout
         return said, next((it for it in reversed(said.split("\n")) if it.startswith("logic=")), "")
-
-
-def below(crate, lines):
-    """The crates below one, lowest first."""
-    found = []
-    for name in lines[crate].partition(":")[2].split():
-        if name in lines:
-            found += [it for it in [*below(name, lines), name] if it not in found]
-    return found
-
-
-def crate_lines():
-    with open(f"{ROOT}/crates.txt", encoding="utf-8") as it:
-        lines = [line for line in it if line.strip() and not line.startswith("#")]
-    return {re.match(r"\w+", line)[0]: line for line in lines}
 
 
 def verdict(edit, texts, said):

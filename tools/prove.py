@@ -28,7 +28,10 @@ import subprocess
 import sys
 import time
 
-ROOT = os.path.dirname(os.path.dirname(os.path.realpath(__file__)))
+sys.dont_write_bytecode = True
+
+from crates import ROOT, below, crate_lines
+
 RT = shlex.split(os.environ.get("RT", "rt"))
 EACH = 2_500_000_000  # bytes of free memory for each check
 LARGE = 300  # lines of code and of proofs from which on more than one process serves
@@ -38,21 +41,6 @@ PARTS = ("src", "specs", "proofs")
 
 class NotProved(Exception):
     pass
-
-
-def crate_lines():
-    with open(f"{ROOT}/crates.txt", encoding="utf-8") as it:
-        lines = [line for line in it if line.strip() and not line.startswith("#")]
-    return {re.match(r"\w+", line)[0]: line for line in lines}
-
-
-def below(crate, lines):
-    """The crates below one, lowest first."""
-    found = []
-    for name in lines[crate].partition(":")[2].split():
-        if name in lines:
-            found += [it for it in [*below(name, lines), name] if it not in found]
-    return found
 
 
 def free_memory():

@@ -15,6 +15,7 @@ pub mod Solving
 pub mod Chained
 pub mod Ending
 mod Telling
+mod FaultTexts
 mod PlainRunning
 mod NewWires
 mod Transcripts

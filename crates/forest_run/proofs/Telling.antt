@@ -12,7 +12,7 @@ use Rattle.gr_text.specs.declared.faults.ReadFault.TheVariants as read
 use Rattle.gr_text.proofs.Feeding.{StopsBy-more}
 use Rattle.gr_text.proofs.Ending.{fails_of_stops}
 use Rattle.gr_text.proofs.OneFault.{never_both}
-use Rattle.forest_run.specs.Files.{IsFileOf, IsFirstOf}
+use Rattle.forest_run.specs.Files.{IsFileOf, IsFirstOf, HasFile, MeansGraph, MeansNothing}
 
 -- what is read of a source that tells its bytes and no failure is what is read of the bytes
 pub reads_the_file : (bytes : List ℕ) (s t : SourceState) (outcome : Result GraphValue ReadFault) → s.left ≡ Some bytes → HadNoFailure s t
@@ -28,7 +28,7 @@ reads_the_file bytes s t outcome told no_failure (inr (inr (line, is, broke))) =
     absurd (omega (arith, none))
 
 -- a fault within the limit is the first of the file, or want of memory
-pub first_of_failed : (why : ReadFault) (bytes : List ℕ) → length bytes ≤ MAX_BYTES → FailsBy why MAX_BYTES bytes → IsFirstOf bytes why
+first_of_failed : (why : ReadFault) (bytes : List ℕ) → length bytes ≤ MAX_BYTES → FailsBy why MAX_BYTES bytes → IsFirstOf bytes why
 first_of_failed (read.Gr f) bytes within (inl (short, first)) = first
 first_of_failed (read.Gr f) bytes within (inr (long, ended)) = absurd (omega (arith, within, long))
 first_of_failed (read.Source line) bytes within fails = fails
@@ -36,7 +36,7 @@ first_of_failed read.TooLong bytes within (long, lawful) = absurd (omega (arith,
 first_of_failed read.Memory bytes within fails = tt
 
 -- bytes that mean a graph have no fault
-pub no_fault_of_lawful : (why : ReadFault) (bytes : List ℕ) (graph : GraphValue) → IsFileOf bytes graph → FailsBy why MAX_BYTES bytes → why ≡ read.Memory
+no_fault_of_lawful : (why : ReadFault) (bytes : List ℕ) (graph : GraphValue) → IsFileOf bytes graph → FailsBy why MAX_BYTES bytes → why ≡ read.Memory
 no_fault_of_lawful (read.Gr f) bytes graph file (inl (short, first)) =
     let (arcs, means, links) = file.means in
     absurd (never_both bytes graph.vertices arcs f.line f.kind means first)
@@ -44,3 +44,15 @@ no_fault_of_lawful (read.Gr f) bytes graph file (inr (long, ended)) = absurd (om
 no_fault_of_lawful (read.Source line) bytes graph file fails = absurd fails
 no_fault_of_lawful read.TooLong bytes graph file (long, lawful) = absurd (omega (arith, file.within, long))
 no_fault_of_lawful read.Memory bytes graph file fails = refl
+
+-- ---- and of a source that tells its file
+
+pub first_of_file : (why : ReadFault) (s t : SourceState) → IsReadOf MAX_BYTES (Err why) s t → (bytes : List ℕ) → HasFile bytes s t → IsFirstOf bytes why
+first_of_file why s t refused bytes file = first_of_failed why bytes file.within (reads_the_file bytes s t (Err why) file.told file.no_failure refused)
+
+pub no_fault_of_file : (why : ReadFault) (s t : SourceState) → IsReadOf MAX_BYTES (Err why) s t → (bytes : List ℕ) → HasFile bytes s t → MeansGraph bytes → why ≡ read.Memory
+no_fault_of_file why s t refused bytes file (graph, means) =
+    no_fault_of_lawful why bytes graph means (reads_the_file bytes s t (Err why) file.told file.no_failure refused)
+
+pub something_of_file : (graph : GraphValue) (s t : SourceState) → IsReadOf MAX_BYTES (Ok graph) s t → (bytes : List ℕ) → HasFile bytes s t → ¬ (MeansNothing bytes)
+something_of_file graph s t is_read bytes file nothing = nothing graph (reads_the_file bytes s t (Ok graph) file.told file.no_failure is_read).1

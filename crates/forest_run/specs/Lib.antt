@@ -11,6 +11,7 @@ pub mod Runs
 pub mod Chains
 pub mod Reports
 pub mod ReportText
+pub mod FaultText
 pub mod Solved
 pub mod Files
 pub mod Outcomes

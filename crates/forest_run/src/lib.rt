@@ -39,6 +39,7 @@ mod round;
 mod run;
 mod scans;
 mod seats;
+mod spelling;
 mod taking;
 
 pub use cutting::Cutting;
@@ -49,3 +50,4 @@ pub use lines::run_lines;
 pub use plain::run_plain;
 pub use report::Report;
 pub use run::solve;
+pub use spelling::LINE_ROOM;

@@ -2,8 +2,11 @@
 ghost use Rattle.std.specs.Prelude.{◌≡◌, ◌+◌, ◌*◌, ◌≤◌, length};
 ghost use Rattle.limits.specs.declared.TheConstants.{MAX_WORKERS};
 ghost use Rattle.link_key.specs.Cut.{joined};
+ghost use Rattle.forest_run.specs.ReportText.{report_text};
 ghost use Rattle.forest_run.specs.Reports.{IsReportOf};
 
+use crate::spelling::{LINE_ROOM, push_count, push_signed};
+use arrayvec::ArrayString;
 use link_key::{Cut, Forest};
 use std::alloc::Allocator;
 use std::fmt;
@@ -37,24 +40,31 @@ pub struct Report {
 
 impl fmt::Display for Report {
     ghost use Rattle.std.specs.Prelude.{Some};
-    ghost use Rattle.forest_run.specs.ReportText.{report_text};
 
     ghost output = { λ report. Some (report_text report) };
 
     fn fmt<W: fmt::Write>(&self, f: &mut fmt::Formatter<W>) -> fmt::Result {
-        write!(
-            f,
-            "vertices={} links={} rounds={} shards={} asked={} answered={} alone={} closed={} total={}",
-            self.vertices,
-            self.links,
-            self.rounds,
-            self.shards,
-            self.asked,
-            self.answered,
-            self.alone,
-            self.closed,
-            self.total,
-        )
+        f.write_str(self.text().as_str())
+    }
+}
+
+impl Report {
+    /// The text that it is shown as, put together on the stack.
+    pub fn text(&self) -> ArrayString<LINE_ROOM>
+        ensures text { result.bytes ≡ report_text self.now }
+        ensures short { length result.bytes ≤ 300 }
+    {
+        let mut text = ArrayString::new();
+        push_count(&mut text, "vertices=", u64::from(self.vertices));
+        push_count(&mut text, " links=", self.links);
+        push_count(&mut text, " rounds=", u64::from(self.rounds));
+        push_count(&mut text, " shards=", u64::from(self.shards));
+        push_count(&mut text, " asked=", self.asked);
+        push_count(&mut text, " answered=", self.answered);
+        push_count(&mut text, " alone=", self.alone);
+        push_count(&mut text, " closed=", self.closed);
+        push_signed(&mut text, " total=", self.total);
+        text
     }
 }
 

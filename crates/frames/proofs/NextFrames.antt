@@ -26,16 +26,16 @@ use Rattle.frames.proofs.Decoded.{ask_refused, ask_begun, ask_found, ask_unlabel
 
 -- ---- a head and what came behind it
 
-pub frame_behind : (v : FrameValue) (kind len : ℕ) (bytes : List ℕ) (s t u : SourceState) → bytes ≡ kind ∷ u32_text len → Gave 0 0 bytes s t → BodyCame v kind len t u
+pub frame_behind : (v : FrameValue) (kind len : ℕ) (s t u : SourceState) → Gave 0 0 (kind ∷ u32_text len) s t → BodyCame v kind len t u
     → IsLawful v × Gave 0 0 (text_of v) s u
-frame_behind v kind len bytes s t u head first came =
-    (came.is.lawful, frame_gave v kind len bytes came.body s t u first came.gave head came.counted came.is)
+frame_behind v kind len s t u first came =
+    (came.is.lawful, frame_gave v kind len (kind ∷ u32_text len) came.body s t u first came.gave refl came.counted came.is)
 
-pub refused_behind : (fault : FrameFault) (kind len : ℕ) (bytes : List ℕ) (s t u : SourceState) → IsU32 len → IsPossible kind len → bytes ≡ kind ∷ u32_text len
-    → Gave 0 0 bytes s t → IsBodyRefused fault kind len t u → IsReadRefused fault s u
-refused_behind fault kind len bytes s t u wide possible head first (inl cut) = cut_refused fault kind len bytes s t u wide possible head first cut
-refused_behind fault kind len bytes s t u wide possible head first (inr whole) =
-    body_refused fault kind len bytes whole.body s t u wide possible whole.counted head first whole.gave whole.refused
+pub refused_behind : (fault : FrameFault) (kind len : ℕ) (s t u : SourceState) → IsU32 len → IsPossible kind len → Gave 0 0 (kind ∷ u32_text len) s t
+    → IsBodyRefused fault kind len t u → IsReadRefused fault s u
+refused_behind fault kind len s t u wide possible first (inl cut) = cut_refused fault kind len (kind ∷ u32_text len) s t u wide possible refl first cut
+refused_behind fault kind len s t u wide possible first (inr whole) =
+    body_refused fault kind len (kind ∷ u32_text len) whole.body s t u wide possible whole.counted refl first whole.gave whole.refused
 
 pub whole_came : (v : FrameValue) (kind len : ℕ) (body : List ℕ) (s t : SourceState) → length body ≡ len → Gave 0 0 body s t → IsFrameOf v kind body → BodyCame v kind len s t
 whole_came v kind len body s t counted gave is = record { body = body; counted = counted; gave = gave; is = is }

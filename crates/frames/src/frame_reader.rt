@@ -1,8 +1,8 @@
 //! Frames from a stream of bytes.
-ghost use Rattle.std.specs.Prelude.{◌≡◌, ◌+◌, ◌<◌, ◌^◌, length, IfOk, IfErr, OnOk, vec_len};
+ghost use Rattle.std.specs.Prelude.{◌≡◌, ◌∷◌, ◌+◌, ◌<◌, ◌^◌, length, IfOk, IfErr, OnOk, vec_len};
 ghost use Rattle.byte_streams.specs.Streams.{Gave};
 ghost use Rattle.frames.specs.FrameValue.{value_of};
-ghost use Rattle.frames.specs.FrameText.{text_of};
+ghost use Rattle.frames.specs.FrameText.{u32_text, text_of};
 ghost use Rattle.frames.specs.Lawful.{IsLawful};
 ghost use Rattle.frames.specs.Refusals.{IsPossible};
 ghost use Rattle.frames.specs.ReadFault.{IsReadRefused, IsCutShort, GrowsBy};
@@ -46,8 +46,7 @@ pub fn read_frame<A: Allocator + Copy, S: Source>(
     ensures lasts { (fact : S.Fact) → S.lasts source.old fact → S.lasts source.new fact }
     ensures again { OnOk result (S.can_read source.new) }
 {
-    let bytes = read_head(source)?;
-    let head = decode_head(&bytes)?;
+    let head = read_head(source)?;
     read_rest(alloc, source, head)
 }
 
@@ -70,10 +69,12 @@ pub(crate) fn read_rest<A: Allocator + Copy, S: Source>(
     decode_body(alloc, head, body.as_slice())
 }
 
-pub(crate) fn read_head<S: Source>(source: &mut S) -> Result<[u8; 5], FrameFault>
+// The next head.
+pub(crate) fn read_head<S: Source>(source: &mut S) -> Result<Head, FrameFault>
     requires { S.can_read source.old }
+    ensures possible { IfOk result (λ head. IsPossible head.kind head.length) }
     ensures came { IfOk result
-        (λ bytes. Gave 0 0 bytes (S.state source.old) (S.state source.new)) }
+        (λ head. Gave 0 0 (head.kind ∷ u32_text head.length) (S.state source.old) (S.state source.new)) }
     ensures refused { IfErr result
         (λ fault. IsReadRefused fault (S.state source.old) (S.state source.new)) }
     ensures lasts { (fact : S.Fact) → S.lasts source.old fact → S.lasts source.new fact }
@@ -81,7 +82,7 @@ pub(crate) fn read_head<S: Source>(source: &mut S) -> Result<[u8; 5], FrameFault
 {
     let mut bytes = [0; 5];
     match fill(source, &mut bytes) {
-        Ok(()) => Ok(bytes),
+        Ok(()) => decode_head(&bytes),
         Err(FillFault::Failed(_)) => Err(FrameFault::Device),
         Err(FillFault::Ended(0)) => Err(FrameFault::Ended),
         Err(FillFault::Ended(_)) => Err(FrameFault::Torn),

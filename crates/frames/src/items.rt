@@ -1,5 +1,5 @@
 //! Lists in bodies: texts of one length, one behind the other.
-ghost use Rattle.std.specs.Prelude.{◌≡◌, ◌++◌, ◌≤◌, ◌%◌, length, map, All, OnOk, IfOk, IfErr, IfSome, IfNone, IsTrue};
+ghost use Rattle.std.specs.Prelude.{◌≡◌, ◌++◌, ◌<◌, ◌≤◌, ◌↔◌, ◌%◌, length, map, All, OnOk, IfOk, IfErr, IfSome, IfNone, IsTrue};
 ghost use Rattle.std.specs.Int.{w32, from_be_bytes};
 ghost use Rattle.std.specs.List.{flat_map};
 ghost use Rattle.frames.specs.FrameText.{u32_text, is_narrow, are_narrow, link_text, wide_link_text, offer_text};
@@ -200,6 +200,13 @@ pub(crate) fn links_of<A: Allocator>(alloc: A, bytes: &[u8]) -> Result<Vec<Link,
     Ok(links)
 }
 
+// Whether these are a link's ends, the lower one first.
+fn are_ends(low: u32, high: u32) -> bool
+    ensures { IsTrue result ↔ (1 ≤ low) × (low < high) × (high ≤ MAX_VERTICES) }
+{
+    1 <= low && low < high && high <= MAX_VERTICES
+}
+
 // The link whose bytes these are, with a weight of 32 bits.
 fn link_of(bytes: &[u8]) -> Option<Link>
     requires { length bytes.now ≡ 12 }
@@ -210,7 +217,7 @@ fn link_of(bytes: &[u8]) -> Option<Link>
     let (low, rest) = split_u32(bytes);
     let (high, rest) = split_u32(rest);
     let (bits, _) = split_u32(rest);
-    if low == 0 || low >= high || high > MAX_VERTICES {
+    if !are_ends(low, high) {
         return None;
     }
     let weight = i64::from(bits.cast_signed());
@@ -248,7 +255,7 @@ fn wide_link_of(bytes: &[u8]) -> Option<Link>
     let (low, rest) = split_u32(bytes);
     let (high, rest) = split_u32(rest);
     let (weight, _) = split_i64(rest);
-    if low == 0 || low >= high || high > MAX_VERTICES {
+    if !are_ends(low, high) {
         return None;
     }
     Some(Link { weight, low, high })

@@ -19,7 +19,7 @@ use crate::fault::FrameFault;
 use crate::fields::split_u32;
 use crate::frame::Frame;
 use crate::frame_reader::{read_body, read_bytes, read_head, read_rest};
-use crate::head::{Head, decode_head};
+use crate::head::Head;
 use crate::items::spells;
 use byte_streams::Source;
 use limits::MAX_SHARDS;
@@ -64,8 +64,7 @@ pub fn read_next<A: Allocator + Copy, S: Source>(
     ensures lasts { (fact : S.Fact) → S.lasts source.old fact → S.lasts source.new fact }
     ensures again { OnOk result (S.can_read source.new) }
 {
-    let bytes = read_head(source)?;
-    let head = decode_head(&bytes)?;
+    let head = read_head(source)?;
     read_behind(alloc, source, head, last)
 }
 

@@ -5,6 +5,7 @@ pub mod Graph
 pub mod ForestText
 pub mod Sort
 pub mod Fault
+pub mod FaultText
 pub mod Word
 pub mod Reading
 pub mod PartialLine

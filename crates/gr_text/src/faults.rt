@@ -1,4 +1,14 @@
+//! What is wrong with a text, and what a fault is told as.
+ghost use Rattle.std.specs.Prelude.{◌≡◌, ◌≤◌, ◌++◌, length, codes, decimal};
+ghost use Rattle.arrayvec.specs.ArrayString.{array_string_len};
+ghost use Rattle.gr_text.specs.FaultText.{kind_text, line_text, read_text};
+
+use arrayvec::ArrayString;
+use itoa::Buffer;
 use thiserror::Error;
+
+/// The room for the text of a fault, which has at most 47 bytes.
+pub const FAULT_ROOM: usize = 64;
 
 /// What is wrong with a line, or lacks behind the last one.
 ///
@@ -31,9 +41,31 @@ pub enum GrKind {
     MissingArcs,
 }
 
+impl GrKind {
+    // Its name.
+    fn name(self) -> &'static str
+        ensures text { result.now ≡ kind_text self }
+        ensures short { length result.now ≤ 20 }
+    {
+        match self {
+            GrKind::UnknownLine => "UnknownLine",
+            GrKind::NoProblemYet => "NoProblemYet",
+            GrKind::SecondProblem => "SecondProblem",
+            GrKind::BadProblem => "BadProblem",
+            GrKind::TooLarge => "TooLarge",
+            GrKind::BadArc => "BadArc",
+            GrKind::EndOutOfRange => "EndOutOfRange",
+            GrKind::WeightOutOfRange => "WeightOutOfRange",
+            GrKind::TooManyArcs => "TooManyArcs",
+            GrKind::MissingProblem => "MissingProblem",
+            GrKind::MissingArcs => "MissingArcs",
+        }
+    }
+}
+
 /// The first fault of a text: that of its first faulty line.
 #[derive(Clone, Copy, Debug, PartialEq, Eq, Error)]
-#[error("line {line}: {kind:?}")]
+#[error("{}", self.text())]
 pub struct GrFault {
     /// The number of the line, from 1.
     pub line: u64,
@@ -41,19 +73,60 @@ pub struct GrFault {
     pub kind: GrKind,
 }
 
+impl GrFault {
+    // The text that it is shown as.
+    fn text(&self) -> ArrayString<FAULT_ROOM>
+        ensures { result.bytes ≡ line_text self.now }
+    {
+        let mut text = numbered(self.line);
+        text.push_str(": ");
+        text.push_str(self.kind.name());
+        text
+    }
+}
+
+// The number of a line.
+fn numbered(line: u64) -> ArrayString<FAULT_ROOM>
+    ensures text { result.bytes ≡ codes "line " ++ decimal line }
+    ensures short { array_string_len result ≤ 25 }
+{
+    let mut digits = Buffer::new();
+    let mut text = ArrayString::new();
+    text.push_str("line ");
+    text.push_str(digits.format(line));
+    text
+}
+
 /// Why no graph was read.
 #[derive(Clone, Copy, Debug, PartialEq, Eq, Error)]
+#[error("{}", self.text())]
 pub enum ReadFault {
     /// The text has a fault.
-    #[error(transparent)]
     Gr(GrFault),
     /// A read of the source failed. `line` is that of the next byte; no line that had ended was faulty.
-    #[error("line {line}: read failed")]
     Source { line: u64 },
     /// The text has more bytes than the limit, and no line that ended within it is faulty.
-    #[error("file is too long")]
     TooLong,
     /// The memory for the links was refused.
-    #[error("no memory")]
     Memory,
+}
+
+impl ReadFault {
+    /// The text that it is shown as, put together on the stack: the number of the line and the name of what is wrong with
+    /// it, or why the rest wasn't read.
+    pub fn text(&self) -> ArrayString<FAULT_ROOM>
+        ensures { result.bytes ≡ read_text self.now }
+    {
+        let mut text = ArrayString::new();
+        match *self {
+            ReadFault::Gr(fault) => return fault.text(),
+            ReadFault::Source { line } => {
+                text = numbered(line);
+                text.push_str(": read failed");
+            }
+            ReadFault::TooLong => text.push_str("file is too long"),
+            ReadFault::Memory => text.push_str("no memory"),
+        }
+        text
+    }
 }

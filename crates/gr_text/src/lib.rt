@@ -40,7 +40,7 @@ mod writer;
 
 /// Streams over memory that fail at a chosen byte, for tests of what reads a graph or writes a forest.
 pub use byte_streams::{FusedSink, FusedSource};
-pub use faults::{GrFault, GrKind, ReadFault};
+pub use faults::{FAULT_ROOM, GrFault, GrKind, ReadFault};
 pub use graphs::Graph;
 pub use limits::MAX_BYTES;
 pub use parsing::parse;

@@ -1,23 +1,41 @@
 //! The writer of a forest's text.
 ghost use Rattle.std.specs.Prelude.{◌≡◌, ◌+◌, ◌≤◌, [], length, IsOk, IfOk, IfErr, OnOk};
 ghost use Rattle.byte_streams.specs.Streams.{Took, HadNoSetback};
+ghost use Rattle.gr_text.specs.FaultText.{unwritten_text};
 ghost use Rattle.gr_text.specs.ForestText.{forest_text};
 ghost use Rattle.gr_text.specs.Handing.{HandsOn, HandsPrefix};
 ghost use Rattle.gr_text.specs.Written.{told_count, PrefixWentOut};
 
+use crate::faults::FAULT_ROOM;
 use crate::piece::Piece;
 use crate::spelled::Spelled;
+use arrayvec::ArrayString;
 use byte_streams::{Failed, Sink, put};
+use itoa::Buffer;
 use link_key::Forest;
 use std::alloc::Allocator;
 use thiserror::Error;
 
 /// The sink failed, or took no byte of what was left.
 #[derive(Clone, Copy, Debug, PartialEq, Eq, Error)]
-#[error("write failed after {written} bytes")]
+#[error("{}", self.text())]
 pub struct WriteFault {
     /// How many bytes of the text the sink took; `u64::MAX` where they are more.
     pub written: u64,
+}
+
+impl WriteFault {
+    /// The text that it is shown as, put together on the stack.
+    pub fn text(&self) -> ArrayString<FAULT_ROOM>
+        ensures { result.bytes ≡ unwritten_text self.now.written }
+    {
+        let mut digits = Buffer::new();
+        let mut text = ArrayString::new();
+        text.push_str("write failed after ");
+        text.push_str(digits.format(self.written));
+        text.push_str(" bytes");
+        text
+    }
 }
 
 // Hands all that waits to the sink, as the next part of a text of which `written` bytes went out before. The

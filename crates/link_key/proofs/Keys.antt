@@ -15,7 +15,7 @@ use mathlib.Core.HLevel.{is_prop→PathP}
 use Rattle.link_key.specs.declared.links.Link.{Link}
 use Rattle.link_key.specs.Link.{key_cmp, IsBelow, IsAscending}
 use Rattle.link_key.proofs.Neighbours.{all_pairs_by_neighbours}
-use Rattle.link_key.proofs.Members.{contains_cases, contains_head, contains_tail, contains_none}
+use Rattle.link_key.proofs.Members.{ascends_head, ascends_tail, same_ascending}
 
 -- A link is its weight and its ends: its ghost facts are propositions.
 pub link_eq : (l m : Link) → l.weight ≡ m.weight → l.low ≡ m.low → l.high ≡ m.high → l ≡ m
@@ -102,43 +102,13 @@ below_dec l m = elim (trichotomy l m) [
 
 -- the first link of an ascending list is below each other
 pub ascending_head : (l : Link) (ls : List Link) → IsAscending (l ∷ ls) → (m : Link) → Contains ls m → IsBelow l m
-ascending_head l ls up m (k, lt, at) = subst (λ x. IsBelow l x) at (up 0 (suc k) m (omega arith) (omega arith))
+ascending_head = ascends_head IsBelow
 
 pub ascending_tail : (l : Link) (ls : List Link) → IsAscending (l ∷ ls) → IsAscending ls
-ascending_tail l ls up i j d lt in_range = up (suc i) (suc j) d (omega arith) (omega arith)
+ascending_tail = ascends_tail IsBelow
 
--- Two ascending lists with the same members are one list. Their heads are each the least member, so
--- the heads are one link; no tail contains its head, so the tails have the same members again.
 pub same_members : (xs ys : List Link) → IsAscending xs → IsAscending ys → ((l : Link) → Contains xs l ↔ Contains ys l) → xs ≡ ys
-same_members [] [] up up' same = refl
-same_members [] (y ∷ ys) up up' same = absurd (contains_none y ((same y).1 (contains_head y ys)))
-same_members (x ∷ xs) [] up up' same = absurd (contains_none x ((same x).0 (contains_head x xs)))
-same_members (x ∷ xs) (y ∷ ys) up up' same =
-    ap₂ (λ l ls. l ∷ ls) heads (same_members xs ys (ascending_tail x xs up) (ascending_tail y ys up') tails)
-  where
-    heads : x ≡ y
-    heads = elim (contains_cases y x ys ((same x).0 (contains_head x xs))) [
-      | inl is ↦ is
-      | inr in_ys ↦ elim (contains_cases x y xs ((same y).1 (contains_head y ys))) [
-        | inl is ↦ sym is
-        | inr in_xs ↦ absurd (below_asymm x y (ascending_head x xs up y in_xs) (ascending_head y ys up' x in_ys))
-      ]
-    ]
-
-    to : (l : Link) → Contains xs l → Contains ys l
-    to l in_xs = elim (contains_cases y l ys ((same l).0 (contains_tail x l xs in_xs))) [
-      | inl is ↦ absurd (below_irrefl x (subst (λ m. IsBelow x m) (is ∙ sym heads) (ascending_head x xs up l in_xs)))
-      | inr in_ys ↦ in_ys
-    ]
-
-    back : (l : Link) → Contains ys l → Contains xs l
-    back l in_ys = elim (contains_cases x l xs ((same l).1 (contains_tail y l ys in_ys))) [
-      | inl is ↦ absurd (below_irrefl y (subst (λ m. IsBelow y m) (is ∙ heads) (ascending_head y ys up' l in_ys)))
-      | inr in_xs ↦ in_xs
-    ]
-
-    tails : (l : Link) → Contains xs l ↔ Contains ys l
-    tails l = (to l, back l)
+same_members = same_ascending IsBelow below_irrefl below_asymm
 
 -- the test for the order of two links
 abbrev pub is_below : Link → Link → Bool

@@ -6,48 +6,11 @@ use Rattle.std.proofs.lemmas.List.Elements.{Contains-get_or}
 use Rattle.link_key.specs.declared.links.Link.{Link}
 use Rattle.link_key.specs.Labels.{label_of}
 use Rattle.link_key.specs.Offers.{Offer}
-use Rattle.link_key.proofs.Members.{contains_cases, contains_head, contains_tail, contains_none}
+use Rattle.link_key.proofs.Members.{contains_cases, contains_none, same_ascending}
 use Rattle.round_theory.specs.Offers.{Leaves, IsLightOffer, AreLightOffers, OffersLeaving}
 use Rattle.round_theory.proofs.Leaving.{leaves_end, least_leaving}
 use Rattle.round_theory.proofs.Cutting.{first_place}
 use Rattle.round_theory.proofs.OfferSteps.{AreOffersBelow, offers_skip, offers_push}
-
--- the first element of a list that ascends is before each other
-ascends_head : {X : Type 0} (R : X → X → Type 0) (x : X) (xs : List X) → AllPairs R (x ∷ xs) → (y : X) → Contains xs y → R x y
-ascends_head R x xs up y (k, lt, at) = subst (R x) at (up 0 (suc k) y (omega arith) (omega arith))
-
-ascends_tail : {X : Type 0} (R : X → X → Type 0) (x : X) (xs : List X) → AllPairs R (x ∷ xs) → AllPairs R xs
-ascends_tail R x xs up i j d lt in_range = up (suc i) (suc j) d (omega arith) (omega arith)
-
--- Two lists that ascend and have the same members are one list: their heads are each before all other members, and no
--- tail contains its head.
-pub same_ascending : {X : Type 0} (R : X → X → Type 0) → ((x : X) → ¬ (R x x)) → ((x y : X) → R x y → ¬ (R y x)) → (xs ys : List X) → AllPairs R xs → AllPairs R ys → ((x : X) → Contains xs x ↔ Contains ys x) → xs ≡ ys
-same_ascending {X = X} R irrefl asymm [] [] up up' same = refl
-same_ascending {X = X} R irrefl asymm [] (y ∷ ys) up up' same = absurd (contains_none y ((same y).1 (contains_head y ys)))
-same_ascending {X = X} R irrefl asymm (x ∷ xs) [] up up' same = absurd (contains_none x ((same x).0 (contains_head x xs)))
-same_ascending {X = X} R irrefl asymm (x ∷ xs) (y ∷ ys) up up' same =
-    ap₂ (λ z zs. z ∷ zs) heads (same_ascending R irrefl asymm xs ys (ascends_tail R x xs up) (ascends_tail R y ys up') (λ z. (to z, back z)))
-  where
-    heads : x ≡ y
-    heads = elim (contains_cases y x ys ((same x).0 (contains_head x xs))) [
-      | inl is ↦ is
-      | inr in_ys ↦ elim (contains_cases x y xs ((same y).1 (contains_head y ys))) [
-        | inl is ↦ sym is
-        | inr in_xs ↦ absurd (asymm x y (ascends_head R x xs up y in_xs) (ascends_head R y ys up' x in_ys))
-      ]
-    ]
-
-    to : (z : X) → Contains xs z → Contains ys z
-    to z in_xs = elim (contains_cases y z ys ((same z).0 (contains_tail x z xs in_xs))) [
-      | inl is ↦ absurd (irrefl x (subst (R x) (is ∙ sym heads) (ascends_head R x xs up z in_xs)))
-      | inr in_ys ↦ in_ys
-    ]
-
-    back : (z : X) → Contains ys z → Contains xs z
-    back z in_ys = elim (contains_cases x z xs ((same z).1 (contains_tail y z ys in_ys))) [
-      | inl is ↦ absurd (irrefl y (subst (R y) (is ∙ heads) (ascends_head R y ys up' z in_ys)))
-      | inr in_xs ↦ in_xs
-    ]
 
 pub light_offers_unique : (links : List Link) (labels : List ℕ) (a b : List Offer) → AreLightOffers links labels a → AreLightOffers links labels b → a ≡ b
 light_offers_unique links labels a b is_a is_b =

@@ -29,22 +29,4 @@ mod again;
 pub use again::text_again;
 
 #[cfg(test)]
-mod drawn_lists;
-#[cfg(test)]
-mod drawn_texts;
-#[cfg(test)]
-mod fault_texts;
-#[cfg(test)]
-mod lists;
-#[cfg(test)]
-mod memory_of_graphs;
-#[cfg(test)]
-mod plain_runs;
-#[cfg(test)]
-mod reading;
-#[cfg(test)]
-mod sizes;
-#[cfg(test)]
-mod totals;
-#[cfg(test)]
-mod writing;
+mod tests;

@@ -19,26 +19,4 @@
 #![tactic(auto)]
 
 #[cfg(test)]
-mod files;
-#[cfg(test)]
-mod frame_texts;
-#[cfg(test)]
-mod in_turn;
-#[cfg(test)]
-mod lists;
-#[cfg(test)]
-mod rounds;
-#[cfg(test)]
-mod runs;
-#[cfg(test)]
-mod same;
-#[cfg(test)]
-mod sessions;
-#[cfg(test)]
-mod streams;
-#[cfg(test)]
-mod texts;
-#[cfg(test)]
-mod wires;
-#[cfg(test)]
-mod workers;
+mod tests;

@@ -91,28 +91,23 @@ pub const EQUAL_WEIGHTS: Worked = Worked {
     total: 10,
 };
 
+// A path's links are its forest, here in the order of their keys.
+const PATH: &[Row] = &[
+    (1, 2, 1),
+    (3, 4, 1),
+    (5, 6, 1),
+    (7, 8, 1),
+    (2, 3, 2),
+    (6, 7, 2),
+    (4, 5, 3),
+];
+
 /// Its components are pairs after one round, fours after two, and one after three.
 pub const A_PATH_OF_EIGHT: Worked = Worked {
     n: 8,
     file: b"p sp 8 7\na 1 2 1\na 3 4 1\na 5 6 1\na 7 8 1\na 2 3 2\na 6 7 2\na 4 5 3\n",
-    arcs: &[
-        (1, 2, 1),
-        (3, 4, 1),
-        (5, 6, 1),
-        (7, 8, 1),
-        (2, 3, 2),
-        (6, 7, 2),
-        (4, 5, 3),
-    ],
-    forest: &[
-        (1, 2, 1),
-        (3, 4, 1),
-        (5, 6, 1),
-        (7, 8, 1),
-        (2, 3, 2),
-        (6, 7, 2),
-        (4, 5, 3),
-    ],
+    arcs: PATH,
+    forest: PATH,
     text: b"p sp 8 7\na 1 2 1\na 3 4 1\na 5 6 1\na 7 8 1\na 2 3 2\na 6 7 2\na 4 5 3\n",
     total: 11,
 };

@@ -19,18 +19,4 @@ mod in_memory;
 pub use in_memory::text_over_workers;
 
 #[cfg(test)]
-mod drawn;
-#[cfg(test)]
-mod gates;
-#[cfg(test)]
-mod refusals;
-#[cfg(test)]
-mod runs;
-#[cfg(test)]
-mod scripts;
-#[cfg(test)]
-mod served;
-#[cfg(test)]
-mod sizes;
-#[cfg(test)]
-mod stopping;
+mod tests;

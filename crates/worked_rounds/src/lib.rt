@@ -19,30 +19,4 @@
 #![tactic(auto)]
 
 #[cfg(test)]
-mod board;
-#[cfg(test)]
-mod cuts;
-#[cfg(test)]
-mod engine;
-#[cfg(test)]
-mod fault_texts;
-#[cfg(test)]
-mod labels;
-#[cfg(test)]
-mod memory_counts;
-#[cfg(test)]
-mod memory_of_lists;
-#[cfg(test)]
-mod memory_of_scans;
-#[cfg(test)]
-mod refusals;
-#[cfg(test)]
-mod same;
-#[cfg(test)]
-mod scans;
-#[cfg(test)]
-mod shard_sets;
-#[cfg(test)]
-mod sizes;
-#[cfg(test)]
-mod touched;
+mod tests;

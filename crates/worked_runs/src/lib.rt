@@ -19,14 +19,4 @@
 #![tactic(auto)]
 
 #[cfg(test)]
-mod closing;
-#[cfg(test)]
-mod passes;
-#[cfg(test)]
-mod relabelling;
-#[cfg(test)]
-mod rounds;
-#[cfg(test)]
-mod solving;
-#[cfg(test)]
-mod wires;
+mod tests;

@@ -8,6 +8,4 @@
 #![tactic(auto)]
 
 #[cfg(test)]
-mod streams;
-#[cfg(test)]
-mod workers;
+mod tests;

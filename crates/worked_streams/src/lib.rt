@@ -14,20 +14,4 @@
 #![tactic(auto)]
 
 #[cfg(test)]
-mod failing_devices;
-#[cfg(test)]
-mod frames_codec;
-#[cfg(test)]
-mod given_streams;
-#[cfg(test)]
-mod memory_of_frames;
-#[cfg(test)]
-mod next_frames;
-#[cfg(test)]
-mod refused_in_turn;
-#[cfg(test)]
-mod same;
-#[cfg(test)]
-mod sizes;
-#[cfg(test)]
-mod streams;
+mod tests;

@@ -4,7 +4,7 @@ use Rattle.link_key.specs.Cut.{joined}
 use Rattle.forest_run.specs.Cuttings.{IsCutOf}
 use Rattle.forest_run.specs.WiredLines.{FindsOverLines}
 use Rattle.forest_run.specs.Outcomes.{IsSpanning, IsLeast}
-use Rattle.forest_run.proofs.Telling.{reads_the_file, first_of_failed, no_fault_of_lawful}
+use Rattle.forest_run.proofs.Telling.{reads_the_file, first_of_file, no_fault_of_file, something_of_file}
 use Rattle.forest_run.proofs.PlainRunning.{done}
 use Rattle.forest_run.proofs.LinesRunning.{had_setback, shards_ends, few_enough, same_length, spanning, few_links, least, lines_went, served_report, cut_unsolved, cut_served, solve_unsolved, solve_served, cut_unhindered, lines_broken_off, served_broken_off}
 use Rattle.forest_run.proofs.lines.run_lines.Goals as goal
@@ -12,17 +12,14 @@ use Rattle.forest_run.proofs.lines.run_lines.Goals as goal
 -- ---- the file isn't read
 
 pub returns-in-Err-clause-malformed : goal.returns-in-Err-clause-malformed
-returns-in-Err-clause-malformed g c = λ bytes file nothing.
-    first_of_failed c.in-Err.fault bytes file.within (reads_the_file bytes _ _ (Err c.in-Err.fault) file.told file.no_failure c.in-Err.ensures.outcome)
+returns-in-Err-clause-malformed g c = λ bytes file nothing. first_of_file c.in-Err.fault _ _ c.in-Err.ensures.outcome bytes file
 
 pub returns-in-Err-clause-lawful : goal.returns-in-Err-clause-lawful
-returns-in-Err-clause-lawful g c = λ bytes file means.
-    no_fault_of_lawful c.in-Err.fault bytes means.0 means.1 (reads_the_file bytes _ _ (Err c.in-Err.fault) file.told file.no_failure c.in-Err.ensures.outcome)
+returns-in-Err-clause-lawful g c = no_fault_of_file c.in-Err.fault _ _ c.in-Err.ensures.outcome
 
 pub returns-in-Err-clause-ends_well : goal.returns-in-Err-clause-ends_well
 returns-in-Err-clause-ends_well g c = λ served it.
-    no_fault_of_lawful c.in-Err.fault it.bytes it.means.graph it.means.file
-    (reads_the_file it.bytes _ _ (Err c.in-Err.fault) it.has.told it.has.no_failure c.in-Err.ensures.outcome)
+    no_fault_of_file c.in-Err.fault _ _ c.in-Err.ensures.outcome it.bytes it.has (it.means.graph, it.means.file)
 
 -- ---- the list isn't cut
 
@@ -37,8 +34,7 @@ returns-in-Err-cut_links-clause-served g c = λ served.
     (rw c.links.ensures.links at c.in-Err-cut_links.ensures.refused)
 
 pub returns-in-Err-cut_links-clause-malformed : goal.returns-in-Err-cut_links-clause-malformed
-returns-in-Err-cut_links-clause-malformed g c = λ bytes file nothing.
-    absurd (nothing _ (reads_the_file bytes _ _ (Ok _) file.told file.no_failure c.in-Ok.ensures.outcome).1)
+returns-in-Err-cut_links-clause-malformed g c = λ bytes file nothing. absurd (something_of_file _ _ _ c.in-Ok.ensures.outcome bytes file nothing)
 
 pub returns-in-Err-cut_links-clause-ends_well : goal.returns-in-Err-cut_links-clause-ends_well
 returns-in-Err-cut_links-clause-ends_well g c = λ served it.
@@ -67,8 +63,7 @@ returns-in-Err-solve_lines-clause-served g c = λ served.
     (solve_served c.args.cutting c.in-Ok.graph _ _ _ c.in-Ok.ensures.outcome (Vec g.row.L.Denot g.row.A.Denot) c.in-Ok-cut_links.cut cut c.in-Err-solve_lines.fault (c.in-Err-solve_lines.ensures.served served))
 
 pub returns-in-Err-solve_lines-clause-malformed : goal.returns-in-Err-solve_lines-clause-malformed
-returns-in-Err-solve_lines-clause-malformed g c = λ bytes file nothing.
-    absurd (nothing _ (reads_the_file bytes _ _ (Ok _) file.told file.no_failure c.in-Ok.ensures.outcome).1)
+returns-in-Err-solve_lines-clause-malformed g c = λ bytes file nothing. absurd (something_of_file _ _ _ c.in-Ok.ensures.outcome bytes file nothing)
 
 -- ---- a forest is found
 
@@ -93,8 +88,7 @@ returns-in-Ok-write_forest-clause-served g c = λ served.
     (served_report g.L.Line c.args.cutting c.in-Ok.graph c.in-Ok-cut_links.cut cut c.args.lines.items solved.2.items solved.0 solved.1 went served)
 
 pub returns-in-Ok-write_forest-clause-malformed : goal.returns-in-Ok-write_forest-clause-malformed
-returns-in-Ok-write_forest-clause-malformed g c = λ bytes file nothing.
-    absurd (nothing _ (reads_the_file bytes _ _ (Ok _) file.told file.no_failure c.in-Ok.ensures.outcome).1)
+returns-in-Ok-write_forest-clause-malformed g c = λ bytes file nothing. absurd (something_of_file _ _ _ c.in-Ok.ensures.outcome bytes file nothing)
 
 -- ---- and not all of its text went out
 
@@ -121,8 +115,7 @@ returns-clause-served g c = λ served.
     (served_report g.L.Line c.args.cutting c.in-Ok.graph c.in-Ok-cut_links.cut cut c.args.lines.items solved.2.items solved.0 solved.1 went served)
 
 pub returns-clause-malformed : goal.returns-clause-malformed
-returns-clause-malformed g c = λ bytes file nothing.
-    absurd (nothing _ (reads_the_file bytes _ _ (Ok _) file.told file.no_failure c.in-Ok.ensures.outcome).1)
+returns-clause-malformed g c = λ bytes file nothing. absurd (something_of_file _ _ _ c.in-Ok.ensures.outcome bytes file nothing)
 
 pub returns-clause-ends_well : goal.returns-clause-ends_well
 returns-clause-ends_well g c = λ served it. had_setback _ _ _ _ c.in-Err-write_forest.ensures.part

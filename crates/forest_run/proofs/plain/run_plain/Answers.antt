@@ -1,6 +1,6 @@
-use Rattle.std.proofs.Common.{rules, refl, Ok, Err, ap, length, arith}
+use Rattle.std.proofs.Common.{rules, refl, ap, length, arith}
 use Rattle.forest_run.specs.Outcomes.{IsLeast}
-use Rattle.forest_run.proofs.Telling.{reads_the_file, first_of_failed, no_fault_of_lawful}
+use Rattle.forest_run.proofs.Telling.{first_of_file, no_fault_of_file, something_of_file}
 use Rattle.forest_run.proofs.PlainRunning.{unread, unsolved, done, broken_off, plainly}
 use Rattle.forest_run.proofs.Again.{writes_again}
 use Rattle.forest_run.specs.PlainRun.{IsPlainReport, plain_report}
@@ -10,19 +10,16 @@ pub returns-in-Err-clause-ran : goal.returns-in-Err-clause-ran
 returns-in-Err-clause-ran g c = unread c.in-Err.fault _ _ _ c.in-Err.ensures.outcome
 
 pub returns-in-Err-clause-malformed : goal.returns-in-Err-clause-malformed
-returns-in-Err-clause-malformed g c = λ bytes file nothing.
-    first_of_failed c.in-Err.fault bytes file.within (reads_the_file bytes _ _ (Err c.in-Err.fault) file.told file.no_failure c.in-Err.ensures.outcome)
+returns-in-Err-clause-malformed g c = λ bytes file nothing. first_of_file c.in-Err.fault _ _ c.in-Err.ensures.outcome bytes file
 
 pub returns-in-Err-clause-lawful : goal.returns-in-Err-clause-lawful
-returns-in-Err-clause-lawful g c = λ bytes file means.
-    no_fault_of_lawful c.in-Err.fault bytes means.0 means.1 (reads_the_file bytes _ _ (Err c.in-Err.fault) file.told file.no_failure c.in-Err.ensures.outcome)
+returns-in-Err-clause-lawful g c = no_fault_of_file c.in-Err.fault _ _ c.in-Err.ensures.outcome
 
 pub returns-in_default-clause-ran : goal.returns-in_default-clause-ran
 returns-in_default-clause-ran g c = unsolved _ _ _ _ _ c.in-Ok.ensures.outcome refl
 
 pub returns-in_default-clause-malformed : goal.returns-in_default-clause-malformed
-returns-in_default-clause-malformed g c = λ bytes file nothing.
-    absurd (nothing _ (reads_the_file bytes _ _ (Ok _) file.told file.no_failure c.in-Ok.ensures.outcome).1)
+returns-in_default-clause-malformed g c = λ bytes file nothing. absurd (something_of_file _ _ _ c.in-Ok.ensures.outcome bytes file nothing)
 
 pub returns-in-Ok-write_forest-clause-ran : goal.returns-in-Ok-write_forest-clause-ran
 returns-in-Ok-write_forest-clause-ran g c =
@@ -31,8 +28,7 @@ returns-in-Ok-write_forest-clause-ran g c =
     c.in-Ok-write_forest.ensures.whole (plainly c.in-Ok.graph forest.forest _ (rw c.into_links-links.ensures.links at forest.ensures.least) (search rules))
 
 pub returns-in-Ok-write_forest-clause-malformed : goal.returns-in-Ok-write_forest-clause-malformed
-returns-in-Ok-write_forest-clause-malformed g c = λ bytes file nothing.
-    absurd (nothing _ (reads_the_file bytes _ _ (Ok _) file.told file.no_failure c.in-Ok.ensures.outcome).1)
+returns-in-Ok-write_forest-clause-malformed g c = λ bytes file nothing. absurd (something_of_file _ _ _ c.in-Ok.ensures.outcome bytes file nothing)
 
 pub returns-clause-ran : goal.returns-clause-ran
 returns-clause-ran g c =
@@ -42,8 +38,7 @@ returns-clause-ran g c =
     c.in-Err-write_forest.ensures.part (plainly c.in-Ok.graph forest.forest _ (rw c.into_links-links.ensures.links at forest.ensures.least) refl)
 
 pub returns-clause-malformed : goal.returns-clause-malformed
-returns-clause-malformed g c = λ bytes file nothing.
-    absurd (nothing _ (reads_the_file bytes _ _ (Ok _) file.told file.no_failure c.in-Ok.ensures.outcome).1)
+returns-clause-malformed g c = λ bytes file nothing. absurd (something_of_file _ _ _ c.in-Ok.ensures.outcome bytes file nothing)
 
 -- ---- the text of a forest is written again
 

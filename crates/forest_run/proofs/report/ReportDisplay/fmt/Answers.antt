@@ -1,7 +1,0 @@
-use Rattle.std.proofs.Common.{append_assoc}
-use Rattle.std.proofs.Output.{has_written_of_eq}
-use Rattle.forest_run.proofs.report.ReportDisplay.fmt.Goals as goal
-
--- one write of all the parts makes the text of them, however they are joined
-pub returns-clause-writes : goal.returns-clause-writes
-returns-clause-writes g c = λ plain ok. has_written_of_eq _ _ _ _ _ (simp append_assoc) (c.write.ensures.writes plain ok)

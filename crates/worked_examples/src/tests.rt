@@ -1,0 +1,10 @@
+mod drawn_lists;
+mod drawn_texts;
+mod fault_texts;
+mod lists;
+mod memory_of_graphs;
+mod plain_runs;
+mod reading;
+mod sizes;
+mod totals;
+mod writing;

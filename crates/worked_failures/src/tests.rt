@@ -1,0 +1,12 @@
+mod files;
+mod frame_texts;
+mod in_turn;
+mod lists;
+mod rounds;
+mod runs;
+mod same;
+mod sessions;
+mod streams;
+mod texts;
+mod wires;
+mod workers;

@@ -1,0 +1,165 @@
+// Whole runs over the small net, also with weights past 32 bits. (Rounds over lanes come with the run over workers: lanes
+// in memory that is borrowed are refused by the borrow checker today.)
+ghost use Rattle.std.specs.Prelude.{◌≤◌, length, All, IfOk};
+ghost use Rattle.ports.specs.EngineLines.{line_of};
+ghost use Rattle.ports.specs.Lines.{HasRoom};
+
+use super::in_turn::{Memory, expect_any, was_refused};
+use super::same::expect_same;
+use super::wires::FIRST_HELLO;
+use byte_streams::{FusedSink, Sink, Source};
+use forest_run::{Cutting, Report, RunFault, run_lines, run_plain};
+use gr_text::ReadFault;
+use limits::MAX_WORKERS;
+use link_key::CutFault;
+use ports::{EngineLine, Line, ScriptLine};
+use std::alloc::{AllocError, Allocator, Global};
+use std::process::Abort;
+use std::sync::Wait;
+use std::thread::Threads;
+use worked_graphs::{SMALL_NET, WIDE_WEIGHTS, Worked};
+
+// Whether a run that ended so wanted memory.
+fn wants_memory(fault: RunFault) -> bool {
+    fault == RunFault::Memory
+        || fault == RunFault::Read(ReadFault::Memory)
+        || fault == RunFault::Cut(CutFault::Memory)
+}
+
+// A run that ended well wrote the forest's text and tells what it weighs; one that didn't wanted memory, some of which was
+// refused, and wrote nothing.
+fn expect_ended(
+    rt: &impl Abort,
+    memory: &Memory,
+    graph: &Worked,
+    ended: Result<Report, RunFault>,
+    held: &[u8],
+) -> Result<Report, AllocError> {
+    match ended {
+        Ok(report) => {
+            assert!(rt; held == graph.text && report.total == graph.total);
+            Ok(report)
+        }
+        Err(fault) => {
+            assert!(rt; was_refused(memory) && wants_memory(fault) && held.is_empty());
+            Err(AllocError)
+        }
+    }
+}
+
+// By one thread.
+fn expect_plain(
+    rt: &impl Abort,
+    alloc: Global,
+    memory: &Memory,
+    graph: Worked,
+) -> Result<(), AllocError> {
+    let mut source = graph.file;
+    let mut sink = FusedSink::new(alloc, 100, 7)?;
+    let ended = run_plain(memory, &mut source, &mut sink);
+    expect_ended(rt, memory, &graph, ended, sink.held())?;
+    Ok(())
+}
+
+// New lines to two workers, each in memory.
+pub(crate) fn two_workers<A: Allocator + Copy>(
+    alloc: A,
+) -> Result<Vec<EngineLine<A>, A>, AllocError>
+    ensures few { IfOk result (λ lines. length lines.items ≤ MAX_WORKERS) }
+    ensures room { IfOk result (λ lines. All (λ line. HasRoom (line_of line)) lines.items) }
+{
+    let mut lines = Vec::new(alloc);
+    for worker in 0..2u32 {
+        lines.push(EngineLine::new(alloc, worker)?)?;
+    }
+    Ok(lines)
+}
+
+// A run over these lines in so many shards: how it ended, and how many lines it gave back.
+pub(crate) fn run_over<
+    L: Line + Send + Drop,
+    A: Allocator + Copy + Send + Sync,
+    S: Source,
+    W: Sink,
+>(
+    rt: &(impl Threads + Wait + Sync),
+    lines: Vec<L, A>,
+    shards: u32,
+    source: &mut S,
+    sink: &mut W,
+) -> (Result<Report, RunFault>, usize)
+    requires can_read { S.can_read source.old }
+    requires can_write { W.can_write sink.old }
+    requires few { length lines.items ≤ MAX_WORKERS }
+    requires room { All (λ line. HasRoom (L.state line)) lines.items }
+{
+    let alloc = *lines.allocator();
+    match run_lines(rt, alloc, source, Cutting::Even(shards), lines, sink) {
+        Ok((report, lines)) => (Ok(report), lines.len()),
+        Err(fault) => (Err(fault), 0),
+    }
+}
+
+// Over two workers, each in memory. Where one of them or its wire wants memory it is given up, and the run goes on.
+fn expect_over_workers<R: Threads + Wait + Sync + Abort>(
+    rt: &R,
+    alloc: Global,
+    memory: &Memory,
+    graph: Worked,
+) -> Result<(), AllocError> {
+    let mut source = graph.file;
+    let mut sink = FusedSink::new(alloc, 100, 7)?;
+    let (ended, count) = run_over(rt, two_workers(memory)?, 2, &mut source, &mut sink);
+    let report = expect_ended(rt, memory, &graph, ended, sink.held())?;
+    expect_same(rt, (count, report.rounds, report.shards), (2, 2, 2));
+    assert!(rt; report.closed == 0 || was_refused(memory));
+    Ok(())
+}
+
+// Over a worker of the first version, which is too old for the weights, and answers nothing.
+fn expect_over_an_old_worker<R: Threads + Wait + Sync + Abort>(
+    rt: &R,
+    alloc: Global,
+    memory: &Memory,
+) -> Result<(), AllocError> {
+    let mut lines = Vec::new(memory);
+    lines.push(ScriptLine::new(FIRST_HELLO.to_vec(memory)?))?;
+    let mut source = WIDE_WEIGHTS.file;
+    let mut sink = FusedSink::new(alloc, 100, 7)?;
+    let (ended, _) = run_over(rt, lines, 1, &mut source, &mut sink);
+    let report = expect_ended(rt, memory, &WIDE_WEIGHTS, ended, sink.held())?;
+    let asks = (report.asked, report.answered, report.alone);
+    expect_same(rt, asks, (1, 0, 3));
+    expect_same(rt, (report.rounds, report.closed), (2, 1));
+    Ok(())
+}
+
+#[derive(Clone, Copy)]
+enum Call {
+    RunPlain(Worked),
+    RunLines(Worked),
+    OldWorker,
+}
+
+#[test]
+fn whole_runs(rt: HostRuntime) {
+    for call in [
+        Call::RunPlain(SMALL_NET),
+        Call::RunPlain(WIDE_WEIGHTS),
+        Call::RunLines(SMALL_NET),
+        Call::RunLines(WIDE_WEIGHTS),
+        Call::OldWorker,
+    ] {
+        expect_any(
+            &rt,
+            rt.alloc(),
+            |memory: &Memory| -> Result<(), AllocError> {
+                match call {
+                    Call::RunPlain(graph) => expect_plain(&rt, rt.alloc(), memory, graph),
+                    Call::RunLines(graph) => expect_over_workers(&rt, rt.alloc(), memory, graph),
+                    Call::OldWorker => expect_over_an_old_worker(&rt, rt.alloc(), memory),
+                }
+            },
+        );
+    }
+}

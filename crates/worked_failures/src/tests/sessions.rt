@@ -1,0 +1,102 @@
+// A worker's session over a shard and an ask, whose source fails at each byte, and whose sink does; and over a shard of
+// weights past 32 bits.
+use super::frame_texts::{ANSWER, ASK, HELLO, SHARD, SHARD64};
+use super::same::expect_same;
+use super::streams::{Place, Setback, sink_at, source_of};
+use frames::FrameFault;
+use std::alloc::{AllocError, Global};
+use std::process::Abort;
+use std::thread::Threads;
+use worker_engine::{ServeFault, Served, serve};
+
+// How the session ends without a failure.
+const SERVED: Result<Served, ServeFault> = Ok(Served {
+    frames: 2,
+    answers: 1,
+    faults: 0,
+});
+
+// How many bytes the hello has, and how many it has together with the answer.
+const GREETED: usize = 11;
+
+const ANSWERED: usize = 52;
+
+// Two texts, one behind the other.
+pub(crate) fn joined(alloc: Global, first: &[u8], second: &[u8]) -> Result<Vec<u8>, AllocError> {
+    let mut bytes = Vec::from_slice(alloc, first)?;
+    bytes.extend_from_slice(second)?;
+    Ok(bytes)
+}
+
+/// A shard, how many bytes it has together with the ask, and how many bytes a source and a sink take at a time.
+type Session = (&'static [u8], usize, usize);
+
+const SESSIONS: [Session; 4] = [
+    (&SHARD, 78, 1),
+    (&SHARD, 78, 7),
+    (&SHARD64, 90, 1),
+    (&SHARD64, 90, 7),
+];
+
+// How a session that hears so many bytes ends, and how many bytes it wrote: the hello before anything is read, and the
+// answer once the whole ask was. Room for just both is enough, for a sink that fails behind it and for one that takes
+// nothing more.
+fn end_of(heard: usize, place: Place) -> (Result<Served, ServeFault>, usize) {
+    let passes = place.passes;
+    let cut_off = Err(ServeFault::Read(FrameFault::Device));
+    match place.setback {
+        Setback::Source if passes < heard => (cut_off, GREETED),
+        Setback::Source if passes == heard => (cut_off, ANSWERED),
+        Setback::Sink | Setback::FullSink if passes < ANSWERED => (Err(ServeFault::Write), passes),
+        _ => (SERVED, ANSWERED),
+    }
+}
+
+// The session over streams of which one has a setback after so many bytes ends as it should.
+fn expect_end(
+    rt: &(impl Abort + Threads + Sync),
+    alloc: Global,
+    session: Session,
+    setback: Setback,
+    passes: usize,
+) {
+    let (shard, heard, piece) = session;
+    assert!(rt; 1 <= piece);
+    let place = Place {
+        setback,
+        passes,
+        piece,
+    };
+    let bytes = joined(alloc, shard, &ASK).expect(rt, "memory");
+    let mut source = source_of(bytes, place);
+    let mut sink = sink_at(alloc, place).expect(rt, "memory");
+    let end = serve(rt, alloc, 0, &mut source, &mut sink);
+    let (expected, written) = end_of(heard, place);
+    let both = joined(alloc, &HELLO, &ANSWER).expect(rt, "memory");
+    assert!(rt; both.len() == ANSWERED && written <= both.len());
+    expect_same(
+        rt,
+        (passes, end, sink.held()),
+        (passes, expected, &both[..written]),
+    );
+}
+
+#[test]
+fn a_source_that_fails_at_each_byte(rt: HostRuntime) {
+    for session in SESSIONS {
+        for passes in 0..92usize {
+            expect_end(&rt, rt.alloc(), session, Setback::Source, passes);
+        }
+    }
+}
+
+#[test]
+fn a_sink_that_fails_at_each_byte(rt: HostRuntime) {
+    for session in SESSIONS {
+        for passes in 0..54usize {
+            for setback in [Setback::Sink, Setback::FullSink] {
+                expect_end(&rt, rt.alloc(), session, setback, passes);
+            }
+        }
+    }
+}

@@ -1,0 +1,154 @@
+// Files that are read whole, in pieces and from a source, and sinks of tests. A forest is written without memory.
+ghost use Rattle.std.specs.Prelude.{◌<◌, ◌-◌, ◌^◌, IfOk};
+
+use super::in_turn::{Memory, expect_each, or_refused};
+use super::lists::few_links;
+use super::same::expect_same;
+use gr_text::{
+    FusedSink, GrFault, GrKind, GrReader, Graph, MAX_BYTES, ReadFault, WriteFault, parse,
+    read_graph, read_graph_upto, write_forest,
+};
+use link_key::{Forest, Link};
+use std::alloc::{AllocError, Global};
+use std::process::Abort;
+use test_memory::{Refusals, Refusing};
+use worked_graphs::SMALL_NET;
+
+// The small net with a carriage return at each line's end, tabs for spaces, and zeros before numbers.
+const SPELLED_ELSE: &[u8] =
+    b"c a small net\r\np\tsp\t006\t8\r\na\t1\t02\t0017\r\nc the usual shape\r\na\t1\t3\t10\r\na\t2\t4\t002\r\na\t3\t5\t0\r\na\t4\t3\t000\r\na\t4\t6\t3\r\na\t5\t2\t000\r\na\t5\t006\t20\r\n";
+
+// A text with an arc line before its problem line, and its fault.
+const NO_PROBLEM_YET: (&[u8], ReadFault) = (
+    b"a 1 2 3\np sp 2 1\n",
+    ReadFault::Gr(GrFault {
+        line: 1,
+        kind: GrKind::NoProblemYet,
+    }),
+);
+
+// The text was read as the graph of six vertices and these links, or memory was refused.
+fn expect_graph(
+    rt: &impl Abort,
+    read: Result<Graph<&Memory>, ReadFault>,
+    links: &[Link],
+) -> Result<(), AllocError> {
+    let graph = or_refused(rt, read, ReadFault::Memory)?;
+    assert!(rt; graph.n() == 6 && graph.links() == links);
+    Ok(())
+}
+
+#[derive(Clone, Copy)]
+enum Call {
+    Parse,
+    ReadGraph,
+    ReadGraphUpto,
+    GrReader,
+    FailingSink,
+    StoppedSink,
+}
+
+const CALLS: [Call; 6] = [
+    Call::Parse,
+    Call::ReadGraph,
+    Call::ReadGraphUpto,
+    Call::GrReader,
+    Call::FailingSink,
+    Call::StoppedSink,
+];
+
+// The small net is read, or its forest written into a sink with room for ten bytes.
+fn make(rt: &impl Abort, alloc: Global, memory: &Memory, call: Call) -> Result<(), AllocError> {
+    let links = few_links(rt, alloc, 6, SMALL_NET.arcs);
+    let links = links.as_slice();
+    let mut source = SMALL_NET.file;
+    match call {
+        Call::Parse => expect_graph(rt, parse(memory, source), links),
+        Call::ReadGraph => expect_graph(rt, read_graph(memory, &mut source), links),
+        Call::ReadGraphUpto => {
+            let limit = source.len() as u64;
+            expect_graph(rt, read_graph_upto(memory, &mut source, limit), links)
+        }
+        Call::GrReader => expect_graph(rt, read_bytes(rt, memory)?, links),
+        Call::FailingSink => expect_ten_bytes(rt, alloc, memory, FusedSink::new(memory, 10, 7)),
+        Call::StoppedSink => {
+            expect_ten_bytes(rt, alloc, memory, FusedSink::stopped(memory, 10, 7))
+        }
+    }
+}
+
+#[test]
+fn files_and_sinks(rt: HostRuntime) {
+    for call in CALLS {
+        expect_each(
+            &rt,
+            rt.alloc(),
+            |memory: &Memory| -> Result<(), AllocError> { make(&rt, rt.alloc(), memory, call) },
+        );
+    }
+}
+
+// A text is refused by its first fault, and one without arcs is a graph, though each allocation is refused: none is made.
+#[test]
+fn faults_and_files_without_arcs(rt: HostRuntime) {
+    let (text, fault) = NO_PROBLEM_YET;
+    let memory = Refusing::new(rt.alloc(), Refusals::since(1));
+    expect_same(&rt, parse(&memory, text).err(), Some(fault));
+    let mut source = text;
+    expect_same(&rt, read_graph(&memory, &mut source).err(), Some(fault));
+    let text = b"p sp 0 0\nc".as_slice();
+    for (limit, expected) in [(9, Some(ReadFault::TooLong)), (10, None)] {
+        let mut source = text;
+        expect_same(
+            &rt,
+            read_graph_upto(&memory, &mut source, limit).err(),
+            expected,
+        );
+    }
+    expect_same(&rt, memory.asked(), 0);
+}
+
+// After a refusal the reader answers it for good, whatever it is fed.
+fn expect_told_again(rt: &impl Abort, mut reader: GrReader<&Memory>) {
+    expect_same(rt, reader.feed(b"a 1 2 3\n"), Err(ReadFault::Memory));
+    expect_same(rt, reader.feed(b""), Err(ReadFault::Memory));
+    expect_same(rt, reader.finish().err(), Some(ReadFault::Memory));
+}
+
+// The small net, spelled otherwise, a byte at a time.
+fn read_bytes<'a>(
+    rt: &impl Abort,
+    memory: &'a Memory,
+) -> Result<Result<Graph<&'a Memory>, ReadFault>, AllocError> {
+    let mut reader = GrReader::new(memory, MAX_BYTES);
+    for i in 0..SPELLED_ELSE.len() {
+        if let Err(fault) = reader.feed(&SPELLED_ELSE[i..i + 1]) {
+            expect_same(rt, fault, ReadFault::Memory);
+            expect_told_again(rt, reader);
+            return Err(AllocError);
+        }
+    }
+    Ok(reader.finish())
+}
+
+// The small net's forest goes into a sink up to its tenth byte, and takes no memory.
+fn expect_ten_bytes(
+    rt: &impl Abort,
+    alloc: Global,
+    memory: &Memory,
+    sink: Result<FusedSink<&Memory>, AllocError>,
+) -> Result<(), AllocError>
+    requires { IfOk sink (λ sink. sink.setbacks < 2 ^ 64 - 1) }
+{
+    let mut sink = sink?;
+    let links = few_links(rt, alloc, 6, SMALL_NET.forest);
+    let forest = Forest::of_list(links).expect(rt, "ascending");
+    let asked = memory.asked();
+    expect_same(
+        rt,
+        write_forest(&mut sink, 6, &forest),
+        Err(WriteFault { written: 10 }),
+    );
+    assert!(rt; sink.held() == b"p sp 6 5\na".as_slice() && memory.asked() == asked);
+    Ok(())
+}

@@ -1,0 +1,217 @@
+// What a worker does: scans, what its engine hears, and whole sessions.
+use super::frame_texts::{ANSWER, ASK, HELLO, NO_MEMORY, SHARD, SHARD64, WIDE_ARCS, written};
+use super::in_turn::{Memory, expect_any, expect_each, or_refused, was_refused};
+use super::lists::few_links;
+use super::same::expect_same;
+use super::sessions::joined;
+use frames::{Frame, FrameFault, read_frame};
+use link_key::{Labels, Link, Offers};
+use std::alloc::{AllocError, Global};
+use std::process::Abort;
+use std::thread::Threads;
+use worked_graphs::{EQUAL_WEIGHTS, Row, have_labels};
+use worker_engine::{Engine, ServeFault, Served, scan, scan_par, serve_upto};
+
+#[derive(Clone, Copy)]
+enum By {
+    OneThread,
+    Threads,
+}
+
+// What a scan of the links offers.
+fn offers<'a>(
+    rt: &(impl Abort + Threads + Sync),
+    memory: &'a Memory,
+    by: By,
+    links: &[Link],
+    labels: &Labels,
+) -> Result<Offers<&'a Memory>, AllocError> {
+    assert!(rt; links.len() <= 8 && have_labels(links, labels.n()));
+    match by {
+        By::OneThread => scan(memory, links, labels),
+        By::Threads => scan_par(rt, memory, links, labels),
+    }
+}
+
+// A triangle's offers, each vertex a component by itself.
+fn expect_offers(
+    rt: &(impl Abort + Threads + Sync),
+    alloc: Global,
+    memory: &Memory,
+    by: By,
+    arcs: &[Row],
+) -> Result<(), AllocError> {
+    let links = few_links(rt, alloc, 3, arcs);
+    let labels = Labels::apart(alloc, 3).expect(rt, "memory");
+    let offers = offers(rt, memory, by, links.as_slice(), &labels)?;
+    assert!(rt; offers.pairs() == [(1, 0), (2, 0), (3, 2)].as_slice());
+    Ok(())
+}
+
+// The engine's reply to a frame.
+fn heard<'a>(
+    rt: &(impl Abort + Threads + Sync),
+    by: By,
+    engine: &mut Engine<&'a Memory>,
+    frame: Frame<&'a Memory>,
+) -> Result<Option<Frame<&'a Memory>>, AllocError> {
+    assert!(rt; frame.is_lawful());
+    match by {
+        By::OneThread => engine.hear(frame),
+        By::Threads => engine.hear_par(rt, frame),
+    }
+}
+
+// What the engine replies to the frame with these bytes, as bytes.
+fn reply<'a>(
+    rt: &(impl Abort + Threads + Sync),
+    memory: &'a Memory,
+    by: By,
+    engine: &mut Engine<&'a Memory>,
+    bytes: &[u8],
+) -> Result<Vec<u8, &'a Memory>, AllocError> {
+    let mut source = bytes;
+    let frame = or_refused(rt, read_frame(memory, &mut source), FrameFault::Memory)?;
+    match heard(rt, by, engine, frame)? {
+        Some(frame) => written(rt, memory, &frame),
+        None => Ok(Vec::new(memory)),
+    }
+}
+
+// The engine's reply is this one. Where one allocation alone is refused, it is as before, and replies so once it hears
+// the frame again.
+fn expect_reply<'a>(
+    rt: &(impl Abort + Threads + Sync),
+    memory: &'a Memory,
+    by: By,
+    engine: &mut Engine<&'a Memory>,
+    exchange: (&[u8], &[u8]),
+) -> Result<(), AllocError> {
+    let (bytes, expected) = exchange;
+    let told = match reply(rt, memory, by, engine, bytes) {
+        Ok(told) => told,
+        Err(AllocError) => reply(rt, memory, by, engine, bytes)?,
+    };
+    expect_same(rt, told.as_slice(), expected);
+    Ok(())
+}
+
+// An engine hears a triangle's shard and an ask.
+fn expect_replies(
+    rt: &(impl Abort + Threads + Sync),
+    memory: &Memory,
+    by: By,
+    shard: &[u8],
+) -> Result<(), AllocError> {
+    let mut engine = Engine::new(memory);
+    expect_reply(rt, memory, by, &mut engine, (shard, &[]))?;
+    expect_reply(rt, memory, by, &mut engine, (&ASK, &ANSWER))
+}
+
+#[derive(Clone, Copy)]
+enum Call {
+    Scan(By, &'static [Row]),
+    Hear(By, &'static [u8]),
+}
+
+#[test]
+fn scans_and_engines(rt: HostRuntime) {
+    for call in [
+        Call::Scan(By::OneThread, EQUAL_WEIGHTS.arcs),
+        Call::Scan(By::OneThread, &WIDE_ARCS),
+        Call::Scan(By::Threads, EQUAL_WEIGHTS.arcs),
+        Call::Scan(By::Threads, &WIDE_ARCS),
+        Call::Hear(By::OneThread, &SHARD),
+        Call::Hear(By::OneThread, &SHARD64),
+        Call::Hear(By::Threads, &SHARD),
+        Call::Hear(By::Threads, &SHARD64),
+    ] {
+        expect_each(
+            &rt,
+            rt.alloc(),
+            |memory: &Memory| -> Result<(), AllocError> {
+                match call {
+                    Call::Scan(by, arcs) => expect_offers(&rt, rt.alloc(), memory, by, arcs),
+                    Call::Hear(by, shard) => expect_replies(&rt, memory, by, shard),
+                }
+            },
+        );
+    }
+}
+
+/// A session over a shard and the ask, at its limit of frames: how it ends, and what it writes behind its hello.
+#[derive(Clone, Copy)]
+struct Session {
+    shard: &'static [u8],
+    limit: u64,
+    end: Result<Served, ServeFault>,
+    answer: &'static [u8],
+}
+
+// The session goes so; or it wants memory and wrote no answer; or it told that it had no memory in the answer's place.
+fn expect_session(
+    rt: &(impl Abort + Threads + Sync),
+    alloc: Global,
+    memory: &Memory,
+    session: Session,
+) -> Result<(), AllocError> {
+    let heard = joined(alloc, session.shard, &ASK).expect(rt, "memory");
+    let mut source = heard.as_slice();
+    let mut sink = Vec::new(alloc);
+    let end = serve_upto(rt, memory, 0, &mut source, &mut sink, session.limit);
+    let (hello, told) = sink.split_at(sink.len().min(HELLO.len()));
+    if end == session.end && told == session.answer {
+        assert!(rt; hello == HELLO.as_slice());
+        return Ok(());
+    }
+    assert!(rt; was_refused(memory));
+    if told == NO_MEMORY.as_slice() {
+        let in_its_place = match session.end {
+            Ok(_) => Ok(Served {
+                frames: 2,
+                answers: 0,
+                faults: 1,
+            }),
+            Err(fault) => Err(fault),
+        };
+        expect_same(rt, end, in_its_place);
+        return Ok(());
+    }
+    assert!(rt; end == Err(ServeFault::Memory) || end == Err(ServeFault::Read(FrameFault::Memory)));
+    assert!(rt; told.is_empty() && (hello.is_empty() || hello == HELLO.as_slice()));
+    Err(AllocError)
+}
+
+// Without a limit that is reached, and with one of 1 and of 2 frames, over either triangle.
+#[test]
+fn sessions_over_the_triangle(rt: HostRuntime) {
+    let served = Ok(Served {
+        frames: 2,
+        answers: 1,
+        faults: 0,
+    });
+    let too_many = Err(ServeFault::TooMany);
+    let limits: [(u64, Result<Served, ServeFault>, &[u8]); 4] = [
+        (u64::MAX, served, &ANSWER),
+        (3, served, &ANSWER),
+        (2, too_many, &ANSWER),
+        (1, too_many, &[]),
+    ];
+    for shard in [SHARD.as_slice(), &SHARD64] {
+        for (limit, end, answer) in limits {
+            let session = Session {
+                shard,
+                limit,
+                end,
+                answer,
+            };
+            expect_any(
+                &rt,
+                rt.alloc(),
+                |memory: &Memory| -> Result<(), AllocError> {
+                    expect_session(&rt, rt.alloc(), memory, session)
+                },
+            );
+        }
+    }
+}

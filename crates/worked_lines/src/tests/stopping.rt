@@ -1,0 +1,150 @@
+// Lines that stop: what one worker doesn't answer another does, and the coordinator where none is left.
+ghost use Rattle.std.specs.Prelude.{◌<◌, IfOk};
+ghost use Rattle.ports.specs.EngineLines.{line_of};
+ghost use Rattle.ports.specs.Lines.{HasRoom};
+ghost use Rattle.ports.specs.Testing.{line_of_script, with_stops};
+
+use super::runs::{Counts, run_of_worked};
+use super::scripts::{Numbers, script_line};
+use forest_run::Cutting;
+use ports::{EngineLine, Fuse, FusedLine, ScriptLine};
+use std::alloc::{AllocError, Global};
+use std::test::Fail;
+use worked_graphs::{SMALL_NET, WIDE_WEIGHTS, Worked};
+
+// A line to the worker of this number that stops once so many bytes were got.
+fn stopping(
+    alloc: Global,
+    worker: u32,
+    bytes: u64,
+) -> Result<FusedLine<EngineLine<Global>>, AllocError>
+    requires { worker < 64 }
+    ensures room { IfOk result (λ line. HasRoom (with_stops (line_of line.line) line.stopped)) }
+{
+    Ok(FusedLine::after_bytes(EngineLine::new(alloc, worker)?, bytes))
+}
+
+#[test]
+fn both_lines_fail_at_their_first_read(rt: HostRuntime) -> Result<(), Fail> {
+    let alloc = rt.alloc();
+    let lines = Vec::from_array(alloc, [stopping(alloc, 0, 0)?, stopping(alloc, 1, 0)?])?;
+    let counts = run_of_worked(&rt, alloc, &SMALL_NET, Cutting::Even(2), lines);
+    assert_eq!(rt; counts, [2, 2, 2, 0, 6, 2]);
+    Ok(())
+}
+
+// The other line answers all; the one that fails may not come to be asked at all.
+#[test]
+fn one_of_two_lines_fails_at_its_first_read(rt: HostRuntime) -> Result<(), Fail> {
+    let alloc = rt.alloc();
+    let whole = stopping(alloc, 0, u64::MAX)?;
+    let lines = Vec::from_array(alloc, [whole, stopping(alloc, 1, 0)?])?;
+    let counts = run_of_worked(&rt, alloc, &SMALL_NET, Cutting::Even(2), lines);
+    let closed = counts[5];
+    assert!(rt; closed <= 1);
+    assert_eq!(rt; counts, [2, 2, closed.wrapping_add(6), 6, 0, closed]);
+    Ok(())
+}
+
+/// A graph in so many shards, and how many bytes a line has given with the hello and each answer: the hello has 11.
+#[derive(Clone, Copy)]
+struct Answered {
+    graph: Worked,
+    shards: u32,
+    ends: &'static [u64],
+}
+
+// In one shard the answers have 65, 33 and 17 bytes, whatever the weights; in two each of the first round has 57, of the
+// second 33, and of the third 17. The second shard of the wide weights is the one that needs frames of its own.
+const WHOLE: Answered = Answered {
+    graph: SMALL_NET,
+    shards: 1,
+    ends: &[76, 109, 126],
+};
+
+const WIDE: Answered = Answered {
+    graph: WIDE_WEIGHTS,
+    shards: 1,
+    ends: &[76, 109, 126],
+};
+
+const WIDE_IN_TWO: Answered = Answered {
+    graph: WIDE_WEIGHTS,
+    shards: 2,
+    ends: &[68, 125, 158, 191, 208, 225],
+};
+
+// What is done over one line that stops after so many bytes: those answers that came whole are taken, the line is closed
+// at the next, and what is left is scanned alone.
+fn done_after(answered: Answered, bytes: u64) -> Counts {
+    let all = answered.ends.len() as u64;
+    let taken = answered.ends.iter().filter(|end| **end <= bytes).count() as u64;
+    let closed = u64::from(taken < all);
+    let asked = taken.wrapping_add(closed);
+    [
+        2,
+        u64::from(answered.shards),
+        asked,
+        taken,
+        all.wrapping_sub(taken),
+        closed,
+    ]
+}
+
+#[test]
+fn a_line_that_stops_after_each_byte(rt: HostRuntime) -> Result<(), Fail> {
+    let alloc = rt.alloc();
+    for it in [WHOLE, WIDE, WIDE_IN_TWO] {
+        for bytes in 0..231u64 {
+            let lines = Vec::from_array(alloc, [stopping(alloc, 0, bytes)?])?;
+            let counts = run_of_worked(&rt, alloc, &it.graph, Cutting::Even(it.shards), lines);
+            assert_eq!(rt; counts, done_after(it, bytes), "after {bytes} bytes");
+        }
+    }
+    Ok(())
+}
+
+#[test]
+fn a_line_that_stops_after_each_call(rt: HostRuntime) -> Result<(), Fail> {
+    let alloc = rt.alloc();
+    for it in [WHOLE, WIDE, WIDE_IN_TWO] {
+        for calls in 0..41u64 {
+            let line = FusedLine::after_calls(EngineLine::new(alloc, 0)?, calls);
+            let lines = Vec::from_array(alloc, [line])?;
+            let counts = run_of_worked(&rt, alloc, &it.graph, Cutting::Even(it.shards), lines);
+            assert_eq!(rt; counts[0], 2);
+        }
+    }
+    Ok(())
+}
+
+// A worker of the first version that stops so: it answers the shard whose weights fit 32 bits.
+fn old_worker(alloc: Global, fuse: Fuse) -> Result<FusedLine<ScriptLine>, AllocError>
+    ensures room { IfOk result (λ line. HasRoom (with_stops (line_of_script line.line) line.stopped)) }
+{
+    let answer: Numbers = &[52, 1, 0, 5, 1, 1, 2, 2, 3, 3, 4, 2, 5, 3];
+    let line = script_line(alloc, &[answer])?;
+    Ok(match fuse {
+        Fuse::Bytes(bytes) => FusedLine::after_bytes(line, bytes),
+        Fuse::Calls(calls) => FusedLine::after_calls(line, calls),
+    })
+}
+
+// It is too old for the other shard, and closed there if it wasn't before; all in one shard, before it answers at all.
+#[test]
+fn a_worker_of_the_first_version_that_stops(rt: HostRuntime) -> Result<(), Fail> {
+    let alloc = rt.alloc();
+    for (shards, end, alone) in [(1u32, u64::MAX, 3u64), (2, 68, 6)] {
+        for count in 0..71u64 {
+            let lines = Vec::from_array(alloc, [old_worker(alloc, Fuse::Bytes(count))?])?;
+            let counts = run_of_worked(&rt, alloc, &WIDE_WEIGHTS, Cutting::Even(shards), lines);
+            let taken = u64::from(end <= count);
+            let (asked, alone) = (taken.wrapping_add(1), alone.wrapping_sub(taken));
+            assert_eq!(rt; counts, [2, u64::from(shards), asked, taken, alone, 1]);
+            let lines = Vec::from_array(alloc, [old_worker(alloc, Fuse::Calls(count))?])?;
+            let counts = run_of_worked(&rt, alloc, &WIDE_WEIGHTS, Cutting::Even(shards), lines);
+            assert_eq!(rt; (counts[0], counts[5]), (2, 1));
+        }
+    }
+    Ok(())
+}

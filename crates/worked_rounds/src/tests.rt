@@ -1,0 +1,14 @@
+mod board;
+mod cuts;
+mod engine;
+mod fault_texts;
+mod labels;
+mod memory_counts;
+mod memory_of_lists;
+mod memory_of_scans;
+mod refusals;
+mod same;
+mod scans;
+mod shard_sets;
+mod sizes;
+mod touched;

@@ -1,0 +1,544 @@
+// A worker's engine over a triangle of equal weights: what it hears, and whole sessions.
+ghost use Rattle.std.specs.Prelude.{◌-◌, ◌<◌, ◌^◌};
+
+use super::same::expect_same;
+use super::scans::{By, Worker, many_labels, many_links, plain_offers};
+use super::sizes::{apart, falling, falling_offers};
+use byte_streams::{FusedSink, FusedSource};
+use frames::{
+    Answer, Frame, FrameFault, encode, encode_ask, encode_shard, fault_bytes, read_frame,
+};
+use link_key::{Labels, Link, Offers, Shard};
+use std::alloc::{AllocError, Global};
+use std::process::Abort;
+use std::test::Fail;
+use std::thread::Threads;
+use test_memory::{Refusals, Refusing};
+use worked_graphs::have_labels;
+use worker_engine::{ServeFault, Served, scan, serve, serve_upto};
+
+// What a worker of the first version says, and one of this version.
+const FIRST_HELLO: [u8; 11] = [1, 0, 0, 0, 6, 0, 1, 0, 0, 0, 0];
+
+const HELLO: [u8; 11] = [1, 0, 0, 0, 6, 0, 2, 0, 0, 0, 0];
+
+// Shard 0 with the link of 1 and 2 of weight 2^31, and its answer to the short ask.
+const SHARD64: [u8; 29] = [
+    6, 0, 0, 0, 24, 0, 0, 0, 0, 0, 0, 0, 1, 0, 0, 0, 1, 0, 0, 0, 2, 0, 0, 0, 0, 128, 0, 0, 0,
+];
+
+const SHORT_ANSWER: [u8; 33] = [
+    4, 0, 0, 0, 28, 0, 0, 0, 1, 0, 0, 0, 0, 0, 0, 0, 2, 0, 0, 0, 1, 0, 0, 0, 0, 0, 0, 0, 2, 0, 0,
+    0, 0,
+];
+
+// The triangle with the weights 2^32 + 5, 5 and 5 - 2^32, whose lower 32 bits are the same, and its answer to the ask.
+const ALIKE_SHARD: [u8; 61] = [
+    6, 0, 0, 0, 56, 0, 0, 0, 0, 0, 0, 0, 3, 0, 0, 0, 1, 0, 0, 0, 2, 0, 0, 0, 1, 0, 0, 0, 5, 0, 0,
+    0, 2, 0, 0, 0, 3, 0, 0, 0, 0, 0, 0, 0, 5, 0, 0, 0, 1, 0, 0, 0, 3, 255, 255, 255, 255, 0, 0, 0,
+    5,
+];
+
+const ALIKE_ANSWER: [u8; 41] = [
+    4, 0, 0, 0, 36, 0, 0, 0, 1, 0, 0, 0, 0, 0, 0, 0, 3, 0, 0, 0, 1, 0, 0, 0, 2, 0, 0, 0, 2, 0, 0,
+    0, 1, 0, 0, 0, 3, 0, 0, 0, 2,
+];
+
+const SHARD: [u8; 49] = [
+    2, 0, 0, 0, 44, 0, 0, 0, 0, 0, 0, 0, 3, 0, 0, 0, 1, 0, 0, 0, 2, 0, 0, 0, 5, 0, 0, 0, 2, 0, 0,
+    0, 3, 0, 0, 0, 5, 0, 0, 0, 1, 0, 0, 0, 3, 0, 0, 0, 5,
+];
+
+const ASK: [u8; 29] = [
+    3, 0, 0, 0, 24, 0, 0, 0, 1, 0, 0, 0, 0, 0, 0, 0, 3, 0, 0, 0, 1, 0, 0, 0, 2, 0, 0, 0, 3,
+];
+
+const SHORT_ASK: [u8; 25] = [
+    3, 0, 0, 0, 20, 0, 0, 0, 1, 0, 0, 0, 0, 0, 0, 0, 2, 0, 0, 0, 1, 0, 0, 0, 2,
+];
+
+const ANSWER: [u8; 41] = [
+    4, 0, 0, 0, 36, 0, 0, 0, 1, 0, 0, 0, 0, 0, 0, 0, 3, 0, 0, 0, 1, 0, 0, 0, 0, 0, 0, 0, 2, 0, 0,
+    0, 0, 0, 0, 0, 3, 0, 0, 0, 2,
+];
+
+const NOT_KEPT: [u8; 14] = [5, 0, 0, 0, 9, 0, 0, 0, 1, 0, 0, 0, 0, 2];
+
+const NO_LABEL: [u8; 14] = [5, 0, 0, 0, 9, 0, 0, 0, 1, 0, 0, 0, 0, 3];
+
+// Another list of links for shard 0: vertices 1 and 2, linked by the weight 7.
+const ANOTHER_SHARD: [u8; 25] = [
+    2, 0, 0, 0, 20, 0, 0, 0, 0, 0, 0, 0, 1, 0, 0, 0, 1, 0, 0, 0, 2, 0, 0, 0, 7,
+];
+
+const ANOTHER_ANSWER: [u8; 33] = [
+    4, 0, 0, 0, 28, 0, 0, 0, 1, 0, 0, 0, 0, 0, 0, 0, 2, 0, 0, 0, 1, 0, 0, 0, 0, 0, 0, 0, 2, 0, 0,
+    0, 0,
+];
+
+// A shard of no links, an ask under no labels, and its answer.
+const EMPTY_SHARD: [u8; 13] = [2, 0, 0, 0, 8, 0, 0, 0, 0, 0, 0, 0, 0];
+
+const EMPTY_SHARD64: [u8; 13] = [6, 0, 0, 0, 8, 0, 0, 0, 0, 0, 0, 0, 0];
+
+const EMPTY_ASK: [u8; 17] = [3, 0, 0, 0, 12, 0, 0, 0, 1, 0, 0, 0, 0, 0, 0, 0, 0];
+
+const EMPTY_ANSWER: [u8; 17] = [4, 0, 0, 0, 12, 0, 0, 0, 1, 0, 0, 0, 0, 0, 0, 0, 0];
+
+fn served(frames: u64, answers: u64, faults: u64) -> Result<Served, ServeFault> {
+    Ok(Served {
+        frames,
+        answers,
+        faults,
+    })
+}
+
+// The bytes of some parts, one behind the other.
+fn joined(alloc: Global, parts: &[&[u8]]) -> Result<Vec<u8>, AllocError> {
+    let mut bytes = Vec::new(alloc);
+    for part in parts {
+        bytes.extend_from_slice(part)?;
+    }
+    Ok(bytes)
+}
+
+// How a session of worker 0 over these bytes ends, and what it has written; with a limit of frames, if there is one.
+fn session(
+    rt: &(impl Threads + Sync),
+    alloc: Global,
+    heard: &[&[u8]],
+    limit: Option<u64>,
+) -> Result<(Result<Served, ServeFault>, Vec<u8>), AllocError> {
+    let bytes = joined(alloc, heard)?;
+    let mut source = bytes.as_slice();
+    let mut sink = Vec::new(alloc);
+    let end = match limit {
+        Some(limit) => serve_upto(rt, alloc, 0, &mut source, &mut sink, limit),
+        None => serve(rt, alloc, 0, &mut source, &mut sink),
+    };
+    Ok((end, sink))
+}
+
+/// How a session ends, and the parts of what it has written.
+#[derive(Clone, Copy)]
+struct Ended<'a> {
+    end: Result<Served, ServeFault>,
+    written: &'a [&'a [u8]],
+}
+
+// A session over these bytes ends so.
+fn expect_session(
+    rt: &(impl Abort + Threads + Sync),
+    alloc: Global,
+    heard: &[&[u8]],
+    limit: Option<u64>,
+    expected: Ended,
+) -> Result<(), Fail> {
+    let (end, sink) = session(rt, alloc, heard, limit)?;
+    let written = joined(alloc, expected.written)?;
+    expect_same(
+        rt,
+        (end, sink.as_slice()),
+        (expected.end, written.as_slice()),
+    );
+    Ok(())
+}
+
+// Sessions over whole streams, one that ends inside an ask, and ones that end at a shard that is unlawful: an ask of a
+// shard that is held, or isn't, or of too few labels; a hello, to which nothing is replied; a shard that is sent again, and
+// stands in place of the first; no links and no labels; weights past 32 bits, and no links as if one were.
+#[test]
+fn sessions_over_the_triangle(rt: HostRuntime) -> Result<(), Fail> {
+    let torn = Err(ServeFault::Read(FrameFault::Torn));
+    let bad_field = Err(ServeFault::Read(FrameFault::BadField));
+    let sessions: [(&[&[u8]], Result<Served, ServeFault>, &[&[u8]]); 10] = [
+        (&[&SHARD, &ASK], served(2, 1, 0), &[&HELLO, &ANSWER]),
+        (&[&SHARD, &ASK[..10]], torn, &[&HELLO]),
+        (&[&ASK], served(1, 0, 1), &[&HELLO, &NOT_KEPT]),
+        (&[&SHARD, &SHORT_ASK], served(2, 0, 1), &[&HELLO, &NO_LABEL]),
+        (
+            &[&FIRST_HELLO, &SHARD, &ASK],
+            served(3, 1, 0),
+            &[&HELLO, &ANSWER],
+        ),
+        (
+            &[&SHARD64, &SHORT_ASK],
+            served(2, 1, 0),
+            &[&HELLO, &SHORT_ANSWER],
+        ),
+        (
+            &[&SHARD, &ALIKE_SHARD, &ASK],
+            served(3, 1, 0),
+            &[&HELLO, &ALIKE_ANSWER],
+        ),
+        (
+            &[&SHARD, &ASK, &EMPTY_SHARD64, &ASK],
+            bad_field,
+            &[&HELLO, &ANSWER],
+        ),
+        (
+            &[&SHARD, &ASK, &ANOTHER_SHARD, &ASK, &SHARD, &SHARD, &ASK],
+            served(7, 3, 0),
+            &[&HELLO, &ANSWER, &ANOTHER_ANSWER, &ANSWER],
+        ),
+        (
+            &[&EMPTY_SHARD, &EMPTY_ASK, &ASK],
+            served(3, 2, 0),
+            &[&HELLO, &EMPTY_ANSWER, &EMPTY_ANSWER],
+        ),
+    ];
+    for (heard, end, written) in sessions {
+        expect_session(&rt, rt.alloc(), heard, None, Ended { end, written })?;
+    }
+    Ok(())
+}
+
+#[test]
+fn a_session_with_a_limit(rt: HostRuntime) -> Result<(), Fail> {
+    let heard: [&[u8]; 2] = [&SHARD, &ASK];
+    let too_many = Err(ServeFault::TooMany);
+    let limits: [(u64, Result<Served, ServeFault>, &[&[u8]]); 4] = [
+        (0, too_many, &[&HELLO]),
+        (1, too_many, &[&HELLO]),
+        (2, too_many, &[&HELLO, &ANSWER]),
+        (3, served(2, 1, 0), &[&HELLO, &ANSWER]),
+    ];
+    for (limit, end, written) in limits {
+        expect_session(&rt, rt.alloc(), &heard, Some(limit), Ended { end, written })?;
+    }
+    Ok(())
+}
+
+#[test]
+fn an_ask_torn_at_each_byte(rt: HostRuntime) -> Result<(), Fail> {
+    let torn = Ended {
+        end: Err(ServeFault::Read(FrameFault::Torn)),
+        written: &[&HELLO, &ANSWER],
+    };
+    for count in 1..29 {
+        let heard: [&[u8]; 3] = [&SHARD, &ASK, &ASK[..count]];
+        expect_session(&rt, rt.alloc(), &heard, None, torn)?;
+    }
+    Ok(())
+}
+
+// How many blocks a session over these bytes takes, which ends well.
+fn blocks_of_session(
+    rt: &(impl Threads + Sync),
+    alloc: Global,
+    heard: &[&[u8]],
+) -> Result<u64, Fail> {
+    let bytes = joined(alloc, heard)?;
+    let memory = Refusing::new(alloc, Refusals::none());
+    let mut source = bytes.as_slice();
+    let mut sink = Vec::new(alloc);
+    serve(rt, &memory, 0, &mut source, &mut sink)?;
+    Ok(memory.given())
+}
+
+// An ask under the labels of the one before takes two blocks, of its offers and of the answer's text: none for what came.
+#[test]
+fn an_ask_that_comes_again_is_not_stored(rt: HostRuntime) -> Result<(), Fail> {
+    let once = blocks_of_session(&rt, rt.alloc(), &[&SHARD, &ASK])?;
+    let twice = blocks_of_session(&rt, rt.alloc(), &[&SHARD, &ASK, &ASK])?;
+    expect_same(&rt, twice.wrapping_sub(once), 2);
+    Ok(())
+}
+
+// What the worker replies to the frame with these bytes, if it replies.
+fn replied(
+    rt: &(impl Abort + Threads + Sync),
+    alloc: Global,
+    worker: &mut Worker,
+    heard: &[u8],
+) -> Result<Option<Vec<u8>>, Fail> {
+    let mut source = heard;
+    let frame = read_frame(alloc, &mut source)?;
+    match worker.reply(rt, frame)? {
+        Some(told) => Ok(Some(lawful_text(rt, alloc, &told)?)),
+        None => Ok(None),
+    }
+}
+
+// The text of a frame, which is lawful.
+fn lawful_text(rt: &impl Abort, alloc: Global, frame: &Frame) -> Result<Vec<u8>, Fail> {
+    assert!(rt; frame.is_lawful());
+    Ok(encode(alloc, frame)?)
+}
+
+// What a worker hears, and what it replies.
+const HEARD: [(&[u8], Option<&[u8]>); 8] = [
+    (&ASK, Some(&NOT_KEPT)),
+    (&SHARD, None),
+    (&ASK, Some(&ANSWER)),
+    (&SHORT_ASK, Some(&NO_LABEL)),
+    (&FIRST_HELLO, None),
+    (&ANSWER, None),
+    (&NOT_KEPT, None),
+    (&ASK, Some(&ANSWER)),
+];
+
+#[test]
+fn an_engine_hears_each_kind_of_frame(rt: HostRuntime) -> Result<(), Fail> {
+    for by in [By::OneThread, By::Threads] {
+        let mut worker = Worker::new(rt.alloc(), by);
+        expect_replies(&rt, rt.alloc(), &mut worker)?;
+    }
+    Ok(())
+}
+
+// The worker hears these frames, one after the other, and replies so.
+fn expect_replies(
+    rt: &(impl Abort + Threads + Sync),
+    alloc: Global,
+    worker: &mut Worker,
+) -> Result<(), Fail> {
+    for (heard, reply) in HEARD {
+        let replied = replied(rt, alloc, worker, heard)?;
+        let found = match &replied {
+            Some(bytes) => Some(bytes.as_slice()),
+            None => None,
+        };
+        expect_same(rt, found, reply);
+    }
+    Ok(())
+}
+
+// How a session ends, and what it has written, whose source gives the shard and the ask and so many bytes of the next
+// ask, and then fails.
+fn cut_session(
+    rt: &(impl Threads + Sync),
+    alloc: Global,
+    count: usize,
+) -> Result<(Result<Served, ServeFault>, Vec<u8>), AllocError>
+    requires { count < 29 }
+{
+    let bytes = joined(alloc, &[&SHARD, &ASK, &ASK])?;
+    let mut source = FusedSource::new(bytes, 78 + count, 5);
+    let mut sink = Vec::new(alloc);
+    let end = serve(rt, alloc, 0, &mut source, &mut sink);
+    Ok((end, sink))
+}
+
+#[test]
+fn reads_that_fail_in_mid_session(rt: HostRuntime) -> Result<(), Fail> {
+    let owed = joined(rt.alloc(), &[&HELLO, &ANSWER])?;
+    for count in 0..29 {
+        let (end, sink) = cut_session(&rt, rt.alloc(), count)?;
+        let expected = Err(ServeFault::Read(FrameFault::Device));
+        expect_same(
+            &rt,
+            (count, end, sink.as_slice()),
+            (count, expected, owed.as_slice()),
+        );
+    }
+    Ok(())
+}
+
+// A session ends at a write, and the sink has taken this.
+fn expect_cut(
+    rt: &(impl Abort + Threads + Sync),
+    alloc: Global,
+    mut sink: FusedSink,
+    taken: &[u8],
+) -> Result<(), Fail>
+    requires { sink.setbacks < 2 ^ 64 - 1 }
+{
+    let bytes = joined(alloc, &[&SHARD, &ASK])?;
+    let mut source = bytes.as_slice();
+    let end = serve(rt, alloc, 0, &mut source, &mut sink);
+    expect_same(rt, (end, sink.held()), (Err(ServeFault::Write), taken));
+    Ok(())
+}
+
+// The hello and the answer are 52 bytes, of which the sink takes these many.
+#[test]
+fn writes_that_fail_in_mid_session(rt: HostRuntime) -> Result<(), Fail> {
+    let owed = joined(rt.alloc(), &[&HELLO, &ANSWER])?;
+    for count in [0, 1, 7, 10, 11, 12, 24, 51] {
+        assert!(rt; count < owed.len());
+        let taken = &owed[..count];
+        let failing = FusedSink::new(rt.alloc(), count, 7)?;
+        expect_cut(&rt, rt.alloc(), failing, taken)?;
+        let stopping = FusedSink::stopped(rt.alloc(), count, 7)?;
+        expect_cut(&rt, rt.alloc(), stopping, taken)?;
+    }
+    Ok(())
+}
+
+// A session that is sent a shard of these links and asked for it twice under these labels answers with these offers.
+fn expect_answers(
+    rt: &(impl Abort + Threads + Sync),
+    alloc: Global,
+    links: &[Link],
+    labels: &Labels,
+    expected: Vec<(u32, u32)>,
+) -> Result<(), Fail> {
+    let heard = shard_text(rt, alloc, &Shard { number: 3, links })?;
+    let ask = encode_ask(alloc, 1, 3, labels)?;
+    let offers = Offers::of_pairs(expected).expect(rt, "ascending");
+    let text = answer_text(rt, alloc, 1, 3, offers)?;
+    let parts: [&[u8]; 3] = [heard.as_slice(), ask.as_slice(), ask.as_slice()];
+    let expected = Ended {
+        end: served(3, 2, 0),
+        written: &[&HELLO, text.as_slice(), text.as_slice()],
+    };
+    expect_session(rt, alloc, &parts, None, expected)
+}
+
+// A session over many links does so.
+fn expect_answers_of_many(rt: &(impl Abort + Threads + Sync), alloc: Global) -> Result<(), Fail> {
+    let links = many_links(alloc)?;
+    let labels = many_labels(alloc)?;
+    let expected = plain_offers(alloc, 0, links.as_slice(), &labels)?;
+    expect_answers(rt, alloc, links.as_slice(), &labels, expected)
+}
+
+// A session over so many links round the path of n vertices does so.
+fn expect_answers_of_falling(
+    rt: &(impl Abort + Threads + Sync),
+    alloc: Global,
+    n: u32,
+    count: u32,
+) -> Result<(), Fail> {
+    let links = falling(alloc, n, 0, count)?;
+    let labels = apart(alloc, n)?;
+    let expected = falling_offers(alloc, n, count, &labels)?;
+    expect_answers(rt, alloc, links.as_slice(), &labels, expected)
+}
+
+#[test]
+fn sessions_over_many_links(rt: HostRuntime) -> Result<(), Fail> {
+    expect_answers_of_many(&rt, rt.alloc())?;
+    for (n, count) in [(7, 65_536), (7, 131_073), (7, 300_000)] {
+        expect_answers_of_falling(&rt, rt.alloc(), n, count)?;
+    }
+    Ok(())
+}
+
+// Each of 20,001 vertices has its own label, but this one, which has that of the vertex before; vertex 0 is none.
+fn labels_but(alloc: Global, vertex: u32) -> Result<Labels, Fail> {
+    let mut list = Vec::with_capacity(alloc, 20_001)?;
+    for before in 0..20_001u32 {
+        let own = before + 1;
+        list.push(if own == vertex { before } else { own })?;
+    }
+    Ok(Labels::of_list(list).ok_or("labels")?)
+}
+
+// The text of a shard.
+fn shard_text(rt: &impl Abort, alloc: Global, shard: &Shard) -> Result<Vec<u8>, Fail> {
+    assert!(rt; shard.number < 4096 && shard.links.len() <= 1 << 24);
+    Ok(encode_shard(alloc, shard)?)
+}
+
+// The text of an answer of a round for a shard, with these offers.
+fn answer_text(
+    rt: &impl Abort,
+    alloc: Global,
+    round: u32,
+    shard: u32,
+    offers: Offers,
+) -> Result<Vec<u8>, Fail> {
+    let answer = Frame::Answer(Answer {
+        round,
+        shard,
+        offers,
+    });
+    lawful_text(rt, alloc, &answer)
+}
+
+// The texts of an ask of a round for a shard and of its answer, by a scan of its own.
+fn asked_and_answered(
+    rt: &impl Abort,
+    alloc: Global,
+    round: u32,
+    shard: &Shard,
+    labels: &Labels,
+) -> Result<(Vec<u8>, Vec<u8>), Fail> {
+    let Shard { number, links } = *shard;
+    assert!(rt; number < 4096 && links.len() <= 1 << 24 && have_labels(links, labels.n()));
+    let ask = encode_ask(alloc, round, number, labels)?;
+    let offers = scan(alloc, links, labels)?;
+    Ok((ask, answer_text(rt, alloc, round, number, offers)?))
+}
+
+/// What a session hears, and what it writes.
+#[derive(Drop)]
+struct Texts {
+    heard: Vec<u8>,
+    written: Vec<u8>,
+}
+
+impl Texts {
+    // A shard that isn't held is asked for, and then this one.
+    fn ask(
+        &mut self,
+        rt: &impl Abort,
+        alloc: Global,
+        vertex: u32,
+        shard: &Shard,
+    ) -> Result<(), Fail> {
+        let labels = labels_but(alloc, vertex)?;
+        let not_held = encode_ask(alloc, vertex, 9, &labels)?;
+        self.heard.extend_from_slice(not_held.as_slice())?;
+        self.written.extend_from_slice(&fault_bytes(vertex, 9, 2))?;
+        let (ask, answer) = asked_and_answered(rt, alloc, vertex, shard, &labels)?;
+        self.heard.extend_from_slice(ask.as_slice())?;
+        self.written.extend_from_slice(answer.as_slice())?;
+        Ok(())
+    }
+
+    // The shards are sent, and asked for under labels that change.
+    fn ask_each(&mut self, rt: &impl Abort, alloc: Global, shards: &[Shard]) -> Result<(), Fail> {
+        for shard in shards {
+            let text = shard_text(rt, alloc, shard)?;
+            self.heard.extend_from_slice(text.as_slice())?;
+        }
+        let vertices: [u32; 10] = [0, 0, 20_001, 20_001, 10_000, 0, 2, 2, 0, 20_001];
+        for vertex in vertices {
+            for shard in shards {
+                self.ask(rt, alloc, vertex, shard)?;
+            }
+        }
+        Ok(())
+    }
+}
+
+// Such a session ends so.
+fn expect_asks(
+    rt: &(impl Abort + Threads + Sync),
+    alloc: Global,
+    shards: &[Shard],
+) -> Result<(), Fail> {
+    let mut texts = Texts {
+        heard: Vec::new(alloc),
+        written: Vec::from_slice(alloc, &HELLO)?,
+    };
+    texts.ask_each(rt, alloc, shards)?;
+    let expected = Ended {
+        end: served(42, 20, 20),
+        written: &[texts.written.as_slice()],
+    };
+    expect_session(rt, alloc, &[texts.heard.as_slice()], None, expected)
+}
+
+// Two shards are asked for again and again, under labels that come again, that differ in the last, a middle or the first
+// piece alone, that coarsen those before and that don't. Each answer is that of a scan of its own; so is each behind asks
+// of a shard that isn't held.
+#[test]
+fn asks_under_labels_that_change(rt: HostRuntime) -> Result<(), Fail> {
+    let first = falling(rt.alloc(), 20_001, 0, 20_000)?;
+    let second = falling(rt.alloc(), 20_001, 7, 31_000)?;
+    let shards = [
+        Shard {
+            number: 3,
+            links: first.as_slice(),
+        },
+        Shard {
+            number: 4,
+            links: second.as_slice(),
+        },
+    ];
+    expect_asks(&rt, rt.alloc(), &shards)
+}

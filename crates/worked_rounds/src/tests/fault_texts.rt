@@ -1,0 +1,24 @@
+// What the faults of a worker's session are told as.
+use super::same::expect_same;
+use frames::FrameFault;
+use std::test::Fail;
+use worker_engine::ServeFault;
+
+#[test]
+fn what_faults_are_told_as(rt: HostRuntime) -> Result<(), Fail> {
+    let texts = [
+        (
+            ServeFault::Read(FrameFault::BadKind),
+            "frame of an unknown kind",
+        ),
+        (ServeFault::Read(FrameFault::Device), "read failed"),
+        (ServeFault::Write, "write failed"),
+        (ServeFault::Memory, "no memory"),
+        (ServeFault::TooMany, "too many frames"),
+    ];
+    for (fault, text) in texts {
+        let told = format!(in rt.alloc(); "{fault}")?;
+        expect_same(&rt, told.as_str(), text);
+    }
+    Ok(())
+}

@@ -1,0 +1,97 @@
+// The allocator that counts its blocks and refuses chosen allocations.
+use super::same::expect_same;
+use std::alloc::Allocator;
+use std::test::Fail;
+use test_memory::{Refusals, Refusing};
+
+// How many blocks were asked for, were given, were given back, and live.
+pub(crate) fn counts<A: Allocator>(memory: &Refusing<A>) -> [u64; 4] {
+    [
+        memory.asked(),
+        memory.given(),
+        memory.given_back(),
+        memory.live(),
+    ]
+}
+
+// Whether the next allocation is refused.
+pub(crate) fn refuses<A: Allocator>(memory: &Refusing<A>) -> bool {
+    Box::new(memory, 8u8).is_err()
+}
+
+#[test]
+fn counts_blocks(rt: HostRuntime) -> Result<(), Fail> {
+    let memory = Refusing::new(rt.alloc(), Refusals::none());
+    let first = Box::new(&memory, 7u8)?;
+    let second = Box::new(&memory, 8u8)?;
+    let both = counts(&memory);
+    drop(first);
+    let one = counts(&memory);
+    drop(second);
+    let none = counts(&memory);
+    expect_same(
+        &rt,
+        [both, one, none],
+        [[2, 2, 0, 2], [2, 2, 1, 1], [2, 2, 2, 0]],
+    );
+    Ok(())
+}
+
+#[test]
+fn refuses_one(rt: HostRuntime) -> Result<(), Fail> {
+    let memory = Refusing::new(rt.alloc(), Refusals::only(2));
+    let first = Box::new(&memory, 7u8)?;
+    let refused = refuses(&memory);
+    let third = Box::new(&memory, 9u8)?;
+    let refusals = Refusals { first: 2, last: 2 };
+    let found = (
+        memory.refusals(),
+        refused,
+        counts(&memory),
+        (*first, *third),
+    );
+    expect_same(&rt, found, (refusals, true, [3, 2, 0, 2], (7, 9)));
+    Ok(())
+}
+
+#[test]
+fn refuses_from_a_number_on(rt: HostRuntime) -> Result<(), Fail> {
+    let memory = Refusing::new(rt.alloc(), Refusals::since(2));
+    let first = Box::new(&memory, 7u8)?;
+    let refused = (refuses(&memory), refuses(&memory));
+    drop(first);
+    expect_same(
+        &rt,
+        (refused, counts(&memory)),
+        ((true, true), [3, 1, 1, 0]),
+    );
+    Ok(())
+}
+
+// A `Vec` asks for a block each time that it grows, and keeps its items where a growth is refused.
+#[test]
+fn a_growth_is_refused(rt: HostRuntime) -> Result<(), Fail> {
+    let memory = Refusing::new(rt.alloc(), Refusals::since(2));
+    let mut numbers = Vec::with_capacity(&memory, 1)?;
+    numbers.push(1u32)?;
+    let refused = numbers.push(2u32).is_err();
+    expect_same(&rt, (refused, numbers.as_slice()), (true, [1].as_slice()));
+    drop(numbers);
+    expect_same(&rt, counts(&memory), [2, 1, 1, 0]);
+    Ok(())
+}
+
+// A growth past any small size is handed on to the allocator behind it.
+#[test]
+fn ten_thousand_numbers_are_kept(rt: HostRuntime) -> Result<(), Fail> {
+    let memory = Refusing::new(rt.alloc(), Refusals::none());
+    let mut numbers = Vec::new(&memory);
+    for number in 0..10_000u32 {
+        numbers.push(number)?;
+    }
+    let kept = numbers.iter().copied().eq(0..10_000);
+    let live = memory.live();
+    drop(numbers);
+    expect_same(&rt, (kept, live, memory.live()), (true, 1, 0));
+    Ok(())
+}

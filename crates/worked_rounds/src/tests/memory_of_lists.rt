@@ -1,0 +1,82 @@
+// Lists of `link_key` that are handed in by value.
+use super::same::expect_same;
+use link_key::{Forest, Labels, Link, Offers};
+use std::alloc::{AllocError, Global};
+use std::test::Fail;
+use test_memory::{Refusals, Refusing};
+
+// How many blocks were given in all, and how many live.
+type Blocks = (u64, u64);
+
+/// What becomes of a list that is the only block: the blocks before it is handed in, whether something is made of it,
+/// the blocks then, and once what was made is dropped.
+type Outcome = (Blocks, bool, Blocks, Blocks);
+
+const DROPPED: Outcome = ((1, 1), false, (1, 0), (1, 0));
+
+const KEPT: Outcome = ((1, 1), true, (1, 1), (1, 0));
+
+fn blocks(memory: &Refusing<Global>) -> Blocks {
+    (memory.given(), memory.live())
+}
+
+// What becomes of the list that this was made of, or nothing.
+fn outcome<T: Drop>(memory: &Refusing<Global>, before: Blocks, made: Option<T>) -> Outcome {
+    let is_made = made.is_some();
+    let behind = blocks(memory);
+    drop(made);
+    (before, is_made, behind, blocks(memory))
+}
+
+fn of_labels(alloc: Global, list: &[u32]) -> Result<Outcome, AllocError> {
+    let memory = Refusing::new(alloc, Refusals::none());
+    let list = list.to_vec(&memory)?;
+    let before = blocks(&memory);
+    Ok(outcome(&memory, before, Labels::of_list(list)))
+}
+
+fn of_offers(alloc: Global, list: &[(u32, u32)]) -> Result<Outcome, AllocError> {
+    let memory = Refusing::new(alloc, Refusals::none());
+    let list = list.to_vec(&memory)?;
+    let before = blocks(&memory);
+    Ok(outcome(&memory, before, Offers::of_pairs(list)))
+}
+
+fn of_forest(alloc: Global, list: &[Link]) -> Result<Outcome, AllocError> {
+    let memory = Refusing::new(alloc, Refusals::none());
+    let list = list.to_vec(&memory)?;
+    let before = blocks(&memory);
+    Ok(outcome(&memory, before, Forest::of_list(list)))
+}
+
+#[test]
+fn labels_keep_their_list_or_drop_it(rt: HostRuntime) -> Result<(), Fail> {
+    let outcomes = [
+        of_labels(rt.alloc(), &[1, 1, 2])?,
+        of_labels(rt.alloc(), &[1, 1, 1])?,
+    ];
+    expect_same(&rt, outcomes, [DROPPED, KEPT]);
+    Ok(())
+}
+
+#[test]
+fn offers_keep_their_list_or_drop_it(rt: HostRuntime) -> Result<(), Fail> {
+    let outcomes = [
+        of_offers(rt.alloc(), &[(1, 0), (1, 2)])?,
+        of_offers(rt.alloc(), &[(1, 0), (2, 2)])?,
+    ];
+    expect_same(&rt, outcomes, [DROPPED, KEPT]);
+    Ok(())
+}
+
+#[test]
+fn a_forest_keeps_its_list_or_drops_it(rt: HostRuntime) -> Result<(), Fail> {
+    let light = Link::of_arc(1, 2, 5).expect(&rt, "a link");
+    let heavy = Link::of_arc(2, 3, 7).expect(&rt, "a link");
+    let outcomes = [
+        of_forest(rt.alloc(), &[light, light])?,
+        of_forest(rt.alloc(), &[light, heavy])?,
+    ];
+    expect_same(&rt, outcomes, [DROPPED, KEPT]);
+    Ok(())
+}

@@ -1,0 +1,300 @@
+// Which blocks of memory scans and engines take, which no contract counts.
+use super::same::expect_same;
+use super::scans::{By, Worker, expect_offers};
+use super::sizes::{apart, falling};
+use link_key::{Labels, Link, Offers};
+use std::alloc::{Allocator, Global};
+use std::process::Abort;
+use std::test::Fail;
+use std::thread::{Threads, available_parallelism};
+use test_memory::{Refusals, Refusing};
+use worked_graphs::have_labels;
+use worker_engine::{Scanner, scan, scan_par};
+
+// How many vertices and links there are, and the most parts that they are scanned in.
+const PARTS: [(u32, u32, u64); 7] = [
+    (3, 131_071, 1),
+    (3, 131_072, 2),
+    (65_536, 131_072, 2),
+    (65_537, 131_072, 1),
+    (3, 262_144, 4),
+    (65_536, 262_144, 4),
+    (65_537, 262_144, 2),
+];
+
+// In how many parts links are scanned that may be scanned in so many.
+fn parts(rt: &impl Threads, most: u64) -> u64 {
+    match available_parallelism(rt) {
+        Ok(processors) if processors.get() >= 4 => most,
+        Ok(processors) if processors.get() >= 2 => most.min(2),
+        _ => 1,
+    }
+}
+
+// How many blocks a scan of so many links between n vertices takes, how many one by threads, and how many live then.
+fn blocks(
+    rt: &(impl Abort + Threads + Sync),
+    alloc: Global,
+    n: u32,
+    count: u32,
+) -> Result<(u64, u64, u64), Fail> {
+    let links = falling(alloc, n, 0, count)?;
+    let labels = apart(alloc, n)?;
+    blocks_of_scans(rt, alloc, links.as_slice(), &labels)
+}
+
+fn blocks_of_scans(
+    rt: &(impl Abort + Threads + Sync),
+    alloc: Global,
+    links: &[Link],
+    labels: &Labels,
+) -> Result<(u64, u64, u64), Fail> {
+    assert!(rt; links.len() <= 1 << 24 && have_labels(links, labels.n()));
+    let memory = Refusing::new(alloc, Refusals::none());
+    drop(scan(&memory, links, labels)?);
+    let by_one = memory.given();
+    drop(scan_par(rt, &memory, links, labels)?);
+    let by_threads = memory.given().wrapping_sub(by_one);
+    Ok((by_one, by_threads, memory.live()))
+}
+
+// A table is three blocks. Links are scanned by threads wherever there are processors for it, and a part has at least as
+// many links as there are vertices, so that its table costs no more than its links.
+#[test]
+fn a_table_for_each_part(rt: HostRuntime) -> Result<(), Fail> {
+    let alloc = rt.alloc();
+    for (n, count, most) in PARTS {
+        let (by_one, by_threads, live) = blocks(&rt, alloc, n, count)?;
+        let more = parts(&rt, most).wrapping_sub(1).wrapping_mul(3);
+        let blocks = by_one.wrapping_add(more);
+        expect_same(&rt, (n, count, by_threads, live), (n, count, blocks, 0));
+    }
+    Ok(())
+}
+
+/// Memory that counts its blocks, of which some may be refused.
+type Memory = Refusing<Global>;
+
+// The scan of no links under the labels of n vertices gives no offers.
+fn scan_none<A: Allocator + Copy>(
+    rt: &impl Abort,
+    alloc: Global,
+    scanner: &mut Scanner<A>,
+    n: u32,
+) -> Result<(), Fail> {
+    let labels = apart(alloc, n)?;
+    expect_offers(rt, &scanner.scan(&[], &labels)?, &[]);
+    Ok(())
+}
+
+// A scanner asks for its table once, and again only where there are more labels. The block of notes of the parts that
+// 7 labels take has room for those of 100.
+#[test]
+fn the_table_of_a_scan_is_used_again(rt: HostRuntime) -> Result<(), Fail> {
+    let memory = Refusing::new(rt.alloc(), Refusals::none());
+    let mut scanner = Scanner::new(&memory);
+    expect_tables(&rt, rt.alloc(), &memory, &mut scanner)
+}
+
+fn expect_tables<'a>(
+    rt: &impl Abort,
+    alloc: Global,
+    memory: &'a Memory,
+    scanner: &mut Scanner<&'a Memory>,
+) -> Result<(), Fail> {
+    for (n, given) in [
+        (7, 3),
+        (7, 3),
+        (3, 3),
+        (0, 3),
+        (7, 3),
+        (100, 5),
+        (50, 5),
+        (1000, 8),
+    ] {
+        scan_none(rt, alloc, scanner, n)?;
+        expect_same(rt, (n, memory.given()), (n, given));
+    }
+    Ok(())
+}
+
+// How many blocks a worker takes to keep so many links.
+fn blocks_to_keep<'a>(
+    rt: &(impl Abort + Threads + Sync),
+    memory: &'a Memory,
+    worker: &mut Worker<&'a Memory>,
+    number: u32,
+) -> Result<u64, Fail> {
+    let links = falling(memory, 3, 0, 2000)?;
+    let before = memory.given();
+    worker.keep(rt, number, links)?;
+    Ok(memory.given().wrapping_sub(before))
+}
+
+// A shard's list is kept without a copy: it takes no memory, but for a part of a map for the first one.
+#[test]
+fn a_shard_is_kept_without_a_copy(rt: HostRuntime) -> Result<(), Fail> {
+    let memory = Refusing::new(rt.alloc(), Refusals::none());
+    let mut worker = Worker::new(&memory, By::OneThread);
+    expect_blocks_to_keep(&rt, &memory, &mut worker)
+}
+
+fn expect_blocks_to_keep<'a>(
+    rt: &(impl Abort + Threads + Sync),
+    memory: &'a Memory,
+    worker: &mut Worker<&'a Memory>,
+) -> Result<(), Fail> {
+    for (number, blocks) in [(0, 1), (1, 0), (2, 0)] {
+        let taken = blocks_to_keep(rt, memory, worker, number)?;
+        expect_same(rt, (number, taken), (number, blocks));
+    }
+    Ok(())
+}
+
+// The offers of a worker's answer under these labels, and how many blocks it asks for meanwhile.
+fn answered<'a>(
+    rt: &(impl Abort + Threads + Sync),
+    memory: &'a Memory,
+    worker: &mut Worker<&'a Memory>,
+    list: &[u32],
+) -> Result<(Offers<&'a Memory>, u64), Fail> {
+    let labels = Labels::of_list(list.to_vec(memory)?).expect(rt, "labels");
+    let before = memory.asked();
+    let offers = worker.answered(rt, 0, labels)?;
+    Ok((offers, memory.asked().wrapping_sub(before)))
+}
+
+/// The label of the second of two vertices at an ask, and how many blocks the ask takes.
+type Ask = (u32, u64);
+
+// A worker is asked for links between two vertices, under the labels of each by itself, twice under those of one
+// component, and under the first again.
+fn expect_asks(
+    rt: &(impl Abort + Threads + Sync),
+    memory: &Memory,
+    by: By,
+    asks: &[Ask],
+) -> Result<(), Fail> {
+    let mut worker = Worker::new(memory, by);
+    expect_asks_of(rt, memory, &mut worker, asks)
+}
+
+fn expect_asks_of<'a>(
+    rt: &(impl Abort + Threads + Sync),
+    memory: &'a Memory,
+    worker: &mut Worker<&'a Memory>,
+    asks: &[Ask],
+) -> Result<(), Fail> {
+    worker.keep(rt, 0, falling(memory, 2, 0, 131_072)?)?;
+    for (second, blocks) in asks {
+        let taken = blocks_of_ask(rt, memory, worker, *second)?;
+        expect_same(rt, taken, *blocks);
+    }
+    Ok(())
+}
+
+// How many blocks a worker asks for to answer, where the second of two vertices has this label.
+fn blocks_of_ask<'a>(
+    rt: &(impl Abort + Threads + Sync),
+    memory: &'a Memory,
+    worker: &mut Worker<&'a Memory>,
+    second: u32,
+) -> Result<u64, Fail> {
+    let (_offers, taken) = answered(rt, memory, worker, &[1, second])?;
+    Ok(taken)
+}
+
+const BY_ONE: [Ask; 4] = [(2, 4), (1, 0), (1, 0), (2, 1)];
+
+const BY_HALVES: [Ask; 4] = [(2, 7), (1, 6), (1, 0), (2, 7)];
+
+// An answer that offers something takes one block. By one thread the table of the first ask is used again; by threads
+// each part makes one. Under the labels of one component all links are laid aside at the first ask, so that nothing is
+// left to be scanned at the second.
+#[test]
+fn links_laid_aside_are_scanned_no_more(rt: HostRuntime) -> Result<(), Fail> {
+    let memory = Refusing::new(rt.alloc(), Refusals::none());
+    expect_asks(&rt, &memory, By::OneThread, &BY_ONE)?;
+    let by_threads = if parts(&rt, 2) == 2 {
+        BY_HALVES
+    } else {
+        BY_ONE
+    };
+    expect_asks(&rt, &memory, By::Threads, &by_threads)
+}
+
+/// The labels of three vertices at an ask, and how many blocks the ask asks for.
+type CoarserAsk = ([u32; 3], u64);
+
+// A worker is asked for links between three vertices, under the labels of each by itself, twice under those of two
+// components, and under those of one. It answers as a scan does each time. How many blocks were asked for before.
+fn expect_coarser_asks(
+    rt: &(impl Abort + Threads + Sync),
+    alloc: Global,
+    memory: &Memory,
+    by: By,
+    asks: &[CoarserAsk],
+) -> Result<u64, Fail> {
+    let mut worker = Worker::new(memory, by);
+    expect_coarser_asks_of(rt, alloc, memory, &mut worker, asks)
+}
+
+fn expect_coarser_asks_of<'a>(
+    rt: &(impl Abort + Threads + Sync),
+    alloc: Global,
+    memory: &'a Memory,
+    worker: &mut Worker<&'a Memory>,
+    asks: &[CoarserAsk],
+) -> Result<u64, Fail> {
+    worker.keep(rt, 0, falling(memory, 3, 0, 2000)?)?;
+    let before = memory.asked();
+    for (list, blocks) in asks {
+        let (offers, taken) = answered(rt, memory, worker, list)?;
+        expect_same(rt, taken, *blocks);
+        expect_scanned(rt, alloc, &offers, list)?;
+    }
+    Ok(before)
+}
+
+// The offers are those of a scan of the worker's links under these labels.
+fn expect_scanned<A: Allocator>(
+    rt: &impl Abort,
+    alloc: Global,
+    offers: &Offers<A>,
+    list: &[u32],
+) -> Result<(), Fail> {
+    let links = falling(alloc, 3, 0, 2000)?;
+    let links = links.as_slice();
+    let labels = Labels::of_list(list.to_vec(alloc)?).expect(rt, "labels");
+    assert!(rt; links.len() <= 1 << 24 && have_labels(links, labels.n()));
+    let expected = scan(alloc, links, &labels)?;
+    expect_offers(rt, offers, expected.pairs());
+    Ok(())
+}
+
+const LISTED: [CoarserAsk; 4] = [
+    ([1, 2, 3], 4),
+    ([1, 1, 3], 2),
+    ([1, 1, 3], 1),
+    ([1, 1, 1], 0),
+];
+
+const NOT_LISTED_FIRST: [CoarserAsk; 4] = [
+    ([1, 2, 3], 4),
+    ([1, 1, 3], 2),
+    ([1, 1, 3], 2),
+    ([1, 1, 1], 0),
+];
+
+// The live links are listed, in one block, once some are laid aside: the second ask's second block, behind four of the
+// first ask and one for the labels of each. Where that one is refused, all stay live, and the next ask asks for it again.
+#[test]
+fn live_links_are_listed_once(rt: HostRuntime) -> Result<(), Fail> {
+    for by in [By::OneThread, By::Threads] {
+        let memory = Refusing::new(rt.alloc(), Refusals::none());
+        let before = expect_coarser_asks(&rt, rt.alloc(), &memory, by, &LISTED)?;
+        let memory = Refusing::new(rt.alloc(), Refusals::only(before.wrapping_add(8)));
+        expect_coarser_asks(&rt, rt.alloc(), &memory, by, &NOT_LISTED_FIRST)?;
+    }
+    Ok(())
+}

@@ -1,0 +1,520 @@
+// A worker's scan, by one thread and by threads, beside a plain program: lists with repeats and with weights that many
+// links share, and links that an engine lays aside as components grow.
+ghost use Rattle.std.specs.Prelude.{◌<◌, IfOk};
+ghost use Rattle.frames.specs.FrameValue.{value_of};
+ghost use Rattle.frames.specs.Lawful.{IsLawful};
+ghost use Rattle.frames.specs.FrameStream.{AreLawful};
+ghost use Rattle.worker_engine.specs.Serving.{replies_in};
+
+use super::same::expect_same;
+use frames::{Frame, Links};
+use link_key::{Labels, Link, Offers};
+use std::alloc::{AllocError, Allocator, Global};
+use std::process::Abort;
+use std::test::Fail;
+use std::thread::Threads;
+use worked_graphs::{Row, have_labels, links_of};
+use worker_engine::{Engine, Scanner, scan, scan_par};
+
+// The offers of links that are few enough and whose ends all have labels. Each way to scan gives the same ones; the
+// scanner may have scanned before.
+pub(crate) fn scanned(
+    rt: &(impl Abort + Threads + Sync),
+    alloc: Global,
+    scanner: &mut Scanner,
+    links: &[Link],
+    labels: &Labels,
+) -> Result<Offers, Fail> {
+    assert!(rt; links.len() <= 1 << 24 && have_labels(links, labels.n()));
+    let offers = scan(alloc, links, labels)?;
+    expect_offers(rt, &scan_par(rt, alloc, links, labels)?, offers.pairs());
+    expect_offers(rt, &scanner.scan(links, labels)?, offers.pairs());
+    expect_offers(rt, &scanner.scan_par(rt, links, labels)?, offers.pairs());
+    Ok(offers)
+}
+
+/// How an engine scans.
+#[derive(Clone, Copy)]
+pub(crate) enum By {
+    OneThread,
+    Threads,
+}
+
+/// A worker's engine, and how it scans.
+#[derive(Drop)]
+pub(crate) struct Worker<A: Allocator = Global> {
+    engine: Engine<A>,
+    by: By,
+}
+
+impl<A: Allocator + Copy + Send + Sync> Worker<A> {
+    pub(crate) fn new(alloc: A, by: By) -> Self {
+        Worker {
+            engine: Engine::new(alloc),
+            by,
+        }
+    }
+
+    // Its reply to a frame, which is lawful.
+    pub(crate) fn reply(
+        &mut self,
+        rt: &(impl Abort + Threads + Sync),
+        frame: Frame<A>,
+    ) -> Result<Option<Frame<A>>, AllocError>
+        ensures { IfOk result (λ reply. AreLawful (replies_in reply)) }
+    {
+        assert!(rt; frame.is_lawful());
+        match self.by {
+            By::OneThread => self.engine.hear(frame),
+            By::Threads => self.engine.hear_par(rt, frame),
+        }
+    }
+
+    // It hears a shard with these links, and replies nothing.
+    pub(crate) fn keep(
+        &mut self,
+        rt: &(impl Abort + Threads + Sync),
+        number: u32,
+        links: Vec<Link, A>,
+    ) -> Result<(), Fail> {
+        let shard = Frame::Shard {
+            number,
+            links: Links::of_list(links),
+        };
+        let reply = self.reply(rt, shard)?;
+        expect_same(rt, reply.is_none(), true);
+        Ok(())
+    }
+
+    // The offers that it answers to an ask of this shard under these labels.
+    pub(crate) fn answered(
+        &mut self,
+        rt: &(impl Abort + Threads + Sync),
+        shard: u32,
+        labels: Labels<A>,
+    ) -> Result<Offers<A>, Fail> {
+        let ask = Frame::Ask {
+            round: 1,
+            shard,
+            labels,
+        };
+        match self.reply(rt, ask)?.expect(rt, "a reply") {
+            Frame::Answer(answer) => Ok(answer.offers),
+            _ => panic!(rt; "no answer"),
+        }
+    }
+
+    // It answers such an ask with these offers.
+    pub(crate) fn expect_answer(
+        &mut self,
+        rt: &(impl Abort + Threads + Sync),
+        shard: u32,
+        labels: Labels<A>,
+        expected: &[(u32, u32)],
+    ) -> Result<(), Fail> {
+        let offers = self.answered(rt, shard, labels)?;
+        expect_offers(rt, &offers, expected);
+        Ok(())
+    }
+}
+
+// The offers are these.
+pub(crate) fn expect_offers<A: Allocator>(
+    rt: &impl Abort,
+    offers: &Offers<A>,
+    expected: &[(u32, u32)],
+) {
+    expect_same(rt, offers.pairs(), expected);
+}
+
+// The offers by a plain program: the links in ascending order, those that are equal by their places, of which the
+// first that leaves a component is offered for it. So many links stand before them.
+pub(crate) fn plain_offers(
+    alloc: Global,
+    from: u32,
+    links: &[Link],
+    labels: &Labels,
+) -> Result<Vec<(u32, u32)>, Fail> {
+    let sorted = ascending(alloc, from, links)?;
+    let labels = labels.as_slice();
+    let mut firsts = Vec::from_elem(alloc, None, labels.len())?;
+    for (link, place) in &sorted {
+        let low = label_of(labels, link.low).ok_or("a label")?;
+        let high = label_of(labels, link.high).ok_or("a label")?;
+        if low != high {
+            offer(firsts.as_mut_slice(), low, *place).ok_or("a component")?;
+            offer(firsts.as_mut_slice(), high, *place).ok_or("a component")?;
+        }
+    }
+    Ok(numbered(alloc, firsts.as_slice())?)
+}
+
+// Links with their places, of which so many stand before them, in ascending order.
+fn ascending(alloc: Global, from: u32, links: &[Link]) -> Result<Vec<(Link, u32)>, AllocError> {
+    let mut sorted = Vec::new(alloc);
+    let mut place = from;
+    for link in links {
+        sorted.push((*link, place))?;
+        place = place.wrapping_add(1);
+    }
+    sorted.as_mut_slice().sort_unstable();
+    Ok(sorted)
+}
+
+// The label of a vertex, if it has one.
+fn label_of(labels: &[u32], vertex: u32) -> Option<u32> {
+    labels.get((vertex as usize).checked_sub(1)?).copied()
+}
+
+// The place is offered for the component of this label, if there is one, unless another was before.
+fn offer(firsts: &mut [Option<u32>], label: u32, place: u32) -> Option<()> {
+    let first = firsts.get_mut((label as usize).checked_sub(1)?)?;
+    *first = first.or(Some(place));
+    Some(())
+}
+
+// The places that there are, each behind the number of its component, from 1 on.
+fn numbered(alloc: Global, firsts: &[Option<u32>]) -> Result<Vec<(u32, u32)>, AllocError> {
+    let mut pairs = Vec::new(alloc);
+    let mut component: u32 = 0;
+    for first in firsts {
+        component = component.wrapping_add(1);
+        if let Some(place) = *first {
+            pairs.push((component, place))?;
+        }
+    }
+    Ok(pairs)
+}
+
+// Components of so many of n neighbours each, named by the first.
+pub(crate) fn neighbours(alloc: Global, n: u32, size: u32) -> Result<Labels, Fail>
+    requires { 0 < size }
+{
+    let mut list = Vec::new(alloc);
+    for i in 0..n {
+        list.push(i.wrapping_sub(i % size).wrapping_add(1))?;
+    }
+    Ok(Labels::of_list(list).ok_or("labels")?)
+}
+
+const MANY: u32 = 10_000;
+
+// Links between 10,000 vertices. The last 3,000 are repeats of the first, and each weight is that of hundreds.
+pub(crate) fn many_links(alloc: Global) -> Result<Vec<Link>, Fail> {
+    let mut arcs = Vec::new(alloc);
+    for i in 0..MANY {
+        let j = i % 7000;
+        let tail = j.wrapping_mul(7919) % MANY + 1;
+        let head = j.wrapping_mul(j) % 9973 + 1;
+        let weight = j.wrapping_mul(31) % 17;
+        arcs.push((tail, head, i64::from(weight) - 8))?;
+    }
+    Ok(links_of(alloc, MANY, arcs.as_slice())?.ok_or("arcs")?)
+}
+
+// The vertices up to 5,000 make components of fifty, and each greater one is a component by itself.
+pub(crate) fn many_labels(alloc: Global) -> Result<Labels, Fail> {
+    let mut list = Vec::new(alloc);
+    for i in 0..MANY {
+        let first = if i < 5000 { i.wrapping_sub(i % 50) } else { i };
+        list.push(first.wrapping_add(1))?;
+    }
+    Ok(Labels::of_list(list).ok_or("labels")?)
+}
+
+// So many that they are scanned by threads, between 1,007 vertices, each near the next. Each link is repeated some forty
+// times. The lower 32 bits of each weight are nothing.
+const NEAR_LINKS: u32 = 300_000;
+
+const PAST_32_BITS: i64 = 1 << 32;
+
+const NEAR: u32 = 1010;
+
+fn near_links(alloc: Global) -> Result<Vec<Link>, Fail> {
+    let mut arcs = Vec::new(alloc);
+    for i in 0..NEAR_LINKS {
+        let low = i % 1000 + 1;
+        let weight = i64::from(i.wrapping_mul(7919) % 101);
+        arcs.push((low, low + i % 7 + 1, weight.wrapping_mul(PAST_32_BITS)))?;
+    }
+    Ok(links_of(alloc, NEAR, arcs.as_slice())?.ok_or("arcs")?)
+}
+
+// What another program told of the offers: how many there are, the first three, the one at a place, and the last three.
+#[derive(Clone, Copy)]
+struct Known {
+    count: usize,
+    first: [(u32, u32); 3],
+    place: usize,
+    at_place: (u32, u32),
+    last: [(u32, u32); 3],
+}
+
+const OF_MANY: Known = Known {
+    count: 4358,
+    first: [(1, 5184), (51, 6986), (101, 2549)],
+    place: 2179,
+    at_place: (7418, 5142),
+    last: [(9998, 6962), (9999, 4641), (10_000, 2320)],
+};
+
+const OF_NEAR: Known = Known {
+    count: 1007,
+    first: [(1, 0), (2, 0), (3, 202_000)],
+    place: 503,
+    at_place: (504, 282_497),
+    last: [(1005, 130_997), (1006, 19_998), (1007, 76_999)],
+};
+
+fn expect_known(rt: &impl Abort, pairs: &[(u32, u32)], known: &Known) {
+    let found = (pairs.len(), pairs.get(known.place));
+    expect_same(rt, found, (known.count, Some(&known.at_place)));
+    let ends = (
+        pairs.starts_with(&known.first),
+        pairs.ends_with(&known.last),
+    );
+    expect_same(rt, ends, (true, true));
+}
+
+// The offers of a graph of three vertices, each a component by itself, are these.
+fn expect_offers_of_three(
+    rt: &(impl Abort + Threads + Sync),
+    alloc: Global,
+    scanner: &mut Scanner,
+    arcs: &[Row],
+    expected: &[(u32, u32)],
+) -> Result<(), Fail> {
+    let labels = Labels::apart(alloc, 3)?;
+    let links = links_of(alloc, 3, arcs)?.ok_or("arcs")?;
+    let offers = scanned(rt, alloc, scanner, links.as_slice(), &labels)?;
+    expect_offers(rt, &offers, expected);
+    Ok(())
+}
+
+const TRIANGLE: [Row; 3] = [(1, 2, 5), (2, 3, 5), (1, 3, 5)];
+
+// The offers of these links, behind those of a triangle, are as they are known, and as the plain program finds them.
+fn expect_known_offers(
+    rt: &(impl Abort + Threads + Sync),
+    alloc: Global,
+    scanner: &mut Scanner,
+    list: (&[Link], &Labels),
+    known: &Known,
+) -> Result<(), Fail> {
+    let (links, labels) = list;
+    expect_offers_of_three(rt, alloc, scanner, &TRIANGLE, &[(1, 0), (2, 0), (3, 2)])?;
+    let offers = scanned(rt, alloc, scanner, links, labels)?;
+    expect_known(rt, offers.pairs(), known);
+    let expected = plain_offers(alloc, 0, links, labels)?;
+    expect_offers(rt, &offers, expected.as_slice());
+    Ok(())
+}
+
+fn expect_offers_of_many(
+    rt: &(impl Abort + Threads + Sync),
+    alloc: Global,
+    scanner: &mut Scanner,
+) -> Result<(), Fail> {
+    let links = many_links(alloc)?;
+    let labels = many_labels(alloc)?;
+    expect_known_offers(rt, alloc, scanner, (links.as_slice(), &labels), &OF_MANY)
+}
+
+fn expect_offers_of_near(
+    rt: &(impl Abort + Threads + Sync),
+    alloc: Global,
+    scanner: &mut Scanner,
+) -> Result<(), Fail> {
+    let links = near_links(alloc)?;
+    let labels = Labels::apart(alloc, NEAR)?;
+    expect_known_offers(rt, alloc, scanner, (links.as_slice(), &labels), &OF_NEAR)
+}
+
+// One scanner for lists of any length, some of them scanned by threads.
+#[test]
+fn scans_one_after_the_other(rt: HostRuntime) -> Result<(), Fail> {
+    let mut scanner = Scanner::new(rt.alloc());
+    expect_offers_of_many(&rt, rt.alloc(), &mut scanner)?;
+    expect_offers_of_near(&rt, rt.alloc(), &mut scanner)
+}
+
+// Weights whose lower 32 bits are the same, and weights at both limits of 64 bits and beside them: by keys alone.
+#[test]
+fn weights_past_32_bits(rt: HostRuntime) -> Result<(), Fail> {
+    let alloc = rt.alloc();
+    let graphs: [(&[Row], &[(u32, u32)]); 5] = [
+        (
+            &[(1, 2, 4294967301), (2, 3, 5), (1, 3, -4294967291)],
+            &[(1, 2), (2, 1), (3, 2)],
+        ),
+        (
+            &[(1, 2, 2147483648), (2, 3, -2147483648), (1, 3, 0)],
+            &[(1, 2), (2, 1), (3, 1)],
+        ),
+        (
+            &[(1, 2, i64::MAX), (2, 3, i64::MAX - 1), (1, 3, i64::MIN)],
+            &[(1, 2), (2, 1), (3, 2)],
+        ),
+        (
+            &[(1, 2, i64::MIN + 1), (2, 3, i64::MIN), (1, 3, i64::MIN + 1)],
+            &[(1, 0), (2, 1), (3, 1)],
+        ),
+        (
+            &[(2, 3, i64::MAX), (1, 3, i64::MAX), (1, 3, i64::MAX)],
+            &[(1, 1), (2, 0), (3, 1)],
+        ),
+    ];
+    let mut scanner = Scanner::new(alloc);
+    for (arcs, expected) in graphs {
+        expect_offers_of_three(&rt, alloc, &mut scanner, arcs, expected)?;
+    }
+    Ok(())
+}
+
+// How many neighbours make a component, and how many of two shards are asked for.
+const COMPONENTS: [(u32, u32); 9] = [
+    (1, 2),
+    (2, 2),
+    (10, 1),
+    (50, 2),
+    (50, 2),
+    (1000, 2),
+    (2, 2),
+    (10, 1),
+    (1, 2),
+];
+
+// Two shards of many links, asked in turn as components grow, and then under labels that don't coarsen the last.
+#[test]
+fn many_links_laid_aside(rt: HostRuntime) -> Result<(), Fail> {
+    let alloc = rt.alloc();
+    let links = many_links(alloc)?;
+    let mut worker = Worker::new(alloc, By::OneThread);
+    expect_laid_aside(&rt, alloc, &mut worker, links.as_slice())
+}
+
+fn expect_laid_aside(
+    rt: &(impl Abort + Threads + Sync),
+    alloc: Global,
+    worker: &mut Worker,
+    links: &[Link],
+) -> Result<(), Fail> {
+    for number in 0..2 {
+        worker.keep(rt, number, links.to_vec(alloc)?)?;
+    }
+    for (size, shards) in COMPONENTS {
+        for shard in 0..shards {
+            expect_plain(rt, alloc, worker, (shard, links), size)?;
+        }
+    }
+    Ok(())
+}
+
+// The worker answers an ask of a shard of many vertices with the offers of its links by the plain program, where
+// components have so many neighbours each.
+fn expect_plain(
+    rt: &(impl Abort + Threads + Sync),
+    alloc: Global,
+    worker: &mut Worker,
+    shard: (u32, &[Link]),
+    size: u32,
+) -> Result<(), Fail>
+    requires { 0 < size }
+{
+    let labels = neighbours(alloc, MANY, size)?;
+    let expected = plain_offers(alloc, 0, shard.1, &labels)?;
+    worker.expect_answer(rt, shard.0, labels, expected.as_slice())
+}
+
+// As components grow, fewer and fewer of the links are live: first so many that they are scanned by threads, then few.
+#[test]
+fn many_live_links_by_threads(rt: HostRuntime) -> Result<(), Fail> {
+    let alloc = rt.alloc();
+    let links = near_links(alloc)?;
+    let mut near = Near {
+        worker: Worker::new(alloc, By::Threads),
+        scanner: Scanner::new(alloc),
+    };
+    near.expect_fewer_and_fewer(&rt, alloc, links.as_slice())
+}
+
+/// A worker that keeps links of near vertices as its only shard, and a scanner beside it.
+#[derive(Drop)]
+struct Near {
+    worker: Worker,
+    scanner: Scanner,
+}
+
+impl Near {
+    // The worker is sent the links, and answers so as components grow, and then under labels that don't coarsen the last.
+    fn expect_fewer_and_fewer(
+        &mut self,
+        rt: &(impl Abort + Threads + Sync),
+        alloc: Global,
+        links: &[Link],
+    ) -> Result<(), Fail> {
+        self.worker.keep(rt, 0, links.to_vec(alloc)?)?;
+        for size in [1, 2, 4, 8, 8, 16, 1010, 4] {
+            self.expect_scanned(rt, alloc, links, size)?;
+        }
+        Ok(())
+    }
+
+    // The worker answers as the scanner scans the links, where components have so many neighbours each.
+    fn expect_scanned(
+        &mut self,
+        rt: &(impl Abort + Threads + Sync),
+        alloc: Global,
+        links: &[Link],
+        size: u32,
+    ) -> Result<(), Fail>
+        requires { 0 < size }
+    {
+        let labels = neighbours(alloc, NEAR, size)?;
+        let expected = scanned(rt, alloc, &mut self.scanner, links, &labels)?;
+        self.worker.expect_answer(rt, 0, labels, expected.pairs())
+    }
+}
+
+// The worker answers an ask of its only shard under these labels with these offers.
+fn expect_under(
+    rt: &(impl Abort + Threads + Sync),
+    alloc: Global,
+    worker: &mut Worker,
+    list: &[u32],
+    expected: &[(u32, u32)],
+) -> Result<(), Fail> {
+    let labels = Labels::of_list(Vec::from_slice(alloc, list)?).ok_or("labels")?;
+    worker.expect_answer(rt, 0, labels, expected)
+}
+
+#[test]
+fn links_laid_aside_are_live_again(rt: HostRuntime) -> Result<(), Fail> {
+    for by in [By::OneThread, By::Threads] {
+        let mut worker = Worker::new(rt.alloc(), by);
+        expect_live_again(&rt, rt.alloc(), &mut worker)?;
+    }
+    Ok(())
+}
+
+// The worker is sent a triangle, and asked for it as components grow, and then under labels that don't coarsen the last.
+fn expect_live_again(
+    rt: &(impl Abort + Threads + Sync),
+    alloc: Global,
+    worker: &mut Worker,
+) -> Result<(), Fail> {
+    let all: &[(u32, u32)] = &[(1, 0), (2, 0), (3, 2)];
+    let asked: [(&[u32], &[(u32, u32)]); 5] = [
+        (&[1, 2, 3], all),
+        (&[1, 1, 3], &[(1, 2), (3, 2)]),
+        (&[1, 1, 1], &[]),
+        (&[1, 2, 3], all),
+        (&[1, 2, 3, 4], all),
+    ];
+    let triangle = links_of(alloc, 3, &TRIANGLE)?.ok_or("arcs")?;
+    worker.keep(rt, 0, triangle)?;
+    for (list, expected) in asked {
+        expect_under(rt, alloc, worker, list, expected)?;
+    }
+    Ok(())
+}

@@ -1,0 +1,195 @@
+// Calls that may answer want of memory, each with ample memory at the sizes at which something in them changes: no link
+// and no label, one, those from which on links are scanned by threads or halved again, with one less and one more, and
+// the most that there may be. A body that gives up at one of these is proved as well as one that doesn't. What is
+// expected is written by a formula, here.
+ghost use Rattle.std.specs.Prelude.{◌<◌, ◌^◌};
+
+use super::same::expect_same;
+use super::scans::{By, Worker, neighbours, plain_offers, scanned};
+use link_key::{Labels, Link};
+use std::alloc::{AllocError, Allocator, Global};
+use std::process::Abort;
+use std::test::Fail;
+use std::thread::Threads;
+use worker_engine::Scanner;
+
+/// How many vertices and links there are.
+type Size = (u32, u32);
+
+// The labels of 64 links are looked up before they are kept. 131,072 links are scanned in two halves, 262,144 in four
+// parts on four processors, 524,288 in eight on eight, where a part has as many links as there are vertices.
+const SIZES: [Size; 20] = [
+    (0, 0),
+    (1, 0),
+    (2, 0),
+    (2, 1),
+    (100, 63),
+    (100, 64),
+    (100, 65),
+    (100, 128),
+    (100, 129),
+    (3, 65_535),
+    (3, 65_536),
+    (3, 65_537),
+    (3, 131_071),
+    (3, 131_072),
+    (3, 131_073),
+    (65_536, 131_072),
+    (65_537, 131_072),
+    (3, 262_142),
+    (3, 262_144),
+    (3, 524_288),
+];
+
+// How many links the path of n vertices has; one at the least.
+fn steps(n: u32) -> u32
+    ensures some { 0 < result }
+    ensures few { result < 2 ^ 20 }
+{
+    if 1 < n && n < 1 << 20 { n - 1 } else { 1 }
+}
+
+// Links that go round the path of n vertices again and again, each lighter than the one before: those from one place on
+// before another.
+pub(crate) fn falling<A: Allocator>(
+    alloc: A,
+    n: u32,
+    from: u32,
+    to: u32,
+) -> Result<Vec<Link, A>, AllocError> {
+    let path = steps(n);
+    let mut links = Vec::with_capacity(alloc, to.saturating_sub(from) as usize)?;
+    for i in from..to {
+        let low = i % path + 1;
+        let weight = -i64::from(i);
+        if let Some(link) = Link::of_arc(low, low + 1, weight) {
+            links.push(link)?;
+        }
+    }
+    Ok(links)
+}
+
+// The offers of so many such links: the last ones, once round the path, are the least.
+pub(crate) fn falling_offers(
+    alloc: Global,
+    n: u32,
+    count: u32,
+    labels: &Labels,
+) -> Result<Vec<(u32, u32)>, Fail> {
+    let from = count.saturating_sub(n);
+    let last = falling(alloc, n, from, count)?;
+    plain_offers(alloc, from, last.as_slice(), labels)
+}
+
+// The labels of n vertices, each by itself.
+pub(crate) fn apart(alloc: Global, n: u32) -> Result<Labels, Fail> {
+    neighbours(alloc, n, 1)
+}
+
+#[test]
+fn scans_of_each_size(rt: HostRuntime) -> Result<(), Fail> {
+    let alloc = rt.alloc();
+    let mut scanner = Scanner::new(alloc);
+    for size in SIZES {
+        expect_scan(&rt, alloc, &mut scanner, size)?;
+    }
+    Ok(())
+}
+
+// Such links are scanned so, each vertex a component by itself.
+fn expect_scan(
+    rt: &(impl Abort + Threads + Sync),
+    alloc: Global,
+    scanner: &mut Scanner,
+    size: Size,
+) -> Result<(), Fail> {
+    let (n, count) = size;
+    let links = falling(alloc, n, 0, count)?;
+    let labels = apart(alloc, n)?;
+    let expected = falling_offers(alloc, n, count, &labels)?;
+    let offers = scanned(rt, alloc, scanner, links.as_slice(), &labels)?;
+    expect_same(rt, (size, offers.pairs()), (size, expected.as_slice()));
+    Ok(())
+}
+
+// A worker that keeps such links answers with their offers, where components have so many neighbours each.
+fn expect_answer(
+    rt: &(impl Abort + Threads + Sync),
+    alloc: Global,
+    worker: &mut Worker,
+    size: Size,
+    component: u32,
+) -> Result<(), Fail>
+    requires { 0 < component }
+{
+    let (n, count) = size;
+    let labels = neighbours(alloc, n, component)?;
+    let expected = falling_offers(alloc, n, count, &labels)?;
+    let offers = worker.answered(rt, 0, labels)?;
+    expect_same(rt, (size, offers.pairs()), (size, expected.as_slice()));
+    Ok(())
+}
+
+// It does so by all links under the labels of each vertex, and twice under those of pairs, the second time by the places
+// of half of them.
+fn expect_answers(
+    rt: &(impl Abort + Threads + Sync),
+    alloc: Global,
+    by: By,
+    size: Size,
+) -> Result<(), Fail> {
+    let mut worker = Worker::new(alloc, by);
+    expect_answers_of(rt, alloc, &mut worker, size)
+}
+
+fn expect_answers_of(
+    rt: &(impl Abort + Threads + Sync),
+    alloc: Global,
+    worker: &mut Worker,
+    size: Size,
+) -> Result<(), Fail> {
+    worker.keep(rt, 0, falling(alloc, size.0, 0, size.1)?)?;
+    for component in [1, 2, 2] {
+        expect_answer(rt, alloc, worker, size, component)?;
+    }
+    Ok(())
+}
+
+#[test]
+fn engines_of_each_size(rt: HostRuntime) -> Result<(), Fail> {
+    for size in SIZES {
+        for by in [By::OneThread, By::Threads] {
+            expect_answers(&rt, rt.alloc(), by, size)?;
+        }
+    }
+    Ok(())
+}
+
+// As many links as a shard may have.
+#[test]
+fn an_engine_keeps_the_longest_shard(rt: HostRuntime) -> Result<(), Fail> {
+    expect_answers(&rt, rt.alloc(), By::Threads, (3, 1 << 24))
+}
+
+// A worker keeps a shard of one link, and is asked for it.
+fn expect_shard(
+    rt: &(impl Abort + Threads + Sync),
+    alloc: Global,
+    worker: &mut Worker,
+    number: u32,
+) -> Result<(), Fail> {
+    worker.keep(rt, number, falling(alloc, 2, 0, 1)?)?;
+    worker.expect_answer(rt, number, apart(alloc, 2)?, &[(1, 0), (2, 0)])
+}
+
+// An engine keeps as many shards as there may be, each sent twice and asked for behind each time.
+#[test]
+fn as_many_shards_as_there_may_be(rt: HostRuntime) -> Result<(), Fail> {
+    for by in [By::OneThread, By::Threads] {
+        let mut worker = Worker::new(rt.alloc(), by);
+        for turn in 0..8192 {
+            expect_shard(&rt, rt.alloc(), &mut worker, turn % 4096)?;
+        }
+    }
+    Ok(())
+}

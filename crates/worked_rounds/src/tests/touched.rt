@@ -1,0 +1,79 @@
+// Scans of a few links under many labels, each over the table of the scan before. A link touches labels at the front of
+// the table, in its middle or at its end, and all other labels stay as they were.
+use super::scans::{expect_offers, neighbours, plain_offers, scanned};
+use super::sizes::apart;
+use link_key::Labels;
+use std::alloc::Global;
+use std::process::Abort;
+use std::test::Fail;
+use std::thread::Threads;
+use worked_graphs::{Row, links_of};
+use worker_engine::Scanner;
+
+// How many vertices there are, and three arcs. A table notes what is touched by 8 and by 64 labels: of
+// 1,025 the last one is alone in both, and of 70,000 the last 48 are fewer than 64.
+const TOUCHED: [(u32, [Row; 3]); 2] = [
+    (1025, [(1, 2, 5), (512, 514, 5), (1024, 1025, 5)]),
+    (
+        70_000,
+        [(1, 2, 5), (34_999, 35_001, 5), (69_999, 70_000, 5)],
+    ),
+];
+
+// No links behind others offer nothing.
+fn expect_none_behind(
+    rt: &(impl Abort + Threads + Sync),
+    alloc: Global,
+    scanner: &mut Scanner,
+    labels: &Labels,
+) -> Result<(), Fail> {
+    let none = scanned(rt, alloc, scanner, &[], labels)?;
+    expect_offers(rt, &none, &[]);
+    Ok(())
+}
+
+// The offers of the link of this arc alone.
+fn expect_alone(
+    rt: &(impl Abort + Threads + Sync),
+    alloc: Global,
+    scanner: &mut Scanner,
+    labels: &Labels,
+    arc: Row,
+) -> Result<(), Fail> {
+    let link = links_of(alloc, labels.n(), &[arc])?.ok_or("an arc")?;
+    let offers = scanned(rt, alloc, scanner, link.as_slice(), labels)?;
+    expect_offers(rt, &offers, &[(arc.0, 0), (arc.1, 0)]);
+    expect_none_behind(rt, alloc, scanner, labels)
+}
+
+// The offers of the link of each of these arcs alone, and then of all together, under the labels of pairs.
+fn expect_each_and_all(
+    rt: &(impl Abort + Threads + Sync),
+    alloc: Global,
+    scanner: &mut Scanner,
+    n: u32,
+    arcs: &[Row],
+) -> Result<(), Fail> {
+    let labels = apart(alloc, n)?;
+    for arc in arcs {
+        expect_alone(rt, alloc, scanner, &labels, *arc)?;
+    }
+    let pairs = neighbours(alloc, n, 2)?;
+    let all = links_of(alloc, n, arcs)?.ok_or("arcs")?;
+    let expected = plain_offers(alloc, 0, all.as_slice(), &pairs)?;
+    let offers = scanned(rt, alloc, scanner, all.as_slice(), &pairs)?;
+    expect_offers(rt, &offers, expected.as_slice());
+    expect_none_behind(rt, alloc, scanner, &pairs)
+}
+
+// Each link alone, twice, and between them all three under the labels of pairs.
+#[test]
+fn few_of_many_labels_are_touched(rt: HostRuntime) -> Result<(), Fail> {
+    let mut scanner = Scanner::new(rt.alloc());
+    for (n, arcs) in TOUCHED {
+        for _ in 0..2 {
+            expect_each_and_all(&rt, rt.alloc(), &mut scanner, n, &arcs)?;
+        }
+    }
+    Ok(())
+}

@@ -1,0 +1,6 @@
+mod closing;
+mod passes;
+mod relabelling;
+mod rounds;
+mod solving;
+mod wires;

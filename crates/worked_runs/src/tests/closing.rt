@@ -1,0 +1,209 @@
+// Books closed in threads: the picks are those of closing in one, and the least of what was offered, whether the offers
+// are worth threads or too few, of equal links and of links of equal weight, and whoever answers first.
+ghost use Rattle.std.specs.Prelude.{◌≡◌, ◌<◌, ◌≤◌, ◌^◌, length, IfOk};
+ghost use Rattle.round_core.specs.BookValue.{missing};
+
+use super::rounds::opened;
+use frames::Answer;
+use link_key::{Cut, Labels, Link, Offers};
+use round_core::{Picks, RoundBook};
+use std::alloc::Global;
+use std::process::Abort;
+use std::test::Fail;
+use std::thread::Threads;
+use worked_graphs::all_have_labels;
+
+// The link of a shard from a vertex to the next. Five weights make many shards' links equal, and others tie.
+fn step(rt: &impl Abort, shard: u32, vertex: u32) -> Link {
+    assert!(rt; 0 < vertex && vertex < 1 << 20);
+    let drawn = vertex.wrapping_mul(2_654_435_761) ^ shard.wrapping_mul(40_503);
+    let weight = i64::from((drawn >> 9) % 5);
+    Link::of_arc(vertex, vertex + 1, weight).expect(rt, "a link")
+}
+
+// So many shards that each have a link from each of n vertices to the next.
+fn paths(rt: &impl Abort, alloc: Global, n: u32, shards: u32) -> Result<Vec<Link>, Fail>
+    ensures few { IfOk result (λ links. length links.items ≤ 2 ^ 24) }
+{
+    let mut links = Vec::new(alloc);
+    for shard in 0..shards {
+        for vertex in 1..n {
+            links.push(step(rt, shard, vertex))?;
+        }
+    }
+    assert!(rt; links.len() <= 1 << 24);
+    Ok(links)
+}
+
+// An answer that offers the first so many links of a path, each for the lower of its ends.
+fn first_links(rt: &impl Abort, alloc: Global, shard: u32, count: u32) -> Result<Answer, Fail> {
+    let mut pairs = Vec::new(alloc);
+    for place in 0..count {
+        assert!(rt; place < 1 << 30);
+        pairs.push((place + 1, place))?;
+    }
+    let offers = Offers::of_pairs(pairs).expect(rt, "ascending");
+    Ok(Answer {
+        round: 1,
+        shard,
+        offers,
+    })
+}
+
+// The book once it has heard each shard offer the first so many of its links, in this order of the shards.
+fn heard<'a>(
+    rt: &impl Abort,
+    alloc: Global,
+    mut book: RoundBook<'a>,
+    counts: &[u32],
+    order: &[u32],
+) -> Result<RoundBook<'a>, Fail>
+    ensures labels { IfOk result (λ heard. heard.labels ≡ book.entry.labels) }
+    ensures whole { IfOk result (λ heard. missing heard ≡ 0) }
+{
+    for shard in order {
+        assert!(rt; (*shard as usize) < counts.len() && *shard < book.len());
+        let answer = first_links(rt, alloc, *shard, counts[*shard as usize])?;
+        book.take(*shard, answer)?;
+    }
+    assert!(rt; book.missing() == 0);
+    Ok(book)
+}
+
+// The least of the offered links that leave a vertex, by a look at all of them.
+fn least(
+    rt: &impl Abort,
+    alloc: Global,
+    counts: &[u32],
+    vertex: u32,
+) -> Result<Option<Link>, Fail> {
+    let mut offered = Vec::new(alloc);
+    let mut shard = 0u32;
+    for count in counts {
+        if 1 < vertex && vertex - 1 <= *count {
+            offered.push(step(rt, shard, vertex - 1))?;
+        }
+        if 0 < vertex && vertex <= *count {
+            offered.push(step(rt, shard, vertex))?;
+        }
+        shard = shard.wrapping_add(1);
+    }
+    offered.sort_unstable();
+    Ok(offered.first().copied())
+}
+
+// The picks of a round over paths of n vertices are the least offered, closed in threads and in one.
+fn expect_least<R: Abort + Threads + Sync>(
+    rt: &R,
+    alloc: Global,
+    n: u32,
+    counts: &[u32],
+    order: &[u32],
+) -> Result<(), Fail> {
+    assert!(rt; n < 1 << 20 && order.len() <= 8);
+    let shards = order.len() as u32;
+    let links = paths(rt, alloc, n, shards)?;
+    let cut = Cut::even(alloc, links.as_slice(), shards).expect(rt, "a cut");
+    let labels = Labels::apart(alloc, n)?;
+    let book = opened(rt, alloc, &cut, 1, &labels)?;
+    let alone = heard(rt, alloc, book, counts, order)?.close();
+    expect_picks(rt, alloc, &alone, n, counts)?;
+    let book = opened(rt, alloc, &cut, 1, &labels)?;
+    let beside = heard(rt, alloc, book, counts, order)?.close_par(rt);
+    expect_picks(rt, alloc, &beside, n, counts)
+}
+
+// The picks of n vertices are the least of the links offered.
+fn expect_picks(
+    rt: &impl Abort,
+    alloc: Global,
+    picks: &Picks,
+    n: u32,
+    counts: &[u32],
+) -> Result<(), Fail>
+    requires few { n < 2 ^ 20 }
+    requires each_vertex { length picks.now ≡ n }
+{
+    for vertex in 1..n + 1 {
+        assert_eq!(rt; picks.of(vertex), least(rt, alloc, counts, vertex)?);
+    }
+    Ok(())
+}
+
+// 160,000 offers, 20,000 of each shard: past what one thread counts. The order of answers changes nothing.
+#[test]
+fn many_offers(rt: HostRuntime) -> Result<(), Fail> {
+    let counts = [20_000; 8];
+    expect_least(&rt, rt.alloc(), 20_001, &counts, &[0, 1, 2, 3, 4, 5, 6, 7])?;
+    expect_least(&rt, rt.alloc(), 20_001, &counts, &[7, 6, 5, 4, 3, 2, 1, 0])
+}
+
+// As many, of which two answers have nearly all, and one has none.
+#[test]
+fn answers_of_unequal_length(rt: HostRuntime) -> Result<(), Fail> {
+    let counts = [1, 70_000, 0, 69_999, 5];
+    expect_least(&rt, rt.alloc(), 70_001, &counts, &[0, 1, 2, 3, 4])?;
+    expect_least(&rt, rt.alloc(), 70_001, &counts, &[4, 3, 2, 1, 0])
+}
+
+// One answer has them all.
+#[test]
+fn one_answer(rt: HostRuntime) -> Result<(), Fail> {
+    expect_least(&rt, rt.alloc(), 140_001, &[140_000], &[0])
+}
+
+// The longer of two has nearly all, and its offers alone are halved again.
+#[test]
+fn two_answers_of_unequal_length(rt: HostRuntime) -> Result<(), Fail> {
+    let counts = [140_000, 3_000];
+    expect_least(&rt, rt.alloc(), 140_001, &counts, &[0, 1])?;
+    expect_least(&rt, rt.alloc(), 140_001, &counts, &[1, 0])
+}
+
+#[test]
+fn few_offers(rt: HostRuntime) -> Result<(), Fail> {
+    expect_least(&rt, rt.alloc(), 9, &[8, 3, 8], &[0, 1, 2])?;
+    expect_least(&rt, rt.alloc(), 9, &[8, 3, 8], &[2, 1, 0])
+}
+
+// As many as are looked up at a time, and one fewer or more, and as many as two or three times.
+#[test]
+fn whole_batches_and_odd_ones(rt: HostRuntime) -> Result<(), Fail> {
+    let counts = [63, 64, 65, 127, 128, 129, 192, 193];
+    expect_least(&rt, rt.alloc(), 194, &counts, &[0, 1, 2, 3, 4, 5, 6, 7])?;
+    for count in counts {
+        expect_least(&rt, rt.alloc(), 194, &[count], &[0])?;
+    }
+    Ok(())
+}
+
+#[test]
+fn no_offer(rt: HostRuntime) -> Result<(), Fail> {
+    expect_least(&rt, rt.alloc(), 5, &[0, 0], &[1, 0])
+}
+
+// A book over the picks of one of 50 vertices has the picks of its own answer alone, which offers one link.
+fn expect_least_over(rt: &impl Abort, alloc: Global, n: u32) -> Result<(), Fail> {
+    assert!(rt; 2 <= n && n < 1 << 20);
+    let links = paths(rt, alloc, 50, 1)?;
+    let cut = Cut::even(alloc, links.as_slice(), 1).expect(rt, "a cut");
+    let labels = Labels::apart(alloc, 50)?;
+    let book = opened(rt, alloc, &cut, 1, &labels)?;
+    let picks = heard(rt, alloc, book, &[49], &[0])?.close();
+    let links = paths(rt, alloc, n, 1)?;
+    let cut = Cut::even(alloc, links.as_slice(), 1).expect(rt, "a cut");
+    let labels = Labels::apart(alloc, n)?;
+    assert!(rt; all_have_labels(&cut, labels.n()));
+    let book = RoundBook::open_over(picks, 1, &cut, &labels)?;
+    assert!(rt; book.len() == 1 && book.missing() == 1);
+    let over = heard(rt, alloc, book, &[1], &[0])?.close();
+    expect_picks(rt, alloc, &over, n, &[1])
+}
+
+// With as many labels as the picks have, with fewer, and with more.
+#[test]
+fn a_book_over_the_picks_of_another(rt: HostRuntime) -> Result<(), Fail> {
+    expect_least_over(&rt, rt.alloc(), 50)?;
+    expect_least_over(&rt, rt.alloc(), 30)?;
+    expect_least_over(&rt, rt.alloc(), 80)
+}

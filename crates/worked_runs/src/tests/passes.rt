@@ -1,0 +1,147 @@
+// Whole runs over lanes, each with a worker in memory that is asked in a thread of its own.
+ghost use Rattle.std.specs.Prelude.{◌≡◌, ◌<◌, ◌≤◌, ◌^◌, length, All, IfOk};
+ghost use Rattle.forest_run.specs.Lanes.{IsIdle};
+
+use super::rounds::links_to_cut;
+use super::solving::{LIMITS, LIMITS_FOREST, expect_links, path};
+use forest_run::{Lane, Report, solve};
+use link_key::{Cut, Link};
+use ports::{EngineLine, Port, Wire};
+use std::alloc::{AllocError, Global};
+use std::process::Abort;
+use std::sync::Wait;
+use std::test::Fail;
+use std::thread::Threads;
+use worked_graphs::{Row, SMALL_NET, WIDE_WEIGHTS, all_have_labels};
+
+/// A lane to a worker in memory.
+type Worker<'a> = Lane<Wire<'a, EngineLine<Global>, Global>, Global>;
+
+// A lane to the worker of this number.
+fn lane<'a>(alloc: Global, cut: &'a Cut<'a>, worker: u32) -> Result<Worker<'a>, AllocError>
+    requires { worker < 64 }
+    ensures cut { IfOk result (λ lane. lane.port.client.cut ≡ cut.now) }
+    ensures asks { IfOk result (λ lane. lane.port.asks ≡ 0) }
+    ensures idle { IfOk result IsIdle }
+{
+    let line = EngineLine::new(alloc, worker)?;
+    Ok(Lane::new(alloc, Wire::new(alloc, line, cut, worker)))
+}
+
+// Lanes to so many workers, numbered from 0.
+fn lanes<'a>(alloc: Global, cut: &'a Cut<'a>, count: u32) -> Result<Vec<Worker<'a>>, AllocError>
+    requires { count ≤ 64 }
+    ensures count { IfOk result (λ lanes. length lanes.items ≡ count) }
+    ensures cut { IfOk result (λ lanes. All (λ lane. lane.port.client.cut ≡ cut.now) lanes.items) }
+    ensures asks { IfOk result (λ lanes. All (λ lane. lane.port.asks ≡ 0) lanes.items) }
+    ensures idle { IfOk result (λ lanes. All IsIdle lanes.items) }
+{
+    let mut lanes = Vec::new(alloc);
+    for worker in 0..count {
+        lanes.push(lane(alloc, cut, worker)?)?;
+    }
+    Ok(lanes)
+}
+
+// How often the workers of these lanes were asked, each of which is open.
+fn ask_count(rt: &impl Abort, lanes: Vec<Worker>) -> u64 {
+    let mut asks = 0u64;
+    for lane in lanes {
+        assert!(rt; lane.port().is_open());
+        asks = asks.wrapping_add(lane.into_port().asks());
+    }
+    asks
+}
+
+/// A run of arcs over so many workers: the forest that it finds, and what it reports.
+type Run<'a> = (u32, &'a [Row], &'a [Row], Report);
+
+// The run, whose arcs have these links, goes so.
+fn expect_run_over<R: Abort + Threads + Wait + Sync>(
+    rt: &R,
+    alloc: Global,
+    links: &[Link],
+    run: Run,
+) -> Result<(), Fail>
+    requires few { length links.now ≤ 2 ^ 30 }
+{
+    let (workers, _, forest, expected) = run;
+    let n = expected.vertices;
+    let cut = Cut::even(alloc, links, expected.shards).expect(rt, "a cut");
+    assert!(rt; workers <= 64 && n <= 1 << 26 && all_have_labels(&cut, n));
+    let mut lanes = lanes(alloc, &cut, workers)?;
+    let (found, report) = solve(rt, alloc, n, &cut, lanes.as_mut_slice()).expect(rt, "a forest");
+    assert!(rt; report == expected);
+    assert_eq!(rt; ask_count(rt, lanes), report.asked);
+    expect_links(rt, alloc, &found, n, forest)
+}
+
+// The run goes so.
+fn expect_run(
+    rt: &(impl Abort + Threads + Wait + Sync),
+    alloc: Global,
+    run: Run,
+) -> Result<(), Fail> {
+    let links = links_to_cut(rt, alloc, run.3.vertices, run.1)?;
+    expect_run_over(rt, alloc, links.as_slice(), run)
+}
+
+// What a run reports that closed no port, and scanned shards alone only where it had no workers: of so many vertices and
+// links, rounds and shards, asks and scans, and a forest of this total.
+fn report(size: (u32, u64), cut: (u32, u32), work: (u64, u64), total: i128) -> Report {
+    Report {
+        vertices: size.0,
+        links: size.1,
+        rounds: cut.0,
+        shards: cut.1,
+        asked: work.0,
+        answered: work.0,
+        alone: work.1,
+        closed: 0,
+        total,
+    }
+}
+
+// Two workers answer each shard once a round, and none leave each to the coordinator. Of a path of one weight each
+// vertex but the first picks the link to the one before it, so one round merges them all.
+#[test]
+fn runs_over_lanes(rt: HostRuntime) -> Result<(), Fail> {
+    let alloc = rt.alloc();
+    let net = SMALL_NET;
+    let wide = WIDE_WEIGHTS;
+    let runs: [Run<'static>; 6] = [
+        (
+            2,
+            net.arcs,
+            net.forest,
+            report((6, 8), (2, 2), (6, 0), net.total),
+        ),
+        (
+            0,
+            net.arcs,
+            net.forest,
+            report((6, 8), (2, 2), (0, 6), net.total),
+        ),
+        (
+            2,
+            wide.arcs,
+            wide.forest,
+            report((6, 8), (2, 2), (6, 0), wide.total),
+        ),
+        (
+            1,
+            &LIMITS,
+            &LIMITS_FOREST,
+            report((4, 5), (2, 3), (9, 0), 9223372036854775806),
+        ),
+        (64, &[], &[], report((0, 0), (0, 1), (1, 0), 0)),
+        (0, &[], &[], report((0, 0), (0, 4096), (0, 4096), 0)),
+    ];
+    for run in runs {
+        expect_run(&rt, alloc, run)?;
+    }
+    let path = path(alloc, 10_000)?;
+    let path = path.as_slice();
+    let expected = report((10_001, 10_000), (1, 4), (8, 0), 10_000);
+    expect_run(&rt, alloc, (3, path, path, expected))
+}

@@ -1,0 +1,482 @@
+// A solver's steps on the worked graphs, and whole runs by one thread.
+use super::rounds::{expect_told, links_to_cut, opened, picks_of_offers, picks_of_scans};
+use link_key::{Cut, Forest, Labels, Link};
+use round_core::{SolveFault, Solver, Turn, solve_alone};
+use std::alloc::{AllocError, Global};
+use std::process::Abort;
+use std::test::Fail;
+use std::thread::Threads;
+use worked_graphs::{
+    A_PATH_OF_EIGHT, EQUAL_WEIGHTS, Row, SMALL_NET, WIDE_WEIGHTS, all_have_labels, links_of,
+};
+
+/// A round: the order in which its shards are scanned, what it does, and the labels behind it.
+type Step<'a> = (&'a [u32], Turn, &'a [u32]);
+
+/// Arcs between vertices 1 to n, cut at these places; the rounds from vertices that are apart on, and the forest.
+#[derive(Clone, Copy)]
+struct Rounds<'a> {
+    n: u32,
+    arcs: &'a [Row],
+    places: &'a [usize],
+    steps: &'a [Step<'a>],
+    forest: &'a [Row],
+}
+
+// How many bytes of the labels are kept, where they are.
+fn bytes_kept(labels: &Labels) -> Option<usize> {
+    labels.spelled().map(|bytes| bytes.len())
+}
+
+// A round whose shards are scanned in this order. The labels keep their bytes from its beginning until others are made.
+fn step(
+    rt: &impl Abort,
+    alloc: Global,
+    cut: &Cut,
+    order: &[u32],
+    solver: &mut Solver,
+) -> Result<Turn, Fail> {
+    let before = solver.labels().as_slice().to_vec(alloc)?;
+    solver.spell_labels()?;
+    assert!(rt; solver.labels().as_slice() == before.as_slice());
+    assert_eq!(rt;
+        bytes_kept(solver.labels()),
+        Some(before.len().wrapping_mul(4))
+    );
+    let book = opened(rt, alloc, cut, solver.round(), solver.labels())?;
+    let picks = picks_of_scans(rt, alloc, book, order)?;
+    let turn = solver.step(&picks).expect(rt, "a turn");
+    assert!(rt; turn == Turn::Done || bytes_kept(solver.labels()).is_none());
+    Ok(turn)
+}
+
+// From vertices that are apart these steps are taken over the cut. The solver behind them.
+fn taken(
+    rt: &impl Abort,
+    alloc: Global,
+    n: u32,
+    cut: &Cut,
+    steps: &[Step],
+) -> Result<Solver, Fail> {
+    assert!(rt; n <= 1 << 26);
+    let mut solver = Solver::new(alloc, n)?;
+    let mut round = 1u32;
+    for (order, expected, behind) in steps {
+        assert_eq!(rt; solver.round(), round);
+        let turn = step(rt, alloc, cut, order, &mut solver)?;
+        assert!(rt; turn == *expected && solver.labels().as_slice() == *behind);
+        round = round.wrapping_add(if turn == Turn::Done { 0 } else { 1 });
+    }
+    assert_eq!(rt; solver.round(), round);
+    Ok(solver)
+}
+
+// The rounds go so, and lead to the forest.
+fn expect_rounds(
+    rt: &(impl Abort + Threads + Sync),
+    alloc: Global,
+    rounds: Rounds,
+) -> Result<(), Fail> {
+    let n = rounds.n;
+    let links = links_to_cut(rt, alloc, n, rounds.arcs)?;
+    let cut = Cut::at(alloc, links.as_slice(), rounds.places).expect(rt, "a cut");
+    let solver = taken(rt, alloc, n, &cut, rounds.steps)?;
+    assert!(rt; all_have_labels(&cut, solver.labels().n()));
+    let found = solver.finish(&cut).expect(rt, "a forest");
+    expect_links(rt, alloc, &found, n, rounds.forest)?;
+    let by_threads = solver.finish_par(rt, &cut).expect(rt, "a forest");
+    assert!(rt; by_threads.links() == found.links());
+    Ok(())
+}
+
+// The forest has the links of these arcs.
+pub(crate) fn expect_links(
+    rt: &impl Abort,
+    alloc: Global,
+    found: &Forest,
+    n: u32,
+    arcs: &[Row],
+) -> Result<(), Fail> {
+    let links = links_of(alloc, n, arcs)?.expect(rt, "arcs");
+    assert!(rt; found.links() == links.as_slice());
+    Ok(())
+}
+
+// The shards of a cut in their order.
+fn ascending(alloc: Global, count: u32) -> Result<Vec<u32>, AllocError> {
+    let mut order = Vec::new(alloc);
+    for shard in 0..count {
+        order.push(shard)?;
+    }
+    Ok(order)
+}
+
+#[test]
+fn steps_on_the_small_net(rt: HostRuntime) -> Result<(), Fail> {
+    let merged = [1, 2, 1, 1, 2, 1].as_slice();
+    let ones = [1; 6].as_slice();
+    let steps: [Step; 3] = [
+        (&[0, 1], Turn::Merged(4), merged),
+        (&[1, 0], Turn::Merged(1), ones),
+        (&[0, 1], Turn::Done, ones),
+    ];
+    let rounds = Rounds {
+        n: 6,
+        arcs: SMALL_NET.arcs,
+        places: &[4],
+        steps: &steps,
+        forest: SMALL_NET.forest,
+    };
+    expect_rounds(&rt, rt.alloc(), rounds)
+}
+
+// No vertex, one, and two, in one shard and in as many as there may be: cut at no place, and at 4,095.
+#[test]
+fn steps_at_their_bounds(rt: HostRuntime) -> Result<(), Fail> {
+    let alloc = rt.alloc();
+    let places = [0; 4095];
+    let order = ascending(alloc, 4096)?;
+    let graphs: [(u32, &[Row], Turn, &[u32]); 3] = [
+        (0, &[], Turn::Done, &[]),
+        (1, &[], Turn::Done, &[1]),
+        (2, &[(1, 2, 7)], Turn::Merged(1), &[1, 1]),
+    ];
+    for (n, arcs, first, behind) in graphs {
+        let cuts: [(&[usize], &[u32]); 2] = [(&[], &[0]), (&places, order.as_slice())];
+        for (places, order) in cuts {
+            let steps: [Step; 2] = [(order, first, behind), (order, Turn::Done, behind)];
+            let rounds = Rounds {
+                n,
+                arcs,
+                places,
+                steps: &steps,
+                forest: arcs,
+            };
+            expect_rounds(&rt, alloc, rounds)?;
+        }
+    }
+    Ok(())
+}
+
+// Four vertices with the greatest and the least weight that there are, and its forest's links. Vertices 1 and 2 are
+// joined by one of the greatest links, 3 and 4 by the least, and both pairs by the first of the greatest links between
+// them.
+pub(crate) const LIMITS: [Row; 5] = [
+    (1, 2, i64::MAX),
+    (2, 3, i64::MAX),
+    (3, 4, i64::MIN),
+    (1, 4, i64::MAX),
+    (2, 4, i64::MAX),
+];
+
+pub(crate) const LIMITS_FOREST: [Row; 3] = [(3, 4, i64::MIN), (1, 2, i64::MAX), (1, 4, i64::MAX)];
+
+#[test]
+fn steps_at_both_limits_of_weights(rt: HostRuntime) -> Result<(), Fail> {
+    let pairs = [1, 1, 3, 3].as_slice();
+    let ones = [1; 4].as_slice();
+    let steps: [Step; 3] = [
+        (&[0, 1], Turn::Merged(2), pairs),
+        (&[1, 0], Turn::Merged(1), ones),
+        (&[0, 1], Turn::Done, ones),
+    ];
+    for place in 0..6 {
+        let rounds = Rounds {
+            n: 4,
+            arcs: &LIMITS,
+            places: &[place],
+            steps: &steps,
+            forest: &LIMITS_FOREST,
+        };
+        expect_rounds(&rt, rt.alloc(), rounds)?;
+    }
+    Ok(())
+}
+
+// A round whose only answer offers these.
+fn offer(
+    rt: &impl Abort,
+    alloc: Global,
+    cut: &Cut,
+    solver: &mut Solver,
+    pairs: &[(u32, u32)],
+) -> Result<Result<Turn, SolveFault>, Fail> {
+    let book = opened(rt, alloc, cut, solver.round(), solver.labels())?;
+    let picks = picks_of_offers(rt, alloc, book, &[pairs])?;
+    Ok(solver.step(&picks))
+}
+
+// A worker that offers one link a round, and hides the third: three vertices can't have a second merging round.
+#[test]
+fn a_round_past_the_bound(rt: HostRuntime) -> Result<(), Fail> {
+    let alloc = rt.alloc();
+    let links = links_to_cut(&rt, alloc, EQUAL_WEIGHTS.n, EQUAL_WEIGHTS.arcs)?;
+    let cut = Cut::even(alloc, links.as_slice(), 1).expect(&rt, "a cut");
+    let mut solver = Solver::new(alloc, 3)?;
+    let rounds = [
+        ((1, 0), Ok(Turn::Merged(1))),
+        ((3, 1), Err(SolveFault::Rounds { round: 2 })),
+    ];
+    for (pair, expected) in rounds {
+        let said = offer(&rt, alloc, &cut, &mut solver, &[pair])?;
+        assert!(rt; said == expected && solver.labels().as_slice() == [1, 1, 3].as_slice());
+        assert_eq!(rt; solver.round(), 2);
+    }
+    expect_missed(&rt, &solver, &cut, Link::of_arc(2, 3, 5));
+    let missed = solver.finish_par(&rt, &cut).err();
+    assert!(rt; is_missed(missed, Link::of_arc(2, 3, 5)));
+    Ok(())
+}
+
+// Of a path of so many links the first ones alone are offered. The first of the others is missed, in whichever part of
+// the list threads look for it.
+#[test]
+fn the_first_missed_of_many_links(rt: HostRuntime) -> Result<(), Fail> {
+    let alloc = rt.alloc();
+    let arcs = path(alloc, 70_000)?;
+    let links = links_to_cut(&rt, alloc, 70_001, arcs.as_slice())?;
+    let cut = Cut::even(alloc, links.as_slice(), 1).expect(&rt, "a cut");
+    for count in [0u32, 1, 34_999, 35_000, 35_001, 69_999] {
+        let mut pairs = Vec::new(alloc);
+        for place in 0..count {
+            pairs.push((place.wrapping_add(2), place))?;
+        }
+        let mut solver = Solver::new(alloc, 70_001)?;
+        let said = offer(&rt, alloc, &cut, &mut solver, pairs.as_slice())?;
+        assert!(rt; said.is_ok());
+        let first = count.wrapping_add(1);
+        let expected = Link::of_arc(first, first.wrapping_add(1), 1);
+        expect_missed(&rt, &solver, &cut, expected);
+        let missed = solver.finish_par(&rt, &cut).err();
+        assert!(rt; is_missed(missed, expected));
+    }
+    Ok(())
+}
+
+// The links picked, where one worker offers one of the triangle's links for one of its components.
+#[test]
+fn picks_of_one_offer(rt: HostRuntime) -> Result<(), Fail> {
+    let alloc = rt.alloc();
+    let links = links_to_cut(&rt, alloc, EQUAL_WEIGHTS.n, EQUAL_WEIGHTS.arcs)?;
+    let cut = Cut::even(alloc, links.as_slice(), 1).expect(&rt, "a cut");
+    let (first, second) = (Link::of_arc(1, 2, 5), Link::of_arc(2, 3, 5));
+    let rounds = [
+        ([1, 2, 3], (1, 0), [first, first, None]),
+        ([1, 1, 3], (3, 1), [second, None, second]),
+    ];
+    for (labels, pair, expected) in rounds {
+        let labels = Labels::of_list(labels.to_vec(alloc)?).expect(&rt, "labels");
+        assert!(rt; labels.n() == 3);
+        let book = opened(&rt, alloc, &cut, 1, &labels)?;
+        let picks = picks_of_offers(&rt, alloc, book, &[&[pair]])?;
+        assert!(rt; [picks.of(1), picks.of(2), picks.of(3)] == expected);
+    }
+    Ok(())
+}
+
+// The links picked under these labels of four vertices, where both limits of weights are met.
+#[test]
+fn picks_at_both_limits_of_weights(rt: HostRuntime) -> Result<(), Fail> {
+    let alloc = rt.alloc();
+    let links = links_to_cut(&rt, alloc, 4, &LIMITS)?;
+    let cut = Cut::even(alloc, links.as_slice(), 2).expect(&rt, "a cut");
+    let greatest = Link::of_arc(1, 2, i64::MAX);
+    let least = Link::of_arc(3, 4, i64::MIN);
+    let between = Link::of_arc(1, 4, i64::MAX);
+    let rounds = [
+        ([1, 2, 3, 4], [greatest, greatest, least, least]),
+        ([1, 1, 3, 3], [between, None, between, None]),
+        ([1, 1, 1, 1], [None; 4]),
+    ];
+    for (labels, expected) in rounds {
+        let labels = Labels::of_list(labels.to_vec(alloc)?).expect(&rt, "labels");
+        assert!(rt; labels.n() == 4);
+        let book = opened(&rt, alloc, &cut, 1, &labels)?;
+        let picks = picks_of_scans(&rt, alloc, book, &[1, 0])?;
+        assert!(rt; [picks.of(1), picks.of(2), picks.of(3), picks.of(4)] == expected);
+    }
+    Ok(())
+}
+
+// The links that the solver took miss this link of the cut.
+fn expect_missed(rt: &impl Abort, solver: &Solver, cut: &Cut, expected: Option<Link>) {
+    assert!(rt; all_have_labels(cut, solver.labels().n()));
+    let missed = solver.finish(cut).err();
+    assert!(rt; is_missed(missed, expected));
+}
+
+fn is_missed(fault: Option<SolveFault>, expected: Option<Link>) -> bool {
+    match fault {
+        Some(SolveFault::Missed { link }) => expected == Some(link),
+        _ => false,
+    }
+}
+
+/// How many vertices there are, arcs, and in how many even shards they are; the forest, and the number of merging rounds.
+type Alone<'a> = (u32, &'a [Row], u32, &'a [Row], u32);
+
+// One thread finds the forest in so many merging rounds.
+fn expect_alone(rt: &impl Abort, alloc: Global, run: Alone) -> Result<(), Fail> {
+    let (n, arcs, shards, forest, merging) = run;
+    let links = links_to_cut(rt, alloc, n, arcs)?;
+    let cut = Cut::even(alloc, links.as_slice(), shards).expect(rt, "a cut");
+    assert!(rt; n <= 1 << 26 && all_have_labels(&cut, n));
+    let (found, rounds) = solve_alone(alloc, n, &cut).expect(rt, "a forest");
+    assert_eq!(rt; rounds, merging);
+    expect_links(rt, alloc, &found, n, forest)
+}
+
+// The path of so many arcs of one weight.
+pub(crate) fn path(alloc: Global, count: u32) -> Result<Vec<Row>, AllocError> {
+    let mut arcs = Vec::new(alloc);
+    for v in 0..count {
+        let first = v.wrapping_add(1);
+        arcs.push((first, first.wrapping_add(1), 1))?;
+    }
+    Ok(arcs)
+}
+
+// The path of 2^16 vertices whose arc behind vertex v is as heavy as 2 divides v often, by weight: each round makes
+// components of twice as many vertices.
+fn doubling_path(alloc: Global) -> Result<Vec<Row>, AllocError> {
+    let mut arcs = Vec::new(alloc);
+    for weight in 0..16u32 {
+        for pair in 0..32_768u32 >> weight {
+            let v = pair.wrapping_mul(2).wrapping_add(1).wrapping_shl(weight);
+            arcs.push((v, v.wrapping_add(1), i64::from(weight)))?;
+        }
+    }
+    Ok(arcs)
+}
+
+// Of the path of eight pairs after one round, fours after two, and one component after three. Of a path of one weight
+// each vertex but the first picks the link to the one before it, so one round merges them all.
+#[test]
+fn runs_alone(rt: HostRuntime) -> Result<(), Fail> {
+    let alloc = rt.alloc();
+    let eight = A_PATH_OF_EIGHT;
+    let path = path(alloc, 10_000)?;
+    let doubling = doubling_path(alloc)?;
+    let wide = WIDE_WEIGHTS;
+    let runs: [Alone; 11] = [
+        (0, &[], 1, &[], 0),
+        (0, &[], 4096, &[], 0),
+        (1, &[], 1, &[], 0),
+        (2, &[(1, 2, 7)], 2, &[(1, 2, 7)], 1),
+        (8, eight.arcs, 1, eight.forest, 3),
+        (8, eight.arcs, 3, eight.forest, 3),
+        (8, eight.arcs, 4096, eight.forest, 3),
+        (6, wide.arcs, 2, wide.forest, 2),
+        (4, &LIMITS, 2, &LIMITS_FOREST, 2),
+        (10_001, path.as_slice(), 4, path.as_slice(), 1),
+        (65_536, doubling.as_slice(), 64, doubling.as_slice(), 16),
+    ];
+    for run in runs {
+        expect_alone(&rt, alloc, run)?;
+    }
+    Ok(())
+}
+
+#[test]
+fn steps_over_ten_thousand_links(rt: HostRuntime) -> Result<(), Fail> {
+    let alloc = rt.alloc();
+    let path = path(alloc, 10_000)?;
+    let mut ones = Vec::new(alloc);
+    for _ in 0..10_001u32 {
+        ones.push(1)?;
+    }
+    let (path, ones) = (path.as_slice(), ones.as_slice());
+    let steps: [Step; 2] = [
+        (&[0, 1, 2], Turn::Merged(10_000), ones),
+        (&[2, 1, 0], Turn::Done, ones),
+    ];
+    let rounds = Rounds {
+        n: 10_001,
+        arcs: path,
+        places: &[3333, 6666],
+        steps: &steps,
+        forest: path,
+    };
+    expect_rounds(&rt, alloc, rounds)
+}
+
+// The path of so many arcs, each of them so many times as heavy as the vertex that it leaves.
+fn weighted_path(alloc: Global, count: u32, times: i64) -> Result<Vec<Row>, AllocError> {
+    let mut arcs = Vec::new(alloc);
+    for v in 0..count {
+        let first = v.wrapping_add(1);
+        let weight = i64::from(first).wrapping_mul(times);
+        arcs.push((first, first.wrapping_add(1), weight))?;
+    }
+    Ok(arcs)
+}
+
+// Chains of picks as long as the path: where weights ascend each vertex but the first picks the link to the one before
+// it, and where they descend each but the last the link to the one behind it. One round merges all either way.
+#[test]
+fn steps_along_chains_of_picks(rt: HostRuntime) -> Result<(), Fail> {
+    let alloc = rt.alloc();
+    let mut ones = Vec::new(alloc);
+    for _ in 0..70_000u32 {
+        ones.push(1)?;
+    }
+    for times in [1, -1] {
+        let arcs = weighted_path(alloc, 69_999, times)?;
+        let mut forest = arcs.as_slice().to_vec(alloc)?;
+        if times < 0 {
+            forest.reverse();
+        }
+        let steps: [Step; 2] = [
+            (&[0, 1, 2], Turn::Merged(69_999), ones.as_slice()),
+            (&[2, 1, 0], Turn::Done, ones.as_slice()),
+        ];
+        let rounds = Rounds {
+            n: 70_000,
+            arcs: arcs.as_slice(),
+            places: &[20_000, 50_000],
+            steps: &steps,
+            forest: forest.as_slice(),
+        };
+        expect_rounds(&rt, alloc, rounds)?;
+    }
+    Ok(())
+}
+
+// Vertices without links stay by themselves, and what is joined has its least vertex for a label, whichever of its
+// vertices the picks lead to.
+#[test]
+fn steps_beside_lone_vertices(rt: HostRuntime) -> Result<(), Fail> {
+    let alloc = rt.alloc();
+    let arcs: [Row; 4] = [(9, 3, 1), (3, 6, 2), (8, 5, 4), (6, 8, 9)];
+    let forest: [Row; 4] = [(3, 9, 1), (3, 6, 2), (5, 8, 4), (6, 8, 9)];
+    let pairs = [1, 2, 3, 4, 5, 3, 7, 5, 3, 10].as_slice();
+    let merged = [1, 2, 3, 4, 3, 3, 7, 3, 3, 10].as_slice();
+    let steps: [Step; 3] = [
+        (&[0], Turn::Merged(3), pairs),
+        (&[0], Turn::Merged(1), merged),
+        (&[0], Turn::Done, merged),
+    ];
+    let rounds = Rounds {
+        n: 10,
+        arcs: &arcs,
+        places: &[],
+        steps: &steps,
+        forest: &forest,
+    };
+    expect_rounds(&rt, alloc, rounds)
+}
+
+#[test]
+fn told_faults(rt: HostRuntime) -> Result<(), Fail> {
+    let alloc = rt.alloc();
+    let link = Link::of_arc(2, 1, 17).expect(&rt, "a link");
+    let texts = [
+        (SolveFault::Rounds { round: 2 }, "round 2 is past the bound"),
+        (SolveFault::Missed { link }, "link 1 2 17 was missed"),
+        (SolveFault::Memory, "no memory"),
+    ];
+    for (fault, text) in texts {
+        expect_told(&rt, alloc, &fault, text)?;
+    }
+    Ok(())
+}

@@ -1,0 +1,9 @@
+mod failing_devices;
+mod frames_codec;
+mod given_streams;
+mod memory_of_frames;
+mod next_frames;
+mod refused_in_turn;
+mod same;
+mod sizes;
+mod streams;

@@ -1,0 +1,505 @@
+// Frames and their bytes, and each refusal.
+use super::next_frames::told;
+use super::same::expect_same;
+use byte_streams::FusedSource;
+use frames::{
+    Answer, Frame, FrameFault, Head, Links, VERSION, decode_body, decode_head, encode, encode_ask,
+    encode_ask_over, encode_shard, fault_bytes, read_frame, read_next,
+};
+use link_key::{Labels, Link, Offers, Shard};
+use std::alloc::{AllocError, Global};
+use std::process::Abort;
+use std::test::Fail;
+
+const HELLO: [u8; 11] = [1, 0, 0, 0, 6, 0, 1, 0, 0, 0, 0];
+
+const SHARD: [u8; 49] = [
+    2, 0, 0, 0, 44, 0, 0, 0, 0, 0, 0, 0, 3, 0, 0, 0, 1, 0, 0, 0, 2, 0, 0, 0, 5, 0, 0, 0, 2, 0, 0,
+    0, 3, 0, 0, 0, 5, 0, 0, 0, 1, 0, 0, 0, 3, 0, 0, 0, 5,
+];
+
+const ASK: [u8; 29] = [
+    3, 0, 0, 0, 24, 0, 0, 0, 1, 0, 0, 0, 0, 0, 0, 0, 3, 0, 0, 0, 1, 0, 0, 0, 2, 0, 0, 0, 3,
+];
+
+const ANSWER: [u8; 41] = [
+    4, 0, 0, 0, 36, 0, 0, 0, 1, 0, 0, 0, 0, 0, 0, 0, 3, 0, 0, 0, 1, 0, 0, 0, 0, 0, 0, 0, 2, 0, 0,
+    0, 0, 0, 0, 0, 3, 0, 0, 0, 2,
+];
+
+// Shard 0 with the link of 1 and 2 of weight 2^31.
+const SHARD64: [u8; 29] = [
+    6, 0, 0, 0, 24, 0, 0, 0, 0, 0, 0, 0, 1, 0, 0, 0, 1, 0, 0, 0, 2, 0, 0, 0, 0, 128, 0, 0, 0,
+];
+
+// Shard 0 without links, as if a weight of theirs were past 32 bits.
+const EMPTY_SHARD64: [u8; 13] = [6, 0, 0, 0, 8, 0, 0, 0, 0, 0, 0, 0, 0];
+
+const FAULT: [u8; 14] = [5, 0, 0, 0, 9, 0, 0, 0, 1, 0, 0, 0, 5, 2];
+
+// The links of a triangle whose edges weigh 5.
+fn triangle(alloc: Global) -> Result<Vec<Link>, AllocError> {
+    let mut links = Vec::new(alloc);
+    for (low, high) in [(1, 2), (2, 3), (1, 3)] {
+        if let Some(link) = Link::of_arc(low, high, 5) {
+            links.push(link)?;
+        }
+    }
+    Ok(links)
+}
+
+// The frame's text is these bytes, and it is what they are read as, and no more is taken.
+fn expect_text(rt: &impl Abort, alloc: Global, frame: &Frame, bytes: &[u8]) -> Result<(), Fail> {
+    assert!(rt; frame.is_lawful());
+    expect_same(rt, encode(alloc, frame)?.as_slice(), bytes);
+    let mut text = Vec::from_slice(alloc, bytes)?;
+    text.push(77)?;
+    let mut source = text.as_slice();
+    let again = read_frame(alloc, &mut source)?;
+    assert!(rt; again.is_lawful());
+    expect_same(rt, encode(alloc, &again)?.as_slice(), bytes);
+    expect_same(rt, source, [77].as_slice());
+    Ok(())
+}
+
+// The frame is a hello of this version and worker.
+pub(crate) fn expect_hello(rt: &impl Abort, frame: Frame, fields: (u16, u32)) {
+    match frame {
+        Frame::Hello { version, worker } => expect_same(rt, (version, worker), fields),
+        _ => assert!(rt; false),
+    }
+}
+
+// It is this shard.
+pub(crate) fn expect_shard(rt: &impl Abort, frame: Frame, of: u32, expected: &[Link]) {
+    match frame {
+        Frame::Shard { number, links } => {
+            expect_same(rt, (number, links.as_slice()), (of, expected));
+            expect_same(rt, links.into_list().len(), expected.len());
+        }
+        _ => assert!(rt; false),
+    }
+}
+
+// It is an ask of this round and shard, under these labels.
+fn expect_ask(rt: &impl Abort, frame: Frame, of: (u32, u32), expected: &[u32]) {
+    match frame {
+        Frame::Ask {
+            round,
+            shard,
+            labels,
+        } => expect_same(
+            rt,
+            (round, shard, labels.as_slice()),
+            (of.0, of.1, expected),
+        ),
+        _ => assert!(rt; false),
+    }
+}
+
+// It is the answer of this round and shard with these offers.
+fn expect_answer(rt: &impl Abort, frame: Frame, of: (u32, u32), pairs: &[(u32, u32)]) {
+    match frame {
+        Frame::Answer(answer) => {
+            expect_same(rt, (answer.round, answer.shard), of);
+            expect_same(rt, answer.offers.pairs(), pairs);
+        }
+        _ => assert!(rt; false),
+    }
+}
+
+// It is a fault with these fields.
+fn expect_fault(rt: &impl Abort, frame: Frame, fields: (u32, u32, u8)) {
+    match frame {
+        Frame::Fault { round, shard, code } => expect_same(rt, (round, shard, code), fields),
+        _ => assert!(rt; false),
+    }
+}
+
+#[test]
+fn hellos_of_worker_0(rt: HostRuntime) -> Result<(), Fail> {
+    for of in [1u16, 2] {
+        let frame = Frame::Hello {
+            version: of,
+            worker: 0,
+        };
+        let mut bytes = HELLO;
+        bytes[6] = of as u8;
+        expect_text(&rt, rt.alloc(), &frame, &bytes)?;
+        expect_hello(&rt, read_frame(rt.alloc(), &mut bytes.as_slice())?, (of, 0));
+    }
+    expect_same(&rt, VERSION, 2);
+    Ok(())
+}
+
+#[test]
+fn shard_of_a_triangle(rt: HostRuntime) -> Result<(), Fail> {
+    let links = triangle(rt.alloc())?;
+    let shard = Shard {
+        number: 0,
+        links: links.as_slice(),
+    };
+    assert!(rt; shard.links.len() == 3);
+    expect_same(
+        &rt,
+        encode_shard(rt.alloc(), &shard)?.as_slice(),
+        SHARD.as_slice(),
+    );
+    let read = read_frame(rt.alloc(), &mut SHARD.as_slice())?;
+    expect_shard(&rt, read, 0, links.as_slice());
+    let frame = Frame::Shard {
+        number: 0,
+        links: Links::of_list(links),
+    };
+    expect_text(&rt, rt.alloc(), &frame, &SHARD)
+}
+
+// One link of a weight past 32 bits, at each end of them, and beside one that fits; weights of which the lower 32 bits
+// are nothing, and three whose lower 32 bits are the same.
+#[test]
+fn shards_of_64_bits(rt: HostRuntime) -> Result<(), Fail> {
+    let rows: [(&[(u32, u32, i64)], &[u8]); 5] = [
+        (&[(1, 2, 2147483648)], &SHARD64),
+        (
+            &[(1, 2, -2147483649)],
+            &[
+                6, 0, 0, 0, 24, 0, 0, 0, 0, 0, 0, 0, 1, 0, 0, 0, 1, 0, 0, 0, 2, 255, 255, 255, 255,
+                127, 255, 255, 255,
+            ],
+        ),
+        (
+            &[(1, 2, -1), (2, 3, i64::MIN)],
+            &[
+                6, 0, 0, 0, 40, 0, 0, 0, 0, 0, 0, 0, 2, 0, 0, 0, 1, 0, 0, 0, 2, 255, 255, 255, 255,
+                255, 255, 255, 255, 0, 0, 0, 2, 0, 0, 0, 3, 128, 0, 0, 0, 0, 0, 0, 0,
+            ],
+        ),
+        (
+            &[(1, 2, 4294967296)],
+            &[
+                6, 0, 0, 0, 24, 0, 0, 0, 0, 0, 0, 0, 1, 0, 0, 0, 1, 0, 0, 0, 2, 0, 0, 0, 1, 0, 0,
+                0, 0,
+            ],
+        ),
+        (
+            &[(1, 2, 4294967301), (2, 3, 5), (1, 3, -4294967291)],
+            &[
+                6, 0, 0, 0, 56, 0, 0, 0, 0, 0, 0, 0, 3, 0, 0, 0, 1, 0, 0, 0, 2, 0, 0, 0, 1, 0, 0,
+                0, 5, 0, 0, 0, 2, 0, 0, 0, 3, 0, 0, 0, 0, 0, 0, 0, 5, 0, 0, 0, 1, 0, 0, 0, 3, 255,
+                255, 255, 255, 0, 0, 0, 5,
+            ],
+        ),
+    ];
+    for (arcs, bytes) in rows {
+        let mut links = Vec::new(rt.alloc());
+        for &(tail, head, weight) in arcs {
+            assert!(rt; 1 <= tail && tail <= 3 && 1 <= head && head <= 3);
+            links.push(Link::of_arc(tail, head, weight).expect(&rt, "no loop"))?;
+        }
+        let read = read_frame(rt.alloc(), &mut &bytes[..])?;
+        expect_shard(&rt, read, 0, links.as_slice());
+        let frame = Frame::Shard {
+            number: 0,
+            links: Links::of_list(links),
+        };
+        expect_text(&rt, rt.alloc(), &frame, bytes)?;
+    }
+    Ok(())
+}
+
+// The least and the greatest weight of 32 bits: a shard of them is one of version 1.
+#[test]
+fn shards_of_the_last_weights_of_32_bits(rt: HostRuntime) -> Result<(), Fail> {
+    let rows: [(i64, [u8; 4]); 2] = [
+        (-2147483648, [128, 0, 0, 0]),
+        (2147483647, [127, 255, 255, 255]),
+    ];
+    for (weight, end) in rows {
+        let mut bytes = [
+            2, 0, 0, 0, 20, 0, 0, 0, 0, 0, 0, 0, 1, 0, 0, 0, 1, 0, 0, 0, 2,
+        ]
+        .to_vec(rt.alloc())?;
+        bytes.extend_from_slice(&end)?;
+        let links = [Link::of_arc(1, 2, weight).expect(&rt, "no loop")].to_vec(rt.alloc())?;
+        let frame = Frame::Shard {
+            number: 0,
+            links: Links::of_list(links),
+        };
+        expect_text(&rt, rt.alloc(), &frame, bytes.as_slice())?;
+    }
+    Ok(())
+}
+
+#[test]
+fn ask_with_each_vertex_apart(rt: HostRuntime) -> Result<(), Fail> {
+    let labels = Labels::apart(rt.alloc(), 3)?;
+    expect_same(
+        &rt,
+        encode_ask(rt.alloc(), 1, 0, &labels)?.as_slice(),
+        ASK.as_slice(),
+    );
+    let frame = Frame::Ask {
+        round: 1,
+        shard: 0,
+        labels,
+    };
+    expect_text(&rt, rt.alloc(), &frame, &ASK)?;
+    let read = read_frame(rt.alloc(), &mut ASK.as_slice())?;
+    expect_ask(&rt, read, (1, 0), &[1, 2, 3]);
+    Ok(())
+}
+
+fn labels_of(rt: &impl Abort, alloc: Global, list: &[u32]) -> Result<Labels, Fail> {
+    Ok(Labels::of_list(Vec::from_slice(alloc, list)?).expect(rt, "labels"))
+}
+
+// What stands in the text before, longer or shorter, of the same labels or of others, changes nothing.
+#[test]
+fn an_ask_in_place_of_another(rt: HostRuntime) -> Result<(), Fail> {
+    let rows: [(u32, u32, &[u32], &[u8]); 6] = [
+        (1, 0, &[1, 2, 3], &ASK),
+        (
+            2,
+            7,
+            &[1, 2, 3],
+            &[
+                3, 0, 0, 0, 24, 0, 0, 0, 2, 0, 0, 0, 7, 0, 0, 0, 3, 0, 0, 0, 1, 0, 0, 0, 2, 0, 0,
+                0, 3,
+            ],
+        ),
+        (
+            2,
+            8,
+            &[1, 1, 3],
+            &[
+                3, 0, 0, 0, 24, 0, 0, 0, 2, 0, 0, 0, 8, 0, 0, 0, 3, 0, 0, 0, 1, 0, 0, 0, 1, 0, 0,
+                0, 3,
+            ],
+        ),
+        (
+            3,
+            9,
+            &[],
+            &[3, 0, 0, 0, 12, 0, 0, 0, 3, 0, 0, 0, 9, 0, 0, 0, 0],
+        ),
+        (
+            3,
+            10,
+            &[],
+            &[3, 0, 0, 0, 12, 0, 0, 0, 3, 0, 0, 0, 10, 0, 0, 0, 0],
+        ),
+        (1, 0, &[1, 2, 3], &ASK),
+    ];
+    let mut text = Vec::new(rt.alloc());
+    for (round, shard, list, bytes) in rows {
+        let labels = labels_of(&rt, rt.alloc(), list)?;
+        assert!(rt; shard < 4096);
+        encode_ask_over(&mut text, round, shard, &labels)?;
+        expect_same(&rt, text.as_slice(), bytes);
+    }
+    Ok(())
+}
+
+// Behind whatever labels an ask comes, its own are read; labels that are none are refused behind those that they differ
+// from in one number too.
+#[test]
+fn an_ask_behind_another(rt: HostRuntime) -> Result<(), Fail> {
+    let lasts: [&[u32]; 5] = [&[], &[1], &[1, 2, 3], &[1, 1, 3], &[1, 2, 3, 4]];
+    for list in lasts {
+        let last = labels_of(&rt, rt.alloc(), list)?;
+        let mut source = ASK.as_slice();
+        let next = read_next(rt.alloc(), &mut source, last.as_slice())?;
+        let text = told(&rt, rt.alloc(), &next, &last)?;
+        expect_same(&rt, text.as_slice(), ASK.as_slice());
+        assert!(rt; source.is_empty());
+        let mut wrong = ASK;
+        wrong[24] = 3;
+        let found = read_next(rt.alloc(), &mut wrong.as_slice(), last.as_slice()).err();
+        expect_same(&rt, found, Some(FrameFault::BadField));
+    }
+    Ok(())
+}
+
+#[test]
+fn answer_of_three_offers(rt: HostRuntime) -> Result<(), Fail> {
+    let pairs = [(1, 0), (2, 0), (3, 2)];
+    let offers = Offers::of_pairs(pairs.to_vec(rt.alloc())?).expect(&rt, "ascending");
+    let frame = Frame::Answer(Answer {
+        round: 1,
+        shard: 0,
+        offers,
+    });
+    expect_text(&rt, rt.alloc(), &frame, &ANSWER)?;
+    let read = read_frame(rt.alloc(), &mut ANSWER.as_slice())?;
+    expect_answer(&rt, read, (1, 0), &pairs);
+    Ok(())
+}
+
+#[test]
+fn fault_for_a_shard_not_held(rt: HostRuntime) -> Result<(), Fail> {
+    expect_same(&rt, fault_bytes(1, 5, 2).as_slice(), FAULT.as_slice());
+    let frame = Frame::Fault {
+        round: 1,
+        shard: 5,
+        code: 2,
+    };
+    expect_text(&rt, rt.alloc(), &frame, &FAULT)
+}
+
+// Each text, with these bytes put at their places, is refused with this fault.
+fn expect_refused(
+    rt: &impl Abort,
+    alloc: Global,
+    fault: FrameFault,
+    rows: &[(&[u8], &[(usize, u8)])],
+) -> Result<(), Fail> {
+    for (text, changes) in rows {
+        let mut bytes = Vec::from_slice(alloc, text)?;
+        for (place, byte) in *changes {
+            *bytes.get_mut(*place).expect(rt, "a place in the text") = *byte;
+        }
+        let found = read_frame(alloc, &mut bytes.as_slice()).err();
+        expect_same(rt, (text, changes, found), (text, changes, Some(fault)));
+    }
+    Ok(())
+}
+
+#[test]
+fn streams_that_end(rt: HostRuntime) -> Result<(), Fail> {
+    expect_refused(&rt, rt.alloc(), FrameFault::Ended, &[(&[], &[])])?;
+    let torn: [(&[u8], &[(usize, u8)]); 3] = [
+        (&ANSWER[..40], &[]),
+        (&ANSWER[..3], &[]),
+        (&[3, 16, 0, 0, 12], &[]),
+    ];
+    expect_refused(&rt, rt.alloc(), FrameFault::Torn, &torn)
+}
+
+#[test]
+fn fields_that_are_refused(rt: HostRuntime) -> Result<(), Fail> {
+    expect_refused(
+        &rt,
+        rt.alloc(),
+        FrameFault::BadVersion,
+        &[
+            (&HELLO, &[(6, 3)]),
+            (&HELLO, &[(6, 0)]),
+            (&HELLO, &[(5, 1)]),
+        ],
+    )?;
+    let rows: [(&[u8], &[(usize, u8)]); 28] = [
+        (&HELLO, &[(10, 64)]),
+        (&FAULT, &[(13, 4)]),
+        // Weights of 64 bits that all fit 32: 5, and the least and the greatest that do.
+        (&SHARD64, &[(25, 0), (28, 5)]),
+        (&SHARD64, &[(25, 127), (26, 255), (27, 255), (28, 255)]),
+        (&SHARD64, &[(21, 255), (22, 255), (23, 255), (24, 255)]),
+        // The rules of a shard: its number, its count, and a link's ends, which are from 1 to 2^26 and ascend. One without
+        // links has no weight past 32 bits.
+        (&SHARD64, &[(7, 16)]),
+        (&SHARD64, &[(12, 2)]),
+        (&SHARD64, &[(16, 0)]),
+        (&SHARD64, &[(17, 4), (20, 1)]),
+        (&SHARD64, &[(16, 3)]),
+        (&SHARD64, &[(16, 2)]),
+        (&EMPTY_SHARD64, &[]),
+        (&EMPTY_SHARD64, &[(12, 1)]),
+        // There are 4,096 shards, numbered from 0.
+        (&SHARD, &[(7, 16)]),
+        (&ASK, &[(11, 16)]),
+        // A count that isn't that of the items behind it, one less and one more.
+        (&SHARD, &[(12, 2)]),
+        (&SHARD, &[(12, 4)]),
+        (&ASK, &[(16, 2)]),
+        (&ASK, &[(16, 4)]),
+        (&ANSWER, &[(16, 2)]),
+        (&ANSWER, &[(16, 4)]),
+        // A link's ends are from 1 to 2^26, and ascend.
+        (&SHARD, &[(16, 0)]),
+        (&SHARD, &[(17, 4), (20, 1)]),
+        (&SHARD, &[(16, 3)]),
+        (&SHARD, &[(16, 2)]),
+        // Vertex 3 with the label of vertex 2, whose own label is 1.
+        (&ASK, &[(24, 1), (28, 2)]),
+        // Components that descend, and one that stands twice.
+        (&ANSWER, &[(20, 2), (28, 1)]),
+        (&ANSWER, &[(28, 1)]),
+    ];
+    expect_refused(&rt, rt.alloc(), FrameFault::BadField, &rows)
+}
+
+// At most 2^24 links, 2^26 labels and 2^25 offers, and whole ones.
+#[test]
+fn heads(rt: HostRuntime) {
+    let rows = [
+        ([1, 0, 0, 0, 6], Ok(6)),
+        ([2, 12, 0, 0, 8], Ok(0x0c00_0008)),
+        ([3, 16, 0, 0, 12], Ok(0x1000_000c)),
+        ([4, 16, 0, 0, 12], Ok(0x1000_000c)),
+        ([5, 0, 0, 0, 9], Ok(9)),
+        ([0, 0, 0, 0, 9], Err(FrameFault::BadKind)),
+        ([6, 0, 0, 0, 8], Ok(8)),
+        ([6, 16, 0, 0, 8], Ok(0x1000_0008)),
+        ([7, 0, 0, 0, 0], Err(FrameFault::BadKind)),
+        ([6, 0, 0, 0, 0], Err(FrameFault::BadLength)),
+        ([6, 0, 0, 0, 20], Err(FrameFault::BadLength)),
+        ([6, 16, 0, 0, 24], Err(FrameFault::BadLength)),
+        ([1, 0, 0, 0, 7], Err(FrameFault::BadLength)),
+        ([2, 12, 0, 0, 20], Err(FrameFault::BadLength)),
+        ([3, 16, 0, 0, 16], Err(FrameFault::BadLength)),
+        ([4, 0, 0, 0, 13], Err(FrameFault::BadLength)),
+        ([4, 16, 0, 0, 20], Err(FrameFault::BadLength)),
+        ([5, 0, 0, 0, 8], Err(FrameFault::BadLength)),
+    ];
+    for (bytes, length) in rows {
+        let kind = bytes[0];
+        expect_same(
+            &rt,
+            decode_head(&bytes),
+            length.map(|length| Head { kind, length }),
+        );
+    }
+}
+
+#[test]
+fn body_of_a_fault(rt: HostRuntime) -> Result<(), Fail> {
+    let bytes = [5, 0, 0, 0, 9];
+    let head = decode_head(&bytes)?;
+    let body = &FAULT[5..];
+    assert!(rt; head.length == 9 && body.len() == 9);
+    expect_fault(&rt, decode_body(rt.alloc(), head, body)?, (1, 5, 2));
+    Ok(())
+}
+
+// A read that fails is told at each place where it comes.
+#[test]
+fn reads_that_fail(rt: HostRuntime) -> Result<(), Fail> {
+    for passes in 0..29 {
+        let bytes = Vec::from_slice(rt.alloc(), &ASK)?;
+        let mut source = FusedSource::new(bytes, passes, 4);
+        let found = read_frame(rt.alloc(), &mut source).err();
+        expect_same(&rt, (passes, found), (passes, Some(FrameFault::Device)));
+    }
+    let mut source = FusedSource::new(Vec::from_slice(rt.alloc(), &ASK)?, 29, 4);
+    assert!(rt; read_frame(rt.alloc(), &mut source)?.is_lawful());
+    Ok(())
+}
+
+#[test]
+fn what_faults_are_told_as(rt: HostRuntime) -> Result<(), Fail> {
+    let texts = [
+        (FrameFault::BadKind, "frame of an unknown kind"),
+        (FrameFault::BadLength, "frame of an impossible length"),
+        (FrameFault::BadField, "frame with an unlawful field"),
+        (FrameFault::BadVersion, "hello of another version"),
+        (FrameFault::Ended, "stream ended before a frame"),
+        (FrameFault::Torn, "stream ended inside a frame"),
+        (FrameFault::Device, "read failed"),
+        (FrameFault::Memory, "no memory"),
+    ];
+    for (fault, text) in texts {
+        let told = format!(in rt.alloc(); "{fault}")?;
+        expect_same(&rt, told.as_str(), text);
+    }
+    Ok(())
+}

@@ -1,0 +1,126 @@
+// Frames read of a source that tells what it gave, and not what will come.
+ghost use Rattle.std.specs.Prelude.{Some, None, ◌≡◌, IfOk, ◌<◌, ◌-◌, ◌^◌};
+
+use super::frames_codec::{expect_hello, expect_shard};
+use super::same::expect_same;
+use byte_streams::{Failed, FusedSource, Source};
+use frames::{FrameFault, read_frame};
+use link_key::Link;
+use std::alloc::Global;
+use std::process::Abort;
+use std::test::Fail;
+use test_memory::{Refusals, Refusing};
+
+// A source over memory that tells the bytes which it gave, and nothing else.
+#[derive(Drop)]
+struct GivenAlone(FusedSource);
+
+impl Source for GivenAlone {
+    ghost state = { λ s. record { left = None; given = Some s.0.given; failures = None; ends = None } };
+
+    ghost lasts = { λ _ _. Unit {0} };
+
+    ghost can_read = { λ s. (s.0.failures < 2 ^ 64 - 1) × (s.0.ends < 2 ^ 64 - 1) };
+
+    fn read(&mut self, buf: &mut [u8]) -> Result<usize, Failed> {
+        self.0.read(buf)
+    }
+}
+
+const HELLO: [u8; 11] = [1, 0, 0, 0, 6, 0, 1, 0, 0, 0, 63];
+
+// A shard of one link, between the vertices 1 and 2, of weight 5.
+const SHARD: [u8; 25] = [
+    2, 0, 0, 0, 20, 0, 0, 0, 7, 0, 0, 0, 1, 0, 0, 0, 1, 0, 0, 0, 2, 0, 0, 0, 5,
+];
+
+// A source of these bytes, in pieces of three, that fails once it gave `passes` of them.
+fn source_of(alloc: Global, bytes: &[u8], passes: usize) -> Result<GivenAlone, Fail>
+    ensures { IfOk result (λ source. (source.0.failures ≡ 0) × (source.0.ends ≡ 0)) }
+{
+    Ok(GivenAlone(FusedSource::new(Vec::from_slice(alloc, bytes)?, passes, 3)))
+}
+
+#[test]
+fn frames_that_follow_each_other_are_read_one_by_one(rt: HostRuntime) -> Result<(), Fail> {
+    let mut bytes = Vec::from_slice(rt.alloc(), &HELLO)?;
+    bytes.extend_from_slice(&SHARD)?;
+    let mut source = source_of(rt.alloc(), bytes.as_slice(), 100)?;
+    expect_hello(&rt, read_frame(rt.alloc(), &mut source)?, (1, 63));
+    let link = Link::of_arc(1, 2, 5).expect(&rt, "no loop");
+    expect_shard(&rt, read_frame(rt.alloc(), &mut source)?, 7, &[link]);
+    Ok(())
+}
+
+// Bytes that end, or a read that fails once so many were given, and what is told.
+#[test]
+fn each_fault_is_told_where_it_comes(rt: HostRuntime) -> Result<(), Fail> {
+    let rows: [(&[u8], usize, FrameFault); 21] = [
+        // A stream that ends is torn but between frames.
+        (&[], 100, FrameFault::Ended),
+        (&HELLO[..3], 100, FrameFault::Torn),
+        (&HELLO[..10], 100, FrameFault::Torn),
+        // A read fails behind each byte.
+        (&HELLO, 0, FrameFault::Device),
+        (&HELLO, 1, FrameFault::Device),
+        (&HELLO, 2, FrameFault::Device),
+        (&HELLO, 3, FrameFault::Device),
+        (&HELLO, 4, FrameFault::Device),
+        (&HELLO, 5, FrameFault::Device),
+        (&HELLO, 6, FrameFault::Device),
+        (&HELLO, 7, FrameFault::Device),
+        (&HELLO, 8, FrameFault::Device),
+        (&HELLO, 9, FrameFault::Device),
+        (&HELLO, 10, FrameFault::Device),
+        // A bad head is told by its kind and then its length.
+        (&[7, 0, 0, 0, 6], 100, FrameFault::BadKind),
+        (&[6, 0, 0, 0, 6], 100, FrameFault::BadLength),
+        (&[0, 0, 0, 0, 7], 100, FrameFault::BadKind),
+        (&[1, 0, 0, 0, 7], 100, FrameFault::BadLength),
+        (&[4, 0, 0, 0, 13], 100, FrameFault::BadLength),
+        // A bad body by its version and then its fields.
+        (
+            &[1, 0, 0, 0, 6, 0, 3, 0, 0, 0, 64],
+            100,
+            FrameFault::BadVersion,
+        ),
+        (
+            &[1, 0, 0, 0, 6, 0, 1, 0, 0, 0, 64],
+            100,
+            FrameFault::BadField,
+        ),
+    ];
+    for (bytes, passes, expected) in rows {
+        let mut source = source_of(rt.alloc(), bytes, passes)?;
+        let found = read_frame(rt.alloc(), &mut source).err();
+        expect_same(&rt, (bytes, passes, found), (bytes, passes, Some(expected)));
+    }
+    Ok(())
+}
+
+// The body is the first growth, and the links are the second. A shard of another count is refused
+// before memory for its links is asked for.
+#[test]
+fn want_of_memory_is_told_for_a_good_head_and_good_fields(rt: HostRuntime) -> Result<(), Fail> {
+    for number in 1..3u64 {
+        expect_refused(&rt, rt.alloc(), &SHARD, number, FrameFault::Memory)?;
+    }
+    let mut two_links = SHARD;
+    two_links[12] = 2;
+    expect_refused(&rt, rt.alloc(), &two_links, 2, FrameFault::BadField)
+}
+
+// The bytes are refused so in memory whose allocations from this number on are refused.
+fn expect_refused(
+    rt: &impl Abort,
+    alloc: Global,
+    bytes: &[u8],
+    number: u64,
+    fault: FrameFault,
+) -> Result<(), Fail> {
+    let memory = Refusing::new(alloc, Refusals::since(number));
+    let mut source = source_of(alloc, bytes, 100)?;
+    let found = read_frame(&memory, &mut source).err();
+    expect_same(rt, found, Some(fault));
+    Ok(())
+}

@@ -1,0 +1,178 @@
+// Frames that are read from bytes: the body's block, and the list that is made of it. Frames that are written: the
+// text's one block.
+use super::same::expect_same;
+use frames::{
+    FrameFault, decode_body, decode_head, encode, encode_ask, encode_ask_over, read_frame,
+};
+use link_key::Labels;
+use std::alloc::Global;
+use std::process::Abort;
+use std::test::Fail;
+use test_memory::{Refusals, Refusing};
+
+const HELLO: [u8; 11] = [1, 0, 0, 0, 6, 0, 1, 0, 0, 0, 0];
+
+const SHARD: [u8; 25] = [
+    2, 0, 0, 0, 20, 0, 0, 0, 0, 0, 0, 0, 1, 0, 0, 0, 1, 0, 0, 0, 2, 0, 0, 0, 5,
+];
+
+const ASK: [u8; 29] = [
+    3, 0, 0, 0, 24, 0, 0, 0, 1, 0, 0, 0, 0, 0, 0, 0, 3, 0, 0, 0, 1, 0, 0, 0, 1, 0, 0, 0, 3,
+];
+
+const ANSWER: [u8; 33] = [
+    4, 0, 0, 0, 28, 0, 0, 0, 1, 0, 0, 0, 0, 0, 0, 0, 2, 0, 0, 0, 1, 0, 0, 0, 0, 0, 0, 0, 2, 0, 0,
+    0, 0,
+];
+
+const FAULT: [u8; 14] = [5, 0, 0, 0, 9, 0, 0, 0, 1, 0, 0, 0, 5, 2];
+
+// The second link's ends are equal.
+const SHARD_WITH_A_LOOP: [u8; 37] = [
+    2, 0, 0, 0, 32, 0, 0, 0, 0, 0, 0, 0, 2, 0, 0, 0, 1, 0, 0, 0, 2, 0, 0, 0, 5, 0, 0, 0, 3, 0, 0,
+    0, 3, 0, 0, 0, 5,
+];
+
+// The label of vertex 3 is 2, whose own label is 1.
+const ASK_WITHOUT_LABELS: [u8; 29] = [
+    3, 0, 0, 0, 24, 0, 0, 0, 1, 0, 0, 0, 0, 0, 0, 0, 3, 0, 0, 0, 1, 0, 0, 0, 1, 0, 0, 0, 2,
+];
+
+// The components are 2 and then 1.
+const ANSWER_THAT_DESCENDS: [u8; 33] = [
+    4, 0, 0, 0, 28, 0, 0, 0, 1, 0, 0, 0, 0, 0, 0, 0, 2, 0, 0, 0, 2, 0, 0, 0, 0, 0, 0, 0, 1, 0, 0,
+    0, 0,
+];
+
+const FAULT_WITH_CODE_4: [u8; 14] = [5, 0, 0, 0, 9, 0, 0, 0, 1, 0, 0, 0, 5, 4];
+
+// Why no frame is read in this memory; then how many blocks were handed out, and how many of them live.
+fn refused(memory: &Refusing<Global>, bytes: &[u8]) -> (Option<FrameFault>, u64, u64) {
+    let mut source = bytes;
+    let fault = read_frame(memory, &mut source).err();
+    (fault, memory.given(), memory.live())
+}
+
+// The frame is refused with this fault, blocks were handed out, and none of them lives.
+fn expect_nothing_lives(rt: &impl Abort, alloc: Global, bytes: &[u8], expected: FrameFault) {
+    let memory = Refusing::new(alloc, Refusals::none());
+    let (fault, given, live) = refused(&memory, bytes);
+    expect_same(rt, (fault, given > 0, live), (Some(expected), true, 0));
+}
+
+#[test]
+fn a_refused_body_is_dropped(rt: HostRuntime) {
+    let bad = FrameFault::BadField;
+    expect_nothing_lives(&rt, rt.alloc(), &SHARD_WITH_A_LOOP, bad);
+    expect_nothing_lives(&rt, rt.alloc(), &ASK_WITHOUT_LABELS, bad);
+    expect_nothing_lives(&rt, rt.alloc(), &ANSWER_THAT_DESCENDS, bad);
+    expect_nothing_lives(&rt, rt.alloc(), &FAULT_WITH_CODE_4, bad);
+}
+
+#[test]
+fn a_torn_body_is_dropped(rt: HostRuntime) {
+    expect_nothing_lives(&rt, rt.alloc(), &ASK[..28], FrameFault::Torn);
+}
+
+// While the frame lives, so do this many blocks and no more, and none once it is dropped.
+fn expect_blocks(rt: &impl Abort, alloc: Global, bytes: &[u8], blocks: u64) {
+    let memory = Refusing::new(alloc, Refusals::none());
+    let mut source = bytes;
+    let frame = read_frame(&memory, &mut source);
+    expect_same(rt, (frame.is_ok(), memory.live()), (true, blocks));
+    drop(frame);
+    expect_same(rt, memory.live(), 0);
+}
+
+#[test]
+fn a_frame_keeps_its_list_alone(rt: HostRuntime) {
+    expect_blocks(&rt, rt.alloc(), &SHARD, 1);
+    expect_blocks(&rt, rt.alloc(), &ASK, 1);
+    expect_blocks(&rt, rt.alloc(), &ANSWER, 1);
+    expect_blocks(&rt, rt.alloc(), &HELLO, 0);
+    expect_blocks(&rt, rt.alloc(), &FAULT, 0);
+}
+
+// Each allocation of a frame refused in turn: the fault is want of memory, and nothing lives.
+#[test]
+fn what_came_before_a_refusal_is_dropped(rt: HostRuntime) {
+    for number in 1..3u64 {
+        let memory = Refusing::new(rt.alloc(), Refusals::since(number));
+        let expected = (Some(FrameFault::Memory), number - 1, 0);
+        expect_same(&rt, refused(&memory, &ASK), expected);
+    }
+}
+
+// A head promises 2^28 bytes and more, and few come. The body is given room for one piece of 65,536 bytes before any
+// has come, and then a new block, twice as large, only once that one is full.
+#[test]
+fn a_body_is_given_room_as_it_comes(rt: HostRuntime) -> Result<(), Fail> {
+    for (pieces, blocks) in [(0, 1), (1, 2), (2, 3), (3, 3), (4, 4), (7, 4), (8, 5)] {
+        let mut bytes = Vec::from_slice(rt.alloc(), &[3, 16, 0, 0, 12])?;
+        bytes.resize(6 + 65_536 * pieces, 0)?;
+        let memory = Refusing::new(rt.alloc(), Refusals::none());
+        let found = refused(&memory, bytes.as_slice());
+        expect_same(
+            &rt,
+            (pieces, found),
+            (pieces, (Some(FrameFault::Torn), blocks, 0)),
+        );
+    }
+    Ok(())
+}
+
+// A text is given its whole room once, and a body's list too, whatever their size.
+fn expect_one_block(rt: &impl Abort, alloc: Global, bytes: &[u8]) -> Result<(), Fail> {
+    let memory = Refusing::new(alloc, Refusals::none());
+    let Some((first, body)) = bytes.split_first_chunk::<5>() else {
+        panic!(rt; "a head");
+    };
+    let head = decode_head(first)?;
+    assert!(rt; body.len() == head.length as usize);
+    let frame = decode_body(alloc, head, body)?;
+    assert!(rt; frame.is_lawful());
+    let text = encode(&memory, &frame)?;
+    assert!(rt; text.as_slice() == bytes);
+    expect_same(rt, memory.given(), 1);
+    let _listed = decode_body(&memory, head, body)?;
+    expect_same(rt, memory.given(), 2);
+    Ok(())
+}
+
+#[test]
+fn a_text_is_given_one_block(rt: HostRuntime) -> Result<(), Fail> {
+    let labels = Labels::apart(rt.alloc(), 20_000)?;
+    let long = encode_ask(rt.alloc(), 1, 0, &labels)?;
+    for bytes in [SHARD.as_slice(), &ASK, &ANSWER, long.as_slice()] {
+        expect_one_block(&rt, rt.alloc(), bytes)?;
+    }
+    Ok(())
+}
+
+// An ask takes the room of the text before it, and a new block, of its whole size, only where it is longer.
+#[test]
+fn an_ask_in_place_of_another_takes_its_room(rt: HostRuntime) -> Result<(), Fail> {
+    let memory = Refusing::new(rt.alloc(), Refusals::none());
+    let mut text = Vec::new(&memory);
+    for (count, blocks) in [
+        (3, 1),
+        (2, 1),
+        (0, 1),
+        (3, 1),
+        (3, 1),
+        (5_000, 2),
+        (20, 2),
+        (5_000, 2),
+        (20_000, 3),
+    ] {
+        assert!(rt; count <= 20_000);
+        let labels = Labels::apart(rt.alloc(), count)?;
+        encode_ask_over(&mut text, 1, 0, &labels)?;
+        expect_same(
+            &rt,
+            (memory.given(), text.len()),
+            (blocks, 17 + 4 * count as usize),
+        );
+    }
+    Ok(())
+}

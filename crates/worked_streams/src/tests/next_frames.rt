@@ -1,0 +1,220 @@
+// The next frame behind an ask, beside what is read of the same bytes alone: labels that come again, that differ in one
+// place, that are none, and streams that end or fail inside a piece. 16,384 labels are compared at a time, so the 80,001
+// labels here come in five pieces.
+ghost use Rattle.std.specs.Prelude.{◌≤◌};
+
+use super::same::expect_same;
+use byte_streams::FusedSource;
+use frames::{FrameFault, NextFrame, encode, encode_ask, read_frame, read_next};
+use link_key::Labels;
+use std::alloc::Global;
+use std::process::Abort;
+use std::test::Fail;
+use test_memory::{Refusals, Refusing};
+
+const COUNT: u32 = 80_001;
+
+// The vertices at which labels differ: in the first piece, at the ends of pieces and beside them, and in the last one alone.
+const PLACES: [u32; 9] = [
+    2, 16_383, 16_384, 16_385, 40_000, 65_536, 65_537, 80_000, 80_001,
+];
+
+// What the next frame says behind these labels, as bytes.
+pub(crate) fn told(
+    rt: &impl Abort,
+    alloc: Global,
+    next: &NextFrame,
+    last: &Labels,
+) -> Result<Vec<u8>, Fail> {
+    match next {
+        NextFrame::AskAgain { round, shard } => {
+            assert!(rt; *shard < 4096);
+            Ok(encode_ask(alloc, *round, *shard, last)?)
+        }
+        NextFrame::Other(frame) => {
+            assert!(rt; frame.is_lawful());
+            Ok(encode(alloc, frame)?)
+        }
+    }
+}
+
+// Each vertex has its own label, but this one, which has that of the vertex before; vertex 0 is none.
+fn labels_but(rt: &impl Abort, alloc: Global, vertex: u32) -> Result<Labels, Fail> {
+    let mut list = Vec::with_capacity(alloc, COUNT as usize)?;
+    for before in 0..COUNT {
+        let own = before + 1;
+        list.push(if own == vertex { before } else { own })?;
+    }
+    Ok(Labels::of_list(list).expect(rt, "labels"))
+}
+
+// An ask of shard 7 in round 5.
+fn ask(alloc: Global, labels: &Labels) -> Result<Vec<u8>, Fail> {
+    Ok(encode_ask(alloc, 5, 7, labels)?)
+}
+
+// Behind these labels the bytes say what they say alone, or are refused for the same fault; the source fails once it gave
+// so many of them.
+fn expect_as_alone(
+    rt: &impl Abort,
+    alloc: Global,
+    bytes: &[u8],
+    passes: usize,
+    last: &Labels,
+) -> Result<(), Fail> {
+    for piece in [1000, usize::MAX] {
+        assert!(rt; 1 <= piece);
+        let mut first = FusedSource::new(Vec::from_slice(alloc, bytes)?, passes, piece);
+        let mut second = FusedSource::new(Vec::from_slice(alloc, bytes)?, passes, piece);
+        let alone = read_frame(alloc, &mut first);
+        match (alone, read_next(alloc, &mut second, last.as_slice())) {
+            (Ok(frame), Ok(next)) => {
+                assert!(rt; frame.is_lawful());
+                let text = encode(alloc, &frame)?;
+                assert!(rt; told(rt, alloc, &next, last)?.as_slice() == text.as_slice());
+            }
+            (Err(fault), Err(other)) => expect_same(rt, other, fault),
+            _ => panic!(rt; "one is refused, and the other isn't"),
+        }
+    }
+    Ok(())
+}
+
+// An ask under these labels, behind those: another ask under them, if they are the same. So many blocks are given.
+fn expect_ask(
+    rt: &impl Abort,
+    alloc: Global,
+    labels: &Labels,
+    last: &Labels,
+    blocks: u64,
+) -> Result<(), Fail> {
+    let bytes = ask(alloc, labels)?;
+    let memory = Refusing::new(alloc, Refusals::none());
+    let mut source = bytes.as_slice();
+    match read_next(&memory, &mut source, last.as_slice())? {
+        NextFrame::AskAgain { round, shard } => {
+            expect_same(rt, (round, shard, blocks), (5, 7, 0));
+        }
+        NextFrame::Other(frame) => {
+            assert!(rt; frame.is_lawful());
+            assert!(rt; encode(alloc, &frame)?.as_slice() == bytes.as_slice());
+        }
+    }
+    assert!(rt; source.is_empty());
+    expect_same(rt, (memory.given(), memory.live()), (blocks, 0));
+    expect_as_alone(rt, alloc, bytes.as_slice(), usize::MAX, last)
+}
+
+#[test]
+fn labels_that_come_again_take_no_memory(rt: HostRuntime) -> Result<(), Fail> {
+    for vertex in [0, 2, 40_000, 80_001] {
+        let labels = labels_but(&rt, rt.alloc(), vertex)?;
+        expect_ask(&rt, rt.alloc(), &labels, &labels, 0)?;
+    }
+    Ok(())
+}
+
+// Labels that differ in one place are given one block, of their whole size, wherever that place is.
+#[test]
+fn labels_that_differ_in_one_place(rt: HostRuntime) -> Result<(), Fail> {
+    let last = labels_but(&rt, rt.alloc(), 0)?;
+    for vertex in PLACES {
+        let labels = labels_but(&rt, rt.alloc(), vertex)?;
+        expect_ask(&rt, rt.alloc(), &labels, &last, 1)?;
+        expect_ask(&rt, rt.alloc(), &last, &labels, 1)?;
+    }
+    Ok(())
+}
+
+// The stream ends inside the fields, inside a piece, or at the end of one, before the place that differs and behind it;
+// and so does one whose source fails there.
+#[test]
+fn a_stream_cut_inside_a_piece(rt: HostRuntime) -> Result<(), Fail> {
+    let last = labels_but(&rt, rt.alloc(), 0)?;
+    for vertex in [0, 2, 40_000, 80_001] {
+        let labels = labels_but(&rt, rt.alloc(), vertex)?;
+        let bytes = ask(rt.alloc(), &labels)?;
+        for count in [
+            0, 4, 5, 6, 16, 17, 18, 65_552, 65_553, 65_554, 120_000, 160_018, 320_000, 320_018,
+            320_020,
+        ] {
+            assert!(rt; count < bytes.len());
+            let cut = &bytes.as_slice()[..count];
+            expect_as_alone(&rt, rt.alloc(), cut, usize::MAX, &last)?;
+            expect_as_alone(&rt, rt.alloc(), bytes.as_slice(), count, &last)?;
+        }
+    }
+    Ok(())
+}
+
+// An ask that has these bytes from a place on, whole, cut, and from a source that fails. Whole it has an unlawful field.
+fn expect_unlawful(
+    rt: &impl Abort,
+    alloc: Global,
+    labels: &Labels,
+    last: &Labels,
+    unlawful: (usize, [u8; 4]),
+) -> Result<(), Fail> {
+    let (place, field) = unlawful;
+    let mut bytes = ask(alloc, labels)?;
+    for (i, byte) in field.iter().enumerate() {
+        assert!(rt; place < 1 << 20 && place + i < bytes.len());
+        bytes[place + i] = *byte;
+    }
+    let found = read_next(alloc, &mut bytes.as_slice(), last.as_slice()).err();
+    expect_same(rt, found, Some(FrameFault::BadField));
+    for count in [17, 160_000, 320_020] {
+        assert!(rt; count < bytes.len());
+        let cut = &bytes.as_slice()[..count];
+        expect_as_alone(rt, alloc, cut, usize::MAX, last)?;
+        expect_as_alone(rt, alloc, bytes.as_slice(), count, last)?;
+    }
+    expect_as_alone(rt, alloc, bytes.as_slice(), usize::MAX, last)
+}
+
+// A shard's number out of range, a count that is not that of the labels, and labels that are none: in the first, a middle
+// and the last piece, behind labels that are the same in all other places or in none of some.
+#[test]
+fn an_ask_with_an_unlawful_field(rt: HostRuntime) -> Result<(), Fail> {
+    let apart = labels_but(&rt, rt.alloc(), 0)?;
+    let other = labels_but(&rt, rt.alloc(), 40_000)?;
+    for last in [&apart, &other] {
+        for unlawful in [
+            (9, [0, 0, 16, 0]),
+            (9, [255, 255, 255, 255]),
+            (13, [0, 1, 56, 128]),
+            (13, [0, 1, 56, 130]),
+            (17, [0, 0, 0, 0]),
+            (17, [0, 0, 0, 2]),
+            (160_013, [0, 0, 255, 255]),
+            (320_017, [0, 1, 56, 130]),
+            (320_017, [255, 255, 255, 255]),
+        ] {
+            expect_unlawful(&rt, rt.alloc(), &apart, last, unlawful)?;
+        }
+    }
+    Ok(())
+}
+
+// Where no memory is left for labels that differ, that is the fault; another ask under the same labels needs none.
+#[test]
+fn no_memory_for_labels_that_differ(rt: HostRuntime) -> Result<(), Fail> {
+    let last = labels_but(&rt, rt.alloc(), 0)?;
+    for vertex in [0, 2, 40_000, 80_001] {
+        let labels = labels_but(&rt, rt.alloc(), vertex)?;
+        let bytes = ask(rt.alloc(), &labels)?;
+        let memory = Refusing::new(rt.alloc(), Refusals::since(1));
+        let found = read_next(&memory, &mut bytes.as_slice(), last.as_slice()).err();
+        let fault = if vertex == 0 {
+            None
+        } else {
+            Some(FrameFault::Memory)
+        };
+        expect_same(
+            &rt,
+            (vertex, found, memory.given(), memory.live()),
+            (vertex, fault, 0, 0),
+        );
+    }
+    Ok(())
+}

@@ -1,0 +1,238 @@
+// Frames at the size of every inner piece, one less and one more, up to twice the largest of them and past it. A body that
+// gives up at some size is proved as well as one that doesn't. What is expected is written by a formula, here.
+//
+// Labels are turned into bytes 1,024 at a time. A body is read in pieces of 65,536 bytes: 12 and 4 for each label are
+// just so many for 16,381 labels; 8 and 12 or 16 for each link, and 12 and 8 for each offer, come to no whole piece.
+use super::next_frames::told;
+use byte_streams::FusedSource;
+use frames::{
+    Answer, Frame, Links, decode_body, decode_head, encode, encode_ask, encode_ask_over,
+    encode_shard, read_frame, read_next,
+};
+use link_key::{Labels, Link, Offers, Shard};
+use std::alloc::Global;
+use std::process::Abort;
+use std::test::Fail;
+
+// Four bytes, the highest first.
+fn put_number(text: &mut Vec<u8>, number: u32) -> Result<(), Fail> {
+    text.extend_from_slice(&number.to_be_bytes())?;
+    Ok(())
+}
+
+// The text of a frame of this kind, whose body is these numbers.
+fn frame_bytes(rt: &impl Abort, alloc: Global, kind: u8, numbers: &[u32]) -> Result<Vec<u8>, Fail> {
+    assert!(rt; numbers.len() < 1 << 30);
+    let mut text = Vec::from_slice(alloc, &[kind])?;
+    put_number(&mut text, numbers.len() as u32 * 4)?;
+    for number in numbers {
+        put_number(&mut text, *number)?;
+    }
+    Ok(text)
+}
+
+fn text_of(rt: &impl Abort, alloc: Global, frame: &Frame) -> Result<Vec<u8>, Fail> {
+    assert!(rt; frame.is_lawful());
+    Ok(encode(alloc, frame)?)
+}
+
+// The frame's text is these bytes, and it is what they are read as, whole, in pieces, and as a head and a body.
+fn expect_text(rt: &impl Abort, alloc: Global, frame: &Frame, bytes: &[u8]) -> Result<(), Fail> {
+    let slow = FusedSource::new(Vec::from_slice(alloc, bytes)?, usize::MAX, 1000);
+    let Some((first, body)) = bytes.split_first_chunk::<5>() else {
+        panic!(rt; "a head");
+    };
+    let head = decode_head(first)?;
+    assert!(rt; body.len() == head.length as usize);
+    let whole = read_frame(alloc, &mut &*bytes)?;
+    let pieced = read_frame(alloc, &mut { slow })?;
+    let decoded = decode_body(alloc, head, body)?;
+    for each in [frame, &whole, &pieced, &decoded] {
+        let text = text_of(rt, alloc, each)?;
+        assert!(rt; text.as_slice() == bytes, "{} bytes", bytes.len());
+    }
+    Ok(())
+}
+
+// So many numbers have 32 bits.
+const HALF: u64 = 1 << 32;
+
+// How many bits the weights of a shard have.
+#[derive(Clone, Copy)]
+enum Weights {
+    Of32,
+    Of64,
+}
+
+// The links of a path from vertex 1 on, and their shard's numbers. The first has the least weight of so many bits, and the
+// others those from the greatest down. A weight of 64 bits is two numbers, the higher first.
+fn path(
+    rt: &impl Abort,
+    alloc: Global,
+    weights: Weights,
+    number: u32,
+    count: u32,
+) -> Result<(Vec<Link>, Vec<u32>), Fail> {
+    assert!(rt; count <= 1 << 24);
+    let mut links = Vec::new(alloc);
+    let mut numbers = Vec::from_slice(alloc, &[number, count])?;
+    for before in 0..count {
+        let (low, high) = (before + 1, before + 2);
+        let narrow = i32::MIN.wrapping_sub(before.cast_signed());
+        let wide = i64::MIN.wrapping_sub(i64::from(before));
+        let weight = match weights {
+            Weights::Of32 => {
+                numbers.extend_from_slice(&[low, high, narrow.cast_unsigned()])?;
+                i64::from(narrow)
+            }
+            Weights::Of64 => {
+                let bits = wide.cast_unsigned();
+                let (upper, lower) = ((bits / HALF) as u32, (bits % HALF) as u32);
+                numbers.extend_from_slice(&[low, high, upper, lower])?;
+                wide
+            }
+        };
+        if let Some(link) = Link::of_arc(low, high, weight) {
+            links.push(link)?;
+        }
+    }
+    Ok((links, numbers))
+}
+
+fn expect_shard(
+    rt: &impl Abort,
+    alloc: Global,
+    weights: Weights,
+    number: u32,
+    count: u32,
+) -> Result<(), Fail> {
+    let (links, numbers) = path(rt, alloc, weights, number, count)?;
+    let kind = match weights {
+        Weights::Of32 => 2,
+        Weights::Of64 => 6,
+    };
+    let bytes = frame_bytes(rt, alloc, kind, numbers.as_slice())?;
+    let shard = Shard {
+        number,
+        links: links.as_slice(),
+    };
+    assert!(rt; number < 4096 && shard.links.len() <= 1 << 24);
+    assert!(rt;
+        encode_shard(alloc, &shard)?.as_slice() == bytes.as_slice(),
+        "{count} links"
+    );
+    let frame = Frame::Shard {
+        number,
+        links: Links::of_list(links),
+    };
+    expect_text(rt, alloc, &frame, bytes.as_slice())
+}
+
+#[test]
+fn shards_of_so_many_links(rt: HostRuntime) -> Result<(), Fail> {
+    for count in [
+        0, 1, 5_460, 5_461, 5_462, 10_000, 12_000, 21_845, 21_846, 100_001,
+    ] {
+        expect_shard(&rt, rt.alloc(), Weights::Of32, 7, count)?;
+    }
+    for count in [
+        1, 4_095, 4_096, 4_097, 8_191, 8_192, 10_000, 12_000, 16_384, 16_385, 100_001,
+    ] {
+        expect_shard(&rt, rt.alloc(), Weights::Of64, 7, count)?;
+    }
+    for weights in [Weights::Of32, Weights::Of64] {
+        expect_shard(&rt, rt.alloc(), weights, 0, 1)?;
+        expect_shard(&rt, rt.alloc(), weights, 4095, 1)?;
+    }
+    Ok(())
+}
+
+// Each vertex has its own label.
+fn apart(rt: &impl Abort, alloc: Global, count: u32) -> Result<Labels, Fail> {
+    assert!(rt; count <= 1 << 26);
+    Ok(Labels::apart(alloc, count)?)
+}
+
+// An ask of so many labels, alone and over the text of another one, and read behind that one and behind itself.
+fn expect_ask(rt: &impl Abort, alloc: Global, before: u32, count: u32) -> Result<(), Fail> {
+    let labels = apart(rt, alloc, count)?;
+    let mut numbers = Vec::from_slice(alloc, &[5, 4095, count])?;
+    for before in 0..count {
+        numbers.push(before + 1)?;
+    }
+    let bytes = frame_bytes(rt, alloc, 3, numbers.as_slice())?;
+    let last = apart(rt, alloc, before)?;
+    let mut text = encode_ask(alloc, 4, 7, &last)?;
+    encode_ask_over(&mut text, 5, 4095, &labels)?;
+    assert!(rt;
+        text.as_slice() == bytes.as_slice(),
+        "{count} labels over {before}"
+    );
+    let alone = encode_ask(alloc, 5, 4095, &labels)?;
+    assert!(rt; alone.as_slice() == bytes.as_slice(), "{count} labels");
+    for behind in [&last, &labels] {
+        let again = read_next(alloc, &mut text.as_slice(), behind.as_slice())?;
+        let same = told(rt, alloc, &again, behind)?;
+        assert!(rt;
+            same.as_slice() == bytes.as_slice(),
+            "{count} labels behind {}",
+            behind.n()
+        );
+    }
+    let frame = Frame::Ask {
+        round: 5,
+        shard: 4095,
+        labels,
+    };
+    expect_text(rt, alloc, &frame, bytes.as_slice())
+}
+
+#[test]
+fn asks_of_so_many_labels(rt: HostRuntime) -> Result<(), Fail> {
+    let rows = [
+        (0, 0),
+        (3, 0),
+        (0, 1),
+        (1, 1_023),
+        (1_023, 1_024),
+        (1_024, 1_025),
+        (2_048, 16_380),
+        (16_380, 16_381),
+        (36_000, 16_382),
+        (16_383, 16_384),
+        (16_384, 16_385),
+        (16_382, 32_765),
+        (1, 32_769),
+        (1, 36_000),
+        (36_000, 36_000),
+    ];
+    for (before, count) in rows {
+        expect_ask(&rt, rt.alloc(), before, count)?;
+    }
+    Ok(())
+}
+
+fn expect_answer(rt: &impl Abort, alloc: Global, count: u32) -> Result<(), Fail> {
+    let mut pairs = Vec::new(alloc);
+    let mut numbers = Vec::from_slice(alloc, &[5, 6, count])?;
+    for before in 0..count {
+        let pair = (before + 1, before.wrapping_mul(3));
+        pairs.push(pair)?;
+        numbers.extend_from_slice(&[pair.0, pair.1])?;
+    }
+    let bytes = frame_bytes(rt, alloc, 4, numbers.as_slice())?;
+    let frame = Frame::Answer(Answer {
+        round: 5,
+        shard: 6,
+        offers: Offers::of_pairs(pairs).expect(rt, "ascending"),
+    });
+    expect_text(rt, alloc, &frame, bytes.as_slice())
+}
+
+#[test]
+fn answers_of_so_many_offers(rt: HostRuntime) -> Result<(), Fail> {
+    for count in [0, 1, 8_189, 8_190, 8_191, 24_000, 100_001] {
+        expect_answer(&rt, rt.alloc(), count)?;
+    }
+    Ok(())
+}
