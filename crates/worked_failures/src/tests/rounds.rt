@@ -34,6 +34,26 @@ fn claim<'a>(
     board.claim(&mut seats[number], shard)
 }
 
+// Gives the shard back where the seat of this number holds it, and says whether it did.
+fn give_back<'a>(
+    board: &Board<&'a Memory>,
+    seats: &mut Vec<Seat, &'a Memory>,
+    number: usize,
+    shard: u32,
+) -> bool
+    requires seats { AreSeats board.now seats.old.items }
+    requires number { number < board.now.seats }
+    requires shard { shard < board.now.shards }
+    ensures { AreSeats board.now seats.new.items }
+{
+    let seat = &mut seats[number];
+    let holds = seat.holds(shard);
+    if holds {
+        board.give_back(seat, shard);
+    }
+    holds
+}
+
 // Two seats and two shards: the first is claimed by one, given back, and claimed by the other.
 fn expect_claims(rt: &impl Abort, memory: &Memory) -> Result<(), AllocError> {
     let (board, mut seats) = match Board::open(memory, 2, 2) {
@@ -46,11 +66,9 @@ fn expect_claims(rt: &impl Abort, memory: &Memory) -> Result<(), AllocError> {
     let asked = memory.asked();
     let first = claim(&board, &mut seats, 0, 0);
     let other = claim(&board, &mut seats, 1, 0);
-    let seat = &mut seats[0];
-    assert!(rt; seat.holds(0));
-    board.give_back(seat, 0);
+    let gave = give_back(&board, &mut seats, 0, 0);
     let last = claim(&board, &mut seats, 1, 0);
-    assert!(rt; (first, other, last) == (Claim::Won, Claim::Held(0), Claim::Won));
+    assert!(rt; gave && (first, other, last) == (Claim::Won, Claim::Held(0), Claim::Won));
     expect_same(rt, memory.asked(), asked);
     let owners = or_refused(rt, board.close(seats), BoardFault::Memory)?;
     assert!(rt; (owners.of(0), owners.of(1)) == (Some(1), None));
