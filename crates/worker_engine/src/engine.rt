@@ -30,10 +30,14 @@ pub const NO_LABEL: u8 = 3;
 /// What a worker keeps between frames: the last shard that it heard under each number, and the table of its last
 /// scan. Contracts see which links it keeps under which number.
 ///
+/// A shard is scanned by numbers of its own for the labels that its links have: 16 bytes and a bit for each of these for the
+/// table, 4 bytes for its name, and a quarter of a byte a vertex. One with at least twice as many links as vertices that is
+/// scanned by threads is scanned by the labels themselves.
+///
 /// Once an answer shows that a shard has links whose ends have one label, these are laid aside: it lists the live ones, each
-/// with labels of its ends, by 24 bytes a live link, and a scan passes over the list alone. Where there is no memory for
-/// the list, all stay live. It keeps the labels of the last ask too, 4 bytes a vertex, beside 16 bytes and a bit a vertex
-/// for the table. Where the labels of an ask don't coarsen them, the lists are given back, and all links are live again.
+/// with numbers or labels of its ends, by 24 bytes a live link, and 4 bytes for the name of each number, and a scan passes
+/// over the list alone. Where there is no memory for the list, all stay live. It keeps the labels of the last ask too, 4
+/// bytes a vertex. Where the labels of an ask don't coarsen them, the lists are given back, and all links are live again.
 #[derive(Drop)]
 pub struct Engine<A: Allocator = Global> {
     shards: BTreeMap<u32, KeptShard<A>, A>,
