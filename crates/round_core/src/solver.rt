@@ -100,8 +100,8 @@ impl<A: Allocator + Copy> Solver<A> {
     /// for. After an error the solver is as it was.
     ///
     /// It looks at the picks of the k vertices that are their own label, and once at each of n vertices: O(n + k log k)
-    /// time. Memory: 4 bytes a vertex for the new labels, 8 more that stay from the first step that takes links on, and 16
-    /// bytes for each link of the round, in the list of those taken before.
+    /// time. Memory: 4 bytes a vertex for the new labels and 8 for each of the k, 8 more a vertex that stay from the first
+    /// step that takes links on, and 16 bytes for each link of the round, in the list of those taken before.
     pub fn step(&mut self, picks: &Picks<A>) -> Result<Turn, SolveFault>
         requires picks { ArePicksOfHearings self.old.labels picks.now }
         ensures turn { IfOk result (IsTurn picks.now self.old self.new) }
@@ -182,8 +182,7 @@ impl<A: Allocator + Copy + Send + Sync> Solver<A> {
     /// is: the new labels are written over the old ones, with their bytes where these are kept, and each pick is let go of, so
     /// that a book can be opened over the picks ([`RoundBook::open_over`](crate::RoundBook::open_over)) without clearing them.
     ///
-    /// Where no thread can be made the caller's does it. Memory: as `step` does, but for the labels, and 8 bytes for each of
-    /// the k vertices meanwhile.
+    /// Where no thread can be made the caller's does it. It takes the memory that `step` does, but for new labels.
     pub fn step_par<R: Threads + Sync>(
         &mut self,
         rt: &R,
