@@ -204,13 +204,14 @@ fn blocks_of_ask<'a>(
     Ok(taken)
 }
 
-const BY_ONE: [Ask; 4] = [(2, 4), (1, 0), (1, 0), (2, 1)];
+const BY_ONE: [Ask; 4] = [(2, 6), (1, 1), (1, 2), (2, 2)];
 
 const BY_HALVES: [Ask; 4] = [(2, 7), (1, 6), (1, 0), (2, 7)];
 
-// An answer that offers something takes one block. By one thread the table of the first ask is used again; by threads
-// each part makes one. Under the labels of one component all links are laid aside at the first ask, so that nothing is
-// left to be scanned at the second.
+// An answer that offers something takes one block. By one thread the table of the first ask, three blocks, is used again,
+// and so is the one of the marks; the names of the numbers take one at each scan, and once links are listed one more for
+// what becomes of the names. By threads, which scan by labels, each part makes a table. Under the labels of one component
+// all links are laid aside at the first ask, so that nothing is left to be scanned at the second.
 #[test]
 fn links_laid_aside_are_scanned_no_more(rt: HostRuntime) -> Result<(), Fail> {
     let memory = Refusing::new(rt.alloc(), Refusals::none());
@@ -273,27 +274,28 @@ fn expect_scanned<A: Allocator>(
 }
 
 const LISTED: [CoarserAsk; 4] = [
-    ([1, 2, 3], 4),
-    ([1, 1, 3], 2),
-    ([1, 1, 3], 1),
-    ([1, 1, 1], 0),
+    ([1, 2, 3], 6),
+    ([1, 1, 3], 3),
+    ([1, 1, 3], 3),
+    ([1, 1, 1], 2),
 ];
 
 const NOT_LISTED_FIRST: [CoarserAsk; 4] = [
-    ([1, 2, 3], 4),
-    ([1, 1, 3], 2),
-    ([1, 1, 3], 2),
-    ([1, 1, 1], 0),
+    ([1, 2, 3], 6),
+    ([1, 1, 3], 3),
+    ([1, 1, 3], 3),
+    ([1, 1, 1], 2),
 ];
 
-// The live links are listed, in one block, once some are laid aside: the second ask's second block, behind four of the
-// first ask and one for the labels of each. Where that one is refused, all stay live, and the next ask asks for it again.
+// The live links are listed, in one block, once some are laid aside: the second ask's third block, behind its names and
+// its offers, six of the first ask and one for the labels of each. Where that one is refused, all stay live, and the next
+// ask asks for it again.
 #[test]
 fn live_links_are_listed_once(rt: HostRuntime) -> Result<(), Fail> {
     for by in [By::OneThread, By::Threads] {
         let memory = Refusing::new(rt.alloc(), Refusals::none());
         let before = expect_coarser_asks(&rt, rt.alloc(), &memory, by, &LISTED)?;
-        let memory = Refusing::new(rt.alloc(), Refusals::only(before.wrapping_add(8)));
+        let memory = Refusing::new(rt.alloc(), Refusals::only(before.wrapping_add(11)));
         expect_coarser_asks(&rt, rt.alloc(), &memory, by, &NOT_LISTED_FIRST)?;
     }
     Ok(())
