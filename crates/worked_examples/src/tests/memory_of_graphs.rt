@@ -1,6 +1,6 @@
 // The memory that a reader asks for: that of the arcs that came, whatever its problem line states. And what a forest of
 // distinct links asks for beside their list.
-use crate::lists::have_lows_ascending;
+use super::lists::have_lows_ascending;
 use gr_text::{GrFault, GrKind, GrReader, MAX_BYTES, ReadFault, parse, read_graph};
 use link_key::{Forest, Link};
 use std::alloc::{AllocError, Global};

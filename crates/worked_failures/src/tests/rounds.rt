@@ -433,6 +433,7 @@ fn blocks_in_room<'a>(
     assert!(rt; n < 1 << 20);
     let labels = Labels::apart(memory, 6)?;
     let picks = picks_over(rt, memory, cut, &labels, Offered::Nothing)?;
+    assert!(rt; picks.is_empty());
     let labels = Labels::apart(memory, n)?;
     assert!(rt; all_have_labels(cut, labels.n()));
     let before = memory.given();

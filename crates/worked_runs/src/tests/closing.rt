@@ -6,7 +6,7 @@ ghost use Rattle.round_core.specs.BookValue.{missing};
 use super::rounds::opened;
 use frames::Answer;
 use link_key::{Cut, Labels, Link, Offers};
-use round_core::{Picks, RoundBook};
+use round_core::{Picks, RoundBook, Solver, Turn};
 use std::alloc::Global;
 use std::process::Abort;
 use std::test::Fail;
@@ -22,7 +22,7 @@ fn step(rt: &impl Abort, shard: u32, vertex: u32) -> Link {
 }
 
 // So many shards that each have a link from each of n vertices to the next.
-fn paths(rt: &impl Abort, alloc: Global, n: u32, shards: u32) -> Result<Vec<Link>, Fail>
+pub(crate) fn paths(rt: &impl Abort, alloc: Global, n: u32, shards: u32) -> Result<Vec<Link>, Fail>
     ensures few { IfOk result (λ links. length links.items ≤ 2 ^ 24) }
 {
     let mut links = Vec::new(alloc);
@@ -182,14 +182,20 @@ fn no_offer(rt: HostRuntime) -> Result<(), Fail> {
     expect_least(&rt, rt.alloc(), 5, &[0, 0], &[1, 0])
 }
 
-// A book over the picks of one of 50 vertices has the picks of its own answer alone, which offers one link.
-fn expect_least_over(rt: &impl Abort, alloc: Global, n: u32) -> Result<(), Fail> {
+// A book over the picks of one of 50 vertices, which a step let go of, has the picks of its own answer alone, which offers one link.
+fn expect_least_over(
+    rt: &(impl Abort + Threads + Sync),
+    alloc: Global,
+    n: u32,
+) -> Result<(), Fail> {
     assert!(rt; 2 <= n && n < 1 << 20);
     let links = paths(rt, alloc, 50, 1)?;
     let cut = Cut::even(alloc, links.as_slice(), 1).expect(rt, "a cut");
-    let labels = Labels::apart(alloc, 50)?;
-    let book = opened(rt, alloc, &cut, 1, &labels)?;
-    let picks = heard(rt, alloc, book, &[49], &[0])?.close();
+    let mut solver = Solver::new(alloc, 50)?;
+    let book = opened(rt, alloc, &cut, 1, solver.labels())?;
+    let mut picks = heard(rt, alloc, book, &[49], &[0])?.close();
+    let turn = solver.step_par(rt, &mut picks).expect(rt, "a turn");
+    assert!(rt; turn != Turn::Done && picks.is_empty());
     let links = paths(rt, alloc, n, 1)?;
     let cut = Cut::even(alloc, links.as_slice(), 1).expect(rt, "a cut");
     let labels = Labels::apart(alloc, n)?;

@@ -1,4 +1,5 @@
 // A solver's steps on the worked graphs, and whole runs by one thread.
+use super::closing::paths;
 use super::rounds::{expect_told, links_to_cut, opened, picks_of_offers, picks_of_scans};
 use link_key::{Cut, Forest, Labels, Link};
 use round_core::{SolveFault, Solver, Turn, solve_alone};
@@ -48,6 +49,70 @@ fn step(
     let turn = solver.step(&picks).expect(rt, "a turn");
     assert!(rt; turn == Turn::Done || bytes_kept(solver.labels()).is_none());
     Ok(turn)
+}
+
+// A step by threads does what one in one thread does, keeps the labels' bytes as those of the labels, and leaves no pick.
+fn expect_same_step<R: Abort + Threads + Sync>(
+    rt: &R,
+    alloc: Global,
+    cut: &Cut,
+    one: &mut Solver,
+    many: &mut Solver,
+) -> Result<Turn, Fail> {
+    let book = opened(rt, alloc, cut, one.round(), one.labels())?;
+    let picks = picks_of_scans(rt, alloc, book, &[0])?;
+    let book = opened(rt, alloc, cut, many.round(), many.labels())?;
+    let mut same = picks_of_scans(rt, alloc, book, &[0])?;
+    let turn = one.step(&picks).expect(rt, "a turn");
+    assert!(rt; many.step_par(rt, &mut same).expect(rt, "a turn") == turn);
+    assert!(rt; same.is_empty() && many.labels().as_slice() == one.labels().as_slice());
+    assert!(rt; have_their_bytes(many.labels()));
+    Ok(turn)
+}
+
+// Whether the labels' bytes are kept, and are theirs: four of each, the highest first.
+fn have_their_bytes(labels: &Labels) -> bool {
+    let Some(mut rest) = labels.spelled() else {
+        return false;
+    };
+    for label in labels.as_slice() {
+        match rest.split_first_chunk::<4>() {
+            Some((first, behind)) if *first == label.to_be_bytes() => rest = behind,
+            _ => return false,
+        }
+    }
+    rest.is_empty()
+}
+
+// All steps over a path of so many vertices by threads and in one, and the forests at their ends.
+fn expect_same_steps<R: Abort + Threads + Sync>(rt: &R, alloc: Global, n: u32) -> Result<(), Fail> {
+    assert!(rt; 1 < n && n <= 1 << 20);
+    let links = paths(rt, alloc, n, 1)?;
+    let cut = Cut::even(alloc, links.as_slice(), 1).expect(rt, "a cut");
+    let mut one = Solver::new(alloc, n)?;
+    let mut many = Solver::new(alloc, n)?;
+    many.spell_labels()?;
+    let mut turn = Turn::Merged(0);
+    for _ in 0..20 {
+        if turn == Turn::Done {
+            break;
+        }
+        turn = expect_same_step(rt, alloc, &cut, &mut one, &mut many)?;
+    }
+    assert!(rt; turn == Turn::Done && one.round() == many.round());
+    assert!(rt;
+        all_have_labels(&cut, one.labels().n()) && all_have_labels(&cut, many.labels().n())
+    );
+    let found = many.finish(&cut).expect(rt, "a forest");
+    assert!(rt; found.links() == one.finish(&cut).expect(rt, "a forest").links());
+    Ok(())
+}
+
+// Too few vertices for threads, and so many that each part has a thread: of the roots, and of the labels too.
+#[test]
+fn steps_by_threads(rt: HostRuntime) -> Result<(), Fail> {
+    expect_same_steps(&rt, rt.alloc(), 40)?;
+    expect_same_steps(&rt, rt.alloc(), 140_001)
 }
 
 // From vertices that are apart these steps are taken over the cut. The solver behind them.
