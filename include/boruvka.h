@@ -2,7 +2,7 @@
  *
  * What each call answers is proved, in the crate boruvka_c of the repository. A proof ends where C begins, so a caller
  * has to see to this:
- * - A pointer is never null, not even one to no elements, and points to so many elements as are told behind it, aligned
+ * - A pointer is never null, not even one to no elements, and points to as many elements as the number behind it says, aligned
  *   as their type is. Each may be read and written by the call, and is touched by nothing else meanwhile; what two
  *   parameters point to doesn't overlap. `text` alone is only read, and may be shared.
  * - malloc, realloc and free are of one allocator, and a block of theirs is aligned to each power of two up to 16 that
@@ -42,7 +42,7 @@ enum boruvka_refusal {
     BORUVKA_TOO_MANY_ARCS = -14, BORUVKA_MISSING_PROBLEM = -15, BORUVKA_MISSING_ARCS = -16
 };
 
-/* What boruvka_forest_text tells: its refusal and the line, from 1, of a faulty text, else 0. Both are 0 at a forest. */
+/* What boruvka_forest_text puts there: its refusal and the line, from 1, of a faulty text, else 0. Both are 0 at a forest. */
 struct boruvka_fault {
     int64_t kind;
     uint64_t line;
@@ -55,7 +55,7 @@ struct boruvka_fault {
 int64_t boruvka_forest(uint32_t n, struct boruvka_link *links, size_t m);
 
 /* Puts the text of the minimum spanning forest of a .gr text into `into`, and answers how many bytes it has. Where that
- * is more than `room`, the first `room` bytes are there. A refusal is told in `fault` too, and leaves `into` as it was. */
+ * is more than `room`, the first `room` bytes are there. A refusal stands in `fault` too, and leaves `into` as it was. */
 int64_t boruvka_forest_text(const uint8_t *text, size_t length, uint8_t *into, size_t room, struct boruvka_fault *fault);
 
 /* Puts the text of a refusal, and a 0 behind it, into `into`, as far as there is room, and answers its length without

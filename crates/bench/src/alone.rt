@@ -17,16 +17,16 @@ use std::time::{Duration, Instant};
 // How often each is run.
 const RUNS: usize = 9;
 
-/// Reads the text, and tells the times and the rounds.
+/// Reads the text, and prints the times and the rounds.
 pub(crate) fn time_rounds<S: Source>(rt: &HostRuntime, source: &mut S) -> anyhow::Result<()>
     requires can { S.can_read source.old }
 {
     let graph = read_graph(rt.alloc(), source)?;
-    tell(rt, &graph)
+    print_rounds(rt, &graph)
 }
 
 // The times and the rounds of a graph.
-fn tell(rt: &HostRuntime, graph: &Graph) -> anyhow::Result<()> {
+fn print_rounds(rt: &HostRuntime, graph: &Graph) -> anyhow::Result<()> {
     let (least, links) = measure_forest(rt, graph)?;
     eprintln!(rt; "plain_forest {} us", least.as_micros())?;
     for shards in [1, 64, 4096] {
@@ -60,7 +60,7 @@ fn measure_alone(
         return Ok((Duration::MAX, 0, 0));
     };
     let mut least = Duration::MAX;
-    let mut told = (0, 0);
+    let mut found = (0, 0);
     for _ in 0..RUNS {
         if graph.n() > MAX_VERTICES || !have_labels(&cut, graph.n()) {
             break;
@@ -68,9 +68,9 @@ fn measure_alone(
         let start = Instant::now(rt)?;
         let (forest, rounds) = solve_alone(rt.alloc(), graph.n(), &cut)?;
         least = least.min(start.elapsed(rt)?);
-        told = (forest.links().len(), rounds);
+        found = (forest.links().len(), rounds);
     }
-    Ok((least, told.0, told.1))
+    Ok((least, found.0, found.1))
 }
 
 // Whether each end of each shard's links is one of so many vertices.

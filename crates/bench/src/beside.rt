@@ -24,7 +24,7 @@ impl Times {
     }
 
     /// Prints both, and says whether the step took more than twice as long as its simple form.
-    pub(crate) fn tell(self, rt: &impl Eprint, name: &str) -> anyhow::Result<bool> {
+    pub(crate) fn print(self, rt: &impl Eprint, name: &str) -> anyhow::Result<bool> {
         eprintln!(rt;
             "{name}: {} us, simple form {} us",
             self.step.as_micros(),

@@ -11,7 +11,7 @@ use std::time::{Duration, Instant};
 // How often each step is run.
 const RUNS: usize = 9;
 
-/// Tells the times under labels of three kinds.
+/// Prints the times under labels of three kinds.
 pub(crate) fn time_frames(rt: &HostRuntime) -> anyhow::Result<()> {
     let apart = Labels::apart(rt.alloc(), MANY)?;
     measure(rt, "each vertex by itself", &apart)?;

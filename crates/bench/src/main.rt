@@ -3,7 +3,7 @@
 //! several runs but for `steps`, which makes one.
 //!
 //! - `steps` reads a `.gr` text from standard input, solves it and writes its forest, as `boruvka --plain` does, and
-//!   tells what each of the three took ([`steps`]).
+//!   prints what each of the three took ([`steps`]).
 //! - `steps check` times each step beside a simple form of it, and fails where one takes more than twice as long
 //!   ([`step_check`], [`simple_forms`]).
 //! - `frames` times an ask of a million labels, written and read, beside a copy of its bytes ([`codec`]).

@@ -31,9 +31,9 @@ pub(crate) fn check_scans(
     Ok(())
 }
 
-// Tells both times; an error where the step took more than twice as long as its simple form.
+// Prints both times; an error where the step took more than twice as long as its simple form.
 fn judge(rt: &impl Eprint, name: &str, times: Times) -> anyhow::Result<()> {
-    if times.tell(rt, name)? {
+    if times.print(rt, name)? {
         anyhow::bail!("{name} is more than twice as slow as its simple form");
     }
     Ok(())

@@ -36,7 +36,7 @@ const FEW_LINKS: [u32; 7] = [
 // How often a list of few links is scanned.
 const MANY_RUNS: usize = 49;
 
-/// Tells the times of scans of many links, and then of few, by one thread and by threads.
+/// Prints the times of scans of many links, and then of few, by one thread and by threads.
 pub(crate) fn time_scans(
     rt: &(impl Print + Eprint + AllocGlobal + Clock + Threads + Sync),
 ) -> anyhow::Result<()> {
@@ -116,13 +116,13 @@ fn measure(
     labels: &Labels,
 ) -> anyhow::Result<()> {
     let mut least = Duration::MAX;
-    let mut told = (0, 0);
+    let mut last = (0, 0);
     for _ in 0..RUNS {
         let (took, offered) = time_scan(rt, links, labels)?;
         least = least.min(took);
-        told = offered;
+        last = offered;
     }
-    println!(rt; "{name}: {} offers, places {}", told.0, told.1)?;
+    println!(rt; "{name}: {} offers, places {}", last.0, last.1)?;
     eprintln!(rt; "{name}: scan {} us", least.as_micros())?;
     Ok(())
 }

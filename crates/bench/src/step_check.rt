@@ -40,7 +40,7 @@ fn check_graph(rt: &HostRuntime, text: &[u8], graph: &Graph) -> anyhow::Result<(
     ];
     let mut slow = false;
     for (name, times) in steps {
-        slow |= times.tell(rt, name)?;
+        slow |= times.print(rt, name)?;
     }
     if slow {
         anyhow::bail!("a step takes more than twice as long as its simple form");

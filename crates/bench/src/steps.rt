@@ -5,7 +5,7 @@ use gr_text::{read_graph, write_forest};
 use link_key::forest_of;
 use std::time::Instant;
 
-/// Runs the three steps once, and tells their times.
+/// Runs the three steps once, and prints their times.
 pub(crate) fn time_steps<S: Source>(rt: &HostRuntime, source: &mut S) -> anyhow::Result<()>
     requires can { S.can_read source.old }
 {

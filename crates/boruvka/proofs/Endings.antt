@@ -39,7 +39,7 @@ as_over false asked status before after is ends = ends
 
 -- ---- want of memory before anything was read or written
 
--- the line that tells it
+-- the line that says so
 abbrev no_memory : List ℕ
 no_memory = fault_line (fault.Read read.Memory)
 
@@ -89,21 +89,21 @@ pub wants_memory_obeys : (asked : Asked) (s : SourceState) (a e f : SinkState) �
     → Obeys asked 4 (record { source = s; sink = a; errors = e }) (record { source = s; sink = a; errors = f })
 wants_memory_obeys asked = wants_memory_on asked.file asked
 
--- a FILE that can't be opened is told, and nothing else is done
+-- of a FILE that can't be opened the line is written, and nothing else is done
 pub unopened_obeys : (chosen : Options) (name : _) (s : SourceState) (a e f : SinkState) → chosen.file ≡ Some name → IsWritten (unopened_line (string_bytes name)) e f
     → Obeys (asked_of chosen) 3 (record { source = s; sink = a; errors = e }) (record { source = s; sink = a; errors = f })
-unopened_obeys chosen name s a e f is told =
-    subst (λ o. EndsOn (option_map string_bytes o) (asked_of chosen) 3 (record { source = s; sink = a; errors = e }) (record { source = s; sink = a; errors = f })) (sym is) (inl (refl, took_nothing a, told))
+unopened_obeys chosen name s a e f is written =
+    subst (λ o. EndsOn (option_map string_bytes o) (asked_of chosen) 3 (record { source = s; sink = a; errors = e }) (record { source = s; sink = a; errors = f })) (sym is) (inl (refl, took_nothing a, written))
 
 -- ---- lines
 
--- a run whose report is told ends as its answer says
+-- a run whose report is written ends as its answer says
 status_of_report : {X : Type 0} (result : Result (Report × X) RunFault) → status_of_run (report_of result) ≡ status_of_run result
 status_of_report (Ok went) = refl
 status_of_report (Err why) = refl
 
 pub status_by_report : {X : Type 0} (status : ℕ) (ended : Result Report RunFault) (result : Result (Report × X) RunFault) → ended ≡ report_of result → status ≡ status_of_run ended → status ≡ status_of_run result
-status_by_report status ended result told is = is ∙ (subst (λ (r : Result Report RunFault). status_of_run ended ≡ status_of_run r) told refl ∙ status_of_report result)
+status_by_report status ended result ended_is is = is ∙ (subst (λ (r : Result Report RunFault). status_of_run ended ≡ status_of_run r) ended_is refl ∙ status_of_report result)
 
 pub over_lines : {L : Type 0} (over : Line.Ghosts L) (lines : List L) (shards : ℕ) (wants : Bool) (status : ℕ) (before after : Standard)
     (ended : Result Report RunFault) (result : Result (Report × Vec L) RunFault) → ended ≡ report_of result → status ≡ status_of_run ended
@@ -114,11 +114,11 @@ pub over_lines : {L : Type 0} (over : Line.Ghosts L) (lines : List L) (shards : 
     → (AreServed over lines → RanServed (Even shards) result (of_run before) (of_run after))
     → (AreServed over lines → EndsWell (Even shards) result (of_run before) (of_run after))
     → EndsOver over lines shards wants status before after
-over_lines over lines shards wants status before after ended result told is reported ran malformed lawful served ends_well = record {
+over_lines over lines shards wants status before after ended result ended_is is reported ran malformed lawful served ends_well = record {
   result = result;
-  status_is = status_by_report status ended result told is;
+  status_is = status_by_report status ended result ended_is is;
   ran = ran;
-  reported = subst (λ (r : Result Report RunFault). IsReported wants r before.errors after.errors) told reported;
+  reported = subst (λ (r : Result Report RunFault). IsReported wants r before.errors after.errors) ended_is reported;
   malformed = malformed;
   lawful = lawful;
   served = served;

@@ -1,4 +1,4 @@
--- The lines that tell what went wrong.
+-- The lines that say what went wrong.
 use Rattle.std.specs.Prelude.{ℕ, List, [], ◌∷◌, ◌++◌, codes}
 use Rattle.forest_run.specs.FaultText.{fault_text}
 use Rattle.forest_run.specs.declared.fault.RunFault.{RunFault}

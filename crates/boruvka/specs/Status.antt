@@ -84,7 +84,7 @@ pub record EndsWith (wants : Bool) (status : ℕ) (before after : Standard) : Ty
   pub status_is : status ≡ status_of_run result
   pub ran : RanPlain result (of_run before) (of_run after)
   pub reported : IsReported wants result before.errors after.errors
-  -- of a source that tells
+  -- of a source that is known
   pub malformed : (bytes : List ℕ) → HasFile bytes before.source after.source → MeansNothing bytes → IsFirstFaultOf bytes result
   pub lawful : (bytes : List ℕ) → HasFile bytes before.source after.source → MeansGraph bytes → IsNoRefusal result
 
@@ -95,7 +95,7 @@ pub record EndsOver {L : Type 0} (over : Line.Ghosts L) (lines : List L) (shards
   pub status_is : status ≡ status_of_run result
   pub ran : RanLines over (Even shards) lines result (of_run before) (of_run after)
   pub reported : IsReported wants (report_of result) before.errors after.errors
-  -- of a source that tells
+  -- of a source that is known
   pub malformed : (bytes : List ℕ) → HasFile bytes before.source after.source → MeansNothing bytes → IsFirstFaultOf bytes result
   pub lawful : (bytes : List ℕ) → HasFile bytes before.source after.source → MeansGraph bytes → IsNoRefusal result
   -- where each line is new and carries its worker's session
@@ -110,7 +110,7 @@ pub record EndsOverWorkers (workers shards : ℕ) (wants : Bool) (status : ℕ) 
   pub new : All (λ line. line ≡ unused) lines
   pub ends : EndsOver tcp_line lines shards wants status before after
 
--- ---- what follows for the status, of a source that tells
+-- ---- what follows for the status, of a source that is known
 
 -- the source has a file that means nothing, and no read failed
 abbrev pub HasNoGraph : SourceState → SourceState → Type 0
@@ -139,7 +139,7 @@ asked_of chosen = record {
   file = option_map string_bytes chosen.file;
 }
 
--- a source that tells nothing of itself
+-- a source of which nothing is known
 abbrev pub uncounted : SourceState
 uncounted = only_left None
 
@@ -152,7 +152,7 @@ abbrev pub EndsAs : Bool → Asked → ℕ → Standard → Standard → Type 0
 EndsAs true asked = EndsWith asked.report
 EndsAs false asked = EndsOverWorkers asked.workers asked.shards asked.report
 
--- what is done with a FILE: it can't be opened, which is told and nothing is written, or it is run on, and tells nothing of
+-- what is done with a FILE: it can't be opened, whose line is written and nothing else, or it is run on, and nothing is known of
 -- itself; without a FILE the input is run on
 abbrev pub EndsOn : Option (List ℕ) → Asked → ℕ → Standard → Standard → Type 0
 EndsOn None asked status before after = EndsAs asked.plain asked status before after

@@ -5,7 +5,7 @@ use Rattle.byte_streams.specs.Streams.{SourceState, SinkState}
 use Rattle.forest_run.specs.Outcomes.{Streams, streams}
 use Rattle.boruvka.specs.declared.standard.StandardStreams.{StandardStreams}
 
--- the program's three streams, as each tells itself
+-- the program's three streams, as each is known
 pub record Standard : Type 0 where
   pub source : SourceState
   pub sink : SinkState
@@ -15,12 +15,12 @@ pub record Standard : Type 0 where
 abbrev pub of_run : Standard → Streams
 of_run all = streams all.source all.sink
 
--- what an input, an output and errors tell
+-- what is known of an input, an output and errors
 abbrev pub standard : {I O E : Type 0} → (I → SourceState) → (O → SinkState) → (E → SinkState) → I → O → E → Standard
 standard source_of sink_of errors_of input output errors =
     record { source = source_of input; sink = sink_of output; errors = errors_of errors }
 
--- R of what an input, an output and errors tell before and after
+-- R of what is known of an input, an output and errors before and after
 abbrev pub OnThree : {I O E : Type 0} → (I → SourceState) → (O → SinkState) → (E → SinkState) → (Standard → Standard → Type 0)
     → I → O → E → I → O → E → Type 0
 OnThree source_of sink_of errors_of R input output errors input' output' errors' =
@@ -32,7 +32,7 @@ OnThree source_of sink_of errors_of R input output errors input' output' errors'
 abbrev pub Left : Type 0 → Type 0 → Type 0 → Type 0
 Left I O E = MutBor I × (MutBor O × (MutBor E × ⊤))
 
--- R of what the three tell before and after
+-- R of what is known of the three before and after
 abbrev pub OnStreams : {I O E : Type 0} → (I → SourceState) → (O → SinkState) → (E → SinkState) → (Standard → Standard → Type 0)
     → StandardStreams I O E → Left I O E → Type 0
 OnStreams source_of sink_of errors_of R before after =
@@ -40,12 +40,12 @@ OnStreams source_of sink_of errors_of R before after =
     (standard source_of sink_of errors_of before.input.now before.output.now before.errors.now)
     (standard source_of sink_of errors_of after.0.now after.1.0.now after.1.1.0.now)
 
--- R of what the input tells
+-- R of what is known of the input
 abbrev pub OnInput : {I O E : Type 0} → (I → SourceState) → (SourceState → SourceState → Type 0)
     → StandardStreams I O E → Left I O E → Type 0
 OnInput source_of R before after = R (source_of before.input.now) (source_of after.0.now)
 
--- R of what the output tells
+-- R of what is known of the output
 abbrev pub OnOutput : {I O E : Type 0} → (O → SinkState) → (SinkState → SinkState → Type 0)
     → StandardStreams I O E → Left I O E → Type 0
 OnOutput sink_of R before after = R (sink_of before.output.now) (sink_of after.1.0.now)

@@ -158,7 +158,7 @@ pub fn options<'a, S: AsStr>(alloc: Global, words: &'a [S]) -> Result<Options, O
     ensures some_shards { IfOk result (λ o. 1 ≤ o.shards) }
     ensures few_shards { IfOk result (λ o. o.shards ≤ MAX_SHARDS) }
 
-    // What is refused is refused for what is wrong with it; want of memory is told as such.
+    // What is refused is refused for what is wrong with it; want of memory is answered as such.
     ensures refused { OnUsage result (λ error.
         IsAmong (kind_of error) (refusals (map S.text words.entry.now))) }
     ensures memory { OnUsage result (λ error. kind_of error ≢ OutOfMemory) }

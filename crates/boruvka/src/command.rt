@@ -16,7 +16,7 @@ ghost use Rattle.boruvka.specs.Status.{HasNoGraph, IsDone, LeavesOutput, IsUntou
 
 use crate::arguments::options;
 use crate::chosen::{Options, OptionsFault};
-use crate::messages::{tell, tell_no_text, tell_report, tell_unopened, write_text};
+use crate::messages::{write_fault, write_no_text, write_report, write_text, write_unopened};
 use crate::standard::{StandardStreams, workers_beside};
 use crate::statuses::{DEVICE, NO_MEMORY, USAGE, status_of};
 use byte_streams::{Sink, Source, Uncounted, put};
@@ -31,8 +31,8 @@ use std::sync::Wait;
 use std::thread::Threads;
 use tcp_lines::{TcpLine, Workers};
 
-// Tells the report of a run that ended well, where it is wanted, or why it ended ill.
-fn tell_end<E: Sink>(wants_report: bool, ended: &Result<Report, RunFault>, errors: &mut E) -> u8
+// Writes the report of a run that ended well, where it is wanted, or why it ended ill.
+fn write_end<E: Sink>(wants_report: bool, ended: &Result<Report, RunFault>, errors: &mut E) -> u8
     requires { E.can_write errors.old }
     ensures status { result ≡ status_of_run ended.now }
     ensures reported { IsReported wants_report ended.now (E.state errors.old) (E.state errors.new) }
@@ -41,18 +41,18 @@ fn tell_end<E: Sink>(wants_report: bool, ended: &Result<Report, RunFault>, error
     match ended {
         Ok(report) => {
             if wants_report {
-                tell_report(errors, report);
+                write_report(errors, report);
             }
             0
         }
         Err(fault) => {
-            tell(errors, fault);
+            write_fault(errors, fault);
             status_of(fault)
         }
     }
 }
 
-// What a run told, without its lines: they are closed.
+// What a run answered, without its lines: they are closed.
 fn without_lines<L: Drop>(ended: Result<(Report, Vec<L>), RunFault>) -> Result<Report, RunFault>
     ensures { result ≡ report_of ended }
 {
@@ -103,7 +103,7 @@ pub fn run_over<
     } = io;
     let cutting = Cutting::Even(shards);
     let ended = without_lines(run_lines(rt, rt.alloc(), input, cutting, lines, output));
-    tell_end(wants_report, &ended, errors)
+    write_end(wants_report, &ended, errors)
 }
 
 // Runs over the lines to the workers that were started, a line for each of them, as the words ask for. Each of them has
@@ -174,11 +174,11 @@ where
             errors,
         } = io;
         let ended = run_plain(alloc, input, output);
-        return tell_end(chosen.report, &ended, errors);
+        return write_end(chosen.report, &ended, errors);
     }
-    let (_held, count) = workers_beside(rt, chosen.workers);
+    let (_reserved, count) = workers_beside(rt, chosen.workers);
     let Ok(started) = Workers::start(rt, alloc, count) else {
-        tell(io.errors, &RunFault::Memory);
+        write_fault(io.errors, &RunFault::Memory);
         return NO_MEMORY;
     };
     run_started(rt, chosen, started, io)
@@ -223,7 +223,7 @@ where
         return run_on(rt, chosen, io);
     };
     let Ok(file) = File::open(rt, name) else {
-        tell_unopened(io.errors, name.as_str());
+        write_unopened(io.errors, name.as_str());
         return DEVICE;
     };
     let StandardStreams {
@@ -262,7 +262,7 @@ fn print_usage<O: Sink, E: Sink>(
     ensures refused { EndsRefused O.state result output.old output.new }
 {
     let Ok(text) = format!(in alloc; "{error}") else {
-        tell(errors, &RunFault::Memory);
+        write_fault(errors, &RunFault::Memory);
         return NO_MEMORY;
     };
     if error.use_stderr() {
@@ -272,7 +272,7 @@ fn print_usage<O: Sink, E: Sink>(
     match put(output, 0, text.as_bytes()) {
         Ok(_) => 0,
         Err(fault) => {
-            tell(
+            write_fault(
                 errors,
                 &RunFault::Write {
                     written: fault.written,
@@ -286,7 +286,7 @@ fn print_usage<O: Sink, E: Sink>(
 /// Does all that the program does, and answers its status.
 ///
 /// `words` has the program's name first. The words are judged first, by [`options`]; then they are
-/// obeyed, by [`obey`], or it is told what is wrong with them. A text for the user goes to the errors, the
+/// obeyed, by [`obey`], or the user reads what is wrong with them. A text for the user goes to the errors, the
 /// help alone to the output. A failed write to the errors is ignored.
 ///
 /// Status 0: done. 1: the file was refused, or can't be cut so. 2: the words were. 3: FILE can't be opened, a
@@ -349,13 +349,13 @@ where
         }
         Err(OptionsFault::Usage(error)) => print_usage(rt.alloc(), &error, output, errors),
         Err(OptionsFault::Memory) => {
-            tell(errors, &RunFault::Memory);
+            write_fault(errors, &RunFault::Memory);
             NO_MEMORY
         }
     }
 }
 
-/// Tells why the words of the command line weren't got, and answers the status: 4 for want of memory, and
+/// Writes why the words of the command line weren't got, and answers the status: 4 for want of memory, and
 /// else 2, for a word that isn't UTF-8.
 pub fn without_words<E: Sink>(error: &io::Error, errors: &mut E) -> u8
     requires { E.can_write errors.old }
@@ -365,9 +365,9 @@ pub fn without_words<E: Sink>(error: &io::Error, errors: &mut E) -> u8
         → (result ≡ 2) × IsWritten no_text_line (E.state errors.old) (E.state errors.new) }
 {
     if error.kind() == ErrorKind::OutOfMemory {
-        tell(errors, &RunFault::Memory);
+        write_fault(errors, &RunFault::Memory);
         return NO_MEMORY;
     }
-    tell_no_text(errors);
+    write_no_text(errors);
     USAGE
 }

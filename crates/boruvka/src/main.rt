@@ -9,7 +9,7 @@
 //!
 //! What it promises:
 //! - The output gets a prefix of the forest's text, the whole where the status is 0, or the help; the status is one of
-//!   six, and tells what failed ([`command::obey`]).
+//!   six, and writes what failed ([`command::obey`]).
 //! - Standard error gets the report that was asked for, or the line that says why; the usage there is only tested.
 //! - The forest is the minimum one by one thread, without workers, and where workers answer as the engine does, which no
 //!   contract sees of sockets; whatever they answer it spans ([`command::run_over`]).

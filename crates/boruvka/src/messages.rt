@@ -21,7 +21,7 @@ pub fn write_text<S: Sink>(sink: &mut S, text: &[u8])
 /// Writes a report as a line, in one write where the sink takes it whole.
 ///
 /// It has the text that [`Report`] is shown as.
-pub fn tell_report<S: Sink>(sink: &mut S, report: &Report)
+pub fn write_report<S: Sink>(sink: &mut S, report: &Report)
     requires { S.can_write sink.old }
     ensures { IsWritten (report_line report.now) (S.state sink.old) (S.state sink.new) }
 {
@@ -34,7 +34,7 @@ pub fn tell_report<S: Sink>(sink: &mut S, report: &Report)
 /// Writes why a run ended ill as a line, behind the program's name, in one write where the sink takes it whole.
 ///
 /// It has the text that [`RunFault`] is shown as.
-pub fn tell<S: Sink>(sink: &mut S, fault: &RunFault)
+pub fn write_fault<S: Sink>(sink: &mut S, fault: &RunFault)
     requires { S.can_write sink.old }
     ensures { IsWritten (fault_line fault.now) (S.state sink.old) (S.state sink.new) }
 {
@@ -46,7 +46,7 @@ pub fn tell<S: Sink>(sink: &mut S, fault: &RunFault)
 }
 
 /// Writes that a word of the command line isn't UTF-8, as a line behind the program's name.
-pub fn tell_no_text<S: Sink>(sink: &mut S)
+pub fn write_no_text<S: Sink>(sink: &mut S)
     requires { S.can_write sink.old }
     ensures { IsWritten no_text_line (S.state sink.old) (S.state sink.new) }
 {
@@ -79,7 +79,7 @@ fn write_three<S: Sink>(sink: &mut S, first: &[u8], second: &[u8], third: &[u8])
 ///
 /// The name stands there byte for byte, control bytes and line feeds too. A name that is longer than any
 /// file's is written in a write of its own.
-pub fn tell_unopened<S: Sink>(sink: &mut S, name: &str)
+pub fn write_unopened<S: Sink>(sink: &mut S, name: &str)
     requires { S.can_write sink.old }
     ensures { IsWritten (unopened_line name.now) (S.state sink.old) (S.state sink.new) }
 {

@@ -4,7 +4,7 @@ ghost use Rattle.std.specs.Prelude.{◌≤◌};
 use std::fs::{File, Files};
 use std::os::fd::AsRawFd;
 
-/// What the program reads, what it writes, and where it tells what went wrong.
+/// What the program reads, what it writes, and where it writes what went wrong.
 #[derive(Drop)]
 pub struct StandardStreams<'i, 'o, 'e, I, O, E> {
     /// The text of the graph, where no FILE is named.

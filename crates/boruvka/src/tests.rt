@@ -7,7 +7,7 @@ ghost use Rattle.ports.specs.Testing.{line_of_script};
 use crate::arguments::{all_words, options};
 use crate::chosen::OptionsFault;
 use crate::command::{command, run_over, without_words};
-use crate::messages::{tell, tell_report, write_text};
+use crate::messages::{write_fault, write_report, write_text};
 use crate::standard::{StandardStreams, workers_beside};
 use crate::statuses::status_of;
 use byte_streams::{FusedSink, FusedSource, Uncounted};
@@ -150,7 +150,7 @@ fn refuses_a_file_by_its_first_fault(rt: HostRuntime) -> Result<(), Fail> {
 }
 
 #[test]
-fn tells_a_file_that_cannot_be_read(rt: HostRuntime) -> Result<(), Fail> {
+fn prints_a_file_that_cannot_be_read(rt: HostRuntime) -> Result<(), Fail> {
     let unopened = b"boruvka: cannot open no/such/file\n";
     expect(
         &rt,
@@ -206,7 +206,7 @@ fn refuses_a_file_over_workers(rt: HostRuntime) -> Result<(), Fail> {
 }
 
 #[test]
-fn tells_how_much_was_written(rt: HostRuntime) -> Result<(), Fail> {
+fn prints_how_much_was_written(rt: HostRuntime) -> Result<(), Fail> {
     let mut errors = Vec::new(rt.alloc());
     let mut input = SMALL_NET.as_slice();
     let mut output = FusedSink::new(rt.alloc(), 10, 7)?;
@@ -227,29 +227,29 @@ fn tells_how_much_was_written(rt: HostRuntime) -> Result<(), Fail> {
     Ok(())
 }
 
-// A fault is told by this line, and has this status.
-fn expect_told(rt: &(impl Abort + Alloc<A = Global>), fault: RunFault, status: u8, line: &[u8]) {
+// A fault has this line, and this status.
+fn expect_line(rt: &(impl Abort + Alloc<A = Global>), fault: RunFault, status: u8, line: &[u8]) {
     let mut errors = Vec::new(rt.alloc());
-    tell(&mut errors, &fault);
+    write_fault(&mut errors, &fault);
     assert_eq!(rt; errors.as_slice(), line);
     assert_eq!(rt; status_of(&fault), status);
 }
 
 #[test]
-fn tells_what_the_cut_and_the_workers_made_impossible(rt: HostRuntime) -> Result<(), Fail> {
+fn prints_what_the_cut_and_the_workers_made_impossible(rt: HostRuntime) -> Result<(), Fail> {
     let link = Link::of_arc(1, 2, 17).ok_or("a link")?;
     let missed = b"boruvka: link 1 2 17 was missed\n";
-    expect_told(&rt, RunFault::Missed { link }, 5, missed);
+    expect_line(&rt, RunFault::Missed { link }, 5, missed);
     let late = b"boruvka: round 2 is past the bound\n";
-    expect_told(&rt, RunFault::Rounds { round: 2 }, 5, late);
+    expect_line(&rt, RunFault::Rounds { round: 2 }, 5, late);
     let large = b"boruvka: cut refused: ShardTooLarge\n";
-    expect_told(&rt, RunFault::Cut(CutFault::ShardTooLarge), 1, large);
+    expect_line(&rt, RunFault::Cut(CutFault::ShardTooLarge), 1, large);
     Ok(())
 }
 
-// Each fault is told as the library shows it.
+// Each fault is printed as the library shows it.
 #[test]
-fn tells_each_fault_in_its_own_text(rt: HostRuntime) -> Result<(), Fail> {
+fn prints_each_fault_in_its_own_text(rt: HostRuntime) -> Result<(), Fail> {
     let kinds = [
         GrKind::UnknownLine,
         GrKind::NoProblemYet,
@@ -288,7 +288,7 @@ fn tells_each_fault_in_its_own_text(rt: HostRuntime) -> Result<(), Fail> {
     }
     for fault in &faults {
         let mut errors = Vec::new(rt.alloc());
-        tell(&mut errors, fault);
+        write_fault(&mut errors, fault);
         let line = format!(in rt.alloc(); "boruvka: {fault}\n")?;
         assert_eq!(rt; errors.as_slice(), line.as_str().as_bytes());
     }
@@ -381,7 +381,7 @@ fn reports_only_what_ended_well(rt: HostRuntime) -> Result<(), Fail> {
 
 // The source gives the first line and four bytes of the second, and then fails.
 #[test]
-fn tells_the_line_of_a_failed_read(rt: HostRuntime) -> Result<(), Fail> {
+fn prints_the_line_of_a_failed_read(rt: HostRuntime) -> Result<(), Fail> {
     let file = Vec::from_slice(rt.alloc(), b"p sp 2 2\na 1 2 5")?;
     let mut input = FusedSource::new(file, 12, 5);
     let mut output = Vec::new(rt.alloc());
@@ -420,7 +420,7 @@ impl Write for CountingWriter {
     }
 }
 
-// The line that tells that a file of this name can't be opened goes out in one write.
+// The line of a file of this name that can't be opened goes out in one write.
 fn expect_one_write(
     rt: &(impl Abort
         + Files<File = File>
@@ -452,7 +452,7 @@ fn expect_one_write(
 }
 
 #[test]
-fn tells_a_long_name_in_one_write(rt: HostRuntime) -> Result<(), Fail> {
+fn prints_a_long_name_in_one_write(rt: HostRuntime) -> Result<(), Fail> {
     for length in [200, 300, 4095, 4096] {
         let name = "n".repeat(rt.alloc(), length)?;
         let line = format!(in rt.alloc(); "boruvka: cannot open {name}\n")?;
@@ -462,7 +462,7 @@ fn tells_a_long_name_in_one_write(rt: HostRuntime) -> Result<(), Fail> {
 }
 
 #[test]
-fn tells_the_control_bytes_of_a_name_as_they_are(rt: HostRuntime) -> Result<(), Fail> {
+fn prints_the_control_bytes_of_a_name_as_they_are(rt: HostRuntime) -> Result<(), Fail> {
     expect_one_write(
         &rt,
         "no/such\n\tfile\u{1}\u{7f}",
@@ -482,7 +482,7 @@ fn opens_whatever_name_it_is_given(rt: HostRuntime) -> Result<(), Fail> {
 }
 
 #[test]
-fn tells_a_help_that_cannot_be_written(rt: HostRuntime) -> Result<(), Fail> {
+fn prints_a_help_that_cannot_be_written(rt: HostRuntime) -> Result<(), Fail> {
     let mut errors = Vec::new(rt.alloc());
     let mut input = SMALL_NET.as_slice();
     let mut output = FusedSink::new(rt.alloc(), 10, 7)?;
@@ -586,7 +586,7 @@ fn refuses_wrong_words(rt: HostRuntime) -> Result<(), Fail> {
 }
 
 #[test]
-fn tells_why_there_are_no_words(rt: HostRuntime) -> Result<(), Fail> {
+fn prints_why_there_are_no_words(rt: HostRuntime) -> Result<(), Fail> {
     let mut errors = Vec::new(rt.alloc());
     let memory = io::Error::from(ErrorKind::OutOfMemory);
     assert_eq!(rt; without_words(&memory, &mut errors), 4);
@@ -665,7 +665,7 @@ fn a_lie(alloc: Global) -> Result<Vec<ScriptLine>, AllocError>
     Ok(lines)
 }
 
-// Over lines that tell their bytes the forest is the least, and a lie of a worker is told as such.
+// Over lines whose bytes are known the forest is the least, and a lie of a worker is answered as such.
 #[test]
 fn runs_over_lines_in_memory(rt: HostRuntime) -> Result<(), Fail> {
     let report =
@@ -696,10 +696,10 @@ fn writes_a_report_of_the_largest_numbers(rt: HostRuntime) -> Result<(), Fail> {
     let line =
         b"vertices=4294967295 links=18446744073709551615 rounds=4294967295 shards=4294967295 asked=18446744073709551615 answered=18446744073709551615 alone=18446744073709551615 closed=18446744073709551615 total=-170141183460469231731687303715884105728\n";
     let mut errors = Vec::new(rt.alloc());
-    tell_report(&mut errors, &report);
+    write_report(&mut errors, &report);
     assert_eq!(rt; errors.as_slice(), line.as_slice());
     let mut short = FusedSink::new(rt.alloc(), 9, 7)?;
-    tell_report(&mut short, &report);
+    write_report(&mut short, &report);
     assert_eq!(rt; short.held(), b"vertices=".as_slice());
     write_text(&mut errors, b"");
     assert_eq!(rt; errors.len(), line.len());

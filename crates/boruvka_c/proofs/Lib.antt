@@ -1,2 +1,2 @@
 mod Givens
-mod Tellings
+mod FirstFaults

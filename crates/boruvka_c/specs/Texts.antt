@@ -15,7 +15,7 @@ use Rattle.boruvka_c.specs.Refusals.{code_of, text_of}
 abbrev pub filled : List ℕ → List ℕ → List ℕ
 filled bytes room = take (length room) bytes ++ drop (length bytes) room
 
--- ---- what is told
+-- ---- what C gets of a refusal
 
 -- a refusal with its line, or with 0
 abbrev pub fault_at : Refusal → ℕ → Fault
@@ -24,11 +24,11 @@ fault_at why line = record { kind = code_of why; line = line }
 abbrev pub no_fault : Fault
 no_fault = record { kind = pos 0; line = 0 }
 
--- what is told of a run over bytes in memory: the fault of a line, too long a text, or want of memory
-abbrev pub told_fault : RunFault → Fault
-told_fault (run.Read (read.Gr f)) = fault_at (Line f.kind) f.line
-told_fault (run.Read read.TooLong) = fault_at TooLong 0
-told_fault other = fault_at NoMemory 0
+-- the fault that C gets of a run over bytes in memory: of a line, too long a text, or want of memory
+abbrev pub fault_of : RunFault → Fault
+fault_of (run.Read (read.Gr f)) = fault_at (Line f.kind) f.line
+fault_of (run.Read read.TooLong) = fault_at TooLong 0
+fault_of other = fault_at NoMemory 0
 
 -- this is the text of a refusal's code, or of a number that is none
 abbrev pub IsTextOfCode : ℤ → List ℕ → Type 0
@@ -36,7 +36,7 @@ IsTextOfCode code text = ((why : Refusal) × (code ≡ code_of why) × (text ≡
     ⊎ (((why : Refusal) → code ≢ code_of why) × (text ≡ codes "no refusal"))
 
 -- the code's text with a 0 behind it was put into the room, and the answer is how long the text is
-pub record TellsRefusal (code : ℤ) (before after : List ℕ) (answer : ℕ) : Type 0 where
+pub record GivesTextOf (code : ℤ) (before after : List ℕ) (answer : ℕ) : Type 0 where
   pub text : List ℕ
   pub text_is : IsTextOfCode code text
   pub put : after ≡ filled (text ++ 0 ∷ []) before
@@ -51,13 +51,13 @@ pub record WritesForestText (bytes before after : List ℕ) (answer : ℤ) : Typ
   pub put : after ≡ filled text before
   pub counted : answer ≡ pos (length text)
 
--- a fault that these bytes have in memory is told, and the answer is its code
+-- the fault is one that these bytes have in memory, and the answer is its code
 abbrev pub RefusesText : List ℕ → ℤ → Fault → Type 0
-RefusesText bytes answer fault = (why : RunFault) × IsFaultInMemory bytes why × (fault ≡ told_fault why) × (answer ≡ fault.kind)
+RefusesText bytes answer fault = (why : RunFault) × IsFaultInMemory bytes why × (fault ≡ fault_of why) × (answer ≡ fault.kind)
 
--- the first fault of these bytes is told, or want of memory
-abbrev pub TellsFirstFault : List ℕ → Fault → Type 0
-TellsFirstFault bytes fault = ((kind : GrKind) × IsFirstFault bytes fault.line kind × (fault.kind ≡ code_of (Line kind)))
+-- the fault is the first of these bytes, or want of memory
+abbrev pub GivesFirstFault : List ℕ → Fault → Type 0
+GivesFirstFault bytes fault = ((kind : GrKind) × IsFirstFault bytes fault.line kind × (fault.kind ≡ code_of (Line kind)))
     ⊎ (fault ≡ fault_at NoMemory 0)
 
 -- the answer is no refusal but want of memory

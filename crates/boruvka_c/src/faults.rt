@@ -1,6 +1,6 @@
 //! What C learns of a refusal.
 ghost use Rattle.std.specs.Prelude.{◌≡◌, ℕ, List, [], ◌∷◌, ◌++◌};
-ghost use Rattle.boruvka_c.specs.Texts.{told_fault, IsTextOfCode, TellsRefusal};
+ghost use Rattle.boruvka_c.specs.Texts.{fault_of, IsTextOfCode, GivesTextOf};
 
 use crate::refusals::Refusal;
 use crate::room::fill;
@@ -20,9 +20,9 @@ impl Fault {
     // That there is a forest.
     pub(crate) const NONE: Fault = Fault { kind: 0, line: 0 };
 
-    // What is told of a run over bytes in memory that has no forest.
+    // The fault of a run over bytes in memory that has no forest.
     pub(crate) fn of_run(why: RunFault) -> Fault
-        ensures { result ≡ told_fault why }
+        ensures { result ≡ fault_of why }
     {
         let (why, line) = match why {
             RunFault::Read(ReadFault::Gr(fault)) => (Refusal::Line(fault.kind), fault.line),
@@ -50,7 +50,7 @@ fn text_of_number(code: i64) -> &'static [u8]
 /// many bytes the text has. Of a number that is no such code the text is `no refusal`. It takes no memory.
 #[unsafe(no_mangle)]
 pub extern "C" fn boruvka_fault_text(kind: i64, into: &mut [u8]) -> usize
-    ensures { TellsRefusal kind into.old into.new result }
+    ensures { GivesTextOf kind into.old into.new result }
 {
     let text = text_of_number(kind);
     fill(into, text);

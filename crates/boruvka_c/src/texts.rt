@@ -2,7 +2,7 @@
 ghost use Rattle.std.specs.Prelude.{◌≡◌, ◌≤◌, ◌≤ℤ◌, pos, length};
 ghost use Rattle.std.specs.Int.Signed.{◌<ℤ◌};
 ghost use Rattle.forest_run.specs.Files.{MeansGraph, MeansNothing};
-ghost use Rattle.boruvka_c.specs.Texts.{WritesForestText, RefusesText, TellsFirstFault, WantsMemoryAtMost, no_fault};
+ghost use Rattle.boruvka_c.specs.Texts.{WritesForestText, RefusesText, GivesFirstFault, WantsMemoryAtMost, no_fault};
 
 use crate::faults::Fault;
 use crate::room::fill;
@@ -11,7 +11,7 @@ use limits::MAX_BYTES;
 use std::alloc::Global;
 
 /// Puts the text of the minimum spanning forest of a `.gr` text into the caller's room, as far as it has room, and
-/// answers how many bytes it has; or answers the code of a refusal, which is negative, and tells it in `fault`.
+/// answers how many bytes it has; or answers the code of a refusal, which is negative, and puts it into `fault`.
 ///
 /// It costs what [`plain_text`] does, in whose memory the whole text stands first.
 #[unsafe(no_mangle)]
@@ -29,7 +29,7 @@ pub extern "C" fn boruvka_forest_text(
     ensures untouched { result <ℤ pos 0 → into.new ≡ into.old }
 
     // A text that means no graph is refused by its first fault, one that does isn't, but for want of memory.
-    ensures malformed { length text.now ≤ MAX_BYTES → MeansNothing text.now → TellsFirstFault text.now fault.new }
+    ensures malformed { length text.now ≤ MAX_BYTES → MeansNothing text.now → GivesFirstFault text.now fault.new }
     ensures lawful { MeansGraph text.now → WantsMemoryAtMost result }
 {
     match plain_text(alloc, text) {

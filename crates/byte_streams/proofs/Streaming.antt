@@ -1,4 +1,4 @@
--- What two calls on a stream do together, and what a call does to a stream that tells.
+-- What two calls on a stream do together, and what a call does to a stream that is known.
 use Rattle.std.proofs.Common.{◌≡◌, ℕ, ◌+◌, ◌-◌, ◌<◌, ◌≤◌, List, [], ◌++◌, length, take, drop, Some, None, IfSome, refl, sym, ap, subst, ◌∙◌, arith, append-nil, length-append, length-take-le, le_refl, take_all, suc, zero}
 use Rattle.std.proofs.Math.Seq.{take-add, take-append-add}
 use Rattle.std.proofs.lemmas.List.{nil_from_length, take-append-le, take_rest}
@@ -22,7 +22,7 @@ rises-then m n (Some x) None c first second = absurd first
 rises-then m n (Some x) (Some y) None first second = absurd second
 rises-then m n (Some x) (Some y) (Some z) first second = omega arith
 
--- a told count that is the same before and after didn't rise
+-- a known count that is the same before and after didn't rise
 pub rises-same : (m n : ℕ) (a b : Option ℕ) → a ≡ Some n → b ≡ Some n → RisesBy m a b → m ≡ 0
 rises-same m n None b before after rose = cc
 rises-same m n (Some x) None before after rose = absurd rose
@@ -31,19 +31,19 @@ rises-same m n (Some x) (Some y) before after rose =
     let to : y ≡ n = cc in
     omega arith
 
--- a told count is still told
-pub rises-told : (m n : ℕ) (a b : Option ℕ) → a ≡ Some n → RisesBy m a b → b ≡ Some (n + m)
-rises-told m n None b told rose = cc
-rises-told m n (Some x) None told rose = absurd rose
-rises-told m n (Some x) (Some y) told rose = let same : x ≡ n = cc in ap (λ k. Some k) (rose ∙ ap (λ k. k + m) same)
+-- a known count is still known
+pub rises-known : (m n : ℕ) (a b : Option ℕ) → a ≡ Some n → RisesBy m a b → b ≡ Some (n + m)
+rises-known m n None b known rose = cc
+rises-known m n (Some x) None known rose = absurd rose
+rises-known m n (Some x) (Some y) known rose = let same : x ≡ n = cc in ap (λ k. Some k) (rose ∙ ap (λ k. k + m) same)
 
 -- ---- sources
 
--- bytes that came from a source that tells were its first
-pub consumes-told : (a b : Option (List ℕ)) (xs bs : List ℕ) → a ≡ Some xs → Consumes a b bs → (ys : List ℕ) × (b ≡ Some ys) × (xs ≡ bs ++ ys)
-consumes-told None b xs bs told came = cc
-consumes-told (Some zs) None xs bs told came = absurd came
-consumes-told (Some zs) (Some ys) xs bs told came = let same : zs ≡ xs = cc in (ys, refl, sym same ∙ came)
+-- bytes that came from a source whose bytes are known were its first
+pub consumes-known : (a b : Option (List ℕ)) (xs bs : List ℕ) → a ≡ Some xs → Consumes a b bs → (ys : List ℕ) × (b ≡ Some ys) × (xs ≡ bs ++ ys)
+consumes-known None b xs bs known came = cc
+consumes-known (Some zs) None xs bs known came = absurd came
+consumes-known (Some zs) (Some ys) xs bs known came = let same : zs ≡ xs = cc in (ys, refl, sym same ∙ came)
 
 -- nothing was called
 pub gave_nothing : (s : SourceState) → Gave 0 0 [] s s
@@ -85,15 +85,15 @@ gave_more m e xs ys s t u first second =
     let ended : 0 + e ≡ e = omega arith in
     subst (λ k. Gave k e (xs ++ ys) s u) failed (subst (λ k. Gave (0 + m) k (xs ++ ys) s u) ended (gave_then 0 0 m e xs ys s t u first second))
 
--- the bytes of a source that tells were its first
-pub gave_told : (m e : ℕ) (xs bs : List ℕ) (s t : SourceState) → s.left ≡ Some xs → Gave m e bs s t → (ys : List ℕ) × (t.left ≡ Some ys) × (xs ≡ bs ++ ys)
-gave_told m e xs bs s t told gave = consumes-told s.left t.left xs bs told gave.left
+-- the bytes that a source gave whose bytes are known were its first
+pub gave_known : (m e : ℕ) (xs bs : List ℕ) (s t : SourceState) → s.left ≡ Some xs → Gave m e bs s t → (ys : List ℕ) × (t.left ≡ Some ys) × (xs ≡ bs ++ ys)
+gave_known m e xs bs s t known gave = consumes-known s.left t.left xs bs known gave.left
 
 -- and at its end all that it had
 pub gave_to_end : (m e : ℕ) (xs bs : List ℕ) (s t : SourceState) → s.left ≡ Some xs → 0 < e → Gave m e bs s t → xs ≡ bs
-gave_to_end m e xs bs s t told ended gave = subst (λ left. IfSome left (λ all. all ≡ bs)) told (gave.at_end ended)
+gave_to_end m e xs bs s t known ended gave = subst (λ left. IfSome left (λ all. all ≡ bs)) known (gave.at_end ended)
 
--- a source that tells its failures and had none
+-- a source whose failures are known and that had none
 pub gave_unfailing : (m e : ℕ) (bs : List ℕ) (s t : SourceState) → HadNoFailure s t → Gave m e bs s t → m ≡ 0
 gave_unfailing m e bs s t (n, before, after) gave = rises-same m n s.failures t.failures before after gave.failures
 
@@ -134,16 +134,16 @@ took_more m xs ys s t u first second =
 pub took_no_more : (m : ℕ) (xs : List ℕ) (s t u : SinkState) → Took 0 xs s t → Took m [] t u → Took m xs s u
 took_no_more m xs s t u first second = subst (λ bs. Took m bs s u) (append-nil xs) (took_more m xs [] s t u first second)
 
--- a sink that tells holds what it took behind what it had
-pub appends-told : (a b : Option (List ℕ)) (xs bs : List ℕ) → a ≡ Some xs → Appends a b bs → b ≡ Some (xs ++ bs)
-appends-told None b xs bs told out = cc
-appends-told (Some zs) None xs bs told out = absurd out
-appends-told (Some zs) (Some ys) xs bs told out = let same : zs ≡ xs = cc in ap (λ l. Some l) (out ∙ ap (λ l. l ++ bs) same)
+-- a sink whose bytes are known holds what it took behind what it had
+pub appends-known : (a b : Option (List ℕ)) (xs bs : List ℕ) → a ≡ Some xs → Appends a b bs → b ≡ Some (xs ++ bs)
+appends-known None b xs bs known out = cc
+appends-known (Some zs) None xs bs known out = absurd out
+appends-known (Some zs) (Some ys) xs bs known out = let same : zs ≡ xs = cc in ap (λ l. Some l) (out ∙ ap (λ l. l ++ bs) same)
 
-pub took_told : (m : ℕ) (xs bs : List ℕ) (s t : SinkState) → s.held ≡ Some xs → Took m bs s t → t.held ≡ Some (xs ++ bs)
-took_told m xs bs s t told took = appends-told s.held t.held xs bs told took.held
+pub took_known : (m : ℕ) (xs bs : List ℕ) (s t : SinkState) → s.held ≡ Some xs → Took m bs s t → t.held ≡ Some (xs ++ bs)
+took_known m xs bs s t known took = appends-known s.held t.held xs bs known took.held
 
--- a sink that tells its setbacks and had none
+-- a sink whose setbacks are known and that had none
 pub took_unhindered : (m : ℕ) (bs : List ℕ) (s t : SinkState) → HadNoSetback s t → Took m bs s t → m ≡ 0
 took_unhindered m bs s t (n, before, after) took = rises-same m n s.setbacks t.setbacks before after took.setbacks
 
@@ -184,9 +184,9 @@ went_out_followed before after text rest s t part = record {
   took = subst (λ bs. Took 1 bs s t) (sym (take-append-le part.count text rest part.within)) part.took;
 }
 
--- a sink that tells holds as many bytes of the text as the count says
-pub went_out_told : (before after : ℕ) (xs text : List ℕ) (s t : SinkState) → s.held ≡ Some xs → WentOut before after text s t
+-- a sink whose bytes are known holds as many bytes of the text as the count says
+pub went_out_known : (before after : ℕ) (xs text : List ℕ) (s t : SinkState) → s.held ≡ Some xs → WentOut before after text s t
     → t.held ≡ Some (xs ++ take (after - before) text)
-went_out_told before after xs text s t told part =
+went_out_known before after xs text s t known part =
     let count : part.count ≡ after - before = omega (arith, part.counted) in
-    took_told 1 xs (take part.count text) s t told part.took ∙ ap (λ m. Some (xs ++ take m text)) count
+    took_known 1 xs (take part.count text) s t known part.took ∙ ap (λ m. Some (xs ++ take m text)) count

@@ -15,9 +15,9 @@ pub record FusedSinkState : Type 0 where
 abbrev pub fresh_sink : ℕ → ℕ → Bool → FusedSinkState
 fresh_sink passes piece fails = record { held = []; passes = passes; piece = piece; fails_when_full = fails; setbacks = 0 }
 
--- what it tells of itself: everything
-abbrev pub told_sink : FusedSinkState → SinkState
-told_sink s = record { held = Some s.held; setbacks = Some s.setbacks }
+-- what is known of it: everything
+abbrev pub known_sink : FusedSinkState → SinkState
+known_sink s = record { held = Some s.held; setbacks = Some s.setbacks }
 
 -- it is full, and one that fails then
 abbrev pub is_blown : FusedSinkState → Bool

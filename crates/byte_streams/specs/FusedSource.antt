@@ -16,9 +16,9 @@ pub record FusedSourceState : Type 0 where
 abbrev pub fresh_source : List ℕ → ℕ → ℕ → FusedSourceState
 fresh_source bytes passes piece = record { given = []; rest = bytes; budget = passes; piece = piece; failures = 0; ends = 0 }
 
--- what it tells of itself: everything
-abbrev pub told_source : FusedSourceState → SourceState
-told_source s = record { left = Some s.rest; given = Some s.given; failures = Some s.failures; ends = Some s.ends }
+-- what is known of it: everything
+abbrev pub known_source : FusedSourceState → SourceState
+known_source s = record { left = Some s.rest; given = Some s.given; failures = Some s.failures; ends = Some s.ends }
 
 -- how many bytes a read into `room` bytes gives
 abbrev pub given_to : FusedSourceState → ℕ → ℕ

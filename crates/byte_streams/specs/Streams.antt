@@ -1,11 +1,11 @@
--- What streams tell of themselves, and what a call does to it.
+-- What is known of streams, and what a call does to it.
 use Rattle.std.specs.Prelude.{◌≡◌, ℕ, ◌+◌, ◌<◌, ◌≤◌, ⊤, List, [], length, take, Option, Some, None, IfSome, Result, Ok, Err, IsOk}
 use Rattle.std.specs.Io.KnownBytes.{Appends, Consumes}
 use Rattle.byte_streams.specs.declared.traits.Failed.{Failed}
 use Rattle.byte_streams.specs.declared.transfer.FillFault.{FillFault}
 use Rattle.byte_streams.specs.declared.transfer.FillFault.TheVariants.{Failed as ReadFailed, Ended}
 
--- a told count grew by n, and is still told
+-- a known count grew by n, and is still known
 abbrev pub RisesBy : ℕ → Option ℕ → Option ℕ → Type 0
 RisesBy n None new = ⊤
 RisesBy n (Some count) None = ⊥
@@ -13,14 +13,14 @@ RisesBy n (Some count) (Some new) = new ≡ count + n
 
 -- ---- sources
 
--- what a source tells, each where it is known: the bytes that it has left, those that it gave, how many reads failed, and how many found the end
+-- what is known of a source, each where it is: the bytes that it has left, those that it gave, how many reads failed, and how many found the end
 pub record SourceState : Type 0 where
   pub left : Option (List ℕ)
   pub given : Option (List ℕ)
   pub failures : Option ℕ
   pub ends : Option ℕ
 
--- a source that tells at most its bytes to come
+-- a source of which at most the bytes to come are known
 abbrev pub only_left : Option (List ℕ) → SourceState
 only_left left = record { left = left; given = None; failures = None; ends = None }
 
@@ -43,7 +43,7 @@ FillGave (Ok filled) buf before after = Gave 0 0 buf before after
 FillGave (Err (ReadFailed n)) buf before after = (n < length buf) × Gave 1 0 (take n buf) before after
 FillGave (Err (Ended n)) buf before after = (n < length buf) × Gave 0 1 (take n buf) before after
 
--- the source tells its failures, and had none
+-- the source's failures are known, and it had none
 abbrev pub HadNoFailure : SourceState → SourceState → Type 0
 HadNoFailure before after = (n : ℕ) × (before.failures ≡ Some n) × (after.failures ≡ Some n)
 
@@ -54,12 +54,12 @@ EndsOkWhereLeft count before after result =
 
 -- ---- sinks
 
--- what a sink tells, each where it is known: the bytes that it took, and how many writes and flushes failed or took nothing
+-- what is known of a sink, each where it is: the bytes that it took, and how many writes and flushes failed or took nothing
 pub record SinkState : Type 0 where
   pub held : Option (List ℕ)
   pub setbacks : Option ℕ
 
--- a sink that tells at most its bytes
+-- a sink of which at most the bytes are known
 abbrev pub only_held : Option (List ℕ) → SinkState
 only_held held = record { held = held; setbacks = None }
 
@@ -89,6 +89,6 @@ pub record WentOut (written total : ℕ) (text : List ℕ) (before after : SinkS
   pub counted : total ≡ written + count
   pub took : Took 1 (take count text) before after
 
--- the sink tells its setbacks, and had none
+-- the sink's setbacks are known, and it had none
 abbrev pub HadNoSetback : SinkState → SinkState → Type 0
 HadNoSetback before after = (n : ℕ) × (before.setbacks ≡ Some n) × (after.setbacks ≡ Some n)

@@ -1,6 +1,6 @@
 //! Files, standard streams and sockets, and a wrapper for any other reader or writer of std. Nobody
-//! counts the failures of a device, so these tell none; nor does std tell a device's bytes. So no clause sees
-//! that a device is called once, nor that its failure isn't told as its end. That is tested: of [`Uncounted`] by
+//! counts the failures of a device, so of these none is known; nor does std say a device's bytes. So no clause sees
+//! that a device is called once, nor that its failure isn't answered as its end. That is tested: of [`Uncounted`] by
 //! readers and writers that fail once, of the others over the built program.
 ghost use Rattle.std.specs.Prelude.{◌<◌, length, None};
 ghost use Rattle.std.specs.Io.{ReadsAtMost, WritesAtMost};
@@ -11,7 +11,7 @@ use std::fs::File;
 use std::io::{Read, Stderr, Stdin, Stdout, Write};
 use std::net::TcpStream;
 
-/// Any other reader or writer of std. It tells the bytes that std tells of it, and no failures.
+/// Any other reader or writer of std. Of it the bytes are known that std says, and no failures.
 #[derive(Debug, Drop)]
 pub struct Uncounted<T>(pub T);
 

@@ -1,10 +1,10 @@
 //! Sources and sinks over memory that fail at a chosen byte, for the tests of the crates above. Their
-//! counts are fields, so they tell everything that a stream can tell.
+//! counts are fields, so all is known of them that can be known of a stream.
 ghost use Rattle.std.specs.Prelude.{◌≡◌, ◌-◌, ◌^◌, ◌<◌, ◌≤◌, true, false, take, drop, length, IfOk, OnOk, IsErr, IsTrue, ◌↔◌, vec_len, vec_capacity, if◌then◌else◌};
 ghost use Rattle.std.specs.Io.{ReadsAtMost, WritesAtMost};
 ghost use Rattle.byte_streams.specs.Streams.{ReadGave, WriteTook, FlushTook, IsRefusal};
-ghost use Rattle.byte_streams.specs.FusedSource.{FusedSourceState, fresh_source, told_source, read_answer, after_read};
-ghost use Rattle.byte_streams.specs.FusedSink.{FusedSinkState, fresh_sink, told_sink, is_blown, set_back, write_answer, after_write};
+ghost use Rattle.byte_streams.specs.FusedSource.{FusedSourceState, fresh_source, known_source, read_answer, after_read};
+ghost use Rattle.byte_streams.specs.FusedSink.{FusedSinkState, fresh_sink, known_sink, is_blown, set_back, write_answer, after_write};
 
 use crate::{Failed, Sink, Source};
 use std::alloc::{AllocError, Allocator, Global};
@@ -55,7 +55,7 @@ impl<A: Allocator> FusedSource<A> {
 }
 
 impl<A: Allocator> Source for FusedSource<A> {
-    ghost state = { told_source };
+    ghost state = { known_source };
 
     ghost lasts = { λ _ _. Unit {0} };
 
@@ -66,7 +66,7 @@ impl<A: Allocator> Source for FusedSource<A> {
         requires room { 0 < length buf.old }
 
         ensures bound { ReadsAtMost result buf.new }
-        ensures gave { ReadGave result buf.new (told_source self.old) (told_source self.new) }
+        ensures gave { ReadGave result buf.new (known_source self.old) (known_source self.new) }
         ensures again { IfOk result
             (λ n. 0 < n → (self.new.failures < 2 ^ 64 - 1) × (self.new.ends < 2 ^ 64 - 1)) }
 
@@ -158,7 +158,7 @@ impl<A: Allocator> FusedSink<A> {
 }
 
 impl<A: Allocator> Sink for FusedSink<A> {
-    ghost state = { told_sink };
+    ghost state = { known_sink };
 
     ghost can_write = { λ s. s.setbacks < 2 ^ 64 - 1 };
 
@@ -166,7 +166,7 @@ impl<A: Allocator> Sink for FusedSink<A> {
         requires { self.old.setbacks < 2 ^ 64 - 1 }
 
         ensures bound { WritesAtMost result buf.now }
-        ensures took { WriteTook result buf.now (told_sink self.old) (told_sink self.new) }
+        ensures took { WriteTook result buf.now (known_sink self.old) (known_sink self.new) }
         ensures again { IfOk result
             (λ n. ¬ IsRefusal n buf.now → self.new.setbacks < 2 ^ 64 - 1) }
 
@@ -192,7 +192,7 @@ impl<A: Allocator> Sink for FusedSink<A> {
     fn flush(&mut self) -> Result<(), Failed>
         requires { self.old.setbacks < 2 ^ 64 - 1 }
 
-        ensures took { FlushTook result (told_sink self.old) (told_sink self.new) }
+        ensures took { FlushTook result (known_sink self.old) (known_sink self.new) }
         ensures again { OnOk result (self.new.setbacks < 2 ^ 64 - 1) }
 
         ensures answer { IsErr result ↔ IsTrue (is_blown self.old) }

@@ -1,5 +1,5 @@
-//! Sources and sinks of bytes that tell their bytes and their failures. std's `Read` and `Write` tell contracts nothing
-//! of failures; a [`Source`] and a [`Sink`] tell both in one value, their state, each part where the stream knows it.
+//! Sources and sinks whose bytes and failures contracts know. Of std's `Read` and `Write` they know no failures; of a
+//! [`Source`] and a [`Sink`] both stand in one value, their state, each part where it is known.
 //!
 //! ```text
 //!   &[u8]   File   Stdin   TcpStream   Uncounted(reader)       Vec   File   Stdout   TcpStream   Uncounted(writer)
@@ -13,9 +13,9 @@
 //! - What a call does is one relation from the state before to the state after (`Gave`, `Took`), which composes.
 //! - [`fill`] fills a buffer with the next bytes, or says whether a read failed or the stream ended, and after how many.
 //! - [`put`] writes a text, or says how many of its bytes went out; it stops only where a write failed or took nothing.
-//! - [`FusedSource`] and [`FusedSink`], which fail at a chosen byte, tell everything; a device tells nothing.
+//! - [`FusedSource`] and [`FusedSink`], which fail at a chosen byte, are known whole; of a device nothing is known.
 //!
-//! Where to start a change: `specs/Streams` for what a stream tells and what a call does to it, with the traits in
+//! Where to start a change: `specs/Streams` for what is known of a stream and what a call does to it, with the traits in
 //! `traits`; `memory` and `devices` for a new kind of stream; `transfer` for the loops.
 #![tactic(auto)]
 

@@ -10,15 +10,15 @@ use thiserror::Error;
 #[error("the stream failed")]
 pub struct Failed;
 
-/// A source of bytes that tells, to contracts, what it gives and when it fails.
+/// A source of bytes of which contracts know what it gives and when it fails.
 ///
-/// It may tell the bytes that it has left, those that it gave, how many reads failed and how many found
+/// Known may be the bytes that it has left, those that it gave, how many reads failed and how many found
 /// the end. Each is a `None` for a source that doesn't know it: a clause about it then says nothing.
-/// [`FusedSource`](crate::FusedSource) tells all four, and a slice its bytes to come and its failures,
-/// which are none, so that what a caller proves "where the source tells" is a theorem there. A line to
-/// another program tells what it gave and not what will come.
+/// Of a [`FusedSource`](crate::FusedSource) all four are known, and of a slice its bytes to come and its failures,
+/// which are none, so that what a caller proves "where it is known" is a theorem there. Of a line to
+/// another program it is known what it gave and not what will come.
 pub trait Source {
-    // What the source tells, each thing where it is known.
+    // What is known of the source, each thing where it is.
     ghost state: { Self → SourceState } = { λ _. only_left None };
 
     // Facts that reads keep true: of a line to another program, what was sent on it. They are a member
@@ -43,13 +43,13 @@ pub trait Source {
         ensures again { IfOk result (λ n. 0 < n → can_read self.new) };
 }
 
-/// A sink of bytes that tells, to contracts, what it took and when it failed.
+/// A sink of bytes of which contracts know what it took and when it failed.
 ///
-/// It may tell the bytes that it took, and its setbacks: writes and flushes that failed, and writes that
+/// Known may be the bytes that it took, and its setbacks: writes and flushes that failed, and writes that
 /// took no byte of some. As for a [`Source`], a `None` is a sink that doesn't know.
-/// [`FusedSink`](crate::FusedSink) tells both, a `Vec` its bytes alone.
+/// Of a [`FusedSink`](crate::FusedSink) both are known, of a `Vec` its bytes alone.
 pub trait Sink {
-    // What the sink tells, each thing where it is known.
+    // What is known of the sink, each thing where it is.
     ghost state: { Self → SinkState } = { λ _. only_held None };
 
     // The count has room for one more. A sink that counts nothing asks for nothing.

@@ -61,6 +61,6 @@ apart_from run is_run n (seat ∷ seats) are =
     omega (arith, same))
 
 -- the seats of a board that was closed hold each shard once in all
-pub closed_apart : (seats : List SeatState) (told : List (Option ℕ)) → CameFromRun seats told → AllPairs (λ a b. a ≢ b) (all_held seats)
-closed_apart seats told came =
+pub closed_apart : (seats : List SeatState) (by_shard : List (Option ℕ)) → CameFromRun seats by_shard → AllPairs (λ a b. a ≢ b) (all_held seats)
+closed_apart seats by_shard came =
     apart_from came.run came.is_run 0 seats (λ i seat at. let same : i ≡ 0 + i = omega arith in subst (λ k. of_seat k came.run ≡ seat.events) same (came.events i seat at))

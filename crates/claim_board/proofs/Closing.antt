@@ -10,7 +10,7 @@ use Rattle.claim_board.specs.declared.event.Event.{Event}
 use Rattle.claim_board.specs.declared.rule.Size.{Size}
 use Rattle.claim_board.specs.declared.rule.View.{View}
 use Rattle.claim_board.specs.Machine.{owner, held}
-use Rattle.claim_board.specs.State.{SeatState, IsHeldBy, owner_told, CameFromRun}
+use Rattle.claim_board.specs.State.{SeatState, IsHeldBy, owner_in, CameFromRun}
 use Rattle.claim_board.specs.Rule.{word_of, Knows, AgreesWithRun, several, lone}
 use Rattle.claim_board.specs.Kept.{among, owner_of_word, owners_of}
 use Rattle.claim_board.proofs.Lists.{among_decides}
@@ -22,13 +22,13 @@ index_at [] i n e = absurd (some-ne-none n (sym e))
 index_at (x ∷ xs) zero n e = some-injective x n e
 index_at (x ∷ xs) (suc i) n e = index_at xs i n e
 
-pub told_is : (row : List ℕ) (shard : ℕ) → owner_told (owners_of row) shard ≡ owner_of_word (slice_index row shard)
-told_is [] shard = refl
-told_is (x ∷ xs) zero = refl
-told_is (x ∷ xs) (suc shard) = told_is xs shard
+pub owner_in_is : (row : List ℕ) (shard : ℕ) → owner_in (owners_of row) shard ≡ owner_of_word (slice_index row shard)
+owner_in_is [] shard = refl
+owner_in_is (x ∷ xs) zero = refl
+owner_in_is (x ∷ xs) (suc shard) = owner_in_is xs shard
 
-pub told_at : (row : List ℕ) (shard n : ℕ) → get_elem? row shard ≡ some n → owner_told (owners_of row) shard ≡ owner_of_word n
-told_at row shard n e = told_is row shard ∙ ap owner_of_word (index_at row shard n e)
+pub owner_in_at : (row : List ℕ) (shard n : ℕ) → get_elem? row shard ≡ some n → owner_in (owners_of row) shard ≡ owner_of_word n
+owner_in_at row shard n e = owner_in_is row shard ∙ ap owner_of_word (index_at row shard n e)
 
 pub owner_of_some : (n : ℕ) → n ≢ 0 → Some (n - 1) ≡ owner_of_word n
 owner_of_some zero h = absurd (h refl)
@@ -65,12 +65,12 @@ module _ (key : Size) (row : List ℕ) (views : List View) (rule : AgreesWithRun
     is_run = rule.is_run;
     events = λ number seat got. (rule.known id view number seat.events at (subst (λ (v : View). Knows v number seat.events) (sym view_is) (number, omega arith, at_get (λ (s : SeatState). s.events) seats number seat got))).1;
     others = λ number past. rule.others number (omega arith);
-    owners = λ shard. told_is row shard ∙ ap owner_of_word (rule.words shard) ∙ owner_of_word_of (owner rule.run shard);
+    owners = λ shard. owner_in_is row shard ∙ ap owner_of_word (rule.words shard) ∙ owner_of_word_of (owner rule.run shard);
   }
 
--- where owners and seats came from one run, the owner that is told is the seat whose list has the shard
-pub owners_are : (seats : List SeatState) (told : List (Option ℕ)) → CameFromRun seats told → (shard number : ℕ) → (owner_told told shard ≡ Some number) ↔ IsHeldBy seats number shard
-owners_are seats told came shard number = (there, back)
+-- where owners and seats came from one run, the owner is the seat whose list has the shard
+pub owners_are : (seats : List SeatState) (by_shard : List (Option ℕ)) → CameFromRun seats by_shard → (shard number : ℕ) → (owner_in by_shard shard ≡ Some number) ↔ IsHeldBy seats number shard
+owners_are seats by_shard came shard number = (there, back)
   where
     agrees : (seat : SeatState) → slice_get seats number ≡ Some seat → owns number (owner came.run shard) ≡ among shard (held seat.events)
     agrees seat got = owner_has came.run came.is_run number shard ∙ ap (λ es. among shard (held es)) (came.events number seat got)
@@ -78,13 +78,13 @@ owners_are seats told came shard number = (there, back)
     within : owner came.run shard ≡ Some number → number < length seats
     within is = ⊎_elim (λ (h : number < length seats). h) (λ (h : length seats ≤ number). absurd (not_owner came.run shard number came.is_run (came.others number h) is)) (cases_lt number (length seats))
 
-    there : owner_told told shard ≡ Some number → IsHeldBy seats number shard
+    there : owner_in by_shard shard ≡ Some number → IsHeldBy seats number shard
     there is =
         let owned = sym (came.owners shard) ∙ is in
         let seat = got_within seats number (within owned) in
         (seat.0, seat.1, (among_decides shard (held seat.0.events)).0 (sym (agrees seat.0 seat.1) ∙ ap (owns number) owned ∙ eq-eqb number number refl))
 
-    back : IsHeldBy seats number shard → owner_told told shard ≡ Some number
+    back : IsHeldBy seats number shard → owner_in by_shard shard ≡ Some number
     back h = came.owners shard ∙ Some-owns number (owner came.run shard) (agrees h.0 h.1 ∙ (among_decides shard (held h.0.events)).1 h.2)
 
 -- the view of the token that all others were joined to

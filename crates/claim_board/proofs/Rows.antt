@@ -56,9 +56,9 @@ module _ (me : Me (Unit {0}) View) (n count : ℕ) (is : me ≡ (several me.0.si
   lists_are = ap (λ (m : Me (Unit {0}) View). m.0.lists) is ∙ replicate-step count [] some
 
   pub dealt : (after : Me (Unit {0}) View) (next : ℕ) → after ≡ (without_first me.0, me.1) → next ≡ n + 1 → after ≡ (several after.0.size next (replicate (count - 1) []), [])
-  dealt after next told next_is =
+  dealt after next after_is next_is =
       let cut : after ≡ (several me.0.size next (replicate (count - 1) []), []) =
-      told
+      after_is
       ∙ ap (λ (m : Me (Unit {0}) View). (without_first m.0, m.1)) is
       ∙ ap (λ (ls : List (List Event)). (several me.0.size (n + 1) ls, [])) (ap (λ (ls : List (List Event)). drop 1 ls) (replicate-step count [] some))
       ∙ ap (λ k. (several me.0.size k (replicate (count - 1) []), [])) (sym next_is) in
@@ -68,10 +68,10 @@ module _ (me : Me (Unit {0}) View) (n count : ℕ) (is : me ≡ (several me.0.si
 
 module _ (kept token : Me (Unit {0}) View) (number : ℕ) (events : List Event) (first : ℕ) (kept_is : kept ≡ (several kept.0.size first kept.0.lists, [])) (token_is : token ≡ (lone token.0.size number events, [])) where
   pub joined_view : (after : Me (Unit {0}) View) → after ≡ (with_before kept.0 token.0, kept.1) → after ≡ (several token.0.size number (events ∷ kept.0.lists), [])
-  joined_view after told = told ∙ (λ i. (with_before kept.0 (token_is i).0, (kept_is i).1))
+  joined_view after after_is = after_is ∙ (λ i. (with_before kept.0 (token_is i).0, (kept_is i).1))
 
   pub gathered : (after : Me (Unit {0}) View) → after ≡ (with_before kept.0 token.0, kept.1) → (after ≡ (several after.0.size number after.0.lists, [])) × (after.0.lists ≡ events ∷ kept.0.lists)
-  gathered after told = subst (λ (m : Me (Unit {0}) View). (m ≡ (several m.0.size number m.0.lists, [])) × (m.0.lists ≡ events ∷ kept.0.lists)) (sym (joined_view after told)) (refl, refl)
+  gathered after after_is = subst (λ (m : Me (Unit {0}) View). (m ≡ (several m.0.size number m.0.lists, [])) × (m.0.lists ≡ events ∷ kept.0.lists)) (sym (joined_view after after_is)) (refl, refl)
 
   pub join_required : (key : Size) (id other : ℕ) → number + 1 ≡ first → Joins (Rules key) id kept.0 other token.0 (with_before kept.0 token.0) nobody
   join_required key id other before =

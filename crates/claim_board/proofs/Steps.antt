@@ -165,14 +165,14 @@ give_back_allowed_as key slots id seat shard me alone seat_within shard_within h
     subst (λ m. Allows (Rules key) slots id m shard (λ n. either (n == (seat + 1)) 0 n) (GivenBack (step slots shard (seat + 1) 0 none) m)) (sym alone)
     (give_back_allowed key me.0.size slots id seat shard (first_events me.0.lists) seat_within shard_within has)
 
--- ---- what a step tells, as the contracts say it
+-- ---- what a step says, as the contracts put it
 
 -- a seat after an event of its own, with the bits that go with it
 pub seat_after : (before after : Me (Unit {0}) View) (number : ℕ) (bits new : List ℕ) (event : Event) → IsSeat before number bits → after ≡ (with_event before.0 event, before.1)
     → ((shard : ℕ) → has_shard new shard ≡ among shard (held_after (held (first_events before.0.lists)) event)) → IsSeat after number new
-seat_after before after number bits new event is told agrees =
+seat_after before after number bits new event is after_is agrees =
     let events = first_events before.0.lists in
-    let whole : after ≡ (lone before.0.size number (events ++ event ∷ []), []) = told ∙ ap (λ (m : Me (Unit {0}) View). (lone before.0.size m.0.first (events ++ event ∷ []), m.1)) is.alone in
+    let whole : after ≡ (lone before.0.size number (events ++ event ∷ []), []) = after_is ∙ ap (λ (m : Me (Unit {0}) View). (lone before.0.size m.0.first (events ++ event ∷ []), m.1)) is.alone in
     subst (λ m. IsSeat m number new) (sym whole) record {
       alone = refl;
       range = is.range;
@@ -182,7 +182,7 @@ seat_after before after number bits new event is told agrees =
 
 -- the seat that held the shard is the caller's own where its list has it
 pub claimed_own : (s : Step (Unit {0})) (before after : Me (Unit {0}) View) (found : ℕ) → found ≢ 0 → Claimed s before found after → ◌≡◌ {A = Claim} (Held (found - 1)) (Held before.0.first) ↔ Contains (held (first_events before.0.lists)) s.word
-claimed_own s before after zero found told = absurd (found refl)
-claimed_own s before after (suc other) found told =
+claimed_own s before after zero found claimed = absurd (found refl)
+claimed_own s before after (suc other) found claimed =
     let is : suc other - 1 ≡ other = omega arith in
-    rw is ((λ e. told.2.0 (cc)), (λ has. ap Held (told.2.1 has)))
+    rw is ((λ e. claimed.2.0 (cc)), (λ has. ap Held (claimed.2.1 has)))

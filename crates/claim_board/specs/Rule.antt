@@ -61,7 +61,7 @@ first_events (events ∷ rest) = events
 abbrev pub with_event : View → Event → View
 with_event view event = lone view.size view.first (first_events view.lists ++ event ∷ [])
 
--- what a claim tells its seat, by the word that it found: the shard was free and is won, or it is the owner's, who may be the seat itself
+-- what a claim says to its seat, by the word that it found: the shard was free and is won, or it is the owner's, who may be the seat itself
 abbrev pub Claimed : Step (Unit {0}) → Me (Unit {0}) View → ℕ → Me (Unit {0}) View → Type 0
 Claimed step before zero after =
     (after ≡ (with_event before.0 (Win before.0.first step.word), before.1)) × (¬ Contains (held (first_events before.0.lists)) step.word)
@@ -70,7 +70,7 @@ Claimed step before (suc owner) after =
     × (owner < before.0.size.seats)
     × ((owner ≡ before.0.first) ↔ Contains (held (first_events before.0.lists)) step.word)
 
--- what a give-back tells its seat
+-- what a give-back says to its seat
 abbrev pub GivenBack : Step (Unit {0}) → Me (Unit {0}) View → ℕ → Me (Unit {0}) View → Type 0
 GivenBack step before found after = after ≡ (with_event before.0 (GiveBack before.0.first step.word), before.1)
 

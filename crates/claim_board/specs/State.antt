@@ -51,14 +51,14 @@ all_held seats = flat_map (λ (seat : SeatState). held seat.events) seats
 abbrev pub IsHeldBy : List SeatState → ℕ → ℕ → Type 0
 IsHeldBy seats number shard = (seat : SeatState) × (slice_get seats number ≡ Some seat) × Contains (held seat.events) shard
 
--- the owner that is told of a shard: none of a shard that the board does not have
-abbrev pub owner_told : List (Option ℕ) → ℕ → Option ℕ
-owner_told owners shard = slice_index_or owners shard None
+-- the owner of a shard in a list by shard: none of a shard that the board does not have
+abbrev pub owner_in : List (Option ℕ) → ℕ → Option ℕ
+owner_in owners shard = slice_index_or owners shard None
 
 -- one run has the events of each of these seats, in that seat's order, each once, and no others, and it leaves these owners
-pub record CameFromRun (seats : List SeatState) (told : List (Option ℕ)) : Type 0 where
+pub record CameFromRun (seats : List SeatState) (by_shard : List (Option ℕ)) : Type 0 where
   pub run : List Event
   pub is_run : IsRun run
   pub events : (number : ℕ) (seat : SeatState) → slice_get seats number ≡ Some seat → of_seat number run ≡ seat.events
   pub others : (number : ℕ) → length seats ≤ number → of_seat number run ≡ []
-  pub owners : (shard : ℕ) → owner_told told shard ≡ owner run shard
+  pub owners : (shard : ℕ) → owner_in by_shard shard ≡ owner run shard

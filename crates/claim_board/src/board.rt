@@ -2,7 +2,7 @@
 ghost use Rattle.std.specs.Prelude.{◌≡◌, ◌≢◌, ℕ, ◌<◌, ◌≤◌, ◌==◌, ◌↔◌, not, List, [], ◌∷◌, ◌++◌, length, filter, All, AllPairs, Contains, IfOk, IfErr, IsOk};
 ghost use Rattle.limits.specs.declared.TheConstants.{MAX_WORKERS};
 ghost use Rattle.claim_board.specs.Machine.{held};
-ghost use Rattle.claim_board.specs.State.{OnWon, IfHeld, AreSeats, IsUnusedSeat, all_held, IsHeldBy, owner_told, CameFromRun};
+ghost use Rattle.claim_board.specs.State.{OnWon, IfHeld, AreSeats, IsUnusedSeat, all_held, IsHeldBy, owner_in, CameFromRun};
 ghost use Rattle.claim_board.specs.Rule.{opener};
 ghost use Rattle.claim_board.specs.Kept.{IsInRange};
 ghost use Rattle.claim_board.specs.declared.claim.Claim.TheVariants.{Held};
@@ -128,7 +128,7 @@ impl<A: Allocator> Board<A> {
         requires seats { AreSeats self seats.items }
         ensures ok { IsOk result }
         ensures shards { IfOk result (λ owners. length owners ≡ self.shards) }
-        ensures owners { IfOk result (λ owners. (shard number : ℕ) → (owner_told owners shard ≡ Some number) ↔ IsHeldBy seats.items number shard) }
+        ensures owners { IfOk result (λ owners. (shard number : ℕ) → (owner_in owners shard ≡ Some number) ↔ IsHeldBy seats.items number shard) }
         ensures run { IfOk result (λ owners. CameFromRun seats.items owners) }
         ensures apart { AllPairs (λ a b. a ≢ b) (all_held seats.items) }
     {

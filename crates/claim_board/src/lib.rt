@@ -1,5 +1,5 @@
 //! A board of shards that threads claim without a lock. A thread claims a shard by its seat and may give it back; when
-//! all are done the board is closed over its seats and tells the owner of each shard.
+//! all are done the board is closed over its seats and names the owner of each shard.
 //!
 //! ```text
 //!   thread 0      thread 1            each thread has a seat: a token of the table, its number,

@@ -1,6 +1,6 @@
 //! Who owned each shard as a board was closed.
 ghost use Rattle.std.specs.Prelude.{◌≡◌};
-ghost use Rattle.claim_board.specs.State.{owner_told};
+ghost use Rattle.claim_board.specs.State.{owner_in};
 
 use atomic_table::Closed;
 use std::alloc::Allocator;
@@ -27,7 +27,7 @@ impl<A: Allocator> Model for Owners<A> {
 impl<A: Allocator> Owners<A> {
     /// The number of the seat that owned the shard. Of a shard that the board doesn't have it is `None`.
     pub fn of(&self, shard: u32) -> Option<u32>
-        ensures { result ≡ owner_told self.now shard }
+        ensures { result ≡ owner_in self.now shard }
     {
         if shard >= self.shards {
             return None;

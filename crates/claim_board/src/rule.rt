@@ -1,4 +1,4 @@
-//! The rule that the words of a board keep, and what each kind of step tells the seat that makes it.
+//! The rule that the words of a board keep, and what each kind of step says to the seat that makes it.
 use crate::event::Event;
 use atomic_table::{Join, Play, Shared, Split, TableRule};
 use std::collections::LinkedList;

@@ -14,7 +14,7 @@ pub mod Reporting
 pub mod Solving
 pub mod Chained
 pub mod Ending
-mod Telling
+mod KnownFiles
 mod FaultTexts
 mod PlainRunning
 mod NewWires

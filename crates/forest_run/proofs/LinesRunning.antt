@@ -35,7 +35,7 @@ use Rattle.forest_run.specs.Lanes.{LaneState, count_if, open_count}
 use Rattle.forest_run.specs.Cuttings.{cut_refusal, IsCutOf}
 use Rattle.forest_run.specs.Outcomes.{streams, IsUnsolved, IsSpanning, IsLeast}
 use Rattle.forest_run.specs.WiredLines.{AreServed, FindsOverLines, RefusesOverLines}
-use Rattle.forest_run.specs.LinesRun.{IsLinesReport, RunsOverLines, IsLinesFault, told_fault, RanLines, IsHonestReport, IsServedReport, IsServedFault, RanServed}
+use Rattle.forest_run.specs.LinesRun.{IsLinesReport, RunsOverLines, IsLinesFault, run_fault, RanLines, IsHonestReport, IsServedReport, IsServedFault, RanServed}
 use Rattle.forest_run.proofs.PlainRunning.{unsolved, broken_off}
 use Rattle.forest_run.proofs.NewWires.{served_honest}
 use Rattle.forest_run.proofs.Transcripts.{have_transcripts}
@@ -74,7 +74,7 @@ same_length bytes graph other (arcs, means, links) (arcs', means', links') =
     let keys : map key_of graph.links ≡ map key_of other.links = links ∙ (ap (λ (xs : List Arc). map arc_key (filter is_no_loop xs)) same.1 ∙ sym links') in
     sym (length-map graph.links key_of) ∙ (ap (λ ks. length ks) keys ∙ length-map other.links key_of)
 
--- a graph has so few links that the text of its forest is told whole
+-- a graph has so few links that the text of its forest is counted whole
 pub few_enough : (n m : ℕ) → n ≤ m → m ≤ MAX_ARCS → n ≤ 2 ^ 55
 few_enough n m less few = omega (arith, less, few)
 
@@ -158,7 +158,7 @@ module _ {L : Type 0} (A : Type 0) (over : Line.Ghosts L) (cutting : Cutting) (l
   cut_unsolved why refused = unsolved (λ g. IsLinesFault A over cutting lines g (fault.Cut why)) graph s t a read refused
 
   pub solve_unsolved : (shards : List (List Link)) → IsCutOf cutting graph.links shards → (why : SolveFault) → (why ≡ solving.Memory) ⊎ RefusesOverLines A over graph.vertices shards lines why
-      → RanLines {A = A} over cutting lines (Err (told_fault why)) (streams s a) (streams t a)
+      → RanLines {A = A} over cutting lines (Err (run_fault why)) (streams s a) (streams t a)
   solve_unsolved shards is (solving.Rounds round) (inl none) = absurd (cc)
   solve_unsolved shards is (solving.Rounds round) (inr refused) =
       unsolved (λ g. IsLinesFault A over cutting lines g (fault.Rounds round)) graph s t a read (record { cut = shards; cut_is = is; refused = refused })
@@ -172,7 +172,7 @@ module _ (cutting : Cutting) (graph : GraphValue) (s t : SourceState) (a : SinkS
   cut_served why refused = unsolved (λ g. IsServedFault cutting g (fault.Cut why)) graph s t a read refused
 
   pub solve_served : (X : Type 0) (shards : List (List Link)) → IsCutOf cutting graph.links shards → (why : SolveFault) → why ≡ solving.Memory
-      → RanServed {X = X} cutting (Err (told_fault why)) (streams s a) (streams t a)
+      → RanServed {X = X} cutting (Err (run_fault why)) (streams s a) (streams t a)
   solve_served X shards is (solving.Rounds round) none = absurd (cc)
   solve_served X shards is (solving.Missed link) none = absurd (cc)
   solve_served X shards is solving.Memory none = unsolved (λ g. IsServedFault cutting g fault.Memory) graph s t a read is.allowed

@@ -7,13 +7,13 @@ use Rattle.std.proofs.lemmas.List.Elements.{All-push, All-nil}
 use Rattle.link_key.specs.declared.links.Link.{Link}
 use Rattle.frames.specs.AnswerValue.{AnswerValue}
 use Rattle.ports.specs.declared.line.Line as Line
-use Rattle.ports.specs.Lines.{LineState, HasRoom, IsFresh, TellsBytes}
+use Rattle.ports.specs.Lines.{LineState, HasRoom, IsFresh, HasKnownBytes}
 use Rattle.ports.specs.Wires.{WireState, IsNewWire, IsFaultless, port_of, wire_port, IsHonestWire, IsSoundWire}
 use Rattle.ports.proofs.Wiring.{fresh_calm}
 use Rattle.forest_run.specs.Lanes.{LaneState, IsIdle}
 use Rattle.forest_run.specs.Asks.{answered}
 use Rattle.forest_run.specs.Runs.{PortsAnswer}
-use Rattle.forest_run.specs.WiredLines.{AreServed, AreNewLanes, lines_of, TellsOfWires, FindsOverLines, RefusesOverLines}
+use Rattle.forest_run.specs.WiredLines.{AreServed, AreNewLanes, lines_of, AreLeftWires, FindsOverLines, RefusesOverLines}
 use Rattle.forest_run.specs.Solved.{AreHonest, FindsForest, IsSolveFault}
 use Rattle.forest_run.specs.declared.report.Report.{Report}
 use Rattle.round_core.specs.BookValue.{BookValue}
@@ -99,17 +99,17 @@ module _ {L : Type 0} where
 -- ---- what new wires over new lines are
 
 module _ {L : Type 0} (over : Line.Ghosts L) where
-  new_calm : (line : L) (cut : List (List Link)) (worker : ℕ) (wire : WireState L) → IsNewWire line cut worker wire → IsFresh (over.state line) → TellsBytes (over.state line) → IsFaultless over.state (over.state line).ends wire [] []
-  new_calm line cut worker wire new fresh tells =
-      fresh_calm over.state wire (over.state line).ends (subst (λ l. IsFresh (over.state l)) (sym new.line_is) fresh) (subst (λ l. TellsBytes (over.state l)) (sym new.line_is) tells) (ap (λ l. (over.state l).ends) new.line_is) new.ungreeted new.nothing_sent new.asks new.failures new.wants new.last
+  new_calm : (line : L) (cut : List (List Link)) (worker : ℕ) (wire : WireState L) → IsNewWire line cut worker wire → IsFresh (over.state line) → HasKnownBytes (over.state line) → IsFaultless over.state (over.state line).ends wire [] []
+  new_calm line cut worker wire new fresh known =
+      fresh_calm over.state wire (over.state line).ends (subst (λ l. IsFresh (over.state l)) (sym new.line_is) fresh) (subst (λ l. HasKnownBytes (over.state l)) (sym new.line_is) known) (ap (λ l. (over.state l).ends) new.line_is) new.ungreeted new.nothing_sent new.asks new.failures new.wants new.last
 
-  pub new_sound : (line : L) (cut : List (List Link)) (worker : ℕ) (wire : WireState L) → IsNewWire line cut worker wire → IsFresh (over.state line) → TellsBytes (over.state line) → IsSoundWire over.state wire (over.state line).ends []
-  new_sound line cut worker wire new fresh tells = inl ([], new_calm line cut worker wire new fresh tells)
+  pub new_sound : (line : L) (cut : List (List Link)) (worker : ℕ) (wire : WireState L) → IsNewWire line cut worker wire → IsFresh (over.state line) → HasKnownBytes (over.state line) → IsSoundWire over.state wire (over.state line).ends []
+  new_sound line cut worker wire new fresh known = inl ([], new_calm line cut worker wire new fresh known)
 
-  pub new_honest : (line : L) (cut : List (List Link)) (worker : ℕ) (wire : WireState L) → IsNewWire line cut worker wire → IsFresh (over.state line) → TellsBytes (over.state line) → over.faithful line worker
+  pub new_honest : (line : L) (cut : List (List Link)) (worker : ℕ) (wire : WireState L) → IsNewWire line cut worker wire → IsFresh (over.state line) → HasKnownBytes (over.state line) → over.faithful line worker
       → IsHonestWire over wire
-  new_honest line cut worker wire new fresh tells carries =
-      (subst (λ w. over.faithful wire.client.line w) (sym new.worker_is) (subst (λ l. over.faithful l worker) (sym new.line_is) carries), ((over.state line).ends, [], inl ([], new_calm line cut worker wire new fresh tells)))
+  new_honest line cut worker wire new fresh known carries =
+      (subst (λ w. over.faithful wire.client.line w) (sym new.worker_is) (subst (λ l. over.faithful l worker) (sym new.line_is) carries), ((over.state line).ends, [], inl ([], new_calm line cut worker wire new fresh known)))
 
   -- over lines that are served each wire is honest
   pub served_honest : (lines : List L) (cut : List (List Link)) (lanes : List (LaneState (WireState L))) → AreNewLanes lines cut lanes → AreServed over lines
@@ -137,7 +137,7 @@ written_back n xs ys e = take_at ys (drop (length ys) xs) n e
 
 module _ {L A : Type 0} (over : Line.Ghosts L) (n : ℕ) (cut : List (List Link)) (lines : List L) (before after : List (LaneState (WireState L))) (new : AreNewLanes lines cut before) where
   wires_went : (books : List BookValue) (answers_at : ℕ → List AnswerValue)
-      → PortsAnswer (wire_port A over) books before after answers_at → TellsOfWires over lines after
+      → PortsAnswer (wire_port A over) books before after answers_at → AreLeftWires over lines after
   wires_went books answers_at ports =
       let number = new.number in
       λ worker line lane b.
@@ -145,12 +145,12 @@ module _ {L A : Type 0} (over : Line.Ghosts L) (n : ℕ) (cut : List (List Link)
       let here = new.each worker line lane b in
       record {
         worker_is = went.worker ∙ here.worker_is;
-        sound = λ fresh tells. (
+        sound = λ fresh known. (
           answered went.exchanges went.refused,
-          went.sound_is (over.state (get_or lines worker line)).ends [] (new_sound over (get_or lines worker line) cut worker (get_or before worker lane).port here fresh tells),
+          went.sound_is (over.state (get_or lines worker line)).ends [] (new_sound over (get_or lines worker line) cut worker (get_or before worker lane).port here fresh known),
         );
-        honest = λ fresh tells carries.
-            went.honest_is (new_honest over (get_or lines worker line) cut worker (get_or before worker lane).port here fresh tells carries);
+        honest = λ fresh known carries.
+            went.honest_is (new_honest over (get_or lines worker line) cut worker (get_or before worker lane).port here fresh known carries);
       }
 
   pub solve_fault : (fault : SolveFault) → IsSolveFault (wire_port A over) n cut before after fault

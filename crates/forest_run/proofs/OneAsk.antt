@@ -17,9 +17,9 @@ use Rattle.forest_run.specs.Lanes.{count_if}
 use Rattle.forest_run.specs.Asks.{IsAskOf, IsExchangeOf, TakesExchange, ClosesPort, Takes, IsLight, AnswersAsks}
 
 -- an honest answer to an ask under the book's labels
-pub told_of : (value : BookValue) (cut : List (List Link)) (round shard : ℕ) (labels : List ℕ) (t : AnswerValue) → cut ≡ value.cut → round ≡ value.round → value.labels ≡ labels
+pub honest_of : (value : BookValue) (cut : List (List Link)) (round shard : ℕ) (labels : List ℕ) (t : AnswerValue) → cut ≡ value.cut → round ≡ value.round → value.labels ≡ labels
     → IsHonestAnswer cut round shard labels t → IsHonestAnswer value.cut value.round shard value.labels t
-told_of value cut round shard labels t a b c h =
+honest_of value cut round shard labels t a b c h =
     subst (λ (x : List (List Link)). IsHonestAnswer x value.round shard value.labels t) a
     (subst (λ (x : ℕ). IsHonestAnswer cut x shard value.labels t) b (subst (λ (x : List ℕ). IsHonestAnswer cut round shard x t) (sym c) h))
 
@@ -43,7 +43,7 @@ nothing_of (Some x) e = absurd (cc)
 -- the book doesn't refuse an honest answer
 pub honest_taken : (value : BookValue) (cut : List (List Link)) (round shard : ℕ) (labels : List ℕ) (t : AnswerValue) → LightOffersAreTaken → cut ≡ value.cut → round ≡ value.round → value.labels ≡ labels → is_taken value shard ≡ false
     → IsHonestAnswer cut round shard labels t → refusal value shard t ≡ None
-honest_taken value cut round shard labels t law a b c missed h = (let r = told_of value cut round shard labels t a b c h in law value shard t missed r.round_is r.shard_is r.light)
+honest_taken value cut round shard labels t law a b c missed h = (let r = honest_of value cut round shard labels t a b c h in law value shard t missed r.round_is r.shard_is r.light)
 
 -- what a call says where it is refused, and where it isn't
 pub some_of_err : {X E : Type 0} (o : Option E) (r : Result X E) → IfErr r (λ e. o ≡ Some e) → is_err r ≡ true → IsSome o

@@ -2,7 +2,7 @@
 use Rattle.std.proofs.Common.{◌≡◌, ◌≤◌, ◌^◌, ℕ, List, [], length, inl, inr, Some, Ok, Err, refl, sym, subst, arith}
 use Rattle.limits.specs.declared.TheConstants.{MAX_BYTES}
 use Rattle.byte_streams.specs.Streams.{SourceState, SinkState, Gave, Took, HadNoFailure}
-use Rattle.byte_streams.proofs.Streaming.{gave_to_end, took_nothing, took_told}
+use Rattle.byte_streams.proofs.Streaming.{gave_to_end, took_nothing, took_known}
 use Rattle.link_key.specs.Least.{sum_of_weights, IsLightest}
 use Rattle.link_key.specs.declared.links.Link.{Link}
 use Rattle.gr_text.specs.ForestText.{forest_text}
@@ -10,8 +10,8 @@ use Rattle.gr_text.specs.Graph.{GraphValue}
 use Rattle.gr_text.specs.Sourced.{IsReadOf}
 use Rattle.gr_text.specs.Written.{PrefixWentOut}
 use Rattle.gr_text.specs.declared.faults.ReadFault.{ReadFault}
-use Rattle.gr_text.proofs.ForestSize.{few_are_told}
-use Rattle.forest_run.proofs.Telling.{reads_the_file}
+use Rattle.gr_text.proofs.ForestSize.{few_are_exact}
+use Rattle.forest_run.proofs.KnownFiles.{reads_the_file}
 use Rattle.forest_run.specs.Files.{IsFileOf, HasForest, IsForestTextOf, IsFaultInMemory}
 use Rattle.forest_run.specs.Outcomes.{streams, IsDone, IsUnread, IsUnsolved, IsBrokenOff, IsLeast}
 use Rattle.forest_run.specs.PlainRun.{RanPlain, IsPlainReport, plain_report}
@@ -54,7 +54,7 @@ pub plainly : (graph : GraphValue) (forest : List Link) (report : Report) → Is
     → IsPlainReport graph forest report
 plainly graph forest report least is = record { report_is = is; lightest = subst (λ (r : Report). IsLightest graph.links r.total) (sym is) least }
 
--- a file has at most 2^30 arc lines, so what a failed write tells is the number of bytes itself
+-- a file has at most 2^30 arc lines, so what a failed write counts is the number of bytes itself
 pub broken_off : {X : Type 0} (found : GraphValue → List Link → Type 0) (says : GraphValue → List Link → X → Type 0) (answer : X) (written : ℕ) (graph : GraphValue) (forest : List Link) (n : ℕ) (s t : SourceState) (a b : SinkState)
     → IsReadOf MAX_BYTES (Ok graph) s t → found graph forest → length forest ≤ 2 ^ 55 → n ≡ graph.vertices
     → PrefixWentOut written (forest_text n forest) a b → says graph forest answer → IsBrokenOff found says written (streams s a) (streams t b)
@@ -67,39 +67,39 @@ broken_off found says answer written graph forest n s t a b read found_is few sa
       read = gave;
       file = file;
       found_is = found_is;
-      part = few_are_told written graph.vertices forest a b few (subst (λ (m : ℕ). PrefixWentOut written (forest_text m forest) a b) same part);
+      part = few_are_exact written graph.vertices forest a b few (subst (λ (m : ℕ). PrefixWentOut written (forest_text m forest) a b) same part);
       answer = answer;
       said = said;
     }
 
--- ---- bytes in memory: a source that tells them and no failure
+-- ---- bytes in memory: a source of which they are known, and that it has no failure
 
 -- the file that was read is all that there was
 pub given_file : (bytes got : List ℕ) (s t : SourceState) → s.left ≡ Some bytes → Gave 0 1 got s t → got ≡ bytes
-given_file bytes got s t told gave = sym (gave_to_end 0 1 bytes got s t told (omega arith) gave)
+given_file bytes got s t known gave = sym (gave_to_end 0 1 bytes got s t known (omega arith) gave)
 
 -- the forest of the file that was read is that of the bytes
 gives : (bytes got : List ℕ) (s t : SourceState) (graph : GraphValue) (forest : List Link) → s.left ≡ Some bytes → Gave 0 1 got s t → IsFileOf got graph → IsLeast graph forest
     → HasForest bytes graph forest
-gives bytes got s t graph forest told gave file least =
-    record { file = subst (λ (xs : List ℕ). IsFileOf xs graph) (given_file bytes got s t told gave) file; least = least }
+gives bytes got s t graph forest known gave file least =
+    record { file = subst (λ (xs : List ℕ). IsFileOf xs graph) (given_file bytes got s t known gave) file; least = least }
 
 pub fault_in_memory : (why : RunFault) (bytes : List ℕ) (s t : SourceState) (a b : SinkState)
     → s.left ≡ Some bytes → HadNoFailure s t → RanPlain (Err why) (streams s a) (streams t b) → IsFaultInMemory bytes why
-fault_in_memory (fault.Read why) bytes s t a b told no_failure ran = reads_the_file bytes s t (Err why) told no_failure ran.refused
-fault_in_memory (fault.Cut why) bytes s t a b told no_failure ran = let cause = ran.cause in cc
-fault_in_memory (fault.Rounds round) bytes s t a b told no_failure ran = let cause = ran.cause in cc
-fault_in_memory (fault.Missed link) bytes s t a b told no_failure ran = let cause = ran.cause in cc
-fault_in_memory fault.Memory bytes s t a b told no_failure ran =
-    (ran.graph, subst (λ (xs : List ℕ). IsFileOf xs ran.graph) (given_file bytes ran.bytes s t told ran.read) ran.file)
-fault_in_memory (fault.Write written) bytes s t a b told no_failure ran =
-    let given = gives bytes ran.bytes s t ran.graph ran.forest told ran.read ran.file ran.found_is in
+fault_in_memory (fault.Read why) bytes s t a b known no_failure ran = reads_the_file bytes s t (Err why) known no_failure ran.refused
+fault_in_memory (fault.Cut why) bytes s t a b known no_failure ran = let cause = ran.cause in cc
+fault_in_memory (fault.Rounds round) bytes s t a b known no_failure ran = let cause = ran.cause in cc
+fault_in_memory (fault.Missed link) bytes s t a b known no_failure ran = let cause = ran.cause in cc
+fault_in_memory fault.Memory bytes s t a b known no_failure ran =
+    (ran.graph, subst (λ (xs : List ℕ). IsFileOf xs ran.graph) (given_file bytes ran.bytes s t known ran.read) ran.file)
+fault_in_memory (fault.Write written) bytes s t a b known no_failure ran =
+    let given = gives bytes ran.bytes s t ran.graph ran.forest known ran.read ran.file ran.found_is in
     (forest_text ran.graph.vertices ran.forest, (ran.graph, ran.forest, given, refl), omega (arith, ran.part.within, ran.part.counted))
 
 pub text_in_memory : (says : GraphValue → List Link → Type 0) (bytes text : List ℕ) (s t : SourceState) (a b : SinkState)
     → s.left ≡ Some bytes → a.held ≡ Some [] → b.held ≡ Some text → IsDone IsLeast says (streams s a) (streams t b) → IsForestTextOf bytes text
-text_in_memory says bytes text s t a b told empty held ran =
-    let given = gives bytes ran.bytes s t ran.graph ran.forest told ran.read ran.file ran.found_is in
-    let out = took_told 0 [] (forest_text ran.graph.vertices ran.forest) a b empty ran.written in
+text_in_memory says bytes text s t a b known empty held ran =
+    let given = gives bytes ran.bytes s t ran.graph ran.forest known ran.read ran.file ran.found_is in
+    let out = took_known 0 [] (forest_text ran.graph.vertices ran.forest) a b empty ran.written in
     let same : text ≡ forest_text ran.graph.vertices ran.forest = cc in
     (ran.graph, ran.forest, given, same)

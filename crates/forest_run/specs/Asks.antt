@@ -39,7 +39,7 @@ pub record Takes (value : BookValue) (answer : AnswerValue) : Type 0 where
   pub within : answer.shard < length value.cut
   pub taken : refusal value answer.shard answer ≡ None
 
--- the answer has the light offers of its shard, told of the book's round
+-- the answer has the light offers of its shard, and is of the book's round
 abbrev pub IsLight : BookValue → AnswerValue → Type 0
 IsLight value answer = IsHonestAnswer value.cut value.round answer.shard value.labels answer
 
@@ -101,7 +101,7 @@ pub record AnswersAsks {P A : Type 0} (port : Port.Ghosts P A) (keeping : Exchan
   pub given : SameFaults (port.state before) (port.state after)
       → (others : List Exchange) → port.exchanged before others → port.exchanged after (others ++ answered exchanges refused)
   pub honest_is : port.honest before → port.honest after
-  -- and what a port answered that failed later is told with why it failed
+  -- and what a port answered that failed later is known with why it failed
   pub sound_is : (ends : ℕ) (others : List Exchange)
       → port.sound before ends others → port.sound after ends (others ++ answered exchanges refused)
   -- why it was closed: its last ask failed or found no memory, or brought an answer that is refused, which no honest port gives

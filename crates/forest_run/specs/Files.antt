@@ -50,11 +50,11 @@ IsFaultInMemory bytes fault.Memory = MeansGraph bytes
 IsFaultInMemory bytes (fault.Write written) = IsPartOfText bytes written
 IsFaultInMemory bytes other = ⊥
 
--- ---- what follows for a source that tells
+-- ---- what follows for a source that is known
 
--- the source tells that it has this file, within the limit, and that no read failed
+-- it is known that the source has this file, within the limit, and that no read failed
 pub record HasFile (bytes : List ℕ) (before after : SourceState) : Type 0 where
-  pub told : before.left ≡ Some bytes
+  pub known : before.left ≡ Some bytes
   pub no_failure : HadNoFailure before after
   pub within : length bytes ≤ MAX_BYTES
 

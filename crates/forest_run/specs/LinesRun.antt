@@ -72,11 +72,11 @@ IsLinesFault A over cutting lines graph (fault.Missed link) = IsRefusedRun A ove
 IsLinesFault A over cutting lines graph fault.Memory = cut_refusal cutting (length graph.links) ≡ None
 IsLinesFault A over cutting lines graph other = ⊥
 
--- what such a fault of the solver's is told as
-abbrev pub told_fault : SolveFault → RunFault
-told_fault (solving.Rounds round) = fault.Rounds round
-told_fault (solving.Missed link) = fault.Missed link
-told_fault solving.Memory = fault.Memory
+-- the run's fault for such a fault of the solver's
+abbrev pub run_fault : SolveFault → RunFault
+run_fault (solving.Rounds round) = fault.Rounds round
+run_fault (solving.Missed link) = fault.Missed link
+run_fault solving.Memory = fault.Memory
 
 -- what a run over these lines did that answered this, whatever the workers answered: a report, and the lines
 abbrev pub RanLines : {L A : Type 0} → Line.Ghosts L → Cutting → List L → Result (Report × Vec L A) RunFault → Streams → Streams → Type 0
@@ -102,7 +102,7 @@ IsServedFault cutting graph other = ⊥
 abbrev pub RanServed : {X : Type 0} → Cutting → Result (Report × X) RunFault → Streams → Streams → Type 0
 RanServed cutting = Ran IsLeast (λ graph forest r. IsServedReport cutting graph forest r.0) (IsServedFault cutting)
 
--- ---- what follows for a source that tells
+-- ---- what follows for a source that is known
 
 -- the bytes are a file within the limit, and mean a graph whose links can be cut so
 pub record MeansGraphToCut (cutting : Cutting) (bytes : List ℕ) : Type 0 where
@@ -110,13 +110,13 @@ pub record MeansGraphToCut (cutting : Cutting) (bytes : List ℕ) : Type 0 where
   pub file : IsFileOf bytes graph
   pub allowed : cut_refusal cutting (length graph.links) ≡ None
 
--- the source tells that it has such a file, and that no read failed
+-- it is known that the source has such a file, and that no read failed
 pub record HasGraphToCut (cutting : Cutting) (before after : SourceState) : Type 0 where
   pub bytes : List ℕ
   pub has : HasFile bytes before after
   pub means : MeansGraphToCut cutting bytes
 
--- the answer is no fault but want of memory; or else the sink had a setback, or doesn't tell
+-- the answer is no fault but want of memory; or else the sink had a setback, or that isn't known
 abbrev pub IsUnhindered : {X : Type 0} → Result X RunFault → SinkState → SinkState → Type 0
 IsUnhindered (Ok x) before after = ⊤
 IsUnhindered (Err (fault.Read why)) before after = why ≡ read.Memory

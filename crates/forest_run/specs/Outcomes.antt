@@ -14,7 +14,7 @@ use Rattle.forest_run.specs.Files.{IsFileOf}
 use Rattle.forest_run.specs.declared.fault.RunFault.{RunFault}
 use Rattle.forest_run.specs.declared.fault.RunFault.TheVariants as fault
 
--- a run's two streams, as each tells itself
+-- a run's two streams, as each is known
 pub record Streams : Type 0 where
   pub source : SourceState
   pub sink : SinkState
@@ -22,9 +22,9 @@ pub record Streams : Type 0 where
 abbrev pub streams : SourceState → SinkState → Streams
 streams source sink = record { source = source; sink = sink }
 
--- what a source and a sink tell
-abbrev pub told : {S W : Type 0} → (S → SourceState) → (W → SinkState) → S → W → Streams
-told source_of sink_of source sink = record { source = source_of source; sink = sink_of sink }
+-- the streams of a run, of its source and its sink
+abbrev pub streams_of : {S W : Type 0} → (S → SourceState) → (W → SinkState) → S → W → Streams
+streams_of source_of sink_of source sink = record { source = source_of source; sink = sink_of sink }
 
 -- what may be so of a graph and links of it, and of an answer beside them
 abbrev pub ForestFact : Type 1

@@ -7,7 +7,7 @@ use Rattle.worker_engine.specs.Serving.{asks_in}
 use Rattle.round_core.specs.BookValue.{hearing_of}
 use Rattle.round_core.specs.declared.solver.SolveFault.{SolveFault}
 use Rattle.ports.specs.declared.line.Line as Line
-use Rattle.ports.specs.Lines.{LineState, IsFresh, TellsBytes}
+use Rattle.ports.specs.Lines.{LineState, IsFresh, HasKnownBytes}
 use Rattle.ports.specs.Exchanges.{Exchange}
 use Rattle.ports.specs.Clients.{Client, MatchesLine}
 use Rattle.ports.specs.Wires.{WireState, IsNewWire, wire_port, IsHonestWire, IsSoundWire}
@@ -17,15 +17,15 @@ use Rattle.forest_run.specs.Solved.{FindsForest, RefusesRun}
 
 -- ---- the lines
 
--- each line is new and tells its bytes
+-- each line is new, and its bytes are known
 abbrev pub AreFresh : {L : Type 0} → (L → LineState) → List L → Type 0
-AreFresh state lines = All (λ line. IsFresh (state line) × TellsBytes (state line)) lines
+AreFresh state lines = All (λ line. IsFresh (state line) × HasKnownBytes (state line)) lines
 
 -- the line at each place is faithful for the worker of that number
 abbrev pub AreFaithful : {L : Type 0} → Line.Ghosts L → List L → Type 0
 AreFaithful over lines = (worker : ℕ) (d : _) → worker < length lines → over.faithful (slice_index_or lines worker d) worker
 
--- each line is new and tells its bytes, and they are so
+-- each line is new, its bytes are known, and they are so
 abbrev pub AreServed : {L : Type 0} → Line.Ghosts L → List L → Type 0
 AreServed over lines = AreFresh over.state lines × AreFaithful over lines
 
@@ -42,21 +42,21 @@ lines_of lanes = map (λ lane. lane.port.client.line) lanes
 
 -- ---- what a run does to them
 
--- what a wire over this line, which was new before a run, is after it: it is of this worker, and tells why it was shut if
+-- what a wire over this line, which was new before a run, is after it: it is of this worker, and it is known why it was shut if
 -- it is, whatever the other lines are
-pub record TellsOfWire {L : Type 0} (over : Line.Ghosts L) (worker : ℕ) (line : L) (wire : WireState L) : Type 0 where
+pub record IsLeftWire {L : Type 0} (over : Line.Ghosts L) (worker : ℕ) (line : L) (wire : WireState L) : Type 0 where
   pub worker_is : wire.client.worker ≡ worker
-  -- where the line was new and tells its bytes, from the ends on that it had found before the run
-  pub sound : IsFresh (over.state line) → TellsBytes (over.state line)
+  -- where the line was new, with known bytes, from the ends on that it had found before the run
+  pub sound : IsFresh (over.state line) → HasKnownBytes (over.state line)
       → (exchanges : List Exchange) × IsSoundWire over.state wire (over.state line).ends exchanges
   -- and where it carries its worker's session too
-  pub honest : IsFresh (over.state line) → TellsBytes (over.state line) → over.faithful line worker → IsHonestWire over wire
+  pub honest : IsFresh (over.state line) → HasKnownBytes (over.state line) → over.faithful line worker → IsHonestWire over wire
 
 -- the wires that lanes with new wires over these lines have after a run: each is of the worker of its place
-abbrev pub TellsOfWires : {L : Type 0} → Line.Ghosts L → List L → List (LaneState (WireState L)) → Type 0
-TellsOfWires {L = L} over lines ended =
+abbrev pub AreLeftWires : {L : Type 0} → Line.Ghosts L → List L → List (LaneState (WireState L)) → Type 0
+AreLeftWires {L = L} over lines ended =
     (worker : ℕ) (line : L) (lane : LaneState (WireState L)) → worker < length lines
-    → TellsOfWire over worker (slice_index_or lines worker line) (slice_index_or ended worker lane).port
+    → IsLeftWire over worker (slice_index_or lines worker line) (slice_index_or ended worker lane).port
 
 -- over new wires a run of their lanes found this forest of the cut's links, for the vertices 1 to n; the lines were taken out again in their order
 pub record FindsOverLines {L : Type 0} (A : Type 0) (over : Line.Ghosts L) (n : ℕ) (cut : List (List Link)) (before after : List L)
@@ -65,7 +65,7 @@ pub record FindsOverLines {L : Type 0} (A : Type 0) (over : Line.Ghosts L) (n : 
   pub new : AreNewLanes before cut lanes
   pub ended : List (LaneState (WireState L))
   pub went : FindsForest (wire_port A over) n cut lanes ended forest report
-  pub wires : TellsOfWires over before ended
+  pub wires : AreLeftWires over before ended
   pub lines_are : after ≡ lines_of ended
 
 -- over new wires the rounds of a run were answered so that the solver refuses them by this fault
@@ -75,7 +75,7 @@ pub record RefusesOverLines {L : Type 0} (A : Type 0) (over : Line.Ghosts L) (n 
   pub new : AreNewLanes lines cut lanes
   pub ended : List (LaneState (WireState L))
   pub refused : RefusesRun (wire_port A over) n cut lanes ended fault
-  pub wires : TellsOfWires over lines ended
+  pub wires : AreLeftWires over lines ended
 
 -- ---- the bytes on the lines
 

@@ -83,12 +83,12 @@ fn text_of_cut(fault: CutFault) -> &'static str
     }
 }
 
-// What is told of a run whose rounds gave no forest.
+// Why a run has no forest whose rounds gave none.
 impl From<SolveFault> for RunFault {
     ghost use Rattle.std.specs.Prelude.{◌≡◌};
-    ghost use Rattle.forest_run.specs.LinesRun.{told_fault};
+    ghost use Rattle.forest_run.specs.LinesRun.{run_fault};
 
-    ghost from_gives = { λ fault told. told ≡ told_fault fault };
+    ghost from_gives = { λ fault why. why ≡ run_fault fault };
 
     fn from(fault: SolveFault) -> RunFault {
         match fault {

@@ -18,7 +18,7 @@
 //! - A run that ends well has read a whole file that means a graph, and written just the text of a forest of its links.
 //!   A malformed file is refused by its first fault; at any other fault a prefix of such a text went out.
 //! - By one thread, and over lines that carry their workers' sessions, it is the minimum one; over any lines it spans.
-//! - A new line that tells its bytes is given up only for a fault that fits these and its counts, or an answer that the
+//! - A new line whose bytes are known is given up only for a fault that fits these and its counts, or an answer that the
 //!   round's book refuses: never by the run's fault.
 //!
 //! Where to start a change: `specs/Outcomes` says what a run does to its streams, `PlainRun` and `LinesRun` what each

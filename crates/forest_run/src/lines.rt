@@ -6,7 +6,7 @@ ghost use Rattle.link_key.specs.Link.{EndsUpTo};
 ghost use Rattle.round_core.specs.declared.solver.SolveFault.TheVariants.{Memory};
 ghost use Rattle.ports.specs.Lines.{HasRoom};
 ghost use Rattle.forest_run.specs.Files.{HasFile, MeansGraph, MeansNothing, IsFirstFaultOf, IsNoRefusal};
-ghost use Rattle.forest_run.specs.Outcomes.{told};
+ghost use Rattle.forest_run.specs.Outcomes.{streams_of};
 ghost use Rattle.forest_run.specs.Cuttings.{cut_refusal, IsCutOf};
 ghost use Rattle.forest_run.specs.WiredLines.{AreServed, AreNewLanes, lines_of, FindsOverLines, RefusesOverLines};
 ghost use Rattle.forest_run.specs.LinesRun.{RanLines, RanServed, EndsWell};
@@ -110,9 +110,9 @@ fn solve_lines<
 ///
 /// The links are cut as `cutting` says, and the worker at line i, numbered from 0, is asked for the light offers of one
 /// shard after another, as [`solve`] says. A line that fails, over which something else than an answer comes, or an
-/// answer that the round's book refuses, one of whose asks finds no memory, or whose worker told a version that has no
+/// answer that the round's book refuses, one of whose asks finds no memory, or whose worker has a version that has no
 /// frame for a shard, is given up for good, and its shards are asked of the others; where none is left they are scanned
-/// here. So a failing line is never the run's fault. A line that was new and tells its bytes is given up for a fault
+/// here. So a failing line is never the run's fault. A line that was new, with known bytes, is given up for a fault
 /// only where its last ask counted a failure or an end, brought bytes that fit the fault, found no memory, or needed a
 /// frame that its worker's version hasn't, and no ask before did. Where all lines carry the sessions of their workers
 /// the links are the minimum spanning forest, and no line is given up but one that is down, whose worker is too old for
@@ -143,14 +143,14 @@ pub fn run_lines<
 
     // Whatever the workers answer: the source was read to its end, and exactly the text of a spanning forest went out, or
     // the fault says what was done. At the end, where a write failed, and where what came over the lines makes no forest,
-    // each line was asked as its worker, and where it was given up it tells why.
+    // each line was asked as its worker, and where it was given up it is known why.
     ensures ran { RanLines L.Line cutting.entry lines.items result
-        (told S.state W.state source.old sink.old) (told S.state W.state source.new sink.new) }
+        (streams_of S.state W.state source.old sink.old) (streams_of S.state W.state source.new sink.new) }
 
     // Where each line is new and carries its worker's session: the minimum spanning forest, after as many rounds as merge
-    // components. `ran` says so too, of the forest and the report that it tells of.
+    // components. `ran` says so too, of the forest and the report that it speaks of.
     ensures served { AreServed L.Line lines.items → RanServed cutting.entry result
-        (told S.state W.state source.old sink.old) (told S.state W.state source.new sink.new) }
+        (streams_of S.state W.state source.old sink.old) (streams_of S.state W.state source.new sink.new) }
 
     // A file that means nothing is refused by its first fault, where no read fails; one that means a graph isn't.
     ensures malformed { (bytes : List ℕ) → HasFile bytes (S.state source.old) (S.state source.new)
@@ -161,7 +161,7 @@ pub fn run_lines<
     // Over such lines, where the cut of the file's graph is allowed, only want of memory and a setback of the sink can
     // hinder a run.
     ensures ends_well { AreServed L.Line lines.items → EndsWell cutting.entry result
-        (told S.state W.state source.old sink.old) (told S.state W.state source.new sink.new) }
+        (streams_of S.state W.state source.old sink.old) (streams_of S.state W.state source.new sink.new) }
 
     // After a run that ends well the sink can be written again.
     ensures again { OnOk result (W.can_write sink.new) }

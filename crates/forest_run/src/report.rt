@@ -1,4 +1,4 @@
-//! What a run tells of itself.
+//! What a run counts of itself.
 ghost use Rattle.std.specs.Prelude.{◌≡◌, ◌+◌, ◌*◌, ◌≤◌, length};
 ghost use Rattle.limits.specs.declared.TheConstants.{MAX_WORKERS};
 ghost use Rattle.link_key.specs.Cut.{joined};

@@ -9,7 +9,7 @@ use Rattle.frames.specs.declared.fault.FrameFault.{FrameFault}
 use Rattle.frames.specs.declared.fault.FrameFault.TheVariants.{BadKind, BadLength, BadField, BadVersion, Ended, Torn, Device, Memory}
 use Rattle.frames.proofs.OneText.{one_text}
 use Rattle.frames.proofs.NeverRefused.{never_refused}
-use Rattle.frames.specs.FrameStream.{texts_of, AreLawful, BeginsNone, AreFramesOf, IsTelling}
+use Rattle.frames.specs.FrameStream.{texts_of, AreLawful, BeginsNone, AreFramesOf, IsOfStream}
 
 pub texts-append : (fs gs : List FrameValue) → texts_of (fs ++ gs) ≡ texts_of fs ++ texts_of gs
 texts-append [] gs = refl
@@ -138,12 +138,12 @@ pub prefix_has_prefix_frames : (prefix rest : List ℕ) (all : List FrameValue) 
 prefix_has_prefix_frames prefix rest all are = prefix_frames_exist prefix rest are.rest all are.lawful are.no_more are.split
 
 -- what a reader refuses, where neither a read failed nor memory was wanting, begins with no lawful frame
-pub refused_begins_none : (fault : FrameFault) (bytes : List ℕ) → IsTelling fault → StreamRefused fault bytes → BeginsNone bytes
-refused_begins_none Ended bytes tells refused v m is at = (never_refused v m is).ended (subst (StreamRefused Ended) at refused)
-refused_begins_none Torn bytes tells refused v m is at = (never_refused v m is).torn (subst (StreamRefused Torn) at refused)
-refused_begins_none BadKind bytes tells refused v m is at = (never_refused v m is).kind (subst (StreamRefused BadKind) at refused)
-refused_begins_none BadLength bytes tells refused v m is at = (never_refused v m is).length (subst (StreamRefused BadLength) at refused)
-refused_begins_none BadField bytes tells refused v m is at = (never_refused v m is).field (subst (StreamRefused BadField) at refused)
-refused_begins_none BadVersion bytes tells refused v m is at = (never_refused v m is).version (subst (StreamRefused BadVersion) at refused)
-refused_begins_none Device bytes tells refused v m is at = tells
-refused_begins_none Memory bytes tells refused v m is at = tells
+pub refused_begins_none : (fault : FrameFault) (bytes : List ℕ) → IsOfStream fault → StreamRefused fault bytes → BeginsNone bytes
+refused_begins_none Ended bytes of_stream refused v m is at = (never_refused v m is).ended (subst (StreamRefused Ended) at refused)
+refused_begins_none Torn bytes of_stream refused v m is at = (never_refused v m is).torn (subst (StreamRefused Torn) at refused)
+refused_begins_none BadKind bytes of_stream refused v m is at = (never_refused v m is).kind (subst (StreamRefused BadKind) at refused)
+refused_begins_none BadLength bytes of_stream refused v m is at = (never_refused v m is).length (subst (StreamRefused BadLength) at refused)
+refused_begins_none BadField bytes of_stream refused v m is at = (never_refused v m is).field (subst (StreamRefused BadField) at refused)
+refused_begins_none BadVersion bytes of_stream refused v m is at = (never_refused v m is).version (subst (StreamRefused BadVersion) at refused)
+refused_begins_none Device bytes of_stream refused v m is at = of_stream
+refused_begins_none Memory bytes of_stream refused v m is at = of_stream

@@ -16,7 +16,7 @@ use Rattle.frames.specs.FrameText.{u32_text, text_of}
 use Rattle.frames.specs.Lawful.{IsU32, IsLawful}
 use Rattle.frames.specs.Refusals.{IsPossible, IsFrameOf, BodyRefused}
 use Rattle.frames.specs.ReadFault.{failures_of, ends_of, IsReadRefused, IsCutShort}
-use Rattle.frames.specs.NextFrame.{next_value, numbers_told, BodyCame, IsBodyRefused, IsStopped}
+use Rattle.frames.specs.NextFrame.{next_value, numbers_of_ask, BodyCame, IsBodyRefused, IsStopped}
 use Rattle.frames.specs.declared.next_frame.NextFrame.{NextFrame}
 use Rattle.frames.specs.declared.fault.FrameFault.{FrameFault}
 use Rattle.frames.specs.declared.fault.FrameFault.TheVariants.{BadField, Memory}
@@ -152,13 +152,13 @@ module _ (fields rest rest' none : List ℕ) (r s c n : ℕ) (twelve : length fi
         (whole_refused BadField 3 (12 + 4 * n) (fields ++ text) x z (with_fields text (omega (arith, bytes_of ls, count))) (gave_more 0 0 fields text x y z came behind)
         (ask_unlabelled r s c (fields ++ text) (u32_text s ++ (u32_text c ++ text)) (u32_text c ++ text) text ls wide_r wide_s wide_c (ask_body text) refl refl refl fit never))
 
-    module _ {A : Type 0} (last : List ℕ) (are : AreLabels last) (numbers : Option (Vec ℕ A)) (x y z : SourceState) (count : length (numbers_told last numbers) ≡ n) (came : Gave 0 0 fields x y)
-        (behind : Gave 0 0 (flat_map u32_text (numbers_told last numbers)) y z) where
-      pub ask_told : (next : NextFrame A)
-          → ((before : List ℕ) → AreLabels before → (next_value before next ≡ AskFrame r s (numbers_told before numbers)) × AreLabels (numbers_told before numbers))
+    module _ {A : Type 0} (last : List ℕ) (are : AreLabels last) (numbers : Option (Vec ℕ A)) (x y z : SourceState) (count : length (numbers_of_ask last numbers) ≡ n) (came : Gave 0 0 fields x y)
+        (behind : Gave 0 0 (flat_map u32_text (numbers_of_ask last numbers)) y z) where
+      pub ask_read : (next : NextFrame A)
+          → ((before : List ℕ) → AreLabels before → (next_value before next ≡ AskFrame r s (numbers_of_ask before numbers)) × AreLabels (numbers_of_ask before numbers))
           → BodyCame (next_value last next) 3 (12 + 4 * n) x z
-      ask_told next is = let (same, labels) = is last are in ask_came (next_value last next) (numbers_told last numbers) x y z same labels count came behind
+      ask_read next is = let (same, labels) = is last are in ask_came (next_value last next) (numbers_of_ask last numbers) x y z same labels count came behind
 
-      pub no_ask_told : (fault : FrameFault) → All IsU32 (numbers_told last numbers) → (fault ≡ BadField) × ((before : List ℕ) → ¬ AreLabels (numbers_told before numbers))
+      pub no_ask_read : (fault : FrameFault) → All IsU32 (numbers_of_ask last numbers) → (fault ≡ BadField) × ((before : List ℕ) → ¬ AreLabels (numbers_of_ask before numbers))
           → IsBodyRefused fault 3 (12 + 4 * n) x z
-      no_ask_told fault fit (is, never) = no_ask_came fault (numbers_told last numbers) x y z is fit (never last) count came behind
+      no_ask_read fault fit (is, never) = no_ask_came fault (numbers_of_ask last numbers) x y z is fit (never last) count came behind

@@ -42,7 +42,7 @@ labels_fit labels are = labels_below labels (λ k lt.
     let place : k + 1 - 1 ≡ k = omega arith in
     omega (arith, are.few_vertices, rw place at below))
 
--- the kind of a shard tells the spelling of its links
+-- the kind of a shard decides the spelling of its links
 abbrev pub kind_by : Bool → ℕ
 kind_by narrow = cond narrow 2 6
 

@@ -5,7 +5,7 @@ use Rattle.std.specs.Io.KnownBytes.{Consumes}
 use Rattle.std.proofs.lemmas.Bool.{cases_lt}
 use Rattle.std.proofs.lemmas.List.{length-append, get_or_append_left, drop-append-le, take-append-le, length-drop}
 use Rattle.frames.specs.Refusals.{IsPossible, HeadRefused, BodyRefused, HasHead, HasGoodHead, HasBody, StreamRefused, kind_at, length_at, body_at}
-use Rattle.frames.specs.FrameStream.{IsTelling}
+use Rattle.frames.specs.FrameStream.{IsOfStream}
 use Rattle.frames.specs.ReadFault.{ends_of, RefusalIsOfTheStream}
 use Rattle.frames.specs.declared.fault.FrameFault.{FrameFault}
 use Rattle.frames.specs.declared.fault.FrameFault.TheVariants.{BadKind, BadLength, BadField, BadVersion, Ended, Torn, Device, Memory}
@@ -43,24 +43,24 @@ module _ (bytes rest : List ℕ) where
       subst (BodyRefused fault (kind_at (bytes ++ rest))) (sym (body_same body)) (subst (λ (k : ℕ). BodyRefused fault k (body_at bytes)) (sym (kind_same body.0.0)) refused)
 
 -- a stream that begins with a refused head or frame is refused
-pub refused_more : (fault : FrameFault) (bytes rest : List ℕ) → IsTelling fault → ends_of fault ≡ 0 → StreamRefused fault bytes → StreamRefused fault (bytes ++ rest)
-refused_more BadKind bytes rest tells whole refused = (longer bytes rest refused.0, head_more bytes rest BadKind refused.0 refused.1)
-refused_more BadLength bytes rest tells whole refused = (longer bytes rest refused.0, head_more bytes rest BadLength refused.0 refused.1)
-refused_more BadField bytes rest tells whole refused = (has_body bytes rest refused.0, body_more bytes rest BadField refused.0 refused.1)
-refused_more BadVersion bytes rest tells whole refused = (has_body bytes rest refused.0, body_more bytes rest BadVersion refused.0 refused.1)
-refused_more Ended bytes rest tells whole refused = absurd (omega (arith, whole))
-refused_more Torn bytes rest tells whole refused = absurd (omega (arith, whole))
-refused_more Device bytes rest tells whole refused = absurd tells
-refused_more Memory bytes rest tells whole refused = absurd tells
+pub refused_more : (fault : FrameFault) (bytes rest : List ℕ) → IsOfStream fault → ends_of fault ≡ 0 → StreamRefused fault bytes → StreamRefused fault (bytes ++ rest)
+refused_more BadKind bytes rest of_stream whole refused = (longer bytes rest refused.0, head_more bytes rest BadKind refused.0 refused.1)
+refused_more BadLength bytes rest of_stream whole refused = (longer bytes rest refused.0, head_more bytes rest BadLength refused.0 refused.1)
+refused_more BadField bytes rest of_stream whole refused = (has_body bytes rest refused.0, body_more bytes rest BadField refused.0 refused.1)
+refused_more BadVersion bytes rest of_stream whole refused = (has_body bytes rest refused.0, body_more bytes rest BadVersion refused.0 refused.1)
+refused_more Ended bytes rest of_stream whole refused = absurd (omega (arith, whole))
+refused_more Torn bytes rest of_stream whole refused = absurd (omega (arith, whole))
+refused_more Device bytes rest of_stream whole refused = absurd of_stream
+refused_more Memory bytes rest of_stream whole refused = absurd of_stream
 
-of_the_stream : (fault : FrameFault) (a b : Option (List ℕ)) (bytes : List ℕ) → IsTelling fault → Consumes a b bytes → (0 < ends_of fault → IfSome a (λ all. all ≡ bytes))
+of_the_stream : (fault : FrameFault) (a b : Option (List ℕ)) (bytes : List ℕ) → IsOfStream fault → Consumes a b bytes → (0 < ends_of fault → IfSome a (λ all. all ≡ bytes))
     → StreamRefused fault bytes → IfSome a (StreamRefused fault)
-of_the_stream fault None b bytes tells came at_end refused = tt
-of_the_stream fault (Some all) None bytes tells came at_end refused = absurd came
-of_the_stream fault (Some all) (Some rest) bytes tells came at_end refused = by_end (cases_lt 0 (ends_of fault)) where
+of_the_stream fault None b bytes of_stream came at_end refused = tt
+of_the_stream fault (Some all) None bytes of_stream came at_end refused = absurd came
+of_the_stream fault (Some all) (Some rest) bytes of_stream came at_end refused = by_end (cases_lt 0 (ends_of fault)) where
   by_end : (0 < ends_of fault) ⊎ (ends_of fault ≤ 0) → StreamRefused fault all
   by_end (inl ended) = subst (StreamRefused fault) (sym (at_end ended)) refused
-  by_end (inr went_on) = subst (StreamRefused fault) (sym came) (refused_more fault bytes rest tells (omega arith) refused)
+  by_end (inr went_on) = subst (StreamRefused fault) (sym came) (refused_more fault bytes rest of_stream (omega arith) refused)
 
 pub refusal_of_the_stream : RefusalIsOfTheStream
-refusal_of_the_stream fault before after tells is = of_the_stream fault before.left after.left is.bytes tells is.gave.left is.gave.at_end is.refused
+refusal_of_the_stream fault before after of_stream is = of_the_stream fault before.left after.left is.bytes of_stream is.gave.left is.gave.at_end is.refused

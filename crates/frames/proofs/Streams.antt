@@ -89,8 +89,8 @@ cut_refused fault kind len bytes s t u wide possible head first cut =
     let split : bytes ++ cut.bytes ≡ (kind ∷ u32_text len) ++ cut.bytes = ap (λ (l : List ℕ). l ++ cut.bytes) head in
     let good : HasGoodHead (bytes ++ cut.bytes) = good_head kind len (bytes ++ cut.bytes) cut.bytes wide possible split in
     let size : length (bytes ++ cut.bytes) ≡ 5 + length cut.bytes = ap length split ∙ head_length kind len cut.bytes in
-    let told : length_at (bytes ++ cut.bytes) ≡ len = ap length_at split ∙ length_is kind len cut.bytes wide in
-    let inside : length (bytes ++ cut.bytes) < 5 + length_at (bytes ++ cut.bytes) = omega (arith, size, told, cut.short) in
+    let stated : length_at (bytes ++ cut.bytes) ≡ len = ap length_at split ∙ length_is kind len cut.bytes wide in
+    let inside : length (bytes ++ cut.bytes) < 5 + length_at (bytes ++ cut.bytes) = omega (arith, size, stated, cut.short) in
     record {
       bytes = bytes ++ cut.bytes;
       gave = gave_more (failures_of fault) (ends_of fault) bytes cut.bytes s t u first cut.gave;
@@ -123,7 +123,7 @@ body_refused fault kind len bytes body s t u wide possible count head first seco
     let split : bytes ++ body ≡ (kind ∷ u32_text len) ++ body = ap (λ (l : List ℕ). l ++ body) head in
     let whole = whole_body kind len (bytes ++ body) body [] wide possible count (split ∙ ap (λ (l : List ℕ). (kind ∷ u32_text len) ++ l) (sym (append-nil body))) in
     let size : length (bytes ++ body) ≡ 5 + length body = ap length split ∙ head_length kind len body in
-    let told : length_at (bytes ++ body) ≡ len = ap length_at split ∙ length_is kind len body wide in
+    let stated : length_at (bytes ++ body) ≡ len = ap length_at split ∙ length_is kind len body wide in
     let there : BodyRefused fault (kind_at (bytes ++ body)) (body_at (bytes ++ body)) =
     subst (λ (k : ℕ). BodyRefused fault k (body_at (bytes ++ body))) (sym whole.1) (subst (BodyRefused fault kind) (sym whole.2) refused) in
     let is = body_fault fault (bytes ++ body) whole.0 there in
@@ -131,7 +131,7 @@ body_refused fault kind len bytes body s t u wide possible count head first seco
     record {
       bytes = bytes ++ body;
       gave = subst (λ (k : ℕ). Gave k (ends_of fault) (bytes ++ body) s u) (sym is.1) (subst (λ (k : ℕ). Gave 0 k (bytes ++ body) s u) (sym is.2) gave);
-      within = inr (whole.0.0, omega (arith, size, told, count));
+      within = inr (whole.0.0, omega (arith, size, stated, count));
       refused = is.0;
     }
 

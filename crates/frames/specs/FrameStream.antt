@@ -26,11 +26,11 @@ pub record AreFramesOf (stream : List ℕ) (frames : List FrameValue) : Type 0 w
   pub split : stream ≡ texts_of frames ++ rest
   pub no_more : BeginsNone rest
 
--- a fault that tells what the stream has, and not what befell the reader
-abbrev pub IsTelling : FrameFault → Type 0
-IsTelling Device = ⊥
-IsTelling Memory = ⊥
-IsTelling _ = ⊤
+-- a fault of what the stream has, and not of what befell the reader
+abbrev pub IsOfStream : FrameFault → Type 0
+IsOfStream Device = ⊥
+IsOfStream Memory = ⊥
+IsOfStream _ = ⊤
 
 -- A prefix of a stream has frames, the first of the stream's.
 abbrev pub PrefixHasPrefixFrames : Type 0

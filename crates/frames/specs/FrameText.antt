@@ -55,7 +55,7 @@ kind_of (AskFrame round shard labels) = 3
 kind_of (AnswerFrame answer) = 4
 kind_of (FaultFrame round shard code) = 5
 
--- the first version that has such a frame; a hello is of the version that it tells
+-- the first version that has such a frame; a hello is of the version that stands in it
 abbrev pub version_of : FrameValue → ℕ
 version_of (HelloFrame version worker) = version
 version_of (ShardFrame number links) = if are_narrow links then 1 else 2

@@ -5,7 +5,7 @@ use Rattle.frames.specs.AnswerValue.{AnswerValue}
 use Rattle.frames.specs.declared.frame.Frame.{Frame}
 use Rattle.frames.specs.declared.frame.Frame.TheVariants.{Hello, Shard, Ask, Answer, Fault}
 
--- what a frame says: one of five messages, of which a shard is told by two kinds of frame
+-- what a frame says: one of five messages, of which a shard has two kinds of frame
 pub data FrameValue : Type 0 where
   HelloFrame : (version worker : ℕ) → FrameValue
   ShardFrame : (number : ℕ) (links : List Link) → FrameValue

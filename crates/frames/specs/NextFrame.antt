@@ -18,27 +18,27 @@ abbrev pub next_value : {A : Type 0} → List ℕ → NextFrame A → FrameValue
 next_value last (AskAgain round shard) = AskFrame round shard last
 next_value last (Other frame) = value_of frame
 
--- numbers that came: the same as these, or others
-abbrev pub numbers_told : {A : Type 0} → List ℕ → Option (Vec ℕ A) → List ℕ
-numbers_told same None = same
-numbers_told same (Some numbers) = numbers.items
+-- the numbers of an ask: the same as these, or others that came
+abbrev pub numbers_of_ask : {A : Type 0} → List ℕ → Option (Vec ℕ A) → List ℕ
+numbers_of_ask same None = same
+numbers_of_ask same (Some numbers) = numbers.items
 
--- the next frame asks for the shard under the numbers told behind the labels of the last ask, and these are labels
+-- behind the labels of the last ask, the next frame asks for the shard under these numbers, and they are labels
 abbrev pub IsAskUnder : {A : Type 0} → ℕ → ℕ → Option (Vec ℕ A) → NextFrame A → Type 0
 IsAskUnder round shard numbers next =
     (last : List ℕ) → AreLabels last
-    → (next_value last next ≡ AskFrame round shard (numbers_told last numbers)) × AreLabels (numbers_told last numbers)
+    → (next_value last next ≡ AskFrame round shard (numbers_of_ask last numbers)) × AreLabels (numbers_of_ask last numbers)
 
--- behind as many numbers as the first ones of the last ask, those of these bytes are told
-abbrev pub TellsMore : {A : Type 0} → List ℕ → ℕ → List ℕ → Option (Vec ℕ A) → Option (Vec ℕ A) → Type 0
-TellsMore last came piece before after =
-    flat_map u32_text (numbers_told (take (came + length piece / 4) last) after)
-    ≡ flat_map u32_text (numbers_told (take came last) before) ++ piece
+-- behind the numbers that came so far, those of these bytes were heard
+abbrev pub HearsMore : {A : Type 0} → List ℕ → ℕ → List ℕ → Option (Vec ℕ A) → Option (Vec ℕ A) → Type 0
+HearsMore last came piece before after =
+    flat_map u32_text (numbers_of_ask (take (came + length piece / 4) last) after)
+    ≡ flat_map u32_text (numbers_of_ask (take came last) before) ++ piece
 
--- where the numbers told so far have 32 bits, those told behind so many more have
+-- where the numbers that came so far have 32 bits, they have so behind so many more
 abbrev pub StayU32 : {A : Type 0} → List ℕ → ℕ → ℕ → Option (Vec ℕ A) → Option (Vec ℕ A) → Type 0
 StayU32 last came count before after =
-    All IsU32 (numbers_told (take came last) before) → All IsU32 (numbers_told (take (came + count) last) after)
+    All IsU32 (numbers_of_ask (take came last) before) → All IsU32 (numbers_of_ask (take (came + count) last) after)
 
 -- a body of so many bytes came, which is that of the frame
 pub record BodyCame (v : FrameValue) (kind len : ℕ) (before after : SourceState) : Type 0 where

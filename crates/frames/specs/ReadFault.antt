@@ -2,7 +2,7 @@
 use Rattle.std.specs.Prelude.{◌≡◌, ℕ, ◌+◌, ◌<◌, ◌≤◌, ◌⊎◌, List, ◌++◌, length, IfSome}
 use Rattle.byte_streams.specs.Streams.{SourceState, Gave}
 use Rattle.frames.specs.Refusals.{HasGoodHead, StreamRefused, length_at}
-use Rattle.frames.specs.FrameStream.{IsTelling}
+use Rattle.frames.specs.FrameStream.{IsOfStream}
 use Rattle.frames.specs.declared.fault.FrameFault.{FrameFault}
 use Rattle.frames.specs.declared.fault.FrameFault.TheVariants.{Ended, Torn, Device, Memory}
 
@@ -44,7 +44,7 @@ abbrev pub GrowsBy : ℕ → List ℕ → List ℕ → SourceState → SourceSta
 GrowsBy count old new before after =
     (piece : List ℕ) × (length piece ≡ count) × (new ≡ old ++ piece) × Gave 0 0 piece before after
 
--- Where a source tells all that it has left, a refusal is one of all of it, unless a read failed or memory was wanting.
+-- Where all is known that a source has left, a refusal is one of all of it, unless a read failed or memory was wanting.
 abbrev pub RefusalIsOfTheStream : Type 0
-RefusalIsOfTheStream = (fault : FrameFault) (before after : SourceState) → IsTelling fault → IsReadRefused fault before after
+RefusalIsOfTheStream = (fault : FrameFault) (before after : SourceState) → IsOfStream fault → IsReadRefused fault before after
     → IfSome before.left (StreamRefused fault)

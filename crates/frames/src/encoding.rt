@@ -59,7 +59,7 @@ fn encode_hello<A: Allocator>(alloc: A, version: u16, worker: u32) -> Result<Vec
 /// The text of a shard's frame: the same as that of the frame which holds these links, without a
 /// copy of them. The only error is want of memory.
 ///
-/// Each link has 12 bytes where all weights fit 32 bits, and 16 where one doesn't. One look at the weights tells
+/// Each link has 12 bytes where all weights fit 32 bits, and 16 where one doesn't. One look at the weights decides
 /// which; then memory for the whole text is taken once.
 pub fn encode_shard<A: Allocator>(alloc: A, shard: &Shard) -> Result<Vec<u8, A>, AllocError>
     requires number { shard.now.number < MAX_SHARDS }

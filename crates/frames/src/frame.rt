@@ -5,7 +5,7 @@ use link_key::{Labels, Link, Offers};
 use std::alloc::{Allocator, Global};
 use std::marker::Model;
 
-/// The version that the workers of this crate tell. Version 1, whose weights all fit 32 bits, is lawful too.
+/// The version that stands in the hello of this product's workers. Version 1, whose weights all fit 32 bits, is lawful too.
 pub const VERSION: u16 = 2;
 
 /// The links of a shard's frame, which contracts see as a list: 16 bytes each in memory, in any order, with repeats.
@@ -66,10 +66,10 @@ impl<A: Allocator> Model for Answer<A> {
 }
 
 /// A message between the coordinator and a worker. The fields may say anything that fits them;
-/// [`Frame::is_lawful`] tells the frames that have a text.
+/// [`Frame::is_lawful`] says which frames have a text.
 #[derive(Drop)]
 pub enum Frame<A: Allocator = Global> {
-    /// The first message of a worker, by which it tells its version and its number.
+    /// The first message of a worker, with its version and its number.
     Hello {
         version: u16,
         worker: u32,

@@ -23,7 +23,7 @@ pub fn lawful_text_is_never_refused()
 {}
 
 /// What [`crate::read_frame`] answers of the bytes that came, it answers of the whole stream, where the
-/// stream tells it and neither a read failed nor memory was wanting.
+/// stream's bytes are known and neither a read failed nor memory was wanting.
 pub fn refusal_is_of_the_stream()
     ensures { RefusalIsOfTheStream }
 {}

@@ -1,6 +1,6 @@
 //! The frames that a coordinator and its workers exchange, as bytes and back: a kind, the length of the body, and the
 //! body (`docs/PROTOCOL.md` has them whole). Version 1 has the kinds 1 to 5, version 2 also 6, a shard of which some
-//! weight doesn't fit 32 bits; nothing here knows the version that a peer told, so who sends keeps kind 6 from a worker
+//! weight doesn't fit 32 bits; nothing here knows the version of a peer, so who sends keeps kind 6 from a worker
 //! of version 1.
 //!
 //! ```text
@@ -15,7 +15,7 @@
 //! - The encoders give exactly the text of a lawful frame, which has one, the same in both versions; no frame's text
 //!   begins another's, so a stream of frames reads in one way (`laws`).
 //! - [`read_frame`] that answers a frame took exactly its text, and answers else the first refusal that fits; so do
-//!   [`decode_head`] and [`decode_body`] for its two parts, and [`read_next`] behind an ask. (That it tells another ask
+//!   [`decode_head`] and [`decode_body`] for its two parts, and [`read_next`] behind an ask. (That it answers another ask
 //!   under the same labels as that alone, and stores none, is only tested.)
 //!
 //! Where to start a change: the grammar stands in `specs/FrameText`, what a lawful frame says in `specs/Lawful`, and

@@ -12,7 +12,7 @@ ghost use Rattle.frames.specs.FrameText.{u32_text, text_of};
 ghost use Rattle.frames.specs.Lawful.{IsU32, IsLawful};
 ghost use Rattle.frames.specs.Refusals.{IsPossible};
 ghost use Rattle.frames.specs.ReadFault.{IsReadRefused};
-ghost use Rattle.frames.specs.NextFrame.{next_value, numbers_told, IsAskUnder, TellsMore, StayU32, BodyCame, IsBodyRefused, IsStopped};
+ghost use Rattle.frames.specs.NextFrame.{next_value, numbers_of_ask, IsAskUnder, HearsMore, StayU32, BodyCame, IsBodyRefused, IsStopped};
 ghost use Rattle.frames.specs.declared.fault.FrameFault.TheVariants.{BadField};
 
 use crate::fault::FrameFault;
@@ -90,7 +90,7 @@ fn read_behind<A: Allocator + Copy, S: Source>(
     Ok(NextFrame::Other(frame))
 }
 
-// An ask of as many labels. Its fields are judged first, since want of memory is told only behind lawful ones; where
+// An ask of as many labels. Its fields are judged first, since want of memory is answered only behind lawful ones; where
 // they aren't lawful the labels are taken all the same, for a stream may end in them.
 fn read_ask<A: Allocator + Copy, S: Source>(
     alloc: A,
@@ -124,7 +124,7 @@ fn ask_of<A: Allocator>(
     numbers: Option<Vec<u32, A>>,
 ) -> Result<NextFrame<A>, FrameFault>
     ensures ask { IfOk result (IsAskUnder round shard numbers) }
-    ensures refused { IfErr result (λ fault. (fault ≡ BadField) × ((last : List ℕ) → ¬ AreLabels (numbers_told last numbers))) }
+    ensures refused { IfErr result (λ fault. (fault ≡ BadField) × ((last : List ℕ) → ¬ AreLabels (numbers_of_ask last numbers))) }
 {
     let Some(numbers) = numbers else {
         return Ok(NextFrame::AskAgain { round, shard });
@@ -147,10 +147,10 @@ fn read_numbers<A: Allocator + Copy, S: Source>(
 ) -> Result<Option<Vec<u32, A>>, FrameFault>
     requires few { length last.now < 2 ^ 30 }
     requires can { S.can_read source.old }
-    ensures counted { IfOk result (λ numbers. length (numbers_told last.now numbers) ≡ length last.now) }
+    ensures counted { IfOk result (λ numbers. length (numbers_of_ask last.now numbers) ≡ length last.now) }
     ensures came { IfOk result
-        (λ numbers. Gave 0 0 (flat_map u32_text (numbers_told last.now numbers)) (S.state source.old) (S.state source.new)) }
-    ensures fit { IfOk result (λ numbers. All IsU32 last.now → All IsU32 (numbers_told last.now numbers)) }
+        (λ numbers. Gave 0 0 (flat_map u32_text (numbers_of_ask last.now numbers)) (S.state source.old) (S.state source.new)) }
+    ensures fit { IfOk result (λ numbers. All IsU32 last.now → All IsU32 (numbers_of_ask last.now numbers)) }
     ensures stopped { IfErr result
         (λ fault. IsStopped fault (4 * length last.now) (S.state source.old) (S.state source.new)) }
     ensures lasts { (fact : S.Fact) → S.lasts source.old fact → S.lasts source.new fact }
@@ -181,7 +181,7 @@ fn hear_piece<A: Allocator>(
     requires whole { length piece.now % 4 ≡ 0 }
     requires fits { length piece.now ≤ 4 * PIECE }
     requires within { came + length piece.now / 4 ≤ length last.now }
-    ensures heard { OnOk result (TellsMore last.now came piece.now numbers.old numbers.new) }
+    ensures heard { OnOk result (HearsMore last.now came piece.now numbers.old numbers.new) }
     ensures fit { OnOk result (StayU32 last.now came (length piece.now / 4) numbers.old numbers.new) }
 {
     match numbers {

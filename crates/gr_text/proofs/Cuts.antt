@@ -47,8 +47,8 @@ pub cut_of : (text : List ℕ) → (lines : List (List ℕ)) × (part : List ℕ
 cut_of [] = ([], [], EndsLines-none)
 cut_of (b ∷ text) =
     let (lines, part, cut) = cut_of text in
-    let tells : (b ≡ line_feed) ⊎ (b ≢ line_feed) = elim (eqb_tells b line_feed) [ inl (test, same) ↦ inl same | inr (test, other) ↦ inr other ] in
-    cut_with b text tells lines part cut
+    let which : (b ≡ line_feed) ⊎ (b ≢ line_feed) = elim (eqb_tells b line_feed) [ inl (test, same) ↦ inl same | inr (test, other) ↦ inr other ] in
+    cut_with b text which lines part cut
 
 -- a text of which the rest goes on
 pub EndsLines-more : (s t : List ℕ) (ls ms : List (List ℕ)) (part r : List ℕ) → EndsLines s ls part → EndsLines (part ++ t) ms r → EndsLines (s ++ t) (ls ++ ms) r

@@ -8,7 +8,7 @@ use Rattle.gr_text.specs.Lines.{with_last, AreLines}
 use Rattle.gr_text.specs.Statement.{Problem, ArcLine}
 use Rattle.gr_text.specs.Sort.{LineSort, Nothing, Makes, NoProblem, NoArc, Unknown, IsOfSort}
 use Rattle.gr_text.specs.Graph.{HasEnds, IsWeight, AreLawfulLines, AreLawfulSoFar}
-use Rattle.gr_text.specs.Fault.{Told, Unsaid, Stated, AreTold, IsWrong, IsFaultAfter, IsFirstFaulty}
+use Rattle.gr_text.specs.Fault.{SaidSoFar, Unsaid, Stated, HaveSaid, IsWrong, IsFaultAfter, IsFirstFaulty}
 use Rattle.gr_text.specs.Laws.{MeansOrFails}
 use Rattle.gr_text.specs.declared.faults.GrKind.{GrKind}
 use Rattle.gr_text.specs.declared.faults.GrKind.TheVariants.{UnknownLine, NoProblemYet, SecondProblem, BadProblem, TooLarge, BadArc, EndOutOfRange, WeightOutOfRange, TooManyArcs, MissingProblem, MissingArcs}
@@ -34,13 +34,13 @@ weight_or_not w = by_lt_z w MIN_WEIGHT
 abbrev Goes : List (List ℕ) → List ℕ → Type 0
 Goes before line = AreLawfulSoFar (before ++ line ∷ []) ⊎ ((kind : GrKind) × IsFaultAfter before line kind)
 
-fails : (before : List (List ℕ)) (line : List ℕ) (told : Told) (sort : LineSort) (kind : GrKind) → AreTold before told → IsOfSort line sort → IsWrong sort told kind → Goes before line
-fails before line told sort kind said of_sort wrong = inr (kind, record { told = told; sort = sort; said = said; of_sort = of_sort; wrong = wrong })
+fails : (before : List (List ℕ)) (line : List ℕ) (so_far : SaidSoFar) (sort : LineSort) (kind : GrKind) → HaveSaid before so_far → IsOfSort line sort → IsWrong sort so_far kind → Goes before line
+fails before line so_far sort kind said of_sort wrong = inr (kind, record { so_far = so_far; sort = sort; said = said; of_sort = of_sort; wrong = wrong })
 
-goes : (before : List (List ℕ)) (line : List ℕ) (sort : LineSort) (told : Told) → AreTold before told → IsOfSort line sort → Goes before line
+goes : (before : List (List ℕ)) (line : List ℕ) (sort : LineSort) (so_far : SaidSoFar) → HaveSaid before so_far → IsOfSort line sort → Goes before line
 goes before line Nothing Unsaid said silent = inl (inl (Say-silent before line [] said silent))
 goes before line Nothing (Stated n m arcs) said silent = inl (inr (n, m, arcs, AreLawfulLines-silent before line n m arcs said silent))
-goes before line Unknown told said of_sort = fails before line told Unknown UnknownLine said of_sort refl
+goes before line Unknown so_far said of_sort = fails before line so_far Unknown UnknownLine said of_sort refl
 goes before line NoProblem Unsaid said of_sort = fails before line Unsaid NoProblem BadProblem said of_sort refl
 goes before line NoProblem (Stated n m arcs) said of_sort = fails before line (Stated n m arcs) NoProblem SecondProblem said of_sort refl
 goes before line NoArc Unsaid said of_sort = fails before line Unsaid NoArc NoProblemYet said of_sort refl

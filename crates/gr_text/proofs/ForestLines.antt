@@ -8,7 +8,7 @@ use Rattle.gr_text.specs.ForestText.{header_of, link_line, forest_text}
 use Rattle.byte_streams.specs.Streams.{SinkState, Took}
 use Rattle.byte_streams.proofs.Streaming.{took_no_more}
 use Rattle.gr_text.specs.Handing.{HandsOn, HandsPrefix}
-use Rattle.gr_text.specs.Written.{told_count, PrefixWentOut}
+use Rattle.gr_text.specs.Written.{written_count, PrefixWentOut}
 use Rattle.gr_text.proofs.Handing.{handed_all, hands_behind, hands_then_hands, hands_then_prefix}
 
 -- the first line, and the lines of the first i links
@@ -35,9 +35,9 @@ text_prefix middle after n links forest i piece s t u same hands part =
 -- all lines went out
 pub text_all : (middle total n : ℕ) (links forest : List Link) (i : ℕ) (piece rest : List ℕ) (s t u : SinkState) → links ≡ forest → length links ≤ i
     → HandsOn 0 middle (lines_before n links i) piece s t → HandsOn middle total piece rest t u → rest ≡ []
-    → Took 0 (forest_text n forest) s u × (total ≡ told_count (length (forest_text n forest)))
+    → Took 0 (forest_text n forest) s u × (total ≡ written_count (length (forest_text n forest)))
 text_all middle total n links forest i piece rest s t u same all first second none =
-    subst (λ text. Took 0 text s u × (total ≡ told_count (length text))) (text_whole n links i all ∙ ap (forest_text n) same)
+    subst (λ text. Took 0 text s u × (total ≡ written_count (length text))) (text_whole n links i all ∙ ap (forest_text n) same)
     (handed_all total (lines_before n links i) rest s u (hands_then_hands 0 middle total (lines_before n links i) piece rest s t u first second) none)
 
 -- one more line waits
@@ -51,7 +51,7 @@ text_more middle total n links i piece rest link s t u within is first second =
     (hands_behind 0 total (lines_before n links i) rest (link_line link) s u (hands_then_hands 0 middle total (lines_before n links i) piece rest s t u first second))
 
 -- a flush that failed behind all lines
-pub text_unflushed : (total : ℕ) (text : List ℕ) (s t u : SinkState) → Took 0 text s t × (total ≡ told_count (length text)) → Took 1 [] t u
+pub text_unflushed : (total : ℕ) (text : List ℕ) (s t u : SinkState) → Took 0 text s t × (total ≡ written_count (length text)) → Took 1 [] t u
     → PrefixWentOut total text s u
 text_unflushed total text s t u (took, counted) failed = record {
   count = length text;

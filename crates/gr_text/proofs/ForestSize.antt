@@ -1,5 +1,5 @@
 -- How long the text of a forest is at the most. std writes a number in at most 64 digits, whichever it is, so a line
--- has at most 256 bytes, and what is told of the text of 2^55 links is still the number itself.
+-- has at most 256 bytes, and the count that is given of the text of 2^55 links is still the number itself.
 use Rattle.std.proofs.Common.{ℕ, zero, suc, ◌+◌, ◌*◌, ◌/◌, ◌%◌, ◌^◌, ◌≤◌, Bool, true, false, cond, List, [], ◌∷◌, length, decimal, get_or, arith, length-append}
 use Rattle.std.specs.Prelude.{ℤ, pos, negsuc, ◌==◌}
 use Rattle.std.specs.Fmt.{digits_onto, digits, digit_glyph, signed_decimal}
@@ -45,7 +45,7 @@ text_fits n links = omega (
   sum_by-le (λ l. length (link_line l)) 256 links (λ k d within. line_fits (get_or links k d)),
 )
 
--- what is told of the text of a forest that isn't huge is the number itself
-pub few_are_told : (written n : ℕ) (forest : List Link) (s t : SinkState) → length forest ≤ 2 ^ 55
+-- the count that is given of the text of a forest that isn't huge is the number itself
+pub few_are_exact : (written n : ℕ) (forest : List Link) (s t : SinkState) → length forest ≤ 2 ^ 55
     → PrefixWentOut written (forest_text n forest) s t → WentOut 0 written (forest_text n forest) s t
-few_are_told written n forest s t few part = prefix_is_exact written (forest_text n forest) s t (omega (arith, text_fits n forest)) part
+few_are_exact written n forest s t few part = prefix_is_exact written (forest_text n forest) s t (omega (arith, text_fits n forest)) part

@@ -5,7 +5,7 @@ use Rattle.std.proofs.lemmas.List.{take-append-le}
 use Rattle.byte_streams.specs.Streams.{SinkState, Took, WentOut}
 use Rattle.byte_streams.proofs.Streaming.{took_nothing, took_more}
 use Rattle.gr_text.specs.Handing.{HandsOn, HandsPrefix}
-use Rattle.gr_text.specs.Written.{told_count, PrefixWentOut}
+use Rattle.gr_text.specs.Written.{written_count, PrefixWentOut}
 
 -- no call at all
 pub hands_nothing : (s : SinkState) (count : ℕ) (waited : List ℕ) → count < 2 ^ 64 → HandsOn count count waited waited s s
@@ -13,7 +13,7 @@ hands_nothing s count waited fits = record { out = []; took = took_nothing s; co
 
 -- all that waited
 pub hands_all : (count total : ℕ) (waited waiting : List ℕ) (s t : SinkState) → Took 0 waited s t
-    → total ≡ told_count (count + length waited) → waiting ≡ [] → HandsOn count total waited waiting s t
+    → total ≡ written_count (count + length waited) → waiting ≡ [] → HandsOn count total waited waiting s t
 hands_all count total waited waiting s t took counted none = record {
   out = waited;
   took = took;
@@ -21,9 +21,9 @@ hands_all count total waited waiting s t took counted none = record {
   split = sym (ap (λ rest. waited ++ rest) none ∙ append-nil waited);
 }
 
--- a number that is told counts on as the number itself
-told_again : (x y z : ℕ) → told_count (told_count (x + y) + z) ≡ told_count (x + y + z)
-told_again x y z = omega arith
+-- a count that is given counts on as the number itself
+count_again : (x y z : ℕ) → written_count (written_count (x + y) + z) ≡ written_count (x + y + z)
+count_again x y z = omega arith
 
 -- one call after another
 pub hands_then_hands : (count middle total : ℕ) (xs ys zs : List ℕ) (s t u : SinkState) → HandsOn count middle xs ys s t
@@ -31,9 +31,9 @@ pub hands_then_hands : (count middle total : ℕ) (xs ys zs : List ℕ) (s t u :
 hands_then_hands count middle total xs ys zs s t u first second = record {
   out = first.out ++ second.out;
   took = took_more 0 first.out second.out s t u first.took second.took;
-  counted = second.counted ∙ ap (λ m. told_count (m + length second.out)) first.counted
-      ∙ told_again count (length first.out) (length second.out)
-      ∙ ap told_count {x = count + length first.out + length second.out} {y = count + length (first.out ++ second.out)} (omega (arith, length-append first.out second.out));
+  counted = second.counted ∙ ap (λ m. written_count (m + length second.out)) first.counted
+      ∙ count_again count (length first.out) (length second.out)
+      ∙ ap written_count {x = count + length first.out + length second.out} {y = count + length (first.out ++ second.out)} (omega (arith, length-append first.out second.out));
   split = first.split ∙ ap (λ rest. first.out ++ rest) second.split ∙ sym (append_assoc first.out second.out zs);
 }
 
@@ -49,7 +49,7 @@ hands_behind count total xs ys more s t hands = record {
 
 -- nothing waits any more, so all went out
 pub handed_all : (total : ℕ) (xs ys : List ℕ) (s t : SinkState) → HandsOn 0 total xs ys s t → ys ≡ []
-    → Took 0 xs s t × (total ≡ told_count (length xs))
+    → Took 0 xs s t × (total ≡ written_count (length xs))
 handed_all total xs ys s t hands none =
     let same : xs ≡ hands.out = hands.split ∙ ap (λ rest. hands.out ++ rest) none ∙ append-nil hands.out in (
       subst (λ bytes. Took 0 bytes s t) (sym same) hands.took,
@@ -71,7 +71,7 @@ hands_then_prefix middle after xs ys more s t u hands part =
       took = subst (λ bytes. Took 1 bytes s u) (sym out) (took_more 1 hands.out (take part.sent ys) s t u hands.took part.took);
     }
 
--- what is told of a text of fewer than 2^64 bytes is the number itself
+-- the count that is given of a text of fewer than 2^64 bytes is the number itself
 pub prefix_is_exact : (written : ℕ) (text : List ℕ) (s t : SinkState) → length text < 2 ^ 64 → PrefixWentOut written text s t
     → WentOut 0 written text s t
 prefix_is_exact written text s t short part = record { count = part.count; within = part.within; counted = omega (arith, part.within, part.counted); took = part.took }

@@ -5,7 +5,7 @@ use Rattle.link_key.specs.Arc.{Arc}
 use Rattle.gr_text.specs.Statement.{Problem, ArcLine, AreSilent, FieldsSay}
 use Rattle.gr_text.specs.Sort.{LineSort, NoProblem, NoArc, AreOfSort, IsOfSort}
 use Rattle.gr_text.specs.Graph.{HasEnds, AreLawfulLines}
-use Rattle.gr_text.specs.Fault.{Told, Unsaid, Stated, AreTold, IsWrong, IsFaultAfter}
+use Rattle.gr_text.specs.Fault.{SaidSoFar, Unsaid, Stated, HaveSaid, IsWrong, IsFaultAfter}
 use Rattle.gr_text.specs.Reading.{Counts}
 use Rattle.gr_text.specs.Word.{IsCapped, LineMeans}
 use Rattle.gr_text.specs.declared.faults.GrKind.{GrKind}
@@ -14,15 +14,15 @@ use Rattle.gr_text.specs.declared.words.LineFields.{LineFields}
 use Rattle.gr_text.specs.declared.words.LineFields.TheVariants as line
 
 -- what lines say, by what is kept of them
-pub told_of : (size : Option Size) (count : ℕ) (lines : List (List ℕ)) → Counts size count lines → (told : Told) × AreTold lines told
-told_of None count lines (say, zero_count) = (Unsaid, say)
-told_of (Some size) count lines (arcs, lawful, counted) = (Stated size.vertices size.arcs arcs, lawful)
+pub said_of : (size : Option Size) (count : ℕ) (lines : List (List ℕ)) → Counts size count lines → (so_far : SaidSoFar) × HaveSaid lines so_far
+said_of None count lines (say, zero_count) = (Unsaid, say)
+said_of (Some size) count lines (arcs, lawful, counted) = (Stated size.vertices size.arcs arcs, lawful)
 
 -- a line of this sort has this fault behind lines without a problem, and behind lines with one
 pub fault_alone : (sort : LineSort) (kind : GrKind) (size : Option Size) (count : ℕ) (lines : List (List ℕ)) (bytes : List ℕ) → size ≡ None
     → Counts size count lines → IsOfSort bytes sort → IsWrong sort Unsaid kind → IsFaultAfter lines bytes kind
 fault_alone sort kind size count lines bytes none counts of_sort wrong =
-    record { told = Unsaid; sort = sort; said = (rw none at counts).0; of_sort = of_sort; wrong = wrong }
+    record { so_far = Unsaid; sort = sort; said = (rw none at counts).0; of_sort = of_sort; wrong = wrong }
 
 pub fault_behind : (sort : LineSort) (kind : GrKind) (size : Option Size) (old : Size) (count : ℕ) (lines : List (List ℕ)) (bytes : List ℕ) → size ≡ Some old
     → Counts size count lines → IsOfSort bytes sort
@@ -30,7 +30,7 @@ pub fault_behind : (sort : LineSort) (kind : GrKind) (size : Option Size) (old :
     → IsFaultAfter lines bytes kind
 fault_behind sort kind size old count lines bytes some counts of_sort wrong =
     let (arcs, lawful, counted) = rw some at counts in
-    record { told = Stated _ _ arcs; sort = sort; said = lawful; of_sort = of_sort; wrong = wrong arcs lawful counted }
+    record { so_far = Stated _ _ arcs; sort = sort; said = lawful; of_sort = of_sort; wrong = wrong arcs lawful counted }
 
 -- a problem line or an arc line of too few fields, or of another field than it may have
 short_problem : (fields others : List (List ℕ)) → fields ≡ codes "p" ∷ others → length others < 3 → AreOfSort fields NoProblem

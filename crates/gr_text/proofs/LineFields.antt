@@ -20,8 +20,8 @@ never_problem fields others field is never =
     subst (λ (xs : List (List ℕ)). NeverSay (codes "p") (xs ++ field ∷ []) IsProblem) (sym is) (
       (others ++ field ∷ [], refl),
       λ more statement p says. elim statement as (λ s. IsProblem s → FieldsSay (codes "p" ∷ ((others ++ field ∷ []) ++ more)) s → ⊥) [
-        | Problem n m ↦ λ p told. never more n m (subst (λ (xs : List (List ℕ)). FieldsSay (codes "p" ∷ xs) (Problem n m)) (append_assoc others (field ∷ []) more) told)
-        | ArcLine arc ↦ λ p told. p
+        | Problem n m ↦ λ p it_says. never more n m (subst (λ (xs : List (List ℕ)). FieldsSay (codes "p" ∷ xs) (Problem n m)) (append_assoc others (field ∷ []) more) it_says)
+        | ArcLine arc ↦ λ p it_says. p
       ] p says,
     )
 
@@ -31,8 +31,8 @@ never_arc fields others field is never =
     subst (λ (xs : List (List ℕ)). NeverSay (codes "a") (xs ++ field ∷ []) IsArcLine) (sym is) (
       (others ++ field ∷ [], refl),
       λ more statement p says. elim statement as (λ s. IsArcLine s → FieldsSay (codes "a" ∷ ((others ++ field ∷ []) ++ more)) s → ⊥) [
-        | Problem n m ↦ λ p told. p
-        | ArcLine arc ↦ λ p told. never more arc (subst (λ (xs : List (List ℕ)). FieldsSay (codes "a" ∷ xs) (ArcLine arc)) (append_assoc others (field ∷ []) more) told)
+        | Problem n m ↦ λ p it_says. p
+        | ArcLine arc ↦ λ p it_says. never more arc (subst (λ (xs : List (List ℕ)). FieldsSay (codes "a" ∷ xs) (ArcLine arc)) (append_assoc others (field ∷ []) more) it_says)
       ] p says,
     )
 

@@ -4,25 +4,25 @@ use Rattle.link_key.specs.Arc.{Arc}
 use Rattle.gr_text.specs.Statement.{Problem, ArcLine}
 use Rattle.gr_text.specs.Sort.{LineSort, Nothing, Makes}
 use Rattle.gr_text.specs.Graph.{AreLawfulLines, AreLawfulSoFar}
-use Rattle.gr_text.specs.Fault.{Told, Unsaid, Stated, AreTold, IsWrong, IsFaultAfter, IsFirstFaulty, Lacks}
+use Rattle.gr_text.specs.Fault.{SaidSoFar, Unsaid, Stated, HaveSaid, IsWrong, IsFaultAfter, IsFirstFaulty, Lacks}
 use Rattle.gr_text.specs.Laws.{NeverBoth, HasOneFault}
 use Rattle.gr_text.specs.declared.faults.GrKind.{GrKind}
 use Rattle.gr_text.specs.declared.faults.GrKind.TheVariants.{MissingProblem, MissingArcs}
 use Rattle.gr_text.proofs.Unique.{AreLines-unique, Say-unique}
 use Rattle.gr_text.proofs.Sorts.{IsOfSort-unique}
 use Rattle.gr_text.proofs.Faulty.{lawful_ends}
-use Rattle.gr_text.proofs.Texts.{AreLawfulLines-unique, told_unique}
+use Rattle.gr_text.proofs.Texts.{AreLawfulLines-unique, said_unique}
 
-lawful_told : (lines : List (List ℕ)) (told : Told) → AreTold lines told → AreLawfulSoFar lines
-lawful_told lines Unsaid said = inl said
-lawful_told lines (Stated n m arcs) said = inr (n, m, arcs, said)
+lawful_said : (lines : List (List ℕ)) (so_far : SaidSoFar) → HaveSaid lines so_far → AreLawfulSoFar lines
+lawful_said lines Unsaid said = inl said
+lawful_said lines (Stated n m arcs) said = inr (n, m, arcs, said)
 
 -- a prefix of lawful lines is lawful
 AreLawfulSoFar-prefix : (lines more : List (List ℕ)) → AreLawfulSoFar (lines ++ more) → AreLawfulSoFar lines
 AreLawfulSoFar-prefix lines [] lawful = subst AreLawfulSoFar (append-nil lines) lawful
 AreLawfulSoFar-prefix lines (line ∷ more) lawful =
-    let (told, said, ends) = lawful_ends lines line (AreLawfulSoFar-prefix (lines ++ line ∷ []) more (subst AreLawfulSoFar (sym (append_assoc lines (line ∷ []) more)) lawful)) in
-    lawful_told lines told said
+    let (so_far, said, ends) = lawful_ends lines line (AreLawfulSoFar-prefix (lines ++ line ∷ []) more (subst AreLawfulSoFar (sym (append_assoc lines (line ∷ []) more)) lawful)) in
+    lawful_said lines so_far said
 
 lawful_no_fault : (lines : List (List ℕ)) (number : ℕ) (kind : GrKind) → AreLawfulSoFar lines → IsFirstFaulty lines number kind → ⊥
 lawful_no_fault lines number kind lawful first =
@@ -30,17 +30,17 @@ lawful_no_fault lines number kind lawful first =
     (subst AreLawfulSoFar (first.parted ∙ sym (append_assoc first.before (first.line ∷ []) first.after)) lawful))
 
 -- where something lacks, the lines are lawful, and mean no graph
-abbrev lack : Told → GrKind
+abbrev lack : SaidSoFar → GrKind
 lack Unsaid = MissingProblem
 lack (Stated n m arcs) = MissingArcs
 
-lack_told : (lines : List (List ℕ)) (kind : GrKind) → Lacks lines kind → (told : Told) × AreTold lines told × (kind ≡ lack told)
-lack_told lines MissingProblem none = (Unsaid, none, refl)
-lack_told lines MissingArcs (n, m, arcs, known, few) = (Stated n m arcs, known, refl)
-lack_told lines kind lacks = absurd lacks
+lack_said : (lines : List (List ℕ)) (kind : GrKind) → Lacks lines kind → (so_far : SaidSoFar) × HaveSaid lines so_far × (kind ≡ lack so_far)
+lack_said lines MissingProblem none = (Unsaid, none, refl)
+lack_said lines MissingArcs (n, m, arcs, known, few) = (Stated n m arcs, known, refl)
+lack_said lines kind lacks = absurd lacks
 
 lack_lawful : (lines : List (List ℕ)) (kind : GrKind) → Lacks lines kind → AreLawfulSoFar lines
-lack_lawful lines kind lacks = let (told, said, is) = lack_told lines kind lacks in lawful_told lines told said
+lack_lawful lines kind lacks = let (so_far, said, is) = lack_said lines kind lacks in lawful_said lines so_far said
 
 lack_no_graph : (lines : List (List ℕ)) (kind : GrKind) (n : ℕ) (arcs : List Arc) → AreLawfulLines lines n (length arcs) arcs → Lacks lines kind → ⊥
 lack_no_graph lines MissingProblem n arcs lawful none =
@@ -60,27 +60,27 @@ never_both text n arcs number kind (lines, are, lawful) (others, are', fault) =
     ]
 
 -- A line of a sort has one kind of fault.
-wrong_unique : (sort : LineSort) (told : Told) (k l : GrKind) → IsWrong sort told k → IsWrong sort told l → k ≡ l
-wrong_unique Nothing told k l a b = absurd a
-wrong_unique (Makes (Problem x y)) told k l a b = grind arith
+wrong_unique : (sort : LineSort) (so_far : SaidSoFar) (k l : GrKind) → IsWrong sort so_far k → IsWrong sort so_far l → k ≡ l
+wrong_unique Nothing so_far k l a b = absurd a
+wrong_unique (Makes (Problem x y)) so_far k l a b = grind arith
 wrong_unique (Makes (ArcLine arc)) (Stated n m arcs) k l (inl a) (inl b) = a.1 ∙ sym b.1
 wrong_unique (Makes (ArcLine arc)) (Stated n m arcs) k l (inr (inl a)) (inr (inl b)) = a.2 ∙ sym b.2
 wrong_unique (Makes (ArcLine arc)) (Stated n m arcs) k l (inr (inr a)) (inr (inr b)) = a.3 ∙ sym b.3
 wrong_unique (Makes (ArcLine arc)) (Stated n m arcs) k l (inr (inl a)) (inr (inr b)) = absurd (a.1 b.1)
 wrong_unique (Makes (ArcLine arc)) (Stated n m arcs) k l (inr (inr a)) (inr (inl b)) = absurd (b.1 a.1)
-wrong_unique sort told k l a b = grind arith
+wrong_unique sort so_far k l a b = grind arith
 
 one_kind : (before : List (List ℕ)) (line : List ℕ) (kind another : GrKind) → IsFaultAfter before line kind → IsFaultAfter before line another → kind ≡ another
 one_kind before line kind another a b =
-    let told = told_unique before a.told b.told a.said b.said in
+    let so_far = said_unique before a.so_far b.so_far a.said b.said in
     let sort = IsOfSort-unique line a.sort b.sort a.of_sort b.of_sort in
-    wrong_unique b.sort b.told kind another (subst (λ (t : Told). IsWrong b.sort t kind) told (subst (λ (s : LineSort). IsWrong s a.told kind) sort a.wrong)) b.wrong
+    wrong_unique b.sort b.so_far kind another (subst (λ (t : SaidSoFar). IsWrong b.sort t kind) so_far (subst (λ (s : LineSort). IsWrong s a.so_far kind) sort a.wrong)) b.wrong
 
 one_lack : (lines : List (List ℕ)) (kind another : GrKind) → Lacks lines kind → Lacks lines another → kind ≡ another
 one_lack lines kind another a b =
-    let (told, said, is) = lack_told lines kind a in
-    let (told', said', is') = lack_told lines another b in
-    is ∙ ap lack (told_unique lines told told' said said') ∙ sym is'
+    let (so_far, said, is) = lack_said lines kind a in
+    let (so_far', said', is') = lack_said lines another b in
+    is ∙ ap lack (said_unique lines so_far so_far' said said') ∙ sym is'
 
 -- Two places of one list are the same, or one stands before the other.
 abbrev Precedes : {X : Type 0} → List X → X → List X → Type 0

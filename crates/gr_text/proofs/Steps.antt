@@ -27,8 +27,8 @@ Say-silent (first ∷ lines) line ss (inr (s, others, says, say, is)) silent = i
 pub Say-more : (lines : List (List ℕ)) (line : List ℕ) (ss : List Statement) (s : Statement) → Say lines ss → Says line s → Say (lines ++ line ∷ []) (ss ++ s ∷ [])
 Say-more [] line ss s say says = inr (s, [], says, refl, ap (λ (xs : List Statement). xs ++ s ∷ []) say)
 Say-more (first ∷ lines) line ss s (inl (quiet, say)) says = inl (quiet, Say-more lines line ss s say says)
-Say-more (first ∷ lines) line ss s (inr (t, others, told, say, is)) says =
-    inr (t, others ++ s ∷ [], told, Say-more lines line others s say says, ap (λ (xs : List Statement). xs ++ s ∷ []) is)
+Say-more (first ∷ lines) line ss s (inr (t, others, first_says, say, is)) says =
+    inr (t, others ++ s ∷ [], first_says, Say-more lines line others s say says, ap (λ (xs : List Statement). xs ++ s ∷ []) is)
 
 -- lines that say the same as lawful ones, and a silent line after lawful ones
 pub AreLawfulLines-like : (lines others : List (List ℕ)) (n m : ℕ) (arcs : List Arc) → AreLawfulLines lines n m arcs → Say others (Problem n m ∷ map ArcLine arcs) → AreLawfulLines others n m arcs

@@ -3,7 +3,7 @@ use Rattle.std.proofs.Common.{◌≡◌, ℕ, List, [], ◌∷◌, refl, ap, ◌
 use Rattle.link_key.specs.Arc.{Arc}
 use Rattle.gr_text.specs.Statement.{Problem, ArcLine}
 use Rattle.gr_text.specs.Graph.{AreLawfulLines}
-use Rattle.gr_text.specs.Fault.{Told, Unsaid, Stated, AreTold}
+use Rattle.gr_text.specs.Fault.{SaidSoFar, Unsaid, Stated, HaveSaid}
 use Rattle.gr_text.specs.Laws.{MeansOneGraph}
 use Rattle.gr_text.proofs.Unique.{AreLines-unique, Say-unique}
 
@@ -24,11 +24,11 @@ AreLawfulLines-unique lines n m k l arcs others a b =
     (sn, sm, ArcLine-injective arcs others tails)
 
 -- Lawful lines say one thing.
-pub told_unique : (lines : List (List ℕ)) (t u : Told) → AreTold lines t → AreTold lines u → t ≡ u
-told_unique lines Unsaid Unsaid a b = refl
-told_unique lines Unsaid (Stated n m arcs) a b = absurd (let same : [] ≡ Problem n m ∷ map ArcLine arcs = Say-unique lines _ _ a b.say in cc)
-told_unique lines (Stated n m arcs) Unsaid a b = absurd (let same : Problem n m ∷ map ArcLine arcs ≡ [] = Say-unique lines _ _ a.say b in cc)
-told_unique lines (Stated n m arcs) (Stated k l others) a b =
+pub said_unique : (lines : List (List ℕ)) (t u : SaidSoFar) → HaveSaid lines t → HaveSaid lines u → t ≡ u
+said_unique lines Unsaid Unsaid a b = refl
+said_unique lines Unsaid (Stated n m arcs) a b = absurd (let same : [] ≡ Problem n m ∷ map ArcLine arcs = Say-unique lines _ _ a b.say in cc)
+said_unique lines (Stated n m arcs) Unsaid a b = absurd (let same : Problem n m ∷ map ArcLine arcs ≡ [] = Say-unique lines _ _ a.say b in cc)
+said_unique lines (Stated n m arcs) (Stated k l others) a b =
     let (sn, sm, sa) = AreLawfulLines-unique lines n m k l arcs others a b in
     ap (λ (x : ℕ). Stated x m arcs) sn ∙ ap (λ (x : ℕ). Stated k x arcs) sm ∙ ap (Stated k l) sa
 

@@ -10,18 +10,18 @@ use Rattle.gr_text.specs.declared.faults.GrKind.{GrKind}
 use Rattle.gr_text.specs.declared.faults.GrKind.TheVariants.{UnknownLine, NoProblemYet, SecondProblem, BadProblem, TooLarge, BadArc, EndOutOfRange, WeightOutOfRange, TooManyArcs, MissingProblem, MissingArcs}
 
 -- what lawful lines say: nothing, or a problem of n and m and these arcs
-pub data Told : Type 0 where
-  Unsaid : Told
-  Stated : (n m : ℕ) → List Arc → Told
+pub data SaidSoFar : Type 0 where
+  Unsaid : SaidSoFar
+  Stated : (n m : ℕ) → List Arc → SaidSoFar
 
-abbrev pub AreTold : List (List ℕ) → Told → Type 0
-AreTold lines Unsaid = Say lines []
-AreTold lines (Stated n m arcs) = AreLawfulLines lines n m arcs
+abbrev pub HaveSaid : List (List ℕ) → SaidSoFar → Type 0
+HaveSaid lines Unsaid = Say lines []
+HaveSaid lines (Stated n m arcs) = AreLawfulLines lines n m arcs
 
 -- what is wrong with a line of this sort behind lines that say this
-abbrev pub IsWrong : LineSort → Told → GrKind → Type 0
-IsWrong Nothing told kind = ⊥
-IsWrong Unknown told kind = kind ≡ UnknownLine
+abbrev pub IsWrong : LineSort → SaidSoFar → GrKind → Type 0
+IsWrong Nothing so_far kind = ⊥
+IsWrong Unknown so_far kind = kind ≡ UnknownLine
 IsWrong NoProblem Unsaid kind = kind ≡ BadProblem
 IsWrong NoProblem (Stated n m arcs) kind = kind ≡ SecondProblem
 IsWrong NoArc Unsaid kind = kind ≡ NoProblemYet
@@ -35,11 +35,11 @@ IsWrong (Makes (ArcLine arc)) (Stated n m arcs) kind = ((length arcs ≡ m) × (
 
 -- the kind of a line's fault, by its sort and by what the lines before it say
 pub record IsFaultAfter (before : List (List ℕ)) (line : List ℕ) (kind : GrKind) : Type 0 where
-  pub told : Told
+  pub so_far : SaidSoFar
   pub sort : LineSort
-  pub said : AreTold before told
+  pub said : HaveSaid before so_far
   pub of_sort : IsOfSort line sort
-  pub wrong : IsWrong sort told kind
+  pub wrong : IsWrong sort so_far kind
 
 -- the first faulty line of these: the lines before it are lawful, and with it they aren't
 pub record IsFirstFaulty (lines : List (List ℕ)) (number : ℕ) (kind : GrKind) : Type 0 where

@@ -12,7 +12,7 @@ pub const FAULT_ROOM: usize = 64;
 
 /// What is wrong with a line, or lacks behind the last one.
 ///
-/// A line that has several of these faults is told by one. On a problem line `SecondProblem` comes before
+/// A line that has several of these faults is refused by one. On a problem line `SecondProblem` comes before
 /// `BadProblem`, and that before `TooLarge`; on an arc line the order is `NoProblemYet`, `TooManyArcs`,
 /// `BadArc`, `EndOutOfRange`, `WeightOutOfRange`.
 #[derive(Clone, Copy, Debug, PartialEq, Eq)]
@@ -35,9 +35,9 @@ pub enum GrKind {
     WeightOutOfRange,
     /// An arc line after as many as were stated.
     TooManyArcs,
-    /// The text ended without a problem line. It is told at the line after the last.
+    /// The text ended without a problem line. Its line is the one after the last.
     MissingProblem,
-    /// The text ended with fewer arc lines than were stated. It is told at the line after the last.
+    /// The text ended with fewer arc lines than were stated. Its line is the one after the last.
     MissingArcs,
 }
 

@@ -10,7 +10,7 @@
 //! What it promises:
 //! - A text, a source or pieces give a graph exactly where they mean one; else the fault of the first faulty line, with
 //!   its number and its kind ([`GrFault`]).
-//! - The text of a forest goes out byte for byte, or it is told how many of its bytes did.
+//! - The text of a forest goes out byte for byte, or the fault counts how many of its bytes did.
 //! - A text means one graph or has one first fault, and never both; a forest's text means just its links ([`laws`]).
 //!
 //! Where to start a change: what a line may say, `specs/Statement`, then `words`; what is wrong with a line, and which

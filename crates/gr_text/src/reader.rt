@@ -66,7 +66,7 @@ impl<A: Allocator> GrReader<A> {
         ensures within { self.new.fed ≤ self.new.limit }
         ensures grows { OnOk result (self.new.fed ≡ self.old.fed + length piece.now) }
         ensures fed { (text : List ℕ) → HasRead self.old text → HasRead self.new (text ++ piece.now) }
-        ensures told { MatchResult result (λ _. self.new.fault ≡ None) (λ e. self.new.fault ≡ Some e) }
+        ensures fault { MatchResult result (λ _. self.new.fault ≡ None) (λ e. self.new.fault ≡ Some e) }
         ensures again { IfSome self.old.fault (λ e. result ≡ Err e) }
     {
         if let Some(fault) = self.fault {

@@ -53,7 +53,7 @@ impl<A: Allocator> Reading<A> {
     pub(crate) fn read(&mut self, piece: &[u8]) -> Result<(), ReadFault>
         requires { self.old.number + length piece.now < 2 ^ 64 }
         ensures few_lines { self.new.number ≤ self.old.number + length piece.now }
-        ensures told { (text : List ℕ) → Stands self.old text → MatchResult result
+        ensures judged { (text : List ℕ) → Stands self.old text → MatchResult result
             (λ _. Stands self.new (text ++ piece.now)) (λ e. StopsAt e (text ++ piece.now)) }
     {
         let mut rest = piece;

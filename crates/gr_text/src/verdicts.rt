@@ -29,7 +29,7 @@ pub(crate) enum Verdict {
 #[inline(always)]
 pub(crate) fn judge(size: Option<Size>, count: u32, line: LineFields) -> Verdict
     ensures fits { FitsAfter result size count }
-    ensures told { JudgesEach result size count (IsWhole line) }
+    ensures judged { JudgesEach result size count (IsWhole line) }
 {
     match line {
         LineFields::Nothing | LineFields::Comment => Verdict::Silent,
@@ -47,7 +47,7 @@ pub(crate) fn judge(size: Option<Size>, count: u32, line: LineFields) -> Verdict
 
 fn judge_problem(size: Option<Size>, n: u64, m: u64) -> Verdict
     ensures fits { (count : ℕ) → FitsAfter result size count }
-    ensures told { (count : ℕ) → JudgesEach result size count (KeepsProblem n m) }
+    ensures judged { (count : ℕ) → JudgesEach result size count (KeepsProblem n m) }
 {
     if let Some(_) = size {
         return Verdict::Faulty(GrKind::SecondProblem);
@@ -63,7 +63,7 @@ fn judge_problem(size: Option<Size>, n: u64, m: u64) -> Verdict
 
 fn bad_problem(size: Option<Size>) -> Verdict
     ensures fits { (count : ℕ) → FitsAfter result size count }
-    ensures told { (count : ℕ) → JudgesEach result size count (λ bytes. IsOfSort bytes NoProblem) }
+    ensures judged { (count : ℕ) → JudgesEach result size count (λ bytes. IsOfSort bytes NoProblem) }
 {
     match size {
         Some(_) => Verdict::Faulty(GrKind::SecondProblem),
@@ -74,7 +74,7 @@ fn bad_problem(size: Option<Size>) -> Verdict
 #[inline(always)]
 fn judge_arc(size: Option<Size>, count: u32, u: u64, v: u64, w: Signed) -> Verdict
     ensures fits { FitsAfter result size count }
-    ensures told { JudgesEach result size count (KeepsArc u v w) }
+    ensures judged { JudgesEach result size count (KeepsArc u v w) }
 {
     let Some(size) = size else {
         return Verdict::Faulty(GrKind::NoProblemYet);
@@ -108,7 +108,7 @@ fn weight_of(w: Signed) -> Option<i64>
 
 fn bad_arc(size: Option<Size>, count: u32) -> Verdict
     ensures fits { FitsAfter result size count }
-    ensures told { JudgesEach result size count (λ bytes. IsOfSort bytes NoArc) }
+    ensures judged { JudgesEach result size count (λ bytes. IsOfSort bytes NoArc) }
 {
     match size {
         None => Verdict::Faulty(GrKind::NoProblemYet),

@@ -4,7 +4,7 @@ ghost use Rattle.byte_streams.specs.Streams.{Took, HadNoSetback};
 ghost use Rattle.gr_text.specs.FaultText.{unwritten_text};
 ghost use Rattle.gr_text.specs.ForestText.{forest_text};
 ghost use Rattle.gr_text.specs.Handing.{HandsOn, HandsPrefix};
-ghost use Rattle.gr_text.specs.Written.{told_count, PrefixWentOut};
+ghost use Rattle.gr_text.specs.Written.{written_count, PrefixWentOut};
 
 use crate::faults::FAULT_ROOM;
 use crate::piece::Piece;
@@ -39,7 +39,7 @@ impl WriteFault {
 }
 
 // Hands all that waits to the sink, as the next part of a text of which `written` bytes went out before. The
-// number that is told stops at `u64::MAX`.
+// count stops at `u64::MAX`.
 fn hand_on<W: Sink>(sink: &mut W, written: u64, piece: &mut Piece) -> Result<u64, WriteFault>
     requires { W.can_write sink.old }
 
@@ -96,9 +96,9 @@ pub fn write_forest<W: Sink, A: Allocator>(
     // At the end the sink has taken exactly the whole text.
     ensures whole { OnOk result
         (Took 0 (forest_text n forest.now) (W.state sink.old) (W.state sink.new)) }
-    ensures count { IfOk result (λ written. written ≡ told_count (length (forest_text n forest.now))) }
+    ensures count { IfOk result (λ written. written ≡ written_count (length (forest_text n forest.now))) }
 
-    // At a fault it has taken a prefix of the text, of as many bytes as the fault tells, and had a setback.
+    // At a fault it has taken a prefix of the text, of as many bytes as the fault counts, and had a setback.
     ensures part { IfErr result (λ fault. PrefixWentOut fault.written (forest_text n forest.now)
         (W.state sink.old) (W.state sink.new)) }
 

@@ -5,7 +5,7 @@ use Rattle.std.proofs.lemmas.Bool.{cases_eq}
 use Rattle.std.proofs.lemmas.List.{map-append, length-map}
 use Rattle.std.proofs.lemmas.List.Elements.{All-nil, All-cons, All-head, All-tail, All-append, Contains-append_left, Contains-append_right}
 use Rattle.std.specs.List.{All}
-use Rattle.byte_streams.proofs.Streaming.{appends-told}
+use Rattle.byte_streams.proofs.Streaming.{appends-known}
 use Rattle.limits.specs.declared.TheConstants.{MAX_WORKERS}
 use Rattle.link_key.specs.declared.links.Link.{Link}
 use Rattle.link_key.specs.Link.{EndsUpTo}
@@ -128,8 +128,8 @@ shelf_put false shelf shard s links round labels = refl
 -- ---- what was got
 
 -- behind what was got before, the hello comes before any other bytes
-got_more : (told : Option ℕ) (version worker : ℕ) (answers : List AnswerValue) (bytes : List ℕ) → ((v : ℕ) → told ≡ Some v → v ≡ version) → (told ≡ None → answers ≡ [])
-    → texts_of (frames_got told worker answers) ++ (hello_due told version worker ++ bytes) ≡ texts_of (HelloFrame version worker ∷ map AnswerFrame answers) ++ bytes
+got_more : (heard : Option ℕ) (version worker : ℕ) (answers : List AnswerValue) (bytes : List ℕ) → ((v : ℕ) → heard ≡ Some v → v ≡ version) → (heard ≡ None → answers ≡ [])
+    → texts_of (frames_got heard worker answers) ++ (hello_due heard version worker ++ bytes) ≡ texts_of (HelloFrame version worker ∷ map AnswerFrame answers) ++ bytes
 got_more (Some v) version worker answers bytes stays silent = ap (λ (w : ℕ). texts_of (HelloFrame w worker ∷ map AnswerFrame answers) ++ bytes) (stays v refl)
 got_more None version worker answers bytes stays silent =
     ap (λ (t : List ℕ). t ++ bytes) (sym (append-nil (text_of (HelloFrame version worker))))
@@ -148,7 +148,7 @@ got_answer version worker answers a =
 -- ---- what the worker's version has
 
 -- what was put before is of this version too: before the hello nothing was
-had_before : (told : Option ℕ) (version : ℕ) (said : List FrameValue) → ((v : ℕ) → told ≡ Some v → v ≡ version) → MatchOption told (said ≡ []) (λ v. HasFrames v said) → HasFrames version said
+had_before : (heard : Option ℕ) (version : ℕ) (said : List FrameValue) → ((v : ℕ) → heard ≡ Some v → v ≡ version) → MatchOption heard (said ≡ []) (λ v. HasFrames v said) → HasFrames version said
 had_before None version said stays none = subst (HasFrames version) (sym none) (All-nil (λ (v : FrameValue). version_of v ≤ version))
 had_before (Some v) version said stays has = subst (λ (w : ℕ). HasFrames w said) (stays v refl) has
 
@@ -182,12 +182,12 @@ module _ {L : Type 0} (state : L → LineState) (round shard : ℕ) (labels : Li
   pub gave_more : (answers : List AnswerValue) → HasGiven (seen_client state old) answers → HasGiven (seen_client state new) (answers ++ a ∷ [])
   gave_more answers given =
       let got : (state new.line).got ≡ Some (texts_of (frames_got (Some version) old.worker (answers ++ a ∷ []))) =
-      appends-told (state old.line).got (state new.line).got _ _ given.got (brought.got refl)
+      appends-known (state old.line).got (state new.line).got _ _ given.got (brought.got refl)
       ∙ ap (λ t. Some t) (got_more old.version version old.worker answers (text_of (AnswerFrame a)) greeted.stays given.silent ∙ got_answer version old.worker answers a) in
       record {
-        got = got ∙ ap (λ w. Some (texts_of (frames_got (Some version) w (answers ++ a ∷ [])))) (sym asked.worker) ∙ ap (λ (told : Option ℕ). Some (texts_of (frames_got told new.worker (answers ++ a ∷ [])))) (sym greeted.told);
+        got = got ∙ ap (λ w. Some (texts_of (frames_got (Some version) w (answers ++ a ∷ [])))) (sym asked.worker) ∙ ap (λ (heard : Option ℕ). Some (texts_of (frames_got heard new.worker (answers ++ a ∷ [])))) (sym greeted.heard);
         lawful = subst AreLawful (sym (answers_more answers a)) (lawful-append (map AnswerFrame answers) (AnswerFrame a ∷ []) given.lawful (asked.lawful, tt));
-        known = subst (λ (told : Option ℕ). IfSome told IsVersion) (sym greeted.told) greeted.known;
+        known = subst (λ (heard : Option ℕ). IfSome heard IsVersion) (sym greeted.heard) greeted.known;
         silent = λ e. cc;
       }
 
@@ -254,7 +254,7 @@ module _ {L : Type 0} (state : L → LineState) (round shard : ℕ) (labels : Li
           let more : List FrameValue = frames_put (seen_client state old) round shard labels in
           record {
             calm = omega (arith, brought.failures, step.calm);
-            sent = appends-told (state old.line).sent (state new.line).sent (texts_of said) (texts_of more) step.sent (brought.sent refl) ∙ ap (λ t. Some t) (sym (texts-append said more));
+            sent = appends-known (state old.line).sent (state new.line).sent (texts_of said) (texts_of more) step.sent (brought.sent refl) ∙ ap (λ t. Some t) (sym (texts-append said more));
             lawful = lawful-append said more step.lawful (put_lawful round shard labels (seen_client state old) is ask);
             only = subst (λ (k : List (List Link)). All (IsOfCut k) (said ++ more)) (sym asked.cut) (All-append (IsOfCut old.cut) said more step.only (of_cut_put (has_shard old.sent shard) old.cut round shard labels in_cut));
             once = once_step;
@@ -265,7 +265,7 @@ module _ {L : Type 0} (state : L → LineState) (round shard : ℕ) (labels : Li
                 ∙ (ap (λ (fs : List FrameValue). fs ++ AskFrame round shard labels ∷ []) step.asked
                 ∙ sym (map-append (λ (e : Exchange). AskFrame e.round e.shard e.labels) exchanges (exchange_of round shard labels a ∷ []))));
             first = follows-append empty_shelf said more step.first (follows_put (has_shard old.sent shard) (shelf_after empty_shelf said) shard (links_at old.cut shard) round labels (step.shelves shard in_cut));
-            has = subst (λ (told : Option ℕ). MatchOption told (said ++ more ≡ []) (λ v. HasFrames v (said ++ more))) (sym greeted.told)
+            has = subst (λ (heard : Option ℕ). MatchOption heard (said ++ more ≡ []) (λ v. HasFrames v (said ++ more))) (sym greeted.heard)
                 (All-append (λ (v : FrameValue). version_of v ≤ version) said more (had_before old.version version said greeted.stays step.has) asked.brought.sends.has);
             gave = exchanged_more exchanges step.gave;
             shelves = subst (λ (k : List (List Link)). (s : ℕ) → s < length k → shelf_after empty_shelf (said ++ more) s ≡ (if has_shard new.sent s then Some (links_at k s) else None)) (sym asked.cut) shelves_step;
@@ -302,9 +302,9 @@ module _ {L : Type 0} (state : L → LineState) (round shard : ℕ) (labels : Li
       let version : ℕ = asked.version in
       let hello : List FrameValue = HelloFrame version before.worker ∷ map AnswerFrame (answers_of exchanges) in
       let sent_is : after.line.sent ≡ Some (texts_of (said ++ more)) =
-      appends-told before.line.sent after.line.sent (texts_of said) (texts_of more) step.sent (brought.sent refl) ∙ ap (λ t. Some t) (sym (texts-append said more)) in
+      appends-known before.line.sent after.line.sent (texts_of said) (texts_of more) step.sent (brought.sent refl) ∙ ap (λ t. Some t) (sym (texts-append said more)) in
       let got_is : after.line.got ≡ Some (texts_of hello ++ bytes) =
-      appends-told before.line.got after.line.got _ _ step.gave.got (brought.got refl) ∙ ap (λ t. Some t) (got_more before.version version before.worker (answers_of exchanges) bytes asked.greeted.stays step.gave.silent) in
+      appends-known before.line.got after.line.got _ _ step.gave.got (brought.got refl) ∙ ap (λ t. Some t) (got_more before.version version before.worker (answers_of exchanges) bytes asked.greeted.stays step.gave.silent) in
       let (served, rest, serves) = faithful (omega (arith, brought.failures, step.calm)) (texts_of (said ++ more)) (texts_of hello ++ bytes) sent_is got_is in
       let lawful_replies : AreLawful serves.replies = served_lawful served before.worker (texts_of (said ++ more)) ((texts_of hello ++ bytes) ++ rest) serves in
       let frames : serves.frames ≡ said ++ more = only_frames_of_texts (said ++ more) serves.frames (lawful-append said more step.lawful lawful) serves.came in
@@ -327,8 +327,8 @@ module _ {L : Type 0} (state : L → LineState) (round shard : ℕ) (labels : Li
       → (version : ℕ) × (rest : List ℕ) × (replies : List FrameValue) × (bytes ++ rest ≡ texts_of (HelloFrame version before.worker ∷ replies)) × AreLawful (HelloFrame version before.worker ∷ replies)
   first_of bytes quiet came =
       let none : before.line.got ≡ Some [] = step.gave.got ∙ ap (λ b. Some (texts_of (frames_got b before.worker (answers_of exchanges)))) quiet in
-      let sent_is : after.line.sent ≡ Some (texts_of said ++ []) = appends-told before.line.sent after.line.sent (texts_of said) [] step.sent (came.sent refl) in
-      let got_is : after.line.got ≡ Some bytes = appends-told before.line.got after.line.got [] bytes none (came.got refl) in
+      let sent_is : after.line.sent ≡ Some (texts_of said ++ []) = appends-known before.line.sent after.line.sent (texts_of said) [] step.sent (came.sent refl) in
+      let got_is : after.line.got ≡ Some bytes = appends-known before.line.got after.line.got [] bytes none (came.got refl) in
       let (served, rest, serves) = faithful (omega (arith, came.failures, step.calm)) (texts_of said ++ []) bytes sent_is got_is in
       (served, rest, serves.replies, serves.written, (hello_is served serves.known, served_lawful served before.worker (texts_of said ++ []) (bytes ++ rest) serves))
 

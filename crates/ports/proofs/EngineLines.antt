@@ -9,20 +9,20 @@ use Rattle.frames.specs.declared.frame.TheConstants.{VERSION}
 use Rattle.worker_engine.proofs.Sessions.{session_starts}
 use Rattle.frames.specs.Refusals.{StreamRefused}
 use Rattle.frames.specs.declared.fault.FrameFault.{FrameFault}
-use Rattle.frames.specs.FrameStream.{BeginsNone, IsTelling}
+use Rattle.frames.specs.FrameStream.{BeginsNone, IsOfStream}
 use Rattle.frames.proofs.FrameStreams.{refused_begins_none, none_begins_none}
 use Rattle.ports.specs.Causes.{IsBad, IsGarble}
 use Rattle.ports.proofs.Refused.{bad_begins_none, bad_more}
 
-pub refused_left : {E : Type 0} (result : Result Bool E) (fault : FrameFault) (bytes left : List ℕ) → bytes ≡ left → (IsTelling fault → StreamRefused fault bytes) → OnOk result (IsTelling fault)
+pub refused_left : {E : Type 0} (result : Result Bool E) (fault : FrameFault) (bytes left : List ℕ) → bytes ≡ left → (IsOfStream fault → StreamRefused fault bytes) → OnOk result (IsOfStream fault)
     → OnOk result (BeginsNone left)
-refused_left (Ok over) fault bytes left same refused tells = subst BeginsNone same (refused_begins_none fault bytes tells (refused tells))
-refused_left (Err e) fault bytes left same refused tells = tt
+refused_left (Ok over) fault bytes left same refused of_stream = subst BeginsNone same (refused_begins_none fault bytes of_stream (refused of_stream))
+refused_left (Err e) fault bytes left same refused of_stream = tt
 
-pub bad_left : {E : Type 0} (result : Result Bool E) (fault : FrameFault) (bytes left : List ℕ) → bytes ≡ left → (IsTelling fault → StreamRefused fault bytes) → OnOk result (IsTelling fault) → IfOk result (λ over. over ≡ true → IsGarble fault)
+pub bad_left : {E : Type 0} (result : Result Bool E) (fault : FrameFault) (bytes left : List ℕ) → bytes ≡ left → (IsOfStream fault → StreamRefused fault bytes) → OnOk result (IsOfStream fault) → IfOk result (λ over. over ≡ true → IsGarble fault)
     → IfOk result (λ over. over ≡ true → IsBad left)
-bad_left (Ok over) fault bytes left same refused tells garble = λ is. subst IsBad same (fault, garble is, refused tells)
-bad_left (Err e) fault bytes left same refused tells garble = tt
+bad_left (Ok over) fault bytes left same refused of_stream garble = λ is. subst IsBad same (fault, garble is, refused of_stream)
+bad_left (Err e) fault bytes left same refused of_stream garble = tt
 
 -- more bytes behind bad ones
 pub still_bad : (heard : ℕ) (input more whole : List ℕ) → heard ≤ length input → whole ≡ input ++ more → IsBad (drop heard input) → IsBad (drop heard whole)

@@ -20,7 +20,7 @@ use Rattle.ports.proofs.Going.{went_then, then_failed}
 
 -- the hello came by now
 pub hello_came : (version : ℕ) (before after : Option ℕ) → IsVersion version → after ≡ Some version → ((v : ℕ) → before ≡ Some v → v ≡ version) → HelloCame version before after
-hello_came version before after known told stays = record { known = known; told = told; stays = stays }
+hello_came version before after known heard stays = record { known = known; heard = heard; stays = stays }
 
 -- what an ask puts is what its version has, if that is so of the shard
 has_put : (version : ℕ) (due : List FrameValue) (round shard : ℕ) (labels : List ℕ) → IsVersion version → HasFrames version due → HasFrames version (due ++ AskFrame round shard labels ∷ [])

@@ -14,7 +14,7 @@ use Rattle.frames.specs.Lawful.{IsShard, IsAsk}
 use Rattle.ports.specs.declared.fault.PortFault.{PortFault}
 use Rattle.ports.specs.declared.fault.PortFault.TheVariants.{Down, Garbled, WrongHello, Gave, Memory, TooOld, Closed}
 use Rattle.shard_set.specs.Shards.{has_shard}
-use Rattle.ports.specs.Lines.{LineState, IsFresh, TellsBytes, Counted, ServesSoFar}
+use Rattle.ports.specs.Lines.{LineState, IsFresh, HasKnownBytes, Counted, ServesSoFar}
 use Rattle.ports.specs.Ports.{IsHonestAnswer, failure_of, want_of}
 use Rattle.ports.specs.Causes.{GoesDown, IsWanting, Cause, CountedFault, IsBlameless}
 use Rattle.ports.specs.Exchanges.{Exchange, exchange_of}
@@ -22,22 +22,22 @@ use Rattle.ports.specs.Clients.{Client, ClientState, seen_client, shard_due, fra
 use Rattle.ports.specs.Wires.{WireState, last_ask, IsQuiet, IsCountedWire, IsFaultless, IsTrueSoFar, WireCause}
 use Rattle.ports.proofs.Asking.{all_brought, step_more, honest_answer, blameless}
 
-told_none : (told : Option (List ℕ)) → IsSome told → IfSome told (λ bytes. bytes ≡ []) → told ≡ Some []
-told_none None tells none = cc
-told_none (Some bytes) tells none = ap (λ t. Some t) none
+known_none : (known : Option (List ℕ)) → IsSome known → IfSome known (λ bytes. bytes ≡ []) → known ≡ Some []
+known_none None known none = cc
+known_none (Some bytes) known none = ap (λ t. Some t) none
 
--- a client that said nothing yet, over a fresh line that tells its bytes
-pub fresh_step : (client : Client) → IsFresh client.line → TellsBytes client.line → client.version ≡ None → ((s : ℕ) → has_shard client.sent s ≡ false) → MatchesLine client [] []
-fresh_step client fresh tells quiet none = record {
+-- a client that said nothing yet, over a fresh line whose bytes are known
+pub fresh_step : (client : Client) → IsFresh client.line → HasKnownBytes client.line → client.version ≡ None → ((s : ℕ) → has_shard client.sent s ≡ false) → MatchesLine client [] []
+fresh_step client fresh known quiet none = record {
   calm = fresh.failures;
-  sent = told_none client.line.sent tells.sent fresh.sent;
+  sent = known_none client.line.sent known.sent fresh.sent;
   lawful = tt;
   only = All-nil (IsOfCut client.cut);
   once = λ s. sym (ap (λ b. if b then 1 else 0) (none s));
   needed = λ s there. absurd (let nothing = none s in cc);
   asked = refl;
   first = tt;
-  gave = record { got = rw quiet (told_none client.line.got tells.got fresh.got); lawful = tt; known = rw quiet tt; silent = λ e. refl };
+  gave = record { got = rw quiet (known_none client.line.got known.got fresh.got); lawful = tt; known = rw quiet tt; silent = λ e. refl };
   has = rw quiet refl;
   shelves = λ s within. sym (ap (λ b. if b then Some (links_at client.cut s) else None) (none s));
 }
@@ -147,11 +147,11 @@ module _ {L : Type 0} (state : L → LineState) where
   ]
 
 module _ {L : Type 0} (state : L → LineState) where
-  -- a wire that asked nothing yet, over a fresh line that tells its bytes
-  pub fresh_calm : (wire : WireState L) (ends : ℕ) → IsFresh (state wire.client.line) → TellsBytes (state wire.client.line) → (state wire.client.line).ends ≡ ends → wire.client.version ≡ None → ((s : ℕ) → has_shard wire.client.sent s ≡ false)
+  -- a wire that asked nothing yet, over a fresh line whose bytes are known
+  pub fresh_calm : (wire : WireState L) (ends : ℕ) → IsFresh (state wire.client.line) → HasKnownBytes (state wire.client.line) → (state wire.client.line).ends ≡ ends → wire.client.version ≡ None → ((s : ℕ) → has_shard wire.client.sent s ≡ false)
       → wire.asks ≡ 0 → wire.failures ≡ 0 → wire.wants ≡ 0 → wire.last ≡ (0, 0) → IsFaultless state ends wire [] []
-  fresh_calm wire ends fresh tells ends_are quiet none asks failures wants last = record {
-    in_step = fresh_step (seen_client state wire.client) fresh tells quiet none;
+  fresh_calm wire ends fresh known ends_are quiet none asks failures wants last = record {
+    in_step = fresh_step (seen_client state wire.client) fresh known quiet none;
     ends_are = ends_are;
     asks = asks;
     failures = failures;
@@ -248,7 +248,7 @@ module _ {L : Type 0} (state : L → LineState) where
 
   module _ (round shard : ℕ) (labels : List ℕ) (old : WireState L) (new : ClientState L) (in_cut : shard < length old.client.cut) (live : old.is_open ≡ true) (is : IsShard shard (links_at old.client.cut shard)) (ask : IsAsk round shard labels)
       (below : old.client.worker < MAX_WORKERS) (kind : PortFault → Type 0) where
-    -- what the line told by the end of the ask is enough
+    -- what is known of the line by the end of the ask is enough
     pub served_answer : (a : AnswerValue) → AnswersOverLine state round shard labels a old.client new → (ends : ℕ) (exchanges : List Exchange) → IsTrueSoFar state kind old ends exchanges → ServesSoFar old.client.worker (state new.line)
         → IsHonestAnswer old.client.cut round shard labels a
     served_answer a asked ends exchanges went serves =

@@ -17,7 +17,7 @@ use Rattle.ports.specs.declared.fault.PortFault.TheVariants.{Down, Garbled, Wron
 use Rattle.ports.specs.Lines.{LineState, Transfers, Counted}
 use Rattle.ports.specs.Clients.{Client, ClientState, HelloCame, HasFrames, seen_client, hello_due, shard_put, Brings, EndsAfterAsk}
 
--- a fault that tells of bytes which no lawful frame begins with
+-- a fault of bytes which no lawful frame begins with
 abbrev pub IsGarble : FrameFault → Type 0
 IsGarble BadKind = ⊤
 IsGarble BadLength = ⊤
@@ -127,7 +127,7 @@ pub data IsWanting {L : Type 0} (state : L → LineState) (round shard : ℕ) (l
   InReply : (bytes : List ℕ) → StreamRefused NoMemory bytes → Brings state round shard labels bytes before after
       → IsWanting state round shard labels before after
 
--- the worker told the first version by now, the shard wasn't sent before, and no frame of that version has its links; nothing was put
+-- the worker's hello was of the first version, the shard wasn't sent before, and no frame of that version has its links; nothing was put
 pub record IsTooOld (shard : ℕ) (before after : Client) : Type 0 where
   pub unsent : has_shard before.sent shard ≡ false
   pub wide : are_narrow (links_at before.cut shard) ≡ false
@@ -150,7 +150,7 @@ Cause state Memory round shard labels before after = IsWanting state round shard
 Cause state TooOld round shard labels before after = IsTooOld shard (seen_client state before) (seen_client state after)
 Cause state Closed round shard labels before after = ⊥
 
--- what a line counted in an ask that got no answer, whether or not it tells its bytes: it is down where one call failed,
+-- what a line counted in an ask that got no answer, whether or not its bytes are known: it is down where one call failed,
 -- or one found the end; with any other fault neither
 abbrev pub CountedFault : PortFault → LineState → LineState → Type 0
 CountedFault Down before after = Counted 1 0 before after ⊎ Counted 0 1 before after

@@ -13,7 +13,7 @@ use Rattle.shard_set.specs.Shards.{has_shard}
 use Rattle.ports.specs.Lines.{LineState, Transfers}
 use Rattle.ports.specs.Exchanges.{Exchange, IsAskedIn, answers_of, ask_frames}
 
--- a client: the line, the cut whose shards are asked, the number of the worker, the version that its hello told, once it
+-- a client: the line, the cut whose shards are asked, the number of the worker, the version of its hello, once it
 -- came, and the shards that were sent
 pub record ClientState (L : Type 0) : Type 0 where
   pub line : L
@@ -34,12 +34,12 @@ seen_client state client = record { line = state client.line; cut = client.cut; 
 -- the hello of this version, unless one came before
 abbrev pub hello_due : Option ℕ → ℕ → ℕ → List ℕ
 hello_due None version worker = text_of (HelloFrame version worker)
-hello_due (Some told) version worker = []
+hello_due (Some heard) version worker = []
 
 -- by now the hello came, of this version
 pub record HelloCame (version : ℕ) (before after : Option ℕ) : Type 0 where
   pub known : IsVersion version
-  pub told : after ≡ Some version
+  pub heard : after ≡ Some version
   pub stays : (v : ℕ) → before ≡ Some v → v ≡ version
 
 -- the shard's frame, unless it was sent before

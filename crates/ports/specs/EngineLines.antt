@@ -42,7 +42,7 @@ pub record EngineLineState : Type 0 where
   pub failures : ℕ
   pub ends : ℕ
 
--- what it tells: all bytes that were put, and those that were got
+-- what is known of it: all bytes that were put, and those that were got
 abbrev pub line_of : EngineLineState → LineState
 line_of s = record { sent = Some s.input; got = Some (take s.taken s.written); failures = s.failures; ends = s.ends }
 

@@ -32,7 +32,7 @@ KeepsExchanges before after = (exchanges : List Exchange) → before exchanges �
 abbrev pub AddsExchange : (before after : List Exchange → Type 0) → Exchange → Type 0
 AddsExchange before after exchange = (exchanges : List Exchange) → before exchanges → after (exchanges ++ exchange ∷ [])
 
--- the same two, of facts that also tell how many ends a line had found, which stays that number
+-- the same two, of facts that also say how many ends a line had found, which stays that number
 abbrev pub StaysSound : (before after : ℕ → List Exchange → Type 0) → Type 0
 StaysSound before after = (ends : ℕ) → KeepsExchanges (before ends) (after ends)
 

@@ -1,10 +1,10 @@
--- What a line tells of itself, what a call does to it, and what a faithful line gives.
+-- What is known of a line, what a call does to it, and what a faithful line gives.
 use Rattle.std.specs.Prelude.{◌≡◌, ℕ, ◌+◌, ◌-◌, ◌<◌, ◌^◌, List, [], ◌++◌, take, Option, Some, IfSome, IsSome, Result, Ok, Err}
 use Rattle.std.specs.Io.KnownBytes.{Appends}
 use Rattle.worker_engine.specs.Serving.{Serves}
 use Rattle.ports.specs.declared.fault.LineFault.{LineFault}
 
--- what a line tells: the bytes that were sent and those that were got, each where it is known, how many calls failed, and how many gets found the end
+-- what is known of a line: the bytes that were sent and those that were got, each where it is, how many calls failed, and how many gets found the end
 pub record LineState : Type 0 where
   pub sent : Option (List ℕ)
   pub got : Option (List ℕ)
@@ -16,12 +16,12 @@ pub record HasRoom (line : LineState) : Type 0 where
   pub failures : line.failures < 2 ^ 64 - 1
   pub ends : line.ends < 2 ^ 64 - 1
 
--- the line tells what was sent and what was got
-pub record TellsBytes (line : LineState) : Type 0 where
+-- it is known what was sent and what was got
+pub record HasKnownBytes (line : LineState) : Type 0 where
   pub sent : IsSome line.sent
   pub got : IsSome line.got
 
--- a new line: it never failed, and nothing was sent or got, where it tells that
+-- a new line: it never failed, and nothing was sent or got, where that is known
 pub record IsFresh (line : LineState) : Type 0 where
   pub sent : IfSome line.sent (λ bytes. bytes ≡ [])
   pub got : IfSome line.got (λ bytes. bytes ≡ [])
@@ -35,7 +35,7 @@ pub record Transfers (failed ended : ℕ) (said came : List ℕ) (before after :
   pub failures : after.failures ≡ before.failures + failed
   pub ends : after.ends ≡ before.ends + ended
 
--- from `before` to `after` so many calls failed, and so many found the end, whether or not the line tells its bytes
+-- from `before` to `after` so many calls failed, and so many found the end, whether or not the line's bytes are known
 abbrev pub Counted : (failed ended : ℕ) → LineState → LineState → Type 0
 Counted failed ended before after = (after.failures ≡ before.failures + failed) × (after.ends ≡ before.ends + ended)
 
@@ -53,6 +53,6 @@ Gets (Err fault) into before after = Transfers 1 0 [] [] before after
 abbrev pub BeginsSession : (worker : ℕ) (sent got : List ℕ) → Type 0
 BeginsSession worker sent got = (version : ℕ) × (rest : List ℕ) × Serves version worker sent (got ++ rest)
 
--- until the first failure, and where the line tells both, what was got begins what the worker's session may write for what was sent
+-- until the first failure, and where both are known, what was got begins what the worker's session may write for what was sent
 abbrev pub ServesSoFar : ℕ → LineState → Type 0
 ServesSoFar worker line = line.failures ≡ 0 → (sent got : List ℕ) → line.sent ≡ Some sent → line.got ≡ Some got → BeginsSession worker sent got

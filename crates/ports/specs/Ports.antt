@@ -1,4 +1,4 @@
--- What a port tells of itself, and what asks do to it.
+-- What is known of a port, and what asks do to it.
 use Rattle.std.specs.Prelude.{◌≡◌, ℕ, ◌+◌, Bool, true, false, List, Result, Ok, Err}
 use Rattle.link_key.specs.declared.links.Link.{Link}
 use Rattle.link_key.specs.Cut.{links_at}
@@ -7,7 +7,7 @@ use Rattle.round_theory.specs.Offers.{AreLightOffers}
 use Rattle.ports.specs.declared.fault.PortFault.{PortFault}
 use Rattle.ports.specs.declared.fault.PortFault.TheVariants.{Memory, Closed}
 
--- what a port tells: its cut, the number of the worker that it asks (a port that asks none by a number may tell any),
+-- what is known of a port: its cut, the number of the worker that it asks (any, where it asks none by a number),
 -- whether it is open, how often it was asked while it was, how many of these asks failed, and found no memory, and the
 -- round and the shard of the last of these asks (0 and 0 before the first)
 pub record PortState : Type 0 where

@@ -65,7 +65,7 @@ pub record ScriptLineState : Type 0 where
 abbrev pub fresh_script : List ℕ → ScriptLineState
 fresh_script bytes = record { given = []; left = bytes; ends = 0 }
 
--- what it tells: what was got, and not what was sent
+-- what is known of it: what was got, and not what was sent
 abbrev pub line_of_script : ScriptLineState → LineState
 line_of_script script = record { sent = None; got = Some script.given; failures = 0; ends = script.ends }
 

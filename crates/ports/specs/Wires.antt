@@ -54,15 +54,15 @@ port_of wire = record {
   last = wire.last;
 }
 
--- ---- by what its line counts, whether or not it tells its bytes
+-- ---- by what its line counts, whether or not its bytes are known
 
--- no ask that found it open got a fault, and since the line told this no call failed and none found the end
+-- no ask that found it open got a fault, and from this state of its line on no call failed and none found the end
 pub record IsQuiet {L : Type 0} (state : L → LineState) (wire : WireState L) (start : LineState) : Type 0 where
   pub counted : Counted 0 0 start (state wire.client.line)
   pub failures : wire.failures ≡ 0
   pub wants : wire.wants ≡ 0
 
--- one ask got a fault, which closed it, and since the line told this it counted just what fits that fault
+-- one ask got a fault, which closed it, and from this state of its line on it counted just what fits that fault
 pub record HasFaulted {L : Type 0} (state : L → LineState) (wire : WireState L) (start : LineState) : Type 0 where
   pub closed : wire.is_open ≡ false
   pub fault : PortFault
@@ -70,11 +70,11 @@ pub record HasFaulted {L : Type 0} (state : L → LineState) (wire : WireState L
   pub failures : wire.failures ≡ failure_of fault
   pub wants : wire.wants ≡ want_of fault
 
--- what its line counts, since it told this when the wire was new: nothing, and it is open or was shut; or what closed it
+-- what its line counts from this state on, its own when the wire was new: nothing, and it is open or was shut; or what closed it
 abbrev pub IsCountedWire : {L : Type 0} → (L → LineState) → WireState L → LineState → Type 0
 IsCountedWire state wire start = IsQuiet state wire start ⊎ HasFaulted state wire start
 
--- ---- by what its line tells of itself
+-- ---- by what is known of its line
 
 -- its line got just the answers of these exchanges
 abbrev pub WireExchanged : {L : Type 0} → (L → LineState) → WireState L → List Exchange → Type 0
@@ -127,7 +127,7 @@ IsTrueSoFar state kind wire ends exchanges =
     ((said : List FrameValue) × IsFaultless state ends wire said exchanges)
     ⊎ ((wire.is_open ≡ false) × HasFailed state ends exchanges kind wire)
 
--- what it told is true, over a line that had found so many ends when the wire was new: it answered just these exchanges,
+-- what it answered is true, over a line that had found so many ends when the wire was new: it answered just these exchanges,
 -- and is faultless, or a fault closed it that has its cause
 abbrev pub IsSoundWire : {L : Type 0} → (L → LineState) → WireState L → ℕ → List Exchange → Type 0
 IsSoundWire state wire ends exchanges = IsTrueSoFar state (λ fault. fault ≢ Closed) wire ends exchanges
@@ -139,7 +139,7 @@ ServesWire state before after =
     × ServesSoFar before.client.worker (state after.client.line)
 
 -- it is faultless, or a fault closed it that is nobody's blame. How many ends the line had found, and what was exchanged,
--- isn't told here: who asks that has the sound wire beside it
+-- isn't said here: who asks that has the sound wire beside it
 abbrev pub IsBlamelessWire : {L : Type 0} → (L → LineState) → WireState L → Type 0
 IsBlamelessWire state wire = (ends : ℕ) × (exchanges : List Exchange) × IsTrueSoFar state IsBlameless wire ends exchanges
 
@@ -147,6 +147,6 @@ IsBlamelessWire state wire = (ends : ℕ) × (exchanges : List Exchange) × IsTr
 abbrev pub IsHonestWire : {L : Type 0} → Line.Ghosts L → WireState L → Type 0
 IsHonestWire over wire = over.faithful wire.client.line wire.client.worker × IsBlamelessWire over.state wire
 
--- what wires over such lines tell as ports
+-- what is known of wires over such lines as ports
 abbrev pub wire_port : {L : Type 0} → (A : Type 0) → Line.Ghosts L → Port.Ghosts (WireState L) A
 wire_port A over = record { state = port_of; honest = IsHonestWire over; exchanged = WireExchanged over.state; sound = IsSoundWire over.state }

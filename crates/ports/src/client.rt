@@ -16,7 +16,7 @@ use shard_set::ShardSet;
 use std::alloc::Allocator;
 use std::marker::Model;
 
-/// The client of a worker, over a line that it owns: the cut whose shards are asked, the version that its hello told, once it
+/// The client of a worker, over a line that it owns: the cut whose shards are asked, the version of its hello, once it
 /// came, which shards were sent, a bit each, and the text of the last ask that went out by one put, whose labels the next
 /// one may have too.
 #[derive(Drop)]

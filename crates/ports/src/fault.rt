@@ -35,7 +35,7 @@ pub enum PortFault {
     /// The port was closed before the call: nothing was sent.
     #[error("port is closed")]
     Closed,
-    /// The worker told the first version, which has no frame for this shard: a weight of it doesn't fit 32 bits.
+    /// The worker has the first version, which has no frame for this shard: a weight of it doesn't fit 32 bits.
     /// Nothing was sent for the shard.
     #[error("worker is too old for 64-bit weights")]
     TooOld,

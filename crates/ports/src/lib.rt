@@ -15,13 +15,13 @@
 //! ```
 //!
 //! What it promises:
-//! - Over a fresh line that tells its bytes and is faithful for its worker a wire is honest: each answer is light for
+//! - Over a fresh line with known bytes that is faithful for its worker a wire is honest: each answer is light for
 //!   what was asked, and the only faults are the line's own, want of memory, and a worker too old for wide weights.
 //! - Over any line a fault has its cause: the bytes that came, what the line counted, or want of memory.
-//! - An open wire over a line that was fresh and tells its bytes sent each shard once, before its first ask, and the
+//! - An open wire over a line that was fresh, with known bytes, sent each shard once, before its first ask, and the
 //!   asks, and got the hello and the answers, and nothing else.
 //!
-//! Where to start a change: `line` and `specs/Lines` for what a line tells; `port`, `specs/Ports` and `specs/Exchanges`
+//! Where to start a change: `line` and `specs/Lines` for what is known of a line; `port`, `specs/Ports` and `specs/Exchanges`
 //! for what a port does; `steps` and `specs/Causes` for a new fault or step; `specs/Clients` for what a wire said and
 //! heard.
 #![tactic(auto)]

@@ -7,15 +7,15 @@ use crate::fault::LineFault;
 
 /// A line to a worker: bytes go out by `put`, and come back by `get`.
 ///
-/// It may tell, to contracts, the bytes that were sent and got, each a `None` where it doesn't know them.
-/// It always tells how many calls failed and how many gets found the end, as numbers of 64 bits.
+/// Contracts may know the bytes that were sent and got, each a `None` where they aren't known.
+/// They always know how many calls failed and how many gets found the end, as numbers of 64 bits.
 ///
-/// A line is faithful for a worker where, until its first failure and where it tells its bytes, what was
+/// A line is faithful for a worker where, until its first failure and where its bytes are known, what was
 /// got begins what the worker's session may write for what was sent. What a socket gives is for its other
 /// end to say, so a line over a device is faithful by a premise alone; a line to an engine in memory is so
-/// by its contract. From a line that doesn't tell its bytes nothing follows of what comes over it.
+/// by its contract. From a line whose bytes aren't known nothing follows of what comes over it.
 pub trait Line {
-    // What the line tells.
+    // What is known of the line.
     ghost state: { Self → LineState };
 
     // It carries the session of this worker. Whatever type fits the line: its law is what others know.
@@ -42,6 +42,6 @@ pub trait Line {
         ensures went { Gets result into.new (state self.old) (state self.new) }
         ensures faithful { (worker : ℕ) → faithful self.old worker → faithful self.new worker };
 
-    // What a faithful line got, as far as it tells it, begins what the worker may write.
+    // What a faithful line got, as far as it is known, begins what the worker may write.
     ghost serves: { (line : Self) (worker : ℕ) → faithful line worker → ServesSoFar worker (state line) };
 }

@@ -8,7 +8,7 @@ use byte_streams::{Failed, Source};
 
 /// A line as a source: what is read is got from the line.
 ///
-/// It owns the line, so that what is read is said of the line afterwards. It tells what it gave, and not
+/// It owns the line, so that what is read is said of the line afterwards. It is known what it gave, and not
 /// what will come; reads keep true what was sent on the line, and for whom it is faithful.
 #[derive(Drop)]
 pub struct LineSource<L> {

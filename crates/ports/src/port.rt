@@ -15,25 +15,25 @@ use std::alloc::Allocator;
 ///
 /// A port is open at first, and closed for good by its first fault, or when it is shut. It counts the asks
 /// that it got while it was open, those of them that failed, and those that found no memory; it keeps the
-/// round and the shard of the last ask that it got while it was open. It tells the number of the worker
+/// round and the shard of the last ask that it got while it was open. It has the number of the worker
 /// that it asks, where it asks one, and never changes it.
 ///
 /// It is honest where each answer that it gives names the round and the shard that were asked, with the
-/// light offers of that shard under the labels that were asked. Where it tells the asks that it answered
+/// light offers of that shard under the labels that were asked. Where the asks are known that it answered
 /// while it was open, they are a list with their answers, and each comes last.
 pub trait Port<A: Allocator> {
-    // What the port tells.
+    // What is known of the port.
     ghost state: { Self → PortState };
 
     // Each answer that it gives is an honest one.
     ghost honest: { Self → Type 0 };
 
-    // These are the asks that it answered while it was open, with their answers, in their order, where it tells them.
+    // These are the asks that it answered while it was open, with their answers, in their order, where they are known.
     ghost exchanged: { Self → List Exchange → Type 0 };
 
     // Nothing went out or came in but its asks and their answers, and no end was found, up to the ask whose fault
-    // closed it, and that fault has its cause, where it tells that. The number is that of the ends which its line had
-    // found before its first ask; a port without a line tells what fits. The exchanges are all asks that were
+    // closed it, and that fault has its cause, where that is known. The number is that of the ends which its line had
+    // found before its first ask; of a port without a line it is what fits. The exchanges are all asks that were
     // answered, in their order, also where a later one closed it by a fault.
     ghost sound: { Self → ℕ → List Exchange → Type 0 };
 

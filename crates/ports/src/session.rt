@@ -3,7 +3,7 @@ ghost use Rattle.std.specs.Prelude.{◌≡◌, ℕ, ◌++◌, true, List, length
 ghost use Rattle.frames.specs.FrameValue.{value_of};
 ghost use Rattle.frames.specs.FrameText.{text_of};
 ghost use Rattle.frames.specs.Lawful.{IsLawful};
-ghost use Rattle.frames.specs.FrameStream.{texts_of, AreLawful, BeginsNone, IsTelling};
+ghost use Rattle.frames.specs.FrameStream.{texts_of, AreLawful, BeginsNone, IsOfStream};
 ghost use Rattle.frames.specs.Refusals.{StreamRefused};
 ghost use Rattle.worker_engine.specs.Serving.{shelf_of, shelf_with, MayFollow, replies_in};
 ghost use Rattle.ports.specs.Causes.{IsGarble};
@@ -51,7 +51,7 @@ impl<A: Allocator + Copy> Session<A> {
         self.hear_all()
     }
 
-    // Hears all frames that came, and tells whether what is left is refused whatever follows it.
+    // Hears all frames that came, and says whether what is left is refused whatever follows it.
     fn hear_all(&mut self) -> Result<bool, AllocError>
         ensures input { self.new.input ≡ self.old.input }
         ensures grew { Extends self.old.written self.new.written }
@@ -78,7 +78,7 @@ fn first_frame<A: Allocator + Copy>(alloc: A, bytes: &[u8]) -> Result<(Frame<A>,
     ensures count { IfOk result (λ p. p.1 ≡ length (text_of (value_of p.0))) }
     ensures text { IfOk result
         (λ p. (left : List ℕ) × (bytes.now ≡ text_of (value_of p.0) ++ left)) }
-    ensures refused { IfErr result (λ fault. IsTelling fault → StreamRefused fault bytes.now) }
+    ensures refused { IfErr result (λ fault. IsOfStream fault → StreamRefused fault bytes.now) }
 {
     let mut rest = bytes;
     match read_frame(alloc, &mut rest) {
@@ -142,7 +142,7 @@ fn write_reply<A: Allocator + Copy>(
 
 // Whether bytes that are refused for this fault stay refused, whatever follows them.
 fn is_over(fault: FrameFault) -> Result<bool, AllocError>
-    ensures tells { OnOk result (IsTelling fault) }
+    ensures of_stream { OnOk result (IsOfStream fault) }
     ensures over { IfOk result (λ over. over ≡ true → IsGarble fault) }
 {
     match fault {

@@ -21,24 +21,24 @@ use link_key::{Labels, Shard};
 use shard_set::ShardSet;
 use std::alloc::Allocator;
 
-// The version that the worker's hello told; hears the hello, unless it came before.
+// The version of the worker's hello; hears the hello, unless it came before, of the version `heard`.
 pub fn greet<L: Line, A: Allocator + Copy>(
     alloc: A,
     source: &mut LineSource<L>,
-    told: Option<u16>,
+    heard: Option<u16>,
     worker: u32,
 ) -> Result<u16, PortFault>
     requires room { HasRoom (L.state source.old.line) }
-    requires known { IfSome told IsVersion }
+    requires known { IfSome heard IsVersion }
     ensures went { IfOk result (λ version.
-        Receives (hello_due told version worker) (L.state source.old.line) (L.state source.new.line)) }
+        Receives (hello_due heard version worker) (L.state source.old.line) (L.state source.new.line)) }
     ensures known { IfOk result (λ version. IsVersion version) }
-    ensures stays { IfOk result (λ version. (v : ℕ) → told ≡ Some v → v ≡ version) }
-    ensures fault { IfErr result (λ e. (told ≡ None)
+    ensures stays { IfOk result (λ version. (v : ℕ) → heard ≡ Some v → v ≡ version) }
+    ensures fault { IfErr result (λ e. (heard ≡ None)
         × GreetingFault e worker (L.state source.old.line) (L.state source.new.line)) }
     ensures faithful { (w : ℕ) → L.faithful source.old.line w → L.faithful source.new.line w }
 {
-    if let Some(version) = told {
+    if let Some(version) = heard {
         return Ok(version);
     }
     match hear(alloc, source) {

@@ -2,7 +2,7 @@
 ghost use Rattle.std.specs.Prelude.{◌≡◌, ◌+◌, ◌-◌, ◌<◌, ◌≤◌, ◌^◌, true, false, [], length, IfOk, IfErr, OnErr};
 ghost use Rattle.link_key.specs.Link.{EndsUpTo};
 ghost use Rattle.link_key.specs.Cut.{links_at};
-ghost use Rattle.ports.specs.Lines.{LineState, HasRoom, IsFresh, TellsBytes};
+ghost use Rattle.ports.specs.Lines.{LineState, HasRoom, IsFresh, HasKnownBytes};
 ghost use Rattle.ports.specs.Exchanges.{exchange_of, KeepsExchanges, AddsExchange, StaysSound, StaysSoundWith};
 ghost use Rattle.ports.specs.Ports.{CountsAsks, AnswersAsk, IsHonestAnswer, failure_of, want_of};
 ghost use Rattle.ports.specs.Causes.{IsBlameless};
@@ -67,10 +67,10 @@ impl<'a, L: Line, A: Allocator + Copy> Wire<'a, L, A> {
         // Over any line its counts will fit a fault that closed it.
         ensures counted { IsCountedWire L.state result (L.state line) }
 
-        // Over a fresh line that tells its bytes it is sound, and over one that is faithful for the worker honest.
-        ensures sound { IsFresh (L.state line) → TellsBytes (L.state line)
+        // Over a fresh line whose bytes are known it is sound, and over one that is faithful for the worker honest.
+        ensures sound { IsFresh (L.state line) → HasKnownBytes (L.state line)
             → IsSoundWire L.state result (L.state line).ends [] }
-        ensures honest { IsFresh (L.state line) → TellsBytes (L.state line) → L.faithful line worker
+        ensures honest { IsFresh (L.state line) → HasKnownBytes (L.state line) → L.faithful line worker
             → IsHonestWire L.Line result }
     {
         Wire {
@@ -133,7 +133,7 @@ impl<'a, L: Line, A: Allocator + Copy> Port<A> for Wire<'a, L, A> {
         // An answer: which frames were sent for it, which bytes came behind them, and which shards are sent by now.
         ensures asked { IfOk result (λ a. AnswersOverLine L.state round shard labels.now a self.old.client self.new.client) }
 
-        // Over a line that tells its bytes, known to be faithful or not: where what came by now begins what the
+        // Over a line whose bytes are known, be it faithful or not: where what came by now begins what the
         // worker may write, the answer is honest.
         ensures served { IfOk result (λ a. ServesWire L.state self.old self.new
             → IsHonestAnswer self.old.client.cut round shard labels.now a) }
@@ -142,7 +142,7 @@ impl<'a, L: Line, A: Allocator + Copy> Port<A> for Wire<'a, L, A> {
         ensures cause { IfErr result (λ e. self.old.is_open ≡ true
             → WireCause L.state e round shard labels.now self.old self.new) }
 
-        // What the line counted since the wire was new fits a fault that closed it, whether or not it tells its bytes.
+        // What the line counted since the wire was new fits a fault that closed it, whether or not its bytes are known.
         ensures counted { (start : LineState) → IsCountedWire L.state self.old start → IsCountedWire L.state self.new start }
 
         // A closed wire does nothing.

@@ -6,7 +6,7 @@ use Rattle.std.proofs.lemmas.List.{length-map, length-set, get_or-map, get_or-se
 use Rattle.link_key.specs.declared.links.Link.{Link}
 use Rattle.round_core.specs.Picks.{AreNoPicks, HaveAllPicks}
 use Rattle.round_core.specs.PickNumbers.{no_pick, IsPickNumber, AreCleared, pick_in}
-use Rattle.round_core.proofs.PickNumbers.{no_pick_told}
+use Rattle.round_core.proofs.PickNumbers.{no_pick_is_none}
 
 -- the first k labels are cleared
 pub record AreClearedTo (labels old new : List ℕ) (k : ℕ) : Type 0 where
@@ -55,7 +55,7 @@ cleared_are_numbers labels old new are all i d lt =
 pub cleared_have_none : (labels old new : List ℕ) → AreCleared labels old new → HaveAllPicks (map pick_in old) labels → AreNoPicks (map pick_in new)
 cleared_have_none labels old new are have i d lt = get_or-map pick_in new i 0 d within ∙ elim (are.rest i) [
   | inl same ↦ ap pick_in same ∙ by_pick (pick_in (get_or old i 0)) refl same
-  | inr none ↦ no_pick_told (get_or new i 0) none
+  | inr none ↦ no_pick_is_none (get_or new i 0) none
 ]
   where
     within : i < length new
@@ -67,4 +67,4 @@ cleared_have_none labels old new are have i d lt = get_or-map pick_in new i 0 d 
         let (j, j_lt, at) = have i l (get_or-map pick_in old i 0 None (omega (arith, within, are.long)) ∙ is) in
         let label : get_or labels j 0 ≡ i + 1 = get_or_default labels j 0 (i + 1) j_lt ∙ at in
         let place : i ≡ get_or labels j 0 - 1 = omega (arith, label) in
-        ap pick_in (sym same ∙ ap (λ m. get_or new m 0) place ∙ are.cleared j j_lt) ∙ no_pick_told no_pick refl
+        ap pick_in (sym same ∙ ap (λ m. get_or new m 0) place ∙ are.cleared j j_lt) ∙ no_pick_is_none no_pick refl

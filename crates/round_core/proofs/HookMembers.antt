@@ -135,7 +135,7 @@ seen_all labels components least new i is all = record {
   least = λ v vertex. is.done v vertex.0 (omega (arith, vertex.1, all));
 }
 
--- The least vertex of the component, where components tell what the old labels and a set of links join, is the least
+-- The least vertex of the component, where components say what the old labels and a set of links join, is the least
 -- vertex that they join it to.
 pub relabelled : (labels : List ℕ) (S : LinkSet) (components new : List ℕ) → AreJoined labels S components → AreLeastMembers labels components new → IsRelabelling (length labels) labels S new
 relabelled labels S components new joined are = record {

@@ -240,7 +240,7 @@ module _ (labels : List ℕ) (heard : List Hearing) (picks : List (Option Link))
         decided true if_so if_not = (λ _. first_here (if_so refl), λ _. refl)
         decided false if_so if_not = (λ wrong. absurd (cc), λ first. absurd (not_first_here one (if_not refl).0 (if_not refl).1 first))
 
-    -- a look whether the labels have the same pick tells which takes it
+    -- a look whether the labels have the same pick decides which takes it
     pub is_taker : (paired : Bool) → 1 ≤ d → (paired ≡ true) ↔ (pick_of picks c ≡ pick_of picks d) → IsTaker picks c (not paired || ltb c d)
     is_taker true one same = takes_where (ltb c d) one (λ tested. inr (ltb-true c d tested)) (λ failed. (sym (same.0 refl) ∙ here, ltb-false c d failed))
     is_taker false one same = takes_where true one (λ _. inl (λ there. let wrong : false ≡ true = same.1 (here ∙ sym there) in absurd (cc))) (λ wrong. absurd (cc))

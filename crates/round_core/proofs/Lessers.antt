@@ -9,7 +9,7 @@ use Rattle.round_theory.proofs.Steps.{append_either}
 use Rattle.round_theory.proofs.Unions.{least_of_both, least_of_first, least_of_second}
 use Rattle.round_core.specs.Picks.{IsPickOf, ArePicks}
 use Rattle.round_core.specs.PickNumbers.{no_pick, IsPickNumber, AreLesserOf, pick_in}
-use Rattle.round_core.proofs.PickNumbers.{key_below_no_pick, key_told, lesser_told, no_pick_told}
+use Rattle.round_core.proofs.PickNumbers.{key_below_no_pick, key_is_pick, lesser_is_min, no_pick_is_none}
 
 -- of two picks the lesser, or the one that there is
 abbrev IsLesserPick : Option Link → Option Link → Option Link → Type 0
@@ -49,19 +49,19 @@ lesser_number : (k m : ℕ) → IsPickNumber k → IsPickNumber m → IsPickNumb
 lesser_number k m k_is (inl none) =
     let most = at_most_no_pick k k_is in
     let less : k ≡ min k m = omega (arith, none, most) in
-    let told : IsPickNumber k × IsLesserPick (pick_in k) (pick_in m) (pick_in k) = (k_is, rw (no_pick_told m none) (lesser_of_one (pick_in k))) in
-    subst (λ (j : ℕ). IsPickNumber j × IsLesserPick (pick_in k) (pick_in m) (pick_in j)) less told
+    let fits : IsPickNumber k × IsLesserPick (pick_in k) (pick_in m) (pick_in k) = (k_is, rw (no_pick_is_none m none) (lesser_of_one (pick_in k))) in
+    subst (λ (j : ℕ). IsPickNumber j × IsLesserPick (pick_in k) (pick_in m) (pick_in j)) less fits
 lesser_number k m (inl none) (inr (l, l_is)) =
     let below = key_below_no_pick l m l_is in
     let less : m ≡ min k m = omega (arith, none, below) in
-    let told : IsPickNumber m × IsLesserPick (pick_in k) (pick_in m) (pick_in m) = (inr (l, l_is), rw (no_pick_told k none) refl) in
-    subst (λ (j : ℕ). IsPickNumber j × IsLesserPick (pick_in k) (pick_in m) (pick_in j)) less told
+    let fits : IsPickNumber m × IsLesserPick (pick_in k) (pick_in m) (pick_in m) = (inr (l, l_is), rw (no_pick_is_none k none) refl) in
+    subst (λ (j : ℕ). IsPickNumber j × IsLesserPick (pick_in k) (pick_in m) (pick_in j)) less fits
 lesser_number k m (inr (n, n_is)) (inr (l, l_is)) =
-    let told = lesser_told k m l (inr (n, n_is)) l_is in
-    let lesser : IsSomeAnd (pick_in (min k m)) (λ i. IsLesser n l i) = rw (key_told n k n_is) at told.1 in (
-      told.0,
-      subst (λ (x : Option Link). IsLesserPick x (pick_in m) (pick_in (min k m))) (sym (key_told n k n_is))
-          (subst (λ (y : Option Link). IsLesserPick (Some n) y (pick_in (min k m))) (sym (key_told l m l_is)) lesser),
+    let fits = lesser_is_min k m l (inr (n, n_is)) l_is in
+    let lesser : IsSomeAnd (pick_in (min k m)) (λ i. IsLesser n l i) = rw (key_is_pick n k n_is) at fits.1 in (
+      fits.0,
+      subst (λ (x : Option Link). IsLesserPick x (pick_in m) (pick_in (min k m))) (sym (key_is_pick n k n_is))
+          (subst (λ (y : Option Link). IsLesserPick (Some n) y (pick_in (min k m))) (sym (key_is_pick l m l_is)) lesser),
     )
 
 -- the same at each place of three lists of numbers

@@ -1,4 +1,4 @@
--- The numbers of picks: each link's number tells it, and the lesser of two numbers is that of the lesser link.
+-- The numbers of picks: each link's number stands for it alone, and the lesser of two numbers is that of the lesser link.
 use Rattle.std.proofs.Common.{◌≡◌, ◌≢◌, ℕ, ◌+◌, ◌-◌, ◌*◌, ◌/◌, ◌%◌, ◌^◌, ◌<◌, ◌≤◌, ◌⊎◌, ◌↔◌, min, ℤ, pos, negsuc, Less, List, length, map, replicate, get_or, set, Some, None, refl, sym, ap, ◌∙◌, subst, inl, inr, arith}
 use Rattle.std.specs.Prelude.{All, ◌+ℤ◌, ◌-ℤ◌, FitsSigned}
 use Rattle.std.specs.Int.{w64}
@@ -28,9 +28,9 @@ no_link above low high (inl a) (inr b) c d le = refl
 no_link above low high (inl a) (inl b) (inr c) d le = refl
 no_link above low high (inl a) (inl b) (inl c) d le = absurd (omega (arith, c, le))
 
-pub no_pick_told : (k : ℕ) → k ≡ no_pick → pick_in k ≡ None
+pub no_pick_is_none : (k : ℕ) → k ≡ no_pick → pick_in k ≡ None
 unfolding pick_in
-no_pick_told k is = no_link (k / 2 ^ 64) (k / 2 ^ 32 % 2 ^ 32) (k % 2 ^ 32) (cases_lt (k / 2 ^ 64) (2 ^ 64)) (cases_lt 0 (k / 2 ^ 32 % 2 ^ 32)) (cases_lt (k / 2 ^ 32 % 2 ^ 32) (k % 2 ^ 32)) (cases_lt MAX_VERTICES (k % 2 ^ 32))
+no_pick_is_none k is = no_link (k / 2 ^ 64) (k / 2 ^ 32 % 2 ^ 32) (k % 2 ^ 32) (cases_lt (k / 2 ^ 64) (2 ^ 64)) (cases_lt 0 (k / 2 ^ 32 % 2 ^ 32)) (cases_lt (k / 2 ^ 32 % 2 ^ 32) (k % 2 ^ 32)) (cases_lt MAX_VERTICES (k % 2 ^ 32))
     (rw is (omega arith))
 
 -- the fields in the number of a link
@@ -62,21 +62,21 @@ has_fields l k is =
       few = subst (λ (a : ℕ). a < 2 ^ 64) (sym fields.0) few;
     }
 
-link_told : (l : Link) (above low high : ℕ) (a : (above < 2 ^ 64) ⊎ (2 ^ 64 ≤ above)) (b : (0 < low) ⊎ (low ≤ 0)) (c : (low < high) ⊎ (high ≤ low)) (d : (MAX_VERTICES < high) ⊎ (high ≤ MAX_VERTICES))
+is_link : (l : Link) (above low high : ℕ) (a : (above < 2 ^ 64) ⊎ (2 ^ 64 ≤ above)) (b : (0 < low) ⊎ (low ≤ 0)) (c : (low < high) ⊎ (high ≤ low)) (d : (MAX_VERTICES < high) ⊎ (high ≤ MAX_VERTICES))
     → pos above ≡ l.weight +ℤ pos (2 ^ 63) → low ≡ l.low → high ≡ l.high → above < 2 ^ 64 → link_of above low high a b c d ≡ Some l
-link_told l above low high (inl a) (inl b) (inl c) (inr d) is_weight is_low is_high few =
+is_link l above low high (inl a) (inl b) (inl c) (inr d) is_weight is_low is_high few =
     ap Some (link_eq (record { weight = pos above -ℤ pos (2 ^ 63); low = low; high = high; from_one = b; ascending = c; in_limit = d; weight_fits = weight_fits above a }) l (omega (arith, ints, is_weight)) is_low is_high)
-link_told l above low high (inl a) (inl b) (inl c) (inl d) is_weight is_low is_high few = absurd (omega (arith, d, is_high, l.in_limit))
-link_told l above low high (inl a) (inl b) (inr c) d is_weight is_low is_high few = absurd (omega (arith, c, is_low, is_high, l.ascending))
-link_told l above low high (inl a) (inr b) c d is_weight is_low is_high few = absurd (omega (arith, b, is_low, l.from_one))
-link_told l above low high (inr a) b c d is_weight is_low is_high few = absurd (omega (arith, a, few))
+is_link l above low high (inl a) (inl b) (inl c) (inl d) is_weight is_low is_high few = absurd (omega (arith, d, is_high, l.in_limit))
+is_link l above low high (inl a) (inl b) (inr c) d is_weight is_low is_high few = absurd (omega (arith, c, is_low, is_high, l.ascending))
+is_link l above low high (inl a) (inr b) c d is_weight is_low is_high few = absurd (omega (arith, b, is_low, l.from_one))
+is_link l above low high (inr a) b c d is_weight is_low is_high few = absurd (omega (arith, a, few))
 
--- the number of a link tells it
-pub key_told : (l : Link) (k : ℕ) → IsKeyNumber l k → pick_in k ≡ Some l
+-- the number of a link stands for it
+pub key_is_pick : (l : Link) (k : ℕ) → IsKeyNumber l k → pick_in k ≡ Some l
 unfolding pick_in
-key_told l k is =
+key_is_pick l k is =
     let fields = has_fields l k is in
-    link_told l (k / 2 ^ 64) (k / 2 ^ 32 % 2 ^ 32) (k % 2 ^ 32) (cases_lt (k / 2 ^ 64) (2 ^ 64)) (cases_lt 0 (k / 2 ^ 32 % 2 ^ 32)) (cases_lt (k / 2 ^ 32 % 2 ^ 32) (k % 2 ^ 32)) (cases_lt MAX_VERTICES (k % 2 ^ 32))
+    is_link l (k / 2 ^ 64) (k / 2 ^ 32 % 2 ^ 32) (k % 2 ^ 32) (cases_lt (k / 2 ^ 64) (2 ^ 64)) (cases_lt 0 (k / 2 ^ 32 % 2 ^ 32)) (cases_lt (k / 2 ^ 32 % 2 ^ 32) (k % 2 ^ 32)) (cases_lt MAX_VERTICES (k % 2 ^ 32))
     fields.above fields.low fields.high fields.few
 
 -- no link has the number of no pick
@@ -91,54 +91,54 @@ below_is_less l m j k l_is m_is below =
     omega (arith, ints, ranks, l_is, m_is)
 
 -- so the lesser of a pick's number and a link's is that of the lesser of the two
-pub lesser_told : (k m : ℕ) (l : Link) → IsPickNumber k → IsKeyNumber l m → IsPickNumber (min k m) × IsLesserOf (pick_in k) l (pick_in (min k m))
-lesser_told k m l (inl none) l_is =
+pub lesser_is_min : (k m : ℕ) (l : Link) → IsPickNumber k → IsKeyNumber l m → IsPickNumber (min k m) × IsLesserOf (pick_in k) l (pick_in (min k m))
+lesser_is_min k m l (inl none) l_is =
     let less : min k m ≡ m = let below = key_below_no_pick l m l_is in omega (arith, none, below) in
     let is : IsKeyNumber l (min k m) = subst (IsKeyNumber l) (sym less) l_is in
-    (inr (l, is), rw (no_pick_told k none, key_told l (min k m) is) refl)
-lesser_told k m l (inr (n, n_is)) l_is = elim (cases_lt m k) [
+    (inr (l, is), rw (no_pick_is_none k none, key_is_pick l (min k m) is) refl)
+lesser_is_min k m l (inr (n, n_is)) l_is = elim (cases_lt m k) [
   | inl less ↦
       let is : IsKeyNumber l (min k m) = subst (IsKeyNumber l) (let e : m ≡ min k m = omega (arith, less) in e) l_is in
-      (inr (l, is), rw (key_told n k n_is, key_told l (min k m) is) (inr (refl, λ below. let lt = below_is_less n l k m n_is l_is below in absurd (omega (arith, lt, less)))))
+      (inr (l, is), rw (key_is_pick n k n_is, key_is_pick l (min k m) is) (inr (refl, λ below. let lt = below_is_less n l k m n_is l_is below in absurd (omega (arith, lt, less)))))
   | inr ge ↦
       let is : IsKeyNumber n (min k m) = subst (IsKeyNumber n) (let e : k ≡ min k m = omega (arith, ge) in e) n_is in
-      (inr (n, is), rw (key_told n k n_is, key_told n (min k m) is) (inl (refl, λ below. let lt = below_is_less l n m k l_is n_is below in absurd (omega (arith, lt, ge)))))
+      (inr (n, is), rw (key_is_pick n k n_is, key_is_pick n (min k m) is) (inl (refl, λ below. let lt = below_is_less l n m k l_is n_is below in absurd (omega (arith, lt, ge)))))
 ]
 
--- the pick that a number tells, made of its fields
-pub told : (k : ℕ) (x : Link) → IsPickNumber k → k ≢ no_pick → pos (k / 2 ^ 64) ≡ x.weight +ℤ pos (2 ^ 63) → k / 2 ^ 32 % 2 ^ 32 ≡ x.low → k % 2 ^ 32 ≡ x.high → Some x ≡ pick_in k
-told k x (inl none) some above low high = absurd (some none)
-told k x (inr (l, is)) some above low high =
+-- the pick that a number stands for, made of its fields
+pub pick_is : (k : ℕ) (x : Link) → IsPickNumber k → k ≢ no_pick → pos (k / 2 ^ 64) ≡ x.weight +ℤ pos (2 ^ 63) → k / 2 ^ 32 % 2 ^ 32 ≡ x.low → k % 2 ^ 32 ≡ x.high → Some x ≡ pick_in k
+pick_is k x (inl none) some above low high = absurd (some none)
+pick_is k x (inr (l, is)) some above low high =
     let fields = has_fields l k is in
     let one : x ≡ l = link_eq x l (omega (arith, ints, above, fields.above)) (sym low ∙ fields.low) (sym high ∙ fields.high) in
-    ap Some one ∙ sym (key_told l k is)
+    ap Some one ∙ sym (key_is_pick l k is)
 
--- two numbers of picks are equal just where they tell the same pick
-pub same_told : (j k : ℕ) → IsPickNumber j → IsPickNumber k → (j ≡ k) ↔ (pick_in j ≡ pick_in k)
-same_told j k j_is k_is = (λ same. ap pick_in same, back j_is k_is)
+-- two numbers of picks are equal just where they stand for the same pick
+pub same_pick : (j k : ℕ) → IsPickNumber j → IsPickNumber k → (j ≡ k) ↔ (pick_in j ≡ pick_in k)
+same_pick j k j_is k_is = (λ same. ap pick_in same, back j_is k_is)
   where
     back : IsPickNumber j → IsPickNumber k → pick_in j ≡ pick_in k → j ≡ k
     back (inl none) (inl none') same = none ∙ sym none'
-    back (inl none) (inr (l, is)) same = let wrong : None ≡ Some l = sym (no_pick_told j none) ∙ same ∙ key_told l k is in absurd (cc)
-    back (inr (l, is)) (inl none) same = let wrong : Some l ≡ None = sym (key_told l j is) ∙ same ∙ no_pick_told k none in absurd (cc)
+    back (inl none) (inr (l, is)) same = let wrong : None ≡ Some l = sym (no_pick_is_none j none) ∙ same ∙ key_is_pick l k is in absurd (cc)
+    back (inr (l, is)) (inl none) same = let wrong : Some l ≡ None = sym (key_is_pick l j is) ∙ same ∙ no_pick_is_none k none in absurd (cc)
     back (inr (l, is)) (inr (m, m_is)) same =
-        let both : Some l ≡ Some m = sym (key_told l j is) ∙ same ∙ key_told m k m_is in
+        let both : Some l ≡ Some m = sym (key_is_pick l j is) ∙ same ∙ key_is_pick m k m_is in
         let one : l ≡ m = cc in
         let equal : pos j ≡ pos k = is ∙ ap (λ (x : Link). wide_key x +ℤ pos (2 ^ 127)) one ∙ sym m_is in
         cc
 
--- the numbers of no picks are those that tell none
+-- the numbers of no picks are those that stand for none
 pub none_where_no_picks : (numbers : List ℕ) → All IsPickNumber numbers → All (λ k. k ≡ no_pick) numbers ↔ AreNoPicks (map pick_in numbers)
 none_where_no_picks numbers are = (to, back)
   where
     to : All (λ k. k ≡ no_pick) numbers → AreNoPicks (map pick_in numbers)
     to none i d lt =
         let within : i < length numbers = omega (arith, lt, length-map numbers pick_in) in
-        get_or-map pick_in numbers i no_pick d within ∙ no_pick_told (get_or numbers i no_pick) (none i no_pick within)
+        get_or-map pick_in numbers i no_pick d within ∙ no_pick_is_none (get_or numbers i no_pick) (none i no_pick within)
 
     at : (k : ℕ) → IsPickNumber k → pick_in k ≡ None → k ≡ no_pick
-    at k (inl none) told_none = none
-    at k (inr (l, is)) told_none = let wrong : Some l ≡ None = sym (key_told l k is) ∙ told_none in absurd (cc)
+    at k (inl none) is_none = none
+    at k (inr (l, is)) is_none = let wrong : Some l ≡ None = sym (key_is_pick l k is) ∙ is_none in absurd (cc)
 
     back : AreNoPicks (map pick_in numbers) → All (λ k. k ≡ no_pick) numbers
     back none i d lt = at (get_or numbers i d) (are i d lt) (sym (get_or-map pick_in numbers i d None lt) ∙ none i None (omega (arith, lt, length-map numbers pick_in)))
@@ -173,7 +173,7 @@ module _ (labels numbers : List ℕ) (l : Link) (m x y x' y' : ℕ) (are : AreLa
       (omega (arith, low_in.at_most_itself, l.ascending, end, long, same, l.from_one, a_one), omega (arith, high_in.at_most_itself, end, long, same, l.from_one, b_one, l.ascending))
 
   first : IsPickNumber x' × IsLesserOf (pick_in x) l (pick_in x')
-  first = subst (λ k. IsPickNumber k × IsLesserOf (pick_in x) l (pick_in k)) (sym x'_is) (lesser_told x m l (subst IsPickNumber (sym x_is) (all a x places.0)) m_is)
+  first = subst (λ k. IsPickNumber k × IsLesserOf (pick_in x) l (pick_in k)) (sym x'_is) (lesser_is_min x m l (subst IsPickNumber (sym x_is) (all a x places.0)) m_is)
 
   all_once : All IsPickNumber once
   all_once = All-set IsPickNumber numbers a x' first.0 all
@@ -182,26 +182,26 @@ module _ (labels numbers : List ℕ) (l : Link) (m x y x' y' : ℕ) (are : AreLa
   b_once = omega (arith, places.1, length-set numbers a x')
 
   second : IsPickNumber y' × IsLesserOf (pick_in y) l (pick_in y')
-  second = subst (λ k. IsPickNumber k × IsLesserOf (pick_in y) l (pick_in k)) (sym y'_is) (lesser_told y m l (subst IsPickNumber (sym y_is) (all_once b y b_once)) m_is)
+  second = subst (λ k. IsPickNumber k × IsLesserOf (pick_in y) l (pick_in k)) (sym y'_is) (lesser_is_min y m l (subst IsPickNumber (sym y_is) (all_once b y b_once)) m_is)
 
   pub numbers_counted : All IsPickNumber counted_numbers
   numbers_counted = All-set IsPickNumber once b y' second.0 all_once
 
-  told_once : map pick_in once ≡ set (map pick_in numbers) a (pick_in x')
-  told_once = map-set pick_in numbers a x'
+  picks_once : map pick_in once ≡ set (map pick_in numbers) a (pick_in x')
+  picks_once = map-set pick_in numbers a x'
 
   pub picks_counted : AreCounted labels l (map pick_in numbers) (map pick_in counted_numbers)
   picks_counted =
       let best = map pick_in numbers in
-      let told_twice : map pick_in counted_numbers ≡ set (set best a (pick_in x')) b (pick_in y') = map-set pick_in once b y' ∙ ap (λ ps. set ps b (pick_in y')) told_once in
+      let picks_twice : map pick_in counted_numbers ≡ set (set best a (pick_in x')) b (pick_in y') = map-set pick_in once b y' ∙ ap (λ ps. set ps b (pick_in y')) picks_once in
       let at_a : pick_in x ≡ get_or best a (pick_in x) = sym (get_or-map pick_in numbers a x (pick_in x) places.0 ∙ ap pick_in (sym x_is)) in
-      let at_b : pick_in y ≡ get_or (set best a (pick_in x')) b (pick_in y) = sym (ap (λ ps. get_or ps b (pick_in y)) (sym told_once) ∙ get_or-map pick_in once b y (pick_in y) b_once ∙ ap pick_in (sym y_is)) in
-      subst (AreCounted labels l best) (sym told_twice)
+      let at_b : pick_in y ≡ get_or (set best a (pick_in x')) b (pick_in y) = sym (ap (λ ps. get_or ps b (pick_in y)) (sym picks_once) ∙ get_or-map pick_in once b y (pick_in y) b_once ∙ ap pick_in (sym y_is)) in
+      subst (AreCounted labels l best) (sym picks_twice)
       (set_counted labels l best (pick_in x) (pick_in y) (pick_in x') (pick_in y') are end long apart at_a first.1 at_b second.1)
 
 -- so many numbers of no pick
-pub no_picks_told : (n : ℕ) (numbers : List ℕ) → numbers ≡ replicate n no_pick → AreNoPicks (map pick_in numbers)
-no_picks_told n numbers is = λ i d lt.
+pub no_picks_are_none : (n : ℕ) (numbers : List ℕ) → numbers ≡ replicate n no_pick → AreNoPicks (map pick_in numbers)
+no_picks_are_none n numbers is = λ i d lt.
     let long : length numbers ≡ n = ap length is ∙ length-replicate n no_pick in
     let within : i < length numbers = omega (arith, lt, length-map numbers pick_in) in
-    get_or-map pick_in numbers i no_pick d within ∙ no_pick_told (get_or numbers i no_pick) (ap (λ ks. get_or ks i no_pick) is ∙ get_or-replicate n i no_pick no_pick (omega (arith, within, long)))
+    get_or-map pick_in numbers i no_pick d within ∙ no_pick_is_none (get_or numbers i no_pick) (ap (λ ks. get_or ks i no_pick) is ∙ get_or-replicate n i no_pick no_pick (omega (arith, within, long)))

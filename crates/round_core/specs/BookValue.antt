@@ -109,7 +109,7 @@ pub record CanCount (cut : List (List Link)) (labels : List ℕ) (answers : List
   pub ends : All (EndsUpTo (length labels)) cut
   pub right : All (λ (a : AnswerValue). IsRight a.round cut labels a) answers
 
--- the light offers of a shard that is missing, told of this round and for that shard, are no answer to refuse
+-- the light offers of a shard that is missing, in an answer of this round and for that shard, are no answer to refuse
 abbrev pub LightOffersAreTaken : Type 0
 LightOffersAreTaken =
     (p : BookValue) (s : ℕ) (a : AnswerValue) → is_taken p s ≡ false → a.round ≡ p.round → a.shard ≡ s

@@ -44,7 +44,7 @@ link_of above low high (inl few) (inl from_one) (inl ascending) (inr in_limit) =
     Some (record { weight = pos above -ℤ pos (2 ^ 63); low = low; high = high; from_one = from_one; ascending = ascending; in_limit = in_limit; weight_fits = weight_fits above few })
 link_of above low high _ _ _ _ = None
 
--- the pick that a number tells: the link whose key has the number, if there is one
+-- the pick that a number stands for: the link whose key has the number, if there is one
 unfoldable pub pick_in : ℕ → Option Link
 pick_in k =
     let above : ℕ = k / 2 ^ 64 in

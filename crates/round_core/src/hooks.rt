@@ -11,7 +11,7 @@ use std::alloc::{AllocError, Allocator};
 
 /// The labels of the next round: each vertex gets the least vertex that the old components and the picks join it to.
 ///
-/// The picks are those of a book with these labels. The components that the old labels tell are made one along the
+/// The picks are those of a book with these labels. The components that the old labels give are made one along the
 /// picks, one pick after the other, and where two meet, the smaller one is relabelled. A pick whose ends are joined
 /// already, as one that two labels share is the second time, changes nothing; it doesn't matter whether picks are least.
 /// The only error is want of memory.

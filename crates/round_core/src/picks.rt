@@ -273,7 +273,7 @@ fn key_number(link: Link) -> u128
     weight * PER_WEIGHT + u128::from(link.low) * PER_LOW + u128::from(link.high)
 }
 
-// The pick that a number tells.
+// The pick that a number stands for.
 #[inline]
 fn pick_of_number(number: u128) -> Option<Link>
     requires { IsPickNumber number }

@@ -386,7 +386,7 @@ fn take_each<A: Allocator>(
     Ok(())
 }
 
-// Gives each root its parent's parent in place of its parent, and tells whether one of them is another. It takes no branch
+// Gives each root its parent's parent in place of its parent, and says whether one of them is another. It takes no branch
 // on what it looks up.
 fn jump(roots: &[u32], parents: &mut [u32]) -> bool
     requires { ArePointers roots.now parents.old }

@@ -1,4 +1,4 @@
--- The labels that a set of links gives the vertices 1 to n, and what links join over components that labels tell.
+-- The labels that a set of links gives the vertices 1 to n, and what links join over components that labels give.
 use Rattle.std.specs.Prelude.{◌≡◌, ℕ, ◌≤◌, ◌⊎◌, List, [], ◌∷◌, length}
 use Rattle.std.specs.List.{AllByRecursion}
 use Rattle.link_key.specs.declared.links.Link.{Link}
@@ -27,7 +27,7 @@ IsWalkOver labels u (l ∷ walk) v =
     ((label_of labels u ≡ label_of labels l.low) × IsWalkOver labels l.high walk v)
     ⊎ ((label_of labels u ≡ label_of labels l.high) × IsWalkOver labels l.low walk v)
 
--- the components that the labels tell and the links of the set join u and v
+-- the components that the labels give and the links of the set join u and v
 abbrev pub JoinsOver : List ℕ → LinkSet → ℕ → ℕ → Type 0
 JoinsOver labels S u v = (walk : List Link) × AllByRecursion S walk × IsWalkOver labels u walk v
 
@@ -37,7 +37,7 @@ pub record IsLeastJoinedOver (n : ℕ) (labels : List ℕ) (S : LinkSet) (v u : 
   pub joined : JoinsOver labels S v u
   pub least : (w : ℕ) → IsVertex n w → JoinsOver labels S v w → u ≤ w
 
--- the new labels join the components that the old ones tell by the links of a set: each vertex gets the least vertex
+-- the new labels join the components that the old ones give by the links of a set: each vertex gets the least vertex
 -- that the old components and the set join it to
 pub record IsRelabelling (n : ℕ) (old : List ℕ) (S : LinkSet) (new : List ℕ) : Type 0 where
   pub each_vertex : length new ≡ n

@@ -1,4 +1,4 @@
--- The laws of the rounds, each a statement about the definitions alone. A set of links is finite, so the laws tell it by
+-- The laws of the rounds, each a statement about the definitions alone. A set of links is finite, so the laws give it by
 -- a list: of its members, or of the hearings that name them.
 use Rattle.std.specs.Prelude.{◌≡◌, ◌≢◌, ℕ, suc, ◌≤◌, max, ◌^◌, ◌⊎◌, ◌↔◌, List, [], ◌++◌, All, Contains, flat_map, IsPermutation}
 use Rattle.limits.specs.declared.TheConstants.{MAX_VERTICES}
@@ -180,7 +180,7 @@ RelabellingIsLabels =
 
 -- ---- one round over any offers
 
--- a law of each set of links that a list tells: the members of a list of links, or what the offers that were heard name
+-- a law of each set of links that a list gives: the members of a list of links, or what the offers that were heard name
 abbrev pub OfEachSet : (LinkSet → Type 0) → Type 0
 OfEachSet Law = ((links : List Link) → Law (Contains links)) × ((heard : List Hearing) → Law (IsNamed heard))
 
@@ -205,7 +205,7 @@ PicksCloseNoCycle offered =
 
 -- ---- the least of two sets together
 
--- a law of each two sets that lists tell, and of the set that the two lists end to end tell
+-- a law of each two sets that lists give, and of the set that the two lists end to end give
 abbrev pub OfEachUnion : (LinkSet → LinkSet → LinkSet → Type 0) → Type 0
 OfEachUnion Law =
     ((first second : List Link) → Law (Contains first) (Contains second) (Contains (first ++ second)))

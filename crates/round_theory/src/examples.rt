@@ -4,7 +4,7 @@ ghost use Rattle.round_theory.specs.Examples.{OneLinkJoinsItsEnds, TwoSidesAreFo
 
 use crate::laws;
 
-/// One link joins its ends and no third vertex, as the labels tell.
+/// One link joins its ends and no third vertex, as the labels say.
 pub fn one_link()
     ensures { OneLinkJoinsItsEnds }
 {

@@ -7,7 +7,7 @@
 //! ```
 //!
 //! What it promises:
-//! - A [`ShardSet`] holds shards below `MAX_SHARDS`; contracts see its words, of which `has_shard` tells whether a shard
+//! - A [`ShardSet`] holds shards below `MAX_SHARDS`; contracts see its words, of which `has_shard` says whether a shard
 //!   is in it.
 //! - `insert` and `remove` change what is said of their one shard and of no other.
 //!

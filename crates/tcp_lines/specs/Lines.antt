@@ -1,4 +1,4 @@
--- What a line over a connection tells.
+-- What is known of a line over a connection.
 use Rattle.std.specs.Prelude.{ℕ, None}
 use Rattle.ports.specs.declared.line.Line as Line
 use Rattle.ports.specs.Lines.{LineState}
@@ -12,7 +12,7 @@ pub record TcpLineState : Type 0 where
 abbrev pub unused : TcpLineState
 unused = record { failures = 0; ends = 0 }
 
--- it tells nothing of its bytes
+-- none of its bytes is known
 abbrev pub line_of : TcpLineState → LineState
 line_of line = record { sent = None; got = None; failures = line.failures; ends = line.ends }
 

@@ -10,10 +10,10 @@
 //! ```
 //!
 //! What it promises:
-//! - A [`TcpLine`] counts each failure that it answers and each end, 0 at first. It tells nothing of the bytes of its
+//! - A [`TcpLine`] counts each failure that it answers and each end, 0 at first. It says nothing of the bytes of its
 //!   socket, which are for the system to say, and is never known to be faithful.
 //! - [`Workers::start`] gives at most as many lines as were asked for, unused ones, and there are just as many threads.
-//! - Only tested: a call fails only where its stream did, what one end writes the other reads, [`pair`] tells a
+//! - Only tested: a call fails only where its stream did, what one end writes the other reads, [`pair`] refuses a
 //!   stranger, and a worker's number, by clauses below [`limits::MAX_WORKERS`], is the place of its line.
 //!
 //! Where to start a change: `line` for what a line does, `pairs` for how a connection is made, `workers` for the

@@ -13,7 +13,7 @@ IsFoundOf number ran (Fails k) = (k ≡ number) × (ran.live ≡ 0) × (ran.aske
 IsFoundOf number ran (Each k) = (k + 1 ≡ number) × (ran.live ≡ 0) × (ran.asked < number) × (ran.well ≡ true)
 IsFoundOf number ran More = ⊥
 
--- what may be told where at most so many allocations are refused in turn: fewer allocations than that, or the number of one of them
+-- what may be found where at most so many allocations are refused in turn: fewer allocations than that, or the number of one of them
 abbrev pub IsWithin : ℕ → Found → Type 0
 IsWithin most (Each k) = k < most
 IsWithin most (Passes k) = (0 < k) × (k ≤ most)

@@ -4,7 +4,7 @@ ghost use Rattle.test_memory.specs.Refused.{IsSaidOf};
 use crate::counter::Counter;
 use crate::refusals::Refusals;
 
-// Numbers the allocations from 1 as they are asked for, and tells which are refused.
+// Numbers the allocations from 1 as they are asked for, and says which are refused.
 #[derive(Drop)]
 pub(crate) struct Gate {
     asked: Counter,

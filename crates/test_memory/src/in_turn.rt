@@ -78,7 +78,7 @@ where
     E: Drop,
     F: Fn(&Refusing<B>) -> Result<(), E>,
     requires callable { F.IsAlwaysCallable work }
-    ensures tells { IsWithin most result }
+    ensures within { IsWithin most result }
 {
     for before in 0..most {
         let number = before + 1;

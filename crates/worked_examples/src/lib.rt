@@ -11,7 +11,7 @@
 //!   plain_runs      a file, and a forest's own text, to its forest text
 //!   again           a forest's text, run again: the premise of that promise is met
 //!   totals          what forests weigh
-//!   fault_texts     what each fault, and a report, is told as
+//!   fault_texts     the text of each fault, and of a report
 //!   sizes           each call at and past the size of every inner piece
 //!   memory_of_graphs    what a reader, and a forest of distinct links, ask for, by an allocator that refuses
 //! ```

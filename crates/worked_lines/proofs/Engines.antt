@@ -4,12 +4,12 @@ use Rattle.std.proofs.lemmas.Bool.{cases_lt}
 use Rattle.std.proofs.lemmas.List.{get_or_append_left, get_or_push}
 use Rattle.std.proofs.lemmas.List.Elements.{All-nil, All-push}
 use Rattle.byte_streams.specs.Streams.{SourceState, SinkState, only_held}
-use Rattle.byte_streams.proofs.Streaming.{gave_to_end, took_told}
+use Rattle.byte_streams.proofs.Streaming.{gave_to_end, took_known}
 use Rattle.gr_text.specs.ForestText.{forest_text}
 use Rattle.gr_text.specs.Graph.{GraphValue}
 use Rattle.link_key.specs.declared.links.Link.{Link}
 use Rattle.ports.specs.EngineLines.{EngineLineState, line_of, engine_line, IsEngineLine}
-use Rattle.ports.specs.Lines.{IsFresh, TellsBytes}
+use Rattle.ports.specs.Lines.{IsFresh, HasKnownBytes}
 use Rattle.forest_run.specs.Files.{IsFileOf, IsForestTextOf}
 use Rattle.forest_run.specs.Outcomes.{streams, IsDone, IsLeast}
 use Rattle.forest_run.specs.LinesRun.{IsUnhindered}
@@ -21,13 +21,13 @@ abbrev pub AreEngines : List EngineLineState → Type 0
 AreEngines lines = AreServed engine_line lines
 
 pub no_engines : AreEngines []
-no_engines = (All-nil (λ line. IsFresh (line_of line) × TellsBytes (line_of line)), λ worker d b. absurd (omega arith))
+no_engines = (All-nil (λ line. IsFresh (line_of line) × HasKnownBytes (line_of line)), λ worker d b. absurd (omega arith))
 
--- a line to an engine tells all its bytes, and one more stands for the worker of the next number
+-- of a line to an engine all bytes are known, and one more stands for the worker of the next number
 pub engine_more : (lines : List EngineLineState) (line : EngineLineState) (number : ℕ) → number ≡ length lines → AreEngines lines → IsEngineLine number line → IsFresh (line_of line)
     → AreEngines (lines ++ line ∷ [])
 engine_more lines line number at served is fresh = (
-  All-push (λ l. IsFresh (line_of l) × TellsBytes (line_of l)) lines line served.0 (fresh, record { sent = refl; got = refl }),
+  All-push (λ l. IsFresh (line_of l) × HasKnownBytes (line_of l)) lines line served.0 (fresh, record { sent = refl; got = refl }),
   λ worker d b. elim (cases_lt worker (length lines)) [
     | inl before ↦ subst (IsEngineLine worker) (sym (get_or_append_left lines (line ∷ []) d worker before)) (served.1 worker d before)
     | inr past ↦
@@ -37,15 +37,15 @@ engine_more lines line number at served is fresh = (
   ],
 )
 
--- where a source told these bytes and an empty sink took the forest's text, that is the text of their forest
+-- where a source had these bytes and an empty sink took the forest's text, that is the text of their forest
 pub text_is : (says : GraphValue → List Link → Type 0) (bytes text : List ℕ) (s t : SourceState) (a b : SinkState)
     → s.left ≡ Some bytes → a.held ≡ Some [] → b.held ≡ Some text → IsDone IsLeast says (streams s a) (streams t b) → IsForestTextOf bytes text
-text_is says bytes text s t a b told empty held ran =
-    let same : ran.bytes ≡ bytes = sym (gave_to_end 0 1 bytes ran.bytes s t told (omega arith) ran.read) in
-    let out = took_told 0 [] (forest_text ran.graph.vertices ran.forest) a b empty ran.written in
+text_is says bytes text s t a b known empty held ran =
+    let same : ran.bytes ≡ bytes = sym (gave_to_end 0 1 bytes ran.bytes s t known (omega arith) ran.read) in
+    let out = took_known 0 [] (forest_text ran.graph.vertices ran.forest) a b empty ran.written in
     (ran.graph, ran.forest, record { file = subst (λ (xs : List ℕ). IsFileOf xs ran.graph) same ran.file; least = ran.found_is }, cc)
 
--- a fault that fits a run into a sink that tells its bytes alone fits one into a sink that tells nothing
+-- a fault that fits a run into a sink whose bytes alone are known fits one into a sink of which nothing is known
 pub unhindered : (why : RunFault) (a b : SinkState) → IsUnhindered {X = Unit {0}} (Err why) a b → IsUnhindered {X = Unit {0}} (Err why) (only_held None) (only_held None)
 unhindered (fault.Read why) a b is = is
 unhindered (fault.Cut why) a b is = is

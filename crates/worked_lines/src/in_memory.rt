@@ -1,5 +1,5 @@
-//! A run over workers in memory: lines of which the promise of a run over lines speaks, a source that tells its bytes,
-//! and a sink that tells those that it took.
+//! A run over workers in memory: lines of which the promise of a run over lines speaks, and a source and a
+//! sink whose bytes are known.
 ghost use Rattle.std.specs.Prelude.{◌≡◌, ◌≤◌, None, length, All, IfOk};
 ghost use Rattle.limits.specs.declared.TheConstants.{MAX_WORKERS};
 ghost use Rattle.byte_streams.specs.Streams.{only_held};

@@ -9,7 +9,7 @@
 //!   engine                       what a worker hears, and whole sessions
 //!   sizes                        scans and engines at each size at which something in them changes
 //!   touched                      scans of a few links under many labels, one after the other
-//!   fault_texts                  what each fault of a session is told as
+//!   fault_texts                  the text of each fault of a session
 //!   refusals                     work whose allocations are refused in turn
 //!   memory_counts                an allocator that counts its blocks
 //!   memory_of_lists              which blocks live after a list was handed in

@@ -3,8 +3,8 @@
 //!
 //! ```text
 //!   streams, failing_devices     sources and sinks, and those that fail
-//!   given_streams                frames of a source that tells only what it gave
-//!   frames_codec                 frames and their bytes, each refusal, and what it is told as
+//!   given_streams                frames of a source of which only what it gave is known
+//!   frames_codec                 frames and their bytes, each refusal, and its text
 //!   memory_of_frames             which blocks of memory frames take, and which live after one is read
 //!   next_frames                  a frame behind an ask, whose labels come again or differ in one place
 //!   refused_in_turn              work whose allocations are refused in turn, with a flaw and without one

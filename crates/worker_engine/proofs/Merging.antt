@@ -117,14 +117,14 @@ bests_live links labels places table live are =
     }
 
 -- so has a pass over all links
-pub bests_whole : (links : List Link) (labels : List ℕ) (live : Option (Bor (List LiveLink))) (table : List Best) → IfSome live (λ told. AreLiveLinks links labels told.now)
+pub bests_whole : (links : List Link) (labels : List ℕ) (live : Option (Bor (List LiveLink))) (table : List Best) → IfSome live (λ listed. AreLiveLinks links labels listed.now)
     → AreBest links labels (place_in links live 0) (place_in links live (count_in links live)) table → AreBest links labels 0 (length links) table
 bests_whole links labels None table live_links are = are
-bests_whole links labels (Some told) table live_links are =
-    bests_live links labels (places_of told.now) table live_links.places (subst (λ k. AreBest links labels (get_or (places_of told.now) 0 (length links)) (get_or (places_of told.now) k (length links)) table) (sym (length-map told.now (λ (l : LiveLink). l.place))) are)
+bests_whole links labels (Some listed) table live_links are =
+    bests_live links labels (places_of listed.now) table live_links.places (subst (λ k. AreBest links labels (get_or (places_of listed.now) 0 (length links)) (get_or (places_of listed.now) k (length links)) table) (sym (length-map listed.now (λ (l : LiveLink). l.place))) are)
 
 -- places that are scanned ascend
-pub place_ascends : (links : List Link) (labels : List ℕ) (live : Option (Bor (List LiveLink))) (i j : ℕ) → IfSome live (λ told. AreLiveLinks links labels told.now) → i ≤ j
+pub place_ascends : (links : List Link) (labels : List ℕ) (live : Option (Bor (List LiveLink))) (i j : ℕ) → IfSome live (λ listed. AreLiveLinks links labels listed.now) → i ≤ j
     → place_in links live i ≤ place_in links live j
 place_ascends links labels None i j live_links le = le
-place_ascends links labels (Some told) i j live_links le = live_ascends links labels 0 (length links) (places_of told.now) i j live_links.places le
+place_ascends links labels (Some listed) i j live_links le = live_ascends links labels 0 (length links) (places_of listed.now) i j live_links.places le

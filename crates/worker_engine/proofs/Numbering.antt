@@ -140,7 +140,7 @@ marks_set words i bit w new within read new_is =
     map-set marks_in words i new
     ∙ ap (set (marks_of words) i) (new_is ∙ ap (λ m. with_bit m bit) (ap marks_in read ∙ sym (get_or-map marks_in words i w 0 within)))
 
--- the number that a word tells
+-- the number that a word gives
 pub number_is : (words : List Word) (c : ℕ) (w : Word) → AreCounted words → (c - 1) / 64 < length words → w ≡ get_or words ((c - 1) / 64) w
     → w.before + count_ones (w.marks % (1 * 2 ^ ((c - 1) % 64) % 18446744073709551616)) + 1 ≡ number_of (marks_of words) c
 number_is words c w counted within read =
@@ -191,36 +191,36 @@ module _ (marks names : List ℕ) (d : ℕ) (d_is : IsMarked marks d) where
 pub label_has_word : (labels : List ℕ) (v words : ℕ) → AreLabels labels → IsVertex (length labels) v → words ≡ length labels / 64 + 1 → (label_of labels v - 1) / 64 < words
 label_has_word labels v words are vertex size = let is = label_vertex labels are v vertex in omega (arith, is.1, size)
 
--- one more word tells how many are marked before it
+-- one more word says how many are marked before it
 module _ (words : List Word) (i total : ℕ) (w : Word) (within : i < length words) (read : w ≡ get_or words i w) (total_is : total ≡ marked_in (marks_of words) i) where
-  abbrev told : Word
-  told = record { marks = w.marks; before = total }
+  abbrev noted : Word
+  noted = record { marks = w.marks; before = total }
 
-  pub told_marks : marks_of (set words i told) ≡ marks_of words
-  told_marks =
-      map-set marks_in words i told
+  pub noted_marks : marks_of (set words i noted) ≡ marks_of words
+  noted_marks =
+      map-set marks_in words i noted
       ∙ ap (set (marks_of words) i) (ap marks_in read ∙ sym (get_or-map marks_in words i w 0 within))
       ∙ set-get_or (marks_of words) i 0
 
-  pub told_total : total + count_ones w.marks ≡ marked_in (marks_of (set words i told)) (i + 1)
-  told_total =
+  pub noted_total : total + count_ones w.marks ≡ marked_in (marks_of (set words i noted)) (i + 1)
+  noted_total =
       let next : suc i ≡ i + 1 = omega arith in
       let here : w.marks ≡ get_or (marks_of words) i 0 = ap marks_in read ∙ sym (get_or-map marks_in words i w 0 within) in
       ap (λ n. total + count_ones n) here
       ∙ ap (λ n. n + count_ones (get_or (marks_of words) i 0)) total_is
       ∙ ap (marked_in (marks_of words)) next
-      ∙ ap (λ m. marked_in m (i + 1)) (sym told_marks)
+      ∙ ap (λ m. marked_in m (i + 1)) (sym noted_marks)
 
   pub told_before : ((k : ℕ) (d : Word) → k < i → (get_or words k d).before ≡ marked_in (marks_of words) k)
-      → (k : ℕ) (d : Word) → k < i + 1 → (get_or (set words i told) k d).before ≡ marked_in (marks_of (set words i told)) k
+      → (k : ℕ) (d : Word) → k < i + 1 → (get_or (set words i noted) k d).before ≡ marked_in (marks_of (set words i noted)) k
   told_before before k d lt = elim (cases_lt k i) [
     | inl less ↦
         let other : k ≢ i = omega (arith, less) in
-        ap (λ (x : Word). x.before) (get_or-set_other words i k told d other) ∙ before k d less ∙ ap (λ m. marked_in m k) (sym told_marks)
+        ap (λ (x : Word). x.before) (get_or-set_other words i k noted d other) ∙ before k d less ∙ ap (λ m. marked_in m k) (sym noted_marks)
     | inr le ↦
         let at : k ≡ i = omega (arith, le, lt) in
-        subst (λ n. (get_or (set words i told) n d).before ≡ marked_in (marks_of (set words i told)) n) (sym at)
-        (ap (λ (x : Word). x.before) (get_or-set_same words i told d within) ∙ total_is ∙ ap (λ m. marked_in m i) (sym told_marks))
+        subst (λ n. (get_or (set words i noted) n d).before ≡ marked_in (marks_of (set words i noted)) n) (sym at)
+        (ap (λ (x : Word). x.before) (get_or-set_same words i noted d within) ∙ total_is ∙ ap (λ m. marked_in m i) (sym noted_marks))
   ]
 
 -- a new name has a word

@@ -69,7 +69,7 @@ live_under labels shards all s = go (lookup (is_at (nat_cmp s)) shards) (all s)
   where
     go : (o : Option KeptShardState) → IfSome o IsAllLive → IfSome o (IsLive labels)
     go None none = tt
-    go (Some kept) live = subst (λ told. IfSome told (AreLiveLinks kept.links labels)) (sym live) tt
+    go (Some kept) live = subst (λ listed. IfSome listed (AreLiveLinks kept.links labels)) (sym live) tt
 
 -- what is quiet stays so under labels that coarsen
 pub under_coarser : (labels finer : List ℕ) (shards : List (ℕ × KeptShardState)) → Coarsens labels finer → AreAllUnder finer shards → AreAllUnder labels shards
@@ -77,11 +77,11 @@ under_coarser labels finer shards coarsens all s = go (lookup (is_at (nat_cmp s)
   where
     go : (o : Option KeptShardState) → IfSome o (IsLive finer) → IfSome o (IsLive labels)
     go None none = tt
-    go (Some kept) live = told kept.live live
+    go (Some kept) live = coarser kept.live live
       where
-        told : (live : Option (List LiveLink)) → IfSome live (AreLiveLinks kept.links finer) → IfSome live (AreLiveLinks kept.links labels)
-        told None none = tt
-        told (Some live) are = live_links_coarser kept.links labels finer live coarsens are
+        coarser : (live : Option (List LiveLink)) → IfSome live (AreLiveLinks kept.links finer) → IfSome live (AreLiveLinks kept.links labels)
+        coarser None none = tt
+        coarser (Some live) are = live_links_coarser kept.links labels finer live coarsens are
 
 -- a shard that is found
 pub live_there : (labels : List ℕ) (shards : List (ℕ × KeptShardState)) (s : ℕ) (kept : KeptShardState) → Some kept ≡ lookup (is_at (nat_cmp s)) shards → AreAllUnder labels shards → IsLive labels kept
@@ -114,5 +114,5 @@ module _ (old new : List (ℕ × KeptShardState)) (number : ℕ) (kept : KeptSha
   under_inserted labels live all s = subst (λ o. IfSome o (IsLive labels)) (sym (inserted s)) (go (is_at (nat_cmp number) s))
     where
       go : (b : Bool) → IfSome (cond b (Some kept) (lookup (is_at (nat_cmp s)) old)) (IsLive labels)
-      go true = subst (λ told. IfSome told (AreLiveLinks kept.links labels)) (sym live) tt
+      go true = subst (λ listed. IfSome listed (AreLiveLinks kept.links labels)) (sym live) tt
       go false = all s

@@ -24,7 +24,7 @@ use Rattle.worker_engine.specs.declared.session.Written.TheVariants.{Nothing, AF
 use Rattle.worker_engine.specs.declared.engine.hearing.Owed.{Owed}
 use Rattle.worker_engine.specs.declared.engine.hearing.Owed.TheVariants.{Reply, NoMemoryForAsk, NoMemoryForShard}
 use Rattle.worker_engine.specs.Serving.{Shelf, empty_shelf, shelf_with, shelf_after, IsReply, MayReply, IsWantOfMemory, AreReplyTo, MayFollow, AreReplies, MayWantMemory}
-use Rattle.worker_engine.specs.Served.{answer_bit, answers_in, fault_bit, faults_in, Heard, EndsWell, EndsAtRead, EndsAtLimit, EndsBy, IsTold, Stepped, ask_in, IsOwed, StandsFor, WroteFor, CutFor, CutOff, CutReply, Failed, Ungreeted}
+use Rattle.worker_engine.specs.Served.{answer_bit, answers_in, fault_bit, faults_in, Heard, EndsWell, EndsAtRead, EndsAtLimit, EndsBy, IsSortOf, Stepped, ask_in, IsOwed, StandsFor, WroteFor, CutFor, CutOff, CutReply, Failed, Ungreeted}
 use Rattle.worker_engine.proofs.Versions.{this_version, all_heard}
 use Rattle.worker_engine.proofs.Replying.{replies_more, shelf_after-append}
 
@@ -114,7 +114,7 @@ module _ (worker : ℕ) (source source' source'' : SourceState) (sink sink' sink
   pub so_far_more : (shelf shelf' : Shelf) (served served' : Served) (v : FrameValue) (written : Written) → IsLawful v
       → SoFar worker shelf served source source' sink sink' → Gave 0 0 (text_of v) source' source'' → Stepped v written shelf shelf' sink' sink''
       → served'.frames ≡ served.frames + 1
-      → ((now : List FrameValue) → IsTold written now → (served'.answers ≡ served.answers + answers_in now) × (served'.faults ≡ served.faults + faults_in now))
+      → ((now : List FrameValue) → IsSortOf written now → (served'.answers ≡ served.answers + answers_in now) × (served'.faults ≡ served.faults + faults_in now))
       → SoFar worker shelf' served' source source'' sink sink''
   so_far_more shelf shelf' served served' v written lawful so_far came step counted replied = record {
     frames = so_far.frames ++ v ∷ [];
@@ -123,8 +123,8 @@ module _ (worker : ℕ) (source source' source'' : SourceState) (sink sink' sink
     shelf_is = step.kept ∙ ap (λ (s : Shelf). shelf_with s v) so_far.shelf_is ∙ sym (shelf_after-append empty_shelf so_far.frames (v ∷ []));
     answered = replies_more so_far.frames so_far.replies step.now v so_far.answered (subst (λ (s : Shelf). MayFollow s v step.now) so_far.shelf_is step.may);
     frames_are = omega (arith, counted, so_far.frames_are, length-append so_far.frames (v ∷ []));
-    answers_are = omega (arith, (replied step.now step.told).0, so_far.answers_are, answers-append so_far.replies step.now);
-    faults_are = omega (arith, (replied step.now step.told).1, so_far.faults_are, faults-append so_far.replies step.now);
+    answers_are = omega (arith, (replied step.now step.sort).0, so_far.answers_are, answers-append so_far.replies step.now);
+    faults_are = omega (arith, (replied step.now step.sort).1, so_far.faults_are, faults-append so_far.replies step.now);
     gave = gave_frame so_far.frames v so_far.gave came;
     took = subst (λ (bytes : List ℕ). Took 0 bytes sink sink'') (more_owed so_far.replies step.now)
         (took_more 0 (text_of (HelloFrame VERSION worker) ++ texts_of so_far.replies) (texts_of step.now) sink sink' sink'' so_far.took step.took);
@@ -278,9 +278,9 @@ shard_wants shelf (FaultFrame a b c) none wants = absurd wants
 -- a fault was written for a reply
 pub fault_for : (result : Result Written ServeFault) (reply : FrameValue) (r t k : ℕ) (s s' : SinkState) → StandsFor reply (FaultFrame r t k)
     → IfOk result (λ w. w ≡ AFault) → OnOk result (Took 0 (text_of (FaultFrame r t k)) s s') → IfOk result (λ w. WroteFor reply w s s')
-fault_for (Ok w) reply r t k s s' stands told took =
-    record { v = FaultFrame r t k; stands = stands; told = subst (λ (x : Written). IsTold x (FaultFrame r t k ∷ [])) (sym told) (refl, refl, refl); took = took }
-fault_for (Err e) reply r t k s s' stands told took = tt
+fault_for (Ok w) reply r t k s s' stands sort took =
+    record { v = FaultFrame r t k; stands = stands; sort = subst (λ (x : Written). IsSortOf x (FaultFrame r t k ∷ [])) (sym sort) (refl, refl, refl); took = took }
+fault_for (Err e) reply r t k s s' stands sort took = tt
 
 pub fault_cut_for : (result : Result Written ServeFault) (reply : FrameValue) (r t k : ℕ) (s s' : SinkState) → StandsFor reply (FaultFrame r t k)
     → OnErr result (CutOff (text_of (FaultFrame r t k)) s s') → OnErr result (CutFor reply s s')
@@ -291,7 +291,7 @@ fault_cut_for (Err e) reply r t k s s' stands cut = record { v = FaultFrame r t 
 pub stepped_for : (result : Result Written ServeFault) (f reply : FrameValue) (shelf shelf' : Shelf) (s s' : SinkState) → shelf' ≡ shelf_with shelf f → AreReplyTo shelf f (reply ∷ [])
     → IfOk result (λ w. WroteFor reply w s s') → IfOk result (λ w. Stepped f w shelf shelf' s s')
 stepped_for (Ok w) f reply shelf shelf' s s' kept is wrote =
-    record { now = wrote.v ∷ []; kept = kept; may = may_stand shelf f reply wrote.v is wrote.stands; told = wrote.told; took = subst (λ (t : List ℕ). Took 0 t s s') (sym (texts-one wrote.v)) wrote.took }
+    record { now = wrote.v ∷ []; kept = kept; may = may_stand shelf f reply wrote.v is wrote.stands; sort = wrote.sort; took = subst (λ (t : List ℕ). Took 0 t s s') (sym (texts-one wrote.v)) wrote.took }
 stepped_for (Err e) f reply shelf shelf' s s' kept is wrote = tt
 
 pub failed_for : (result : Result Written ServeFault) (f reply : FrameValue) (shelf : Shelf) (s s' : SinkState) → AreReplyTo shelf f (reply ∷ [])
@@ -304,14 +304,14 @@ failed_for (Err e) f reply shelf s s' is write cut =
 -- there was no memory for an ask
 pub stepped_at_want : (result : Result Written ServeFault) (f : FrameValue) (shelf shelf' : Shelf) (r t : ℕ) (s s' : SinkState) → ask_in f ≡ Some (r, t) → shelf' ≡ shelf → MayWantMemory shelf f
     → IfOk result (λ w. w ≡ AFault) → OnOk result (Took 0 (text_of (FaultFrame r t 1)) s s') → IfOk result (λ w. Stepped f w shelf shelf' s s')
-stepped_at_want (Ok w) f shelf shelf' r t s s' ask same wants told took = record {
+stepped_at_want (Ok w) f shelf shelf' r t s s' ask same wants sort took = record {
   now = FaultFrame r t 1 ∷ [];
   kept = kept_at_ask shelf shelf' f r t ask same;
   may = may_want shelf f r t ask wants;
-  told = subst (λ (x : Written). IsTold x (FaultFrame r t 1 ∷ [])) (sym told) (refl, refl, refl);
+  sort = subst (λ (x : Written). IsSortOf x (FaultFrame r t 1 ∷ [])) (sym sort) (refl, refl, refl);
   took = subst (λ (b : List ℕ). Took 0 b s s') (sym (texts-one (FaultFrame r t 1))) took;
 }
-stepped_at_want (Err e) f shelf shelf' r t s s' ask same wants told took = tt
+stepped_at_want (Err e) f shelf shelf' r t s s' ask same wants sort took = tt
 
 pub failed_at_want : (result : Result Written ServeFault) (f : FrameValue) (shelf : Shelf) (r t : ℕ) (s s' : SinkState) → ask_in f ≡ Some (r, t) → MayWantMemory shelf f
     → IfErr result (λ e. e ≡ Write) → OnErr result (CutOff (text_of (FaultFrame r t 1)) s s') → IfErr result (λ e. Failed e f shelf s s')
@@ -326,7 +326,7 @@ failed_at_want (Err e) f shelf r t s s' ask wants write cut =
 pub stepped_with_none : {A : Type 0} (f : FrameValue) (shelf shelf' : Shelf) (owed : Owed A) (s : SinkState) → owed ≡ Reply None → IsOwed f shelf shelf' owed → Stepped f Nothing shelf shelf' s s
 stepped_with_none f shelf shelf' owed s is owes =
     let (kept, none, lawful) = subst (IsOwed f shelf shelf') is owes in
-    record { now = []; kept = kept; may = may_be_none shelf f none; told = refl; took = took_nothing s }
+    record { now = []; kept = kept; may = may_be_none shelf f none; sort = refl; took = took_nothing s }
 
 module _ {A : Type 0} (owed : Owed A) (reply : Frame A) (is : owed ≡ Reply (Some reply)) where
   pub owed_reply : (f : FrameValue) (shelf shelf' : Shelf) → IsOwed f shelf shelf' owed → (shelf' ≡ shelf_with shelf f) × AreReplyTo shelf f (value_of reply ∷ []) × AreLawful (value_of reply ∷ [])
@@ -353,10 +353,10 @@ module _ {A : Type 0} (owed : Owed A) (r t : ℕ) (is : owed ≡ NoMemoryForAsk 
 
   pub stepped_with_want : (result : Result Written ServeFault) (s s' : SinkState) → IfOk result (λ w. w ≡ AFault) → OnOk result (Took 0 (text_of (FaultFrame r t 1)) s s')
       → IfOk result (λ w. (f : FrameValue) (shelf shelf' : Shelf) → IsOwed f shelf shelf' owed → Stepped f w shelf shelf' s s')
-  stepped_with_want (Ok w) s s' told took = λ f shelf shelf' owes.
+  stepped_with_want (Ok w) s s' sort took = λ f shelf shelf' owes.
       let (same, ask, wants) = owed_want f shelf shelf' owes in
-      stepped_at_want (Ok w) f shelf shelf' r t s s' ask same wants told took
-  stepped_with_want (Err e) s s' told took = tt
+      stepped_at_want (Ok w) f shelf shelf' r t s s' ask same wants sort took
+  stepped_with_want (Err e) s s' sort took = tt
 
   pub failed_with_want : (result : Result Written ServeFault) (s s' : SinkState) → IfErr result (λ e. e ≡ Write) → OnErr result (CutOff (text_of (FaultFrame r t 1)) s s')
       → IfErr result (λ e. (f : FrameValue) (shelf shelf' : Shelf) → IsOwed f shelf shelf' owed → Failed e f shelf s s')
@@ -374,14 +374,14 @@ failed_with_shard f shelf shelf' owed s is owes =
 -- no frame was read
 module _ (worker limit : ℕ) (source source' source'' : SourceState) (sink sink' : SinkState) (shelf : Shelf) (served : Served) (fault : FrameFault)
     (so_far : SoFar worker shelf served source source' sink sink') (refused : IsReadRefused fault source' source'') where
-  pub stops_well : (result : Result Served ServeFault) → IfOk result (λ told. (told ≡ served) × (fault ≡ Ended)) → IfOk result (λ told. EndsWell worker told source source'' sink sink')
-  stops_well (Ok told) (same, is) =
+  pub stops_well : (result : Result Served ServeFault) → IfOk result (λ counts. (counts ≡ served) × (fault ≡ Ended)) → IfOk result (λ counts. EndsWell worker counts source source'' sink sink')
+  stops_well (Ok counts) (same, is) =
       subst (λ (x : Served). EndsWell worker x source source'' sink sink') (sym same)
       (ends_well worker source source' source'' sink sink' sink' shelf served so_far (subst (λ (f : FrameFault). IsReadRefused f source' source'') is refused))
   stops_well (Err e) over = tt
 
-  pub stops_by : (result : Result Served ServeFault) → IfErr result (λ told. (told ≡ Read fault) × (fault ≢ Ended)) → IfErr result (λ told. EndsBy worker limit told source source'' sink sink')
-  stops_by (Ok told) read = tt
+  pub stops_by : (result : Result Served ServeFault) → IfErr result (λ why. (why ≡ Read fault) × (fault ≢ Ended)) → IfErr result (λ why. EndsBy worker limit why source source'' sink sink')
+  stops_by (Ok why) read = tt
   stops_by (Err e) (same, inside) =
       subst (λ (x : ServeFault). EndsBy worker limit x source source'' sink sink') (sym same)
       (ends_at_read worker source source' source'' sink sink' sink' shelf served fault inside so_far refused)

@@ -60,12 +60,12 @@ abbrev pub packed : List ℕ → List LiveLink → List LiveLink
 packed labels [] = []
 packed labels (l ∷ live) = if label_of labels l.low == label_of labels l.high then packed labels live else relabelled labels l ∷ packed labels live
 
--- a shard's links, and which of them are live: all, or those that are told
+-- a shard's links, and which of them are live: all, or those that are listed
 pub record KeptShardState : Type 0 where
   pub links : List Link
   pub live : Option (List LiveLink)
 
--- a number that tells which numbers of vertices the ends of the links keep to
+-- a number by which it is known which numbers of vertices the ends of the links keep to
 abbrev pub IsGreatestEnd : List Link → ℕ → Type 0
 IsGreatestEnd links greatest = (n : ℕ) → EndsUpTo n links ↔ (greatest ≤ n)
 

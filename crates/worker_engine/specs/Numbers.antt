@@ -28,7 +28,7 @@ abbrev pub marked_in : List ℕ → ℕ → ℕ
 marked_in marks zero = 0
 marked_in marks (suc w) = marked_in marks w + count_ones (slice_index marks w)
 
--- each word tells how many are marked before it, and they are few
+-- each word says how many are marked before it, and they are few
 pub record AreCounted (words : List Word) : Type 0 where
   pub before : (w : ℕ) (d : Word) → w < length words → (slice_index_or words w d).before ≡ marked_in (marks_of words) w
   pub few : marked_in (marks_of words) (length words) ≤ 2 ^ 28

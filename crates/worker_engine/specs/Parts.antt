@@ -13,17 +13,17 @@ use Rattle.worker_engine.specs.declared.parts.Scanned.{Scanned}
 use Rattle.worker_engine.specs.declared.parts.Part.{Part}
 use Rattle.worker_engine.specs.Live.{AreLiveLinks, live_place}
 
--- links that a scan may pass over, and the live ones where these are told
+-- links that a scan may pass over, and the live ones where these are listed
 pub record CanScan (scanned : Scanned) : Type 0 where
   pub few_links : length scanned.links.now ≤ MAX_SHARD_LINKS
   pub ends : EndsUpTo (length scanned.labels.now) scanned.links.now
   pub labelled : AreLabels scanned.labels.now
-  pub live_links : IfSome scanned.live (λ told. AreLiveLinks scanned.links.now scanned.labels.now told.now)
+  pub live_links : IfSome scanned.live (λ listed. AreLiveLinks scanned.links.now scanned.labels.now listed.now)
 
 -- how many links it passes over
 abbrev pub count_in : List Link → Option (Bor (List LiveLink)) → ℕ
 count_in links None = length links
-count_in links (Some told) = length told.now
+count_in links (Some listed) = length listed.now
 
 abbrev pub count_of : Scanned → ℕ
 count_of scanned = count_in scanned.links.now scanned.live
@@ -31,7 +31,7 @@ count_of scanned = count_in scanned.links.now scanned.live
 -- the place of the next of them; the end of the list behind the last
 abbrev pub place_in : List Link → Option (Bor (List LiveLink)) → ℕ → ℕ
 place_in links None i = i
-place_in links (Some told) i = live_place links told.now i
+place_in links (Some listed) i = live_place links listed.now i
 
 abbrev pub place_at : Scanned → ℕ → ℕ
 place_at scanned i = place_in scanned.links.now scanned.live i

@@ -104,15 +104,15 @@ EndsBy worker limit TooMany source source' sink sink' = EndsAtLimit worker limit
 
 -- ---- one frame
 
--- what was written is told
-abbrev pub IsTold : Written → List FrameValue → Type 0
-IsTold Nothing now = now ≡ []
-IsTold AnAnswer now = (length now ≡ 1) × (answers_in now ≡ 1) × (faults_in now ≡ 0)
-IsTold AFault now = (length now ≡ 1) × (answers_in now ≡ 0) × (faults_in now ≡ 1)
+-- the frames are of the sort that was written: none, an answer, or a fault
+abbrev pub IsSortOf : Written → List FrameValue → Type 0
+IsSortOf Nothing now = now ≡ []
+IsSortOf AnAnswer now = (length now ≡ 1) × (answers_in now ≡ 1) × (faults_in now ≡ 0)
+IsSortOf AFault now = (length now ≡ 1) × (answers_in now ≡ 0) × (faults_in now ≡ 1)
 
 -- the counts of answers and faults went up by those of what was written
 abbrev pub CountsReplies : Written → Served → Served → Type 0
-CountsReplies written served served' = (now : List FrameValue) → IsTold written now
+CountsReplies written served served' = (now : List FrameValue) → IsSortOf written now
     → (served'.answers ≡ served.answers + answers_in now) × (served'.faults ≡ served.faults + faults_in now)
 
 -- a frame was heard, and what is owed for it was written
@@ -120,7 +120,7 @@ pub record Stepped (v : FrameValue) (written : Written) (shelf shelf' : Shelf) (
   pub now : List FrameValue
   pub kept : shelf' ≡ shelf_with shelf v
   pub may : MayFollow shelf v now
-  pub told : IsTold written now
+  pub sort : IsSortOf written now
   pub took : Took 0 (texts_of now) sink sink'
 
 -- the round and the shard of an ask
@@ -155,7 +155,7 @@ StandsFor reply v = v ≡ reply
 pub record WroteFor (reply : FrameValue) (written : Written) (sink sink' : SinkState) : Type 0 where
   pub v : FrameValue
   pub stands : StandsFor reply v
-  pub told : IsTold written (v ∷ [])
+  pub sort : IsSortOf written (v ∷ [])
   pub took : Took 0 (text_of v) sink sink'
 
 -- less than a text was written, and then a write failed

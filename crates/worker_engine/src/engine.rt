@@ -82,7 +82,7 @@ impl<A: Allocator + Copy> Engine<A> {
         ensures shelf { OnOk result (shelf_of self.new ≡ shelf_with (shelf_of self.old) (value_of frame)) }
         ensures reply { IfOk result (λ reply. AreReplyTo (shelf_of self.old) (value_of frame) (replies_in reply)) }
         ensures lawful { IfOk result (λ reply. AreLawful (replies_in reply)) }
-        ensures kept { OnErr result (self.new ≡ self.old) }
+        ensures unchanged { OnErr result (self.new ≡ self.old) }
         ensures wants_memory { OnErr result (MayWantMemory (shelf_of self.old) (value_of frame)) }
     {
         match frame {
@@ -173,7 +173,7 @@ fn reply_under<A: Allocator + Copy>(
     requires live { AreAllUnder labels.now shards.old.entries }
     ensures reply { IfOk result (λ reply. IsReply (shelf_of (shelf_list shards.old.entries) ask.shard) ask.round ask.shard labels.now (value_of reply)) }
     ensures lawful { IfOk result (λ reply. IsLawful (value_of reply)) }
-    ensures kept { shelf_list shards.new.entries ≡ shelf_list shards.old.entries }
+    ensures shelf { shelf_list shards.new.entries ≡ shelf_list shards.old.entries }
     ensures live { AreAllUnder labels.now shards.new.entries }
     ensures is_kept { OnErr result (IsSome (shelf_of (shelf_list shards.old.entries) ask.shard)) }
 {
@@ -191,7 +191,7 @@ fn make_live<A: Allocator>(
     last: &Labels<A>,
 )
     requires { AreAllUnder last.now shards.old.entries }
-    ensures kept { shelf_list shards.new.entries ≡ shelf_list shards.old.entries }
+    ensures shelf { shelf_list shards.new.entries ≡ shelf_list shards.old.entries }
     ensures live { AreAllUnder labels.now shards.new.entries }
 {
     if !labels.coarsens(last) {
@@ -201,7 +201,7 @@ fn make_live<A: Allocator>(
 
 // Makes all links of all shards live.
 fn make_all_live<A: Allocator>(shards: &mut BTreeMap<u32, KeptShard<A>, A>)
-    ensures kept { shelf_list shards.new.entries ≡ shelf_list shards.old.entries }
+    ensures shelf { shelf_list shards.new.entries ≡ shelf_list shards.old.entries }
     ensures live { AreAllLive shards.new.entries }
 {
     shards.retain(

@@ -2,17 +2,17 @@
 //! stand. And what a worker of version 1 may write.
 ghost use Rattle.worker_engine.specs.Examples.{AnswerOrCodeOne, CodeThreeOrCodeOne, CodeTwoAlone, CodeTwoAtFirst, FirstVersionAnswers, FirstVersionEnds};
 
-/// A shard that is kept may be answered, or told as code 1.
+/// An ask for a shard that is kept may get an answer, or code 1.
 pub fn kept_shard()
     ensures { AnswerOrCodeOne }
 {}
 
-/// A shard that is kept, of which ends have no label, may be told as code 3, or as code 1.
+/// An ask for a shard that is kept, of which ends have no label, may get code 3, or code 1.
 pub fn kept_shard_without_labels()
     ensures { CodeThreeOrCodeOne }
 {}
 
-/// A shard that isn't kept is told as code 2.
+/// An ask for a shard that isn't kept gets code 2.
 pub fn shard_not_kept()
     ensures beside_another { CodeTwoAlone }
     ensures at_first { CodeTwoAtFirst }

@@ -31,10 +31,10 @@ impl<A: Allocator> Model for KeptShard<A> {
 
     ghost Value = { KeptShardState };
 
-    ghost view = { λ h. record { links = h.links.items; live = option_map (λ told. shown told.names.items told.links.items) h.live } };
+    ghost view = { λ h. record { links = h.links.items; live = option_map (λ listed. shown listed.names.items listed.links.items) h.live } };
 
     ghost invariant = { λ h. (length h.links.items ≤ MAX_SHARD_LINKS) × IsGreatestEnd h.links.items h.greatest
-        × IfSome h.live (λ told. IsListed told.names.items told.links.items) };
+        × IfSome h.live (λ listed. IsListed listed.names.items listed.links.items) };
 }
 
 impl<A: Allocator + Copy> KeptShard<A> {

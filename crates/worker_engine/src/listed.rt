@@ -87,8 +87,8 @@ pub(crate) fn list_by_numbers<A: Allocator + Copy>(
     requires marked { AreMarkedUpTo (length links.now) links.now labels.now (marks_of numbers.now) }
     requires named { AreNamedUpTo (length links.now) links.now labels.now (marks_of numbers.now) names.items }
     requires names { length names.items ≡ marked_in (marks_of numbers.now) (length numbers.now) }
-    ensures live { IfSome result (λ told. AreLiveLinks links.now labels.now (shown told.names.items told.links.items)) }
-    ensures listed { IfSome result (λ told. IsListed told.names.items told.links.items) }
+    ensures live { IfSome result (λ it. AreLiveLinks links.now labels.now (shown it.names.items it.links.items)) }
+    ensures listed { IfSome result (λ it. IsListed it.names.items it.links.items) }
 {
     if leaving == links.len() {
         return None;
@@ -109,8 +109,8 @@ pub(crate) fn list_by_labels<A: Allocator + Copy>(
     requires few_links { length links.now ≤ MAX_SHARD_LINKS }
     requires ends { EndsUpTo (length labels.now) links.now }
     requires labels { AreLabels labels.now }
-    ensures live { IfSome result (λ told. AreLiveLinks links.now labels.now (shown told.names.items told.links.items)) }
-    ensures listed { IfSome result (λ told. IsListed told.names.items told.links.items) }
+    ensures live { IfSome result (λ it. AreLiveLinks links.now labels.now (shown it.names.items it.links.items)) }
+    ensures listed { IfSome result (λ it. IsListed it.names.items it.links.items) }
 {
     if leaving == links.len() {
         return None;

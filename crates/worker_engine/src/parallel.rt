@@ -33,7 +33,7 @@ fn how_many(scanned: Scanned) -> usize
     ensures { result ≡ count_of scanned.entry }
 {
     match scanned.live {
-        Some(told) => told.len(),
+        Some(listed) => listed.len(),
         None => scanned.links.len(),
     }
 }
@@ -112,7 +112,7 @@ fn best_alone<A: Allocator + Copy>(
     let mut table = Table::new(alloc);
     table.clear(labels.len())?;
     match live {
-        Some(told) => find_best_live(links, told, labels, part, &mut table),
+        Some(listed) => find_best_live(links, listed, labels, part, &mut table),
         None => {
             let _ = find_best(links, labels, part, &mut table);
         }

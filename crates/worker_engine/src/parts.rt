@@ -4,7 +4,7 @@ ghost use Rattle.std.specs.Prelude.{◌≤◌};
 use crate::live::LiveLink;
 use link_key::Link;
 
-// A shard's links that are to be scanned under labels: all of them, or the live ones alone where these are told.
+// A shard's links that are to be scanned under labels: all of them, or the live ones alone where these are listed.
 #[derive(Clone, Copy)]
 pub(crate) struct Scanned<'a, 'l> {
     pub(crate) links: &'a [Link],

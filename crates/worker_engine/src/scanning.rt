@@ -36,7 +36,7 @@ pub(crate) const NO_WEIGHT: i64 = i64::MAX;
 pub(crate) const NO_PLACE: u32 = u32::MAX;
 
 /// The light offers of a shard's links under the labels: for each label that has a link with exactly one end under
-/// it, the least such link, told by the first place where it stands.
+/// it, the least such link, by the first place where it stands.
 ///
 /// One pass over the links, and one over a table of the labels: for m links of n vertices O(m + n) time, 16 bytes and
 /// a bit a vertex for the table and 8 bytes for each offer. For scan after scan a [`Scanner`] keeps the table. The only
@@ -124,7 +124,7 @@ impl<A: Allocator + Copy> Scanner<A> {
     ) -> Result<(Offers<A>, usize), AllocError>
         requires few_links { length links.now ≤ MAX_SHARD_LINKS }
         requires ends { EndsUpTo (length labels.now) links.now }
-        ensures light { IfOk result (λ told. AreLightOffers links.now labels.now told.0) }
+        ensures light { IfOk result (λ scanned. AreLightOffers links.now labels.now scanned.0) }
         ensures table { OnOk result (self.new ≡ length labels.now) }
     {
         let labels = labels.as_slice();
@@ -147,9 +147,9 @@ impl<A: Allocator + Copy> Scanner<A> {
     ) -> Result<(Offers<A>, Option<Listed<A>>), AllocError>
         requires few_links { length links.now ≤ MAX_SHARD_LINKS }
         requires ends { EndsUpTo (length labels.now) links.now }
-        ensures light { IfOk result (λ told. AreLightOffers links.now labels.now told.0) }
-        ensures live { IfOk result (λ told. IfSome told.1 (λ listed. AreLiveLinks links.now labels.now (shown listed.names.items listed.links.items))) }
-        ensures listed { IfOk result (λ told. IfSome told.1 (λ listed. IsListed listed.names.items listed.links.items)) }
+        ensures light { IfOk result (λ scanned. AreLightOffers links.now labels.now scanned.0) }
+        ensures live { IfOk result (λ scanned. IfSome scanned.1 (λ listed. AreLiveLinks links.now labels.now (shown listed.names.items listed.links.items))) }
+        ensures listed { IfOk result (λ scanned. IfSome scanned.1 (λ listed. IsListed listed.names.items listed.links.items)) }
     {
         let labels = labels.as_slice();
         self.numbers.clear(labels.len())?;
@@ -277,7 +277,7 @@ impl<A: Allocator + Copy + Send + Sync> Scanner<A> {
     ) -> Result<(Offers<A>, usize), AllocError>
         requires few_links { length links.now ≤ MAX_SHARD_LINKS }
         requires ends { EndsUpTo (length labels.now) links.now }
-        ensures light { IfOk result (λ told. AreLightOffers links.now labels.now told.0) }
+        ensures light { IfOk result (λ scanned. AreLightOffers links.now labels.now scanned.0) }
         ensures table { OnOk result (self.new ≡ length labels.now) }
     {
         let halvings = halvings_of(rt, links.len(), labels.as_slice().len());
@@ -305,9 +305,9 @@ impl<A: Allocator + Copy + Send + Sync> Scanner<A> {
     ) -> Result<(Offers<A>, Option<Listed<A>>), AllocError>
         requires few_links { length links.now ≤ MAX_SHARD_LINKS }
         requires ends { EndsUpTo (length labels.now) links.now }
-        ensures light { IfOk result (λ told. AreLightOffers links.now labels.now told.0) }
-        ensures live { IfOk result (λ told. IfSome told.1 (λ listed. AreLiveLinks links.now labels.now (shown listed.names.items listed.links.items))) }
-        ensures listed { IfOk result (λ told. IfSome told.1 (λ listed. IsListed listed.names.items listed.links.items)) }
+        ensures light { IfOk result (λ scanned. AreLightOffers links.now labels.now scanned.0) }
+        ensures live { IfOk result (λ scanned. IfSome scanned.1 (λ listed. AreLiveLinks links.now labels.now (shown listed.names.items listed.links.items))) }
+        ensures listed { IfOk result (λ scanned. IfSome scanned.1 (λ listed. IsListed listed.names.items listed.links.items)) }
     {
         if halvings_of(rt, links.len(), labels.as_slice().len()) == 0 {
             return self.scan_and_list(links, labels);

@@ -61,7 +61,7 @@ pub(crate) enum Written {
 
 /// A worker's session that hears at most `frames` frames.
 ///
-/// It writes the hello of `worker`, which tells [`VERSION`](frames::VERSION), and then hears frame after frame, of each
+/// It writes the hello of `worker`, of [`VERSION`](frames::VERSION), and then hears frame after frame, of each
 /// kind that this version has, and writes one reply to each ask, until the source ends before a frame. It scans by
 /// threads, as [`scan_par`](crate::scan_par) does. An ask that finds no memory for its answer is replied to by a fault
 /// with the code [`NO_MEMORY`](crate::NO_MEMORY), which takes none, and the session goes on.
@@ -127,8 +127,8 @@ pub fn serve<R: Threads + Sync, A: Allocator + Copy + Send + Sync, S: Source, W:
 
 // How a session ends where no frame was read: well where the stream ended before one.
 fn stopped(served: Served, fault: FrameFault) -> Result<Served, ServeFault>
-    ensures over { IfOk result (λ told. (told ≡ served) × (fault ≡ Ended)) }
-    ensures read { IfErr result (λ told. (told ≡ Read fault) × (fault ≢ Ended)) }
+    ensures over { IfOk result (λ counts. (counts ≡ served) × (fault ≡ Ended)) }
+    ensures read { IfErr result (λ why. (why ≡ Read fault) × (fault ≢ Ended)) }
 {
     match fault {
         FrameFault::Ended => Ok(served),
@@ -246,7 +246,7 @@ fn write_fault<W: Sink>(
     code: u8,
 ) -> Result<Written, ServeFault>
     requires can { W.can_write sink.old }
-    ensures told { IfOk result (λ written. written ≡ AFault) }
+    ensures sort { IfOk result (λ written. written ≡ AFault) }
     ensures took { OnOk result (Took 0 (text_of (FaultFrame round shard code)) (W.state sink.old) (W.state sink.new)) }
     ensures write { IfErr result (λ fault. fault ≡ Write) }
     ensures cut { OnErr result (CutOff (text_of (FaultFrame round shard code)) (W.state sink.old) (W.state sink.new)) }

@@ -122,7 +122,7 @@ fn read_cut(
     for _ in 0..text.len() {
         let len = rest.len().min(draw(state, most) as usize + 1);
         let (piece, after) = rest.split_at(len);
-        let _told = reader.feed(piece);
+        let _answer = reader.feed(piece);
         rest = after;
     }
     (reader.line(), reader.finish())

@@ -1,4 +1,4 @@
-// What the faults of files and of a run are told as.
+// The texts of the faults of files and of a run.
 use forest_run::{Report, RunFault};
 use gr_text::{GrFault, GrKind, ReadFault, WriteFault};
 use link_key::{CutFault, Link};
@@ -10,10 +10,10 @@ use std::test::Fail;
 fn expect_text<T: Display>(
     rt: &impl Abort,
     alloc: Global,
-    told: &T,
+    shown: &T,
     expected: &str,
 ) -> Result<(), Fail> {
-    let text = format!(in alloc; "{told}")?;
+    let text = format!(in alloc; "{shown}")?;
     assert_eq!(rt; text.as_str(), expected);
     Ok(())
 }

@@ -32,7 +32,7 @@ fn expect_fault(
     let mut source = text;
     let read = read_graph(&memory, &mut source).err();
     let mut reader = GrReader::new(&memory, MAX_BYTES);
-    let _told = reader.feed(text);
+    let _answer = reader.feed(text);
     assert_eq!(rt;
         (parsed, read, reader.finish().err()),
         (fault, fault, fault)

@@ -37,7 +37,7 @@ fn are_links(links: &[Link], expected: &[Row]) -> bool {
 }
 
 #[test]
-fn tells_what_is_wrong_with_a_problem_line(rt: HostRuntime) {
+fn names_what_is_wrong_with_a_problem_line(rt: HostRuntime) {
     let rows = [
         (b"".as_slice(), 1, GrKind::MissingProblem),
         (b"e 1 2".as_slice(), 1, GrKind::UnknownLine),
@@ -58,7 +58,7 @@ fn tells_what_is_wrong_with_a_problem_line(rt: HostRuntime) {
 }
 
 #[test]
-fn tells_what_is_wrong_with_an_arc_line(rt: HostRuntime) {
+fn names_what_is_wrong_with_an_arc_line(rt: HostRuntime) {
     let rows = [
         (b"a 1 2 3\np sp 2 1\n".as_slice(), 1, GrKind::NoProblemYet),
         (b"a x\np sp 2 1\n".as_slice(), 1, GrKind::NoProblemYet),
@@ -150,15 +150,15 @@ fn takes_no_more_than_its_limit(rt: HostRuntime) {
     for at in 0..=text.len() {
         let (first, second) = text.split_at(at);
         let mut short = GrReader::new(rt.alloc(), 9);
-        let told = (short.feed(first).is_ok(), short.feed(second));
-        assert_eq!(rt; told, (at < 10, too_long));
+        let answers = (short.feed(first).is_ok(), short.feed(second));
+        assert_eq!(rt; answers, (at < 10, too_long));
         assert_eq!(rt;
             short.finish().map(|graph| graph.n()),
             Err(ReadFault::TooLong)
         );
         let mut enough = GrReader::new(rt.alloc(), 10);
-        let told = (enough.feed(first), enough.feed(second), enough.feed(b""));
-        assert_eq!(rt; told, (Ok(()), Ok(()), Ok(())));
+        let answers = (enough.feed(first), enough.feed(second), enough.feed(b""));
+        assert_eq!(rt; answers, (Ok(()), Ok(()), Ok(())));
         assert_eq!(rt; enough.line(), 2);
         assert_eq!(rt; enough.finish().map(|graph| graph.n()), Ok(0));
     }

@@ -88,7 +88,7 @@ fn writes_small_forests(rt: HostRuntime) -> Result<(), Fail> {
 // A sink that fails after `passes` bytes holds just these, also one that is full at the last byte and fails at the
 // flush; one that takes nothing more, and then is flushed, has the whole text.
 #[test]
-fn tells_the_bytes_that_went_out(rt: HostRuntime) -> Result<(), Fail> {
+fn counts_the_bytes_that_went_out(rt: HostRuntime) -> Result<(), Fail> {
     let forest = forest_of(&rt, rt.alloc(), SMALL_NET.forest)?;
     for passes in 0..51usize {
         let fault = Err(WriteFault {

@@ -63,9 +63,9 @@ fn line_behind(bytes: &[u8]) -> u64 {
     line
 }
 
-// Why a run ends, if it doesn't end well, and what it wrote. Where the source fails the fault tells the line of the next
+// Why a run ends, if it doesn't end well, and what it wrote. Where the source fails the fault names the line of the next
 // byte, and nothing is written; one that passes more bytes than there are gives the end. Where the sink has a setback it
-// has what it had room for, and the fault tells how many bytes these are. Room for just the text isn't enough for a sink
+// has what it had room for, and the fault counts these bytes. Room for just the text isn't enough for a sink
 // that fails, since the flush fails; it is for one that takes nothing more.
 fn end_of(graph: &Worked, place: Place) -> (Option<RunFault>, &'static [u8]) {
     let (file, text, passes) = (graph.file, graph.text, place.passes);

@@ -318,7 +318,7 @@ fn expect_merged<'a>(
     Ok(())
 }
 
-// The step of a round past the bound is told as that, before any memory is asked for.
+// The step of a round past the bound is refused as that, before any memory is asked for.
 fn expect_past_bound<'a>(
     rt: &impl Abort,
     memory: &'a Memory,

@@ -26,7 +26,7 @@ fn wants_memory(fault: RunFault) -> bool {
         || fault == RunFault::Cut(CutFault::Memory)
 }
 
-// A run that ended well wrote the forest's text and tells what it weighs; one that didn't wanted memory, some of which was
+// A run that ended well wrote the forest's text and counts what it weighs; one that didn't wanted memory, some of which was
 // refused, and wrote nothing.
 fn expect_ended(
     rt: &impl Abort,

@@ -109,7 +109,7 @@ fn faults_and_files_without_arcs(rt: HostRuntime) {
 }
 
 // After a refusal the reader answers it for good, whatever it is fed.
-fn expect_told_again(rt: &impl Abort, mut reader: GrReader<&Memory>) {
+fn expect_memory_again(rt: &impl Abort, mut reader: GrReader<&Memory>) {
     expect_same(rt, reader.feed(b"a 1 2 3\n"), Err(ReadFault::Memory));
     expect_same(rt, reader.feed(b""), Err(ReadFault::Memory));
     expect_same(rt, reader.finish().err(), Some(ReadFault::Memory));
@@ -124,7 +124,7 @@ fn read_bytes<'a>(
     for i in 0..SPELLED_ELSE.len() {
         if let Err(fault) = reader.feed(&SPELLED_ELSE[i..i + 1]) {
             expect_same(rt, fault, ReadFault::Memory);
-            expect_told_again(rt, reader);
+            expect_memory_again(rt, reader);
             return Err(AllocError);
         }
     }

@@ -88,11 +88,11 @@ fn expect_reply<'a>(
     exchange: (&[u8], &[u8]),
 ) -> Result<(), AllocError> {
     let (bytes, expected) = exchange;
-    let told = match reply(rt, memory, by, engine, bytes) {
-        Ok(told) => told,
+    let replied = match reply(rt, memory, by, engine, bytes) {
+        Ok(replied) => replied,
         Err(AllocError) => reply(rt, memory, by, engine, bytes)?,
     };
-    expect_same(rt, told.as_slice(), expected);
+    expect_same(rt, replied.as_slice(), expected);
     Ok(())
 }
 
@@ -148,7 +148,7 @@ struct Session {
     answer: &'static [u8],
 }
 
-// The session goes so; or it wants memory and wrote no answer; or it told that it had no memory in the answer's place.
+// The session goes so; or it wants memory and wrote no answer; or it wrote that it had no memory in the answer's place.
 fn expect_session(
     rt: &(impl Abort + Threads + Sync),
     alloc: Global,
@@ -159,13 +159,13 @@ fn expect_session(
     let mut source = heard.as_slice();
     let mut sink = Vec::new(alloc);
     let end = serve_upto(rt, memory, 0, &mut source, &mut sink, session.limit);
-    let (hello, told) = sink.split_at(sink.len().min(HELLO.len()));
-    if end == session.end && told == session.answer {
+    let (hello, replied) = sink.split_at(sink.len().min(HELLO.len()));
+    if end == session.end && replied == session.answer {
         assert!(rt; hello == HELLO.as_slice());
         return Ok(());
     }
     assert!(rt; was_refused(memory));
-    if told == NO_MEMORY.as_slice() {
+    if replied == NO_MEMORY.as_slice() {
         let in_its_place = match session.end {
             Ok(_) => Ok(Served {
                 frames: 2,
@@ -178,7 +178,7 @@ fn expect_session(
         return Ok(());
     }
     assert!(rt; end == Err(ServeFault::Memory) || end == Err(ServeFault::Read(FrameFault::Memory)));
-    assert!(rt; told.is_empty() && (hello.is_empty() || hello == HELLO.as_slice()));
+    assert!(rt; replied.is_empty() && (hello.is_empty() || hello == HELLO.as_slice()));
     Err(AllocError)
 }
 

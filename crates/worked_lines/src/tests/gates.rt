@@ -177,8 +177,8 @@ fn nine_lines_that_wait_for_all(rt: HostRuntime) -> Result<(), Fail> {
     Ok(())
 }
 
-/// A line to a worker in memory, which tells the first version in its hello where it is an old one. Another waits, before
-/// its first byte, until the old one's hello was asked for. It tells no bytes, since it changes one.
+/// A line to a worker in memory, which has the first version in its hello where it is an old one. Another waits, before
+/// its first byte, until the old one's hello was asked for. Its bytes aren't known, since it changes one.
 #[derive(Drop)]
 struct Versioned<'a> {
     line: EngineLine<Global>,

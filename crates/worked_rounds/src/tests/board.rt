@@ -221,7 +221,7 @@ fn boards_of_each_size(rt: HostRuntime) -> Result<(), Fail> {
 }
 
 #[test]
-fn what_its_faults_are_told_as(rt: HostRuntime) -> Result<(), Fail> {
+fn texts_of_its_faults(rt: HostRuntime) -> Result<(), Fail> {
     let texts = [
         (BoardFault::Memory, "no memory for the board"),
         (BoardFault::NoTable, "the board's table was refused"),

@@ -256,7 +256,7 @@ fn replied(
     let mut source = heard;
     let frame = read_frame(alloc, &mut source)?;
     match worker.reply(rt, frame)? {
-        Some(told) => Ok(Some(lawful_text(rt, alloc, &told)?)),
+        Some(reply) => Ok(Some(lawful_text(rt, alloc, &reply)?)),
         None => Ok(None),
     }
 }

@@ -1,11 +1,11 @@
-// What the faults of a worker's session are told as.
+// The texts of the faults of a worker's session.
 use super::same::expect_same;
 use frames::FrameFault;
 use std::test::Fail;
 use worker_engine::ServeFault;
 
 #[test]
-fn what_faults_are_told_as(rt: HostRuntime) -> Result<(), Fail> {
+fn texts_of_faults(rt: HostRuntime) -> Result<(), Fail> {
     let texts = [
         (
             ServeFault::Read(FrameFault::BadKind),
@@ -17,8 +17,8 @@ fn what_faults_are_told_as(rt: HostRuntime) -> Result<(), Fail> {
         (ServeFault::TooMany, "too many frames"),
     ];
     for (fault, text) in texts {
-        let told = format!(in rt.alloc(); "{fault}")?;
-        expect_same(&rt, told.as_str(), text);
+        let shown = format!(in rt.alloc(); "{fault}")?;
+        expect_same(&rt, shown.as_str(), text);
     }
     Ok(())
 }

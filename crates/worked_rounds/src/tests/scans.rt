@@ -240,7 +240,7 @@ fn near_links(alloc: Global) -> Result<Vec<Link>, Fail> {
     Ok(links_of(alloc, NEAR, arcs.as_slice())?.ok_or("arcs")?)
 }
 
-// What another program told of the offers: how many there are, the first three, the one at a place, and the last three.
+// What another program found of the offers: how many there are, the first three, the one at a place, and the last three.
 #[derive(Clone, Copy)]
 struct Known {
     count: usize,

@@ -236,15 +236,15 @@ fn books_of_late_rounds(rt: HostRuntime) -> Result<(), Fail> {
     Ok(())
 }
 
-// It is told as this text.
-pub(crate) fn expect_told(
+// It has this text.
+pub(crate) fn expect_text(
     rt: &impl Abort,
     alloc: Global,
     fault: &impl Display,
     text: &str,
 ) -> Result<(), Fail> {
-    let told = format!(in alloc; "{fault}")?;
-    assert_eq!(rt; told.as_str(), text);
+    let shown = format!(in alloc; "{fault}")?;
+    assert_eq!(rt; shown.as_str(), text);
     Ok(())
 }
 
@@ -263,7 +263,7 @@ fn a_book_is_lent_to_threads(rt: HostRuntime) -> Result<(), Fail> {
 }
 
 #[test]
-fn what_refusals_are_told_as(rt: HostRuntime) -> Result<(), Fail> {
+fn texts_of_refusals(rt: HostRuntime) -> Result<(), Fail> {
     let texts = [
         (Refusal::Stale, "answer of another round"),
         (Refusal::Stranger, "answer for another shard"),
@@ -271,7 +271,7 @@ fn what_refusals_are_told_as(rt: HostRuntime) -> Result<(), Fail> {
         (Refusal::NotALink, "offer of no outgoing link"),
     ];
     for (refusal, text) in texts {
-        expect_told(&rt, rt.alloc(), &refusal, text)?;
+        expect_text(&rt, rt.alloc(), &refusal, text)?;
     }
     Ok(())
 }

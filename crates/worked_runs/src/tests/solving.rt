@@ -1,6 +1,6 @@
 // A solver's steps on the worked graphs, and whole runs by one thread.
 use super::closing::paths;
-use super::rounds::{expect_told, links_to_cut, opened, picks_of_offers, picks_of_scans};
+use super::rounds::{expect_text, links_to_cut, opened, picks_of_offers, picks_of_scans};
 use link_key::{Cut, Forest, Labels, Link};
 use round_core::{SolveFault, Solver, Turn, solve_alone};
 use std::alloc::{AllocError, Global};
@@ -532,7 +532,7 @@ fn steps_beside_lone_vertices(rt: HostRuntime) -> Result<(), Fail> {
 }
 
 #[test]
-fn told_faults(rt: HostRuntime) -> Result<(), Fail> {
+fn texts_of_its_faults(rt: HostRuntime) -> Result<(), Fail> {
     let alloc = rt.alloc();
     let link = Link::of_arc(2, 1, 17).expect(&rt, "a link");
     let texts = [
@@ -541,7 +541,7 @@ fn told_faults(rt: HostRuntime) -> Result<(), Fail> {
         (SolveFault::Memory, "no memory"),
     ];
     for (fault, text) in texts {
-        expect_told(&rt, alloc, &fault, text)?;
+        expect_text(&rt, alloc, &fault, text)?;
     }
     Ok(())
 }

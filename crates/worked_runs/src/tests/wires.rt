@@ -3,7 +3,7 @@
 ghost use Rattle.std.specs.Prelude.{◌≡◌, ◌+◌, ◌<◌, ◌≤◌};
 ghost use Rattle.ports.specs.Lines.{HasRoom};
 
-use super::rounds::{expect_told, links_to_cut};
+use super::rounds::{expect_text, links_to_cut};
 use frames::Answer;
 use link_key::{Cut, Labels};
 use ports::{EngineLine, FusedLine, Line, LineFault, Port, PortFault, ScriptLine, Wire};
@@ -558,7 +558,7 @@ fn a_session_that_is_over(rt: HostRuntime) -> Result<(), Fail> {
 }
 
 #[test]
-fn what_faults_are_told_as(rt: HostRuntime) -> Result<(), Fail> {
+fn texts_of_faults(rt: HostRuntime) -> Result<(), Fail> {
     let alloc = rt.alloc();
     let texts = [
         (PortFault::Down, "line is down"),
@@ -570,7 +570,7 @@ fn what_faults_are_told_as(rt: HostRuntime) -> Result<(), Fail> {
         (PortFault::TooOld, "worker is too old for 64-bit weights"),
     ];
     for (fault, text) in texts {
-        expect_told(&rt, alloc, &fault, text)?;
+        expect_text(&rt, alloc, &fault, text)?;
     }
-    expect_told(&rt, alloc, &LineFault::Failed, "line failed")
+    expect_text(&rt, alloc, &LineFault::Failed, "line failed")
 }

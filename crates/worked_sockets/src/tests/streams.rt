@@ -64,7 +64,7 @@ fn a_line_whose_connection_is_broken_fails(rt: HostRuntime) -> Result<(), Fail> 
 }
 
 #[test]
-fn a_stranger_who_connected_before_is_told(rt: HostRuntime) -> Result<(), Fail> {
+fn a_stranger_who_connected_before_is_refused(rt: HostRuntime) -> Result<(), Fail> {
     let listener = listen(&rt)?;
     let stranger = TcpStream::connect(&rt, listener.local_addr()?)?;
     let first = pair(&rt, &listener);
@@ -95,15 +95,15 @@ fn a_listener_without_room_cannot_be_connected_to(rt: HostRuntime) -> Result<(),
 }
 
 #[test]
-fn what_faults_are_told_as(rt: HostRuntime) -> Result<(), Fail> {
+fn texts_of_faults(rt: HostRuntime) -> Result<(), Fail> {
     let texts = [
         (PairFault::NoConnect, "cannot connect"),
         (PairFault::NoAccept, "cannot accept"),
         (PairFault::Stranger, "a stranger connected"),
     ];
     for (fault, text) in texts {
-        let told = format!(in rt.alloc(); "{fault}")?;
-        assert_eq!(rt; told.as_str(), text);
+        let shown = format!(in rt.alloc(); "{fault}")?;
+        assert_eq!(rt; shown.as_str(), text);
     }
     Ok(())
 }

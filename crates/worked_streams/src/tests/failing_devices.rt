@@ -1,4 +1,4 @@
-// Readers and writers of std that fail once: the failure is told, and nothing is tried again.
+// Readers and writers of std that fail once: the failure is answered, and nothing is tried again.
 use super::same::expect_same;
 use byte_streams::{Failed, FillFault, PutFault, Sink, Source, Uncounted, fill, put};
 use std::io;
@@ -44,7 +44,7 @@ impl Write for InterruptedWriter {
 }
 
 #[test]
-fn an_interrupted_read_is_told_and_the_next_one_reads(rt: HostRuntime) {
+fn an_interrupted_read_is_answered_and_the_next_one_reads(rt: HostRuntime) {
     let mut source = Uncounted(InterruptedReader {
         has_failed: false,
         bytes: b"p sp",
@@ -68,7 +68,7 @@ fn a_fill_ends_at_an_interrupted_read(rt: HostRuntime) {
 }
 
 #[test]
-fn an_interrupted_write_is_told_and_the_next_one_writes(rt: HostRuntime) {
+fn an_interrupted_write_is_answered_and_the_next_one_writes(rt: HostRuntime) {
     let mut sink = Uncounted(InterruptedWriter {
         has_failed: false,
         taken: Vec::new(rt.alloc()),
@@ -94,7 +94,7 @@ fn a_put_ends_at_an_interrupted_write(rt: HostRuntime) {
 }
 
 #[test]
-fn a_failed_flush_is_told_and_takes_nothing(rt: HostRuntime) -> Result<(), Fail> {
+fn a_failed_flush_is_answered_and_takes_nothing(rt: HostRuntime) -> Result<(), Fail> {
     let mut sink = Uncounted(InterruptedWriter {
         has_failed: true,
         taken: Vec::new(rt.alloc()),

@@ -1,5 +1,5 @@
 // Frames and their bytes, and each refusal.
-use super::next_frames::told;
+use super::next_frames::next_bytes;
 use super::same::expect_same;
 use byte_streams::FusedSource;
 use frames::{
@@ -309,7 +309,7 @@ fn an_ask_behind_another(rt: HostRuntime) -> Result<(), Fail> {
         let last = labels_of(&rt, rt.alloc(), list)?;
         let mut source = ASK.as_slice();
         let next = read_next(rt.alloc(), &mut source, last.as_slice())?;
-        let text = told(&rt, rt.alloc(), &next, &last)?;
+        let text = next_bytes(&rt, rt.alloc(), &next, &last)?;
         expect_same(&rt, text.as_slice(), ASK.as_slice());
         assert!(rt; source.is_empty());
         let mut wrong = ASK;
@@ -471,7 +471,7 @@ fn body_of_a_fault(rt: HostRuntime) -> Result<(), Fail> {
     Ok(())
 }
 
-// A read that fails is told at each place where it comes.
+// A read that fails is answered at each place where it comes.
 #[test]
 fn reads_that_fail(rt: HostRuntime) -> Result<(), Fail> {
     for passes in 0..29 {
@@ -486,7 +486,7 @@ fn reads_that_fail(rt: HostRuntime) -> Result<(), Fail> {
 }
 
 #[test]
-fn what_faults_are_told_as(rt: HostRuntime) -> Result<(), Fail> {
+fn texts_of_faults(rt: HostRuntime) -> Result<(), Fail> {
     let texts = [
         (FrameFault::BadKind, "frame of an unknown kind"),
         (FrameFault::BadLength, "frame of an impossible length"),
@@ -498,8 +498,8 @@ fn what_faults_are_told_as(rt: HostRuntime) -> Result<(), Fail> {
         (FrameFault::Memory, "no memory"),
     ];
     for (fault, text) in texts {
-        let told = format!(in rt.alloc(); "{fault}")?;
-        expect_same(&rt, told.as_str(), text);
+        let shown = format!(in rt.alloc(); "{fault}")?;
+        expect_same(&rt, shown.as_str(), text);
     }
     Ok(())
 }

@@ -1,4 +1,4 @@
-// Frames read of a source that tells what it gave, and not what will come.
+// Frames read of a source of which it is known what it gave, and not what will come.
 ghost use Rattle.std.specs.Prelude.{Some, None, ◌≡◌, IfOk, ◌<◌, ◌-◌, ◌^◌};
 
 use super::frames_codec::{expect_hello, expect_shard};
@@ -11,7 +11,7 @@ use std::process::Abort;
 use std::test::Fail;
 use test_memory::{Refusals, Refusing};
 
-// A source over memory that tells the bytes which it gave, and nothing else.
+// A source over memory of which the bytes are known that it gave, and nothing else.
 #[derive(Drop)]
 struct GivenAlone(FusedSource);
 
@@ -52,9 +52,9 @@ fn frames_that_follow_each_other_are_read_one_by_one(rt: HostRuntime) -> Result<
     Ok(())
 }
 
-// Bytes that end, or a read that fails once so many were given, and what is told.
+// Bytes that end, or a read that fails once so many were given, and what is answered.
 #[test]
-fn each_fault_is_told_where_it_comes(rt: HostRuntime) -> Result<(), Fail> {
+fn each_fault_is_answered_where_it_comes(rt: HostRuntime) -> Result<(), Fail> {
     let rows: [(&[u8], usize, FrameFault); 21] = [
         // A stream that ends is torn but between frames.
         (&[], 100, FrameFault::Ended),
@@ -72,7 +72,7 @@ fn each_fault_is_told_where_it_comes(rt: HostRuntime) -> Result<(), Fail> {
         (&HELLO, 8, FrameFault::Device),
         (&HELLO, 9, FrameFault::Device),
         (&HELLO, 10, FrameFault::Device),
-        // A bad head is told by its kind and then its length.
+        // A bad head is refused by its kind and then its length.
         (&[7, 0, 0, 0, 6], 100, FrameFault::BadKind),
         (&[6, 0, 0, 0, 6], 100, FrameFault::BadLength),
         (&[0, 0, 0, 0, 7], 100, FrameFault::BadKind),
@@ -101,7 +101,7 @@ fn each_fault_is_told_where_it_comes(rt: HostRuntime) -> Result<(), Fail> {
 // The body is the first growth, and the links are the second. A shard of another count is refused
 // before memory for its links is asked for.
 #[test]
-fn want_of_memory_is_told_for_a_good_head_and_good_fields(rt: HostRuntime) -> Result<(), Fail> {
+fn want_of_memory_is_answered_for_a_good_head_and_good_fields(rt: HostRuntime) -> Result<(), Fail> {
     for number in 1..3u64 {
         expect_refused(&rt, rt.alloc(), &SHARD, number, FrameFault::Memory)?;
     }

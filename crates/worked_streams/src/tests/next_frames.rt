@@ -20,7 +20,7 @@ const PLACES: [u32; 9] = [
 ];
 
 // What the next frame says behind these labels, as bytes.
-pub(crate) fn told(
+pub(crate) fn next_bytes(
     rt: &impl Abort,
     alloc: Global,
     next: &NextFrame,
@@ -71,7 +71,7 @@ fn expect_as_alone(
             (Ok(frame), Ok(next)) => {
                 assert!(rt; frame.is_lawful());
                 let text = encode(alloc, &frame)?;
-                assert!(rt; told(rt, alloc, &next, last)?.as_slice() == text.as_slice());
+                assert!(rt; next_bytes(rt, alloc, &next, last)?.as_slice() == text.as_slice());
             }
             (Err(fault), Err(other)) => expect_same(rt, other, fault),
             _ => panic!(rt; "one is refused, and the other isn't"),

@@ -3,7 +3,7 @@
 //
 // Labels are turned into bytes 1,024 at a time. A body is read in pieces of 65,536 bytes: 12 and 4 for each label are
 // just so many for 16,381 labels; 8 and 12 or 16 for each link, and 12 and 8 for each offer, come to no whole piece.
-use super::next_frames::told;
+use super::next_frames::next_bytes;
 use byte_streams::FusedSource;
 use frames::{
     Answer, Frame, Links, decode_body, decode_head, encode, encode_ask, encode_ask_over,
@@ -172,7 +172,7 @@ fn expect_ask(rt: &impl Abort, alloc: Global, before: u32, count: u32) -> Result
     assert!(rt; alone.as_slice() == bytes.as_slice(), "{count} labels");
     for behind in [&last, &labels] {
         let again = read_next(alloc, &mut text.as_slice(), behind.as_slice())?;
-        let same = told(rt, alloc, &again, behind)?;
+        let same = next_bytes(rt, alloc, &again, behind)?;
         assert!(rt;
             same.as_slice() == bytes.as_slice(),
             "{count} labels behind {}",

@@ -170,7 +170,7 @@ fn devices_fail_and_end(rt: HostRuntime) -> Result<(), Fail> {
 }
 
 #[test]
-fn faults_are_told_in_words(rt: HostRuntime) -> Result<(), Fail> {
+fn faults_have_texts(rt: HostRuntime) -> Result<(), Fail> {
     let texts = [
         format!(in rt.alloc(); "{}", Failed)?,
         format!(in rt.alloc(); "{}", FillFault::Failed(3))?,

@@ -30,7 +30,7 @@ impl<A: Allocator + Copy + Send + Sync> Engine<A> {
         ensures shelf { OnOk result (shelf_of self.new ≡ shelf_with (shelf_of self.old) (value_of frame)) }
         ensures reply { IfOk result (λ reply. AreReplyTo (shelf_of self.old) (value_of frame) (replies_in reply)) }
         ensures lawful { IfOk result (λ reply. AreLawful (replies_in reply)) }
-        ensures kept { OnErr result (self.new ≡ self.old) }
+        ensures unchanged { OnErr result (self.new ≡ self.old) }
         ensures wants_memory { OnErr result (MayWantMemory (shelf_of self.old) (value_of frame)) }
     {
         match frame {
@@ -39,8 +39,8 @@ impl<A: Allocator + Copy + Send + Sync> Engine<A> {
                 shard,
                 labels,
             } => {
-                let told = self.reply_par(rt, Ask { round, shard }, labels)?;
-                Ok(Some(told))
+                let reply = self.reply_par(rt, Ask { round, shard }, labels)?;
+                Ok(Some(reply))
             }
             _ => self.hear(frame),
         }
@@ -77,7 +77,7 @@ pub(super) fn reply_under_par<R: Threads + Sync, A: Allocator + Copy + Send + Sy
     requires live { AreAllUnder labels.now shards.old.entries }
     ensures reply { IfOk result (λ reply. IsReply (shelf_of (shelf_list shards.old.entries) ask.shard) ask.round ask.shard labels.now (value_of reply)) }
     ensures lawful { IfOk result (λ reply. IsLawful (value_of reply)) }
-    ensures kept { shelf_list shards.new.entries ≡ shelf_list shards.old.entries }
+    ensures shelf { shelf_list shards.new.entries ≡ shelf_list shards.old.entries }
     ensures live { AreAllUnder labels.now shards.new.entries }
     ensures is_kept { OnErr result (IsSome (shelf_of (shelf_list shards.old.entries) ask.shard)) }
 {

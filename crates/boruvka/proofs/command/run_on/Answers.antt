@@ -6,21 +6,21 @@ pub returns-then-chosen-clause-ends : goal.returns-then-chosen-clause-ends
 returns-then-chosen-clause-ends g c = as_plain _ _ _ _ _ c.if-chosen.true
     (record {
       result = c.run_plain-ended.result;
-      status_is = c.tell_end.ensures.status;
+      status_is = c.write_end.ensures.status;
       ran = c.run_plain-ended.ensures.ran;
-      reported = c.tell_end.ensures.reported;
+      reported = c.write_end.ensures.reported;
       malformed = c.run_plain-ended.ensures.malformed;
       lawful = c.run_plain-ended.ensures.lawful;
     })
 
 pub returns-then-chosen-clause-plain_status : goal.returns-then-chosen-clause-plain_status
-returns-then-chosen-clause-plain_status g c = λ plain. plain_bound c.run_plain-ended.result _ _ _ _ _ c.tell_end.ensures.status c.run_plain-ended.ensures.ran
+returns-then-chosen-clause-plain_status g c = λ plain. plain_bound c.run_plain-ended.result _ _ _ _ _ c.write_end.ensures.status c.run_plain-ended.ensures.ran
 
 pub returns-then-chosen-clause-silent : goal.returns-then-chosen-clause-silent
-returns-then-chosen-clause-silent g c = λ silent. silent_plainly c.run_plain-ended.result _ _ _ _ _ c.tell_end.ensures.status c.run_plain-ended.ensures.ran silent
+returns-then-chosen-clause-silent g c = λ silent. silent_plainly c.run_plain-ended.result _ _ _ _ _ c.write_end.ensures.status c.run_plain-ended.ensures.ran silent
 
 pub returns-in_default-clause-ends : goal.returns-in_default-clause-ends
-returns-in_default-clause-ends g c = as_over _ _ _ _ _ c.if-chosen.false (wants_memory_over _ _ _ _ _ _ _ c.tell.ensures)
+returns-in_default-clause-ends g c = as_over _ _ _ _ _ c.if-chosen.false (wants_memory_over _ _ _ _ _ _ _ c.write_fault.ensures)
 
 pub returns-clause-ends : goal.returns-clause-ends
 returns-clause-ends g c = as_over _ _ _ _ _ c.if-chosen.false

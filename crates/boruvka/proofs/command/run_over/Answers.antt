@@ -2,7 +2,7 @@ use Rattle.boruvka.proofs.Endings.{over_lines, bound_lines, silent_lines, blamel
 use Rattle.boruvka.proofs.command.run_over.Goals as goal
 
 pub returns-clause-ends : goal.returns-clause-ends
-returns-clause-ends g c = over_lines _ _ _ _ _ _ _ _ c.run_lines.result c.without_lines-ended.ensures c.tell_end.ensures.status c.tell_end.ensures.reported
+returns-clause-ends g c = over_lines _ _ _ _ _ _ _ _ c.run_lines.result c.without_lines-ended.ensures c.write_end.ensures.status c.write_end.ensures.reported
     c.run_lines.ensures.ran c.run_lines.ensures.malformed c.run_lines.ensures.lawful c.run_lines.ensures.served c.run_lines.ensures.ends_well
 
 pub returns-clause-status : goal.returns-clause-status

@@ -13,12 +13,12 @@ returns-in_err-run_plain-clause-fault g c =
 pub returns-in_err-run_plain-clause-malformed : goal.returns-in_err-run_plain-clause-malformed
 returns-in_err-run_plain-clause-malformed g c =
     let p = err_from_is_err_and c.from_residual.result c.from_residual.ensures.1 in
-    λ within. rw (p.1, p.2) (c.in_err-run_plain.ensures.malformed c.args.bytes.now (record { told = refl; no_failure = (0, refl, refl); within = within }))
+    λ within. rw (p.1, p.2) (c.in_err-run_plain.ensures.malformed c.args.bytes.now (record { known = refl; no_failure = (0, refl, refl); within = within }))
 
 pub returns-in_err-run_plain-clause-lawful : goal.returns-in_err-run_plain-clause-lawful
 returns-in_err-run_plain-clause-lawful g c =
     let p = err_from_is_err_and c.from_residual.result c.from_residual.ensures.1 in
-    λ means. rw (p.1, p.2) (c.in_err-run_plain.ensures.lawful c.args.bytes.now (record { told = refl; no_failure = (0, refl, refl); within = means.1.within }) means)
+    λ means. rw (p.1, p.2) (c.in_err-run_plain.ensures.lawful c.args.bytes.now (record { known = refl; no_failure = (0, refl, refl); within = means.1.within }) means)
 
 pub returns-clause-text : goal.returns-clause-text
 returns-clause-text g c =
@@ -27,4 +27,4 @@ returns-clause-text g c =
 
 pub returns-clause-malformed : goal.returns-clause-malformed
 returns-clause-malformed g c =
-    λ within. c.in_ok-run_plain.ensures.malformed c.args.bytes.now (record { told = refl; no_failure = (0, refl, refl); within = within })
+    λ within. c.in_ok-run_plain.ensures.malformed c.args.bytes.now (record { known = refl; no_failure = (0, refl, refl); within = within })

@@ -4,7 +4,7 @@ use Rattle.link_key.specs.Cut.{joined}
 use Rattle.forest_run.specs.Cuttings.{IsCutOf}
 use Rattle.forest_run.specs.WiredLines.{FindsOverLines}
 use Rattle.forest_run.specs.Outcomes.{IsSpanning, IsLeast}
-use Rattle.forest_run.proofs.Telling.{reads_the_file, first_of_file, no_fault_of_file, something_of_file}
+use Rattle.forest_run.proofs.KnownFiles.{reads_the_file, first_of_file, no_fault_of_file, something_of_file}
 use Rattle.forest_run.proofs.PlainRunning.{done}
 use Rattle.forest_run.proofs.LinesRunning.{had_setback, shards_ends, few_enough, same_length, spanning, few_links, least, lines_went, served_report, cut_unsolved, cut_served, solve_unsolved, solve_served, cut_unhindered, lines_broken_off, served_broken_off}
 use Rattle.forest_run.proofs.lines.run_lines.Goals as goal
@@ -38,7 +38,7 @@ returns-in-Err-cut_links-clause-malformed g c = λ bytes file nothing. absurd (s
 
 pub returns-in-Err-cut_links-clause-ends_well : goal.returns-in-Err-cut_links-clause-ends_well
 returns-in-Err-cut_links-clause-ends_well g c = λ served it.
-    let read = reads_the_file it.bytes _ _ (Ok c.in-Ok.graph) it.has.told it.has.no_failure c.in-Ok.ensures.outcome in
+    let read = reads_the_file it.bytes _ _ (Ok c.in-Ok.graph) it.has.known it.has.no_failure c.in-Ok.ensures.outcome in
     cut_unhindered c.args.cutting (length c.links.result.now) (length it.means.graph.links) c.in-Err-cut_links.fault c.in-Err-cut_links.ensures.refused
     (ap (λ ls. length ls) c.links.ensures.links ∙ same_length it.bytes c.in-Ok.graph it.means.graph read.1 it.means.file.means) it.means.allowed
 

@@ -15,15 +15,15 @@ solve-requires-clause-idle g c κs within = rw c.deref_mut.ensures.value c.in_ok
 
 pub returns-in_err-forest-clause-fault : goal.returns-in_err-forest-clause-fault
 returns-in_err-forest-clause-fault g c =
-    let told = err_from_is_err_and c.from_residual-in_err-forest.result c.from_residual-in_err-forest.ensures.1 in
+    let answered = err_from_is_err_and c.from_residual-in_err-forest.result c.from_residual-in_err-forest.ensures.1 in
     let new : AreNewLanes c.args.lines.items c.args.cut.now c.deref_mut.result.now = rw c.deref_mut.ensures.value c.in_ok-lanes.ensures.lanes in
-    rw (told.1, told.2) (solve_fault g.L.Line c.args.n c.args.cut.now c.args.lines.items c.deref_mut.result.now c.solve.new.lanes new c.in_err-forest.field-0.0 c.in_err-forest.ensures.fault)
+    rw (answered.1, answered.2) (solve_fault g.L.Line c.args.n c.args.cut.now c.args.lines.items c.deref_mut.result.now c.solve.new.lanes new c.in_err-forest.field-0.0 c.in_err-forest.ensures.fault)
 
 pub returns-in_err-forest-clause-served : goal.returns-in_err-forest-clause-served
 returns-in_err-forest-clause-served g c =
-    let told = err_from_is_err_and c.from_residual-in_err-forest.result c.from_residual-in_err-forest.ensures.1 in
+    let answered = err_from_is_err_and c.from_residual-in_err-forest.result c.from_residual-in_err-forest.ensures.1 in
     let new : AreNewLanes c.args.lines.items c.args.cut.now c.deref_mut.result.now = rw c.deref_mut.ensures.value c.in_ok-lanes.ensures.lanes in
-    rw (told.1, told.2) (λ served. c.in_err-forest.ensures.honest_fault (served_honest g.L.Line c.args.lines.items c.args.cut.now c.deref_mut.result.now new served))
+    rw (answered.1, answered.2) (λ served. c.in_err-forest.ensures.honest_fault (served_honest g.L.Line c.args.lines.items c.args.cut.now c.deref_mut.result.now new served))
 
 pub close_lanes-requires-clause-room : goal.close_lanes-requires-clause-room
 close_lanes-requires-clause-room g c =

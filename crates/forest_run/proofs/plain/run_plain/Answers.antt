@@ -1,6 +1,6 @@
 use Rattle.std.proofs.Common.{rules, refl, ap, length, arith}
 use Rattle.forest_run.specs.Outcomes.{IsLeast}
-use Rattle.forest_run.proofs.Telling.{first_of_file, no_fault_of_file, something_of_file}
+use Rattle.forest_run.proofs.KnownFiles.{first_of_file, no_fault_of_file, something_of_file}
 use Rattle.forest_run.proofs.PlainRunning.{unread, unsolved, done, broken_off, plainly}
 use Rattle.forest_run.proofs.Again.{writes_again}
 use Rattle.forest_run.specs.PlainRun.{IsPlainReport, plain_report}

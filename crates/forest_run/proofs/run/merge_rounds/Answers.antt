@@ -20,15 +20,15 @@ returns-in_err-turn-clause-ports g c =
 
 pub returns-in_err-turn-clause-fault : goal.returns-in_err-turn-clause-fault
 returns-in_err-turn-clause-fault g c =
-    let told = err_from_is_err_and c.from_residual-in_err-turn.result c.from_residual-in_err-turn.ensures.1 in
-    rw (told.1, told.2)
+    let answered = err_from_is_err_and c.from_residual-in_err-turn.result c.from_residual-in_err-turn.ensures.1 in
+    rw (answered.1, answered.2)
     (turn_fault g.P.Port c.args.n c.args.cut.now c.args.lanes.now c.loop.lanes c.turn.new.lanes c.loop.solver c.loop.alone c.in_err-turn.field-0.0 c.requires.ends
     c.loop.invariant.so_far c.in_err-turn.ensures.fault)
 
 pub returns-in_err-turn-clause-honest_fault : goal.returns-in_err-turn-clause-honest_fault
 returns-in_err-turn-clause-honest_fault g c =
-    let told = err_from_is_err_and c.from_residual-in_err-turn.result c.from_residual-in_err-turn.ensures.1 in
-    rw (told.1, told.2)
+    let answered = err_from_is_err_and c.from_residual-in_err-turn.result c.from_residual-in_err-turn.ensures.1 in
+    rw (answered.1, answered.2)
     (turn_honest g.P.Port c.args.n c.args.cut.now c.args.lanes.now c.loop.lanes c.turn.new.lanes c.loop.solver c.loop.alone c.in_err-turn.field-0.0 c.requires.ends
     c.loop.invariant.so_far c.in_err-turn.ensures.fault)
 

@@ -6,15 +6,15 @@ use Rattle.forest_run.proofs.run.solve.Goals as goal
 
 pub returns-in_err-forest-clause-fault : goal.returns-in_err-forest-clause-fault
 returns-in_err-forest-clause-fault g c =
-    let told = err_from_is_err_and c.from_residual-in_err-forest.result c.from_residual-in_err-forest.ensures.1 in
-    rw (told.1, told.2)
+    let answered = err_from_is_err_and c.from_residual-in_err-forest.result c.from_residual-in_err-forest.ensures.1 in
+    rw (answered.1, answered.2)
     (finish_fault g.P.Port c.args.n c.args.cut.now c.args.lanes.now c.merge_rounds.new.lanes c.in_ok-solver.solver c.in_ok-solver.ensures.went.0 c.in_ok-solver.alone
     c.in_err-forest.field-0.0 c.requires.ends c.in_ok-solver.ensures.went.1 c.in_err-forest.ensures.fault)
 
 pub returns-in_err-forest-clause-honest_fault : goal.returns-in_err-forest-clause-honest_fault
 returns-in_err-forest-clause-honest_fault g c =
-    let told = err_from_is_err_and c.from_residual-in_err-forest.result c.from_residual-in_err-forest.ensures.1 in
-    rw (told.1, told.2)
+    let answered = err_from_is_err_and c.from_residual-in_err-forest.result c.from_residual-in_err-forest.ensures.1 in
+    rw (answered.1, answered.2)
     (finish_honest g.P.Port c.args.n c.args.cut.now c.args.lanes.now c.merge_rounds.new.lanes c.in_ok-solver.solver c.in_ok-solver.ensures.went.0 c.in_ok-solver.alone
     c.in_err-forest.field-0.0 c.requires.ends c.in_ok-solver.ensures.went.1 c.in_err-forest.ensures.fault)
 

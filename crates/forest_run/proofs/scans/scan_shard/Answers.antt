@@ -3,7 +3,7 @@ use Rattle.std.specs.Prelude.{None}
 use Rattle.frames.specs.AnswerValue.{AnswerValue}
 use Rattle.round_core.specs.BookValue.{refusal}
 use Rattle.ports.specs.Ports.{IsHonestAnswer}
-use Rattle.forest_run.proofs.OneAsk.{told_of, light_of, is_taken_of}
+use Rattle.forest_run.proofs.OneAsk.{honest_of, light_of, is_taken_of}
 use Rattle.forest_run.proofs.Scanning.{scanned_one, now_taken}
 use Rattle.forest_run.proofs.scans.scan_shard.Goals as goal
 
@@ -15,14 +15,14 @@ pub take_allowed-requires : goal.take_allowed-requires
 take_allowed-requires g c =
     let value = c.args.book.now in
     let a : AnswerValue = record { round = c.round.result; shard = c.args.shard; offers = c.in_ok-offers.offers } in
-    let h : IsHonestAnswer value.cut value.round c.args.shard value.labels a = told_of value c.cut.result.now c.round.result c.args.shard c.labels.result.now a c.cut.ensures c.round.ensures (sym c.labels.ensures) (record { round_is = refl; shard_is = refl; light = rw (← c.shard.ensures.links) c.in_ok-offers.ensures.light }) in
+    let h : IsHonestAnswer value.cut value.round c.args.shard value.labels a = honest_of value c.cut.result.now c.round.result c.args.shard c.labels.result.now a c.cut.ensures c.round.ensures (sym c.labels.ensures) (record { round_is = refl; shard_is = refl; light = rw (← c.shard.ensures.links) c.in_ok-offers.ensures.light }) in
     record { allowed = c.light_offers_are_taken.ensures value c.args.shard a c.requires.missed h.round_is h.shard_is h.light }
 
 pub returns : goal.returns
 returns g c =
     let value = c.args.book.now in
     let a : AnswerValue = record { round = c.round.result; shard = c.args.shard; offers = c.in_ok-offers.offers } in
-    let h : IsHonestAnswer value.cut value.round c.args.shard value.labels a = told_of value c.cut.result.now c.round.result c.args.shard c.labels.result.now a c.cut.ensures c.round.ensures (sym c.labels.ensures) (record { round_is = refl; shard_is = refl; light = rw (← c.shard.ensures.links) c.in_ok-offers.ensures.light }) in
+    let h : IsHonestAnswer value.cut value.round c.args.shard value.labels a = honest_of value c.cut.result.now c.round.result c.args.shard c.labels.result.now a c.cut.ensures c.round.ensures (sym c.labels.ensures) (record { round_is = refl; shard_is = refl; light = rw (← c.shard.ensures.links) c.in_ok-offers.ensures.light }) in
     let none : refusal value c.args.shard a ≡ None = c.light_offers_are_taken.ensures value c.args.shard a c.requires.missed h.round_is h.shard_is h.light in
     let took = c.take_allowed.ensures.took in
     record {

@@ -1,7 +1,7 @@
 use Rattle.std.proofs.Common.{◌+◌, ◌*◌, length, inl, arith, rules}
 use Rattle.std.proofs.lemmas.Result.{IfOk-weaker, IfErr-weaker, err_from_is_err_and}
 use Rattle.frames.proofs.Streams.{cut_more}
-use Rattle.frames.proofs.NextFrames.{all_fit, ask_unlawful, ask_stopped, ask_told, no_ask_told}
+use Rattle.frames.proofs.NextFrames.{all_fit, ask_unlawful, ask_stopped, ask_read, no_ask_read}
 use Rattle.frames.proofs.next_frame.read_ask.Goals.{then-shard-ge-MAX_SHARDS-via-then-shard-ge-MAX_SHARDS, then-shard-ge-MAX_SHARDS-via-else-shard-ge-MAX_SHARDS+then-count-last}
 use Rattle.frames.proofs.next_frame.read_ask.Goals as goal
 
@@ -28,7 +28,7 @@ pub returns-clause-came : goal.returns-clause-came
 returns-clause-came g c =
     IfOk-weaker _ _ _
     (λ next is.
-    ask_told c.read_bytes.new.bytes _ _ _ c.split_u32-round.result.0 c.split_u32-shard.result.0 c.split_u32-count.result.0 (length c.args.last.now) (search rules)
+    ask_read c.read_bytes.new.bytes _ _ _ c.split_u32-round.result.0 c.split_u32-shard.result.0 c.split_u32-count.result.0 (length c.args.last.now) (search rules)
     c.split_u32-round.ensures.fits c.split_u32-shard.ensures.fits c.split_u32-count.ensures.fits c.split_u32-round.ensures.parts c.split_u32-shard.ensures.parts c.split_u32-count.ensures.parts
     c.if-shard-ge-MAX_SHARDS.false c.if-count-last.false c.requires.labels.few_vertices
     c.args.last.now c.requires.labels c.in_ok-numbers.numbers _ _ _ c.in_ok-numbers.ensures.counted c.in_ok-read_bytes.ensures.came c.in_ok-numbers.ensures.came next is)
@@ -38,7 +38,7 @@ pub returns-clause-refused : goal.returns-clause-refused
 returns-clause-refused g c =
     IfErr-weaker _ _ _
     (λ fault is.
-    no_ask_told c.read_bytes.new.bytes _ _ _ c.split_u32-round.result.0 c.split_u32-shard.result.0 c.split_u32-count.result.0 (length c.args.last.now) (search rules)
+    no_ask_read c.read_bytes.new.bytes _ _ _ c.split_u32-round.result.0 c.split_u32-shard.result.0 c.split_u32-count.result.0 (length c.args.last.now) (search rules)
     c.split_u32-round.ensures.fits c.split_u32-shard.ensures.fits c.split_u32-count.ensures.fits c.split_u32-round.ensures.parts c.split_u32-shard.ensures.parts c.split_u32-count.ensures.parts
     c.if-shard-ge-MAX_SHARDS.false c.if-count-last.false c.requires.labels.few_vertices
     c.args.last.now c.requires.labels c.in_ok-numbers.numbers _ _ _ c.in_ok-numbers.ensures.counted c.in_ok-read_bytes.ensures.came c.in_ok-numbers.ensures.came

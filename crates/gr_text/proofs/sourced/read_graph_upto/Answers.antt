@@ -22,6 +22,6 @@ returns-in-Err-feed g c =
     let so_far = c.loop-turn.invariant in
     let (text, read, got) = so_far.got in
     record {
-      outcome = read_up_to _ _ _ text _ _ _ _ (c.in-Err-feed.ensures.fed text read) c.in-Err-feed.ensures.told
+      outcome = read_up_to _ _ _ text _ _ _ _ (c.in-Err-feed.ensures.fed text read) c.in-Err-feed.ensures.fault
           (c.in-Err-feed.ensures.limit ∙ so_far.limit) got (c.in-Ok.ensures.gave.0 (search rules));
     }

@@ -5,12 +5,12 @@ use Rattle.gr_text.proofs.Judging.{fault_alone, fault_behind}
 use Rattle.gr_text.proofs.verdicts.judge_problem.Goals as goal
 use Rattle.gr_text.proofs.verdicts.judge_problem.Goals.{then-n-from-via-then-n-from, then-n-from-via-else-n-from+then-m-from}
 
-pub returns-in-Some-clause-told : goal.returns-in-Some-clause-told
-returns-in-Some-clause-told c = λ count lines bytes counts (k, l, says, kept_n, kept_m).
+pub returns-in-Some-clause-judged : goal.returns-in-Some-clause-judged
+returns-in-Some-clause-judged c = λ count lines bytes counts (k, l, says, kept_n, kept_m).
     fault_behind (Makes (Problem k l)) _ _ _ count lines bytes c.in-Some.is counts says (λ arcs lawful counted. refl)
 
-pub returns-then-n-from-clause-told : goal.returns-then-n-from-clause-told
-returns-then-n-from-clause-told c = λ count lines bytes counts (k, l, says, kept_n, kept_m).
+pub returns-then-n-from-clause-judged : goal.returns-then-n-from-clause-judged
+returns-then-n-from-clause-judged c = λ count lines bytes counts (k, l, says, kept_n, kept_m).
     fault_alone (Makes (Problem k l)) _ _ count lines bytes c.in_default.is counts says (
       elim c.then-n-from.branch [
         | then-n-from-via-then-n-from w ↦ inl (omega arith)

@@ -15,8 +15,8 @@ returns-in_err-forest-clause-fault g c =
     let p : Progress = c.go_round.new.solver in
     let end = ended c.args.n links c.rounds.solver p c.in_ok-go_round.field-0 c.rounds.invariant.same_vertices c.rounds.invariant.so_far c.in_default.is c.in_ok-go_round.ensures.round in
     let ends : EndsUpTo (vertices p) links = subst (λ n. EndsUpTo n links) (sym end.same_vertices) (joined_ends c.args.n c.args.cut.now c.requires.ends) in
-    let told = err_from_is_err_and c.from_residual-in_err-forest.result c.from_residual-in_err-forest.ensures.1 in
-    rw (told.1, told.2) (finish_only_memory links p c.round-rounds.ensures.progress ends end.so_far end.all c.in_err-forest.field-0.0 c.in_err-forest.ensures.fault)
+    let answered = err_from_is_err_and c.from_residual-in_err-forest.result c.from_residual-in_err-forest.ensures.1 in
+    rw (answered.1, answered.2) (finish_only_memory links p c.round-rounds.ensures.progress ends end.so_far end.all c.in_err-forest.field-0.0 c.in_err-forest.ensures.fault)
 
 pub returns-clause-forest : goal.returns-clause-forest
 returns-clause-forest g c =

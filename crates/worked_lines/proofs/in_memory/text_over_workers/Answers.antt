@@ -10,7 +10,7 @@ returns-in_err-run_lines-clause-ends_well g c =
     let p = err_from_is_err_and c.from_residual.result c.from_residual.ensures.1 in
     λ means. rw (p.1, p.2) (unhindered c.in_err-run_lines.field-0.0 _ _
     (c.in_err-run_lines.ensures.ends_well c.in-Ok.ensures.served
-    (record { bytes = c.args.bytes.now; has = record { told = refl; no_failure = (0, refl, refl); within = means.file.within }; means = means })))
+    (record { bytes = c.args.bytes.now; has = record { known = refl; no_failure = (0, refl, refl); within = means.file.within }; means = means })))
 
 pub returns-clause-text : goal.returns-clause-text
 returns-clause-text g c =

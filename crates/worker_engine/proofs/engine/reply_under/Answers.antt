@@ -6,8 +6,8 @@ use Rattle.worker_engine.proofs.engine.reply_under.Goals as goal
 pub returns-in_default-clause-reply : goal.returns-in_default-clause-reply
 returns-in_default-clause-reply g c = rw (shelf_none c.args.shards.now.entries c.args.ask.shard c.in_default.ensures.value) c.fault.ensures
 
-pub returns-in_err-offers-clause-kept : goal.returns-in_err-offers-clause-kept
-returns-in_err-offers-clause-kept g c =
+pub returns-in_err-offers-clause-shelf : goal.returns-in_err-offers-clause-shelf
+returns-in_err-offers-clause-shelf g c =
     ap shelf_list (c.get_mut.follows.holds c.offers.new.self).0 ∙ kept_same _ c.args.shards.now.entries c.in-Some.kept.now c.offers.new.self c.in-Some.ensures.value c.offers.ensures.links
 
 pub returns-in_err-offers-clause-is_kept : goal.returns-in_err-offers-clause-is_kept
@@ -19,6 +19,6 @@ returns-clause-reply g c =
     rw (shelf_some c.args.shards.now.entries c.args.ask.shard c.in-Some.kept.now c.in-Some.ensures.value)
     (c.reply_with.ensures c.in-Some.kept.now.links c.args.labels.now c.in_ok-offers.ensures.few_links c.requires.ask c.in_ok-offers.ensures.offers).0
 
-pub returns-clause-kept : goal.returns-clause-kept
-returns-clause-kept g c =
+pub returns-clause-shelf : goal.returns-clause-shelf
+returns-clause-shelf g c =
     ap shelf_list (c.get_mut.follows.holds c.offers.new.self).0 ∙ kept_same _ c.args.shards.now.entries c.in-Some.kept.now c.offers.new.self c.in-Some.ensures.value c.offers.ensures.links

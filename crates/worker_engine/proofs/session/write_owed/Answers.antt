@@ -14,7 +14,7 @@ returns-in-Reply-Some-clause-failed g c = failed_with_reply c.args.owed c.in-Rep
 
 pub returns-in-NoMemoryForAsk-clause-stepped : goal.returns-in-NoMemoryForAsk-clause-stepped
 returns-in-NoMemoryForAsk-clause-stepped g c =
-    stepped_with_want c.args.owed c.in-NoMemoryForAsk.round c.in-NoMemoryForAsk.shard c.in-NoMemoryForAsk.is c.write_fault.result _ _ c.write_fault.ensures.told c.write_fault.ensures.took
+    stepped_with_want c.args.owed c.in-NoMemoryForAsk.round c.in-NoMemoryForAsk.shard c.in-NoMemoryForAsk.is c.write_fault.result _ _ c.write_fault.ensures.sort c.write_fault.ensures.took
 
 pub returns-in-NoMemoryForAsk-clause-failed : goal.returns-in-NoMemoryForAsk-clause-failed
 returns-in-NoMemoryForAsk-clause-failed g c =

@@ -30,7 +30,7 @@ invariant_of-seat g c =
 pub returns-clause-undone : goal.returns-clause-undone
 returns-clause-undone g c = λ before absent was.
     let me = c.seat.inside.token.me in
-    let told = ap (λ (m : Me (Unit {0}) View). held (first_events m.0.lists)) c.compare_exchange.ensures.2 in
+    let held_now = ap (λ (m : Me (Unit {0}) View). held (first_events m.0.lists)) c.compare_exchange.ensures.2 in
     let out = held-push (first_events me.0.lists) (GiveBack me.0.first c.args.shard) in
     let old = ap (λ (s : SeatState). held s.events) c.seat.view_is in
-    told ∙ out ∙ ap (filter (λ s. not (s == c.args.shard))) (old ∙ was) ∙ taken_out c.args.shard before absent
+    held_now ∙ out ∙ ap (filter (λ s. not (s == c.args.shard))) (old ∙ was) ∙ taken_out c.args.shard before absent

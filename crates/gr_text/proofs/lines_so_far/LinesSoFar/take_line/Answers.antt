@@ -12,20 +12,20 @@ returns-in-Silent g c = λ lines bytes gives whole.
     let inside = c.self.inside in
     let known = subst (λ (v : LinesSoFarValue). Gives v lines) (sym c.self.view_is) gives in
     subst (λ (v : LinesSoFarValue). Gives v (lines ++ bytes ∷ [])) c.self.view_is (Gives-silent inside.size inside.count inside.links.items lines bytes known
-    (c.in-Silent.ensures.told lines bytes (counts_of inside.size inside.count inside.links.items lines known) whole))
+    (c.in-Silent.ensures.judged lines bytes (counts_of inside.size inside.count inside.links.items lines known) whole))
 
 pub returns-in-Begins : goal.returns-in-Begins
 returns-in-Begins g c = λ lines bytes gives whole.
     let inside = c.self.inside in
     let known = subst (λ (v : LinesSoFarValue). Gives v lines) (sym c.self.view_is) gives in
     Gives-problem inside.size c.in-Begins.size inside.count inside.links.items lines bytes known
-    (c.in-Begins.ensures.told lines bytes (counts_of inside.size inside.count inside.links.items lines known) whole)
+    (c.in-Begins.ensures.judged lines bytes (counts_of inside.size inside.count inside.links.items lines known) whole)
 
 pub returns-in-Adds : goal.returns-in-Adds
 returns-in-Adds g c = λ lines bytes gives whole.
     let inside = c.self.inside in
     let known = subst (λ (v : LinesSoFarValue). Gives v lines) (sym c.self.view_is) gives in
-    let judged = c.in-Adds.ensures.told lines bytes (counts_of inside.size inside.count inside.links.items lines known) whole in
+    let judged = c.in-Adds.ensures.judged lines bytes (counts_of inside.size inside.count inside.links.items lines known) whole in
     arc_taken c.add.result c.args.self.now _ lines bytes c.in-Adds.arc c.args.number c.add.ensures gives
     (subst (λ (v : LinesSoFarValue). Judges (verdict.Adds c.in-Adds.arc) v.size v.count lines bytes) c.self.view_is judged)
 
@@ -33,4 +33,4 @@ pub returns-in-Faulty : goal.returns-in-Faulty
 returns-in-Faulty g c = λ lines bytes gives whole.
     let inside = c.self.inside in
     let known = subst (λ (v : LinesSoFarValue). Gives v lines) (sym c.self.view_is) gives in
-    (refl, c.in-Faulty.ensures.told lines bytes (counts_of inside.size inside.count inside.links.items lines known) whole)
+    (refl, c.in-Faulty.ensures.judged lines bytes (counts_of inside.size inside.count inside.links.items lines known) whole)

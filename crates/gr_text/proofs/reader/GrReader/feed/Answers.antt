@@ -14,7 +14,7 @@ returns-in-Err-clause-fed g c = λ text read.
     let inside = c.self.inside in
     let (short, counted, stands) = read_on _ text c.in_default.is (subst (λ (v : ReaderValue). HasRead v text) (sym c.self.view_is) read) in
     has_stopped _ c.in-Err.fault (text ++ c.args.piece.now) refl
-    (stops_within c.in-Err.fault inside.limit inside.fed c.min-len.result text c.args.piece.now counted c.self.invariant.1 c.min-len.ensures (c.in-Err.ensures.told text stands))
+    (stops_within c.in-Err.fault inside.limit inside.fed c.min-len.result text c.args.piece.now counted c.self.invariant.1 c.min-len.ensures (c.in-Err.ensures.judged text stands))
 
 pub returns-then-len-piece-clause-fed : goal.returns-then-len-piece-clause-fed
 returns-then-len-piece-clause-fed g c = λ text read.
@@ -22,4 +22,4 @@ returns-then-len-piece-clause-fed g c = λ text read.
     let (short, counted, stands) = read_on _ text c.in_default.is (subst (λ (v : ReaderValue). HasRead v text) (sym c.self.view_is) read) in
     has_stopped _ fault.TooLong (text ++ c.args.piece.now) refl
     (too_long inside.limit inside.fed c.min-len.result text c.args.piece.now counted c.self.invariant.1 c.min-len.ensures c.if-len-piece.true
-    (lawful_lines _ _ (c.in_default-read.ensures.told text stands)))
+    (lawful_lines _ _ (c.in_default-read.ensures.judged text stands)))

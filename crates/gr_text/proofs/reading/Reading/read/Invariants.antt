@@ -6,7 +6,7 @@ use Rattle.gr_text.proofs.reading.Reading.read.Given as goal
 abbrev pub invariant-loop-line : goal.invariant-loop-line
 invariant-loop-line g l = record {
   few_lines : l.self-inside.number + length l.rest ≤ l.fn.self.number + length l.piece;
-  told : (text : List ℕ) → Stands l.fn.self text → (done : List ℕ) × (l.piece ≡ done ++ l.rest)
+  stands : (text : List ℕ) → Stands l.fn.self text → (done : List ℕ) × (l.piece ≡ done ++ l.rest)
       × Stands (record { number = l.self-inside.number; partial = l.self-inside.partial; so_far = l.self-inside.so_far }) (text ++ done);
 }
 

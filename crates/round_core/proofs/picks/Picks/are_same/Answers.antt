@@ -4,7 +4,7 @@ use Rattle.std.proofs.lemmas.List.{length-map}
 use Rattle.link_key.specs.declared.links.Link.{Link}
 use Rattle.round_core.specs.Picks.{pick_of}
 use Rattle.round_core.specs.PickNumbers.{IsPickNumber, pick_in}
-use Rattle.round_core.proofs.PickNumbers.{pick_at, same_told}
+use Rattle.round_core.proofs.PickNumbers.{pick_at, same_pick}
 use Rattle.round_core.proofs.picks.Picks.are_same.Goals as goal
 
 pub returns : goal.returns
@@ -18,5 +18,5 @@ returns g c =
     let k : ℕ = c.index-2.result.now in
     let at_one : pick_of c.args.self.now c.args.one ≡ pick_in j = sym (ap (λ (ps : List (Option Link)). get_or ps (c.args.one - 1) None) c.self.view_is) ∙ pick_at numbers (c.args.one - 1) j one c.index.ensures in
     let at_other : pick_of c.args.self.now c.args.other ≡ pick_in k = sym (ap (λ (ps : List (Option Link)). get_or ps (c.args.other - 1) None) c.self.view_is) ∙ pick_at numbers (c.args.other - 1) k other c.index-2.ensures in
-    let same = same_told j k (subst IsPickNumber (sym c.index.ensures) (c.self.invariant (c.args.one - 1) j one)) (subst IsPickNumber (sym c.index-2.ensures) (c.self.invariant (c.args.other - 1) k other)) in
+    let same = same_pick j k (subst IsPickNumber (sym c.index.ensures) (c.self.invariant (c.args.one - 1) j one)) (subst IsPickNumber (sym c.index-2.ensures) (c.self.invariant (c.args.other - 1) k other)) in
     (λ tested. at_one ∙ same.0 (eqb-true j k tested) ∙ sym at_other, λ picked. eq-eqb j k (same.1 (sym at_one ∙ picked ∙ at_other)))

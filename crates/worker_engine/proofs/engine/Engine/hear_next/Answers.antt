@@ -11,5 +11,5 @@ returns-in-AskAgain-clause-hears g c =
     hears_again c.owed_for.result c.reply_under_par-reply.result c.in-AskAgain.round c.in-AskAgain.shard c.self.inside.labels (shelf_list c.self.inside.shards.entries) c.args.self.now
     (shelf_list c.reply_under_par-reply.new.shards.entries) (next_value last c.in_ok-round.field-0) _ _
     (ap (λ x. next_value last x) c.in-AskAgain.is ∙ ap (λ (ls : List ℕ). AskFrame c.in-AskAgain.round c.in-AskAgain.shard ls) c.as_slice.ensures.labels)
-    c.in_ok-round.ensures.lawful c.in_ok-round.ensures.text c.self.view_is c.reply_under_par-reply.ensures.kept
+    c.in_ok-round.ensures.lawful c.in_ok-round.ensures.text c.self.view_is c.reply_under_par-reply.ensures.shelf
     c.reply_under_par-reply.ensures.reply c.reply_under_par-reply.ensures.lawful c.reply_under_par-reply.ensures.is_kept c.owed_for.ensures

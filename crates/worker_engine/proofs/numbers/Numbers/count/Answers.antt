@@ -1,7 +1,7 @@
 use Rattle.std.proofs.Common.{◌≡◌, ◌+◌, ◌<◌, length, get_or, ap, ◌∙◌, arith}
 use Rattle.std.proofs.lemmas.List.{get_or_default}
 use Rattle.worker_engine.specs.declared.numbers.Word.{Word}
-use Rattle.worker_engine.proofs.Numbering.{told_marks, told_total, told_before}
+use Rattle.worker_engine.proofs.Numbering.{noted_marks, noted_total, told_before}
 use Rattle.worker_engine.proofs.numbers.Numbers.count.Goals as goal
 
 pub loop-word-preserved : goal.loop-word-preserved
@@ -14,8 +14,8 @@ loop-word-preserved g c =
     let within : i < length words = omega arith in
     let read : w ≡ get_or words i w = get_or_default words i none w within in
     record {
-      marks = told_marks words i c.loop-word.total w within read seen.total ∙ seen.marks;
-      total = ap (λ n. c.loop-word.total + n) c.count-total.ensures.ones ∙ told_total words i c.loop-word.total w within read seen.total;
+      marks = noted_marks words i c.loop-word.total w within read seen.total ∙ seen.marks;
+      total = ap (λ n. c.loop-word.total + n) c.count-total.ensures.ones ∙ noted_total words i c.loop-word.total w within read seen.total;
       few = omega (arith, seen.few, c.count-total.ensures.few);
       before = told_before words i c.loop-word.total w within read seen.total seen.before;
     }

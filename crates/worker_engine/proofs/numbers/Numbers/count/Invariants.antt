@@ -3,7 +3,7 @@ use Rattle.worker_engine.specs.declared.numbers.Word.{Word}
 use Rattle.worker_engine.specs.Numbers.{marks_of, marked_in}
 use Rattle.worker_engine.proofs.numbers.Numbers.count.Given as goal
 
--- the words before the next one tell how many are marked before them
+-- the words before the next one say how many are marked before them
 abbrev pub invariant-loop-word : goal.invariant-loop-word
 invariant-loop-word g l = record {
   marks : marks_of l.word-items ≡ marks_of l.initial.word-items;

@@ -2,7 +2,7 @@ use Rattle.std.proofs.Common.{◌≡◌, [], ◌∷◌, ◌++◌, ap, ◌∙◌,
 use Rattle.std.specs.Prelude.{codes}
 use Rattle.boruvka.specs.Messages.{unopened_line}
 use Rattle.boruvka.specs.Status.{IsWritten}
-use Rattle.boruvka.proofs.messages.tell_unopened.Goals as goal
+use Rattle.boruvka.proofs.messages.write_unopened.Goals as goal
 
 pub returns-then-name-gt-LONGEST_NAME : goal.returns-then-name-gt-LONGEST_NAME
 returns-then-name-gt-LONGEST_NAME g c = rw c.as_bytes.ensures.value at c.write_three.ensures

@@ -1,0 +1,19 @@
+-- The fault that C gets of a run over bytes in memory.
+use Rattle.std.proofs.Common.{ℕ, List, inl, inr, refl, Err}
+use Rattle.gr_text.specs.declared.faults.ReadFault.TheVariants as read
+use Rattle.forest_run.specs.Files.{IsFirstFaultOf}
+use Rattle.forest_run.specs.declared.fault.RunFault.{RunFault}
+use Rattle.forest_run.specs.declared.fault.RunFault.TheVariants as run
+use Rattle.boruvka_c.specs.Texts.{fault_of, GivesFirstFault}
+
+-- the first fault of a text, or want of memory
+pub gives_first : (X : Type 0) (bytes : List ℕ) (why : RunFault) → IsFirstFaultOf {X = X} bytes (Err why) → GivesFirstFault bytes (fault_of why)
+gives_first X bytes (run.Read (read.Gr f)) first = inl (f.kind, first, refl)
+gives_first X bytes (run.Read read.Memory) first = inr refl
+gives_first X bytes (run.Read read.TooLong) first = absurd first
+gives_first X bytes (run.Read (read.Source line)) first = absurd first
+gives_first X bytes (run.Cut why) first = absurd first
+gives_first X bytes (run.Rounds round) first = absurd first
+gives_first X bytes (run.Missed link) first = absurd first
+gives_first X bytes run.Memory first = absurd first
+gives_first X bytes (run.Write written) first = absurd first
