@@ -1,4 +1,4 @@
--- What the faults of a run are told as.
+-- What the faults of a run are shown as.
 use Rattle.std.specs.Prelude.{ℕ, List, ◌++◌, codes, decimal}
 use Rattle.std.specs.Fmt.{signed_decimal}
 use Rattle.link_key.specs.declared.cuts.CutFault.{CutFault}

@@ -69,7 +69,7 @@ impl RunFault {
     }
 }
 
-// Why a list isn't cut: want of memory is told as everywhere.
+// Why a list isn't cut: want of memory is shown as everywhere.
 fn text_of_cut(fault: CutFault) -> &'static str
     ensures text { result.now ≡ cut_text fault }
     ensures short { length result.now ≤ 40 }

@@ -58,8 +58,9 @@ impl<'a, A: Allocator + Copy> RoundBook<'a, A> {
         RoundBook::open_over(Picks::empty(alloc), round, cut, labels)
     }
 
-    /// The same in the room of picks that are done with, as a step leaves them ([`Solver::step_par`](crate::Solver::step_par)):
-    /// none is left, so that nothing is written, and it asks for more room only where there are more labels.
+    /// The same in the room of picks of which none is left, as a step by threads leaves them
+    /// ([`Solver::step_par`](crate::Solver::step_par)): no pick is written, and room for picks is asked for only where there
+    /// are more labels. What it takes for each shard is as `open` takes it.
     pub fn open_over(
         picks: Picks<A>,
         round: u32,

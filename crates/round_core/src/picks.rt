@@ -143,7 +143,8 @@ impl<A: Allocator> Picks<A> {
     // Leaves these labels without a pick. Where no other has one, none is left.
     pub(crate) fn clear_each(&mut self, labels: &[u32])
         requires { All (IsVertex (length self.old)) labels.now }
-        ensures { HaveAllPicks self.old labels.now → AreNoPicks self.new }
+        ensures each_vertex { length self.new ≡ length self.old }
+        ensures none { HaveAllPicks self.old labels.now → AreNoPicks self.new }
     {
         clear_each(self.numbers.as_mut_slice(), labels);
     }

@@ -111,6 +111,8 @@ impl<A: Allocator + Copy + Send + Sync> Roots<A> {
         ensures once { OnOk result (TakesPicked picks.old (length self.old) taken.old.items taken.new.items) }
         ensures relabelled { OnOk result (IsRelabelling (length labels.old) labels.old (Picked picks.old) labels.new) }
         ensures none { OnOk result (AreNoPicks picks.new) }
+        ensures room { OnOk result (length picks.new ≡ length picks.old) }
+        ensures kept { OnErr result (picks.new ≡ picks.old) }
         ensures before { StandsBefore taken.old.items taken.new.items }
         ensures labels { OnErr result (labels.new ≡ labels.old) }
         ensures same { self.new ≡ self.old }

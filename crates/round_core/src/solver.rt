@@ -56,7 +56,8 @@ impl From<AllocError> for SolveFault {
 /// [`laws::rounds_end_with_forest`](crate::laws::rounds_end_with_forest) says. It believes no count of rounds: a round with
 /// picks that comes past the bound is refused.
 ///
-/// 8 bytes a vertex, and 8 more from the first step that takes links on; 16 bytes for each link taken.
+/// 8 bytes a vertex, 4 more where the labels' bytes are kept, and 8 more from the first step that takes links on; 16
+/// bytes for each link taken.
 #[derive(Drop)]
 pub struct Solver<A: Allocator = Global> {
     labels: Labels<A>,
@@ -139,9 +140,8 @@ impl<A: Allocator + Copy> Solver<A> {
     /// The links taken, as a forest, where they join the ends of each link of the cut. Else the first link of the cut,
     /// in its order, whose ends they don't join; that is looked for before memory is asked for.
     ///
-    /// Where one component is left it looks at no link of the cut, else at each once; and it sorts the links taken: for m
-    /// links of n vertices O(m + n log n) time. Memory: 16 bytes for each link taken, and while it sorts what
-    /// [`Forest::of_distinct`] takes beside them.
+    /// It looks at each link of the cut once, and sorts the links taken: for m links of n vertices O(m + n log n) time.
+    /// Memory: 16 bytes for each link taken, and while it sorts what [`Forest::of_distinct`] takes beside them.
     pub fn finish(&self, cut: &Cut<A>) -> Result<Forest<A>, SolveFault>
         requires ends { All (EndsUpTo (vertices self.now)) cut.now }
         ensures forest { IfOk result (IsFinished self.now (joined cut.now)) }
@@ -153,8 +153,9 @@ impl<A: Allocator + Copy> Solver<A> {
         Ok(in_key_order(*self.taken.allocator(), self.taken.as_slice())?)
     }
 
-    /// The same by threads, as there are processors for, and without a copy of the links taken: the forest stays in their
-    /// list. Beside it the memory is what [`Forest::of_distinct_par`] takes while it sorts.
+    /// The same by threads, where there are many links: up to eight, as there are processors for, look for a missed link,
+    /// and those of [`Forest::of_distinct_par`] sort. It takes the solver, at a fault too, and copies no link taken: the
+    /// forest stays in their list. Beside it the memory is what `of_distinct_par` takes while it sorts.
     pub fn finish_par<R: Threads + Sync>(
         self,
         rt: &R,
@@ -182,7 +183,8 @@ impl<A: Allocator + Copy + Send + Sync> Solver<A> {
     /// is: the new labels are written over the old ones, with their bytes where these are kept, and each pick is let go of, so
     /// that a book can be opened over the picks ([`RoundBook::open_over`](crate::RoundBook::open_over)) without clearing them.
     ///
-    /// Where no thread can be made the caller's does it. It takes the memory that `step` does, but for new labels.
+    /// Where no thread can be made the caller's does it. It takes the memory that `step` does, but for new labels. After an
+    /// error the picks are as they were too.
     pub fn step_par<R: Threads + Sync>(
         &mut self,
         rt: &R,
@@ -193,6 +195,8 @@ impl<A: Allocator + Copy + Send + Sync> Solver<A> {
         ensures fault { IfErr result (IsStepFault self.old picks.old) }
         ensures same { OnErr result (self.new ≡ self.old) }
         ensures none { OnOk result (AreNoPicks picks.new) }
+        ensures room { OnOk result (length picks.new ≡ length picks.old) }
+        ensures kept { OnErr result (picks.new ≡ picks.old) }
     {
         if self.has_no_picks(&*picks) {
             return Ok(Turn::Done);
@@ -201,15 +205,15 @@ impl<A: Allocator + Copy + Send + Sync> Solver<A> {
         if is_past_bound(round, self.labels.n()) {
             return Err(SolveFault::Rounds { round });
         }
-        let before = self.taken.len();
+        let earlier = self.taken.len();
         let Ok(()) = self
             .roots
             .merge_par(rt, &mut self.labels, picks, &mut self.taken)
         else {
-            self.taken.truncate(before);
+            self.taken.truncate(earlier);
             return Err(SolveFault::Memory);
         };
-        let count = (self.taken.len() - before) as u32;
+        let count = (self.taken.len() - earlier) as u32;
         self.roots.keep(self.labels.as_slice());
         self.rounds += 1;
         Ok(Turn::Merged(count))

@@ -33,7 +33,7 @@ pub record AreCounted (words : List Word) : Type 0 where
   pub before : (w : ℕ) (d : Word) → w < length words → (slice_index_or words w d).before ≡ marked_in (marks_of words) w
   pub few : marked_in (marks_of words) (length words) ≤ 2 ^ 28
 
--- the number of a marked label: one more than there are marked labels below it
+-- the number of a label: how many are marked in the words before its own, and in its word below it, and one
 abbrev pub number_of : List ℕ → ℕ → ℕ
 number_of marks c = marked_in marks ((c - 1) / 64) + count_ones (slice_index marks ((c - 1) / 64) % 2 ^ ((c - 1) % 64)) + 1
 
@@ -113,7 +113,7 @@ pub record AreByNumbers (marks names : List ℕ) (by_labels live : List LiveLink
   pub named_are : All (AreBothNamed marks names) by_labels
 
 -- the live links before a place of the list are written with the numbers of their labels
-pub record AreListedFrom (to : ℕ) (links : List Link) (labels marks : List ℕ) (live : List LiveLink) : Type 0 where
+pub record AreListedUpTo (to : ℕ) (links : List Link) (labels marks : List ℕ) (live : List LiveLink) : Type 0 where
   pub by_labels : List LiveLink
   pub places : AreLive links labels 0 to (places_of by_labels)
   pub written : All (λ e. (e.place < length links) × ((l : Link) → l ≡ slice_index_or links e.place l → e ≡ written_at labels l e.place)) by_labels

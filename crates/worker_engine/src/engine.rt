@@ -31,8 +31,9 @@ pub const NO_LABEL: u8 = 3;
 /// scan. Contracts see which links it keeps under which number.
 ///
 /// A shard is scanned by numbers of its own for the labels that its links have: 16 bytes and a bit for each of these for the
-/// table, 4 bytes for its name, and a quarter of a byte a vertex. One with at least twice as many links as vertices that is
-/// scanned by threads is scanned by the labels themselves.
+/// table, 4 bytes for its name, and a quarter of a byte a vertex. One of 131,072 links or more, at least twice as many as
+/// vertices, that is scanned by threads is scanned by the labels themselves, each part over a table of 16 bytes and a bit a
+/// vertex.
 ///
 /// Once an answer shows that a shard has links whose ends have one label, these are laid aside: it lists the live ones, each
 /// with numbers or labels of its ends, by 24 bytes a live link, and 4 bytes for the name of each number, and a scan passes
@@ -75,8 +76,10 @@ impl<A: Allocator + Copy> Engine<A> {
     /// ask is answered by the light offers of its shard, or by a fault: [`NOT_KEPT`] where no such shard is kept,
     /// else [`NO_LABEL`] where an end of a link is greater than the number of labels.
     ///
-    /// An ask costs a scan, and memory for the offers; the table of the scan is used again. The only error is want
-    /// of memory, for a shard or for an ask of a shard that is kept; the engine is unchanged then.
+    /// An ask costs a scan, memory for the offers, and 4 bytes for each label that the shard's links have, for the names of
+    /// their numbers; once live links are listed, 8 more for each that they had before, until the ask is answered. The table
+    /// of the scan and the marks are used again. The only error is want of memory, for a shard or for an ask of a shard that
+    /// is kept; the engine is unchanged then.
     pub fn hear(&mut self, frame: Frame<A>) -> Result<Option<Frame<A>>, AllocError>
         requires lawful { IsLawful (value_of frame) }
         ensures shelf { OnOk result (shelf_of self.new ≡ shelf_with (shelf_of self.old) (value_of frame)) }

@@ -5,7 +5,7 @@ ghost use Rattle.link_key.specs.Link.{EndsUpTo};
 ghost use Rattle.link_key.specs.Labels.{AreLabels};
 ghost use Rattle.round_theory.specs.Labelling.{IsVertex};
 ghost use Rattle.worker_engine.specs.Live.{AreLiveLinks, packed};
-ghost use Rattle.worker_engine.specs.Numbers.{marks_of, marked_in, AreCounted, AreMarkedUpTo, AreNamedUpTo, HaveNames, HaveMarks, AreByNumbers, AreListedFrom, shown, IsListed};
+ghost use Rattle.worker_engine.specs.Numbers.{marks_of, marked_in, AreCounted, AreMarkedUpTo, AreNamedUpTo, HaveNames, HaveMarks, AreByNumbers, AreListedUpTo, shown, IsListed};
 
 use crate::live::{LiveLink, pack, write_live};
 use crate::numbers::{Numbers, number_names};
@@ -134,7 +134,7 @@ fn write_by_numbers<A: Allocator + Copy>(
     requires labels { AreLabels labels.now }
     requires counted { AreCounted numbers.now }
     requires marked { AreMarkedUpTo (length links.now) links.now labels.now (marks_of numbers.now) }
-    ensures live { IfOk result (λ live. AreListedFrom (length links.now) links.now labels.now (marks_of numbers.now) live.items) }
+    ensures live { IfOk result (λ live. AreListedUpTo (length links.now) links.now labels.now (marks_of numbers.now) live.items) }
 {
     let mut live = Vec::with_capacity(alloc, room)?;
     for place in 0..links.len() {

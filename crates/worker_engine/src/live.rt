@@ -1,4 +1,4 @@
-//! Links of a shard that are live, each written with labels of its ends.
+//! Links of a shard that are live, each written with labels of its ends, or with a shard's own numbers of them.
 //!
 //! A link whose ends have one label leaves no component, and never will under labels that coarsen these: it is quiet, and
 //! laid aside. Of the others a label of each end is written beside the weight and the place. Under labels that coarsen,
@@ -20,7 +20,8 @@ use crate::table::Table;
 use link_key::Link;
 use std::alloc::{AllocError, Allocator};
 
-// What is written of a live link: a label of its lower end, one of its higher end, its weight and its place.
+// What is written of a live link: a label of its lower end, or that label's number, the same of its higher end, its weight
+// and its place.
 #[derive(Clone, Copy)]
 pub(crate) struct LiveLink {
     pub(crate) low: u32,

@@ -73,7 +73,8 @@ pub fn scan_par<R: Threads + Sync, A: Allocator + Copy + Send + Sync, B: Allocat
 }
 
 /// Scans one shard after another, each over the table of the one before, so that only the first one, or one of more
-/// labels, asks for memory for it; a scan by threads makes a table for each part. Contracts see how many labels the table has: those of the last scan.
+/// labels, asks for memory for it; a scan by threads makes a table for each part. Contracts see how many labels the table
+/// has: those of the last scan. An engine's has a place for each number of the last shard's labels.
 #[derive(Drop)]
 pub struct Scanner<A: Allocator = Global> {
     table: Table<A>,

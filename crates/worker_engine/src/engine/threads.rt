@@ -19,8 +19,8 @@ impl<A: Allocator + Copy + Send + Sync> Engine<A> {
     /// Hears one frame as [`hear`](Engine::hear) does, but that it scans for an ask by threads, as
     /// [`scan_par`](crate::scan_par) does.
     ///
-    /// An ask costs that scan, and memory for the offers and for a table of each part. The only error is want of memory,
-    /// for a shard or for an ask of a shard that is kept; the engine is unchanged then.
+    /// An ask that is scanned by threads costs that scan, and memory for the offers and for a table of each part; any other
+    /// costs what it does there. The only error is want of memory, for a shard or for an ask of a shard that is kept; the engine is unchanged then.
     pub fn hear_par<R: Threads + Sync>(
         &mut self,
         rt: &R,

@@ -24,4 +24,4 @@ returns-in_default-clause-ends g c = as_over _ _ _ _ _ c.if-chosen.false (wants_
 
 pub returns-clause-ends : goal.returns-clause-ends
 returns-clause-ends g c = as_over _ _ _ _ _ c.if-chosen.false
-    (over_workers _ _ _ _ _ _ c.in-Ok.started.0.items (omega (arith, c.in-Ok.ensures.few, c.workers_beside-held.ensures)) c.in-Ok.ensures.unused c.run_started.ensures.ends)
+    (over_workers _ _ _ _ _ _ c.in-Ok.started.0.items (omega (arith, c.in-Ok.ensures.few, c.workers_beside-reserved.ensures)) c.in-Ok.ensures.unused c.run_started.ensures.ends)

@@ -15,8 +15,8 @@ invariant_of-self g c =
     let items = with_items_is c.self.inside.numbers new (c.clear_each.auto.numbers ∙ c.as_mut_slice.ensures.len) in
     subst (λ (us : List ℕ). All IsPickNumber us) (sym items) (cleared_are_numbers c.args.labels.now old new are c.self.invariant)
 
-pub returns : goal.returns
-returns g c = λ have.
+pub returns-clause-none : goal.returns-clause-none
+returns-clause-none g c = λ have.
     let old = c.self.inside.numbers.items in
     let new = c.clear_each.new.numbers in
     let are : AreCleared c.args.labels.now old new = subst (λ (us : List ℕ). AreCleared c.args.labels.now us new) c.as_mut_slice.ensures.value c.clear_each.ensures in
