@@ -6,17 +6,7 @@ of it: FILE or a stream a status and a line, a worker nothing but that worker, a
 import re
 from errno import EAGAIN, ECONNRESET, EINPROGRESS, EINTR, EIO, EMFILE, ENOMEM, ENOSPC, EPIPE, errorcode
 
-from cases.running import (
-    NOTHING_WRITTEN,
-    SMALL_FOREST,
-    SMALL_NET,
-    Program,
-    Report,
-    case,
-    drawn_graph,
-    told_by,
-    written,
-)
+from cases.running import NOTHING_WRITTEN, SMALL_FOREST, SMALL_NET, Program, Report, case, drawn_graph, told_by, written
 from cases.sockets import NOTHING
 from cases.streams import LEAST_PIECE, READ_ROOM
 from cases.workers import over

@@ -5,20 +5,7 @@ import random
 import resource
 import time
 
-from cases.running import (
-    SMALL_FOREST,
-    SMALL_NET,
-    Program,
-    Report,
-    case,
-    drawn_graph,
-    expect,
-    file_of,
-    forest_text,
-    ran,
-    told_by,
-    written,
-)
+from cases.running import SMALL_FOREST, SMALL_NET, Program, Report, case, drawn_graph, expect, file_of, forest_text, ran, told_by, written
 
 
 def over(workers, shards):
@@ -196,9 +183,10 @@ def a_list_halved_three_times(room):
         words = [Program.path, *over(workers, shards), "--report"]
         found, told = told_by(room, words, more, {"PROCESSORS": "8", "JOINED": "1"})
         report = healthy_report(found, text, workers, shards)
-        # each round scans all of them without a worker; a worker, in a thread of its own, does so in the first
+        # each round scans all of them without a worker, and the end looks for a missed one; a worker, in a thread of its
+        # own, scans so in the first
         threads = len(told)
-        if told.strip(b"j") or (threads < 8 if workers else threads != 7 * (report.rounds + 1)):
+        if told.strip(b"j") or (threads < 8 if workers else threads != 7 * (report.rounds + 2)):
             raise AssertionError(f"{workers} workers: told {told!r}: {vars(report)}")
 
 

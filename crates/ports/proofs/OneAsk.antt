@@ -28,6 +28,14 @@ has_put version due round shard labels known has =
     let fits : FrameValue → Type 0 = λ v. version_of v ≤ version in
     All-append fits due (AskFrame round shard labels ∷ []) has (All-cons fits (AskFrame round shard labels) [] known.from_first (All-nil fits))
 
+-- what is due of a shard, and that under another name for it and for its links
+abbrev due_of : {L : Type 0} → ClientState L → ℕ → List FrameValue
+due_of before shard = shard_due (has_shard before.sent shard) shard (links_at before.cut shard)
+
+due_is : {L : Type 0} (before : ClientState L) (shard number : ℕ) (links : List Link) → number ≡ shard → links ≡ links_at before.cut shard → shard_due (has_shard before.sent number) number links ≡ due_of before shard
+due_is before shard number links same same' =
+    ap (λ (ls : List Link). shard_due (has_shard before.sent number) number ls) same' ∙ ap (λ (n : ℕ). shard_due (has_shard before.sent n) n (links_at before.cut shard)) same
+
 -- the hello came, the shard and the ask were sent
 module _ {L : Type 0} (state : L → LineState) (round shard : ℕ) (labels : List ℕ) (version : ℕ) (before : ClientState L) where
   pub asked_so_far : (number : ℕ) (links : List Link) (r1 r2 : LineState) (r3 : L) → number ≡ shard → links ≡ links_at before.cut shard
@@ -35,11 +43,9 @@ module _ {L : Type 0} (state : L → LineState) (round shard : ℕ) (labels : Li
       → Transfers 0 0 (texts_of (shard_due (has_shard before.sent number) number links)) [] r1 r2
       → Transfers 0 0 (text_of (AskFrame round shard labels)) [] r2 (state r3) → SendsAsk state round shard labels version before r3
   asked_so_far number links r1 r2 r3 same same' first known has second third =
-      let there : List Link = links_at before.cut shard in
       let hello : List ℕ = hello_due before.version version before.worker in
-      let due : List FrameValue = shard_due (has_shard before.sent shard) shard there in
-      let is : shard_due (has_shard before.sent number) number links ≡ due =
-      ap (λ (ls : List Link). shard_due (has_shard before.sent number) number ls) same' ∙ ap (λ (n : ℕ). shard_due (has_shard before.sent n) n there) same in
+      let due : List FrameValue = due_of before shard in
+      let is : shard_due (has_shard before.sent number) number links ≡ due = due_is before shard number links same same' in
       let brought : Transfers 0 0 (texts_of due) [] r1 r2 = subst (λ (fs : List FrameValue). Transfers 0 0 (texts_of fs) [] r1 r2) is second in
       let whole = went_then 0 0 0 0 _ _ _ _ (state before.line) r2 (state r3) (went_then 0 0 0 0 _ _ _ _ (state before.line) r1 r2 first brought) third in
       let said : texts_of due ++ text_of (AskFrame round shard labels) ≡ texts_of (due ++ AskFrame round shard labels ∷ []) =
@@ -71,11 +77,9 @@ module _ {L : Type 0} (state : L → LineState) (round shard : ℕ) (labels : Li
       → HasFrames version (shard_due (has_shard before.sent number) number links) → Transfers 0 0 (texts_of (shard_due (has_shard before.sent number) number links)) [] r1 r2
       → SendingFault e r2 (state after.line) → Cause state e round shard labels before after
   unsent_ask number links r1 r2 e same same' first greeted has second fault =
-      let there : List Link = links_at before.cut shard in
       let hello : List ℕ = hello_due before.version version before.worker in
-      let due : List FrameValue = shard_due (has_shard before.sent shard) shard there in
-      let is : shard_due (has_shard before.sent number) number links ≡ due =
-      ap (λ (ls : List Link). shard_due (has_shard before.sent number) number ls) same' ∙ ap (λ (n : ℕ). shard_due (has_shard before.sent n) n there) same in
+      let due : List FrameValue = due_of before shard in
+      let is : shard_due (has_shard before.sent number) number links ≡ due = due_is before shard number links same same' in
       let brought : Transfers 0 0 (texts_of due) [] r1 r2 = subst (λ (fs : List FrameValue). Transfers 0 0 (texts_of fs) [] r1 r2) is second in
       let went : Transfers 0 0 (texts_of due) hello (state before.line) r2 =
       subst (λ (t : List ℕ). Transfers 0 0 (texts_of due) t (state before.line) r2) (append-nil hello) (went_then 0 0 0 0 _ _ _ _ (state before.line) r1 r2 first brought) in

@@ -1,7 +1,8 @@
 -- The lesser of two picks, label by label: it is the pick of the links of both.
 use Rattle.std.proofs.Common.{◌≡◌, ℕ, ◌-◌, ◌<◌, ◌≤◌, ◌⊎◌, min, List, ◌++◌, length, map, get_or, Contains, Some, None, refl, sym, ap, ◌∙◌, subst, inl, inr, arith}
-use Rattle.std.specs.Prelude.{Option, All, IsSomeAnd}
-use Rattle.std.proofs.lemmas.List.{length-map, get_or-map, get_or_default}
+use Rattle.std.specs.Prelude.{Option, All, Vec, IsSomeAnd}
+use Rattle.std.specs.Vec.{with_items}
+use Rattle.std.proofs.lemmas.List.{length-map, get_or-map, get_or_default, with_items_is}
 use Rattle.link_key.specs.declared.links.Link.{Link}
 use Rattle.round_theory.specs.LinkSet.{LinkSet, Either, SameLinks}
 use Rattle.round_theory.specs.Offers.{IsLesser}
@@ -72,12 +73,12 @@ module _ (xs ys zs : List ℕ) (long : length xs ≡ length ys) (same : length z
       subst (λ (k : ℕ). IsPickNumber k × IsLesserPick (pick_in (get_or xs i 0)) (pick_in (get_or ys i 0)) (pick_in k)) (sym (are i lt))
       (lesser_number (get_or xs i 0) (get_or ys i 0) (xs_are i 0 lt) (ys_are i 0 in_ys))
 
-  pub lessers_are_numbers : All IsPickNumber zs
+  lessers_are_numbers : All IsPickNumber zs
   lessers_are_numbers i d lt =
       let in_xs : i < length xs = omega (arith, lt, same) in
       subst IsPickNumber (get_or_default zs i 0 d lt) (at i in_xs).0
 
-  pub lessers_are_picks : (labels : List ℕ) (seen more : List Link) → ArePicks labels (Contains seen) (map pick_in xs) → ArePicks labels (Contains more) (map pick_in ys) → ArePicks labels (Contains (seen ++ more)) (map pick_in zs)
+  lessers_are_picks : (labels : List ℕ) (seen more : List Link) → ArePicks labels (Contains seen) (map pick_in xs) → ArePicks labels (Contains more) (map pick_in ys) → ArePicks labels (Contains (seen ++ more)) (map pick_in zs)
   lessers_are_picks labels seen more first second = record {
     each_vertex = length-map zs pick_in ∙ same ∙ sym (length-map xs pick_in) ∙ first.each_vertex;
     ends = λ l picked.
@@ -99,3 +100,30 @@ module _ (xs ys zs : List ℕ) (long : length xs ≡ length ys) (same : length z
         subst (IsPickOf labels (Contains (seen ++ more)) c) (sym (get_or-map pick_in zs (c - 1) 0 None in_zs))
         (pick_of_both (Contains seen) (Contains more) (Contains (seen ++ more)) (append_either seen more) labels c (pick_in (get_or xs (c - 1) 0)) (pick_in (get_or ys (c - 1) 0)) (pick_in (get_or zs (c - 1) 0)) (at (c - 1) in_xs).1 x_is y_is);
   }
+
+-- numbers that are written over those of one side, where the numbers of each side are read as a slice
+module _ {Z : Type 0} (mine : Vec ℕ Z) (theirs : List ℕ) (picks others : List (Option Link)) (mine_are : map pick_in mine.items ≡ picks) (theirs_are : map pick_in theirs ≡ others)
+    (each : length picks ≡ length others) (read beside new : List ℕ) (read_is : read ≡ mine.items) (beside_is : beside ≡ theirs) (all : length new ≡ length read)
+    (room : length read ≡ mine.len) (lesser : AreLesserOf read beside new) (are_mine : All IsPickNumber mine.items) (are_theirs : All IsPickNumber theirs) where
+  as_many : length mine.items ≡ length theirs
+  as_many = sym (length-map mine.items pick_in) ∙ ap length mine_are ∙ each ∙ sym (ap length theirs_are) ∙ length-map theirs pick_in
+
+  each_new : length new ≡ length mine.items
+  each_new = all ∙ ap length read_is
+
+  are : AreLesserOf mine.items theirs new
+  are = subst (λ (us : List ℕ). AreLesserOf mine.items us new) beside_is (subst (λ (us : List ℕ). AreLesserOf us beside new) read_is lesser)
+
+  written : (with_items mine new).items ≡ new
+  written = with_items_is mine new (all ∙ room)
+
+  pub written_are_numbers : All IsPickNumber (with_items mine new).items
+  written_are_numbers = subst (λ (us : List ℕ). All IsPickNumber us) (sym written) (lessers_are_numbers mine.items theirs new as_many each_new are are_mine are_theirs)
+
+  pub written_are_picks : (labels : List ℕ) (seen more : List Link) → ArePicks labels (Contains seen) picks → ArePicks labels (Contains more) others
+      → ArePicks labels (Contains (seen ++ more)) (map pick_in (with_items mine new).items)
+  written_are_picks labels seen more before beside_are =
+      let first : ArePicks labels (Contains seen) (map pick_in mine.items) = subst (λ (ps : List (Option Link)). ArePicks labels (Contains seen) ps) (sym mine_are) before in
+      let second : ArePicks labels (Contains more) (map pick_in theirs) = subst (λ (ps : List (Option Link)). ArePicks labels (Contains more) ps) (sym theirs_are) beside_are in
+      subst (λ (us : List ℕ). ArePicks labels (Contains (seen ++ more)) (map pick_in us)) (sym written)
+      (lessers_are_picks mine.items theirs new as_many each_new are are_mine are_theirs labels seen more first second)

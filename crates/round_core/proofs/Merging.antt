@@ -1,5 +1,5 @@
 -- A solver that takes the picks of a round.
-use Rattle.std.proofs.Common.{◌≡◌, ◌≢◌, ℕ, ◌+◌, ◌<◌, ◌≤◌, ◌^◌, max, ◌↔◌, Bool, true, false, List, [], ◌∷◌, ◌++◌, length, get_or, Contains, Some, None, refl, sym, ◌∙◌, subst, inl, inr, arith}
+use Rattle.std.proofs.Common.{◌≡◌, ◌≢◌, ℕ, ◌+◌, ◌<◌, ◌≤◌, ◌^◌, max, ◌↔◌, Bool, true, false, List, [], ◌∷◌, ◌++◌, length, get_or, Contains, Some, None, refl, sym, ap, ◌∙◌, subst, length-append, inl, inr, arith}
 use Rattle.std.specs.Prelude.{Option}
 use Rattle.std.specs.List.{AllByRecursion}
 use Rattle.std.proofs.lemmas.Bool.{cases_lt}
@@ -110,11 +110,14 @@ in_bound n m round r decides fails same = elim (cases_lt (max 1 m) (2 ^ round)) 
   | inr fits ↦ subst (λ k. 2 ^ round ≤ max 1 k) same fits
 ]
 
-pub is_merged : (p : Progress) (picks : List (Option Link)) (labels : List ℕ) (links taken : List Link) (count : ℕ) → IsProgress p → ArePicksOfHearings p.labels picks → ¬ (AreNoPicks picks)
-    → ArePickedOnce picks links → IsRelabelling (vertices p) p.labels (Picked picks) labels → 2 ^ (p.rounds + 1) ≤ max 1 (vertices p) → count ≡ length links → taken ≡ p.taken ++ links
+pub is_merged : (p : Progress) (picks : List (Option Link)) (labels : List ℕ) (links taken : List Link) (count : ℕ) (r : Bool) → IsProgress p → ArePicksOfHearings p.labels picks
+    → (r ≡ true) ↔ AreNoPicks picks → r ≡ false → ArePickedOnce picks links → IsRelabelling (vertices p) p.labels (Picked picks) labels → 2 ^ (p.rounds + 1) ≤ max 1 (vertices p) → count ≡ length links → taken ≡ p.taken ++ links
     → IsMerged picks count p (record { labels = labels; taken = taken; rounds = p.rounds + 1 })
-is_merged p picks labels links taken count is are some once joined in_time number taken_is = record {
-  some = let some_in = some_taken picks links some once in omega (arith, some_in, number);
+is_merged p picks labels links taken count r is are decides fails once joined in_time number taken_is = record {
+  some =
+      let some : ¬ (AreNoPicks picks) = λ none. let wrong : false ≡ true = sym fails ∙ decides.1 none in absurd (cc) in
+      let some_in = some_taken picks links some once in
+      omega (arith, some_in, number);
   added = links;
   number = sym number;
   picked = once;
@@ -123,3 +126,7 @@ is_merged p picks labels links taken count is are some once joined in_time numbe
   rounds = refl;
   in_time = in_time;
 }
+
+-- the new links, behind those that were there, are as many as are more
+pub so_many_more : (before added after : List Link) → after ≡ before ++ added → length after ≡ length before + length added
+so_many_more before added after behind = ap length behind ∙ length-append before added

@@ -1,14 +1,16 @@
 -- The least root under each parent, and the labels that it gives.
 use Rattle.std.proofs.Common.{◌≡◌, ◌≢◌, ℕ, zero, suc, ◌+◌, ◌-◌, ◌<◌, ◌≤◌, ◌==◌, Bool, true, false, List, length, get_or, set, map, Contains, refl, sym, ap, ◌∙◌, subst, inl, inr, arith}
 use mir.Val.{bool_byte}
-use Rattle.std.specs.Prelude.{Option, AllPairs, All, filter}
+use Rattle.std.specs.Prelude.{Option, AllPairs, All, Vec, filter}
+use Rattle.std.specs.Vec.{with_items}
 use Rattle.std.proofs.lemmas.Bool.{cases_eq, cases_lt, eqb-true, eq-eqb}
 use Rattle.std.proofs.lemmas.List.Filters.{FiltersInPlace, FiltersInPlace-more_no, FiltersInPlace-more_set}
-use Rattle.std.proofs.lemmas.List.{drop-set-lt, take-set, length-set, length-map, get_or-map, get_or-set_same, get_or-set_other, get_or_default}
+use Rattle.std.proofs.lemmas.List.{drop-set-lt, take-set, length-set, length-map, get_or-map, get_or-set_same, get_or-set_other, get_or_default, with_items_is}
 use Rattle.std.proofs.lemmas.List.Elements.{Contains-get_or, All-contains}
 use Rattle.std.proofs.lemmas.List.Kept.{AllPairs-filter}
 use Rattle.link_key.specs.declared.links.Link.{Link}
 use Rattle.link_key.specs.Labels.{label_of, AreLabels, AreApart}
+use Rattle.link_key.specs.Rounds.{renamed}
 use Rattle.link_key.proofs.Stages.{kept_in, kept_if}
 use Rattle.round_theory.specs.Labelling.{IsVertex, JoinsOver, IsRelabelling, IsLeastJoinedOver}
 use Rattle.round_core.specs.Picks.{Picked}
@@ -192,12 +194,25 @@ relabelled_by_names labels roots parents names new picks are are_roots are_paren
         over_then labels (Picked picks) (Picked picks) (λ l l_in. l_in) v c u self (over_then labels (Picked picks) (Picked picks) (λ l l_in. l_in) c (get_or parents c 0) u up down)
 
 -- so it is where the roots and their parents were handed on in between
-pub relabelled_behind : (labels roots roots' parents parents' names : List ℕ) (picks : List (Option Link)) → AreLabels labels → AreRoots labels roots → AreParents labels roots picks parents → AreSettled roots parents → roots ≡ roots' → parents ≡ parents'
+relabelled_behind : (labels roots roots' parents parents' names : List ℕ) (picks : List (Option Link)) → AreLabels labels → AreRoots labels roots → AreParents labels roots picks parents → AreSettled roots parents → roots ≡ roots' → parents ≡ parents'
     → ((c : ℕ) → Contains roots' c → IsLeastUnder roots' parents' c (get_or names c 0)) → IsRelabelling (length labels) labels (Picked picks) (map (λ c. get_or names c 0) labels)
 relabelled_behind labels roots roots' parents parents' names picks are are_roots are_parents settled same_roots same_parents named =
     relabelled_by_names labels roots parents names (map (λ c. get_or names c 0) labels) picks are are_roots are_parents settled
     (subst (λ rs. (c : ℕ) → Contains rs c → IsLeastUnder rs parents c (get_or names c 0)) (sym same_roots)
     (subst (λ ps. (c : ℕ) → Contains roots' c → IsLeastUnder roots' ps c (get_or names c 0)) (sym same_parents) named)) refl
+
+-- the same where `old` is a slice of the labels, and the parents, and then the names, are written over a vector of numbers
+pub relabelled_over : {Z : Type 0} (labels old roots roots' : List ℕ) (numbers : Vec ℕ Z) (parents parents' names given : List ℕ) (picks : List (Option Link))
+    → old ≡ labels → AreLabels labels → AreRoots labels roots → AreParents old roots picks parents → AreSettled roots parents → roots ≡ roots'
+    → length parents ≡ numbers.len → parents' ≡ (with_items numbers parents).items
+    → length names ≡ (with_items numbers parents).len → given ≡ (with_items (with_items numbers parents) names).items
+    → ((c : ℕ) → Contains roots' c → IsLeastUnder roots' parents' c (get_or names c 0)) → IsRelabelling (length old) old (Picked picks) (renamed given old)
+relabelled_over labels old roots roots' numbers parents parents' names given picks same are are_roots are_parents settled same_roots long parents_are long_names given_are named =
+    let written : parents' ≡ parents = parents_are ∙ with_items_is numbers parents long in
+    let names_are : given ≡ names = given_are ∙ with_items_is (with_items numbers parents) names long_names in
+    let first = relabelled_behind old roots roots' parents parents' names picks (subst AreLabels (sym same) are) (subst (λ ls. AreRoots ls roots) (sym same) are_roots)
+    are_parents settled same_roots (sym written) named in
+    subst (λ (xs : List ℕ). IsRelabelling (length old) old (Picked picks) (map (λ c. get_or xs c 0) old)) (sym names_are) first
 
 -- the roots that label themselves under the new labels too are the roots of those
 pub kept_roots : (labels roots new : List ℕ) (picks : List (Option Link)) → AreLabels labels → AreLabels new → AreRoots labels roots → IsRelabelling (length labels) labels (Picked picks) new

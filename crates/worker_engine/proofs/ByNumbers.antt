@@ -143,7 +143,7 @@ module _ (links : List Link) (labels marks names : List ℕ) (ends : EndsUpTo (l
           (c, c_is, number, b, ap (λ n. get_or names (n - 1) 0) (sym number) ∙ named)
 
       -- so the pairs, by the names of the numbers, are the light offers
-      pub light_by_numbers : AreLightOffers links labels (map (offered names) pairs)
+      light_by_numbers : AreLightOffers links labels (map (offered names) pairs)
       light_by_numbers = record { ascending = ascending; exact = λ c place. (to c place, back c place) }
         where
           ascending : (i j : ℕ) (d : Offer) → i < j → j < length (map (offered names) pairs) → (get_or (map (offered names) pairs) i d).0 < (get_or (map (offered names) pairs) j d).0
@@ -174,6 +174,12 @@ module _ (links : List Link) (labels marks names : List ℕ) (ends : EndsUpTo (l
               let x : Offer = (number_of marks c, place) in
               let there : Contains (map (offered names) pairs) (offered names x) = (k, omega (arith, lt, length-map pairs (offered names)), get_or-map (offered names) pairs k x (offered names x) lt ∙ ap (offered names) here) in
               subst (λ (o : Offer). Contains (map (offered names) pairs) o) (λ j. (named j, place)) there
+
+      -- and so they are once they are written back over the pairs
+      pub written_light : (n : ℕ) (read written : List Offer) → length written ≡ n → read ≡ pairs → written ≡ map (offered names) read → AreLightOffers links labels (take n (written ++ drop (length written) pairs))
+      written_light n read written size read_is written_is =
+          let is : take n (written ++ drop (length written) pairs) ≡ map (offered names) pairs = written_back n pairs written size ∙ written_is ∙ ap (λ (t : List Offer). map (offered names) t) read_is in
+          subst (AreLightOffers links labels) (sym is) light_by_numbers
 
 module _ (links : List Link) (labels marks : List ℕ) (ends : EndsUpTo (length labels) links) (at to : ℕ) (in_list : to ≤ length links) (batch : List LiveLink) (looked_up : AreLookedUp links labels at to batch) where
   -- links that were looked up by labels, with their numbers

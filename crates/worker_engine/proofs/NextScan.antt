@@ -2,24 +2,27 @@
 use Rattle.std.proofs.Common.{◌≡◌, ℕ, ◌+◌, ◌-◌, ◌<◌, ◌≤◌, List, length, get_or, take, replicate, All, refl, sym, ap, ◌∙◌, subst, inl, inr, arith}
 use Rattle.std.proofs.lemmas.List.{get_or-map, length-map, take_all}
 use Rattle.link_key.specs.declared.links.Link.{Link}
-use Rattle.link_key.specs.Labels.{label_of}
+use Rattle.link_key.specs.Labels.{label_of, AreLabels}
 use Rattle.worker_engine.specs.declared.scanning.Best.{Best}
 use Rattle.worker_engine.specs.declared.live.LiveLink.{LiveLink}
+use Rattle.worker_engine.specs.declared.numbers.Word.{Word}
 use Rattle.worker_engine.specs.Scanning.{no_best, AreBestUpTo}
-use Rattle.worker_engine.specs.Live.{places_of, AreLiveLinks, relabelled}
+use Rattle.worker_engine.specs.Live.{places_of, AreLiveLinks, relabelled, packed}
 use Rattle.worker_engine.specs.Batches.{CanBeTakenIn, TakesInAll}
-use Rattle.worker_engine.specs.Numbers.{IsMarked, number_of, numbered, numbered_labels, AreByNumbers, AreNumbered}
+use Rattle.worker_engine.specs.Numbers.{marks_of, IsMarked, marked_in, number_of, numbered, numbered_labels, shown, AreByNumbers, AreNumbered, HaveNames}
 use Rattle.worker_engine.proofs.Scans.{best_of_none}
 use Rattle.worker_engine.proofs.Laid.{live_or_quiet}
 use Rattle.worker_engine.proofs.Written.{next_says, live_ends, live_links_coarser, bests_none, bests_all}
 use Rattle.worker_engine.proofs.Ahead.{takes_live}
+use Rattle.worker_engine.proofs.Packed.{packed_live, packed_own}
+use Rattle.worker_engine.proofs.Numbering.{number_within_names}
 use Rattle.worker_engine.proofs.ByNumbers.{own_label, own_coarsens}
-use Rattle.worker_engine.proofs.Relisting.{number_at, by_numbers_long}
+use Rattle.worker_engine.proofs.Relisting.{number_at, by_numbers_long, shown_again, have_names}
 
 module _ (links : List Link) (labels marks names : List ℕ) (by_labels live : List LiveLink) (are : AreLiveLinks links labels by_labels) (own : All (λ e. relabelled labels e ≡ e) by_labels)
     (within : (c : ℕ) → IsMarked marks c → number_of marks c ≤ length names) (by : AreByNumbers marks names by_labels live) where
   -- each can be taken in
-  pub next_can_be_taken_in : (count k : ℕ) (d : LiveLink) → count ≡ length names → k < length live → CanBeTakenIn links count (get_or live k d)
+  next_can_be_taken_in : (count k : ℕ) (d : LiveLink) → count ≡ length names → k < length live → CanBeTakenIn links count (get_or live k d)
   next_can_be_taken_in count k d size lt =
       let in_labels : k < length by_labels = omega (arith, lt, by_numbers_long marks names within by_labels live by) in
       let e : LiveLink = get_or by_labels k d in
@@ -33,7 +36,7 @@ module _ (links : List Link) (labels marks names : List ℕ) (by_labels live : L
       })
 
   -- of each link the ends have one label, or they have numbers
-  pub next_are_numbered : AreNumbered links labels marks names
+  next_are_numbered : AreNumbered links labels marks names
   next_are_numbered q l lt read = elim (live_or_quiet links labels 0 (length links) (places_of by_labels) q l are.places (omega arith) lt read) [
     | inl quiet ↦ inl quiet.one_label
     | inr (k, k_lt, at) ↦
@@ -55,7 +58,7 @@ module _ (links : List Link) (labels marks names : List ℕ) (by_labels live : L
   ]
 
   -- once all are taken in, the best places are kept
-  pub next_best : (count : ℕ) (table table' : List Best) → table ≡ replicate count no_best → TakesInAll links (take (length live) live) table table'
+  next_best : (count : ℕ) (table table' : List Best) → table ≡ replicate count no_best → TakesInAll links (take (length live) live) table table'
       → AreBestUpTo count links (numbered_labels marks labels) 0 (length links) table'
   next_best count table table' none takes =
       let mine = numbered_labels marks labels in
@@ -74,3 +77,40 @@ module _ (links : List Link) (labels marks names : List ℕ) (by_labels live : L
       let here : k ≡ 0 + k = omega arith in
       number_at marks names within by_labels live by k d in_labels ∙ same ∙ ap (λ j. relabelled mine (get_or by_labels j d)) here)
       all (bests_none links mine by_labels coarser count table (subst (AreBestUpTo count links mine 0 0) (sym none) (best_of_none count links mine 0))))
+
+-- the same of links that are listed by numbers again, where `labels` is a slice of all labels and `words` are the marks that were counted
+module _ (links : List Link) (mine labels : List ℕ) (same : labels ≡ mine) (all : AreLabels mine) (old live : List LiveLink) (old_are : AreLiveLinks links mine old)
+    (words : List Word) (count : ℕ) (counted : count ≡ marked_in (marks_of words) (length words)) (names : List ℕ) (long : length names ≡ count)
+    (by : AreByNumbers (marks_of words) names (packed labels old) live) where
+  are : AreLiveLinks links labels old
+  are = subst (λ (t : List ℕ). AreLiveLinks links t old) (sym same) old_are
+
+  labelled : AreLabels labels
+  labelled = subst AreLabels (sym same) all
+
+  row_are : AreLiveLinks links labels (packed labels old)
+  row_are = packed_live links labels old labelled are
+
+  own : All (λ e. relabelled labels e ≡ e) (packed labels old)
+  own = packed_own links labels old labelled are
+
+  within : (d : ℕ) → IsMarked (marks_of words) d → number_of (marks_of words) d ≤ length names
+  within = number_within_names words names (long ∙ counted)
+
+  pub again_can_be_taken_in : (size k : ℕ) (d : LiveLink) → size ≡ count → k < length live → CanBeTakenIn links size (get_or live k d)
+  again_can_be_taken_in size k d is lt = next_can_be_taken_in links labels (marks_of words) names (packed labels old) live row_are own within by size k d (is ∙ sym long) lt
+
+  pub again_numbered : AreNumbered links labels (marks_of words) names
+  again_numbered = next_are_numbered links labels (marks_of words) names (packed labels old) live row_are own within by
+
+  pub again_best : (table table' : List Best) → table ≡ replicate count no_best → TakesInAll links (take (length live) live) table table'
+      → AreBestUpTo count links (numbered_labels (marks_of words) labels) 0 (length links) table'
+  again_best table table' none takes = next_best links labels (marks_of words) names (packed labels old) live row_are own within by count table table' none takes
+
+  pub again_live : AreLiveLinks links mine (shown names live)
+  again_live =
+      subst (λ (t : List ℕ). AreLiveLinks links t (shown names live)) same
+      (subst (AreLiveLinks links labels) (sym (shown_again (marks_of words) names within (packed labels old) live by)) row_are)
+
+  pub again_names : HaveNames names live
+  again_names = have_names (marks_of words) names within (packed labels old) live by

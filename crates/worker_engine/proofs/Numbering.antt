@@ -134,11 +134,23 @@ abbrev marks_in : Word → ℕ
 marks_in w = w.marks
 
 -- a bit of a word is set
-pub marks_set : (words : List Word) (i bit : ℕ) (w new : Word) → i < length words → w ≡ get_or words i w → new.marks ≡ with_bit w.marks bit
+marks_set : (words : List Word) (i bit : ℕ) (w new : Word) → i < length words → w ≡ get_or words i w → new.marks ≡ with_bit w.marks bit
     → marks_of (set words i new) ≡ set (marks_of words) i (with_bit (get_or (marks_of words) i 0) bit)
 marks_set words i bit w new within read new_is =
     map-set marks_in words i new
     ∙ ap (set (marks_of words) i) (new_is ∙ ap (λ m. with_bit m bit) (ap marks_in read ∙ sym (get_or-map marks_in words i w 0 within)))
+
+-- what marks the words have once the bit of a label is set in its word
+module _ (words : List Word) (label : ℕ) (from_one : 1 ≤ label) (within : (label - 1) / 64 < length words) (w new : Word) (read : w ≡ get_or words ((label - 1) / 64) w)
+    (new_is : new.marks ≡ with_bit w.marks ((label - 1) % 64)) where
+  in_marks : (label - 1) / 64 < length (marks_of words)
+  in_marks = omega (arith, within, length-map words marks_in)
+
+  pub word_sets : IsMarked (marks_of (set words ((label - 1) / 64) new)) label
+  word_sets = subst (λ m. IsMarked m label) (sym (marks_set words ((label - 1) / 64) ((label - 1) % 64) w new within read new_is)) (mark_sets (marks_of words) label from_one in_marks)
+
+  pub word_keeps : (d : ℕ) → IsMarked (marks_of words) d → IsMarked (marks_of (set words ((label - 1) / 64) new)) d
+  word_keeps d is = subst (λ m. IsMarked m d) (sym (marks_set words ((label - 1) / 64) ((label - 1) % 64) w new within read new_is)) (mark_keeps (marks_of words) label from_one in_marks d is)
 
 -- the number that a word gives
 pub number_is : (words : List Word) (c : ℕ) (w : Word) → AreCounted words → (c - 1) / 64 < length words → w ≡ get_or words ((c - 1) / 64) w

@@ -1,5 +1,6 @@
 -- Live links that are listed by numbers.
-use Rattle.std.proofs.Common.{◌≡◌, ◌≢◌, ℕ, ◌+◌, ◌-◌, ◌<◌, ◌≤◌, List, [], ◌∷◌, ◌++◌, length, get_or, map, All, refl, sym, ap, ◌∙◌, subst, inl, inr, arith}
+use Rattle.std.proofs.Common.{◌≡◌, ◌≢◌, ◌==◌, ℕ, ◌+◌, ◌-◌, ◌<◌, ◌≤◌, List, [], ◌∷◌, ◌++◌, length, get_or, map, All, refl, sym, ap, ◌∙◌, subst, inl, inr, true, eqb-true, arith}
+use Rattle.std.specs.Prelude.{Vec}
 use Rattle.std.proofs.lemmas.Bool.Decides.{eqb_tells}
 use Rattle.std.proofs.lemmas.List.{get_or-map, length-map, get_or_default, same_lists}
 use Rattle.link_key.specs.declared.links.Link.{Link}
@@ -13,7 +14,7 @@ use Rattle.std.proofs.lemmas.List.Elements.{All-append, All-cons, All-nil}
 use Rattle.worker_engine.proofs.BestSoFar.{one_read}
 use Rattle.worker_engine.proofs.Laid.{live_push, live_goes_on, quiet_alone}
 use Rattle.worker_engine.specs.Batches.{written_at}
-use Rattle.worker_engine.specs.Numbers.{IsMarked, number_of, numbered, named, IsNamed, AreBothMarked, AreBothNamed, AreMarkedUpTo, AreNamedUpTo, HaveNames, HaveMarks, new_name, shown, AreByNumbers, AreListedFrom}
+use Rattle.worker_engine.specs.Numbers.{IsMarked, number_of, numbered, named, IsNamed, AreBothMarked, AreBothNamed, AreMarkedUpTo, AreNamedUpTo, HaveNames, HaveMarks, new_name, shown, AreByNumbers, AreListedUpTo}
 use Rattle.worker_engine.proofs.Scans.{end_at}
 use Rattle.worker_engine.proofs.Written.{link_at, own_written}
 use Rattle.worker_engine.proofs.Packed.{all_head, all_tail, packed_same, packed_apart, packed_all}
@@ -57,11 +58,11 @@ module _ (links : List Link) (labels marks : List ℕ) where
   abbrev FromLink : LiveLink → Type 0
   FromLink e = (e.place < length links) × ((l : Link) → l ≡ get_or links e.place l → e ≡ written_at labels l e.place)
 
-  pub listed_none : AreListedFrom 0 links labels marks []
+  pub listed_none : AreListedUpTo 0 links labels marks []
   listed_none = record { by_labels = []; places = (omega arith, λ q l from_start before_end read. absurd (omega (arith, before_end))); written = All-nil FromLink; numbered_are = refl }
 
   module _ (place : ℕ) (l : Link) (within : place < length links) (read : l ≡ get_or links place l) where
-    pub listed_more : (live : List LiveLink) → AreListedFrom place links labels marks live → AreListedFrom (place + 1) links labels marks (live ++ numbered marks (written_at labels l place) ∷ [])
+    pub listed_more : (live : List LiveLink) → AreListedUpTo place links labels marks live → AreListedUpTo (place + 1) links labels marks (live ++ numbered marks (written_at labels l place) ∷ [])
     listed_more live is = record {
       by_labels = is.by_labels ++ e ∷ [];
       places = subst (AreLive links labels 0 (place + 1)) (sym (map-append (λ (x : LiveLink). x.place) is.by_labels (e ∷ []))) (live_push links labels 0 place (places_of is.by_labels) is.places);
@@ -73,7 +74,7 @@ module _ (links : List Link) (labels marks : List ℕ) where
         e : LiveLink
         e = written_at labels l place
 
-    pub listed_left_out : l.high ≤ length labels → (live : List LiveLink) → AreListedFrom place links labels marks live → label_of labels l.low ≡ label_of labels l.high → AreListedFrom (place + 1) links labels marks live
+    pub listed_left_out : l.high ≤ length labels → (live : List LiveLink) → AreListedUpTo place links labels marks live → label_of labels l.low ≡ label_of labels l.high → AreListedUpTo (place + 1) links labels marks live
     listed_left_out ends live is same = record {
       by_labels = is.by_labels;
       places = live_goes_on links labels 0 place (place + 1) (places_of is.by_labels) is.places (omega arith) (quiet_alone links labels place l within read ends same);
@@ -82,7 +83,7 @@ module _ (links : List Link) (labels marks : List ℕ) where
     }
 
 -- the first list
-module _ (links : List Link) (labels marks : List ℕ) (live : List LiveLink) (listed : AreListedFrom (length links) links labels marks live) where
+module _ (links : List Link) (labels marks : List ℕ) (live : List LiveLink) (listed : AreListedUpTo (length links) links labels marks live) where
   first_by_numbers : (names : List ℕ) → AreMarkedUpTo (length links) links labels marks → AreNamedUpTo (length links) links labels marks names → AreByNumbers marks names listed.by_labels live
   first_by_numbers names marked named_are = record {
     numbered_are = listed.numbered_are;
@@ -183,6 +184,10 @@ shown_plain names live none = ap (λ (t : List ℕ). shown t live) none ∙ plai
     plain (l ∷ live) = ap (λ (t : List LiveLink). l ∷ t) (plain live)
 
 -- a list of no length is empty
-pub nothing_left : {X : Type 0} (xs : List X) → length xs ≡ 0 → xs ≡ []
+nothing_left : {X : Type 0} (xs : List X) → length xs ≡ 0 → xs ≡ []
 nothing_left [] none = refl
 nothing_left (x ∷ xs) none = absurd (omega (arith, none))
+
+-- where there are no names, a list shows its own links
+pub shown_unnamed : {Z : Type 0} (names : Vec ℕ Z) (live : List LiveLink) → (names.len == 0) ≡ true → shown names.items live ≡ live
+shown_unnamed names live none = shown_plain names.items live (nothing_left names.items (omega (arith, names.ok, eqb-true names.len 0 none)))

@@ -24,13 +24,13 @@ heavier_is_above : (l m : Link) → m.weight <ℤ l.weight → is_le (key_cmp l 
 heavier_is_above l m lt = subst (λ (o : Ordering). is_le (ordering_then o (ordering_then (nat_cmp l.low m.low) (nat_cmp l.high m.high))) ≡ false) (int_cmp_is l.weight m.weight Greater lt) refl
 
 -- weights compare as those that they are equal to
-pub lighter_as : (a a' b b' : ℤ) → a' ≡ a → b' ≡ b → lt_z a' b' ≡ true → a <ℤ b
+lighter_as : (a a' b b' : ℤ) → a' ≡ a → b' ≡ b → lt_z a' b' ≡ true → a <ℤ b
 lighter_as a a' b b' a_is b_is test =
     let lt : a' <ℤ b' = omega (arith, ints, test) in
     subst (λ w. a <ℤ w) b_is (subst (λ w. w <ℤ b') a_is lt)
 
 -- a weight that is kept is one of 64 bits
-pub said_weight : (links : List Link) (kept : Best) (best : Option ℕ) → Says links kept best → Link → to_z w64 (of_z w64 kept.weight) ≡ kept.weight
+said_weight : (links : List Link) (kept : Best) (best : Option ℕ) → Says links kept best → Link → to_z w64 (of_z w64 kept.weight) ≡ kept.weight
 said_weight links kept best says x = go best says
   where
     by : (w : ℤ) → kept.weight ≡ w → to_z w64 (of_z w64 w) ≡ w → to_z w64 (of_z w64 kept.weight) ≡ kept.weight
@@ -67,7 +67,7 @@ module _ (links : List Link) (labels : List ℕ) (from to c : ℕ) (kept : Best)
       go (Some place) says is = absurd (omega (arith, few, says.0, says.1, none))
 
   -- its weight is one of 64 bits
-  pub kept_weight : Keeps links labels from to c kept → Link → to_z w64 (of_z w64 kept.weight) ≡ kept.weight
+  kept_weight : Keeps links labels from to c kept → Link → to_z w64 (of_z w64 kept.weight) ≡ kept.weight
   kept_weight keeps x = said_weight links kept keeps.best keeps.says x
 
 module _ (links : List Link) (labels : List ℕ) (c from at to : ℕ) (le : from ≤ at) (few : length links ≤ 2 ^ 24) (next : Best) (next_says : Says links next (Some next.place)) (x : Link) (read : x ≡ get_or links next.place x) (next_is : IsBestPlace links labels at to c next.place) (kept : Best) (keeps : Keeps links labels from at c kept) where
@@ -75,9 +75,16 @@ module _ (links : List Link) (labels : List ℕ) (c from at to : ℕ) (le : from
   is_next : x ≡ next_is.link
   is_next = one_read links next.place x next_is.link next_is.in_list read next_is.here
 
+  -- the weights are compared as numbers of 64 bits
+  next_weight : to_z w64 (of_z w64 next.weight) ≡ next.weight
+  next_weight = said_weight links next (Some next.place) next_says x
+
+  weight_kept : to_z w64 (of_z w64 kept.weight) ≡ kept.weight
+  weight_kept = kept_weight links labels from at c kept keeps x
+
   -- what is kept weighs less
-  pub keeps_lighter : kept.weight <ℤ next.weight → Keeps links labels from to c kept
-  keeps_lighter lt = go keeps.best keeps.says keeps.is
+  keeps_less : kept.weight <ℤ next.weight → Keeps links labels from to c kept
+  keeps_less lt = go keeps.best keeps.says keeps.is
     where
       go : (best : Option ℕ) → Says links kept best → IsBest links labels from at c best → Keeps links labels from to c kept
       go None says is = absurd (omega (arith, ints, ap (λ (b : Best). b.weight) says, next_says.2 x read, lt, x.weight_fits))
@@ -87,8 +94,8 @@ module _ (links : List Link) (labels : List ℕ) (c from at to : ℕ) (le : from
           record { best = Some p; says = says; is = best_stays links labels c from at to next.place le next_is p is (not_below_from_le l next_is.link (lighter_is_below l next_is.link lower)) }
 
   -- it weighs more
-  pub keeps_new_lighter : next.weight <ℤ kept.weight → Keeps links labels from to c next
-  keeps_new_lighter lt = record { best = Some next.place; says = next_says; is = go keeps.best keeps.says keeps.is }
+  keeps_new_less : next.weight <ℤ kept.weight → Keeps links labels from to c next
+  keeps_new_less lt = record { best = Some next.place; says = next_says; is = go keeps.best keeps.says keeps.is }
     where
       go : (best : Option ℕ) → Says links kept best → IsBest links labels from at c best → IsBestPlace links labels from to c next.place
       go None says is = best_first links labels c from at to next.place le next_is is
@@ -96,6 +103,12 @@ module _ (links : List Link) (labels : List ℕ) (c from at to : ℕ) (le : from
           let l : Link = is.link in
           let above = subst (λ w. next_is.link.weight <ℤ w) (says.2 l is.here) (subst (λ w. w <ℤ kept.weight) (next_says.2 next_is.link next_is.here) lt) in
           best_new links labels c from at to next.place le next_is p is (below_from_gt l next_is.link (heavier_is_above l next_is.link above))
+
+  pub keeps_lighter : lt_z (to_z w64 (of_z w64 kept.weight)) (to_z w64 (of_z w64 next.weight)) ≡ true → Keeps links labels from to c kept
+  keeps_lighter test = keeps_less (lighter_as kept.weight (to_z w64 (of_z w64 kept.weight)) next.weight (to_z w64 (of_z w64 next.weight)) weight_kept next_weight test)
+
+  pub keeps_new_lighter : lt_z (to_z w64 (of_z w64 next.weight)) (to_z w64 (of_z w64 kept.weight)) ≡ true → Keeps links labels from to c next
+  keeps_new_lighter test = keeps_new_less (lighter_as next.weight (to_z w64 (of_z w64 next.weight)) kept.weight (to_z w64 (of_z w64 kept.weight)) next_weight weight_kept test)
 
   -- no link is kept
   pub keeps_new_first : length links ≤ kept.place → Keeps links labels from to c next

@@ -1,12 +1,12 @@
-use Rattle.std.proofs.Common.{◌≡◌, ◌<◌, List, length, get_or, map, sym, ap, ◌∙◌, subst, arith}
+use Rattle.std.proofs.Common.{◌≡◌, ◌<◌, List, length, get_or, sym, ap, subst, arith}
 use Rattle.std.proofs.lemmas.List.Elements.{Contains-get_or}
-use Rattle.link_key.specs.Offers.{Offer, AreOffers}
+use Rattle.link_key.specs.Offers.{Offer}
 use Rattle.round_theory.specs.Offers.{AreLightOffers}
 use Rattle.worker_engine.specs.Tables.{IsKept}
-use Rattle.worker_engine.specs.Numbers.{marks_of, offered}
+use Rattle.worker_engine.specs.Numbers.{marks_of}
 use Rattle.worker_engine.proofs.Tables.{kept_below}
 use Rattle.worker_engine.proofs.Numbering.{number_within_names}
-use Rattle.worker_engine.proofs.ByNumbers.{light_by_numbers, written_back}
+use Rattle.worker_engine.proofs.ByNumbers.{written_light}
 use Rattle.worker_engine.proofs.by_numbers.offers_by_numbers.Goals as goal
 
 pub name_each-requires : goal.name_each-requires
@@ -22,20 +22,14 @@ name_each-requires g c = λ k d lt.
 
 pub of_known-requires : goal.of_known-requires
 of_known-requires g c =
-    let items = c.in_ok-pairs.pairs.items in
-    let names = c.args.names.now in
-    let light = light_by_numbers c.args.links.now c.args.labels.now (marks_of c.args.numbers.now) names c.requires.ends c.requires.numbered c.requires.few_links
-    (number_within_names c.args.numbers.now names c.requires.names) c.args.table.now c.requires.best items c.in_ok-pairs.ensures.places in
-    let is = written_back c.in_ok-pairs.pairs.len items c.name_each.new.pairs (omega (arith, c.name_each.auto.pairs, c.as_mut_slice.ensures.len))
-    ∙ c.name_each.ensures ∙ ap (λ (t : List Offer). map (offered names) t) c.as_mut_slice.ensures.value in
-    record { ascending = subst AreOffers (sym is) light.ascending }
+    let light = written_light c.args.links.now c.args.labels.now (marks_of c.args.numbers.now) c.args.names.now c.requires.ends c.requires.numbered c.requires.few_links
+    (number_within_names c.args.numbers.now c.args.names.now c.requires.names) c.args.table.now c.requires.best c.in_ok-pairs.pairs.items c.in_ok-pairs.ensures.places
+    c.in_ok-pairs.pairs.len c.as_mut_slice.result.now c.name_each.new.pairs (omega (arith, c.name_each.auto.pairs, c.as_mut_slice.ensures.len)) c.as_mut_slice.ensures.value c.name_each.ensures in
+    record { ascending = light.ascending }
 
 pub returns : goal.returns
 returns g c =
-    let items = c.in_ok-pairs.pairs.items in
-    let names = c.args.names.now in
-    let light = light_by_numbers c.args.links.now c.args.labels.now (marks_of c.args.numbers.now) names c.requires.ends c.requires.numbered c.requires.few_links
-    (number_within_names c.args.numbers.now names c.requires.names) c.args.table.now c.requires.best items c.in_ok-pairs.ensures.places in
-    let is = written_back c.in_ok-pairs.pairs.len items c.name_each.new.pairs (omega (arith, c.name_each.auto.pairs, c.as_mut_slice.ensures.len))
-    ∙ c.name_each.ensures ∙ ap (λ (t : List Offer). map (offered names) t) c.as_mut_slice.ensures.value in
-    record { light = subst (AreLightOffers c.args.links.now c.args.labels.now) (sym (c.of_known.ensures.same_pairs ∙ is)) light }
+    let light = written_light c.args.links.now c.args.labels.now (marks_of c.args.numbers.now) c.args.names.now c.requires.ends c.requires.numbered c.requires.few_links
+    (number_within_names c.args.numbers.now c.args.names.now c.requires.names) c.args.table.now c.requires.best c.in_ok-pairs.pairs.items c.in_ok-pairs.ensures.places
+    c.in_ok-pairs.pairs.len c.as_mut_slice.result.now c.name_each.new.pairs (omega (arith, c.name_each.auto.pairs, c.as_mut_slice.ensures.len)) c.as_mut_slice.ensures.value c.name_each.ensures in
+    record { light = subst (AreLightOffers c.args.links.now c.args.labels.now) (sym c.of_known.ensures.same_pairs) light }

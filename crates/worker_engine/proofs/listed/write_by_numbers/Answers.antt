@@ -3,7 +3,7 @@ use Rattle.std.proofs.lemmas.Int.{to_z-of_z}
 use Rattle.link_key.specs.declared.links.Link.{Link}
 use Rattle.worker_engine.specs.declared.live.LiveLink.{LiveLink}
 use Rattle.worker_engine.specs.Batches.{written_at}
-use Rattle.worker_engine.specs.Numbers.{marks_of, numbered, AreListedFrom}
+use Rattle.worker_engine.specs.Numbers.{marks_of, numbered, AreListedUpTo}
 use Rattle.worker_engine.proofs.Scans.{end_at}
 use Rattle.worker_engine.proofs.Relisting.{listed_none, listed_more, listed_left_out}
 use Rattle.worker_engine.proofs.listed.write_by_numbers.Goals as goal
@@ -29,6 +29,6 @@ loop-place-preserved g c =
           let x_is : e l.weight ≡ numbered marks (written_at labels l place) = λ k. record { low = w.number.ensures k; high = w.number-then-low-high.ensures k; weight = l.weight; place = place } in
           let items_is : c.if-low-high.live.items ≡ live ++ numbered marks (written_at labels l place) ∷ [] =
           ap (λ v. v.items) w.live-is ∙ w.in_ok-push.ensures.items ∙ ap (λ weight. live ++ e weight ∷ []) (to_z-of_z w64 l.weight l.weight_fits) ∙ ap (λ (x : LiveLink). live ++ x ∷ []) x_is in
-          subst (AreListedFrom (place + 1) links labels marks) (sym items_is) (listed_more links labels marks place l within read live c.loop-place.invariant)
+          subst (AreListedUpTo (place + 1) links labels marks) (sym items_is) (listed_more links labels marks place l within read live c.loop-place.invariant)
       | else-low-high w ↦ rw w.live-is (listed_left_out links labels marks place l within read ends live c.loop-place.invariant w.if-low-high.false)
     ]

@@ -1,5 +1,5 @@
-use Rattle.worker_engine.specs.Numbers.{marks_of, AreListedFrom}
+use Rattle.worker_engine.specs.Numbers.{marks_of, AreListedUpTo}
 use Rattle.worker_engine.proofs.listed.write_by_numbers.Given as goal
 
 abbrev pub invariant-loop-place : goal.invariant-loop-place
-invariant-loop-place g l = AreListedFrom l.place l.links l.labels (marks_of l.numbers) l.live.items
+invariant-loop-place g l = AreListedUpTo l.place l.links l.labels (marks_of l.numbers) l.live.items

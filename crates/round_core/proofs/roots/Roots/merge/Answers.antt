@@ -1,13 +1,14 @@
-use Rattle.std.proofs.Common.{arith, ◌≡◌, ◌<◌, List, ℕ, length, get_or, map, refl, sym, ap, ◌∙◌, subst}
+use Rattle.std.proofs.Common.{arith, ◌≡◌, ◌<◌, List, ℕ, length, refl, sym, ap, ◌∙◌, subst}
 use Rattle.std.specs.Vec.{with_items}
 use Rattle.std.proofs.lemmas.List.{with_items_is}
 use Rattle.link_key.specs.Labels.{AreLabels}
+use Rattle.link_key.specs.Rounds.{renamed}
 use Rattle.round_theory.specs.Labelling.{IsRelabelling}
 use Rattle.round_theory.proofs.Steps.{relabelling_is_labels}
 use Rattle.round_core.specs.Picks.{Picked}
 use Rattle.round_core.specs.Roots.{AreRoots, AreTakers, TakesPicked}
 use Rattle.round_core.proofs.Giving.{picked_behind, roots_all}
-use Rattle.round_core.proofs.Naming.{labels_within, roots_within, roots_below, relabelled_behind}
+use Rattle.round_core.proofs.Naming.{labels_within, roots_within, roots_below, relabelled_over}
 use Rattle.round_core.proofs.roots.Roots.merge.Goals as goal
 
 pub join_roots-requires-clause-within : goal.join_roots-requires-clause-within
@@ -36,29 +37,21 @@ labels_by-requires g c =
 
 pub of_known-requires : goal.of_known-requires
 of_known-requires g c =
-    let old : List ℕ = c.as_slice-old.result.now in
-    let are : AreLabels old = rw c.as_slice-old.ensures.labels c.as_slice-old.ensures.are_labels in
-    let are_roots : AreRoots old c.deref-4.result.now = rw (c.as_slice-old.ensures.labels, c.deref-4.ensures.value, c.self.view_is) c.requires.roots in
-    let names = c.name_roots.new.parents in
-    let joined : c.deref_mut-2.result.now ≡ c.join_roots.new.parents = c.deref_mut-2.ensures.value ∙ with_items_is c.make_room.new.numbers c.join_roots.new.parents (c.join_roots.auto.parents ∙ c.deref_mut.ensures.len) in
-    let named : c.deref-7.result.now ≡ names = c.deref-7.ensures.value ∙ with_items_is (with_items c.make_room.new.numbers c.join_roots.new.parents) names (c.name_roots.auto.parents ∙ c.deref_mut-2.ensures.len) in
-    let made : c.in_ok-new.new.items ≡ map (λ r. get_or names r 0) old = c.in_ok-new.ensures ∙ ap (λ (xs : List ℕ). map (λ r. get_or xs r 0) old) named in
-    let relabelled = relabelled_behind old c.deref-4.result.now c.deref-6.result.now c.join_roots.new.parents c.deref_mut-2.result.now names c.args.picks.now are are_roots c.join_roots.ensures.parents c.join_roots.ensures.settled (c.deref-4.ensures.value ∙ sym c.deref-6.ensures.value) (sym joined) c.name_roots.ensures in
-    relabelling_is_labels (length old) (Picked c.args.picks.now) old c.in_ok-new.new.items are.few_vertices
-    (subst (IsRelabelling (length old) old (Picked c.args.picks.now)) (sym made) relabelled)
+    let is = relabelled_over c.args.labels.now c.as_slice-old.result.now c.deref-4.result.now c.deref-6.result.now c.make_room.new.numbers c.join_roots.new.parents c.deref_mut-2.result.now
+    c.name_roots.new.parents c.deref-7.result.now c.args.picks.now c.as_slice-old.ensures.labels c.as_slice-old.ensures.are_labels (rw (c.deref-4.ensures.value, c.self.view_is) c.requires.roots)
+    c.join_roots.ensures.parents c.join_roots.ensures.settled (c.deref-4.ensures.value ∙ sym c.deref-6.ensures.value) (c.join_roots.auto.parents ∙ c.deref_mut.ensures.len) c.deref_mut-2.ensures.value
+    (c.name_roots.auto.parents ∙ c.deref_mut-2.ensures.len) c.deref-7.ensures.value c.name_roots.ensures in
+    let are : AreLabels c.as_slice-old.result.now = rw c.as_slice-old.ensures.labels c.as_slice-old.ensures.are_labels in
+    rw c.in_ok-new.ensures (relabelling_is_labels (length c.as_slice-old.result.now) (Picked c.args.picks.now) c.as_slice-old.result.now (renamed c.deref-7.result.now c.as_slice-old.result.now) are.few_vertices is)
 
 pub returns-clause-relabelled : goal.returns-clause-relabelled
 returns-clause-relabelled g c =
-    let old : List ℕ = c.as_slice-old.result.now in
-    let are : AreLabels old = rw c.as_slice-old.ensures.labels c.as_slice-old.ensures.are_labels in
-    let are_roots : AreRoots old c.deref-4.result.now = rw (c.as_slice-old.ensures.labels, c.deref-4.ensures.value, c.self.view_is) c.requires.roots in
-    let names = c.name_roots.new.parents in
-    let joined : c.deref_mut-2.result.now ≡ c.join_roots.new.parents = c.deref_mut-2.ensures.value ∙ with_items_is c.make_room.new.numbers c.join_roots.new.parents (c.join_roots.auto.parents ∙ c.deref_mut.ensures.len) in
-    let named : c.deref-7.result.now ≡ names = c.deref-7.ensures.value ∙ with_items_is (with_items c.make_room.new.numbers c.join_roots.new.parents) names (c.name_roots.auto.parents ∙ c.deref_mut-2.ensures.len) in
-    let made : c.of_known.result ≡ map (λ r. get_or names r 0) old = c.of_known.ensures ∙ c.in_ok-new.ensures ∙ ap (λ (xs : List ℕ). map (λ r. get_or xs r 0) old) named in
-    let relabelled = relabelled_behind old c.deref-4.result.now c.deref-6.result.now c.join_roots.new.parents c.deref_mut-2.result.now names c.args.picks.now are are_roots c.join_roots.ensures.parents c.join_roots.ensures.settled (c.deref-4.ensures.value ∙ sym c.deref-6.ensures.value) (sym joined) c.name_roots.ensures in
-    let here : IsRelabelling (length old) old (Picked c.args.picks.now) c.of_known.result = subst (IsRelabelling (length old) old (Picked c.args.picks.now)) (sym made) relabelled in
-    subst (λ (xs : List ℕ). IsRelabelling (length xs) xs (Picked c.args.picks.now) c.of_known.result) c.as_slice-old.ensures.labels here
+    let is = relabelled_over c.args.labels.now c.as_slice-old.result.now c.deref-4.result.now c.deref-6.result.now c.make_room.new.numbers c.join_roots.new.parents c.deref_mut-2.result.now
+    c.name_roots.new.parents c.deref-7.result.now c.args.picks.now c.as_slice-old.ensures.labels c.as_slice-old.ensures.are_labels (rw (c.deref-4.ensures.value, c.self.view_is) c.requires.roots)
+    c.join_roots.ensures.parents c.join_roots.ensures.settled (c.deref-4.ensures.value ∙ sym c.deref-6.ensures.value) (c.join_roots.auto.parents ∙ c.deref_mut.ensures.len) c.deref_mut-2.ensures.value
+    (c.name_roots.auto.parents ∙ c.deref_mut-2.ensures.len) c.deref-7.ensures.value c.name_roots.ensures in
+    subst (λ (xs : List ℕ). IsRelabelling (length xs) xs (Picked c.args.picks.now) c.of_known.result) c.as_slice-old.ensures.labels
+    (subst (IsRelabelling (length c.as_slice-old.result.now) c.as_slice-old.result.now (Picked c.args.picks.now)) (sym (c.of_known.ensures ∙ c.in_ok-new.ensures)) is)
 
 pub leads_of-requires-clause-roots : goal.leads_of-requires-clause-roots
 leads_of-requires-clause-roots g c =

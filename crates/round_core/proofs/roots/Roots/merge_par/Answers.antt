@@ -1,7 +1,6 @@
-use Rattle.std.proofs.Common.{arith, ◌≡◌, ◌+◌, ◌<◌, List, ℕ, length, get_or, map, refl, sym, ap, ◌∙◌, subst}
+use Rattle.std.proofs.Common.{arith, ◌≡◌, ◌+◌, ◌<◌, List, ℕ, length, refl, sym, ap, ◌∙◌, subst}
 use Rattle.std.specs.Vec.{with_items}
 use Rattle.std.proofs.lemmas.List.{with_items_is}
-use Rattle.link_key.specs.Labels.{AreLabels}
 use Rattle.link_key.specs.Rounds.{renamed}
 use Rattle.round_theory.specs.Labelling.{IsRelabelling}
 use Rattle.round_theory.proofs.Steps.{relabelling_is_labels}
@@ -9,7 +8,7 @@ use Rattle.round_core.specs.Picks.{Picked}
 use Rattle.round_core.specs.Roots.{AreRoots, AreTakers, TakesPicked}
 use Rattle.round_core.proofs.Leading.{root_at}
 use Rattle.round_core.proofs.Giving.{picked_behind, roots_all}
-use Rattle.round_core.proofs.Naming.{labels_within, roots_within, roots_below, relabelled_behind}
+use Rattle.round_core.proofs.Naming.{labels_within, roots_within, roots_below, relabelled_over}
 use Rattle.round_core.proofs.roots.Roots.merge_par.Goals as goal
 
 pub join_roots-requires-clause-within : goal.join_roots-requires-clause-within
@@ -44,39 +43,28 @@ rename_par-requires-clause-within g c κs within =
 
 pub rename_par-requires-clause-labels : goal.rename_par-requires-clause-labels
 rename_par-requires-clause-labels g c κs within =
-    let old : List ℕ = c.as_slice-old.result.now in
-    let same : old ≡ c.args.labels.now = c.as_slice-old.ensures.labels in
-    let are : AreLabels old = rw same c.as_slice-old.ensures.are_labels in
-    let are_roots : AreRoots old c.deref-4.result.now = rw (same, c.deref-4.ensures.value, c.self.view_is) c.requires.roots in
-    let names = c.name_roots.new.parents in
-    let joined : c.deref_mut-2.result.now ≡ c.join_roots.new.parents = c.deref_mut-2.ensures.value ∙ with_items_is c.make_room.new.numbers c.join_roots.new.parents (c.join_roots.auto.parents ∙ c.deref_mut.ensures.len) in
-    let named : c.deref-8.result.now ≡ c.name_roots.new.parents = c.deref-8.ensures.value ∙ with_items_is (with_items c.make_room.new.numbers c.join_roots.new.parents) c.name_roots.new.parents (c.name_roots.auto.parents ∙ c.deref_mut-2.ensures.len) in
-    let made : renamed c.deref-8.result.now c.args.labels.now ≡ map (λ r. get_or names r 0) old =
-    ap (λ (xs : List ℕ). map (λ r. get_or xs r 0) c.args.labels.now) named ∙ ap (map (λ r. get_or names r 0)) (sym same) in
-    let relabelled = relabelled_behind old c.deref-4.result.now c.deref-6.result.now c.join_roots.new.parents c.deref_mut-2.result.now names c.args.picks.now are are_roots c.join_roots.ensures.parents c.join_roots.ensures.settled (c.deref-4.ensures.value ∙ sym c.deref-6.ensures.value) (sym joined) c.name_roots.ensures in
-    relabelling_is_labels (length old) (Picked c.args.picks.now) old (renamed c.deref-8.result.now c.args.labels.now) are.few_vertices
-    (subst (IsRelabelling (length old) old (Picked c.args.picks.now)) (sym made) relabelled)
+    let is = relabelled_over c.args.labels.now c.as_slice-old.result.now c.deref-4.result.now c.deref-6.result.now c.make_room.new.numbers c.join_roots.new.parents c.deref_mut-2.result.now
+    c.name_roots.new.parents c.deref-8.result.now c.args.picks.now c.as_slice-old.ensures.labels c.as_slice-old.ensures.are_labels (rw (c.deref-4.ensures.value, c.self.view_is) c.requires.roots)
+    c.join_roots.ensures.parents c.join_roots.ensures.settled (c.deref-4.ensures.value ∙ sym c.deref-6.ensures.value) (c.join_roots.auto.parents ∙ c.deref_mut.ensures.len) c.deref_mut-2.ensures.value
+    (c.name_roots.auto.parents ∙ c.deref_mut-2.ensures.len) c.deref-8.ensures.value c.name_roots.ensures in
+    let same = c.as_slice-old.ensures.labels in
+    relabelling_is_labels (length c.args.labels.now) (Picked c.args.picks.now) c.args.labels.now (renamed c.deref-8.result.now c.args.labels.now) c.as_slice-old.ensures.are_labels.few_vertices
+    (subst (λ (xs : List ℕ). IsRelabelling (length xs) xs (Picked c.args.picks.now) (renamed c.deref-8.result.now xs)) same is)
 
 pub returns-clause-relabelled : goal.returns-clause-relabelled
 returns-clause-relabelled g c =
-    let old : List ℕ = c.as_slice-old.result.now in
-    let same : old ≡ c.args.labels.now = c.as_slice-old.ensures.labels in
-    let are : AreLabels old = rw same c.as_slice-old.ensures.are_labels in
-    let are_roots : AreRoots old c.deref-4.result.now = rw (same, c.deref-4.ensures.value, c.self.view_is) c.requires.roots in
-    let names = c.name_roots.new.parents in
-    let joined : c.deref_mut-2.result.now ≡ c.join_roots.new.parents = c.deref_mut-2.ensures.value ∙ with_items_is c.make_room.new.numbers c.join_roots.new.parents (c.join_roots.auto.parents ∙ c.deref_mut.ensures.len) in
-    let named : c.deref-8.result.now ≡ c.name_roots.new.parents = c.deref-8.ensures.value ∙ with_items_is (with_items c.make_room.new.numbers c.join_roots.new.parents) c.name_roots.new.parents (c.name_roots.auto.parents ∙ c.deref_mut-2.ensures.len) in
-    let made : renamed c.deref-8.result.now c.args.labels.now ≡ map (λ r. get_or names r 0) old =
-    ap (λ (xs : List ℕ). map (λ r. get_or xs r 0) c.args.labels.now) named ∙ ap (map (λ r. get_or names r 0)) (sym same) in
-    let relabelled = relabelled_behind old c.deref-4.result.now c.deref-6.result.now c.join_roots.new.parents c.deref_mut-2.result.now names c.args.picks.now are are_roots c.join_roots.ensures.parents c.join_roots.ensures.settled (c.deref-4.ensures.value ∙ sym c.deref-6.ensures.value) (sym joined) c.name_roots.ensures in
-    let here : IsRelabelling (length old) old (Picked c.args.picks.now) c.rename_par.new.self = subst (IsRelabelling (length old) old (Picked c.args.picks.now)) (sym (c.rename_par.ensures ∙ made)) relabelled in
-    subst (λ (xs : List ℕ). IsRelabelling (length xs) xs (Picked c.args.picks.now) c.rename_par.new.self) same here
+    let is = relabelled_over c.args.labels.now c.as_slice-old.result.now c.deref-4.result.now c.deref-6.result.now c.make_room.new.numbers c.join_roots.new.parents c.deref_mut-2.result.now
+    c.name_roots.new.parents c.deref-8.result.now c.args.picks.now c.as_slice-old.ensures.labels c.as_slice-old.ensures.are_labels (rw (c.deref-4.ensures.value, c.self.view_is) c.requires.roots)
+    c.join_roots.ensures.parents c.join_roots.ensures.settled (c.deref-4.ensures.value ∙ sym c.deref-6.ensures.value) (c.join_roots.auto.parents ∙ c.deref_mut.ensures.len) c.deref_mut-2.ensures.value
+    (c.name_roots.auto.parents ∙ c.deref_mut-2.ensures.len) c.deref-8.ensures.value c.name_roots.ensures in
+    let over = subst (λ (xs : List ℕ). IsRelabelling (length xs) xs (Picked c.args.picks.now) (renamed c.deref-8.result.now xs)) c.as_slice-old.ensures.labels is in
+    subst (IsRelabelling (length c.args.labels.now) c.args.labels.now (Picked c.args.picks.now)) (sym c.rename_par.ensures) over
 
 pub returns-clause-none : goal.returns-clause-none
 returns-clause-none g c =
     let (heard, picks) = c.requires.picks in
     let are : AreRoots c.args.labels.now c.deref-7.result.now = rw (c.deref-7.ensures.value, c.self.view_is) c.requires.roots in
-    c.clear_each.ensures (λ i l is. (are.exact (i + 1)).1 (root_at c.args.labels.now heard c.args.picks.now c.as_slice-old.ensures.are_labels picks i l is))
+    c.clear_each.ensures.none (λ i l is. (are.exact (i + 1)).1 (root_at c.args.labels.now heard c.args.picks.now c.as_slice-old.ensures.are_labels picks i l is))
 
 pub leads_by_parts-requires-clause-roots : goal.leads_by_parts-requires-clause-roots
 leads_by_parts-requires-clause-roots g c κs within =

@@ -1,16 +1,14 @@
-use Rattle.std.proofs.Common.{◌≡◌, [], sym, ◌∙◌, subst, eqb-true, arith}
+use Rattle.std.proofs.Common.{sym, ◌∙◌, subst}
 use Rattle.worker_engine.specs.Live.{AreLiveLinks}
-use Rattle.worker_engine.proofs.Relisting.{shown_plain, nothing_left}
+use Rattle.worker_engine.proofs.Relisting.{shown_unnamed}
 use Rattle.worker_engine.proofs.scanning.Scanner.scan_listed_par.Goals as goal
 
 pub scan_live_par-requires-clause-live : goal.scan_live_par-requires-clause-live
 scan_live_par-requires-clause-live g c κs within =
-    let names = c.args.listed.now.names in
-    let none : names.items ≡ [] = nothing_left names.items (omega (arith, names.ok, eqb-true _ _ (sym c.is_empty.ensures ∙ c.if-is_empty.true))) in
-    subst (AreLiveLinks c.args.links.now c.args.labels.now) (shown_plain names.items c.args.listed.now.links.items none) c.requires.live
+    let shows = shown_unnamed c.args.listed.now.names c.args.listed.now.links.items (sym c.is_empty.ensures ∙ c.if-is_empty.true) in
+    subst (AreLiveLinks c.args.links.now c.args.labels.now) shows c.requires.live
 
 pub returns-then-is_empty-clause-live : goal.returns-then-is_empty-clause-live
 returns-then-is_empty-clause-live g c =
-    let names = c.args.listed.now.names in
-    let none : names.items ≡ [] = nothing_left names.items (omega (arith, names.ok, eqb-true _ _ (sym c.is_empty.ensures ∙ c.if-is_empty.true))) in
-    subst (AreLiveLinks c.args.links.now c.args.labels.now) (sym (shown_plain names.items c.scan_live_par.new.live.items none)) c.scan_live_par.ensures.live
+    let shows = shown_unnamed c.args.listed.now.names c.scan_live_par.new.live.items (sym c.is_empty.ensures ∙ c.if-is_empty.true) in
+    subst (AreLiveLinks c.args.links.now c.args.labels.now) (sym shows) c.scan_live_par.ensures.live
