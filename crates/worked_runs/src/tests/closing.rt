@@ -182,20 +182,26 @@ fn no_offer(rt: HostRuntime) -> Result<(), Fail> {
     expect_least(&rt, rt.alloc(), 5, &[0, 0], &[1, 0])
 }
 
-// A book over the picks of one of 50 vertices, which a step let go of, has the picks of its own answer alone, which offers one link.
-fn expect_least_over(
-    rt: &(impl Abort + Threads + Sync),
-    alloc: Global,
-    n: u32,
-) -> Result<(), Fail> {
-    assert!(rt; 2 <= n && n < 1 << 20);
+// The picks of 50 vertices, once a step let go of them.
+fn picks_let_go(rt: &(impl Abort + Threads + Sync), alloc: Global) -> Result<Picks, Fail> {
     let links = paths(rt, alloc, 50, 1)?;
     let cut = Cut::even(alloc, links.as_slice(), 1).expect(rt, "a cut");
     let mut solver = Solver::new(alloc, 50)?;
     let book = opened(rt, alloc, &cut, 1, solver.labels())?;
     let mut picks = heard(rt, alloc, book, &[49], &[0])?.close();
     let turn = solver.step_par(rt, &mut picks).expect(rt, "a turn");
-    assert!(rt; turn != Turn::Done && picks.is_empty());
+    assert!(rt; turn != Turn::Done);
+    Ok(picks)
+}
+
+// A book over such picks has the picks of its own answer alone, which offers one link.
+fn expect_least_over(
+    rt: &(impl Abort + Threads + Sync),
+    alloc: Global,
+    n: u32,
+) -> Result<(), Fail> {
+    let picks = picks_let_go(rt, alloc)?;
+    assert!(rt; picks.is_empty() && n < 1 << 20);
     let links = paths(rt, alloc, n, 1)?;
     let cut = Cut::even(alloc, links.as_slice(), 1).expect(rt, "a cut");
     let labels = Labels::apart(alloc, n)?;
@@ -203,6 +209,7 @@ fn expect_least_over(
     let book = RoundBook::open_over(picks, 1, &cut, &labels)?;
     assert!(rt; book.len() == 1 && book.missing() == 1);
     let over = heard(rt, alloc, book, &[1], &[0])?.close();
+    assert!(rt; n < 1 << 20);
     expect_picks(rt, alloc, &over, n, &[1])
 }
 

@@ -288,8 +288,56 @@ fn a_round_past_the_bound(rt: HostRuntime) -> Result<(), Fail> {
         assert_eq!(rt; solver.round(), 2);
     }
     expect_missed(&rt, &solver, &cut, Link::of_arc(2, 3, 5));
-    let missed = solver.finish_par(&rt, &cut).err();
-    assert!(rt; is_missed(missed, Link::of_arc(2, 3, 5)));
+    expect_missed_by_threads(&rt, solver, &cut, Link::of_arc(2, 3, 5));
+    Ok(())
+}
+
+// The same where threads look for the link.
+fn expect_missed_by_threads(
+    rt: &(impl Abort + Threads + Sync),
+    solver: Solver,
+    cut: &Cut,
+    expected: Option<Link>,
+) {
+    assert!(rt; all_have_labels(cut, solver.labels().n()));
+    let missed = solver.finish_par(rt, cut).err();
+    assert!(rt; is_missed(missed, expected));
+}
+
+// Offers of the first so many links of a path, each for the higher of its ends.
+fn first_pairs(alloc: Global, count: u32) -> Result<Vec<(u32, u32)>, AllocError> {
+    let mut pairs = Vec::new(alloc);
+    for place in 0..count {
+        pairs.push((place.wrapping_add(2), place))?;
+    }
+    Ok(pairs)
+}
+
+// A solver that took what these offers pick.
+fn solver_behind(
+    rt: &impl Abort,
+    alloc: Global,
+    cut: &Cut,
+    pairs: &[(u32, u32)],
+) -> Result<Solver, Fail> {
+    let mut solver = Solver::new(alloc, 70_001)?;
+    let said = offer(rt, alloc, cut, &mut solver, pairs)?;
+    assert!(rt; said.is_ok());
+    Ok(solver)
+}
+
+// The first of the links behind so many is missed.
+fn expect_first_missed(
+    rt: &(impl Abort + Threads + Sync),
+    alloc: Global,
+    cut: &Cut,
+    count: u32,
+) -> Result<(), Fail> {
+    let pairs = first_pairs(alloc, count)?;
+    let solver = solver_behind(rt, alloc, cut, pairs.as_slice())?;
+    let first = count.wrapping_add(1);
+    assert!(rt; 0 < first && first < 1 << 20);
+    expect_missed_by_threads(rt, solver, cut, Link::of_arc(first, first + 1, 1));
     Ok(())
 }
 
@@ -301,19 +349,8 @@ fn the_first_missed_of_many_links(rt: HostRuntime) -> Result<(), Fail> {
     let arcs = path(alloc, 70_000)?;
     let links = links_to_cut(&rt, alloc, 70_001, arcs.as_slice())?;
     let cut = Cut::even(alloc, links.as_slice(), 1).expect(&rt, "a cut");
-    for count in [0u32, 1, 34_999, 35_000, 35_001, 69_999] {
-        let mut pairs = Vec::new(alloc);
-        for place in 0..count {
-            pairs.push((place.wrapping_add(2), place))?;
-        }
-        let mut solver = Solver::new(alloc, 70_001)?;
-        let said = offer(&rt, alloc, &cut, &mut solver, pairs.as_slice())?;
-        assert!(rt; said.is_ok());
-        let first = count.wrapping_add(1);
-        let expected = Link::of_arc(first, first.wrapping_add(1), 1);
-        expect_missed(&rt, &solver, &cut, expected);
-        let missed = solver.finish_par(&rt, &cut).err();
-        assert!(rt; is_missed(missed, expected));
+    for count in [0, 1, 34_999, 35_000, 35_001, 69_999] {
+        expect_first_missed(&rt, alloc, &cut, count)?;
     }
     Ok(())
 }
