@@ -9,7 +9,7 @@ use Rattle.link_key.specs.declared.links.Link.{Link}
 use Rattle.link_key.specs.Link.{EndsUpTo}
 use Rattle.link_key.specs.Labels.{AreLabels}
 use Rattle.frames.specs.AnswerValue.{AnswerValue}
-use Rattle.round_core.specs.BookValue.{BookValue, IsBookValue, IsBook, opened, heard, is_taken}
+use Rattle.round_core.specs.BookValue.{BookValue, IsBookValue, IsBook, opened, with_answer, is_taken}
 use Rattle.round_core.proofs.Books.{book_opened}
 use Rattle.round_core.proofs.Full.{book_heard}
 use Rattle.forest_run.specs.Lanes.{LaneState, kept_answers}
@@ -25,19 +25,19 @@ use Rattle.forest_run.proofs.Takes.{Distinct, untaken, kept_at, kept_to, taken_b
 pub was_free : (p : BookValue) (ts : List AnswerValue) (t : AnswerValue) → TakesAll p ts → Contains ts t → is_taken p t.shard ≡ false
 was_free p [] t are h = absurd (omega (arith, h.1))
 was_free p (x ∷ ts) t are (zero, b, e) = subst (λ (a : AnswerValue). is_taken p a.shard ≡ false) e (untaken p x are.0)
-was_free p (x ∷ ts) t are (suc k, b, e) = taken_before p (x ∷ []) t.shard (was_free (heard p x) ts t are.1 (k, omega arith, e))
+was_free p (x ∷ ts) t are (suc k, b, e) = taken_before p (x ∷ []) t.shard (was_free (with_answer p x) ts t are.1 (k, omega arith, e))
 
 -- and now the book misses it no more
 pub is_taken_now : (p : BookValue) (ts : List AnswerValue) (t : AnswerValue) → Contains ts t → is_taken (with_answers p ts) t.shard ≡ true
 is_taken_now p [] t h = absurd (omega (arith, h.1))
-is_taken_now p (x ∷ ts) t (zero, b, e) = elim (either (is_taken (with_answers (heard p x) ts) t.shard)) [
+is_taken_now p (x ∷ ts) t (zero, b, e) = elim (either (is_taken (with_answers (with_answer p x) ts) t.shard)) [
   | inl e1 ↦ e1
   | inr e2 ↦ absurd (
-      let before : is_taken (heard p x) t.shard ≡ false = taken_before (heard p x) ts t.shard e2 in
-      let here : is_taken (heard p x) t.shard ≡ true = subst (λ (a : AnswerValue). is_taken (heard p x) a.shard ≡ true) e (set_takes p.taken x.shard) in
+      let before : is_taken (with_answer p x) t.shard ≡ false = taken_before (with_answer p x) ts t.shard e2 in
+      let here : is_taken (with_answer p x) t.shard ≡ true = subst (λ (a : AnswerValue). is_taken (with_answer p x) a.shard ≡ true) e (set_takes p.taken x.shard) in
       cc)
 ]
-is_taken_now p (x ∷ ts) t (suc k, b, e) = is_taken_now (heard p x) ts t (k, omega arith, e)
+is_taken_now p (x ∷ ts) t (suc k, b, e) = is_taken_now (with_answer p x) ts t (k, omega arith, e)
 
 pub value_opened : (round : ℕ) (cut : List (List Link)) (labels : List ℕ) → AreLabels labels → All (EndsUpTo (length labels)) cut → length cut ≤ MAX_SHARDS → IsBook (opened round cut labels) (length cut) (replicate (length labels) None)
 value_opened round cut labels are ends few =
@@ -48,7 +48,7 @@ value_opened round cut labels are ends few =
 
 book_all : (p : BookValue) (ts : List AnswerValue) (room : ℕ) (best : List (Option Link)) → IsBook p room best → TakesAll p ts → IsBook (with_answers p ts) room best
 book_all p [] room best is are = is
-book_all p (t ∷ ts) room best is are = book_all (heard p t) ts room best (book_heard p room best t.shard t is are.0.within are.0.taken) are.1
+book_all p (t ∷ ts) room best is are = book_all (with_answer p t) ts room best (book_heard p room best t.shard t is are.0.within are.0.taken) are.1
 
 -- a book that was opened stays a book
 pub value_of_book : (round : ℕ) (cut : List (List Link)) (labels : List ℕ) (ts : List AnswerValue) → AreLabels labels → All (EndsUpTo (length labels)) cut → length cut ≤ MAX_SHARDS → TakesAll (opened round cut labels) ts → IsBookValue (with_answers (opened round cut labels) ts)

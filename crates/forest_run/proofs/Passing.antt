@@ -7,7 +7,7 @@ use Rattle.std.proofs.lemmas.List.Sums.{sum_by-cons}
 use Rattle.std.proofs.lemmas.List.Elements.{All-append, Contains-append_left, Contains-append_right, Contains-append_cases}
 use Rattle.frames.specs.AnswerValue.{AnswerValue}
 use Rattle.link_key.specs.declared.links.Link.{Link}
-use Rattle.round_core.specs.BookValue.{BookValue, is_taken, heard, refusal}
+use Rattle.round_core.specs.BookValue.{BookValue, is_taken, with_answer, refusal}
 use Rattle.ports.specs.declared.port.Port as Port
 use Rattle.ports.specs.Ports.{PortState}
 use Rattle.ports.specs.Exchanges.{Exchange}
@@ -148,7 +148,7 @@ pub record SameRound (p q : BookValue) : Type 0 where
 
 pub same_round : (p : BookValue) (ts : List AnswerValue) → SameRound p (with_answers p ts)
 same_round p [] = record { round = refl; cut = refl; labels = refl }
-same_round p (t ∷ ts) = (let r = same_round (heard p t) ts in record { round = r.round; cut = r.cut; labels = r.labels })
+same_round p (t ∷ ts) = (let r = same_round (with_answer p t) ts in record { round = r.round; cut = r.cut; labels = r.labels })
 
 refusal_of : (r r' : ℕ) (cut cut' : List (List Link)) (labels labels' : List ℕ) (taken taken' : List Bool) (answers answers' : List AnswerValue) (s : ℕ) (t : AnswerValue) → r' ≡ r → cut' ≡ cut → labels' ≡ labels → get_or taken s true ≡ false → get_or taken' s true ≡ false
     → refusal (record { round = r'; cut = cut'; labels = labels'; taken = taken'; answers = answers' }) s t ≡ refusal (record { round = r; cut = cut; labels = labels; taken = taken; answers = answers }) s t

@@ -7,7 +7,7 @@ use Rattle.std.proofs.lemmas.List.Elements.{All-append, Contains-append_left, Co
 use Rattle.link_key.specs.declared.links.Link.{Link}
 use Rattle.link_key.specs.Link.{EndsUpTo}
 use Rattle.frames.specs.AnswerValue.{AnswerValue}
-use Rattle.round_core.specs.BookValue.{BookValue, IsRight, IsBookValue, opened, heard, missing}
+use Rattle.round_core.specs.BookValue.{BookValue, IsRight, IsBookValue, opened, with_answer, missing}
 use Rattle.ports.specs.declared.port.Port as Port
 use Rattle.ports.specs.Exchanges.{Exchange}
 use Rattle.forest_run.specs.Lanes.{LaneState}
@@ -46,7 +46,7 @@ opened_round round cut labels some ends first = record {
 -- answers are added behind those that the book has
 pub heard_answers : (p : BookValue) (ts : List AnswerValue) → (with_answers p ts).answers ≡ p.answers ++ ts
 heard_answers p [] = sym (append-nil p.answers)
-heard_answers p (t ∷ ts) = heard_answers (heard p t) ts ∙ append_assoc p.answers (t ∷ []) ts
+heard_answers p (t ∷ ts) = heard_answers (with_answer p t) ts ∙ append_assoc p.answers (t ∷ []) ts
 
 nothing : {X : Type 0} (xs : List X) → length xs ≡ 0 → xs ≡ []
 nothing [] e = refl

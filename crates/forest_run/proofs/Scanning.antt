@@ -3,7 +3,7 @@ use Rattle.std.proofs.Common.{◌≡◌, ℕ, ◌+◌, ◌<◌, inl, inr, not, B
 use Rattle.std.specs.Prelude.{All, count_by}
 use Rattle.std.proofs.lemmas.List.Elements.{All-append}
 use Rattle.frames.specs.AnswerValue.{AnswerValue}
-use Rattle.round_core.specs.BookValue.{BookValue, missing, heard, is_taken}
+use Rattle.round_core.specs.BookValue.{BookValue, missing, with_answer, is_taken}
 use Rattle.forest_run.specs.Bounds.{IsAskable}
 use Rattle.forest_run.specs.Asks.{Takes, IsLight}
 use Rattle.forest_run.specs.Taking.{with_answers}
@@ -20,7 +20,7 @@ one : (P : AnswerValue → Type 0) (t : AnswerValue) → P t → All P (t ∷ []
 one P t p zero d b = p
 one P t p (suc i) d b = absurd (omega arith)
 
-pub scanned_one : (p q : BookValue) (t : AnswerValue) → Takes p t → IsLight p t → q ≡ heard p t → ScansShards p q 1
+pub scanned_one : (p q : BookValue) (t : AnswerValue) → Takes p t → IsLight p t → q ≡ with_answer p t → ScansShards p q 1
 scanned_one p q t k r e = record { answers = t ∷ []; count_is = refl; value = e; missed = rw e (taken_one p t k); light = one (IsLight p) t r }
 
 pub scanned_none : (p : BookValue) → ScansShards p p 0
@@ -50,7 +50,7 @@ all_taken (false ∷ xs) h = absurd (let f = h 0 (omega arith) in cc)
 
 pub heard_long : (p : BookValue) (ts : List AnswerValue) → length (with_answers p ts).taken ≡ length p.taken
 heard_long p [] = refl
-heard_long p (t ∷ ts) = heard_long (heard p t) ts ∙ length-set p.taken t.shard true
+heard_long p (t ∷ ts) = heard_long (with_answer p t) ts ∙ length-set p.taken t.shard true
 
 pub scanned_long : (p q : BookValue) (n : ℕ) → ScansShards p q n → length q.taken ≡ length p.taken
 scanned_long p q n u = ap (λ o. length o.taken) u.value ∙ heard_long p u.answers
@@ -58,7 +58,7 @@ scanned_long p q n u = ap (λ o. length o.taken) u.value ∙ heard_long p u.answ
 pub scanned_cut : (p q : BookValue) (n : ℕ) → ScansShards p q n → q.cut ≡ p.cut
 scanned_cut p q n u = ap (λ o. o.cut) u.value ∙ (same_round p u.answers).cut
 
-pub now_taken : (p q : BookValue) (t : AnswerValue) (s : ℕ) → t.shard ≡ s → q ≡ heard p t → is_taken q s ≡ true
+pub now_taken : (p q : BookValue) (t : AnswerValue) (s : ℕ) → t.shard ≡ s → q ≡ with_answer p t → is_taken q s ≡ true
 now_taken p q t s e f = ap (λ o. is_taken o s) f ∙ subst (λ (k : ℕ). get_or (set p.taken t.shard true) k true ≡ true) e (set_takes p.taken t.shard)
 
 pub rounded : {P A : Type 0} (port : Port.Ghosts P A) (p q r : BookValue) (xs ys : List (LaneState P)) (alone : ℕ)

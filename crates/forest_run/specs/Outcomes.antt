@@ -22,9 +22,9 @@ pub record Streams : Type 0 where
 abbrev pub streams : SourceState → SinkState → Streams
 streams source sink = record { source = source; sink = sink }
 
--- the streams of a run, of its source and its sink
-abbrev pub streams_of : {S W : Type 0} → (S → SourceState) → (W → SinkState) → S → W → Streams
-streams_of source_of sink_of source sink = record { source = source_of source; sink = sink_of sink }
+-- what is known of a run's source and sink
+abbrev pub known : {S W : Type 0} → (S → SourceState) → (W → SinkState) → S → W → Streams
+known source_of sink_of source sink = record { source = source_of source; sink = sink_of sink }
 
 -- what may be so of a graph and links of it, and of an answer beside them
 abbrev pub ForestFact : Type 1

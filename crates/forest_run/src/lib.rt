@@ -1,6 +1,6 @@
 //! Whole runs, from the bytes of a `.gr` file to the text of its minimum spanning forest: by one thread, or over lines
-//! to workers. Over workers they go in rounds; ferries, one for each open port, ask for light offers, in threads where
-//! these can be made: no contract says so.
+//! to workers. Over workers they go in rounds; ferries, one for each open port, ask for light offers, in threads (no
+//! contract says so).
 //!
 //! ```text
 //!     run_lines            read, cut, a wire and a lane a line, solve, write
@@ -18,8 +18,8 @@
 //! - A run that ends well has read a whole file that means a graph, and written just the text of a forest of its links.
 //!   A malformed file is refused by its first fault; at any other fault a prefix of such a text went out.
 //! - By one thread, and over lines that carry their workers' sessions, it is the minimum one; over any lines it spans.
-//! - A new line whose bytes are known is given up only for a fault that fits these and its counts, or an answer that the
-//!   round's book refuses: never by the run's fault.
+//! - A new line with known bytes is given up only for a fault that fits these and its counts, or an answer that the
+//!   round's book refuses.
 //!
 //! Where to start a change: `specs/Outcomes` says what a run does to its streams, `PlainRun` and `LinesRun` what each
 //! finds and reports; `Asks`, `Ferries`, `Passes`, `Rounds`, `Chains`, `Solved` and `WiredLines` go from an ask up to a

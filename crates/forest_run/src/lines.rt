@@ -6,7 +6,7 @@ ghost use Rattle.link_key.specs.Link.{EndsUpTo};
 ghost use Rattle.round_core.specs.declared.solver.SolveFault.TheVariants.{Memory};
 ghost use Rattle.ports.specs.Lines.{HasRoom};
 ghost use Rattle.forest_run.specs.Files.{HasFile, MeansGraph, MeansNothing, IsFirstFaultOf, IsNoRefusal};
-ghost use Rattle.forest_run.specs.Outcomes.{streams_of};
+ghost use Rattle.forest_run.specs.Outcomes.{known};
 ghost use Rattle.forest_run.specs.Cuttings.{cut_refusal, IsCutOf};
 ghost use Rattle.forest_run.specs.WiredLines.{AreServed, AreNewLanes, lines_of, FindsOverLines, RefusesOverLines};
 ghost use Rattle.forest_run.specs.LinesRun.{RanLines, RanServed, EndsWell};
@@ -145,12 +145,12 @@ pub fn run_lines<
     // the fault says what was done. At the end, where a write failed, and where what came over the lines makes no forest,
     // each line was asked as its worker, and where it was given up it is known why.
     ensures ran { RanLines L.Line cutting.entry lines.items result
-        (streams_of S.state W.state source.old sink.old) (streams_of S.state W.state source.new sink.new) }
+        (known S.state W.state source.old sink.old) (known S.state W.state source.new sink.new) }
 
     // Where each line is new and carries its worker's session: the minimum spanning forest, after as many rounds as merge
     // components. `ran` says so too, of the forest and the report that it speaks of.
     ensures served { AreServed L.Line lines.items → RanServed cutting.entry result
-        (streams_of S.state W.state source.old sink.old) (streams_of S.state W.state source.new sink.new) }
+        (known S.state W.state source.old sink.old) (known S.state W.state source.new sink.new) }
 
     // A file that means nothing is refused by its first fault, where no read fails; one that means a graph isn't.
     ensures malformed { (bytes : List ℕ) → HasFile bytes (S.state source.old) (S.state source.new)
@@ -161,7 +161,7 @@ pub fn run_lines<
     // Over such lines, where the cut of the file's graph is allowed, only want of memory and a setback of the sink can
     // hinder a run.
     ensures ends_well { AreServed L.Line lines.items → EndsWell cutting.entry result
-        (streams_of S.state W.state source.old sink.old) (streams_of S.state W.state source.new sink.new) }
+        (known S.state W.state source.old sink.old) (known S.state W.state source.new sink.new) }
 
     // After a run that ends well the sink can be written again.
     ensures again { OnOk result (W.can_write sink.new) }

@@ -1,7 +1,7 @@
 //! A run by one thread, from the bytes of a file to the text of its forest.
 ghost use Rattle.std.specs.Prelude.{ℕ, List, OnOk, IfOk};
 ghost use Rattle.forest_run.specs.Files.{HasFile, MeansGraph, MeansNothing, IsFirstFaultOf, IsNoRefusal};
-ghost use Rattle.forest_run.specs.Outcomes.{streams_of};
+ghost use Rattle.forest_run.specs.Outcomes.{known};
 ghost use Rattle.forest_run.specs.PlainRun.{RanPlain, WritesAgain};
 
 use crate::fault::RunFault;
@@ -28,7 +28,7 @@ pub fn run_plain<S: Source, W: Sink, A: Allocator + Copy>(
 
     // The source was read to its end and exactly the forest's text went out, or the fault says what was done.
     ensures ran { RanPlain result
-        (streams_of S.state W.state source.old sink.old) (streams_of S.state W.state source.new sink.new) }
+        (known S.state W.state source.old sink.old) (known S.state W.state source.new sink.new) }
 
     // So a file that means nothing is refused by its first fault, where no read fails; one that means a graph isn't.
     ensures malformed { (bytes : List ℕ) → HasFile bytes (S.state source.old) (S.state source.new)
@@ -38,7 +38,7 @@ pub fn run_plain<S: Source, W: Sink, A: Allocator + Copy>(
 
     // The text of a forest is written again as it is: of its links no more and no fewer are taken.
     ensures itself { IfOk result (λ report. WritesAgain report
-        (streams_of S.state W.state source.old sink.old) (streams_of S.state W.state source.new sink.new)) }
+        (known S.state W.state source.old sink.old) (known S.state W.state source.new sink.new)) }
 
     // After a run that ends well the sink can be written again.
     ensures again { OnOk result (W.can_write sink.new) }

@@ -15,7 +15,7 @@ use Rattle.round_theory.specs.Offers.{Hearing, IsNamed, AreLightOffers, AreAllLi
 use Rattle.round_theory.proofs.Cutting.{any_from, flat_map_contains, light_offers_suffice}
 use Rattle.round_theory.proofs.Leaving.{least_leaving_exists}
 use Rattle.round_core.specs.Picks.{pick_of, IsPickOf}
-use Rattle.round_core.specs.BookValue.{BookValue, is_taken, missing, is_offer, refusal, heard, hearing_of, hearings, IsAnswered, IsRight, IsBookValue, IsBook, FullBookHasAllLinks, FullBookIsLeast}
+use Rattle.round_core.specs.BookValue.{BookValue, is_taken, missing, is_offer, refusal, with_answer, hearing_of, hearings, IsAnswered, IsRight, IsBookValue, IsBook, FullBookHasAllLinks, FullBookIsLeast}
 use Rattle.round_core.specs.declared.refusals.Refusal.{Refusal}
 use Rattle.round_core.specs.declared.refusals.Refusal.TheVariants.{Stale, Stranger, Double, NotALink}
 use Rattle.round_core.proofs.Books.{map_contains, map_from}
@@ -45,10 +45,10 @@ free_within (x ∷ taken) zero free = omega arith
 free_within (x ∷ taken) (suc s) free = omega (arith, free_within taken s free)
 
 -- which shards are taken once an answer is
-pub heard_here : (p : BookValue) (a : AnswerValue) (s t : ℕ) → s < length p.taken → a.shard ≡ s → t ≡ s → is_taken (heard p a) t ≡ true
+pub heard_here : (p : BookValue) (a : AnswerValue) (s t : ℕ) → s < length p.taken → a.shard ≡ s → t ≡ s → is_taken (with_answer p a) t ≡ true
 heard_here p a s t within for_s same = ap (λ k. get_or (set p.taken k true) t true) for_s ∙ ap (λ k. get_or (set p.taken s true) k true) same ∙ get_or-set_same p.taken s true true within
 
-pub heard_other : (p : BookValue) (a : AnswerValue) (s t : ℕ) → a.shard ≡ s → t ≢ s → is_taken (heard p a) t ≡ is_taken p t
+pub heard_other : (p : BookValue) (a : AnswerValue) (s t : ℕ) → a.shard ≡ s → t ≢ s → is_taken (with_answer p a) t ≡ is_taken p t
 heard_other p a s t for_s other = ap (λ k. get_or (set p.taken k true) t true) for_s ∙ get_or-set_other p.taken s t true true other
 
 -- what an answer that is taken changes
@@ -57,20 +57,20 @@ module _ (p : BookValue) (s : ℕ) (a : AnswerValue) (is : IsBookValue p) (lt : 
   in_taken = omega (arith, lt, is.each_shard)
 
   -- one fewer is missing
-  fewer : missing (heard p a) + 1 ≡ missing p
+  fewer : missing (with_answer p a) + 1 ≡ missing p
   fewer =
       let set_one = sum_by-set (λ (x : Bool). cond (not x) 1 0) p.taken s true true in_taken in
       let was : ◌≡◌ {A = ℕ} (cond (not (get_or p.taken s true)) 1 0) 1 = ap (λ b. cond (not b) 1 0) fits.missing in
       let at : count_by not (set p.taken a.shard true) ≡ count_by not (set p.taken s true) = ap (λ k. count_by not (set p.taken k true)) fits.shard in
       omega (arith, set_one, was, at)
 
-  new_taken : (t : ℕ) → t ≡ s → is_taken (heard p a) t ≡ true
+  new_taken : (t : ℕ) → t ≡ s → is_taken (with_answer p a) t ≡ true
   new_taken t same = heard_here p a s t in_taken fits.shard same
 
-  old_taken : (t : ℕ) → t ≢ s → is_taken (heard p a) t ≡ is_taken p t
+  old_taken : (t : ℕ) → t ≢ s → is_taken (with_answer p a) t ≡ is_taken p t
   old_taken t other = heard_other p a s t fits.shard other
 
-  answered : (t : ℕ) → t < length p.cut → (is_taken (heard p a) t ≡ true) ↔ IsAnswered (heard p a) t
+  answered : (t : ℕ) → t < length p.cut → (is_taken (with_answer p a) t ≡ true) ↔ IsAnswered (with_answer p a) t
   answered t within = elim (cases_eq t s) [
     | inl same ↦ (
       λ _. any_from (λ (b : AnswerValue). b.shard ≡ t) (p.answers ++ a ∷ []) a (Contains-push p.answers a) (fits.shard ∙ sym same),
@@ -100,7 +100,7 @@ module _ (p : BookValue) (s : ℕ) (a : AnswerValue) (is : IsBookValue p) (lt : 
     offers = subst (λ k. list_all (is_offer (links_at p.cut k) p.labels) a.offers ≡ true) (sym fits.shard) fits.offers;
   }
 
-  pub value_heard : IsBookValue (heard p a)
+  pub value_heard : IsBookValue (with_answer p a)
   value_heard = record {
     labels = is.labels;
     ends = is.ends;
@@ -112,7 +112,7 @@ module _ (p : BookValue) (s : ℕ) (a : AnswerValue) (is : IsBookValue p) (lt : 
     once = all_pairs_push (λ (b c : AnswerValue). b.shard ≢ c.shard) p.answers a is.once apart;
   }
 
-pub book_heard : (p : BookValue) (room : ℕ) (best : List (Option Link)) (s : ℕ) (a : AnswerValue) → IsBook p room best → s < length p.cut → refusal p s a ≡ None → IsBook (heard p a) room best
+pub book_heard : (p : BookValue) (room : ℕ) (best : List (Option Link)) (s : ℕ) (a : AnswerValue) → IsBook p room best → s < length p.cut → refusal p s a ≡ None → IsBook (with_answer p a) room best
 book_heard p room best s a is lt none = record {
   value = value_heard p s a is.value lt (accepted p s a none);
   room_for_answers = is.room_for_answers;
@@ -173,7 +173,7 @@ full_book_is_least p picks is full light are = record {
         none best.0 named.member named.leaves
 
 -- of light answers
-pub heard_light : (labels : List ℕ) (p : BookValue) (a : AnswerValue) → AreAllLight labels (hearings p) → AreLightOffers (links_at p.cut a.shard) labels a.offers → AreAllLight labels (hearings (heard p a))
+pub heard_light : (labels : List ℕ) (p : BookValue) (a : AnswerValue) → AreAllLight labels (hearings p) → AreLightOffers (links_at p.cut a.shard) labels a.offers → AreAllLight labels (hearings (with_answer p a))
 heard_light labels p a all light =
     subst (AreAllLight labels) (sym (map-append (hearing_of p.cut) p.answers (a ∷ [])))
     (All-push (λ (h : Hearing). AreLightOffers h.shard labels h.offers) (hearings p) (hearing_of p.cut a) all light)

@@ -50,8 +50,8 @@ refusal p s a =
     else Some Stranger) else Some Stale
 
 -- the book once an answer is taken
-abbrev pub heard : BookValue → AnswerValue → BookValue
-heard p a = record { round = p.round; cut = p.cut; labels = p.labels; taken = slice_set p.taken a.shard true; answers = p.answers ++ a ∷ [] }
+abbrev pub with_answer : BookValue → AnswerValue → BookValue
+with_answer p a = record { round = p.round; cut = p.cut; labels = p.labels; taken = slice_set p.taken a.shard true; answers = p.answers ++ a ∷ [] }
 
 -- an answer beside the links of its shard
 abbrev pub hearing_of : List (List Link) → AnswerValue → Hearing

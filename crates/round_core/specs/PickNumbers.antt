@@ -41,7 +41,15 @@ weight_fits above few = omega (arith, ints)
 abbrev pub link_of : (above low high : ℕ) → (above < 2 ^ 64) ⊎ (2 ^ 64 ≤ above) → (0 < low) ⊎ (low ≤ 0)
     → (low < high) ⊎ (high ≤ low) → (MAX_VERTICES < high) ⊎ (high ≤ MAX_VERTICES) → Option Link
 link_of above low high (inl few) (inl from_one) (inl ascending) (inr in_limit) =
-    Some (record { weight = pos above -ℤ pos (2 ^ 63); low = low; high = high; from_one = from_one; ascending = ascending; in_limit = in_limit; weight_fits = weight_fits above few })
+    Some (record {
+      weight = pos above -ℤ pos (2 ^ 63);
+      low = low;
+      high = high;
+      from_one = from_one;
+      ascending = ascending;
+      in_limit = in_limit;
+      weight_fits = weight_fits above few;
+    })
 link_of above low high _ _ _ _ = None
 
 -- the pick that a number stands for: the link whose key has the number, if there is one

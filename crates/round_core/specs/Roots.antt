@@ -40,7 +40,8 @@ IsTaker picks c takes = (l : Link) → pick_of picks c ≡ Some l → (takes ≡
 
 -- so it is said of each root, at its place
 abbrev pub AreTakers : List (Option Link) → List ℕ → List Lead → Type 0
-AreTakers picks roots leads = (i : ℕ) (lead : Lead) → i < length roots → lead ≡ slice_index_or leads i lead → IsTaker picks (slice_index roots i) lead.takes
+AreTakers picks roots leads = (i : ℕ) (lead : Lead) → i < length roots → lead ≡ slice_index_or leads i lead
+    → IsTaker picks (slice_index roots i) lead.takes
 
 -- each root is led to a root, and takes its pick just where no lesser label has it too
 pub record AreLeads (labels : List ℕ) (picks : List (Option Link)) (roots : List ℕ) (leads : List Lead) : Type 0 where

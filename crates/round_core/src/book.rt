@@ -4,7 +4,7 @@ ghost use Rattle.link_key.specs.declared.links.Link.{Link as TheLink};
 ghost use Rattle.link_key.specs.Link.{EndsUpTo};
 ghost use Rattle.link_key.specs.Labels.{AreLabels};
 ghost use Rattle.round_theory.specs.Offers.{IsNamed};
-ghost use Rattle.round_core.specs.BookValue.{BookValue, opened, is_taken, missing, is_leaving, is_offer, refusal, heard, hearings, named_links, IsBookValue};
+ghost use Rattle.round_core.specs.BookValue.{BookValue, opened, is_taken, missing, is_leaving, is_offer, refusal, with_answer, hearings, named_links, IsBookValue};
 ghost use Rattle.round_core.specs.Picks.{ArePicks, AreNoPicks};
 
 use crate::picks::Picks;
@@ -161,7 +161,7 @@ impl<'a, A: Allocator> RoundBook<'a, A> {
         requires { shard < length self.old.cut }
         ensures allowed { OnOk result (refusal self.old shard answer ≡ None) }
         ensures refused { IfErr result (λ cause. refusal self.old shard answer ≡ Some cause) }
-        ensures took { OnOk result (self.new ≡ heard self.old answer) }
+        ensures took { OnOk result (self.new ≡ with_answer self.old answer) }
         ensures same { OnErr result (self.new ≡ self.old) }
     {
         self.judge(shard, &answer)?;
@@ -172,7 +172,7 @@ impl<'a, A: Allocator> RoundBook<'a, A> {
     /// Takes an answer that `judge` allows for the shard that it names. It looks at no offer again, and takes no memory.
     pub fn take_allowed(&mut self, answer: Answer<A>)
         requires allowed { refusal self.old answer.shard answer ≡ None }
-        ensures took { self.new ≡ heard self.old answer }
+        ensures took { self.new ≡ with_answer self.old answer }
     {
         self.taken[answer.shard as usize] = true;
         self.answers.push_reserved(answer);
