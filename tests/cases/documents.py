@@ -1,10 +1,17 @@
-"""What docs/RECIPES.md and the manual page show, run as it stands there; what the manual page names; make install."""
+"""What docs/RECIPES.md and the manual page show, run as it stands there; README's call of a library; what the manual
+page names; make install."""
 import os
 import re
 import shutil
 import subprocess
+import sys
 
+from cases.embedding import libraries
 from cases.running import ROOT, SECONDS, SMALL_FOREST, SMALL_NET, Program, case, expect, ran, run
+
+sys.path.insert(0, f"{ROOT}/tools")
+
+from crates import below, crate_lines
 
 
 def text_of(name):
@@ -66,6 +73,28 @@ def the_examples_of_the_manual_page(room):
     count = expect_shown(room, blocks)
     if count != 3:
         raise AssertionError(f"{count} examples were found")
+
+
+@case
+def the_call_of_a_library_is_proved(room):
+    """README's crate, by its line of crates.txt, over what was built of the libraries that it stands on."""
+    libraries()
+    shape = r"with the line `(\w+): (\w+)` in `crates.txt`:\n\n```rust\n(.*?)^```$"
+    name, library, code = re.search(shape, text_of("README.md"), re.M | re.S).groups()
+    lines = crate_lines()
+    names = [*below(library, lines), library]
+    for folder in [f"{it}/{part}" for it in names for part in ("src", "specs", "proofs", "out/rlib")]:
+        if os.path.isdir(f"{ROOT}/crates/{folder}"):
+            shutil.copytree(f"{ROOT}/crates/{folder}", f"{room}/crates/{folder}")
+    os.makedirs(f"{room}/crates/{name}/src")
+    shutil.copy(f"{ROOT}/HANDLES", room)
+    with open(f"{room}/crates.txt", "w", encoding="utf-8") as out:
+        out.write("".join(lines[it] for it in names) + f"{name}: {library}\n")
+    with open(f"{room}/crates/{name}/src/lib.rt", "w", encoding="utf-8") as out:
+        out.write(f"#![tactic(auto)]\n\n{code}")
+    ended = run(["rt", "check"], seconds=10 * SECONDS, cwd=f"{room}/crates/{name}")
+    if ended[0] or b"logic=proved" not in ended[1] + ended[2]:
+        raise AssertionError(f"{name}: {(ended[1] + ended[2])[-900:]!r}")
 
 
 @case

@@ -2,21 +2,25 @@
 //! times. Standard output gets what was computed, the same in each run, and standard error the times, each the least of
 //! several runs but for `steps`, which makes one.
 //!
-//! - `steps` reads a `.gr` text from standard input, solves it and writes its forest, as `boruvka --plain` does, and
-//!   prints what each of the three took ([`steps`]).
+//! ```text
+//!   word, stdin ──► main ──► steps | frames | scan | alone ──► stdout, stderr
+//! ```
+//!
+//! - `steps` reads a `.gr` text from standard input, solves it and writes its forest, as `boruvka --plain` does
+//!   ([`steps`]).
 //! - `steps check` times each step beside a simple form of it, and fails where one takes more than twice as long
 //!   ([`step_check`], [`simple_forms`]).
 //! - `frames` times an ask of a million labels, written and read, beside a copy of its bytes ([`codec`]).
-//! - `scan` times a worker's scans, of many links and of few, by one thread and by threads ([`scans`]).
-//! - `scan check` times scans, and an ask, beside simple forms of them, and fails as `steps check` does
-//!   ([`scan_check`]).
+//! - `scan` times a worker's scans, of many links and of few, by one thread and by threads ([`scans`]), and `scan check`
+//!   scans and an ask beside simple forms ([`scan_check`]).
 //! - `alone` reads a `.gr` text from standard input, and times one thread's rounds over its shards beside the solver of
 //!   `steps` ([`alone`]).
 //! - `all` does what `steps`, `frames`, `scan` and `alone` do, over one text.
 //!
-//! Where to start a change: another thing to measure, a module of its own, with its word in `main` and in `USAGE`; links
-//! and labels that are drawn, [`drawn`], and `benches/scan.cpp`, which draws the same; when a step is too slow,
-//! [`beside`].
+//! What it promises: nothing of times; the gate compares what `all` computes.
+//!
+//! Where to start a change: another thing to measure, a module of its own, with its word in `main` and in `USAGE`; drawn
+//! links and labels, [`drawn`], and `benches/scan.cpp`, which draws the same; when a step is too slow, [`beside`].
 #![tactic(auto)]
 
 mod alone;

@@ -1,7 +1,6 @@
 //! Worked examples of what can fail: each call that may ask for memory is made with each of its allocations refused in
 //! turn, alone and with all that follow; and runs and sessions read from sources, and write into sinks, that fail at each
-//! byte. What an example is for, and where a new one goes, stands at the head of `worked_examples`; that the search for
-//! refusals finds what it should is tried in `worked_streams`.
+//! byte. That the search for refusals finds what it should is tried in `worked_streams`.
 //!
 //! ```text
 //!   in_turn           the searches, and what a call may end with
@@ -16,6 +15,9 @@
 //!   streams           a source and a sink, one of which fails at a byte
 //!   files, sessions   such streams, at each byte: of a run, and of a worker's session
 //! ```
+//!
+//! Where to start a change: a call that takes memory anew gets its place in the file of its subject, with what it may end
+//! with. What an example is for, and which crate has those of other subjects, stands at the head of `worked_examples`.
 #![tactic(auto)]
 
 #[cfg(test)]

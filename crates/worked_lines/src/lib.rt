@@ -1,5 +1,5 @@
 //! Worked examples of whole runs over lines to workers, from a file's bytes to its forest's, each a test that needs
-//! public calls alone. What an example is for, and where a new one goes, stands at the head of `worked_examples`.
+//! public calls alone.
 //!
 //! ```text
 //!   in_memory       engines in memory, and a run over them: the premise of the promise over lines is met
@@ -12,6 +12,9 @@
 //!   drawn           drawn graphs, cuts and lines beside the run by one thread
 //!   sizes           a run past the size of every inner piece, and one of many links between few vertices
 //! ```
+//!
+//! Where to start a change: what a run over lines promises anew gets its example in the file of its subject. What an example
+//! is for, and which crate has those of other subjects, stands at the head of `worked_examples`.
 #![tactic(auto)]
 
 mod in_memory;

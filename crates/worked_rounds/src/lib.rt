@@ -1,5 +1,5 @@
 //! Worked examples of shards and of the workers that scan them, and of memory that is refused, each a test that needs
-//! public calls alone. What an example is for, and where a new one goes, stands at the head of `worked_examples`.
+//! public calls alone.
 //!
 //! ```text
 //!   cuts                         a list of links, cut into shards
@@ -16,6 +16,10 @@
 //!   memory_of_scans              which blocks scans and asks take
 //!   same                         what is found beside what is expected
 //! ```
+//!
+//! Where to start a change: a new public call of `worker_engine`, `claim_board` or `shard_set`, or of labels and cuts, gets
+//! its example in the file of its subject. What an example is for, and which crate has those of other subjects, stands at
+//! the head of `worked_examples`.
 #![tactic(auto)]
 
 #[cfg(test)]

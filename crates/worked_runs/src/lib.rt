@@ -1,5 +1,4 @@
-//! Worked examples of rounds over workers, each a test that needs public calls alone. What an example is for, and where
-//! a new one goes, stands at the head of `worked_examples`.
+//! Worked examples of rounds over workers, each a test that needs public calls alone.
 //!
 //! ```text
 //!   closing         books closed in threads and in one
@@ -16,6 +15,9 @@
 //! too large for a test here, and so are as many vertices as there may be, 67,108,864.
 //! Rounds 21 to 26 that take links want more than a million vertices, and are tried nowhere: what is tried is a book of
 //! such a number.
+//!
+//! Where to start a change: a new public call of `ports` or `round_core` gets its example in the file of its subject. What
+//! an example is for, and which crate has those of other subjects, stands at the head of `worked_examples`.
 #![tactic(auto)]
 
 #[cfg(test)]

@@ -1,5 +1,5 @@
 //! Worked examples of streams of bytes, of frames, and of the memory that tests stand on, each a test that needs public
-//! calls alone. What an example is for, and where a new one goes, stands at the head of `worked_examples`.
+//! calls alone.
 //!
 //! ```text
 //!   streams, failing_devices     sources and sinks, and those that fail
@@ -11,6 +11,10 @@
 //!   same                         what is found beside what is expected
 //!   sizes                        frames at the size of every inner piece, beside it and past it
 //! ```
+//!
+//! Where to start a change: a new public call of `byte_streams`, `frames` or `test_memory` gets its example in the file of
+//! its subject. What an example is for, and which crate has those of other subjects, stands at the head of
+//! `worked_examples`.
 #![tactic(auto)]
 
 #[cfg(test)]
