@@ -7,7 +7,7 @@ use Rattle.gr_text.specs.Graph.{GraphValue}
 use Rattle.gr_text.specs.Fault.{IsFirstFaulty, IsFirstFault, IsEndedFault}
 use Rattle.gr_text.specs.Reading.{IsLineFault, IsGraphOfLines, IsLack}
 use Rattle.gr_text.specs.PartialLine.{is_begun}
-use Rattle.gr_text.specs.Reader.{ReadingValue, Stands, StopsBy, FailsBy, IsRead, IsReadWhole}
+use Rattle.gr_text.specs.Reader.{ReaderValue, Stands, StopsBy, FailsBy, IsRead}
 use Rattle.gr_text.specs.declared.faults.GrKind.{GrKind}
 use Rattle.gr_text.specs.declared.faults.ReadFault.{ReadFault}
 use Rattle.gr_text.specs.declared.faults.ReadFault.TheVariants as fault
@@ -38,40 +38,47 @@ first_of_ended text number kind (lines, rest, cut, first) =
     )
 
 -- the last line has a fault
-pub last_fault : (e : ReadFault) (r : ReadingValue) (text : List ℕ) → (stands : Stands r text) → is_begun stands.part ≡ true → IsLineFault e r.number stands.lines stands.part
-    → IsReadWhole text (Err e)
-last_fault (fault.Gr f) r text stands begun (line_is, fits) =
-    let first = first_faulty_at stands.lines stands.part [] f.line f.kind (lawful_of r.so_far stands.lines stands.give) (line_is ∙ stands.numbered) fits in (
-      with_last stands.lines stands.part,
-      (stands.lines, stands.part, stands.cut, refl),
-      inl (subst (λ (xs : List (List ℕ)). IsFirstFaulty xs f.line f.kind) (sym (with_last-begun stands.lines stands.part begun)) first),
+pub last_fault : (e : ReadFault) (limit : ℕ) (r : ReaderValue) (text : List ℕ) → length text ≤ limit → (stands : Stands r text) → is_begun stands.part ≡ true
+    → IsLineFault e r.number stands.lines stands.part → FailsBy e limit text
+last_fault (fault.Gr f) limit r text short stands begun (line_is, fits) =
+    let first = first_faulty_at stands.lines stands.part [] f.line f.kind (lawful_of r.so_far stands.lines stands.give) (line_is ∙ stands.numbered) fits in
+    inl (
+      short,
+      (
+        with_last stands.lines stands.part,
+        (stands.lines, stands.part, stands.cut, refl),
+        inl (subst (λ (xs : List (List ℕ)). IsFirstFaulty xs f.line f.kind) (sym (with_last-begun stands.lines stands.part begun)) first),
+      ),
     )
-last_fault (fault.Source k) r text stands begun no_such = no_such
-last_fault fault.TooLong r text stands begun no_such = no_such
-last_fault fault.Memory r text stands begun any = tt
+last_fault (fault.Source k) limit r text short stands begun no_such = no_such
+last_fault fault.TooLong limit r text short stands begun no_such = absurd no_such
+last_fault fault.Memory limit r text short stands begun any = tt
 
 -- what the lines of the whole text give
-graph_of : (r : Result GraphValue ReadFault) (text : List ℕ) (lines : List (List ℕ)) (number : ℕ) → AreLines text lines → number ≡ length lines + 1
-    → MatchResult r (λ graph. IsGraphOfLines lines graph) (λ e. IsLack e number lines) → IsReadWhole text r
-graph_of (Ok graph) text lines number are numbered (arcs, lawful, links) = (arcs, (lines, are, lawful), links)
-graph_of (Err (fault.Gr f)) text lines number are numbered (line_is, lacks) = (lines, are, inr (lacks, line_is ∙ numbered))
-graph_of (Err (fault.Source k)) text lines number are numbered no_such = no_such
-graph_of (Err fault.TooLong) text lines number are numbered no_such = no_such
-graph_of (Err fault.Memory) text lines number are numbered no_such = absurd no_such
+graph_of : (outcome : Result GraphValue ReadFault) (limit : ℕ) (text : List ℕ) (lines : List (List ℕ)) (number : ℕ) → length text ≤ limit → AreLines text lines
+    → number ≡ length lines + 1 → MatchResult outcome (λ graph. IsGraphOfLines lines graph) (λ e. IsLack e number lines) → IsRead limit text outcome
+graph_of (Ok graph) limit text lines number short are numbered (arcs, lawful, links) = (short, (arcs, (lines, are, lawful), links))
+graph_of (Err (fault.Gr f)) limit text lines number short are numbered (line_is, lacks) = inl (short, (lines, are, inr (lacks, line_is ∙ numbered)))
+graph_of (Err (fault.Source k)) limit text lines number short are numbered no_such = no_such
+graph_of (Err fault.TooLong) limit text lines number short are numbered no_such = absurd no_such
+graph_of (Err fault.Memory) limit text lines number short are numbered no_such = absurd no_such
 
 -- the text ends in a line feed, or is empty
-pub ends_whole : (outcome : Result GraphValue ReadFault) (r : ReadingValue) (text : List ℕ) → (stands : Stands r text) → is_begun stands.part ≡ false
-    → MatchResult outcome (λ graph. IsGraphOfLines stands.lines graph) (λ e. IsLack e r.number stands.lines) → IsReadWhole text outcome
-ends_whole outcome r text stands none gives =
-    graph_of outcome text stands.lines r.number (stands.lines, stands.part, stands.cut, sym (with_last-none stands.lines stands.part none)) stands.numbered gives
+pub ends_whole : (outcome : Result GraphValue ReadFault) (limit : ℕ) (r : ReaderValue) (text : List ℕ) → length text ≤ limit → (stands : Stands r text)
+    → is_begun stands.part ≡ false → MatchResult outcome (λ graph. IsGraphOfLines stands.lines graph) (λ e. IsLack e r.number stands.lines)
+    → IsRead limit text outcome
+ends_whole outcome limit r text short stands none gives =
+    graph_of outcome limit text stands.lines r.number short (stands.lines, stands.part, stands.cut, sym (with_last-none stands.lines stands.part none))
+    stands.numbered gives
 
 -- the last line lacks its line feed, and is taken
-pub ends_within : (outcome : Result GraphValue ReadFault) (r : ReadingValue) (text : List ℕ) → (stands : Stands r text) → is_begun stands.part ≡ true
+pub ends_within : (outcome : Result GraphValue ReadFault) (limit : ℕ) (r : ReaderValue) (text : List ℕ) → length text ≤ limit → (stands : Stands r text)
+    → is_begun stands.part ≡ true
     → MatchResult outcome (λ graph. IsGraphOfLines (stands.lines ++ stands.part ∷ []) graph) (λ e. IsLack e (r.number + 1) (stands.lines ++ stands.part ∷ []))
-    → IsReadWhole text outcome
-ends_within outcome r text stands begun gives =
-    graph_of outcome text (stands.lines ++ stands.part ∷ []) (r.number + 1) (stands.lines, stands.part, stands.cut, sym (with_last-begun stands.lines stands.part begun))
-    (omega (arith, length_push stands.lines stands.part, stands.numbered)) gives
+    → IsRead limit text outcome
+ends_within outcome limit r text short stands begun gives =
+    graph_of outcome limit text (stands.lines ++ stands.part ∷ []) (r.number + 1) short
+    (stands.lines, stands.part, stands.cut, sym (with_last-begun stands.lines stands.part begun)) (omega (arith, length_push stands.lines stands.part, stands.numbered)) gives
 
 -- what stopped the reader is why the whole text isn't read
 pub fails_of_stops : (e : ReadFault) (limit : ℕ) (text : List ℕ) → StopsBy e limit text → FailsBy e limit text
@@ -82,11 +89,3 @@ fails_of_stops (fault.Gr f) limit text stops = elim (leb_tells (length text) lim
 fails_of_stops (fault.Source k) limit text stops = stops
 fails_of_stops fault.TooLong limit text stops = stops
 fails_of_stops fault.Memory limit text stops = tt
-
--- a text within the limit
-pub read_of_whole : (r : Result GraphValue ReadFault) (limit : ℕ) (text : List ℕ) → length text ≤ limit → IsReadWhole text r → IsRead limit text r
-read_of_whole (Ok graph) limit text short whole = (short, whole)
-read_of_whole (Err (fault.Gr f)) limit text short whole = inl (short, whole)
-read_of_whole (Err (fault.Source k)) limit text short whole = whole
-read_of_whole (Err fault.TooLong) limit text short whole = absurd whole
-read_of_whole (Err fault.Memory) limit text short whole = tt

@@ -1,5 +1,5 @@
 -- What a reader has read when another piece is fed, and what stopped it stays.
-use Rattle.std.proofs.Common.{◌≡◌, ℕ, ◌+◌, ◌-◌, ◌<◌, ◌≤◌, min, inl, inr, List, [], ◌∷◌, ◌++◌, refl, ap, sym, ◌∙◌, subst, arith, append_assoc, length, take, Some, None, length-append, append-nil, ◌==◌, Bool, cond, take_all}
+use Rattle.std.proofs.Common.{◌≡◌, ℕ, ◌+◌, ◌-◌, ◌<◌, ◌≤◌, min, inl, inr, List, [], ◌∷◌, ◌++◌, refl, ap, sym, ◌∙◌, subst, arith, append_assoc, length, take, Option, Some, None, MatchOption, length-append, append-nil, ◌==◌, Bool, cond, take_all}
 use Rattle.std.specs.List.{AllByRecursion, flat_map, count_by}
 use Rattle.std.proofs.lemmas.List.{take-append-le}
 use Rattle.std.proofs.Math.Seq.{take-append-add}
@@ -8,7 +8,7 @@ use Rattle.std.proofs.lemmas.Bool.{cases_lt}
 use Rattle.std.proofs.lemmas.Bool.Decides.{eqb_tells}
 use Rattle.gr_text.specs.Lines.{line_feed, IsLine, ended, EndsLines}
 use Rattle.gr_text.specs.Fault.{IsFirstFaulty, IsEndedFault, HasLawfulLines}
-use Rattle.gr_text.specs.Reader.{ReaderValue, ReadingValue, Stands, StopsAt, StopsBy, HasRead}
+use Rattle.gr_text.specs.Reader.{ReaderValue, Stands, StopsAt, StopsBy, HasRead}
 use Rattle.gr_text.specs.declared.faults.GrKind.{GrKind}
 use Rattle.gr_text.specs.declared.faults.ReadFault.{ReadFault}
 use Rattle.gr_text.specs.declared.faults.ReadFault.TheVariants as fault
@@ -53,8 +53,9 @@ StopsBy-more fault.Memory limit text more stops = tt
 
 -- what the reader has read, by whether it has a fault
 pub read_on : (reader : ReaderValue) (text : List ℕ) → reader.fault ≡ None → HasRead reader text
-    → (length text ≤ reader.limit) × (length text ≡ reader.fed) × Stands reader.reading text
-read_on reader text is read = rw is at read.outcome
+    → (length text ≤ reader.limit) × (length text ≡ reader.fed) × Stands reader text
+read_on reader text is read =
+    subst (λ (f : Option ReadFault). MatchOption f ((length text ≤ reader.limit) × (length text ≡ reader.fed) × Stands reader text) (λ e. StopsBy e reader.limit text)) is read.outcome
 
 pub stopped_by : (reader : ReaderValue) (e : ReadFault) (text : List ℕ) → reader.fault ≡ Some e → HasRead reader text → StopsBy e reader.limit text
 stopped_by reader e text is read = rw is at read.outcome
@@ -89,7 +90,7 @@ pub too_long : (limit fed len : ℕ) (text piece : List ℕ) → length text ≡
 too_long limit fed len text piece counted within is short lawful =
     (omega (arith, length-append text piece), subst HasLawfulLines (sym (fitting limit fed len text piece counted within is)) lawful)
 
-pub lawful_lines : (r : ReadingValue) (text : List ℕ) → Stands r text → HasLawfulLines text
+pub lawful_lines : (r : ReaderValue) (text : List ℕ) → Stands r text → HasLawfulLines text
 lawful_lines r text stands = (stands.lines, stands.part, stands.cut, lawful_of r.so_far stands.lines stands.give)
 
 -- the line feeds of a text end its lines

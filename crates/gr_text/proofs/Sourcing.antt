@@ -15,7 +15,7 @@ use Rattle.gr_text.proofs.Feeding.{lawful_lines, read_on, stopped_by}
 -- a reader without a fault was fed no more than its limit, and nothing is wrong with the lines that have ended
 clean : (reader : ReaderValue) (text : List ℕ) → HasRead reader text → reader.fault ≡ None → (length text ≤ reader.limit) × HasLawfulLines text
 clean reader text read none =
-    let (short, counted, stands) = read_on reader text none read in (short, lawful_lines reader.reading text stands)
+    let (short, counted, stands) = read_on reader text none read in (short, lawful_lines reader text stands)
 
 -- the source ended behind what the reader has read
 pub read_to_end : (limit : ℕ) (outcome : Result GraphValue ReadFault) (reader : ReaderValue) (text : List ℕ) (s t u : SourceState) → HasRead reader text

@@ -7,7 +7,7 @@ use Rattle.gr_text.specs.Graph.{AreLawfulSoFar}
 use Rattle.gr_text.specs.Fault.{IsFirstFaulty}
 use Rattle.gr_text.specs.Reading.{LinesSoFarValue, AreKept, Gives, IsLineFault}
 use Rattle.gr_text.specs.PartialLine.{IsKeptAs}
-use Rattle.gr_text.specs.Reader.{ReadingValue, Stands, StopsAt}
+use Rattle.gr_text.specs.Reader.{ReaderValue, Stands, StopsAt}
 use Rattle.gr_text.specs.declared.faults.ReadFault.{ReadFault}
 use Rattle.gr_text.specs.declared.faults.ReadFault.TheVariants as fault
 use Rattle.gr_text.specs.declared.partial_line.PartialLine.{PartialLine}
@@ -35,8 +35,19 @@ first_faulty lines part more (fault.Source k) number lawful numbered no_such tex
 first_faulty lines part more fault.TooLong number lawful numbered no_such text r cut = no_such
 first_faulty lines part more fault.Memory number lawful numbered any text r cut = tt
 
+-- however much the reader was fed
+pub Stands-fed : (r : ReaderValue) (fed : ℕ) (text : List ℕ) → Stands r text → Stands (record r { fed = fed }) text
+Stands-fed r fed text stands = record {
+  lines = stands.lines;
+  part = stands.part;
+  cut = stands.cut;
+  give = stands.give;
+  kept = stands.kept;
+  numbered = stands.numbered;
+}
+
 -- more bytes of a line
-pub Stands-part : (r : ReadingValue) (partial : PartialLine) (text more : List ℕ) → (stands : Stands r text) → IsLine more → IsKeptAs partial (stands.part ++ more)
+pub Stands-part : (r : ReaderValue) (partial : PartialLine) (text more : List ℕ) → (stands : Stands r text) → IsLine more → IsKeptAs partial (stands.part ++ more)
     → Stands (record r { partial = partial }) (text ++ more)
 Stands-part r partial text more stands is_line kept = record {
   lines = stands.lines;
@@ -48,8 +59,8 @@ Stands-part r partial text more stands is_line kept = record {
 }
 
 -- the rest of a line with its line feed, where the line is taken
-pub Stands-line : (r : ReadingValue) (fresh : PartialLine) (so_far : LinesSoFarValue) (text line : List ℕ) → (stands : Stands r text) → IsLine line → IsKeptAs fresh []
-    → Gives so_far (stands.lines ++ (stands.part ++ line) ∷ []) → Stands (record { number = r.number + 1; partial = fresh; so_far = so_far }) (text ++ ended line)
+pub Stands-line : (r : ReaderValue) (fresh : PartialLine) (so_far : LinesSoFarValue) (text line : List ℕ) → (stands : Stands r text) → IsLine line → IsKeptAs fresh []
+    → Gives so_far (stands.lines ++ (stands.part ++ line) ∷ []) → Stands (record r { number = r.number + 1; partial = fresh; so_far = so_far }) (text ++ ended line)
 Stands-line r fresh so_far text line stands is_line none gives = record {
   lines = stands.lines ++ (stands.part ++ line) ∷ [];
   part = [];
@@ -60,7 +71,7 @@ Stands-line r fresh so_far text line stands is_line none gives = record {
 }
 
 -- the same, where the line has a fault: what follows doesn't matter
-pub StopsAt-line : (e : ReadFault) (r : ReadingValue) (text line rest : List ℕ) → (stands : Stands r text) → IsLine line
+pub StopsAt-line : (e : ReadFault) (r : ReaderValue) (text line rest : List ℕ) → (stands : Stands r text) → IsLine line
     → IsLineFault e r.number stands.lines (stands.part ++ line) → StopsAt e ((text ++ ended line) ++ rest)
 StopsAt-line e r text line rest stands is_line fault =
     let (more, last, cut) = cut_of rest in

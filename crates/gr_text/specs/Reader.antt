@@ -9,20 +9,23 @@ use Rattle.gr_text.specs.declared.faults.ReadFault.{ReadFault}
 use Rattle.gr_text.specs.declared.faults.ReadFault.TheVariants as fault
 use Rattle.gr_text.specs.declared.partial_line.PartialLine.{PartialLine}
 
--- what is kept of a text: the number of the line that is coming, its part that has come, and what the lines before say
-pub record ReadingValue : Type 0 where
+-- what a reader keeps; of the lines the number of the coming one, its part that has come, and what those before say
+pub record ReaderValue : Type 0 where
+  pub limit : ℕ
+  pub fed : ℕ
   pub number : ℕ
   pub partial : PartialLine
   pub so_far : LinesSoFarValue
+  pub fault : Option ReadFault
 
--- the text is whole lines that give this, and then a part of a line, which is kept so
-pub record Stands (reading : ReadingValue) (text : List ℕ) : Type 0 where
+-- the text is whole lines that give what the reader keeps of them, and then a part of the coming line, which is kept so
+pub record Stands (reader : ReaderValue) (text : List ℕ) : Type 0 where
   pub lines : List (List ℕ)
   pub part : List ℕ
   pub cut : EndsLines text lines part
-  pub give : Gives reading.so_far lines
-  pub kept : IsKeptAs reading.partial part
-  pub numbered : reading.number ≡ length lines + 1
+  pub give : Gives reader.so_far lines
+  pub kept : IsKeptAs reader.partial part
+  pub numbered : reader.number ≡ length lines + 1
 
 -- why a text isn't read on: the first faulty line among those that a line feed ends; or memory
 abbrev pub StopsAt : ReadFault → List ℕ → Type 0
@@ -48,28 +51,13 @@ FailsBy (fault.Source number) limit text = ⊥
 FailsBy fault.TooLong limit text = (limit < length text) × HasLawfulLines (take limit text)
 FailsBy fault.Memory limit text = Unit {0}
 
--- what the reader keeps
-pub record ReaderValue : Type 0 where
-  pub limit : ℕ
-  pub fed : ℕ
-  pub reading : ReadingValue
-  pub fault : Option ReadFault
-
 -- the reader was fed this text, in whatever pieces: it has a fault, which is right, or it has read all of it
 pub record HasRead (reader : ReaderValue) (text : List ℕ) : Type 0 where
   pub outcome : MatchOption reader.fault
-      ((length text ≤ reader.limit) × (length text ≡ reader.fed) × Stands reader.reading text)
+      ((length text ≤ reader.limit) × (length text ≡ reader.fed) × Stands reader text)
       (λ f. StopsBy f reader.limit text)
 
 -- what a reader answers for a whole text: the graph that it means, where it is within the limit, or why there is none
 abbrev pub IsRead : ℕ → List ℕ → Result GraphValue ReadFault → Type 0
 IsRead limit text (Ok graph) = (length text ≤ limit) × IsGraphOf text graph
 IsRead limit text (Err e) = FailsBy e limit text
-
--- what a whole text within the limit gives
-abbrev pub IsReadWhole : List ℕ → Result GraphValue ReadFault → Type 0
-IsReadWhole text (Ok graph) = IsGraphOf text graph
-IsReadWhole text (Err (fault.Gr f)) = IsFirstFault text f.line f.kind
-IsReadWhole text (Err (fault.Source number)) = ⊥
-IsReadWhole text (Err fault.TooLong) = ⊥
-IsReadWhole text (Err fault.Memory) = Unit {0}

@@ -29,7 +29,6 @@ mod parsing;
 mod partial_line;
 mod piece;
 mod reader;
-mod reading;
 mod sizes;
 mod sourced;
 mod spelled;

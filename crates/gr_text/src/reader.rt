@@ -1,10 +1,11 @@
 ghost use Rattle.std.specs.Prelude.{◌≡◌, ℕ, ◌+◌, ◌≤◌, ◌==◌, List, [], ◌++◌, None, Some, IfErr, IfSome, OnOk, MatchResult, Err, count_by, length};
 ghost use Rattle.gr_text.specs.Lines.{line_feed};
-ghost use Rattle.gr_text.specs.Reader.{HasRead, IsRead};
+ghost use Rattle.gr_text.specs.Reader.{HasRead, IsRead, Stands, StopsAt};
 
 use crate::faults::ReadFault;
 use crate::graphs::Graph;
-use crate::reading::Reading;
+use crate::lines_so_far::LinesSoFar;
+use crate::partial_line::PartialLine;
 use limits::MAX_BYTES;
 use std::alloc::{Allocator, Global};
 use std::marker::Model;
@@ -18,7 +19,12 @@ use std::marker::Model;
 pub struct GrReader<A: Allocator = Global> {
     limit: u64,
     fed: u64,
-    reading: Reading<A>,
+    /// The number of the line that is coming.
+    number: u64,
+    /// The part of it that has come.
+    partial: PartialLine,
+    /// What the lines before it say.
+    so_far: LinesSoFar<A>,
     fault: Option<ReadFault>,
 }
 
@@ -32,11 +38,13 @@ impl<A: Allocator> Model for GrReader<A> {
     ghost view = { λ r. record {
       limit = r.limit;
       fed = r.fed;
-      reading = r.reading;
+      number = r.number;
+      partial = r.partial;
+      so_far = r.so_far;
       fault = r.fault;
     } };
 
-    ghost invariant = { λ r. (r.limit ≤ MAX_BYTES) × (r.fed ≤ r.limit) × (r.reading.number ≤ r.fed + 1) };
+    ghost invariant = { λ r. (r.limit ≤ MAX_BYTES) × (r.fed ≤ r.limit) × (r.number ≤ r.fed + 1) };
 }
 
 impl<A: Allocator> GrReader<A> {
@@ -51,7 +59,9 @@ impl<A: Allocator> GrReader<A> {
         GrReader {
             limit,
             fed: 0,
-            reading: Reading::new(alloc),
+            number: 1,
+            partial: PartialLine::new(),
+            so_far: LinesSoFar::new(alloc),
             fault: None,
         }
     }
@@ -74,8 +84,7 @@ impl<A: Allocator> GrReader<A> {
         }
         let room = self.limit - self.fed;
         let len = room.min(piece.len() as u64);
-        self.fed += len;
-        if let Err(fault) = self.reading.read(&piece[..len as usize]) {
+        if let Err(fault) = self.read(&piece[..len as usize]) {
             self.fault = Some(fault);
             return Err(fault);
         }
@@ -91,7 +100,7 @@ impl<A: Allocator> GrReader<A> {
     pub fn line(&self) -> u64
         ensures { (text : List ℕ) → HasRead self.now text → self.now.fault ≡ None → result ≡ 1 + count_by (λ b. b == line_feed) text }
     {
-        self.reading.number()
+        self.number
     }
 
     /// Ends the text: judges its last line, where it lacks its line feed, and then what lacks.
@@ -105,12 +114,43 @@ impl<A: Allocator> GrReader<A> {
         let GrReader {
             limit: _,
             fed: _,
-            reading,
+            number,
+            partial,
+            mut so_far,
             fault,
         } = self;
-        match fault {
-            Some(fault) => Err(fault),
-            None => reading.ended(),
+        if let Some(fault) = fault {
+            return Err(fault);
         }
+        if !partial.begun {
+            return so_far.graph(number);
+        }
+        if let Err(fault) = so_far.take_line(number, partial.whole()) {
+            return Err(fault);
+        }
+        so_far.graph(number + 1)
+    }
+
+    // Reads a piece that the limit has room for. It fails at the first line that ends in it and is faulty, or at an
+    // arc whose link finds no memory; then it isn't to be read on. Each byte takes constant time, and one that goes on
+    // with a number only a few instructions.
+    fn read(&mut self, piece: &[u8]) -> Result<(), ReadFault>
+        requires { self.old.fed + length piece.now ≤ self.old.limit }
+        ensures limit { self.new.limit ≡ self.old.limit }
+        ensures fed { self.new.fed ≡ self.old.fed + length piece.now }
+        ensures fault { self.new.fault ≡ self.old.fault }
+        ensures judged { (text : List ℕ) → Stands self.old text → MatchResult result
+            (λ _. Stands self.new (text ++ piece.now)) (λ e. StopsAt e (text ++ piece.now)) }
+    {
+        self.fed += piece.len() as u64;
+        let mut rest = piece;
+        while let Some((line, after)) = self.partial.next_line(rest) {
+            match self.so_far.take_line(self.number, line) {
+                Ok(()) => self.number += 1,
+                Err(fault) => return Err(fault),
+            }
+            rest = after;
+        }
+        Ok(())
     }
 }

@@ -6,5 +6,5 @@ use Rattle.gr_text.proofs.reader.GrReader.line.Goals as goal
 pub returns : goal.returns
 returns g c = λ text read clean.
     let (short, counted, stands) = read_on c.args.self.now text clean read in
-    let number : c.self.inside.reading.number ≡ c.args.self.now.reading.number = ap (λ (r : ReaderValue). r.reading.number) c.self.view_is in
-    omega (arith, c.number.ensures, feeds_of text stands.lines stands.part stands.cut, stands.numbered)
+    let number : c.self.inside.number ≡ c.args.self.now.number = ap (λ (r : ReaderValue). r.number) c.self.view_is in
+    omega (arith, feeds_of text stands.lines stands.part stands.cut, stands.numbered)
