@@ -5,7 +5,7 @@ use Rattle.std.proofs.lemmas.Bool.Decides.{leb_tells}
 use Rattle.gr_text.specs.Lines.{with_last, AreLines}
 use Rattle.gr_text.specs.Graph.{GraphValue}
 use Rattle.gr_text.specs.Fault.{IsFirstFaulty, IsFirstFault, IsEndedFault}
-use Rattle.gr_text.specs.Reading.{IsLineFault, IsGraphOfLines, IsLack}
+use Rattle.gr_text.specs.LinesSoFar.{IsLineFault, IsGraphOfLines, IsLack}
 use Rattle.gr_text.specs.PartialLine.{is_begun}
 use Rattle.gr_text.specs.Reader.{ReaderValue, Stands, StopsBy, FailsBy, IsRead}
 use Rattle.gr_text.specs.declared.faults.GrKind.{GrKind}

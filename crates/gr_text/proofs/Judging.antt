@@ -6,7 +6,7 @@ use Rattle.gr_text.specs.Statement.{Problem, ArcLine, AreSilent, FieldsSay}
 use Rattle.gr_text.specs.Sort.{LineSort, NoProblem, NoArc, AreOfSort, IsOfSort}
 use Rattle.gr_text.specs.Graph.{HasEnds, AreLawfulLines}
 use Rattle.gr_text.specs.Fault.{SaidSoFar, Unsaid, Stated, HaveSaid, IsWrong, IsFaultAfter}
-use Rattle.gr_text.specs.Reading.{Counts}
+use Rattle.gr_text.specs.LinesSoFar.{Counts}
 use Rattle.gr_text.specs.Word.{IsCapped, LineMeans}
 use Rattle.gr_text.specs.declared.faults.GrKind.{GrKind}
 use Rattle.gr_text.specs.declared.sizes.Size.{Size}

@@ -5,7 +5,7 @@ use Rattle.link_key.specs.declared.links.Link.{Link}
 use Rattle.gr_text.specs.Lines.{IsLine, ended, EndsLines}
 use Rattle.gr_text.specs.Graph.{AreLawfulSoFar}
 use Rattle.gr_text.specs.Fault.{IsFirstFaulty}
-use Rattle.gr_text.specs.Reading.{LinesSoFarValue, AreKept, Gives, IsLineFault}
+use Rattle.gr_text.specs.LinesSoFar.{LinesSoFarValue, AreKept, Gives, IsLineFault}
 use Rattle.gr_text.specs.PartialLine.{IsKeptAs}
 use Rattle.gr_text.specs.Reader.{ReaderValue, Stands, StopsAt}
 use Rattle.gr_text.specs.declared.faults.ReadFault.{ReadFault}

@@ -10,7 +10,7 @@ use Rattle.link_key.specs.Link.{Key, key_of, arc_key, is_no_loop, AreLinksOf}
 use Rattle.link_key.specs.declared.links.Link.{Link}
 use Rattle.gr_text.specs.Statement.{Statement, Problem, ArcLine, IsSilent, Says, Say}
 use Rattle.gr_text.specs.Graph.{IsArcOf, AreLawfulLines}
-use Rattle.gr_text.specs.Reading.{LinesSoFarValue, Counts, AreKept, Gives, Judges, AddsLink, AddsArc, IsLineFault}
+use Rattle.gr_text.specs.LinesSoFar.{LinesSoFarValue, Counts, AreKept, Gives, Judges, AddsLink, AddsArc, IsLineFault}
 use Rattle.gr_text.proofs.Alls.{All-push}
 use Rattle.gr_text.specs.declared.sizes.Size.{Size}
 use Rattle.gr_text.specs.declared.faults.ReadFault.{ReadFault}

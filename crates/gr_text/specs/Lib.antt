@@ -7,7 +7,7 @@ pub mod Sort
 pub mod Fault
 pub mod FaultText
 pub mod Word
-pub mod Reading
+pub mod LinesSoFar
 pub mod PartialLine
 pub mod UsualArc
 pub mod Reader

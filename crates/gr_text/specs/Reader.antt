@@ -3,7 +3,7 @@ use Rattle.std.specs.Prelude.{◌≡◌, ℕ, ◌+◌, ◌<◌, ◌≤◌, ◌�
 use Rattle.gr_text.specs.Lines.{EndsLines}
 use Rattle.gr_text.specs.Graph.{GraphValue, IsGraphOf}
 use Rattle.gr_text.specs.Fault.{IsFirstFault, IsEndedFault, HasLawfulLines}
-use Rattle.gr_text.specs.Reading.{LinesSoFarValue, Gives}
+use Rattle.gr_text.specs.LinesSoFar.{LinesSoFarValue, Gives}
 use Rattle.gr_text.specs.PartialLine.{IsKeptAs}
 use Rattle.gr_text.specs.declared.faults.ReadFault.{ReadFault}
 use Rattle.gr_text.specs.declared.faults.ReadFault.TheVariants as fault

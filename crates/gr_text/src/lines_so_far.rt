@@ -1,6 +1,6 @@
 ghost use Rattle.std.specs.Prelude.{◌≡◌, ℕ, List, [], MatchResult};
 ghost use Rattle.gr_text.specs.PartialLine.{IsWhole};
-ghost use Rattle.gr_text.specs.Reading.{AddsArc, FitsAfter, Gives, IsGraphOfLines, IsLack, IsTaken};
+ghost use Rattle.gr_text.specs.LinesSoFar.{AddsArc, FitsAfter, Gives, IsGraphOfLines, IsLack, IsTaken};
 
 use crate::arcs::Arc;
 use crate::faults::{GrFault, GrKind, ReadFault};
@@ -24,7 +24,7 @@ pub(crate) struct LinesSoFar<A: Allocator> {
 }
 
 impl<A: Allocator> Model for LinesSoFar<A> {
-    ghost use Rattle.gr_text.specs.Reading.{IsWithinSize, LinesSoFarValue};
+    ghost use Rattle.gr_text.specs.LinesSoFar.{IsWithinSize, LinesSoFarValue};
 
     ghost Value = { LinesSoFarValue };
 

@@ -1,7 +1,7 @@
 ghost use Rattle.std.specs.Prelude.{◌≡◌, ℕ, ℤ, MatchOption};
 ghost use Rattle.gr_text.specs.Word.{IsCappedSigned, KeepsArc, KeepsProblem};
 ghost use Rattle.gr_text.specs.PartialLine.{IsWhole};
-ghost use Rattle.gr_text.specs.Reading.{FitsAfter, JudgesEach};
+ghost use Rattle.gr_text.specs.LinesSoFar.{FitsAfter, JudgesEach};
 ghost use Rattle.gr_text.specs.Sort.{IsOfSort, NoArc, NoProblem};
 ghost use Rattle.gr_text.specs.Graph.{IsWeight};
 

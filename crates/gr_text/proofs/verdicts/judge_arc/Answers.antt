@@ -5,7 +5,7 @@ use Rattle.link_key.specs.Arc.{Arc}
 use Rattle.gr_text.specs.Statement.{Says, ArcLine}
 use Rattle.gr_text.specs.Sort.{Makes}
 use Rattle.gr_text.specs.Graph.{HasEnds, IsArcOf}
-use Rattle.gr_text.specs.Reading.{Judges}
+use Rattle.gr_text.specs.LinesSoFar.{Judges}
 use Rattle.gr_text.specs.declared.sizes.Size.{Size}
 use Rattle.gr_text.specs.declared.verdicts.Verdict.TheVariants as verdict
 use Rattle.gr_text.proofs.Judging.{fault_alone, fault_behind, kept_end, ends_of}

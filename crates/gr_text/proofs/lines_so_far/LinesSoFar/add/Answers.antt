@@ -2,7 +2,7 @@ use Rattle.std.proofs.Common.{◌≡◌, ◌≢◌, List, [], ◌∷◌, ◌++�
 use Rattle.link_key.specs.Arc.{Arc}
 use Rattle.link_key.specs.Link.{key_of, arc_key}
 use Rattle.link_key.specs.declared.links.Link.{Link}
-use Rattle.gr_text.specs.Reading.{LinesSoFarValue, AddsLink}
+use Rattle.gr_text.specs.LinesSoFar.{LinesSoFarValue, AddsLink}
 use Rattle.gr_text.proofs.lines_so_far.LinesSoFar.add.Goals as goal
 
 pub returns : goal.returns

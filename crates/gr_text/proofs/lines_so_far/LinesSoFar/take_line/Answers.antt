@@ -1,5 +1,5 @@
 use Rattle.std.proofs.Common.{◌∷◌, [], ◌++◌, refl, subst, sym}
-use Rattle.gr_text.specs.Reading.{LinesSoFarValue, FitsAfter, Gives, Judges}
+use Rattle.gr_text.specs.LinesSoFar.{LinesSoFarValue, FitsAfter, Gives, Judges}
 use Rattle.gr_text.specs.declared.verdicts.Verdict.TheVariants as verdict
 use Rattle.gr_text.proofs.Steps.{counts_of, Gives-silent, Gives-problem, arc_taken}
 use Rattle.gr_text.proofs.lines_so_far.LinesSoFar.take_line.Goals as goal
