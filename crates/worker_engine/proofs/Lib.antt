@@ -17,5 +17,4 @@ pub mod Versions
 pub mod Replying
 pub mod Sessions
 pub mod Steps
-pub mod Hearing
 pub mod Worked

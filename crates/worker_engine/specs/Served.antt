@@ -1,15 +1,14 @@
 -- How a session ends: what the source gave it, and what the sink took.
-use Rattle.std.specs.Prelude.{◌≡◌, ◌≢◌, ℕ, ◌+◌, ◌<◌, ◌⊎◌, List, [], ◌∷◌, ◌++◌, length, take, Option, Some, None, IsSome, Result, IfOk, OnErr}
+use Rattle.std.specs.Prelude.{◌≡◌, ◌≢◌, ℕ, ◌+◌, ◌<◌, ◌⊎◌, List, [], ◌∷◌, ◌++◌, length, take}
 use Rattle.byte_streams.specs.Streams.{SourceState, Gave, SinkState, Took}
 use Rattle.link_key.specs.declared.links.Link.{Link}
-use Rattle.frames.specs.FrameValue.{FrameValue, ShardFrame, AskFrame, AnswerFrame, FaultFrame, value_of}
-use Rattle.frames.specs.declared.frame.Frame.{Frame}
+use Rattle.frames.specs.FrameValue.{FrameValue, ShardFrame, AnswerFrame, FaultFrame}
 use Rattle.frames.specs.declared.frame.TheConstants.{VERSION}
 use Rattle.frames.specs.FrameText.{text_of}
 use Rattle.frames.specs.Lawful.{IsLawful}
 use Rattle.frames.specs.FrameStream.{texts_of, AreLawful}
 use Rattle.frames.specs.Refusals.{StreamRefused}
-use Rattle.frames.specs.ReadFault.{failures_of, ends_of}
+use Rattle.frames.specs.ReadFault.{IsReadRefused, failures_of, ends_of}
 use Rattle.frames.specs.declared.fault.FrameFault.{FrameFault}
 use Rattle.frames.specs.declared.fault.FrameFault.TheVariants.{Ended}
 use Rattle.worker_engine.specs.declared.session.Served.{Served}
@@ -17,9 +16,7 @@ use Rattle.worker_engine.specs.declared.session.ServeFault.{ServeFault}
 use Rattle.worker_engine.specs.declared.session.ServeFault.TheVariants.{Read, Write, Memory, TooMany}
 use Rattle.worker_engine.specs.declared.session.Written.{Written}
 use Rattle.worker_engine.specs.declared.session.Written.TheVariants.{Nothing, AnAnswer, AFault}
-use Rattle.worker_engine.specs.declared.engine.hearing.Owed.{Owed}
-use Rattle.worker_engine.specs.declared.engine.hearing.Owed.TheVariants.{Reply, NoMemoryForAsk, NoMemoryForShard}
-use Rattle.worker_engine.specs.Serving.{Shelf, shelf_with, IsReply, AreReplyTo, MayWantMemory, replies_in, MayFollow, Serves}
+use Rattle.worker_engine.specs.Serving.{Shelf, shelf_with, MayFollow, Serves, IsShardFrame}
 
 -- how many answers there are, and how many faults
 abbrev pub answer_bit : FrameValue → ℕ
@@ -115,48 +112,35 @@ abbrev pub CountsReplies : Written → Served → Served → Type 0
 CountsReplies written served served' = (now : List FrameValue) → IsSortOf written now
     → (served'.answers ≡ served.answers + answers_in now) × (served'.faults ≡ served.faults + faults_in now)
 
--- a frame was heard, and what is owed for it was written
-pub record Stepped (v : FrameValue) (written : Written) (shelf shelf' : Shelf) (sink sink' : SinkState) : Type 0 where
-  pub now : List FrameValue
-  pub kept : shelf' ≡ shelf_with shelf v
-  pub may : MayFollow shelf v now
-  pub sort : IsSortOf written now
-  pub took : Took 0 (texts_of now) sink sink'
+-- each is an answer or a fault
+abbrev pub AreAnswersOrFaults : List FrameValue → Type 0
+AreAnswersOrFaults replies = answers_in replies + faults_in replies ≡ length replies
 
--- the round and the shard of an ask
-abbrev pub ask_in : FrameValue → Option (ℕ × ℕ)
-ask_in (AskFrame round shard labels) = Some (round, shard)
-ask_in v = None
-
--- what is owed for a frame: the reply to it, once it was heard; or word that an ask or a shard found no memory, and wasn't heard
-abbrev pub IsOwed : {A : Type 0} → FrameValue → Shelf → Shelf → Owed A → Type 0
-IsOwed v shelf shelf' (Reply reply) = (shelf' ≡ shelf_with shelf v) × AreReplyTo shelf v (replies_in reply) × AreLawful (replies_in reply)
-IsOwed v shelf shelf' (NoMemoryForAsk round shard) = (shelf' ≡ shelf) × (ask_in v ≡ Some (round, shard)) × MayWantMemory shelf v
-IsOwed v shelf shelf' NoMemoryForShard = (shelf' ≡ shelf) × (ask_in v ≡ None) × MayWantMemory shelf v
-
--- the reply to an ask, and lawful; or want of memory, where the shard is kept
-abbrev pub IsReplied : {A E : Type 0} → Shelf → ℕ → ℕ → List ℕ → Result (Frame A) E → Type 0
-IsReplied shelf round shard labels reply =
-    IfOk reply (λ v. IsReply (shelf shard) round shard labels (value_of v) × IsLawful (value_of v)) × OnErr reply (IsSome (shelf shard))
-
--- the next frame came, and that is owed for it
-pub record HearsNext {A : Type 0} (owed : Owed A) (shelf shelf' : Shelf) (source source' : SourceState) : Type 0 where
+-- the next frame came and was heard, and these may be written for it
+pub record HearsNext (replies : List FrameValue) (shelf shelf' : Shelf) (source source' : SourceState) : Type 0 where
   pub v : FrameValue
   pub lawful : IsLawful v
   pub gave : Gave 0 0 (text_of v) source source'
-  pub owes : IsOwed v shelf shelf' owed
+  pub kept : shelf' ≡ shelf_with shelf v
+  pub may : MayFollow shelf v replies
 
--- what stands for a reply: itself, or a fault for want of memory in place of an answer
-abbrev pub StandsFor : FrameValue → FrameValue → Type 0
-StandsFor (AnswerFrame answer) v = (v ≡ AnswerFrame answer) ⊎ (v ≡ FaultFrame answer.round answer.shard 1)
-StandsFor reply v = v ≡ reply
+-- no frame was heard: none could be read, or a shard came that there was no memory to keep
+abbrev pub StopsBy : ServeFault → SourceState → SourceState → Type 0
+StopsBy (Read fault) source source' = IsReadRefused fault source source'
+StopsBy Memory source source' = (v : FrameValue) × IsShardFrame v × IsLawful v × Gave 0 0 (text_of v) source source'
+StopsBy fault source source' = ⊥
 
--- something that stands for the reply was written
-pub record WroteFor (reply : FrameValue) (written : Written) (sink sink' : SinkState) : Type 0 where
-  pub v : FrameValue
-  pub stands : StandsFor reply v
-  pub sort : IsSortOf written (v ∷ [])
-  pub took : Took 0 (text_of v) sink sink'
+-- what stands for replies: they themselves, or a fault for want of memory in place of an answer
+abbrev pub StandFor : List FrameValue → List FrameValue → Type 0
+StandFor (AnswerFrame a ∷ []) now = (now ≡ AnswerFrame a ∷ []) ⊎ (now ≡ FaultFrame a.round a.shard 1 ∷ [])
+StandFor replies now = now ≡ replies
+
+-- what stands for the replies was written
+pub record WroteFor (replies : List FrameValue) (written : Written) (sink sink' : SinkState) : Type 0 where
+  pub now : List FrameValue
+  pub stand : StandFor replies now
+  pub sort : IsSortOf written now
+  pub took : Took 0 (texts_of now) sink sink'
 
 -- less than a text was written, and then a write failed
 pub record CutOff (text : List ℕ) (sink sink' : SinkState) : Type 0 where
@@ -164,31 +148,11 @@ pub record CutOff (text : List ℕ) (sink sink' : SinkState) : Type 0 where
   pub short : count < length text
   pub took : Took 1 (take count text) sink sink'
 
--- something that stands for the reply was written in part
-pub record CutFor (reply : FrameValue) (sink sink' : SinkState) : Type 0 where
-  pub v : FrameValue
-  pub stands : StandsFor reply v
-  pub cut : CutOff (text_of v) sink sink'
-
--- a reply to a frame was written in part
-pub record CutReply (v : FrameValue) (shelf : Shelf) (sink sink' : SinkState) : Type 0 where
+-- what stands for the replies was written in part
+pub record CutFor (replies : List FrameValue) (sink sink' : SinkState) : Type 0 where
   pub now : List FrameValue
-  pub may : MayFollow shelf v now
+  pub stand : StandFor replies now
   pub cut : CutOff (texts_of now) sink sink'
-
--- a frame wasn't heard: a write failed, or there was no memory to keep a shard
-abbrev pub Failed : ServeFault → FrameValue → Shelf → SinkState → SinkState → Type 0
-Failed Write v shelf sink sink' = CutReply v shelf sink sink'
-Failed Memory v shelf sink sink' = ((number : ℕ) × (links : List Link) × (v ≡ ShardFrame number links)) × Took 0 [] sink sink'
-Failed fault v shelf sink sink' = ⊥
-
--- of whatever frame that is owed for: it was heard, and that was written
-abbrev pub WritesOwed : {A : Type 0} → Owed A → Written → SinkState → SinkState → Type 0
-WritesOwed owed written sink sink' = (v : FrameValue) (shelf shelf' : Shelf) → IsOwed v shelf shelf' owed → Stepped v written shelf shelf' sink sink'
-
--- of whatever frame that is owed for: the session failed at it
-abbrev pub FailsOwed : {A : Type 0} → Owed A → ServeFault → SinkState → SinkState → Type 0
-FailsOwed owed fault sink sink' = (v : FrameValue) (shelf shelf' : Shelf) → IsOwed v shelf shelf' owed → Failed fault v shelf sink sink'
 
 -- the hello wasn't written
 abbrev pub Ungreeted : ServeFault → List ℕ → SinkState → SinkState → Type 0

@@ -108,6 +108,11 @@ MayWantMemory shelf (ShardFrame number links) = ⊤
 MayWantMemory shelf (AskFrame round shard labels) = IsSome (shelf shard)
 MayWantMemory shelf v = ⊥
 
+-- a shard
+abbrev pub IsShardFrame : FrameValue → Type 0
+IsShardFrame (ShardFrame number links) = ⊤
+IsShardFrame v = ⊥
+
 -- the reply of an engine, if it gives one
 abbrev pub replies_in : {A : Type 0} → Option (Frame A) → List FrameValue
 replies_in None = []

@@ -3,7 +3,7 @@ ghost use Rattle.std.specs.Prelude.{◌≡◌, [], IsSome, IfOk, OnOk, OnErr, tr
 ghost use Rattle.frames.specs.FrameValue.{value_of, ShardFrame, FaultFrame};
 ghost use Rattle.frames.specs.Lawful.{IsLawful, IsShard, IsAsk};
 ghost use Rattle.frames.specs.FrameStream.{AreLawful};
-ghost use Rattle.worker_engine.specs.Serving.{shelf_of, shelf_with, IsReply, MayWantMemory, AreReplyTo, replies_in};
+ghost use Rattle.worker_engine.specs.Serving.{shelf_of, shelf_with, IsReply, MayWantMemory, AreReplyTo, MayFollow, IsShardFrame, replies_in};
 ghost use Rattle.worker_engine.specs.Live.{shelf_list, IsReplyWith, IsAllLive, AreAllLive, AreAllUnder};
 
 mod hearing;
@@ -12,7 +12,6 @@ mod threads;
 use crate::kept_shard::KeptShard;
 use crate::scanning::Scanner;
 use frames::{Answer, Frame, Links};
-pub(crate) use hearing::Owed;
 use link_key::{Labels, Offers};
 use std::alloc::{AllocError, Allocator, Global};
 use std::collections::BTreeMap;
@@ -105,6 +104,32 @@ impl<A: Allocator + Copy> Engine<A> {
         }
     }
 
+    /// Hears one frame as [`hear`](Engine::hear) does, but replies to each ask: to one that finds no memory by a fault with
+    /// the code [`NO_MEMORY`], which takes none.
+    ///
+    /// It costs what that costs. The only error is want of memory for a shard; the engine is unchanged then.
+    pub fn hear_or_fault(&mut self, frame: Frame<A>) -> Result<Option<Frame<A>>, AllocError>
+        requires lawful { IsLawful (value_of frame) }
+        ensures shelf { OnOk result (shelf_of self.new ≡ shelf_with (shelf_of self.old) (value_of frame)) }
+        ensures reply { IfOk result (λ reply. MayFollow (shelf_of self.old) (value_of frame) (replies_in reply)) }
+        ensures lawful { IfOk result (λ reply. AreLawful (replies_in reply)) }
+        ensures unchanged { OnErr result (self.new ≡ self.old) }
+        ensures wants_memory { OnErr result (IsShardFrame (value_of frame)) }
+    {
+        match frame {
+            Frame::Ask {
+                round,
+                shard,
+                labels,
+            } => {
+                let ask = Ask { round, shard };
+                let reply = self.reply(ask, labels);
+                Ok(Some(ask.reply_or_fault(reply)))
+            }
+            _ => self.hear(frame),
+        }
+    }
+
     // Keeps a shard's links under its number, in place of earlier ones.
     fn keep(&mut self, number: u32, links: Links<A>) -> Result<(), AllocError>
         requires { IsShard number links }
@@ -150,6 +175,17 @@ impl Ask {
                 offers,
             }),
             None => self.fault(NO_LABEL),
+        }
+    }
+
+    // This reply to it; where it found no memory, a fault that says so.
+    fn reply_or_fault<A: Allocator>(self, reply: Result<Frame<A>, AllocError>) -> Frame<A>
+        ensures reply { IfOk reply (λ reply. result ≡ reply) }
+        ensures fault { OnErr reply (value_of result ≡ FaultFrame self.round self.shard 1) }
+    {
+        match reply {
+            Ok(reply) => reply,
+            Err(_) => self.fault(NO_MEMORY),
         }
     }
 

@@ -1,16 +1,16 @@
 //! A worker's session: frames from a source, replies to a sink.
 ghost use Rattle.std.specs.Prelude.{◌≡◌, ◌≢◌, ◌+◌, ◌-◌, ◌<◌, ◌≤◌, ◌^◌, IfOk, IfErr, OnOk, OnErr, length};
 ghost use Rattle.byte_streams.specs.Streams.{Took};
-ghost use Rattle.frames.specs.FrameValue.{FrameValue, value_of, HelloFrame, FaultFrame};
+ghost use Rattle.frames.specs.FrameValue.{HelloFrame, FaultFrame};
 ghost use Rattle.frames.specs.FrameText.{text_of};
-ghost use Rattle.frames.specs.Lawful.{IsLawful};
-ghost use Rattle.worker_engine.specs.Serving.{Shelf};
-ghost use Rattle.worker_engine.specs.Served.{EndsWell, EndsBy, CountsReplies, answer_bit, fault_bit, IsOwed, WritesOwed, FailsOwed, WroteFor, CutFor, CutOff, Ungreeted};
+ghost use Rattle.frames.specs.FrameStream.{AreLawful};
+ghost use Rattle.worker_engine.specs.Serving.{replies_in};
+ghost use Rattle.worker_engine.specs.Served.{EndsWell, EndsBy, CountsReplies, AreAnswersOrFaults, WroteFor, CutFor, CutOff, Ungreeted};
 ghost use Rattle.worker_engine.specs.declared.session.ServeFault.TheVariants.{Read, Write};
 ghost use Rattle.frames.specs.declared.fault.FrameFault.TheVariants.{Ended};
 ghost use Rattle.worker_engine.specs.declared.session.Written.TheVariants.{AFault};
 
-use crate::engine::{Engine, NO_MEMORY, Owed};
+use crate::engine::{Engine, NO_MEMORY};
 use byte_streams::{Sink, Source, put};
 use frames::{Frame, FrameFault, VERSION, encode, fault_bytes};
 use limits::MAX_WORKERS;
@@ -95,11 +95,11 @@ pub fn serve_upto<R: Threads + Sync, A: Allocator + Copy + Send + Sync, S: Sourc
         faults: 0,
     };
     while served.frames < frames {
-        let owed = match engine.hear_next(rt, alloc, source) {
-            Ok(owed) => owed,
+        let reply = match engine.hear_next(rt, alloc, source) {
+            Ok(reply) => reply,
             Err(fault) => return stopped(served, fault),
         };
-        let written = write_owed(alloc, owed, sink)?;
+        let written = write_reply(alloc, reply, sink)?;
         served.count(written);
     }
     Err(ServeFault::TooMany)
@@ -125,14 +125,14 @@ pub fn serve<R: Threads + Sync, A: Allocator + Copy + Send + Sync, S: Source, W:
     serve_upto(rt, alloc, worker, source, sink, 1 << 32)
 }
 
-// How a session ends where no frame was read: well where the stream ended before one.
-fn stopped(served: Served, fault: FrameFault) -> Result<Served, ServeFault>
-    ensures over { IfOk result (λ counts. (counts ≡ served) × (fault ≡ Ended)) }
-    ensures read { IfErr result (λ why. (why ≡ Read fault) × (fault ≢ Ended)) }
+// How a session ends where no frame was heard: well where the stream ended before one.
+fn stopped(served: Served, fault: ServeFault) -> Result<Served, ServeFault>
+    ensures over { IfOk result (λ counts. (counts ≡ served) × (fault ≡ Read Ended)) }
+    ensures stops { IfErr result (λ why. (why ≡ fault) × (fault ≢ Read Ended)) }
 {
     match fault {
-        FrameFault::Ended => Ok(served),
-        _ => Err(ServeFault::Read(fault)),
+        ServeFault::Read(FrameFault::Ended) => Ok(served),
+        _ => Err(fault),
     }
 }
 
@@ -191,43 +191,27 @@ fn write_whole<W: Sink>(sink: &mut W, text: &[u8]) -> Result<(), ServeFault>
     }
 }
 
-// Writes what is owed for a frame. A fault needs no memory.
-fn write_owed<A: Allocator + Copy, W: Sink>(
-    alloc: A,
-    owed: Owed<A>,
-    sink: &mut W,
-) -> Result<Written, ServeFault>
-    requires owed { (v : FrameValue) × (shelf : Shelf) × (shelf' : Shelf) × IsOwed v shelf shelf' owed }
-    requires can { W.can_write sink.old }
-    ensures stepped { IfOk result (λ written. WritesOwed owed written (W.state sink.old) (W.state sink.new)) }
-    ensures failed { IfErr result (λ fault. FailsOwed owed fault (W.state sink.old) (W.state sink.new)) }
-    ensures again { OnOk result (W.can_write sink.new) }
-{
-    match owed {
-        Owed::Reply(None) => Ok(Written::Nothing),
-        Owed::Reply(Some(reply)) => write_reply(alloc, &reply, sink),
-        Owed::NoMemoryForAsk { round, shard } => write_fault(sink, round, shard, NO_MEMORY),
-        Owed::NoMemoryForShard => Err(ServeFault::Memory),
-    }
-}
-
-// Writes a reply, or a fault for want of memory in place of an answer.
+// Writes the reply to a frame, if there is one. In place of an answer whose text finds no memory it writes a fault that
+// says so, which needs none.
 fn write_reply<A: Allocator + Copy, W: Sink>(
     alloc: A,
-    reply: &Frame<A>,
+    reply: Option<Frame<A>>,
     sink: &mut W,
 ) -> Result<Written, ServeFault>
-    requires lawful { IsLawful (value_of reply.now) }
-    requires kind { answer_bit (value_of reply.now) + fault_bit (value_of reply.now) ≡ 1 }
+    requires lawful { AreLawful (replies_in reply) }
+    requires kinds { AreAnswersOrFaults (replies_in reply) }
     requires can { W.can_write sink.old }
-    ensures wrote { IfOk result (λ written. WroteFor (value_of reply.now) written (W.state sink.old) (W.state sink.new)) }
+    ensures wrote { IfOk result (λ written. WroteFor (replies_in reply) written (W.state sink.old) (W.state sink.new)) }
     ensures write { IfErr result (λ fault. fault ≡ Write) }
-    ensures cut { OnErr result (CutFor (value_of reply.now) (W.state sink.old) (W.state sink.new)) }
+    ensures cut { OnErr result (CutFor (replies_in reply) (W.state sink.old) (W.state sink.new)) }
     ensures again { OnOk result (W.can_write sink.new) }
 {
-    match reply {
+    let Some(reply) = reply else {
+        return Ok(Written::Nothing);
+    };
+    match &reply {
         Frame::Fault { round, shard, code } => write_fault(sink, *round, *shard, *code),
-        Frame::Answer(answer) => match encode(alloc, reply) {
+        Frame::Answer(answer) => match encode(alloc, &reply) {
             Ok(text) => match write_whole(sink, text.as_slice()) {
                 Ok(()) => Ok(Written::AnAnswer),
                 Err(fault) => Err(fault),

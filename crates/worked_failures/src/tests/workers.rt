@@ -18,6 +18,14 @@ enum By {
     Threads,
 }
 
+/// Which call hears a frame.
+#[derive(Clone, Copy)]
+enum HearBy {
+    Hear,
+    HearPar,
+    HearOrFault,
+}
+
 // What a scan of the links offers.
 fn offers<'a>(
     rt: &(impl Abort + Threads + Sync),
@@ -48,17 +56,27 @@ fn expect_offers(
     Ok(())
 }
 
-// The engine's reply to a frame.
+// The engine's reply to a frame. A fault for want of memory in place of the answer tells of that too.
 fn heard<'a>(
     rt: &(impl Abort + Threads + Sync),
-    by: By,
+    by: HearBy,
     engine: &mut Engine<&'a Memory>,
     frame: Frame<&'a Memory>,
 ) -> Result<Option<Frame<&'a Memory>>, AllocError> {
     assert!(rt; frame.is_lawful());
     match by {
-        By::OneThread => engine.hear(frame),
-        By::Threads => engine.hear_par(rt, frame),
+        HearBy::Hear => engine.hear(frame),
+        HearBy::HearPar => engine.hear_par(rt, frame),
+        HearBy::HearOrFault => match engine.hear_or_fault(frame)? {
+            Some(
+                Frame::Fault {
+                    round: 1,
+                    shard: 0,
+                    code: 1,
+                },
+            ) => Err(AllocError),
+            reply => Ok(reply),
+        },
     }
 }
 
@@ -66,7 +84,7 @@ fn heard<'a>(
 fn reply<'a>(
     rt: &(impl Abort + Threads + Sync),
     memory: &'a Memory,
-    by: By,
+    by: HearBy,
     engine: &mut Engine<&'a Memory>,
     bytes: &[u8],
 ) -> Result<Vec<u8, &'a Memory>, AllocError> {
@@ -83,7 +101,7 @@ fn reply<'a>(
 fn expect_reply<'a>(
     rt: &(impl Abort + Threads + Sync),
     memory: &'a Memory,
-    by: By,
+    by: HearBy,
     engine: &mut Engine<&'a Memory>,
     exchange: (&[u8], &[u8]),
 ) -> Result<(), AllocError> {
@@ -100,7 +118,7 @@ fn expect_reply<'a>(
 fn expect_replies(
     rt: &(impl Abort + Threads + Sync),
     memory: &Memory,
-    by: By,
+    by: HearBy,
     shard: &[u8],
 ) -> Result<(), AllocError> {
     let mut engine = Engine::new(memory);
@@ -111,7 +129,7 @@ fn expect_replies(
 #[derive(Clone, Copy)]
 enum Call {
     Scan(By, &'static [Row]),
-    Hear(By, &'static [u8]),
+    Hear(HearBy, &'static [u8]),
 }
 
 #[test]
@@ -121,10 +139,12 @@ fn scans_and_engines(rt: HostRuntime) {
         Call::Scan(By::OneThread, &WIDE_ARCS),
         Call::Scan(By::Threads, EQUAL_WEIGHTS.arcs),
         Call::Scan(By::Threads, &WIDE_ARCS),
-        Call::Hear(By::OneThread, &SHARD),
-        Call::Hear(By::OneThread, &SHARD64),
-        Call::Hear(By::Threads, &SHARD),
-        Call::Hear(By::Threads, &SHARD64),
+        Call::Hear(HearBy::Hear, &SHARD),
+        Call::Hear(HearBy::Hear, &SHARD64),
+        Call::Hear(HearBy::HearPar, &SHARD),
+        Call::Hear(HearBy::HearPar, &SHARD64),
+        Call::Hear(HearBy::HearOrFault, &SHARD),
+        Call::Hear(HearBy::HearOrFault, &SHARD64),
     ] {
         expect_each(
             &rt,

@@ -281,7 +281,7 @@ const HEARD: [(&[u8], Option<&[u8]>); 8] = [
 
 #[test]
 fn an_engine_hears_each_kind_of_frame(rt: HostRuntime) -> Result<(), Fail> {
-    for by in [By::OneThread, By::Threads] {
+    for by in [By::OneThread, By::Threads, By::OrFault] {
         let mut worker = Worker::new(rt.alloc(), by);
         expect_replies(&rt, rt.alloc(), &mut worker)?;
     }

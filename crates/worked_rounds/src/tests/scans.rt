@@ -33,14 +33,15 @@ pub(crate) fn scanned(
     Ok(offers)
 }
 
-/// How an engine scans.
+/// How an engine hears: it scans by one thread or by threads, or it has a fault for an ask that finds no memory.
 #[derive(Clone, Copy)]
 pub(crate) enum By {
     OneThread,
     Threads,
+    OrFault,
 }
 
-/// A worker's engine, and how it scans.
+/// A worker's engine, and how it hears.
 #[derive(Drop)]
 pub(crate) struct Worker<A: Allocator = Global> {
     engine: Engine<A>,
@@ -67,6 +68,7 @@ impl<A: Allocator + Copy + Send + Sync> Worker<A> {
         match self.by {
             By::OneThread => self.engine.hear(frame),
             By::Threads => self.engine.hear_par(rt, frame),
+            By::OrFault => self.engine.hear_or_fault(frame),
         }
     }
 

@@ -2,7 +2,7 @@ use Rattle.std.proofs.Common.{refl, arith}
 use Rattle.std.proofs.lemmas.Result.{err_from_is_err_and}
 use Rattle.byte_streams.proofs.Streaming.{gave_nothing}
 use Rattle.worker_engine.specs.Serving.{shelf_of}
-use Rattle.worker_engine.proofs.Steps.{so_far_starts, so_far_more, ends_at_hello, ends_at_frame, ends_at_limit, stops_well, stops_by}
+use Rattle.worker_engine.proofs.Steps.{so_far_starts, so_far_more, ends_at_hello, ends_at_limit, stops_well, stops_by, cuts_by}
 use Rattle.worker_engine.proofs.session.serve_upto.Goals as goal
 
 pub returns-in_err-greet-clause-ends_by : goal.returns-in_err-greet-clause-ends_by
@@ -21,30 +21,27 @@ loop-served-init g c = record {
 
 pub returns-in-Err-clause-ends_well : goal.returns-in-Err-clause-ends_well
 returns-in-Err-clause-ends_well g c =
-    stops_well c.args.worker c.args.frames _ _ _ _ _ (shelf_of c.loop-served.engine) c.loop-served.served c.in-Err.fault c.loop-served.invariant.so_far c.in-Err.ensures.refused c.stopped.result c.stopped.ensures.over
+    stops_well c.args.worker c.args.frames _ _ _ _ _ (shelf_of c.loop-served.engine) c.loop-served.served c.loop-served.invariant.so_far c.in-Err.fault c.stopped.result c.in-Err.ensures.stops c.stopped.ensures.over
 
 pub returns-in-Err-clause-ends_by : goal.returns-in-Err-clause-ends_by
 returns-in-Err-clause-ends_by g c =
-    stops_by c.args.worker c.args.frames _ _ _ _ _ (shelf_of c.loop-served.engine) c.loop-served.served c.in-Err.fault c.loop-served.invariant.so_far c.in-Err.ensures.refused c.stopped.result c.stopped.ensures.read
+    stops_by c.args.worker c.args.frames _ _ _ _ _ (shelf_of c.loop-served.engine) c.loop-served.served c.loop-served.invariant.so_far c.in-Err.fault c.stopped.result c.in-Err.ensures.stops c.stopped.ensures.stops
 
 pub returns-in_err-written-clause-ends_by : goal.returns-in_err-written-clause-ends_by
 returns-in_err-written-clause-ends_by g c =
     let p = err_from_is_err_and c.from_residual-in_err-written.result c.from_residual-in_err-written.ensures.1 in
-    let heard = c.in-Ok.ensures.hears in
-    rw (p.1, p.2) (ends_at_frame c.args.worker _ _ _ _ _ _ c.args.frames (shelf_of c.loop-served.engine) c.loop-served.served heard.v c.in_err-written.field-0.0
-    heard.lawful c.loop-served.invariant.so_far heard.gave (c.in_err-written.ensures.failed heard.v _ _ heard.owes))
+    rw (p.1, p.2) (cuts_by c.args.worker c.args.frames _ _ _ _ _ (shelf_of c.loop-served.engine) c.loop-served.served c.loop-served.invariant.so_far
+    _ _ _ c.in_err-written.field-0.0 c.in-Ok.ensures.hears c.in_err-written.ensures.write c.in_err-written.ensures.cut)
 
 pub loop-served-preserved : goal.loop-served-preserved
-loop-served-preserved g c =
-    let heard = c.in-Ok.ensures.hears in
-    record {
-      so_far = so_far_more c.args.worker _ _ _ _ _ _ (shelf_of c.loop-served.engine) (shelf_of c.hear_next.new.self) c.loop-served.served c.count.new.self heard.v c.in_ok-written.written
-          heard.lawful c.loop-served.invariant.so_far heard.gave (c.in_ok-written.ensures.stepped heard.v _ _ heard.owes) c.count.ensures.frames c.count.ensures.replies;
-      few = c.count.ensures.few;
-      within = omega (arith, c.count.ensures.frames, c.loop-served-test.true);
-      can_read = c.in-Ok.ensures.again;
-      can_write = c.in_ok-written.ensures.again;
-    }
+loop-served-preserved g c = record {
+  so_far = so_far_more c.args.worker _ _ _ _ _ _ (shelf_of c.loop-served.engine) (shelf_of c.hear_next.new.self) c.loop-served.served c.count.new.self _ c.in_ok-written.written
+      c.loop-served.invariant.so_far c.in-Ok.ensures.hears c.in_ok-written.ensures.wrote c.count.ensures.frames c.count.ensures.replies;
+  few = c.count.ensures.few;
+  within = omega (arith, c.count.ensures.frames, c.loop-served-test.true);
+  can_read = c.in-Ok.ensures.again;
+  can_write = c.in_ok-written.ensures.again;
+}
 
 pub returns-clause-ends_by : goal.returns-clause-ends_by
 returns-clause-ends_by g c =
