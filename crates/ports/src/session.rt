@@ -5,14 +5,14 @@ ghost use Rattle.frames.specs.FrameText.{text_of};
 ghost use Rattle.frames.specs.Lawful.{IsLawful};
 ghost use Rattle.frames.specs.FrameStream.{texts_of, AreLawful, BeginsNone, IsOfStream};
 ghost use Rattle.frames.specs.Refusals.{StreamRefused};
-ghost use Rattle.worker_engine.specs.Serving.{shelf_of, shelf_with, MayFollow, replies_in};
+ghost use Rattle.worker_engine.specs.Serving.{replies_in};
 ghost use Rattle.ports.specs.Causes.{IsGarble};
 ghost use Rattle.ports.specs.EngineLines.{rest_of, GoesOn, IsOver, Extends};
 
 use frames::{Frame, FrameFault, encode, read_frame};
 use std::alloc::{AllocError, Allocator};
 use std::marker::Model;
-use worker_engine::{Engine, NO_MEMORY};
+use worker_engine::Engine;
 
 // A session: the bytes that came, how many of them were heard, and what was written.
 #[derive(Drop)]
@@ -62,7 +62,7 @@ impl<A: Allocator + Copy> Session<A> {
         loop {
             match first_frame(self.alloc, &self.input[self.heard..]) {
                 Ok((frame, count)) => {
-                    let reply = reply_to(&mut self.engine, frame)?;
+                    let reply = self.engine.hear_or_fault(frame)?;
                     write_reply(self.alloc, &mut self.out, reply)?;
                     self.heard += count;
                 }
@@ -84,39 +84,6 @@ fn first_frame<A: Allocator + Copy>(alloc: A, bytes: &[u8]) -> Result<(Frame<A>,
     match read_frame(alloc, &mut rest) {
         Ok(frame) => Ok((frame, bytes.len() - rest.len())),
         Err(fault) => Err(fault),
-    }
-}
-
-// The engine's reply to a frame; to an ask for which it finds no memory, the fault that says so.
-fn reply_to<A: Allocator + Copy>(
-    engine: &mut Engine<A>,
-    frame: Frame<A>,
-) -> Result<Option<Frame<A>>, AllocError>
-    requires { IsLawful (value_of frame) }
-    ensures shelf { OnOk result
-        (shelf_of engine.new ≡ shelf_with (shelf_of engine.old) (value_of frame)) }
-    ensures reply { IfOk result
-        (λ reply. MayFollow (shelf_of engine.old) (value_of frame) (replies_in reply)) }
-    ensures lawful { IfOk result (λ reply. AreLawful (replies_in reply)) }
-{
-    match frame {
-        Frame::Ask {
-            round,
-            shard,
-            labels,
-        } => match engine.hear(Frame::Ask {
-            round,
-            shard,
-            labels,
-        }) {
-            Ok(reply) => Ok(reply),
-            Err(_) => Ok(Some(Frame::Fault {
-                round,
-                shard,
-                code: NO_MEMORY,
-            })),
-        },
-        other => engine.hear(other),
     }
 }
 
