@@ -35,14 +35,14 @@ below_then_first : (l x m : Link) (p q : ℕ) → IsBelow x l → ComesFirst l p
 below_then_first l x m p q below (inl lower) = below_trans x l m below lower
 below_then_first l x m p q below (inr (same, le)) = subst (IsBelow x) same below
 
-first_then_first : (l x m : Link) (p i q : ℕ) → ComesFirst l p x i → ComesFirst x i m q → ComesFirst l p m q
+pub first_then_first : (l x m : Link) (p i q : ℕ) → ComesFirst l p x i → ComesFirst x i m q → ComesFirst l p m q
 first_then_first l x m p i q (inl below) (inl lower) = inl (below_trans l x m below lower)
 first_then_first l x m p i q (inl below) (inr (same, le)) = inl (subst (IsBelow l) same below)
 first_then_first l x m p i q (inr (same, le)) (inl lower) = inl (subst (λ k. IsBelow k m) (sym same) lower)
 first_then_first l x m p i q (inr (same, le)) (inr (same', le')) = inr (same ∙ same', omega (arith, le, le'))
 
 -- a link that isn't below an earlier one comes behind it
-first_from_le : (l x : Link) (p i : ℕ) → ¬ (IsBelow x l) → p ≤ i → ComesFirst l p x i
+pub first_from_le : (l x : Link) (p i : ℕ) → ¬ (IsBelow x l) → p ≤ i → ComesFirst l p x i
 first_from_le l x p i not_below le = elim (trichotomy l x) [
   | inl below ↦ inl below
   | inr rest ↦ elim rest [ inl same ↦ inr (same, le) | inr above ↦ absurd (not_below above) ]

@@ -1,5 +1,6 @@
 pub mod BestSoFar
 pub mod Scans
+pub mod Outdone
 pub mod Laid
 pub mod Written
 pub mod Ahead

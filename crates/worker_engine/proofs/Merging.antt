@@ -13,7 +13,7 @@ use Rattle.worker_engine.specs.Parts.{SayPlaces, count_in, place_in}
 use Rattle.worker_engine.specs.declared.live.LiveLink.{LiveLink}
 use Rattle.worker_engine.specs.Live.{AreLive, AreLiveLinks, places_of}
 use Rattle.worker_engine.proofs.BestSoFar.{best_first}
-use Rattle.worker_engine.proofs.Laid.{live_first, live_end, live_ascends}
+use Rattle.worker_engine.proofs.Laid.{live_first, live_end, live_ascends, front_is_quiet}
 use Rattle.worker_engine.proofs.Scans.{kept_place, kept_none, kept_at, keeps_out}
 
 -- what a table keeps says the weight of the link at its place
@@ -108,12 +108,12 @@ pub bests_live : (links : List Link) (labels : List ℕ) (places : List ℕ) (ta
     → AreBest links labels (get_or places 0 (length links)) (get_or places (length places) (length links)) table → AreBest links labels 0 (length links) table
 bests_live links labels places table live are =
     let first = get_or places 0 (length links) in
-    let (le, quiet) = live_first links labels 0 (length links) places live in
+    let (le, aside) = live_first links labels 0 (length links) places live in
     let whole = subst (λ k. AreBest links labels first k table) (live_end links labels (length links) places) are in
     record {
       each_vertex = are.each_vertex;
       best = λ c vertex. keeps_front links labels 0 first (length links) c (best_of table c) le
-          (λ q l from_start before_end in_list read leaves. leaves_apart labels l c leaves (quiet q l from_start before_end read).one_label) (whole.best c vertex);
+          (λ q l from_start before_end in_list read leaves. leaves_apart labels l c leaves (front_is_quiet links labels first aside q l before_end read).one_label) (whole.best c vertex);
     }
 
 -- so has a pass over all links

@@ -7,11 +7,11 @@ use Rattle.worker_engine.specs.declared.scanning.Best.{Best}
 use Rattle.worker_engine.specs.declared.live.LiveLink.{LiveLink}
 use Rattle.worker_engine.specs.declared.numbers.Word.{Word}
 use Rattle.worker_engine.specs.Scanning.{no_best, AreBestUpTo}
-use Rattle.worker_engine.specs.Live.{places_of, AreLiveLinks, relabelled, packed}
+use Rattle.worker_engine.specs.Live.{AreParallel, places_of, AreLiveLinks, relabelled, packed}
 use Rattle.worker_engine.specs.Batches.{CanBeTakenIn, TakesInAll}
-use Rattle.worker_engine.specs.Numbers.{marks_of, IsMarked, marked_in, number_of, numbered, numbered_labels, shown, AreByNumbers, AreNumbered, HaveNames}
+use Rattle.worker_engine.specs.Numbers.{marks_of, IsMarked, marked_in, number_of, numbered, numbered_labels, shown, IsNamed, HasNumbers, AreByNumbers, AreNumbered, HaveNames}
 use Rattle.worker_engine.proofs.Scans.{best_of_none}
-use Rattle.worker_engine.proofs.Laid.{live_or_quiet}
+use Rattle.worker_engine.proofs.Laid.{live_or_aside}
 use Rattle.worker_engine.proofs.Written.{next_says, live_ends, live_links_coarser, bests_none, bests_all}
 use Rattle.worker_engine.proofs.Ahead.{takes_live}
 use Rattle.worker_engine.proofs.Packed.{packed_live, packed_own}
@@ -35,26 +35,53 @@ module _ (links : List Link) (labels marks names : List ℕ) (by_labels live : L
         weight = says.2;
       })
 
+  -- of a link that is listed the ends have numbers
+  listed_has_numbers : (k : ℕ) (l : Link) → k < length (places_of by_labels) → l ≡ get_or links (get_or (places_of by_labels) k 0) l → HasNumbers labels marks names l
+  listed_has_numbers k l lt read =
+      let in_labels : k < length by_labels = omega (arith, lt, length-map by_labels (λ (x : LiveLink). x.place)) in
+      let d : LiveLink = record { low = 0; high = 0; weight = l.weight; place = 0 } in
+      let e : LiveLink = get_or by_labels k d in
+      let place : get_or (places_of by_labels) k 0 ≡ e.place = get_or-map (λ (x : LiveLink). x.place) by_labels k d 0 in_labels in
+      let w = are.written k d in_labels l (subst (λ p. l ≡ get_or links p l) place read) in
+      let low : e.low ≡ label_of labels l.low = ap (λ (x : LiveLink). x.low) (sym (own k d in_labels)) ∙ w.low.2 in
+      let high : e.high ≡ label_of labels l.high = ap (λ (x : LiveLink). x.high) (sym (own k d in_labels)) ∙ w.high.2 in
+      let is = by.marked k d in_labels in
+      let called = by.named_are k d in_labels in
+      record {
+        low_marked = subst (IsMarked marks) low is.0;
+        high_marked = subst (IsMarked marks) high is.1;
+        low_named = subst (IsNamed marks names) low called.0;
+        high_named = subst (IsNamed marks names) high called.1;
+      }
+
+  -- and those of a link that is parallel to it
+  parallel_has_numbers : (e l : Link) → AreParallel labels e l → HasNumbers labels marks names e → HasNumbers labels marks names l
+  parallel_has_numbers e l (inl (low, high)) is = record {
+    low_marked = subst (IsMarked marks) low.2 is.low_marked;
+    high_marked = subst (IsMarked marks) high.2 is.high_marked;
+    low_named = subst (IsNamed marks names) low.2 is.low_named;
+    high_named = subst (IsNamed marks names) high.2 is.high_named;
+  }
+  parallel_has_numbers e l (inr (low, high)) is = record {
+    low_marked = subst (IsMarked marks) high.2 is.high_marked;
+    high_marked = subst (IsMarked marks) low.2 is.low_marked;
+    low_named = subst (IsNamed marks names) high.2 is.high_named;
+    high_named = subst (IsNamed marks names) low.2 is.low_named;
+  }
+
   -- of each link the ends have one label, or they have numbers
   next_are_numbered : AreNumbered links labels marks names
-  next_are_numbered q l lt read = elim (live_or_quiet links labels 0 (length links) (places_of by_labels) q l are.places (omega arith) lt read) [
-    | inl quiet ↦ inl quiet.one_label
-    | inr (k, k_lt, at) ↦
-        let in_labels : k < length by_labels = omega (arith, k_lt, length-map by_labels (λ (x : LiveLink). x.place)) in
-        let d : LiveLink = record { low = 0; high = 0; weight = l.weight; place = q } in
-        let e : LiveLink = get_or by_labels k d in
-        let place : e.place ≡ q = sym (get_or-map (λ (x : LiveLink). x.place) by_labels k d q in_labels) ∙ at in
-        let w = are.written k d in_labels l (subst (λ p. l ≡ get_or links p l) (sym place) read) in
-        let low : e.low ≡ label_of labels l.low = ap (λ (x : LiveLink). x.low) (sym (own k d in_labels)) ∙ w.low.2 in
-        let high : e.high ≡ label_of labels l.high = ap (λ (x : LiveLink). x.high) (sym (own k d in_labels)) ∙ w.high.2 in
-        let is = by.marked k d in_labels in
-        let called = by.named_are k d in_labels in
-        inr (record {
-          low_marked = subst (IsMarked marks) low is.0;
-          high_marked = subst (IsMarked marks) high is.1;
-          low_named = subst (λ c. get_or names (number_of marks c - 1) 0 ≡ c) low called.0;
-          high_named = subst (λ c. get_or names (number_of marks c - 1) 0 ≡ c) high called.1;
-        })
+  next_are_numbered q l lt read = elim (live_or_aside links labels 0 (length links) (places_of by_labels) q l are.places (omega arith) lt read) [
+    | inl aside ↦ elim aside [
+      | inl quiet ↦ inl quiet.one_label
+      | inr by_none ↦ absurd (omega (arith, by_none.just_before))
+    ]
+    | inr (k, k_lt, e, e_read, is) ↦
+        let has = listed_has_numbers k e k_lt e_read in
+        elim is [
+          | inl same ↦ inr (subst (HasNumbers labels marks names) same has)
+          | inr parallel ↦ inr (parallel_has_numbers e l parallel has)
+        ]
   ]
 
   -- once all are taken in, the best places are kept

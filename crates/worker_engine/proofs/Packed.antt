@@ -5,8 +5,8 @@ use Rattle.std.proofs.lemmas.List.Elements.{All-cons, All-nil}
 use Rattle.link_key.specs.declared.links.Link.{Link}
 use Rattle.link_key.specs.Labels.{label_of, AreLabels}
 use Rattle.worker_engine.specs.declared.live.LiveLink.{LiveLink}
-use Rattle.worker_engine.specs.Live.{AreQuiet, AreLive, IsWritten, places_of, AreLiveLinks, relabelled, packed}
-use Rattle.worker_engine.proofs.Laid.{live_before}
+use Rattle.worker_engine.specs.Live.{IsQuiet, AreLive, IsWritten, places_of, AreLiveLinks, relabelled, packed}
+use Rattle.worker_engine.proofs.Laid.{live_without}
 use Rattle.worker_engine.proofs.Written.{relabelled_written, live_ends}
 use Rattle.worker_engine.proofs.Ahead.{relabelled_stands}
 
@@ -51,21 +51,17 @@ module _ (links : List Link) (labels : List ℕ) where
   Written e = (l : Link) → l ≡ get_or links e.place l → IsWritten labels l e
 
   -- the link at the place of one that is left out is quiet
-  left_out : (e : LiveLink) → Written e → label_of labels e.low ≡ label_of labels e.high → AreQuiet links labels e.place (e.place + 1)
-  left_out e written same q m from_start before_end read =
-      let at : q ≡ e.place = omega (arith, from_start, before_end) in
-      let is = written m (subst (λ k. m ≡ get_or links k m) at read) in
-      record { labelled = is.high.1.1; one_label = sym is.low.2 ∙ same ∙ is.high.2 }
+  left_out : (e : LiveLink) → Written e → label_of labels e.low ≡ label_of labels e.high → (l : Link) → l ≡ get_or links e.place l → IsQuiet labels l
+  left_out e written same l read = let is = written l read in record { labelled = is.high.1.1; one_label = sym is.low.2 ∙ same ∙ is.high.2 }
 
   packed_places : (from to : ℕ) (live : List LiveLink) → All Written live → AreLive links labels from to (places_of live) → AreLive links labels from to (places_of (packed labels live))
   packed_places from to [] all is = is
-  packed_places from to (e ∷ live) all (le, quiet, rest) =
+  packed_places from to (e ∷ live) all (le, aside, rest) =
       let later = packed_places (e.place + 1) to live (all_tail Written e live all) rest in
       elim (eqb_tells (label_of labels e.low) (label_of labels e.high)) [
         | inl (test, same) ↦ subst (λ t. AreLive links labels from to (places_of t)) (sym (packed_same labels e live same))
-            (live_before links labels from e.place to (places_of (packed labels live)) le quiet
-            (live_before links labels e.place (e.place + 1) to (places_of (packed labels live)) (omega arith) (left_out e (all_head Written e live all) same) later))
-        | inr (test, apart) ↦ subst (λ t. AreLive links labels from to (places_of t)) (sym (packed_apart labels e live apart)) (le, quiet, later)
+            (live_without links labels from e.place to (places_of (packed labels live)) le aside (left_out e (all_head Written e live all) same) later)
+        | inr (test, apart) ↦ subst (λ t. AreLive links labels from to (places_of t)) (sym (packed_apart labels e live apart)) (le, aside, later)
       ]
 
   -- those that stay are the live links

@@ -8,11 +8,11 @@ use Rattle.link_key.specs.Link.{EndsUpTo}
 use Rattle.link_key.specs.Labels.{label_of, AreLabels}
 use Rattle.round_theory.specs.Labelling.{IsVertex}
 use Rattle.worker_engine.specs.declared.live.LiveLink.{LiveLink}
-use Rattle.worker_engine.specs.Live.{AreLive, IsWritten, places_of, AreLiveLinks, relabelled, packed}
+use Rattle.worker_engine.specs.Live.{AreLive, IsWritten, places_of, AreLiveLinks, StayLive, relabelled, packed}
 use Rattle.std.proofs.lemmas.List.{map-append}
 use Rattle.std.proofs.lemmas.List.Elements.{All-append, All-cons, All-nil}
 use Rattle.worker_engine.proofs.BestSoFar.{one_read}
-use Rattle.worker_engine.proofs.Laid.{live_push, live_goes_on, quiet_alone}
+use Rattle.worker_engine.proofs.Laid.{live_push}
 use Rattle.worker_engine.specs.Batches.{written_at}
 use Rattle.worker_engine.specs.Numbers.{IsMarked, number_of, numbered, named, IsNamed, AreBothMarked, AreBothNamed, AreMarkedUpTo, AreNamedUpTo, HaveNames, HaveMarks, new_name, shown, AreByNumbers, AreListedUpTo}
 use Rattle.worker_engine.proofs.Scans.{end_at}
@@ -53,6 +53,11 @@ module _ (marks names : List ℕ) (within : (c : ℕ) → IsMarked marks c → n
         subst (λ (e : LiveLink). IsVertex (length names) e.low × IsVertex (length names) e.high) (sym (number_at k d in_labels))
         ((omega arith, within (get_or by_labels k d).low is.0), (omega arith, within (get_or by_labels k d).high is.1))
 
+-- what is written with numbers has the same places
+numbered_places : (marks : List ℕ) (live : List LiveLink) → places_of (map (numbered marks) live) ≡ places_of live
+numbered_places marks [] = refl
+numbered_places marks (l ∷ live) = ap (λ (t : List ℕ). l.place ∷ t) (numbered_places marks live)
+
 -- the first list, a link at a time
 module _ (links : List Link) (labels marks : List ℕ) where
   abbrev FromLink : LiveLink → Type 0
@@ -74,13 +79,16 @@ module _ (links : List Link) (labels marks : List ℕ) where
         e : LiveLink
         e = written_at labels l place
 
-    pub listed_left_out : l.high ≤ length labels → (live : List LiveLink) → AreListedUpTo place links labels marks live → label_of labels l.low ≡ label_of labels l.high → AreListedUpTo (place + 1) links labels marks live
-    listed_left_out ends live is same = record {
-      by_labels = is.by_labels;
-      places = live_goes_on links labels 0 place (place + 1) (places_of is.by_labels) is.places (omega arith) (quiet_alone links labels place l within read ends same);
-      written = is.written;
-      numbered_are = is.numbered_are;
-    }
+  -- or the next is left out
+  pub listed_left_out : (place : ℕ) (live : List LiveLink) → AreListedUpTo place links labels marks live → StayLive links labels live place → AreListedUpTo (place + 1) links labels marks live
+  listed_left_out place live is stay =
+      let same : places_of live ≡ places_of is.by_labels = ap (λ (t : List LiveLink). places_of t) is.numbered_are ∙ numbered_places marks is.by_labels in
+      record {
+        by_labels = is.by_labels;
+        places = subst (AreLive links labels 0 (place + 1)) same (stay (subst (AreLive links labels 0 place) (sym same) is.places));
+        written = is.written;
+        numbered_are = is.numbered_are;
+      }
 
 -- the first list
 module _ (links : List Link) (labels marks : List ℕ) (live : List LiveLink) (listed : AreListedUpTo (length links) links labels marks live) where

@@ -10,20 +10,13 @@ use Rattle.worker_engine.specs.declared.scanning.Best.{Best}
 use Rattle.worker_engine.specs.declared.live.LiveLink.{LiveLink}
 use Rattle.worker_engine.specs.Scanning.{Says, AreBestUpTo, TakesIn}
 use Rattle.worker_engine.specs.Batches.{written_at}
-use Rattle.worker_engine.specs.Live.{AreLive, HaveOneLabel, IsWritten, places_of, AreLiveLinks, relabelled}
-use Rattle.worker_engine.proofs.Laid.{live_coarser, live_first, live_next, live_within, live_end, live_push, live_goes_on, quiet_alone}
+use Rattle.worker_engine.specs.Live.{AreLive, HaveOneLabel, IsWritten, places_of, AreLiveLinks, StayLive, relabelled}
+use Rattle.worker_engine.proofs.Laid.{one_label_coarser, live_coarser, live_first, live_next, live_within, live_end, live_push, front_is_quiet}
 use Rattle.worker_engine.proofs.BestSoFar.{one_read}
 use Rattle.worker_engine.proofs.Scans.{bests_stay}
+use Rattle.worker_engine.proofs.Outdone.{bests_over}
 
--- vertices of one label have one under labels that coarsen
-one_label_coarser : (labels finer : List ℕ) (u v : ℕ) → Coarsens labels finer → HaveOneLabel finer u v → HaveOneLabel labels u v
-one_label_coarser labels finer u v coarsens (at_u, at_v, same) = (
-  (at_u.0, omega (arith, coarsens.vertices, at_u.1)),
-  (at_v.0, omega (arith, coarsens.vertices, at_v.1)),
-  coarsens.together u v at_u.0 at_u.1 at_v.0 at_v.1 same,
-)
-
--- so what is written of a link stays right
+-- what is written of a link stays right under labels that coarsen
 pub written_coarser : (labels finer : List ℕ) (l : Link) (e : LiveLink) → Coarsens labels finer → IsWritten finer l e → IsWritten labels l e
 written_coarser labels finer l e coarsens is = record {
   weight = is.weight;
@@ -76,8 +69,9 @@ module _ (links : List Link) (labels : List ℕ) where
     -- a table of no links stands before the first live one, and in the end all are seen
     pub bests_none : (count : ℕ) (table : List Best) → AreBestUpTo count links labels 0 0 table → AreBestUpTo count links labels 0 (get_or (places_of old) 0 (length links)) table
     bests_none count table none =
-        let (le, quiet) = live_first links labels 0 (length links) (places_of old) are.places in
-        bests_stay count links labels 0 0 (get_or (places_of old) 0 (length links)) table le (λ q l from_start before_end in_list read. (quiet q l from_start before_end read).one_label) none
+        let (le, aside) = live_first links labels 0 (length links) (places_of old) are.places in
+        bests_stay count links labels 0 0 (get_or (places_of old) 0 (length links)) table le
+        (λ q l from_start before_end in_list read. (front_is_quiet links labels (get_or (places_of old) 0 (length links)) aside q l before_end read).one_label) none
 
     pub bests_all : (count i : ℕ) (table : List Best) → i ≡ length old → AreBestUpTo count links labels 0 (get_or (places_of old) i (length links)) table → AreBestUpTo count links labels 0 (length links) table
     bests_all count i table at best =
@@ -126,9 +120,9 @@ module _ (links : List Link) (labels : List ℕ) where
             let end : get_or (places_of old) i (length links) ≡ p = get_or_default (places_of old) i (length links) 0 in_places ∙ place_is ∙ sym at in
             let taken = takes count labels from l (subst (λ k. l ≡ get_or links k l) (sym at) read) (ap (λ (k : LiveLink). k.low) next_is ∙ is.low.2) (ap (λ (k : LiveLink). k.high) next_is ∙ is.high.2)
             (subst (λ k. from ≤ k) end le) (subst (λ k. AreBestUpTo count links labels from k table) end best) in
-            let (le', quiet) = live_next links labels 0 (length links) (places_of old) i 0 are.places in_places in
-            bests_stay count links labels from (get_or (places_of old) i 0 + 1) (get_or (places_of old) (i + 1) (length links)) table' le'
-            (λ q m from_start before_end in_list m_read. (quiet q m from_start before_end m_read).one_label)
+            let (le', aside) = live_next links labels 0 (length links) (places_of old) i 0 are.places in_places in
+            let seen : from < get_or (places_of old) i 0 + 1 = omega (arith, le, get_or_default (places_of old) i (length links) 0 in_places) in
+            bests_over links labels from (get_or (places_of old) i 0 + 1) (get_or (places_of old) (i + 1) (length links)) seen le' aside count table'
             (subst (λ k. AreBestUpTo count links labels from (k + 1) table') (at ∙ sym place_is) taken)
 
   -- what is written of their ends are vertices
@@ -140,7 +134,7 @@ module _ (links : List Link) (labels : List ℕ) where
     pub places : AreLive links labels 0 to (places_of live)
     pub written : All (λ e. (l : Link) → l ≡ get_or links e.place l → IsWritten labels l e) live
 
-  -- one more is written behind them, or left out
+  -- one more is written behind them
   module _ (place : ℕ) (l : Link) (within : place < length links) (read : l ≡ get_or links place l) (ends : l.high ≤ length labels) (live : List LiveLink) (before : AreWrittenBefore place live) where
     pub written_more : AreLabels labels → AreWrittenBefore (place + 1) (live ++ written_at labels l place ∷ [])
     written_more are = record {
@@ -152,8 +146,6 @@ module _ (links : List Link) (labels : List ℕ) where
         P : LiveLink → Type 0
         P e = (k : Link) → k ≡ get_or links e.place k → IsWritten labels k e
 
-    pub written_left_out : label_of labels l.low ≡ label_of labels l.high → AreWrittenBefore (place + 1) live
-    written_left_out same = record {
-      places = live_goes_on links labels 0 place (place + 1) (places_of live) before.places (omega arith) (quiet_alone links labels place l within read ends same);
-      written = before.written;
-    }
+  -- or left out
+  pub written_left_out : (place : ℕ) (live : List LiveLink) → AreWrittenBefore place live → StayLive links labels live place → AreWrittenBefore (place + 1) live
+  written_left_out place live before stay = record { places = stay before.places; written = before.written }

@@ -1,5 +1,6 @@
--- Links of a shard that are laid aside, since they leave no label.
-use Rattle.std.specs.Prelude.{◌≡◌, ℕ, ◌+◌, ◌<◌, ◌≤◌, ◌↔◌, List, [], ◌∷◌, length, map, slice_index_or, All, Option, None, Some, IfSome, ◌==◌, if◌then◌else◌}
+-- Links of a shard that are laid aside, since they leave no label, or another one between the same two labels comes first.
+use Rattle.std.specs.Prelude.{◌≡◌, ℕ, ◌+◌, ◌<◌, ◌≤◌, ◌↔◌, ◌⊎◌, ◌==◌, if◌then◌else◌, List, [], ◌∷◌, length, map, slice_index_or, All}
+use Rattle.std.specs.Prelude.{Option, None, Some, IfSome}
 use Rattle.std.specs.Ordering.{nat_cmp}
 use Rattle.std.specs.BTreeMap.{is_at}
 use Rattle.std.specs.Map.{lookup}
@@ -14,24 +15,43 @@ use Rattle.frames.specs.FrameValue.{FrameValue}
 use Rattle.frames.specs.Lawful.{IsLawful, IsAsk}
 use Rattle.worker_engine.specs.declared.live.LiveLink.{LiveLink}
 use Rattle.worker_engine.specs.Serving.{ShelfList, IsReply}
+use Rattle.worker_engine.specs.Scanning.{ComesFirst}
+
+-- two vertices of one label
+abbrev pub HaveOneLabel : List ℕ → ℕ → ℕ → Type 0
+HaveOneLabel labels u v = IsVertex (length labels) u × IsVertex (length labels) v × (label_of labels u ≡ label_of labels v)
 
 -- both ends of the link have one label
 pub record IsQuiet (labels : List ℕ) (l : Link) : Type 0 where
   pub labelled : l.high ≤ length labels
   pub one_label : label_of labels l.low ≡ label_of labels l.high
 
--- so it is of the links at the places from `from` on before `to`
-abbrev pub AreQuiet : List Link → List ℕ → ℕ → ℕ → Type 0
-AreQuiet links labels from to = (q : ℕ) (l : Link) → from ≤ q → q < to → l ≡ slice_index_or links q l → IsQuiet labels l
+-- parallel links: their ends have the same two labels
+abbrev pub AreParallel : List ℕ → Link → Link → Type 0
+AreParallel labels l m = (HaveOneLabel labels l.low m.low × HaveOneLabel labels l.high m.high)
+    ⊎ (HaveOneLabel labels l.low m.high × HaveOneLabel labels l.high m.low)
 
--- live places: they ascend from `from` on, before `to`, and the links at all other places there are quiet
+-- of parallel links the one that comes first is kept, and outdoes the others: that just before place `from` outdoes the one at place q
+pub record IsOutdone (links : List Link) (labels : List ℕ) (from q : ℕ) (l : Link) : Type 0 where
+  pub place : ℕ
+  pub just_before : place + 1 ≡ from
+  pub earlier : Link
+  pub here : earlier ≡ slice_index_or links place earlier
+  pub parallel : AreParallel labels earlier l
+  pub first : ComesFirst earlier place l q
+
+-- the link at place q may be laid aside, behind the place just before `from`
+abbrev pub IsAside : List Link → List ℕ → ℕ → ℕ → Link → Type 0
+IsAside links labels from q l = IsQuiet labels l ⊎ IsOutdone links labels from q l
+
+-- so may those at the places from `from` on before `to`
+abbrev pub AreAside : List Link → List ℕ → ℕ → ℕ → Type 0
+AreAside links labels from to = (q : ℕ) (l : Link) → from ≤ q → q < to → l ≡ slice_index_or links q l → IsAside links labels from q l
+
+-- live places: they ascend from `from` on, before `to`, and the links at all other places there may be laid aside
 abbrev pub AreLive : List Link → List ℕ → ℕ → ℕ → List ℕ → Type 0
-AreLive links labels from to [] = (from ≤ to) × AreQuiet links labels from to
-AreLive links labels from to (p ∷ places) = (from ≤ p) × AreQuiet links labels from p × AreLive links labels (p + 1) to places
-
--- two vertices of one label
-abbrev pub HaveOneLabel : List ℕ → ℕ → ℕ → Type 0
-HaveOneLabel labels u v = IsVertex (length labels) u × IsVertex (length labels) v × (label_of labels u ≡ label_of labels v)
+AreLive links labels from to [] = (from ≤ to) × AreAside links labels from to
+AreLive links labels from to (p ∷ places) = (from ≤ p) × AreAside links labels from p × AreLive links labels (p + 1) to places
 
 -- what is written of a link: its weight, and for each end a vertex of that end's label
 pub record IsWritten (labels : List ℕ) (l : Link) (written : LiveLink) : Type 0 where
@@ -46,10 +66,14 @@ places_of live = map (λ (l : LiveLink). l.place) live
 abbrev pub live_place : List Link → List LiveLink → ℕ → ℕ
 live_place links live i = slice_index_or (places_of live) i (length links)
 
--- live links: each is written of the link at its place, and the links at all other places are quiet
+-- live links: each is written of the link at its place, and the links at all other places may be laid aside
 pub record AreLiveLinks (links : List Link) (labels : List ℕ) (live : List LiveLink) : Type 0 where
   pub places : AreLive links labels 0 (length links) (places_of live)
   pub written : All (λ written. (l : Link) → l ≡ slice_index_or links written.place l → IsWritten labels l written) live
+
+-- the live places before a place are those before the next: the link there may be laid aside
+abbrev pub StayLive : List Link → List ℕ → List LiveLink → ℕ → Type 0
+StayLive links labels live place = AreLive links labels 0 place (places_of live) → AreLive links labels 0 (place + 1) (places_of live)
 
 -- what is written of a live link, with labels in place of its vertices
 abbrev pub relabelled : List ℕ → LiveLink → LiveLink

@@ -7,7 +7,7 @@ ghost use Rattle.round_theory.specs.Labelling.{IsVertex};
 ghost use Rattle.worker_engine.specs.Live.{AreLiveLinks, packed};
 ghost use Rattle.worker_engine.specs.Numbers.{marks_of, marked_in, AreCounted, AreMarkedUpTo, AreNamedUpTo, HaveNames, HaveMarks, AreByNumbers, AreListedUpTo, shown, IsListed};
 
-use crate::live::{LiveLink, pack, write_live};
+use crate::live::{LiveLink, is_live, pack, write_live};
 use crate::numbers::{Numbers, number_names};
 use link_key::Link;
 use std::alloc::{AllocError, Allocator};
@@ -138,17 +138,16 @@ fn write_by_numbers<A: Allocator + Copy>(
 {
     let mut live = Vec::with_capacity(alloc, room)?;
     for place in 0..links.len() {
-        let link = links[place];
-        let low = labels[link.low as usize - 1];
-        let high = labels[link.high as usize - 1];
-        if low != high {
+        if is_live(links, labels, live.as_slice(), place) {
+            let link = links[place];
             live.push(LiveLink {
-                low: numbers.number(low),
-                high: numbers.number(high),
+                low: numbers.number(labels[link.low as usize - 1]),
+                high: numbers.number(labels[link.high as usize - 1]),
                 weight: link.weight,
                 place: place as u32,
             })?;
         }
     }
+    live.shrink_to_fit();
     Ok(live)
 }

@@ -4,14 +4,14 @@
 //! laid aside. Of the others a label of each end is written beside the weight and the place. Under labels that coarsen,
 //! the label of such a label is that of the end itself, so a pass in order over what is written looks at no link, and
 //! looks up labels of labels alone, of which there are fewer and fewer.
-ghost use Rattle.std.specs.Prelude.{◌≡◌, ◌≤◌, List, length, take, replicate, All, IfSome, IfOk};
+ghost use Rattle.std.specs.Prelude.{◌≡◌, ◌<◌, ◌≤◌, List, length, take, replicate, All, IfSome, IfOk, IsTrue, IsFalse};
 ghost use Rattle.limits.specs.declared.TheConstants.{MAX_SHARD_LINKS};
 ghost use Rattle.link_key.specs.declared.links.Link.{Link};
 ghost use Rattle.link_key.specs.Link.{EndsUpTo};
 ghost use Rattle.link_key.specs.Labels.{AreLabels};
 ghost use Rattle.round_theory.specs.Labelling.{IsVertex};
 ghost use Rattle.worker_engine.specs.Scanning.{no_best, AreBest};
-ghost use Rattle.worker_engine.specs.Live.{AreLiveLinks, live_place, relabelled, packed};
+ghost use Rattle.worker_engine.specs.Live.{AreParallel, AreLiveLinks, StayLive, live_place, relabelled, packed};
 
 use crate::batches::{BATCH, NOTHING, keep_each, look_up_live};
 use crate::parts::Part;
@@ -145,6 +145,55 @@ pub(crate) fn pack(live: &mut [LiveLink], labels: &[u32]) -> usize
     kept
 }
 
+// Whether two links are parallel.
+#[inline]
+fn are_parallel(labels: &[u32], earlier: Link, link: Link) -> bool
+    requires earlier { earlier.high ≤ length labels.now }
+    requires link { link.high ≤ length labels.now }
+    ensures { IsTrue result → AreParallel labels.now earlier link }
+{
+    let low = labels[earlier.low as usize - 1];
+    let high = labels[earlier.high as usize - 1];
+    let other_low = labels[link.low as usize - 1];
+    let other_high = labels[link.high as usize - 1];
+    if low == other_low {
+        return high == other_high;
+    }
+    low == other_high && high == other_low
+}
+
+// Whether the link at a place is outdone by the one that is listed last.
+#[inline]
+fn is_outdone(links: &[Link], labels: &[u32], live: &[LiveLink], place: usize) -> bool
+    requires ends { EndsUpTo (length labels.now) links.now }
+    requires in_list { place < length links.now }
+    ensures { IsTrue result → StayLive links.now labels.now live.now place }
+{
+    if live.is_empty() {
+        return false;
+    }
+    let last = live[live.len() - 1];
+    let link = links[place];
+    match links.get(last.place as usize) {
+        Some(earlier) if are_parallel(labels, *earlier, link) => *earlier <= link,
+        _ => false,
+    }
+}
+
+// Whether the next link is to be listed behind those that are: it isn't quiet, and not outdone by the last of them.
+#[inline]
+pub(crate) fn is_live(links: &[Link], labels: &[u32], live: &[LiveLink], place: usize) -> bool
+    requires ends { EndsUpTo (length labels.now) links.now }
+    requires in_list { place < length links.now }
+    ensures { IsFalse result → StayLive links.now labels.now live.now place }
+{
+    let link = links[place];
+    if labels[link.low as usize - 1] == labels[link.high as usize - 1] {
+        return false;
+    }
+    !is_outdone(links, labels, live, place)
+}
+
 // The live links of a shard, with room for so many to begin with.
 pub(crate) fn write_live<A: Allocator + Copy>(
     alloc: A,
@@ -159,17 +208,16 @@ pub(crate) fn write_live<A: Allocator + Copy>(
 {
     let mut live = Vec::with_capacity(alloc, room)?;
     for place in 0..links.len() {
-        let link = links[place];
-        let low = labels[link.low as usize - 1];
-        let high = labels[link.high as usize - 1];
-        if low != high {
+        if is_live(links, labels, live.as_slice(), place) {
+            let link = links[place];
             live.push(LiveLink {
-                low,
-                high,
+                low: labels[link.low as usize - 1],
+                high: labels[link.high as usize - 1],
                 weight: link.weight,
                 place: place as u32,
             })?;
         }
     }
+    live.shrink_to_fit();
     Ok(live)
 }

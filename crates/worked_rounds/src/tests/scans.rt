@@ -515,8 +515,77 @@ fn expect_live_again(
     ];
     let triangle = links_of(alloc, 3, &TRIANGLE)?.ok_or("arcs")?;
     worker.keep(rt, 0, triangle)?;
+    expect_each(rt, alloc, worker, &asked)
+}
+
+// It answers so, ask by ask.
+fn expect_each(
+    rt: &(impl Abort + Threads + Sync),
+    alloc: Global,
+    worker: &mut Worker,
+    asked: &[(&[u32], &[(u32, u32)])],
+) -> Result<(), Fail> {
     for (list, expected) in asked {
         expect_under(rt, alloc, worker, list, expected)?;
+    }
+    Ok(())
+}
+
+// Links in both directions, and links between the same two vertices of several weights: a lesser one behind a greater,
+// and the other way round. Between 1 or 2 and 3 or 4, and from these to 5, links of one weight have keys that differ.
+const PARALLEL: [Row; 16] = [
+    (1, 2, 3),
+    (2, 1, 3),
+    (2, 1, 1),
+    (1, 2, 1),
+    (3, 4, 5),
+    (4, 3, 4),
+    (3, 4, 6),
+    (1, 3, 9),
+    (2, 4, 8),
+    (1, 4, 8),
+    (2, 3, 8),
+    (5, 6, 7),
+    (6, 5, 7),
+    (4, 5, 2),
+    (3, 5, 2),
+    (3, 6, 10),
+];
+
+// The offers of these links under labels that coarsen, and then under labels that don't coarsen the last, twice.
+const UNDER: [(&[u32], &[(u32, u32)]); 9] = [
+    (
+        &[1, 2, 3, 4, 5, 5],
+        &[(1, 2), (2, 2), (3, 14), (4, 13), (5, 14)],
+    ),
+    (&[1, 1, 3, 4, 5, 5], &[(1, 9), (3, 14), (4, 13), (5, 14)]),
+    (&[1, 1, 3, 3, 5, 5], &[(1, 9), (3, 14), (5, 14)]),
+    (&[1, 1, 1, 1, 5, 5], &[(1, 14), (5, 14)]),
+    (&[1, 1, 3, 3, 5, 6], &[(1, 9), (3, 14), (5, 14), (6, 11)]),
+    (&[1, 1, 1, 1, 5, 6], &[(1, 14), (5, 14), (6, 11)]),
+    (&[1, 1, 1, 1, 1, 6], &[(1, 11), (6, 11)]),
+    (&[1, 1, 1, 1, 1, 1], &[]),
+    (
+        &[1, 2, 3, 4, 5, 6],
+        &[(1, 2), (2, 2), (3, 14), (4, 13), (5, 14), (6, 11)],
+    ),
+];
+
+// Of parallel links the least is kept, whichever stands first. A scan of the whole list gives the same offers.
+#[test]
+fn parallel_links_are_laid_aside(rt: HostRuntime) -> Result<(), Fail> {
+    let alloc = rt.alloc();
+    let links = links_of(alloc, 6, &PARALLEL)?.ok_or("arcs")?;
+    let mut scanner = Scanner::new(alloc);
+    for (list, expected) in UNDER {
+        let labels = Labels::of_list(Vec::from_slice(alloc, list)?).ok_or("labels")?;
+        let offers = scanned(&rt, alloc, &mut scanner, links.as_slice(), &labels)?;
+        expect_offers(&rt, &offers, expected);
+    }
+    for by in [By::OneThread, By::Threads] {
+        let mut worker = Worker::new(alloc, by);
+        worker.keep(&rt, 0, links.to_vec(alloc)?)?;
+        expect_each(&rt, alloc, &mut worker, &UNDER)?;
     }
     Ok(())
 }

@@ -4,10 +4,11 @@ use Rattle.link_key.specs.declared.links.Link.{Link}
 use Rattle.link_key.specs.Labels.{label_of}
 use Rattle.worker_engine.specs.declared.live.LiveLink.{LiveLink}
 use Rattle.worker_engine.specs.Batches.{written_at}
+use Rattle.worker_engine.specs.Live.{StayLive}
 use Rattle.worker_engine.proofs.Scans.{end_at}
 use Rattle.worker_engine.proofs.Written.{AreWrittenBefore, written_more, written_left_out}
 use Rattle.worker_engine.proofs.live.write_live.Goals as goal
-use Rattle.worker_engine.proofs.live.write_live.Goals.{then-low-high+in_ok-push, else-low-high}
+use Rattle.worker_engine.proofs.live.write_live.Goals.{then-is_live+in_ok-push, else-is_live}
 
 pub loop-place-preserved : goal.loop-place-preserved
 loop-place-preserved g c =
@@ -15,15 +16,17 @@ loop-place-preserved g c =
     let labels = c.args.labels.now in
     let place = c.loop-place.place in
     let live = c.loop-place.live.items in
-    let l : Link = c.index-links-place.result in
-    let read = c.index-links-place.is in
     let within = c.loop-place-test.true in
-    let ends = end_at _ links place l c.requires.ends within read in
-    elim c.if-low-high.branch [
-      | then-low-high+in_ok-push w ↦
+    elim c.if-is_live.branch [
+      | then-is_live+in_ok-push w ↦
+          let l : Link = w.index-links-place.result in
+          let read = w.index-links-place.is in
+          let ends = end_at _ links place l c.requires.ends within read in
           let e : ℤ → LiveLink = λ weight. record { low = label_of labels l.low; high = label_of labels l.high; weight = weight; place = place } in
-          let items_is : c.if-low-high.live.items ≡ live ++ written_at labels l place ∷ [] =
+          let items_is : c.if-is_live.live.items ≡ live ++ written_at labels l place ∷ [] =
           ap (λ v. v.items) w.live-is ∙ w.in_ok-push.ensures.items ∙ ap (λ weight. live ++ e weight ∷ []) (to_z-of_z w64 l.weight l.weight_fits) in
           subst (AreWrittenBefore links labels (place + 1)) (sym items_is) (written_more links labels place l within read ends live c.loop-place.invariant c.requires.labels)
-      | else-low-high w ↦ rw w.live-is (written_left_out links labels place l within read ends live c.loop-place.invariant w.if-low-high.false)
+      | else-is_live w ↦
+          let stay : StayLive links labels live place = subst (λ t. StayLive links labels t place) c.as_slice.ensures.value (c.is_live.ensures w.if-is_live.false) in
+          rw w.live-is (written_left_out links labels place live c.loop-place.invariant stay)
     ]
