@@ -1,5 +1,5 @@
 -- Numbers of marked labels: they ascend as the labels do.
-use Rattle.std.proofs.Common.{◌≡◌, ◌≢◌, ℕ, zero, suc, ◌+◌, ◌-◌, ◌*◌, ◌/◌, ◌%◌, ◌^◌, ◌<◌, ◌≤◌, List, length, get_or, set, bit_or, count_ones, sym, ap, ◌∙◌, subst, inl, inr, arith, w64}
+use Rattle.std.proofs.Common.{◌≡◌, ◌≢◌, ℕ, zero, suc, ◌+◌, ◌-◌, ◌*◌, ◌/◌, ◌%◌, ◌^◌, ◌<◌, ◌≤◌, ◌⊎◌, List, length, get_or, set, bit_or, count_ones, sym, ap, ◌∙◌, subst, inl, inr, arith, w64}
 use Rattle.std.specs.Int.{bit_at}
 use Rattle.std.proofs.lemmas.Bool.{cases_eq, cases_lt}
 use Rattle.std.proofs.lemmas.List.{get_or-set_same, get_or-set_other, get_or_past, get_or_default, length-set}
@@ -130,6 +130,26 @@ module _ (marks : List ℕ) (label : ℕ) (from_one : 1 ≤ label) (within : (la
     }
   ]
 
+  -- no other label gets a mark
+  pub mark_only : (c : ℕ) → IsMarked new c → (c ≡ label) ⊎ IsMarked marks c
+  mark_only c is = elim (cases_eq c label) [
+    | inl same ↦ inl same
+    | inr other ↦ inr (record {
+      from_one = is.from_one;
+      in_words = omega (arith, is.in_words, length-set marks at (with_bit (get_or marks at 0) bit));
+      bit = elim (cases_eq ((c - 1) / 64) at) [
+        | inl one ↦
+            let apart : (c - 1) % 64 ≢ bit = λ same. other (omega (arith, one, same, is.from_one, from_one)) in
+            let there : bit_at (with_bit (get_or marks at 0) bit) ((c - 1) % 64) ≡ 1 =
+            ap (λ w. bit_at w ((c - 1) % 64)) (sym (get_or-set_same marks at (with_bit (get_or marks at 0) bit) 0 within))
+            ∙ subst (λ w. bit_at (get_or new w 0) ((c - 1) % 64) ≡ 1) one is.bit in
+            subst (λ w. bit_at (get_or marks w 0) ((c - 1) % 64) ≡ 1) (sym one)
+            (sym (bit_at_set_other w64 (get_or marks at 0) bit (small (label - 1)) ((c - 1) % 64) apart) ∙ there)
+        | inr far ↦ ap (λ w. bit_at w ((c - 1) % 64)) (sym (get_or-set_other marks at ((c - 1) / 64) (with_bit (get_or marks at 0) bit) 0 far)) ∙ is.bit
+      ];
+    })
+  ]
+
 abbrev marks_in : Word → ℕ
 marks_in w = w.marks
 
@@ -151,6 +171,9 @@ module _ (words : List Word) (label : ℕ) (from_one : 1 ≤ label) (within : (l
 
   pub word_keeps : (d : ℕ) → IsMarked (marks_of words) d → IsMarked (marks_of (set words ((label - 1) / 64) new)) d
   word_keeps d is = subst (λ m. IsMarked m d) (sym (marks_set words ((label - 1) / 64) ((label - 1) % 64) w new within read new_is)) (mark_keeps (marks_of words) label from_one in_marks d is)
+
+  pub word_only : (d : ℕ) → IsMarked (marks_of (set words ((label - 1) / 64) new)) d → (d ≡ label) ⊎ IsMarked (marks_of words) d
+  word_only d is = mark_only (marks_of words) label from_one in_marks d (subst (λ m. IsMarked m d) (marks_set words ((label - 1) / 64) ((label - 1) % 64) w new within read new_is) is)
 
 -- the number that a word gives
 pub number_is : (words : List Word) (c : ℕ) (w : Word) → AreCounted words → (c - 1) / 64 < length words → w ≡ get_or words ((c - 1) / 64) w

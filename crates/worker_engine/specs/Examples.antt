@@ -44,7 +44,15 @@ FirstVersionAnswers = Serves 1 0 (texts_of sent_and_asked) (text_of (HelloFrame 
 
 -- a link whose weight doesn't fit 32 bits
 abbrev pub wide_link : Link
-wide_link = record { weight = pos (2 ^ 31); low = 1; high = 2; from_one = lit≤ tt; ascending = lit< tt; in_limit = lit≤ tt; weight_fits = record { sfits = lit< tt } }
+wide_link = record {
+  weight = pos (2 ^ 31);
+  low = 1;
+  high = 2;
+  from_one = lit≤ tt;
+  ascending = lit< tt;
+  in_limit = lit≤ tt;
+  weight_fits = record { sfits = lit< tt };
+}
 
 -- sent before them, it ends such a worker's session: the hello alone may be written
 abbrev pub FirstVersionEnds : Type 0

@@ -1,5 +1,6 @@
 -- Numbers for the labels that a shard's links have, in the order of the labels, and the labels by their numbers.
-use Rattle.std.specs.Prelude.{◌≡◌, ℕ, zero, suc, ◌+◌, ◌-◌, ◌/◌, ◌%◌, ◌^◌, ◌<◌, ◌≤◌, ◌⊎◌, List, [], length, map, slice_index, slice_index_or, All, count_ones}
+use Rattle.std.specs.Prelude.{◌≡◌, ℕ, zero, suc, ◌+◌, ◌-◌, ◌/◌, ◌%◌, ◌^◌, ◌<◌, ◌≤◌, ◌⊎◌}
+use Rattle.std.specs.Prelude.{List, [], length, map, slice_index, slice_index_or, All, count_ones}
 use Rattle.std.specs.Int.{bit_at}
 use Rattle.link_key.specs.declared.links.Link.{Link}
 use Rattle.link_key.specs.Labels.{label_of}
@@ -8,7 +9,7 @@ use Rattle.round_theory.specs.Labelling.{IsVertex}
 use Rattle.worker_engine.specs.declared.live.LiveLink.{LiveLink}
 use Rattle.worker_engine.specs.declared.numbers.Word.{Word}
 use Rattle.worker_engine.specs.Batches.{written_at}
-use Rattle.worker_engine.specs.Live.{AreLive, places_of}
+use Rattle.worker_engine.specs.Live.{AreLive, places_of, packed}
 
 -- no label of a word is marked
 abbrev pub no_marks : Word
@@ -52,9 +53,13 @@ AreBothMarked marks l = IsMarked marks l.low × IsMarked marks l.high
 abbrev pub AreBothNamed : List ℕ → List ℕ → LiveLink → Type 0
 AreBothNamed marks names l = IsNamed marks names l.low × IsNamed marks names l.high
 
+-- the name of a number; the number itself where it has none
+abbrev pub name_of : List ℕ → ℕ → ℕ
+name_of names number = slice_index_or names (number - 1) number
+
 -- what is written by numbers, with the names of these in place of them; where there are no names it stands
 abbrev pub named : List ℕ → LiveLink → LiveLink
-named names l = record { low = slice_index_or names (l.low - 1) l.low; high = slice_index_or names (l.high - 1) l.high; weight = l.weight; place = l.place }
+named names l = record { low = name_of names l.low; high = name_of names l.high; weight = l.weight; place = l.place }
 
 -- labels of vertices, with their numbers in place of them
 abbrev pub numbered_labels : List ℕ → List ℕ → List ℕ
@@ -111,6 +116,10 @@ pub record AreByNumbers (marks names : List ℕ) (by_labels live : List LiveLink
   pub numbered_are : live ≡ map (numbered marks) by_labels
   pub marked : All (AreBothMarked marks) by_labels
   pub named_are : All (AreBothNamed marks names) by_labels
+
+-- a list by names is written anew under labels: without the links whose ends fall together, and with the numbers of the labels
+abbrev pub AreRenumbered : List ℕ → List ℕ → List ℕ → List LiveLink → List ℕ → List LiveLink → Type 0
+AreRenumbered labels marks names live names' live' = AreByNumbers marks names' (packed labels (shown names live)) live'
 
 -- the live links before a place of the list are written with the numbers of their labels
 pub record AreListedUpTo (to : ℕ) (links : List Link) (labels marks : List ℕ) (live : List LiveLink) : Type 0 where

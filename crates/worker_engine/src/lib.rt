@@ -17,9 +17,9 @@
 //! Where to start a change: what may be written for a stream stands in `specs/Serving`, over whole streams, and how a
 //! session ends in `specs/Served`. `scanning` has the pass over the links (`specs/Scanning`), `table` what is kept for
 //! each label (`specs/Tables`), `batches` what is looked up before it is kept (`specs/Batches`), `live` the passes over
-//! live links (`specs/Live`), `parallel` those over `parts` of the links (`specs/Parts`). `numbers` numbers the labels that a
-//! shard has (`specs/Numbers`), `by_numbers` has the passes by these, and `listed` the lists of live links. `kept_shard`
-//! lays links aside, `engine` keeps and replies, and `session` reads and writes.
+//! live links (`specs/Live`), `parallel` those over `parts` of the links (`specs/Parts`). `numbers` numbers a shard's labels
+//! (`specs/Numbers`), `by_numbers` passes by these, `listed` lists live links, `kept_shard` lays the others aside, `engine`
+//! keeps and replies, `session` reads and writes.
 #![tactic(auto)]
 
 mod batches;

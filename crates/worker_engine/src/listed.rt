@@ -4,8 +4,8 @@ ghost use Rattle.limits.specs.declared.TheConstants.{MAX_SHARD_LINKS};
 ghost use Rattle.link_key.specs.Link.{EndsUpTo};
 ghost use Rattle.link_key.specs.Labels.{AreLabels};
 ghost use Rattle.round_theory.specs.Labelling.{IsVertex};
-ghost use Rattle.worker_engine.specs.Live.{AreLiveLinks, packed};
-ghost use Rattle.worker_engine.specs.Numbers.{marks_of, marked_in, AreCounted, AreMarkedUpTo, AreNamedUpTo, HaveNames, HaveMarks, AreByNumbers, AreListedUpTo, shown, IsListed};
+ghost use Rattle.worker_engine.specs.Live.{AreLiveLinks};
+ghost use Rattle.worker_engine.specs.Numbers.{marks_of, marked_in, AreCounted, AreMarkedUpTo, AreNamedUpTo, HaveNames, HaveMarks, AreRenumbered, AreListedUpTo, shown, IsListed};
 
 use crate::live::{LiveLink, is_live, pack, write_live};
 use crate::numbers::{Numbers, number_names};
@@ -44,8 +44,7 @@ impl<A: Allocator + Copy> Listed<A> {
         requires marked { HaveMarks labels.now (marks_of numbers.now) self.old.names.items }
         requires count { count ≡ marked_in (marks_of numbers.now) (length numbers.now) }
         ensures names { OnOk result (length self.new.names.items ≡ count) }
-        ensures numbered { OnOk result (AreByNumbers (marks_of numbers.now) self.new.names.items
-            (packed labels.now (shown self.old.names.items self.old.links.items)) self.new.links.items) }
+        ensures numbered { OnOk result (AreRenumbered labels.now (marks_of numbers.now) self.old.names.items self.old.links.items self.new.names.items self.new.links.items) }
         ensures same_names { OnErr result (self.new.names.items ≡ self.old.names.items) }
         ensures same_links { OnErr result (self.new.links.items ≡ self.old.links.items) }
     {

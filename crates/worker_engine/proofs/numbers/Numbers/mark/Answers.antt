@@ -1,7 +1,7 @@
-use Rattle.std.proofs.Common.{◌≡◌, ℕ, ◌-◌, ◌/◌, ◌%◌, ◌<◌, List, length, refl, sym, ap, subst, arith}
+use Rattle.std.proofs.Common.{◌≡◌, ℕ, ◌-◌, ◌/◌, ◌%◌, ◌<◌, ◌⊎◌, List, length, refl, sym, ap, subst, arith}
 use Rattle.worker_engine.specs.declared.numbers.Word.{Word}
 use Rattle.worker_engine.specs.Numbers.{marks_of, IsMarked}
-use Rattle.worker_engine.proofs.Numbering.{with_bit, word_sets, word_keeps}
+use Rattle.worker_engine.proofs.Numbering.{with_bit, word_sets, word_keeps, word_only}
 use Rattle.worker_engine.proofs.numbers.Numbers.mark.Goals as goal
 
 -- the word of a label that the words of the model have
@@ -21,3 +21,10 @@ returns-clause-more g c = λ d is.
     let same = sym c.self.view_is in
     word_keeps c.self.inside.words.items c.args.label c.requires.from_one (in_words _ _ _ c.self.view_is c.requires.in_words) w new c.index_mut.ensures.value refl
     d (subst (λ ws. IsMarked (marks_of ws) d) same is)
+
+pub returns-clause-only : goal.returns-clause-only
+returns-clause-only g c = λ d is.
+    let w = c.index_mut.result.now in
+    let new : Word = record { marks = with_bit w.marks ((c.args.label - 1) % 64); before = w.before } in
+    let from = word_only c.self.inside.words.items c.args.label c.requires.from_one (in_words _ _ _ c.self.view_is c.requires.in_words) w new c.index_mut.ensures.value refl d is in
+    subst (λ ws. (d ≡ c.args.label) ⊎ IsMarked (marks_of ws) d) c.self.view_is from
