@@ -1,11 +1,11 @@
 -- Links that an earlier one between the same two labels outdoes: the best places so far stay best.
-use Rattle.std.proofs.Common.{◌≡◌, ℕ, ◌+◌, ◌<◌, ◌≤◌, List, length, get_or, Option, Some, None, ◌⊎◌, sym, ◌∙◌, inl, inr, arith}
+use Rattle.std.proofs.Common.{◌≡◌, ℕ, ◌<◌, ◌≤◌, List, get_or, Option, Some, None, sym, ◌∙◌, inl, inr, arith}
 use Rattle.std.proofs.lemmas.Bool.{cases_lt}
 use Rattle.link_key.specs.declared.links.Link.{Link}
 use Rattle.round_theory.specs.Offers.{Leaves}
 use Rattle.round_theory.proofs.Leaving.{leaves_apart}
 use Rattle.worker_engine.specs.declared.scanning.Best.{Best}
-use Rattle.worker_engine.specs.Scanning.{ComesFirst, IsBest, Keeps, best_of, AreBestUpTo}
+use Rattle.worker_engine.specs.Scanning.{ComesFirst, IsBest, AreBestUpTo}
 use Rattle.worker_engine.specs.Live.{AreParallel, AreAside}
 use Rattle.worker_engine.proofs.BestSoFar.{first_then_first}
 

@@ -120,7 +120,7 @@ pub(crate) fn list_by_labels<A: Allocator + Copy>(
     }
 }
 
-// The live links of a shard by numbers, with room for so many to begin with.
+// The live links of a shard by numbers, with room for so many to begin with; room that is left is given back.
 fn write_by_numbers<A: Allocator + Copy>(
     alloc: A,
     links: &[Link],

@@ -1,9 +1,11 @@
 //! Links of a shard that are live, each written with labels of its ends, or with a shard's own numbers of them.
 //!
 //! A link whose ends have one label leaves no component, and never will under labels that coarsen these: it is quiet, and
-//! laid aside. Of the others a label of each end is written beside the weight and the place. Under labels that coarsen,
-//! the label of such a label is that of the end itself, so a pass in order over what is written looks at no link, and
-//! looks up labels of labels alone, of which there are fewer and fewer.
+//! laid aside. So is a link where the one listed before it lies between the same two labels and is no greater, as in files
+//! that have both directions of a link beside each other: under all these labels that one is light before it. Of the
+//! others a label of each end is written beside the weight and the place. Under labels that coarsen, the label of such a
+//! label is that of the end itself, so a pass in order over what is written looks at no link, and looks up labels of labels
+//! alone, of which there are fewer and fewer.
 ghost use Rattle.std.specs.Prelude.{◌≡◌, ◌<◌, ◌≤◌, List, length, take, replicate, All, IfSome, IfOk, IsTrue, IsFalse};
 ghost use Rattle.limits.specs.declared.TheConstants.{MAX_SHARD_LINKS};
 ghost use Rattle.link_key.specs.declared.links.Link.{Link};
@@ -194,7 +196,7 @@ pub(crate) fn is_live(links: &[Link], labels: &[u32], live: &[LiveLink], place: 
     !is_outdone(links, labels, live, place)
 }
 
-// The live links of a shard, with room for so many to begin with.
+// The live links of a shard, with room for so many to begin with; room that is left is given back.
 pub(crate) fn write_live<A: Allocator + Copy>(
     alloc: A,
     links: &[Link],
