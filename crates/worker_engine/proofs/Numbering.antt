@@ -1,9 +1,9 @@
 -- Numbers of marked labels: they ascend as the labels do.
-use Rattle.std.proofs.Common.{◌≡◌, ◌≢◌, ℕ, zero, suc, ◌+◌, ◌-◌, ◌*◌, ◌/◌, ◌%◌, ◌^◌, ◌<◌, ◌≤◌, ◌⊎◌, List, length, get_or, set, bit_or, count_ones, sym, ap, ◌∙◌, subst, inl, inr, arith, w64}
+use Rattle.std.proofs.Common.{◌≡◌, ◌≢◌, ℕ, zero, suc, ◌+◌, ◌-◌, ◌*◌, ◌/◌, ◌%◌, ◌^◌, ◌<◌, ◌≤◌, ◌⊎◌, List, length, get_or, set, bit_or, count_ones, refl, sym, ap, ◌∙◌, subst, inl, inr, arith, w64}
 use Rattle.std.specs.Int.{bit_at}
 use Rattle.std.proofs.lemmas.Bool.{cases_eq, cases_lt}
 use Rattle.std.proofs.lemmas.List.{get_or-set_same, get_or-set_other, get_or_past, get_or_default, length-set}
-use Rattle.std.proofs.lemmas.Nat.{ones_cat, ones-le, zero_from_ones, mod-pow-add, shr_split, mod_below, pow_pos}
+use Rattle.std.proofs.lemmas.Nat.{ones_cat, mod-pow-add, mod_below, pow_pos}
 use Rattle.std.proofs.lemmas.Nat.Bits.{bit_at_set_same, bit_at_set_other}
 use Rattle.std.proofs.lemmas.List.{get_or-map, length-map, map-set, set-get_or}
 use Rattle.std.proofs.lemmas.Nat.{one_shl}
@@ -11,66 +11,78 @@ use Rattle.link_key.specs.Labels.{label_of, AreLabels}
 use Rattle.round_theory.specs.Labelling.{IsVertex}
 use Rattle.worker_engine.proofs.Written.{label_vertex}
 use Rattle.worker_engine.specs.declared.numbers.Word.{Word}
-use Rattle.worker_engine.specs.Numbers.{marks_of, IsMarked, marked_in, AreCounted, number_of, IsNamed, new_name}
+use Rattle.worker_engine.specs.Numbers.{marks_of, IsMarked, marked_to, marked_in, AreCounted, number_of, IsNamed, new_name}
 
-some_ones : (n : ℕ) → 1 ≤ n → 1 ≤ count_ones n
-some_ones n some = elim (cases_eq (count_ones n) 0) [
-  | inl none ↦ absurd (omega (arith, some, zero_from_ones n none))
-  | inr not_none ↦ omega (arith, not_none)
-]
+no_ones : count_ones 0 ≡ 0
+unfolding lib.Count.ones
+no_ones = refl
 
--- the ones below a bit that is set are fewer than all, and fewer than those below a higher bit
-ones_below : (w i : ℕ) → bit_at w i ≡ 1 → count_ones (w % 2 ^ i) + 1 ≤ count_ones w
-ones_below w i set_there =
-    let cat : count_ones (w / 2 ^ i * 2 ^ i + w % 2 ^ i) ≡ count_ones (w / 2 ^ i) + count_ones (w % 2 ^ i) = ones_cat i (w / 2 ^ i) (w % 2 ^ i) (mod_below w (2 ^ i) (pow_pos i)) in
-    let whole : count_ones (w / 2 ^ i * 2 ^ i + w % 2 ^ i) ≡ count_ones w = ap count_ones (shr_split w i) in
-    let some = some_ones (w / 2 ^ i) (omega (arith, set_there)) in
-    omega (arith, cat, whole, some)
+one_one : count_ones 1 ≡ 1
+unfolding lib.Count.ones
+one_one = refl
 
-ones_between : (w i m : ℕ) → bit_at w i ≡ 1 → count_ones (w % 2 ^ i) + 1 ≤ count_ones (w % 2 ^ (m + 1 + i))
-ones_between w i m set_there =
-    let high = w / 2 ^ i % 2 ^ (m + 1) in
-    let cat : count_ones (high * 2 ^ i + w % 2 ^ i) ≡ count_ones high + count_ones (w % 2 ^ i) = ones_cat i high (w % 2 ^ i) (mod_below w (2 ^ i) (pow_pos i)) in
-    let whole : count_ones (w % 2 ^ (m + 1 + i)) ≡ count_ones (high * 2 ^ i + w % 2 ^ i) = ap count_ones (mod-pow-add w (m + 1) i) in
-    let odd : high ≡ (w / 2 ^ i / 2 ^ 1 % 2 ^ m) * 2 ^ 1 + w / 2 ^ i % 2 ^ 1 = mod-pow-add (w / 2 ^ i) m 1 in
-    let some = some_ones high (omega (arith, odd, set_there)) in
-    omega (arith, cat, whole, some)
-
-ones_rise : (w i j : ℕ) → i < j → bit_at w i ≡ 1 → count_ones (w % 2 ^ i) + 1 ≤ count_ones (w % 2 ^ j)
-ones_rise w i j lt set_there =
-    let at : j - i - 1 + 1 + i ≡ j = omega (arith, lt) in
-    subst (λ k. count_ones (w % 2 ^ i) + 1 ≤ count_ones (w % 2 ^ k)) at (ones_between w i (j - i - 1) set_there)
+-- one more bit of a word
+ones_next : (w k : ℕ) → count_ones (w % 2 ^ (1 + k)) ≡ bit_at w k + count_ones (w % 2 ^ k)
+ones_next w k =
+    let high = w / 2 ^ k % 2 ^ 1 in
+    let cat : count_ones (high * 2 ^ k + w % 2 ^ k) ≡ count_ones high + count_ones (w % 2 ^ k) = ones_cat k high (w % 2 ^ k) (mod_below w (2 ^ k) (pow_pos k)) in
+    let one : count_ones high ≡ high = elim (cases_eq high 0) [
+      | inl none ↦ ap count_ones none ∙ no_ones ∙ sym none
+      | inr some ↦
+          let is : high ≡ 1 = omega (arith, some) in
+          ap count_ones is ∙ one_one ∙ sym is
+    ] in
+    ap count_ones (mod-pow-add w 1 k) ∙ cat ∙ ap (λ n. n + count_ones (w % 2 ^ k)) one
 
 module _ (marks : List ℕ) where
-  -- more words have more marks
-  marked_more : (a k : ℕ) → marked_in marks a ≤ marked_in marks (k + a)
-  marked_more a zero = let same : zero + a ≡ a = omega arith in subst (λ n. marked_in marks a ≤ marked_in marks n) (sym same) (omega arith)
+  -- more labels have more marks
+  marked_more : (a k : ℕ) → marked_to marks a ≤ marked_to marks (k + a)
+  marked_more a zero = let same : zero + a ≡ a = omega arith in subst (λ n. marked_to marks a ≤ marked_to marks n) (sym same) (omega arith)
   marked_more a (suc k) =
       let next : suc k + a ≡ suc (k + a) = omega arith in
-      subst (λ n. marked_in marks a ≤ marked_in marks n) (sym next) (omega (arith, marked_more a k))
+      subst (λ n. marked_to marks a ≤ marked_to marks n) (sym next) (omega (arith, marked_more a k))
 
-  pub marked_rise : (a b : ℕ) → a ≤ b → marked_in marks a ≤ marked_in marks b
+  pub marked_rise : (a b : ℕ) → a ≤ b → marked_to marks a ≤ marked_to marks b
   marked_rise a b le =
       let at : b - a + a ≡ b = omega (arith, le) in
-      subst (λ k. marked_in marks a ≤ marked_in marks k) at (marked_more a (b - a))
+      subst (λ k. marked_to marks a ≤ marked_to marks k) at (marked_more a (b - a))
+
+  -- a marked label is counted
+  counts_itself : (c : ℕ) → IsMarked marks c → number_of marks c ≡ marked_to marks c
+  counts_itself c is =
+      let next : suc (c - 1) ≡ c = omega (arith, is.from_one) in
+      ap (λ b. marked_to marks (c - 1) + b) (sym is.bit) ∙ ap (marked_to marks) next
+
+  -- the first so many labels of a word
+  pub marked_within : (at k : ℕ) → k ≤ 64 → marked_to marks (k + at * 64) ≡ count_ones (get_or marks at 0 % 2 ^ k) + marked_to marks (at * 64)
+  marked_within at zero le =
+      let same : zero + at * 64 ≡ at * 64 = omega arith in
+      let none : get_or marks at 0 % 2 ^ 0 ≡ 0 = omega arith in
+      let ones : count_ones (get_or marks at 0 % 2 ^ 0) ≡ 0 = ap count_ones none ∙ no_ones in
+      omega (arith, ones, ap (marked_to marks) same)
+  marked_within at (suc k) le =
+      let next : suc k + at * 64 ≡ suc (k + at * 64) = omega arith in
+      let word : (k + at * 64) / 64 ≡ at = omega (arith, le) in
+      let bit : (k + at * 64) % 64 ≡ k = omega (arith, le) in
+      let one : 1 + k ≡ suc k = omega arith in
+      ap (marked_to marks) next
+      ∙ ap (λ n. n + bit_at (get_or marks ((k + at * 64) / 64) 0) ((k + at * 64) % 64)) (marked_within at k (omega (arith, le)))
+      ∙ ap (λ i. count_ones (get_or marks at 0 % 2 ^ k) + marked_to marks (at * 64) + bit_at (get_or marks i 0) ((k + at * 64) % 64)) word
+      ∙ ap (λ i. count_ones (get_or marks at 0 % 2 ^ k) + marked_to marks (at * 64) + bit_at (get_or marks at 0) i) bit
+      ∙ turn (count_ones (get_or marks at 0 % 2 ^ k)) (marked_to marks (at * 64)) (bit_at (get_or marks at 0) k)
+      ∙ ap (λ n. n + marked_to marks (at * 64)) (sym (ones_next (get_or marks at 0) k))
+      ∙ ap (λ n. count_ones (get_or marks at 0 % 2 ^ n) + marked_to marks (at * 64)) one
+    where
+      turn : (a b c : ℕ) → a + b + c ≡ c + a + b
+      turn a b c = omega arith
 
   -- the number of a marked label is one of as many as there are marks
-  within_word : (c : ℕ) → IsMarked marks c → number_of marks c ≤ marked_in marks (suc ((c - 1) / 64))
-  within_word c is = omega (arith, ones_below (get_or marks ((c - 1) / 64) 0) ((c - 1) % 64) is.bit)
-
   pub number_within : (c : ℕ) → IsMarked marks c → number_of marks c ≤ marked_in marks (length marks)
-  number_within c is = omega (arith, within_word c is, marked_rise (suc ((c - 1) / 64)) (length marks) (omega (arith, is.in_words)))
+  number_within c is = omega (arith, counts_itself c is, marked_rise c (length marks * 64) (omega (arith, is.in_words)))
 
   -- numbers ascend
   pub numbers_ascend : (c d : ℕ) → IsMarked marks c → c < d → number_of marks c < number_of marks d
-  numbers_ascend c d is lt = elim (cases_lt ((c - 1) / 64) ((d - 1) / 64)) [
-    | inl earlier ↦ omega (arith, within_word c is, marked_rise (suc ((c - 1) / 64)) ((d - 1) / 64) (omega (arith, earlier)))
-    | inr later ↦
-        let same : (d - 1) / 64 ≡ (c - 1) / 64 = omega (arith, later, lt, is.from_one) in
-        let below : (c - 1) % 64 < (d - 1) % 64 = omega (arith, same, lt, is.from_one) in
-        let rise = ones_rise (get_or marks ((c - 1) / 64) 0) ((c - 1) % 64) ((d - 1) % 64) below is.bit in
-        subst (λ w. number_of marks c < marked_in marks w + count_ones (get_or marks w 0 % 2 ^ ((d - 1) % 64)) + 1) (sym same) (omega (arith, rise))
-  ]
+  numbers_ascend c d is lt = omega (arith, counts_itself c is, marked_rise c (d - 1) (omega (arith, lt)))
 
   pub numbers_apart : (c d : ℕ) → IsMarked marks c → IsMarked marks d → number_of marks c ≡ number_of marks d → c ≡ d
   numbers_apart c d c_is d_is same = elim (cases_lt c d) [
@@ -180,21 +192,19 @@ pub number_is : (words : List Word) (c : ℕ) (w : Word) → AreCounted words �
     → w.before + count_ones (w.marks % (1 * 2 ^ ((c - 1) % 64) % 18446744073709551616)) + 1 ≡ number_of (marks_of words) c
 number_is words c w counted within read =
     let at = (c - 1) / 64 in
+    let bit = (c - 1) % 64 in
     let before : w.before ≡ marked_in (marks_of words) at = ap (λ (x : Word). x.before) read ∙ counted.before at w within in
     let marks : w.marks ≡ get_or (marks_of words) at 0 = ap marks_in read ∙ sym (get_or-map marks_in words at w 0 within) in
-    let shift : 1 * 2 ^ ((c - 1) % 64) % 18446744073709551616 ≡ 2 ^ ((c - 1) % 64) = one_shl ((c - 1) % 64) 64 (omega arith) in
-    ap (λ n. w.before + count_ones (w.marks % n) + 1) shift
-    ∙ ap (λ m. w.before + count_ones (m % 2 ^ ((c - 1) % 64)) + 1) marks
-    ∙ ap (λ n. n + count_ones (get_or (marks_of words) at 0 % 2 ^ ((c - 1) % 64)) + 1) before
+    let shift : 1 * 2 ^ bit % 18446744073709551616 ≡ 2 ^ bit = one_shl bit 64 (omega arith) in
+    let ones : count_ones (w.marks % (1 * 2 ^ bit % 18446744073709551616)) ≡ count_ones (get_or (marks_of words) at 0 % 2 ^ bit) =
+    ap (λ n. count_ones (w.marks % n)) shift ∙ ap (λ m. count_ones (m % 2 ^ bit)) marks in
+    let there : bit + at * 64 ≡ c - 1 = omega arith in
+    let all : marked_to (marks_of words) (c - 1) ≡ count_ones (get_or (marks_of words) at 0 % 2 ^ bit) + marked_in (marks_of words) at =
+    ap (marked_to (marks_of words)) (sym there) ∙ marked_within (marks_of words) at bit (omega arith) in
+    omega (arith, before, ones, all)
 
 pub number_fits : (words : List Word) (c : ℕ) → AreCounted words → (c - 1) / 64 < length words → number_of (marks_of words) c ≤ 2 ^ 28 + 65
-number_fits words c counted within =
-    let at = (c - 1) / 64 in
-    let bit = (c - 1) % 64 in
-    let some : count_ones (get_or (marks_of words) at 0 % 2 ^ bit) ≤ bit = ones-le bit (get_or (marks_of words) at 0 % 2 ^ bit) (mod_below (get_or (marks_of words) at 0) (2 ^ bit) (pow_pos bit)) in
-    let rise = marked_rise (marks_of words) at (length words) (omega (arith, within)) in
-    let small : bit < 64 = omega arith in
-    omega (arith, some, rise, counted.few, small)
+number_fits words c counted within = omega (arith, marked_rise (marks_of words) (c - 1) (length words * 64) (omega (arith, within)), counted.few)
 
 -- the number of a marked label has a place among the names
 pub number_within_names : (words : List Word) (names : List ℕ) → length names ≡ marked_in (marks_of words) (length words) → (c : ℕ) → IsMarked (marks_of words) c → number_of (marks_of words) c ≤ length names
@@ -237,14 +247,16 @@ module _ (words : List Word) (i total : ℕ) (w : Word) (within : i < length wor
       ∙ ap (set (marks_of words) i) (ap marks_in read ∙ sym (get_or-map marks_in words i w 0 within))
       ∙ set-get_or (marks_of words) i 0
 
-  pub noted_total : total + count_ones w.marks ≡ marked_in (marks_of (set words i noted)) (i + 1)
-  noted_total =
-      let next : suc i ≡ i + 1 = omega arith in
+  pub noted_total : w.marks < 2 ^ 64 → total + count_ones w.marks ≡ marked_in (marks_of (set words i noted)) (i + 1)
+  noted_total fits =
       let here : w.marks ≡ get_or (marks_of words) i 0 = ap marks_in read ∙ sym (get_or-map marks_in words i w 0 within) in
-      ap (λ n. total + count_ones n) here
-      ∙ ap (λ n. n + count_ones (get_or (marks_of words) i 0)) total_is
-      ∙ ap (marked_in (marks_of words)) next
-      ∙ ap (λ m. marked_in m (i + 1)) (sym noted_marks)
+      let whole : w.marks % 2 ^ 64 ≡ w.marks = omega (arith, fits) in
+      let ones : count_ones (get_or (marks_of words) i 0 % 2 ^ 64) ≡ count_ones w.marks = ap (λ m. count_ones (m % 2 ^ 64)) (sym here) ∙ ap count_ones whole in
+      let next : 64 + i * 64 ≡ (i + 1) * 64 = omega arith in
+      let all : marked_in (marks_of words) (i + 1) ≡ count_ones (get_or (marks_of words) i 0 % 2 ^ 64) + marked_in (marks_of words) i =
+      ap (marked_to (marks_of words)) (sym next) ∙ marked_within (marks_of words) i 64 (omega arith) in
+      let sum : total + count_ones w.marks ≡ marked_in (marks_of words) (i + 1) = omega (arith, total_is, ones, all) in
+      sum ∙ ap (λ m. marked_in m (i + 1)) (sym noted_marks)
 
   pub told_before : ((k : ℕ) (d : Word) → k < i → (get_or words k d).before ≡ marked_in (marks_of words) k)
       → (k : ℕ) (d : Word) → k < i + 1 → (get_or (set words i noted) k d).before ≡ marked_in (marks_of (set words i noted)) k

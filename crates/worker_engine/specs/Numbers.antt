@@ -1,6 +1,6 @@
 -- Numbers for the labels that a shard's links have, in the order of the labels, and the labels by their numbers.
-use Rattle.std.specs.Prelude.{◌≡◌, ℕ, zero, suc, ◌+◌, ◌-◌, ◌/◌, ◌%◌, ◌^◌, ◌<◌, ◌≤◌, ◌⊎◌}
-use Rattle.std.specs.Prelude.{List, [], length, map, slice_index, slice_index_or, All, count_ones}
+use Rattle.std.specs.Prelude.{◌≡◌, ℕ, zero, suc, ◌+◌, ◌-◌, ◌*◌, ◌/◌, ◌%◌, ◌^◌, ◌<◌, ◌≤◌, ◌⊎◌}
+use Rattle.std.specs.Prelude.{List, [], length, map, slice_index, slice_index_or, All}
 use Rattle.std.specs.Int.{bit_at}
 use Rattle.link_key.specs.declared.links.Link.{Link}
 use Rattle.link_key.specs.Labels.{label_of}
@@ -24,19 +24,23 @@ pub record IsMarked (marks : List ℕ) (c : ℕ) : Type 0 where
   pub in_words : (c - 1) / 64 < length marks
   pub bit : bit_at (slice_index marks ((c - 1) / 64)) ((c - 1) % 64) ≡ 1
 
+-- how many of so many labels, from 1 on, are marked
+abbrev pub marked_to : List ℕ → ℕ → ℕ
+marked_to marks zero = 0
+marked_to marks (suc c) = marked_to marks c + bit_at (slice_index marks (c / 64)) (c % 64)
+
 -- how many are marked in so many words
 abbrev pub marked_in : List ℕ → ℕ → ℕ
-marked_in marks zero = 0
-marked_in marks (suc w) = marked_in marks w + count_ones (slice_index marks w)
+marked_in marks words = marked_to marks (words * 64)
 
 -- each word says how many are marked before it, and they are few
 pub record AreCounted (words : List Word) : Type 0 where
   pub before : (w : ℕ) (d : Word) → w < length words → (slice_index_or words w d).before ≡ marked_in (marks_of words) w
   pub few : marked_in (marks_of words) (length words) ≤ 2 ^ 28
 
--- the number of a label: how many are marked in the words before its own, and in its word below it, and one
+-- the number of a label: how many marked labels stand below it, and one
 abbrev pub number_of : List ℕ → ℕ → ℕ
-number_of marks c = marked_in marks ((c - 1) / 64) + count_ones (slice_index marks ((c - 1) / 64) % 2 ^ ((c - 1) % 64)) + 1
+number_of marks c = marked_to marks (c - 1) + 1
 
 -- the label stands by its number among the names
 abbrev pub IsNamed : List ℕ → List ℕ → ℕ → Type 0

@@ -28,6 +28,7 @@ impl Word {
     fn count(self) -> u32
         ensures ones { result ≡ count_ones self.marks }
         ensures few { result ≤ 64 }
+        ensures bits { self.marks < 2 ^ 64 }
     {
         self.marks.count_ones()
     }
