@@ -185,7 +185,7 @@ cut_unhindered cutting links others why refused same allowed =
 
 -- a sink that took a part of the text and then had a setback isn't one that had none
 pub had_setback : (written : ℕ) (text : List ℕ) (a b : SinkState) → PrefixWentOut written text a b → ¬ HadNoSetback a b
-had_setback written text a b part calm = absurd (omega (arith, took_unhindered 1 (take part.count text) a b calm part.took))
+had_setback written text a b part no_failure = absurd (omega (arith, took_unhindered 1 (take part.count text) a b no_failure part.took))
 
 -- ---- a forest whose text went out in part
 

@@ -9,7 +9,7 @@ use Rattle.frames.specs.AnswerValue.{AnswerValue}
 use Rattle.ports.specs.declared.line.Line as Line
 use Rattle.ports.specs.Lines.{LineState, HasRoom, IsFresh, HasKnownBytes}
 use Rattle.ports.specs.Wires.{WireState, IsNewWire, IsFaultless, port_of, wire_port, IsHonestWire, IsSoundWire}
-use Rattle.ports.proofs.Wiring.{fresh_calm}
+use Rattle.ports.proofs.Wiring.{fresh_faultless}
 use Rattle.forest_run.specs.Lanes.{LaneState, IsIdle}
 use Rattle.forest_run.specs.Asks.{answered}
 use Rattle.forest_run.specs.Runs.{PortsAnswer}
@@ -101,7 +101,7 @@ module _ {L : Type 0} where
 module _ {L : Type 0} (over : Line.Ghosts L) where
   new_calm : (line : L) (cut : List (List Link)) (worker : ℕ) (wire : WireState L) → IsNewWire line cut worker wire → IsFresh (over.state line) → HasKnownBytes (over.state line) → IsFaultless over.state (over.state line).ends wire [] []
   new_calm line cut worker wire new fresh known =
-      fresh_calm over.state wire (over.state line).ends (subst (λ l. IsFresh (over.state l)) (sym new.line_is) fresh) (subst (λ l. HasKnownBytes (over.state l)) (sym new.line_is) known) (ap (λ l. (over.state l).ends) new.line_is) new.ungreeted new.nothing_sent new.asks new.failures new.wants new.last
+      fresh_faultless over.state wire (over.state line).ends (subst (λ l. IsFresh (over.state l)) (sym new.line_is) fresh) (subst (λ l. HasKnownBytes (over.state l)) (sym new.line_is) known) (ap (λ l. (over.state l).ends) new.line_is) new.ungreeted new.nothing_sent new.asks new.failures new.wants new.last
 
   pub new_sound : (line : L) (cut : List (List Link)) (worker : ℕ) (wire : WireState L) → IsNewWire line cut worker wire → IsFresh (over.state line) → HasKnownBytes (over.state line) → IsSoundWire over.state wire (over.state line).ends []
   new_sound line cut worker wire new fresh known = inl ([], new_calm line cut worker wire new fresh known)

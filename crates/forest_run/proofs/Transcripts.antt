@@ -14,7 +14,7 @@ use Rattle.ports.specs.Wires.{WireState, port_of, IsSoundWire}
 use Rattle.ports.specs.declared.fault.PortFault.{PortFault}
 use Rattle.ports.specs.declared.fault.PortFault.TheVariants.{Closed}
 use Rattle.ports.proofs.Asking.{asks_made}
-use Rattle.ports.proofs.Wiring.{calm_open}
+use Rattle.ports.proofs.Wiring.{faultless_open}
 use Rattle.forest_run.specs.declared.report.Report.{Report}
 use Rattle.forest_run.specs.Lanes.{LaneState, count_if, ask_count, open_count}
 use Rattle.forest_run.specs.WiredLines.{AreFresh, FindsOverLines, Transcript, HasTranscript, HaveTranscripts}
@@ -105,8 +105,8 @@ module _ {L A : Type 0} (over : Line.Ghosts L) (n : ℕ) (cut : List (List Link)
         let sound : IsSoundWire over.state last.port (over.state (get_or before i line)).ends went.exchanges =
         subst (λ (es : List Exchange). IsSoundWire over.state last.port (over.state (get_or before i line)).ends es) none
         (went.sound_is (over.state (get_or before i line)).ends [] (new_sound over (get_or before i line) cut i first.port new news.0 news.1)) in
-        let (said, calm) = calm_open over.state (λ (fault : PortFault). fault ≢ Closed) last.port (over.state (get_or before i line)).ends went.exchanges opened sound in
-        let step = calm.in_step in
+        let (said, faultless) = faultless_open over.state (λ (fault : PortFault). fault ≢ Closed) last.port (over.state (get_or before i line)).ends went.exchanges opened sound in
+        let step = faultless.in_step in
         let one_open : count_if last.port.is_open ≡ 1 = ap count_if opened in
         let one_new : count_if first.port.is_open ≡ 1 = ap count_if new.opened in
         let many : length (rounds.answers_at i) ≡ length went.exchanges = ap (λ ts. length ts) went.kept_are ∙ length-map went.exchanges (λ (e : Exchange). e.answer) in

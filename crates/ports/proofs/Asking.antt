@@ -253,7 +253,7 @@ module _ {L : Type 0} (state : L → LineState) (round shard : ℕ) (labels : Li
       step_more =
           let more : List FrameValue = frames_put (seen_client state old) round shard labels in
           record {
-            calm = omega (arith, brought.failures, step.calm);
+            no_failure = omega (arith, brought.failures, step.no_failure);
             sent = appends-known (state old.line).sent (state new.line).sent (texts_of said) (texts_of more) step.sent (brought.sent refl) ∙ ap (λ t. Some t) (sym (texts-append said more));
             lawful = lawful-append said more step.lawful (put_lawful round shard labels (seen_client state old) is ask);
             only = subst (λ (k : List (List Link)). All (IsOfCut k) (said ++ more)) (sym asked.cut) (All-append (IsOfCut old.cut) said more step.only (of_cut_put (has_shard old.sent shard) old.cut round shard labels in_cut));
@@ -305,7 +305,7 @@ module _ {L : Type 0} (state : L → LineState) (round shard : ℕ) (labels : Li
       appends-known before.line.sent after.line.sent (texts_of said) (texts_of more) step.sent (brought.sent refl) ∙ ap (λ t. Some t) (sym (texts-append said more)) in
       let got_is : after.line.got ≡ Some (texts_of hello ++ bytes) =
       appends-known before.line.got after.line.got _ _ step.gave.got (brought.got refl) ∙ ap (λ t. Some t) (got_more before.version version before.worker (answers_of exchanges) bytes asked.greeted.stays step.gave.silent) in
-      let (served, rest, serves) = faithful (omega (arith, brought.failures, step.calm)) (texts_of (said ++ more)) (texts_of hello ++ bytes) sent_is got_is in
+      let (served, rest, serves) = faithful (omega (arith, brought.failures, step.no_failure)) (texts_of (said ++ more)) (texts_of hello ++ bytes) sent_is got_is in
       let lawful_replies : AreLawful serves.replies = served_lawful served before.worker (texts_of (said ++ more)) ((texts_of hello ++ bytes) ++ rest) serves in
       let frames : serves.frames ≡ said ++ more = only_frames_of_texts (said ++ more) serves.frames (lawful-append said more step.lawful lawful) serves.came in
       let whole : texts_of hello ++ (bytes ++ rest) ≡ texts_of (HelloFrame served before.worker ∷ serves.replies) = sym (append_assoc (texts_of hello) bytes rest) ∙ serves.written in
@@ -329,7 +329,7 @@ module _ {L : Type 0} (state : L → LineState) (round shard : ℕ) (labels : Li
       let none : before.line.got ≡ Some [] = step.gave.got ∙ ap (λ b. Some (texts_of (frames_got b before.worker (answers_of exchanges)))) quiet in
       let sent_is : after.line.sent ≡ Some (texts_of said ++ []) = appends-known before.line.sent after.line.sent (texts_of said) [] step.sent (came.sent refl) in
       let got_is : after.line.got ≡ Some bytes = appends-known before.line.got after.line.got [] bytes none (came.got refl) in
-      let (served, rest, serves) = faithful (omega (arith, came.failures, step.calm)) (texts_of said ++ []) bytes sent_is got_is in
+      let (served, rest, serves) = faithful (omega (arith, came.failures, step.no_failure)) (texts_of said ++ []) bytes sent_is got_is in
       (served, rest, serves.replies, serves.written, (hello_is served serves.known, served_lawful served before.worker (texts_of said ++ []) (bytes ++ rest) serves))
 
   module _ (in_cut : shard < length before.cut) (is : IsShard shard (links_at before.cut shard)) (ask : IsAsk round shard labels) where

@@ -51,7 +51,7 @@ taken_stays taken a b within grew = ap (take taken) grew.1 ∙ take-append-le ta
 -- an engine that keeps nothing, before a byte came
 pub engine_line_starts : (worker : ℕ) (s : EngineLineState) → s.kept ≡ [] → s.input ≡ [] → s.written ≡ text_of (HelloFrame VERSION worker) → s.heard ≡ 0 → s.over ≡ false → IsEngineLine worker s
 engine_line_starts worker s kept none hello heard over = record {
-  session = λ calm. rw (kept, none, hello, heard) (session_starts worker);
-  all = λ calm. rw (none, heard) none_begins_none;
-  over_is = λ calm is. cc;
+  session = λ no_failure. rw (kept, none, hello, heard) (session_starts worker);
+  all = λ no_failure. rw (none, heard) none_begins_none;
+  over_is = λ no_failure is. cc;
 }

@@ -15,8 +15,8 @@ went_nowhere line = record { sent = λ e. Appends-nil line.sent; got = λ e. App
 pub went_then : (f e f' e' : ℕ) (said came said' came' : List ℕ) (a b c : LineState)
     → Transfers f e said came a b → Transfers f' e' said' came' b c → Transfers (f + f') (e + e') (said ++ said') (came ++ came') a c
 went_then f e f' e' said came said' came' a b c first second = record {
-  sent = λ calm. Appends-trans _ _ _ said said' (first.sent (omega (arith, calm))) (second.sent (omega (arith, calm)));
-  got = λ calm. Appends-trans _ _ _ came came' (first.got (omega (arith, calm))) (second.got (omega (arith, calm)));
+  sent = λ no_failure. Appends-trans _ _ _ said said' (first.sent (omega (arith, no_failure))) (second.sent (omega (arith, no_failure)));
+  got = λ no_failure. Appends-trans _ _ _ came came' (first.got (omega (arith, no_failure))) (second.got (omega (arith, no_failure)));
   failures = omega (arith, first.failures, second.failures);
   ends = omega (arith, first.ends, second.ends);
 }
@@ -32,7 +32,7 @@ room_kept a b said came room went = record { failures = omega (arith, room.failu
 
 -- one failed call, whatever came before it
 pub failed_of : (a b : LineState) (said came : List ℕ) → Transfers 1 0 said came a b → LineFailed a b
-failed_of a b said came went = record { sent = λ calm. cc; got = λ calm. cc; failures = went.failures; ends = went.ends }
+failed_of a b said came went = record { sent = λ no_failure. cc; got = λ no_failure. cc; failures = went.failures; ends = went.ends }
 
 pub then_failed : (a b c : LineState) (said came : List ℕ) → Transfers 0 0 said came a b → LineFailed b c → LineFailed a c
 then_failed a b c said came first second = failed_of a c (said ++ []) (came ++ []) (went_then 0 0 1 0 said came [] [] a b c first second)

@@ -17,7 +17,7 @@ use Rattle.ports.proofs.Going.{failed_of}
 -- what was sent stands, and what the source gave was got
 pub went_of : (failed ended : ℕ) (bytes : List ℕ) (a b : LineState) → (b.failures ≡ a.failures → Appends a.sent b.sent []) → Gave failed ended bytes (source_of a) (source_of b) → Transfers failed ended [] bytes a b
 went_of failed ended bytes a b sent gave = record {
-  sent = λ calm. sent (omega (arith, gave.failures, calm));
+  sent = λ no_failure. sent (omega (arith, gave.failures, no_failure));
   got = gave.given;
   failures = gave.failures;
   ends = gave.ends;

@@ -29,7 +29,7 @@ known_none (Some bytes) known none = ap (λ t. Some t) none
 -- a client that said nothing yet, over a fresh line whose bytes are known
 pub fresh_step : (client : Client) → IsFresh client.line → HasKnownBytes client.line → client.version ≡ None → ((s : ℕ) → has_shard client.sent s ≡ false) → MatchesLine client [] []
 fresh_step client fresh known quiet none = record {
-  calm = fresh.failures;
+  no_failure = fresh.failures;
   sent = known_none client.line.sent known.sent fresh.sent;
   lawful = tt;
   only = All-nil (IsOfCut client.cut);
@@ -148,9 +148,9 @@ module _ {L : Type 0} (state : L → LineState) where
 
 module _ {L : Type 0} (state : L → LineState) where
   -- a wire that asked nothing yet, over a fresh line whose bytes are known
-  pub fresh_calm : (wire : WireState L) (ends : ℕ) → IsFresh (state wire.client.line) → HasKnownBytes (state wire.client.line) → (state wire.client.line).ends ≡ ends → wire.client.version ≡ None → ((s : ℕ) → has_shard wire.client.sent s ≡ false)
+  pub fresh_faultless : (wire : WireState L) (ends : ℕ) → IsFresh (state wire.client.line) → HasKnownBytes (state wire.client.line) → (state wire.client.line).ends ≡ ends → wire.client.version ≡ None → ((s : ℕ) → has_shard wire.client.sent s ≡ false)
       → wire.asks ≡ 0 → wire.failures ≡ 0 → wire.wants ≡ 0 → wire.last ≡ (0, 0) → IsFaultless state ends wire [] []
-  fresh_calm wire ends fresh known ends_are quiet none asks failures wants last = record {
+  fresh_faultless wire ends fresh known ends_are quiet none asks failures wants last = record {
     in_step = fresh_step (seen_client state wire.client) fresh known quiet none;
     ends_are = ends_are;
     asks = asks;
@@ -160,25 +160,25 @@ module _ {L : Type 0} (state : L → LineState) where
   }
 
   -- one that is open is faultless
-  pub calm_open : (kind : PortFault → Type 0) (wire : WireState L) (ends : ℕ) (exchanges : List Exchange) → wire.is_open ≡ true → IsTrueSoFar state kind wire ends exchanges
+  pub faultless_open : (kind : PortFault → Type 0) (wire : WireState L) (ends : ℕ) (exchanges : List Exchange) → wire.is_open ≡ true → IsTrueSoFar state kind wire ends exchanges
       → (said : List FrameValue) × IsFaultless state ends wire said exchanges
-  calm_open kind wire ends exchanges live went = elim went [
-    | inl calm ↦ calm
+  faultless_open kind wire ends exchanges live went = elim went [
+    | inl faultless ↦ faultless
     | inr failed ↦ cc
   ]
 
   -- one that is shut stays what it was
   pub went_shut : (kind : PortFault → Type 0) (wire : WireState L) (ends : ℕ) (exchanges : List Exchange) → IsTrueSoFar state kind wire ends exchanges → IsTrueSoFar state kind (record wire { is_open = false }) ends exchanges
   went_shut kind wire ends exchanges went = elim went [
-    | inl on ↦ let calm = on.1 in
-        inl (on.0, record { in_step = calm.in_step; ends_are = calm.ends_are; asks = calm.asks; failures = calm.failures; wants = calm.wants; last = calm.last })
+    | inl on ↦ let faultless = on.1 in
+        inl (on.0, record { in_step = faultless.in_step; ends_are = faultless.ends_are; asks = faultless.asks; failures = faultless.failures; wants = faultless.wants; last = faultless.last })
     | inr off ↦ let failed = off.1 in
         inr (
           refl,
           record {
             before = failed.before;
             said = failed.said;
-            calm = failed.calm;
+            faultless = failed.faultless;
             was_open = failed.was_open;
             same_cut = failed.same_cut;
             same_worker = failed.same_worker;
@@ -202,16 +202,16 @@ module _ {L : Type 0} (state : L → LineState) where
       pub answered : (kind kind' : PortFault → Type 0) (ends : ℕ) (exchanges : List Exchange) → new.failures ≡ old.failures → new.wants ≡ old.wants → IsTrueSoFar state kind old ends exchanges
           → IsTrueSoFar state kind' new ends (exchanges ++ exchange_of round shard labels a ∷ [])
       answered kind kind' ends exchanges failures wants went =
-          let (said, calm) = calm_open kind old ends exchanges live went in
+          let (said, faultless) = faultless_open kind old ends exchanges live went in
           let first : List FrameValue = shard_due (has_shard old.client.sent shard) shard (links_at old.client.cut shard) in
           inl (
             said ++ frames_put (seen_client state old.client) round shard labels,
             record {
-              in_step = step_more state round shard labels a old.client new.client asked in_cut is ask said exchanges calm.in_step;
-              ends_are = omega (arith, (all_brought state round shard labels _ old.client new.client asked.brought).ends, calm.ends_are);
-              asks = omega (arith, asks, calm.asks, length-append exchanges (exchange_of round shard labels a ∷ []));
-              failures = failures ∙ calm.failures;
-              wants = wants ∙ calm.wants;
+              in_step = step_more state round shard labels a old.client new.client asked in_cut is ask said exchanges faultless.in_step;
+              ends_are = omega (arith, (all_brought state round shard labels _ old.client new.client asked.brought).ends, faultless.ends_are);
+              asks = omega (arith, asks, faultless.asks, length-append exchanges (exchange_of round shard labels a ∷ []));
+              failures = failures ∙ faultless.failures;
+              wants = wants ∙ faultless.wants;
               last = last ∙ sym (ap (last_ask (0, 0)) (sym (append_assoc said first (AskFrame round shard labels ∷ []))) ∙ last_put (0, 0) (said ++ first) round shard labels);
             },
           )
@@ -221,7 +221,7 @@ module _ {L : Type 0} (state : L → LineState) where
       pub failed : (kind kind' : PortFault → Type 0) (ends : ℕ) (exchanges : List Exchange) → kind' fault → new.is_open ≡ false → new.client.cut ≡ old.client.cut → new.client.worker ≡ old.client.worker
           → new.failures ≡ old.failures + failure_of fault → new.wants ≡ old.wants + want_of fault → IsTrueSoFar state kind old ends exchanges → IsTrueSoFar state kind' new ends exchanges
       failed kind kind' ends exchanges is_kind closed cut worker failures wants went =
-          let (said, calm) = calm_open kind old ends exchanges live went in
+          let (said, faultless) = faultless_open kind old ends exchanges live went in
           let round_is : round ≡ new.last.0 = ap (λ (p : ℕ × ℕ). p.0) (sym last) in
           let shard_is : shard ≡ new.last.1 = ap (λ (p : ℕ × ℕ). p.1) (sym last) in
           inr (
@@ -229,7 +229,7 @@ module _ {L : Type 0} (state : L → LineState) where
             record {
               before = old;
               said = said;
-              calm = calm;
+              faultless = faultless;
               was_open = live;
               same_cut = cut;
               same_worker = worker;
@@ -239,8 +239,8 @@ module _ {L : Type 0} (state : L → LineState) where
               labels = labels;
               cause = subst (λ (r : ℕ). WireCause state fault r new.last.1 labels old new) round_is (subst (λ (s : ℕ). WireCause state fault round s labels old new) shard_is cause);
               asks = asks;
-              failures = omega (arith, failures, calm.failures);
-              wants = omega (arith, wants, calm.wants);
+              failures = omega (arith, failures, faultless.failures);
+              wants = omega (arith, wants, faultless.wants);
             },
           )
 
@@ -252,8 +252,8 @@ module _ {L : Type 0} (state : L → LineState) where
     pub served_answer : (a : AnswerValue) → AnswersOverLine state round shard labels a old.client new → (ends : ℕ) (exchanges : List Exchange) → IsTrueSoFar state kind old ends exchanges → ServesSoFar old.client.worker (state new.line)
         → IsHonestAnswer old.client.cut round shard labels a
     served_answer a asked ends exchanges went serves =
-        let (said, calm) = calm_open kind old ends exchanges live went in
-        honest_answer state round shard labels old.client new said exchanges calm.in_step below serves in_cut is ask a asked
+        let (said, faultless) = faultless_open kind old ends exchanges live went in
+        honest_answer state round shard labels old.client new said exchanges faultless.in_step below serves in_cut is ask a asked
 
     module _ (line line' : ℕ → Type 0) (kept : (w : ℕ) → line w → line' w) (serves : (w : ℕ) → line' w → ServesSoFar w (state new.line)) (honest : line old.client.worker × ((ends : ℕ) × (exchanges : List Exchange) × IsTrueSoFar state kind old ends exchanges)) where
       pub light_answer : (a : AnswerValue) → AnswersOverLine state round shard labels a old.client new → IsHonestAnswer old.client.cut round shard labels a
@@ -266,5 +266,5 @@ module _ {L : Type 0} (state : L → LineState) where
       blameless_fault fault ends cause =
           let (carries, some) = honest in
           let (found, exchanges, went) = some in
-          let (said, calm) = calm_open kind old found exchanges live went in
-          blameless state round shard labels old.client new said exchanges calm.in_step below (serves old.client.worker (kept old.client.worker carries)) in_cut is ask fault ends cause
+          let (said, faultless) = faultless_open kind old found exchanges live went in
+          blameless state round shard labels old.client new said exchanges faultless.in_step below (serves old.client.worker (kept old.client.worker carries)) in_cut is ask fault ends cause

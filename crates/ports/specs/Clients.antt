@@ -137,7 +137,7 @@ FollowTheirShards shelf (v ∷ frames) = FollowTheirShards (shelf_with shelf v) 
 -- of which the version of the worker has, and none before its hello came; and the hello and just the answers of the
 -- exchanges were got
 pub record MatchesLine (client : Client) (said : List FrameValue) (exchanges : List Exchange) : Type 0 where
-  pub calm : client.line.failures ≡ 0
+  pub no_failure : client.line.failures ≡ 0
   pub sent : client.line.sent ≡ Some (texts_of said)
   pub lawful : AreLawful said
   pub only : All (IsOfCut client.cut) said
@@ -147,4 +147,5 @@ pub record MatchesLine (client : Client) (said : List FrameValue) (exchanges : L
   pub first : FollowTheirShards empty_shelf said
   pub has : MatchOption client.version (said ≡ []) (λ version. HasFrames version said)
   pub gave : HasGiven client (answers_of exchanges)
-  pub shelves : (s : ℕ) → s < length client.cut → shelf_after empty_shelf said s ≡ (if has_shard client.sent s then Some (links_at client.cut s) else None)
+  pub shelves : (s : ℕ) → s < length client.cut
+      → shelf_after empty_shelf said s ≡ (if has_shard client.sent s then Some (links_at client.cut s) else None)

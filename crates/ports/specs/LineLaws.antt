@@ -10,14 +10,14 @@ use Rattle.ports.specs.EngineLines.{EngineLineState, line_of, IsEngineLine}
 
 -- stopped calls are failures too
 pub fused_serves : (worker : ℕ) (line : LineState) (stopped : ℕ) → ServesSoFar worker line → ServesSoFar worker (with_stops line stopped)
-fused_serves worker line stopped serves calm = serves (omega arith)
+fused_serves worker line stopped serves no_failure = serves (omega arith)
 
 -- what was got begins what the session wrote
 pub engine_serves : (worker : ℕ) (s : EngineLineState) → IsEngineLine worker s → ServesSoFar worker (line_of s)
-engine_serves worker s is calm sent got sent_is got_is =
+engine_serves worker s is no_failure sent got sent_is got_is =
     let rest : List ℕ = drop s.taken s.written in
     let all : Serves VERSION worker s.input s.written =
-    session_serves worker (shelf_of s.kept) s.input s.written s.heard (is.session calm) (is.all calm) in
+    session_serves worker (shelf_of s.kept) s.input s.written s.heard (is.session no_failure) (is.all no_failure) in
     let same_sent : s.input ≡ sent = cc in
     let same_got : take s.taken s.written ≡ got = cc in
     let written : s.written ≡ got ++ rest = sym (take-append-drop s.taken s.written) ∙ ap (λ (t : List ℕ). t ++ rest) same_got in

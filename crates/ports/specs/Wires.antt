@@ -108,7 +108,7 @@ pub record HasFailed {L : Type 0} (state : L → LineState) (ends : ℕ) (exchan
     (kind : PortFault → Type 0) (wire : WireState L) : Type 0 where
   pub before : WireState L
   pub said : List FrameValue
-  pub calm : IsFaultless state ends before said exchanges
+  pub faultless : IsFaultless state ends before said exchanges
   pub was_open : before.is_open ≡ true
   pub same_cut : wire.client.cut ≡ before.client.cut
   pub same_worker : wire.client.worker ≡ before.client.worker

@@ -21,7 +21,7 @@ use Rattle.worker_engine.specs.Tables.{IsKept, ArePlaces}
 use Rattle.std.proofs.lemmas.Bool.{cases_lt}
 use Rattle.worker_engine.specs.Batches.{written_at, AreLookedUp, CanBeTakenIn}
 use Rattle.worker_engine.proofs.Written.{link_at}
-use Rattle.worker_engine.specs.Numbers.{IsMarked, number_of, numbered, numbered_labels, IsNamed, offered, HasNumbers, AreNumbered, AreMarkedUpTo, AreNamedUpTo, AreBothMarked, AreBothNamed}
+use Rattle.worker_engine.specs.Numbers.{IsMarked, number_of, numbered, numbered_labels, HasItsName, offered, HasNumbers, AreNumbered, AreMarkedUpTo, AreNamedUpTo, AreBothMarked, AreBothNamed}
 use Rattle.worker_engine.proofs.BestSoFar.{best_is_light, none_leaves, one_read}
 use Rattle.worker_engine.proofs.Scans.{kept_place, kept_none, end_at}
 use Rattle.worker_engine.proofs.Tables.{kept_below, same_place}
@@ -68,7 +68,7 @@ module _ (marks labels : List ℕ) where
     ]
 
     -- a number that it leaves is that of a label that it leaves
-    pub leaves_back : (p : ℕ) → Leaves (numbered_labels marks labels) l p → (c : ℕ) × IsMarked marks c × IsNamed marks names c × (number_of marks c ≡ p) × Leaves labels l c
+    pub leaves_back : (p : ℕ) → Leaves (numbered_labels marks labels) l p → (c : ℕ) × IsMarked marks c × HasItsName marks names c × (number_of marks c ≡ p) × Leaves labels l c
     leaves_back p (inl (at, apart)) = elim has [
       | inl same ↦ absurd (apart (own_high ∙ ap (number_of marks) (sym same) ∙ sym own_low ∙ at))
       | inr is ↦ (label_of labels l.low, is.low_marked, is.low_named, sym own_low ∙ at, inl (refl, λ same. apart (own_high ∙ ap (number_of marks) same ∙ sym own_low ∙ at)))
@@ -100,7 +100,7 @@ module _ (links : List Link) (labels marks names : List ℕ) (ends : EndsUpTo (l
   module _ (few : length links ≤ 2 ^ 24) (within : (c : ℕ) → IsMarked marks c → number_of marks c ≤ length names) (table : List Best)
       (best : AreBestUpTo (length names) links (numbered_labels marks labels) 0 (length links) table) where
     -- where a place is kept for a number, it is the best one for the label of the number
-    kept_label : (p place : ℕ) → IsKept table p place → (c : ℕ) × IsMarked marks c × IsNamed marks names c × (number_of marks c ≡ p) × IsBestPlace links labels 0 (length links) c place
+    kept_label : (p place : ℕ) → IsKept table p place → (c : ℕ) × IsMarked marks c × HasItsName marks names c × (number_of marks c ≡ p) × IsBestPlace links labels 0 (length links) c place
     kept_label p place kept =
         let own = numbered_labels marks labels in
         let vertex : IsVertex (length names) p = (kept.from_one, omega (arith, kept_below table p place kept, best.each_vertex)) in
@@ -110,17 +110,17 @@ module _ (links : List Link) (labels marks names : List ℕ) (ends : EndsUpTo (l
         (c, c_is, named, number, best_from_own c place c_is (subst (λ k. IsBestPlace links own 0 (length links) k place) (sym number) at))
 
     -- the labels that a link leaves have numbers
-    left_has_number : (l : Link) (place c : ℕ) → place < length links → l ≡ get_or links place l → Leaves labels l c → IsMarked marks c × IsNamed marks names c
+    left_has_number : (l : Link) (place c : ℕ) → place < length links → l ≡ get_or links place l → Leaves labels l c → IsMarked marks c × HasItsName marks names c
     left_has_number l place c in_list read leaves = elim (has place l in_list read) [
       | inl same ↦ absurd (leaves_apart labels l c leaves same)
       | inr is ↦ elim (leaves_end labels l c leaves) [
-        | inl low ↦ subst (λ k. IsMarked marks k × IsNamed marks names k) (sym low) (is.low_marked, is.low_named)
-        | inr high ↦ subst (λ k. IsMarked marks k × IsNamed marks names k) (sym high) (is.high_marked, is.high_named)
+        | inl low ↦ subst (λ k. IsMarked marks k × HasItsName marks names k) (sym low) (is.low_marked, is.low_named)
+        | inr high ↦ subst (λ k. IsMarked marks k × HasItsName marks names k) (sym high) (is.high_marked, is.high_named)
       ]
     ]
 
     -- a light offer is kept for the number of its label
-    light_kept : (c place : ℕ) → IsLightOffer links labels c place → IsKept table (number_of marks c) place × IsNamed marks names c
+    light_kept : (c place : ℕ) → IsLightOffer links labels c place → IsKept table (number_of marks c) place × HasItsName marks names c
     light_kept c place (l, least, at) =
         let own = numbered_labels marks labels in
         let (c_is, named) = left_has_number l place c at.within (sym at.here) least.leaves in
@@ -195,7 +195,7 @@ module _ (links : List Link) (labels marks : List ℕ) (ends : EndsUpTo (length 
 
   -- and the names of those before the next batch
   pub row_is_named : (names names' : List ℕ) → AreMarkedUpTo (length links) links labels marks → AreNamedUpTo at links labels marks names
-      → ((c : ℕ) → IsMarked marks c → IsNamed marks names c → IsNamed marks names' c)
+      → ((c : ℕ) → IsMarked marks c → HasItsName marks names c → HasItsName marks names' c)
       → ((k : ℕ) (d : LiveLink) → k < to - at → AreBothNamed marks names' (get_or batch k d)) → AreNamedUpTo to links labels marks names'
   row_is_named names names' marked named more each q l lt read = elim (cases_lt q at) [
     | inl less ↦

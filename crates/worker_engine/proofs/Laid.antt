@@ -3,11 +3,11 @@ use Rattle.std.proofs.Common.{◌≡◌, ℕ, zero, suc, ◌+◌, ◌<◌, ◌�
 use Rattle.std.proofs.lemmas.Bool.{cases_lt}
 use Rattle.link_key.specs.declared.links.Link.{Link}
 use Rattle.link_key.specs.Labels.{label_of, Coarsens}
-use Rattle.worker_engine.specs.Live.{HaveOneLabel, IsQuiet, AreParallel, IsOutdone, IsAside, AreAside, AreLive}
+use Rattle.worker_engine.specs.Live.{HaveOneLabel, IsInside, AreParallel, IsOutdone, IsAside, AreAside, AreLive}
 use Rattle.worker_engine.proofs.BestSoFar.{one_read}
 
 -- what is quiet stays so under labels that coarsen
-pub quiet_coarser : (labels finer : List ℕ) (l : Link) → Coarsens labels finer → IsQuiet finer l → IsQuiet labels l
+pub quiet_coarser : (labels finer : List ℕ) (l : Link) → Coarsens labels finer → IsInside finer l → IsInside labels l
 quiet_coarser labels finer l coarsens quiet = record {
   labelled = omega (arith, coarsens.vertices, quiet.labelled);
   one_label = coarsens.together l.low l.high (omega (arith, l.from_one)) (omega (arith, l.ascending, quiet.labelled)) (omega (arith, l.from_one, l.ascending)) quiet.labelled quiet.one_label;
@@ -45,7 +45,7 @@ live_coarser links labels finer from to [] coarsens (le, aside) = (le, aside_coa
 live_coarser links labels finer from to (p ∷ places) coarsens (le, aside, rest) = (le, aside_coarser links labels finer from p coarsens aside, live_coarser links labels finer (p + 1) to places coarsens rest)
 
 -- a link that is parallel to a quiet one is quiet
-quiet_parallel : (labels : List ℕ) (l m : Link) → IsQuiet labels l → AreParallel labels l m → IsQuiet labels m
+quiet_parallel : (labels : List ℕ) (l m : Link) → IsInside labels l → AreParallel labels l m → IsInside labels m
 quiet_parallel labels l m quiet (inl (low, high)) = record { labelled = high.1.1; one_label = sym low.2 ∙ quiet.one_label ∙ high.2 }
 quiet_parallel labels l m quiet (inr (low, high)) = record { labelled = low.1.1; one_label = sym high.2 ∙ sym quiet.one_label ∙ low.2 }
 
@@ -98,7 +98,7 @@ module _ (links : List Link) (labels : List ℕ) where
   live_end to (p ∷ places) = live_end to places
 
   -- before the first live place all links are quiet
-  pub front_is_quiet : (to : ℕ) → AreAside links labels 0 to → (q : ℕ) (l : Link) → q < to → l ≡ get_or links q l → IsQuiet labels l
+  pub front_is_quiet : (to : ℕ) → AreAside links labels 0 to → (q : ℕ) (l : Link) → q < to → l ≡ get_or links q l → IsInside labels l
   front_is_quiet to aside q l before_end read = elim (aside q l (omega arith) before_end read) [
     | inl quiet ↦ quiet
     | inr by ↦ absurd (omega (arith, by.just_before))
@@ -114,7 +114,7 @@ module _ (links : List Link) (labels : List ℕ) where
   ]
 
   -- the range goes on over a quiet link
-  pub live_goes_on : (from at : ℕ) (places : List ℕ) → AreLive links labels from at places → ((l : Link) → l ≡ get_or links at l → IsQuiet labels l) → AreLive links labels from (at + 1) places
+  pub live_goes_on : (from at : ℕ) (places : List ℕ) → AreLive links labels from at places → ((l : Link) → l ≡ get_or links at l → IsInside labels l) → AreLive links labels from (at + 1) places
   live_goes_on from at [] (le, aside) quiet = (omega (arith, le), aside_more from at aside (λ l read. inl (quiet l read)))
   live_goes_on from at (p ∷ places) (le, aside, rest) quiet = (le, aside, live_goes_on (p + 1) at places rest quiet)
 
@@ -134,7 +134,7 @@ module _ (links : List Link) (labels : List ℕ) where
   live_push from at (p ∷ places) (le, quiet, rest) = (le, quiet, live_push (p + 1) at places rest)
 
   -- what is laid aside on both sides of a quiet link is so with it: the links that it outdoes are quiet too
-  aside_over : (from p to : ℕ) → AreAside links labels from p → ((l : Link) → l ≡ get_or links p l → IsQuiet labels l) → AreAside links labels (p + 1) to → AreAside links labels from to
+  aside_over : (from p to : ℕ) → AreAside links labels from p → ((l : Link) → l ≡ get_or links p l → IsInside labels l) → AreAside links labels (p + 1) to → AreAside links labels from to
   aside_over from p to aside quiet behind q l from_start before_end read = elim (cases_lt q p) [
     | inl lt ↦ aside q l from_start lt read
     | inr later ↦ elim (cases_lt p q) [
@@ -151,7 +151,7 @@ module _ (links : List Link) (labels : List ℕ) where
   ]
 
   -- so a live place whose link falls quiet may be left out
-  pub live_without : (from p to : ℕ) (places : List ℕ) → from ≤ p → AreAside links labels from p → ((l : Link) → l ≡ get_or links p l → IsQuiet labels l) → AreLive links labels (p + 1) to places → AreLive links labels from to places
+  pub live_without : (from p to : ℕ) (places : List ℕ) → from ≤ p → AreAside links labels from p → ((l : Link) → l ≡ get_or links p l → IsInside labels l) → AreLive links labels (p + 1) to places → AreLive links labels from to places
   live_without from p to [] le aside quiet (le', behind) = (omega (arith, le, le'), aside_over from p to aside quiet behind)
   live_without from p to (x ∷ places) le aside quiet (le', behind, rest) = (omega (arith, le, le'), aside_over from p x aside quiet behind, rest)
 
@@ -182,5 +182,5 @@ module _ (links : List Link) (labels : List ℕ) where
   ]
 
   -- a link both of whose ends have one label is quiet
-  pub quiet_alone : (i : ℕ) (l : Link) → i < length links → l ≡ get_or links i l → l.high ≤ length labels → label_of labels l.low ≡ label_of labels l.high → (m : Link) → m ≡ get_or links i m → IsQuiet labels m
-  quiet_alone i l within read ends same m m_read = subst (IsQuiet labels) (one_read links i l m within read m_read) (record { labelled = ends; one_label = same })
+  pub quiet_alone : (i : ℕ) (l : Link) → i < length links → l ≡ get_or links i l → l.high ≤ length labels → label_of labels l.low ≡ label_of labels l.high → (m : Link) → m ≡ get_or links i m → IsInside labels m
+  quiet_alone i l within read ends same m m_read = subst (IsInside labels) (one_read links i l m within read m_read) (record { labelled = ends; one_label = same })

@@ -9,7 +9,7 @@ use Rattle.worker_engine.specs.declared.numbers.Word.{Word}
 use Rattle.worker_engine.specs.Scanning.{no_best, AreBestUpTo}
 use Rattle.worker_engine.specs.Live.{AreParallel, places_of, AreLiveLinks, relabelled, packed}
 use Rattle.worker_engine.specs.Batches.{CanBeTakenIn, TakesInAll}
-use Rattle.worker_engine.specs.Numbers.{marks_of, IsMarked, marked_in, number_of, numbered, numbered_labels, shown, IsNamed, HasNumbers, AreByNumbers, AreNumbered, HaveNames}
+use Rattle.worker_engine.specs.Numbers.{marks_of, IsMarked, marked_in, number_of, numbered, numbered_labels, shown, HasItsName, HasNumbers, AreByNumbers, AreNumbered, HaveNames}
 use Rattle.worker_engine.proofs.Scans.{best_of_none}
 use Rattle.worker_engine.proofs.Laid.{live_or_aside}
 use Rattle.worker_engine.proofs.Written.{next_says, live_ends, live_links_coarser, bests_none, bests_all}
@@ -50,8 +50,8 @@ module _ (links : List Link) (labels marks names : List ℕ) (by_labels live : L
       record {
         low_marked = subst (IsMarked marks) low is.0;
         high_marked = subst (IsMarked marks) high is.1;
-        low_named = subst (IsNamed marks names) low called.0;
-        high_named = subst (IsNamed marks names) high called.1;
+        low_named = subst (HasItsName marks names) low called.0;
+        high_named = subst (HasItsName marks names) high called.1;
       }
 
   -- and those of a link that is parallel to it
@@ -59,14 +59,14 @@ module _ (links : List Link) (labels marks names : List ℕ) (by_labels live : L
   parallel_has_numbers e l (inl (low, high)) is = record {
     low_marked = subst (IsMarked marks) low.2 is.low_marked;
     high_marked = subst (IsMarked marks) high.2 is.high_marked;
-    low_named = subst (IsNamed marks names) low.2 is.low_named;
-    high_named = subst (IsNamed marks names) high.2 is.high_named;
+    low_named = subst (HasItsName marks names) low.2 is.low_named;
+    high_named = subst (HasItsName marks names) high.2 is.high_named;
   }
   parallel_has_numbers e l (inr (low, high)) is = record {
     low_marked = subst (IsMarked marks) high.2 is.high_marked;
     high_marked = subst (IsMarked marks) low.2 is.low_marked;
-    low_named = subst (IsNamed marks names) high.2 is.high_named;
-    high_named = subst (IsNamed marks names) low.2 is.low_named;
+    low_named = subst (HasItsName marks names) high.2 is.high_named;
+    high_named = subst (HasItsName marks names) low.2 is.low_named;
   }
 
   -- of each link the ends have one label, or they have numbers

@@ -11,7 +11,7 @@ use Rattle.link_key.specs.Labels.{label_of, AreLabels}
 use Rattle.round_theory.specs.Labelling.{IsVertex}
 use Rattle.worker_engine.proofs.Written.{label_vertex}
 use Rattle.worker_engine.specs.declared.numbers.Word.{Word}
-use Rattle.worker_engine.specs.Numbers.{marks_of, IsMarked, marked_to, marked_in, AreCounted, number_of, IsNamed, new_name}
+use Rattle.worker_engine.specs.Numbers.{marks_of, IsMarked, marked_to, marked_in, AreCounted, number_of, HasItsName, new_name}
 
 no_ones : count_ones 0 ≡ 0
 unfolding lib.Count.ones
@@ -218,15 +218,15 @@ number_has_place words names c size is = omega (arith, number_within_names words
 
 -- a name is written, and others stand
 module _ (marks names : List ℕ) (d : ℕ) (d_is : IsMarked marks d) where
-  pub named_here : number_of marks d - 1 < length names → IsNamed marks (set names (number_of marks d - 1) d) d
+  pub named_here : number_of marks d - 1 < length names → HasItsName marks (set names (number_of marks d - 1) d) d
   named_here within = get_or-set_same names (number_of marks d - 1) d 0 within
 
-  pub named_stays : (c : ℕ) → IsMarked marks c → IsNamed marks names c → IsNamed marks (set names (number_of marks d - 1) d) c
+  pub named_stays : (c : ℕ) → IsMarked marks c → HasItsName marks names c → HasItsName marks (set names (number_of marks d - 1) d) c
   named_stays c c_is is = elim (cases_eq (number_of marks c - 1) (number_of marks d - 1)) [
     | inl same ↦
         let one : c ≡ d = numbers_apart marks c d c_is d_is (omega (arith, same)) in
         elim (cases_lt (number_of marks d - 1) (length names)) [
-          | inl within ↦ subst (λ k. IsNamed marks (set names (number_of marks d - 1) d) k) (sym one) (named_here within)
+          | inl within ↦ subst (λ k. HasItsName marks (set names (number_of marks d - 1) d) k) (sym one) (named_here within)
           | inr past ↦ absurd (omega (arith, past, same, is, c_is.from_one, get_or_past names (number_of marks c - 1) 0 (omega (arith, past, same))))
         ]
     | inr other ↦ get_or-set_other names (number_of marks d - 1) (number_of marks c - 1) d 0 other ∙ is

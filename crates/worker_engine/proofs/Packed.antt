@@ -5,7 +5,7 @@ use Rattle.std.proofs.lemmas.List.Elements.{All-cons, All-nil}
 use Rattle.link_key.specs.declared.links.Link.{Link}
 use Rattle.link_key.specs.Labels.{label_of, AreLabels}
 use Rattle.worker_engine.specs.declared.live.LiveLink.{LiveLink}
-use Rattle.worker_engine.specs.Live.{IsQuiet, AreLive, IsWritten, places_of, AreLiveLinks, relabelled, packed}
+use Rattle.worker_engine.specs.Live.{IsInside, AreLive, IsEntryOf, places_of, AreLiveLinks, relabelled, packed}
 use Rattle.worker_engine.proofs.Laid.{live_without}
 use Rattle.worker_engine.proofs.Written.{relabelled_written, live_ends}
 use Rattle.worker_engine.proofs.Ahead.{relabelled_stands}
@@ -48,10 +48,10 @@ module _ (labels : List ℕ) where
 
 module _ (links : List Link) (labels : List ℕ) where
   abbrev Written : LiveLink → Type 0
-  Written e = (l : Link) → l ≡ get_or links e.place l → IsWritten labels l e
+  Written e = (l : Link) → l ≡ get_or links e.place l → IsEntryOf labels l e
 
   -- the link at the place of one that is left out is quiet
-  left_out : (e : LiveLink) → Written e → label_of labels e.low ≡ label_of labels e.high → (l : Link) → l ≡ get_or links e.place l → IsQuiet labels l
+  left_out : (e : LiveLink) → Written e → label_of labels e.low ≡ label_of labels e.high → (l : Link) → l ≡ get_or links e.place l → IsInside labels l
   left_out e written same l read = let is = written l read in record { labelled = is.high.1.1; one_label = sym is.low.2 ∙ same ∙ is.high.2 }
 
   packed_places : (from to : ℕ) (live : List LiveLink) → All Written live → AreLive links labels from to (places_of live) → AreLive links labels from to (places_of (packed labels live))

@@ -8,13 +8,13 @@ use Rattle.link_key.specs.Link.{EndsUpTo}
 use Rattle.link_key.specs.Labels.{label_of, AreLabels}
 use Rattle.round_theory.specs.Labelling.{IsVertex}
 use Rattle.worker_engine.specs.declared.live.LiveLink.{LiveLink}
-use Rattle.worker_engine.specs.Live.{AreLive, IsWritten, places_of, AreLiveLinks, StayLive, relabelled, packed}
+use Rattle.worker_engine.specs.Live.{AreLive, IsEntryOf, places_of, AreLiveLinks, StayLive, relabelled, packed}
 use Rattle.std.proofs.lemmas.List.{map-append}
 use Rattle.std.proofs.lemmas.List.Elements.{All-append, All-cons, All-nil}
 use Rattle.worker_engine.proofs.BestSoFar.{one_read}
 use Rattle.worker_engine.proofs.Laid.{live_push}
 use Rattle.worker_engine.specs.Batches.{written_at}
-use Rattle.worker_engine.specs.Numbers.{IsMarked, number_of, numbered, named, IsNamed, AreBothMarked, AreBothNamed, AreMarkedUpTo, AreNamedUpTo, HaveNames, HaveMarks, new_name, shown, AreByNumbers, AreListedUpTo}
+use Rattle.worker_engine.specs.Numbers.{IsMarked, number_of, numbered, named, HasItsName, AreBothMarked, AreBothNamed, AreMarkedUpTo, AreNamedUpTo, HaveNames, HaveMarks, new_name, shown, AreByNumbers, AreListedUpTo}
 use Rattle.worker_engine.proofs.Scans.{end_at}
 use Rattle.worker_engine.proofs.Written.{link_at, own_written}
 use Rattle.worker_engine.proofs.Packed.{all_head, all_tail, packed_same, packed_apart, packed_all}
@@ -22,7 +22,7 @@ use Rattle.worker_engine.proofs.Numbering.{numbers_apart}
 
 -- what is written with numbers, by their names, is what was written with labels
 module _ (marks names : List ℕ) (within : (c : ℕ) → IsMarked marks c → number_of marks c ≤ length names) where
-  name_of : (c d : ℕ) → IsMarked marks c → IsNamed marks names c → get_or names (number_of marks c - 1) d ≡ c
+  name_of : (c d : ℕ) → IsMarked marks c → HasItsName marks names c → get_or names (number_of marks c - 1) d ≡ c
   name_of c d is at = get_or_default names (number_of marks c - 1) d 0 (omega (arith, within c is)) ∙ at
 
   pub named_again : (e : LiveLink) → AreBothMarked marks e → AreBothNamed marks names e → named names (numbered marks e) ≡ e
@@ -110,7 +110,7 @@ module _ (links : List Link) (labels marks : List ℕ) (live : List LiveLink) (l
     places = listed.places;
     written = λ k d lt l read.
         let (in_list, is) = listed.written k d lt in
-        subst (IsWritten labels l) (sym (is l read)) (own_written labels labelled l (get_or listed.by_labels k d).place (end_at (length labels) links (get_or listed.by_labels k d).place l ends in_list read));
+        subst (IsEntryOf labels l) (sym (is l read)) (own_written labels labelled l (get_or listed.by_labels k d).place (end_at (length labels) links (get_or listed.by_labels k d).place l ends in_list read));
   }
 
   pub first_listed : (names : List ℕ) → EndsUpTo (length labels) links → AreLabels labels → ((c : ℕ) → IsMarked marks c → number_of marks c ≤ length names)
@@ -122,17 +122,17 @@ module _ (links : List Link) (labels marks : List ℕ) (live : List LiveLink) (l
 -- the next list
 module _ (labels marks names names' changed : List ℕ) (marked : HaveMarks labels marks names)
     (number_is : (i : ℕ) → i < length names → get_or changed i 0 ≡ number_of marks (new_name labels (get_or names i 0)))
-    (name_is : (i : ℕ) → i < length names → IsNamed marks names' (new_name labels (get_or names i 0))) where
+    (name_is : (i : ℕ) → i < length names → HasItsName marks names' (new_name labels (get_or names i 0))) where
   -- of the label of a number's name
   at_end : (x : ℕ) → IsVertex (length names) x → IsVertex (length labels) (get_or names (x - 1) x)
-      → (label_of changed x ≡ number_of marks (label_of labels (get_or names (x - 1) x))) × IsMarked marks (label_of labels (get_or names (x - 1) x)) × IsNamed marks names' (label_of labels (get_or names (x - 1) x))
+      → (label_of changed x ≡ number_of marks (label_of labels (get_or names (x - 1) x))) × IsMarked marks (label_of labels (get_or names (x - 1) x)) × HasItsName marks names' (label_of labels (get_or names (x - 1) x))
   at_end x vertex name_vertex =
       let i = x - 1 in
       let within : i < length names = omega (arith, vertex) in
       let v = get_or names i x in
       let same : get_or names i 0 ≡ v = get_or_default names i 0 x within in
       let is : new_name labels (get_or names i 0) ≡ label_of labels v = ap (new_name labels) same ∙ get_or_default labels (v - 1) 1 0 (omega (arith, name_vertex)) in
-      (number_is i within ∙ ap (number_of marks) is, subst (IsMarked marks) is (marked i within), subst (IsNamed marks names') is (name_is i within))
+      (number_is i within ∙ ap (number_of marks) is, subst (IsMarked marks) is (marked i within), subst (HasItsName marks names') is (name_is i within))
 
   abbrev Ends : LiveLink → Type 0
   Ends l = IsVertex (length names) l.low × IsVertex (length names) l.high
@@ -164,7 +164,7 @@ module _ (labels marks names names' changed : List ℕ) (marked : HaveMarks labe
       ]
 
   abbrev Facts : ℕ → ℕ → Type 0
-  Facts x v = (label_of changed x ≡ number_of marks (label_of labels v)) × IsMarked marks (label_of labels v) × IsNamed marks names' (label_of labels v)
+  Facts x v = (label_of changed x ≡ number_of marks (label_of labels v)) × IsMarked marks (label_of labels v) × HasItsName marks names' (label_of labels v)
 
   pub next_by_numbers : (live : List LiveLink) → HaveNames names live → All Vertices (shown names live) → AreByNumbers marks names' (packed labels (shown names live)) (packed changed live)
   next_by_numbers live have ends = record {

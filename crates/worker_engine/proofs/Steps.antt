@@ -21,7 +21,7 @@ use Rattle.worker_engine.specs.declared.session.ServeFault.TheVariants.{Read, Wr
 use Rattle.worker_engine.specs.declared.session.Written.{Written}
 use Rattle.worker_engine.specs.declared.session.Written.TheVariants.{AFault}
 use Rattle.worker_engine.specs.Serving.{Shelf, empty_shelf, shelf_with, shelf_after, MayReply, MayFollow, AreReplies, IsShardFrame}
-use Rattle.worker_engine.specs.Served.{answers_in, faults_in, Heard, EndsWell, EndsAtRead, EndsAtWrite, EndsAtMemory, EndsAtLimit, EndsBy, IsSortOf, CountsReplies, AreAnswersOrFaults, HearsNext, StopsBy, StandFor, WroteFor, CutOff, CutFor, Ungreeted}
+use Rattle.worker_engine.specs.Served.{answers_in, faults_in, HeardFrames, ServesToEnd, EndsAtRead, EndsAtWrite, EndsAtMemory, EndsAtLimit, EndsBy, IsSortOf, CountsReplies, AreAnswersOrFaults, HearsNext, HearsNone, StandFor, WroteFor, CutOff, CutFor, Ungreeted}
 use Rattle.worker_engine.proofs.Versions.{this_version, all_heard}
 use Rattle.worker_engine.proofs.Replying.{kept_reply, replies_more, shelf_after-append}
 
@@ -42,7 +42,7 @@ pub record SoFar (worker : ℕ) (shelf : Shelf) (served : Served) (source source
   pub took : Took 0 (text_of (HelloFrame VERSION worker) ++ texts_of replies) sink sink'
 
 -- frames and replies to them, as a session owes them
-abbrev heard_of : (worker : ℕ) (frames replies : List FrameValue) → AreLawful frames → AreReplies empty_shelf frames replies → Heard worker
+abbrev heard_of : (worker : ℕ) (frames replies : List FrameValue) → AreLawful frames → AreReplies empty_shelf frames replies → HeardFrames worker
 heard_of worker frames replies lawful answered = record {
   frames = frames;
   lawful = lawful;
@@ -113,7 +113,7 @@ reply_kinds shelf (FaultFrame a b c) replies none = subst AreAnswersOrFaults (sy
 
 module _ (worker : ℕ) (source source' source'' : SourceState) (sink sink' sink'' : SinkState) where
   -- the source ended
-  pub ends_well : (shelf : Shelf) (served : Served) → SoFar worker shelf served source source' sink sink' → IsReadRefused Ended source' source'' → EndsWell worker served source source'' sink sink'
+  pub ends_well : (shelf : Shelf) (served : Served) → SoFar worker shelf served source source' sink sink' → IsReadRefused Ended source' source'' → ServesToEnd worker served source source'' sink sink'
   ends_well shelf served so_far refused = record {
     heard = heard_of worker so_far.frames so_far.replies so_far.lawful so_far.answered;
     counts = record { frames = so_far.frames_are; answers = so_far.answers_are; faults = so_far.faults_are };
@@ -264,20 +264,20 @@ fault_cut_for (Err e) replies r t k s s' stand cut = cut_for replies (FaultFrame
 
 -- no frame was heard
 module _ (worker limit : ℕ) (source source' source'' : SourceState) (sink sink' : SinkState) (shelf : Shelf) (served : Served) (so_far : SoFar worker shelf served source source' sink sink') where
-  pub stops_well : (fault : ServeFault) (result : Result Served ServeFault) → StopsBy fault source' source'' → IfOk result (λ counts. (counts ≡ served) × (fault ≡ Read Ended))
-      → IfOk result (λ counts. EndsWell worker counts source source'' sink sink')
+  pub stops_well : (fault : ServeFault) (result : Result Served ServeFault) → HearsNone fault source' source'' → IfOk result (λ counts. (counts ≡ served) × (fault ≡ Read Ended))
+      → IfOk result (λ counts. ServesToEnd worker counts source source'' sink sink')
   stops_well fault (Ok counts) stops (same, is) =
-      subst (λ (x : Served). EndsWell worker x source source'' sink sink') (sym same)
-      (ends_well worker source source' source'' sink sink' sink' shelf served so_far (subst (λ (f : ServeFault). StopsBy f source' source'') is stops))
+      subst (λ (x : Served). ServesToEnd worker x source source'' sink sink') (sym same)
+      (ends_well worker source source' source'' sink sink' sink' shelf served so_far (subst (λ (f : ServeFault). HearsNone f source' source'') is stops))
   stops_well fault (Err e) stops over = tt
 
-  ends_by : (fault : ServeFault) → StopsBy fault source' source'' → fault ≢ Read Ended → EndsBy worker limit fault source source'' sink sink'
+  ends_by : (fault : ServeFault) → HearsNone fault source' source'' → fault ≢ Read Ended → EndsBy worker limit fault source source'' sink sink'
   ends_by (Read fault) refused inside = ends_at_read worker source source' source'' sink sink' sink' shelf served fault (λ same. inside (ap Read same)) so_far refused
   ends_by Memory (v, is, lawful, gave) inside = ends_at_shard worker source source' source'' sink sink' sink' shelf served v is lawful so_far gave
   ends_by Write never inside = absurd never
   ends_by TooMany never inside = absurd never
 
-  pub stops_by : (fault : ServeFault) (result : Result Served ServeFault) → StopsBy fault source' source'' → IfErr result (λ why. (why ≡ fault) × (fault ≢ Read Ended))
+  pub stops_by : (fault : ServeFault) (result : Result Served ServeFault) → HearsNone fault source' source'' → IfErr result (λ why. (why ≡ fault) × (fault ≢ Read Ended))
       → IfErr result (λ why. EndsBy worker limit why source source'' sink sink')
   stops_by fault (Ok counts) stops over = tt
   stops_by fault (Err why) stops (same, inside) = subst (λ (x : ServeFault). EndsBy worker limit x source source'' sink sink') (sym same) (ends_by fault stops inside)

@@ -10,14 +10,14 @@ use Rattle.worker_engine.specs.declared.scanning.Best.{Best}
 use Rattle.worker_engine.specs.declared.live.LiveLink.{LiveLink}
 use Rattle.worker_engine.specs.Scanning.{Says, AreBestUpTo, TakesIn}
 use Rattle.worker_engine.specs.Batches.{written_at}
-use Rattle.worker_engine.specs.Live.{AreLive, HaveOneLabel, IsWritten, places_of, AreLiveLinks, StayLive, relabelled}
+use Rattle.worker_engine.specs.Live.{AreLive, HaveOneLabel, IsEntryOf, places_of, AreLiveLinks, StayLive, relabelled}
 use Rattle.worker_engine.proofs.Laid.{one_label_coarser, live_coarser, live_first, live_next, live_within, live_end, live_push, front_is_quiet}
 use Rattle.worker_engine.proofs.BestSoFar.{one_read}
 use Rattle.worker_engine.proofs.Scans.{bests_stay}
 use Rattle.worker_engine.proofs.Outdone.{bests_over}
 
 -- what is written of a link stays right under labels that coarsen
-pub written_coarser : (labels finer : List ℕ) (l : Link) (e : LiveLink) → Coarsens labels finer → IsWritten finer l e → IsWritten labels l e
+pub written_coarser : (labels finer : List ℕ) (l : Link) (e : LiveLink) → Coarsens labels finer → IsEntryOf finer l e → IsEntryOf labels l e
 written_coarser labels finer l e coarsens is = record {
   weight = is.weight;
   low = one_label_coarser labels finer e.low l.low coarsens is.low;
@@ -39,10 +39,10 @@ module _ (labels : List ℕ) (are : AreLabels labels) where
   label_stands u v (at_u, at_v, same) = (label_vertex u at_u, at_v, (are.labelled u at_u.0 at_u.1).own ∙ same)
 
   -- the labels of what is written of a link may stand in its place
-  pub relabelled_written : (l : Link) (e : LiveLink) → IsWritten labels l e → IsWritten labels l (relabelled labels e)
+  pub relabelled_written : (l : Link) (e : LiveLink) → IsEntryOf labels l e → IsEntryOf labels l (relabelled labels e)
   relabelled_written l e is = record { weight = is.weight; low = label_stands e.low l.low is.low; high = label_stands e.high l.high is.high }
 
-  pub own_written : (l : Link) (place : ℕ) → l.high ≤ length labels → IsWritten labels l (written_at labels l place)
+  pub own_written : (l : Link) (place : ℕ) → l.high ≤ length labels → IsEntryOf labels l (written_at labels l place)
   own_written l place ends =
       let at_low : IsVertex (length labels) l.low = (l.from_one, omega (arith, l.ascending, ends)) in
       let at_high : IsVertex (length labels) l.high = (omega (arith, l.from_one, l.ascending), ends) in
@@ -92,7 +92,7 @@ module _ (links : List Link) (labels : List ℕ) where
       place_in_list : here.place < length links
       place_in_list = subst (λ p. p < length links) place_is (live_within links labels 0 (length links) (places_of old) i 0 are.places in_places).1
 
-      pub written_here : (l : Link) × (l ≡ get_or links here.place l) × IsWritten labels l here
+      pub written_here : (l : Link) × (l ≡ get_or links here.place l) × IsEntryOf labels l here
       written_here = let (l, read) = link_at links here.place place_in_list in (l, read, are.written i d within l read)
 
       pub low_is_vertex : IsVertex (length labels) here.low
@@ -132,7 +132,7 @@ module _ (links : List Link) (labels : List ℕ) where
   -- live links before a place of the list
   pub record AreWrittenBefore (to : ℕ) (live : List LiveLink) : Type 0 where
     pub places : AreLive links labels 0 to (places_of live)
-    pub written : All (λ e. (l : Link) → l ≡ get_or links e.place l → IsWritten labels l e) live
+    pub written : All (λ e. (l : Link) → l ≡ get_or links e.place l → IsEntryOf labels l e) live
 
   -- one more is written behind them
   module _ (place : ℕ) (l : Link) (within : place < length links) (read : l ≡ get_or links place l) (ends : l.high ≤ length labels) (live : List LiveLink) (before : AreWrittenBefore place live) where
@@ -140,11 +140,11 @@ module _ (links : List Link) (labels : List ℕ) where
     written_more are = record {
       places = subst (AreLive links labels 0 (place + 1)) (sym (map-append (λ (e : LiveLink). e.place) live (written_at labels l place ∷ []))) (live_push links labels 0 place (places_of live) before.places);
       written = All-append P live (written_at labels l place ∷ []) before.written
-          (All-cons P (written_at labels l place) [] (λ k k_read. subst (λ m. IsWritten labels m (written_at labels l place)) (one_read links place l k within read k_read) (own_written labels are l place ends)) (All-nil P));
+          (All-cons P (written_at labels l place) [] (λ k k_read. subst (λ m. IsEntryOf labels m (written_at labels l place)) (one_read links place l k within read k_read) (own_written labels are l place ends)) (All-nil P));
     }
       where
         P : LiveLink → Type 0
-        P e = (k : Link) → k ≡ get_or links e.place k → IsWritten labels k e
+        P e = (k : Link) → k ≡ get_or links e.place k → IsEntryOf labels k e
 
   -- or left out
   pub written_left_out : (place : ℕ) (live : List LiveLink) → AreWrittenBefore place live → StayLive links labels live place → AreWrittenBefore (place + 1) live

@@ -22,7 +22,7 @@ abbrev pub HaveOneLabel : List ℕ → ℕ → ℕ → Type 0
 HaveOneLabel labels u v = IsVertex (length labels) u × IsVertex (length labels) v × (label_of labels u ≡ label_of labels v)
 
 -- both ends of the link have one label
-pub record IsQuiet (labels : List ℕ) (l : Link) : Type 0 where
+pub record IsInside (labels : List ℕ) (l : Link) : Type 0 where
   pub labelled : l.high ≤ length labels
   pub one_label : label_of labels l.low ≡ label_of labels l.high
 
@@ -42,7 +42,7 @@ pub record IsOutdone (links : List Link) (labels : List ℕ) (from q : ℕ) (l :
 
 -- the link at place q may be laid aside, behind the place just before `from`
 abbrev pub IsAside : List Link → List ℕ → ℕ → ℕ → Link → Type 0
-IsAside links labels from q l = IsQuiet labels l ⊎ IsOutdone links labels from q l
+IsAside links labels from q l = IsInside labels l ⊎ IsOutdone links labels from q l
 
 -- so may those at the places from `from` on before `to`
 abbrev pub AreAside : List Link → List ℕ → ℕ → ℕ → Type 0
@@ -54,7 +54,7 @@ AreLive links labels from to [] = (from ≤ to) × AreAside links labels from to
 AreLive links labels from to (p ∷ places) = (from ≤ p) × AreAside links labels from p × AreLive links labels (p + 1) to places
 
 -- what is written of a link: its weight, and for each end a vertex of that end's label
-pub record IsWritten (labels : List ℕ) (l : Link) (written : LiveLink) : Type 0 where
+pub record IsEntryOf (labels : List ℕ) (l : Link) (written : LiveLink) : Type 0 where
   pub weight : written.weight ≡ l.weight
   pub low : HaveOneLabel labels written.low l.low
   pub high : HaveOneLabel labels written.high l.high
@@ -69,7 +69,7 @@ live_place links live i = slice_index_or (places_of live) i (length links)
 -- live links: each is written of the link at its place, and the links at all other places may be laid aside
 pub record AreLiveLinks (links : List Link) (labels : List ℕ) (live : List LiveLink) : Type 0 where
   pub places : AreLive links labels 0 (length links) (places_of live)
-  pub written : All (λ written. (l : Link) → l ≡ slice_index_or links written.place l → IsWritten labels l written) live
+  pub written : All (λ written. (l : Link) → l ≡ slice_index_or links written.place l → IsEntryOf labels l written) live
 
 -- the live places before a place are those before the next: the link there may be laid aside
 abbrev pub StayLive : List Link → List ℕ → List LiveLink → ℕ → Type 0

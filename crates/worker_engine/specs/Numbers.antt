@@ -43,8 +43,8 @@ abbrev pub number_of : List ℕ → ℕ → ℕ
 number_of marks c = marked_to marks (c - 1) + 1
 
 -- the label stands by its number among the names
-abbrev pub IsNamed : List ℕ → List ℕ → ℕ → Type 0
-IsNamed marks names c = slice_index names (number_of marks c - 1) ≡ c
+abbrev pub HasItsName : List ℕ → List ℕ → ℕ → Type 0
+HasItsName marks names c = slice_index names (number_of marks c - 1) ≡ c
 
 -- what is written of a link by labels, with their numbers in place of them
 abbrev pub numbered : List ℕ → LiveLink → LiveLink
@@ -55,7 +55,7 @@ abbrev pub AreBothMarked : List ℕ → LiveLink → Type 0
 AreBothMarked marks l = IsMarked marks l.low × IsMarked marks l.high
 
 abbrev pub AreBothNamed : List ℕ → List ℕ → LiveLink → Type 0
-AreBothNamed marks names l = IsNamed marks names l.low × IsNamed marks names l.high
+AreBothNamed marks names l = HasItsName marks names l.low × HasItsName marks names l.high
 
 -- the name of a number; the number itself where it has none
 abbrev pub name_of : List ℕ → ℕ → ℕ
@@ -77,7 +77,7 @@ AreMarkedUpTo to links labels marks = (q : ℕ) (l : Link) → q < to → l ≡ 
 -- and stand by their numbers among the names
 abbrev pub AreNamedUpTo : ℕ → List Link → List ℕ → List ℕ → List ℕ → Type 0
 AreNamedUpTo to links labels marks names = (q : ℕ) (l : Link) → q < to → l ≡ slice_index_or links q l
-    → IsNamed marks names (label_of labels l.low) × IsNamed marks names (label_of labels l.high)
+    → HasItsName marks names (label_of labels l.low) × HasItsName marks names (label_of labels l.high)
 
 -- each number is that of a label that stands there
 abbrev pub HaveNames : List ℕ → List LiveLink → Type 0
@@ -103,8 +103,8 @@ IsListed names live = (names ≡ []) ⊎ HaveNames names live
 pub record HasNumbers (labels marks names : List ℕ) (l : Link) : Type 0 where
   pub low_marked : IsMarked marks (label_of labels l.low)
   pub high_marked : IsMarked marks (label_of labels l.high)
-  pub low_named : IsNamed marks names (label_of labels l.low)
-  pub high_named : IsNamed marks names (label_of labels l.high)
+  pub low_named : HasItsName marks names (label_of labels l.low)
+  pub high_named : HasItsName marks names (label_of labels l.high)
 
 -- so it is of each link whose ends don't have one label
 abbrev pub AreNumbered : List Link → List ℕ → List ℕ → List ℕ → Type 0

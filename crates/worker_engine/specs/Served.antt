@@ -36,28 +36,28 @@ faults_in [] = 0
 faults_in (v ∷ frames) = fault_bit v + faults_in frames
 
 -- the whole lawful frames that a session of this version heard, and what it owes for them
-pub record Heard (worker : ℕ) : Type 0 where
+pub record HeardFrames (worker : ℕ) : Type 0 where
   pub frames : List FrameValue
   pub lawful : AreLawful frames
   pub out : List ℕ
   pub serves : Serves VERSION worker (texts_of frames) out
 
 -- the counts are those of the frames heard, and of the answers and faults owed
-pub record AreCounts (worker : ℕ) (heard : Heard worker) (served : Served) : Type 0 where
+pub record AreCounts (worker : ℕ) (heard : HeardFrames worker) (served : Served) : Type 0 where
   pub frames : served.frames ≡ length heard.frames
   pub answers : served.answers ≡ answers_in heard.serves.replies
   pub faults : served.faults ≡ faults_in heard.serves.replies
 
 -- the source ended behind whole lawful frames, and what is owed for them was written
-pub record EndsWell (worker : ℕ) (served : Served) (source source' : SourceState) (sink sink' : SinkState) : Type 0 where
-  pub heard : Heard worker
+pub record ServesToEnd (worker : ℕ) (served : Served) (source source' : SourceState) (sink sink' : SinkState) : Type 0 where
+  pub heard : HeardFrames worker
   pub counts : AreCounts worker heard served
   pub gave : Gave 0 1 (texts_of heard.frames) source source'
   pub took : Took 0 heard.out sink sink'
 
 -- no frame was read behind those that were heard, and what is owed for these was written
 pub record EndsAtRead (worker : ℕ) (fault : FrameFault) (source source' : SourceState) (sink sink' : SinkState) : Type 0 where
-  pub heard : Heard worker
+  pub heard : HeardFrames worker
   pub bytes : List ℕ
   pub inside : fault ≢ Ended
   pub refused : StreamRefused fault bytes
@@ -66,7 +66,7 @@ pub record EndsAtRead (worker : ℕ) (fault : FrameFault) (source source' : Sour
 
 -- a write failed: a prefix of what is owed was written, and not all of it
 pub record EndsAtWrite (worker : ℕ) (source source' : SourceState) (sink sink' : SinkState) : Type 0 where
-  pub heard : Heard worker
+  pub heard : HeardFrames worker
   pub count : ℕ
   pub short : count < length heard.out
   pub gave : Gave 0 0 (texts_of heard.frames) source source'
@@ -78,7 +78,7 @@ EndWithShard frames = (before : List FrameValue) × (number : ℕ) × (links : L
 
 -- memory was wanting for the hello, of which nothing was written then, or for a shard: what is owed was written
 pub record EndsAtMemory (worker : ℕ) (source source' : SourceState) (sink sink' : SinkState) : Type 0 where
-  pub heard : Heard worker
+  pub heard : HeardFrames worker
   pub written : List ℕ
   pub cause : ((heard.frames ≡ []) × (written ≡ []))
       ⊎ ((written ≡ heard.out) × EndWithShard heard.frames)
@@ -87,7 +87,7 @@ pub record EndsAtMemory (worker : ℕ) (source source' : SourceState) (sink sink
 
 -- as many frames as the limit were heard, and what is owed for them was written
 pub record EndsAtLimit (worker limit : ℕ) (source source' : SourceState) (sink sink' : SinkState) : Type 0 where
-  pub heard : Heard worker
+  pub heard : HeardFrames worker
   pub all : length heard.frames ≡ limit
   pub gave : Gave 0 0 (texts_of heard.frames) source source'
   pub took : Took 0 heard.out sink sink'
@@ -125,10 +125,10 @@ pub record HearsNext (replies : List FrameValue) (shelf shelf' : Shelf) (source 
   pub may : MayFollow shelf v replies
 
 -- no frame was heard: none could be read, or a shard came that there was no memory to keep
-abbrev pub StopsBy : ServeFault → SourceState → SourceState → Type 0
-StopsBy (Read fault) source source' = IsReadRefused fault source source'
-StopsBy Memory source source' = (v : FrameValue) × IsShardFrame v × IsLawful v × Gave 0 0 (text_of v) source source'
-StopsBy fault source source' = ⊥
+abbrev pub HearsNone : ServeFault → SourceState → SourceState → Type 0
+HearsNone (Read fault) source source' = IsReadRefused fault source source'
+HearsNone Memory source source' = (v : FrameValue) × IsShardFrame v × IsLawful v × Gave 0 0 (text_of v) source source'
+HearsNone fault source source' = ⊥
 
 -- what stands for replies: they themselves, or a fault for want of memory in place of an answer
 abbrev pub StandFor : List FrameValue → List FrameValue → Type 0

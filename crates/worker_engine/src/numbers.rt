@@ -8,7 +8,7 @@ ghost use Rattle.std.specs.Prelude.{◌≡◌, ℕ, ◌+◌, ◌-◌, ◌/◌, �
 ghost use Rattle.link_key.specs.Link.{EndsUpTo};
 ghost use Rattle.link_key.specs.Labels.{AreLabels};
 ghost use Rattle.worker_engine.specs.declared.live.LiveLink.{LiveLink};
-ghost use Rattle.worker_engine.specs.Numbers.{no_marks, marks_of, IsMarked, marked_in, AreCounted, number_of, numbered, IsNamed, AreMarkedUpTo, AreBothMarked, AreBothNamed, HaveMarks, new_name};
+ghost use Rattle.worker_engine.specs.Numbers.{no_marks, marks_of, IsMarked, marked_in, AreCounted, number_of, numbered, HasItsName, AreMarkedUpTo, AreBothMarked, AreBothNamed, HaveMarks, new_name};
 
 use crate::live::LiveLink;
 use link_key::Link;
@@ -161,7 +161,7 @@ pub(crate) fn number_each<A: Allocator + Copy>(
     requires names { length names.old ≡ marked_in (marks_of numbers.now) (length numbers.now) }
     ensures numbered { (k : ℕ) (d : LiveLink) → k < count → slice_index_or batch.new k d ≡ numbered (marks_of numbers.now) (slice_index_or batch.old k d) }
     ensures named { (k : ℕ) (d : LiveLink) → k < count → AreBothNamed (marks_of numbers.now) names.new (slice_index_or batch.old k d) }
-    ensures more { (c : ℕ) → IsMarked (marks_of numbers.now) c → IsNamed (marks_of numbers.now) names.old c → IsNamed (marks_of numbers.now) names.new c }
+    ensures more { (c : ℕ) → IsMarked (marks_of numbers.now) c → HasItsName (marks_of numbers.now) names.old c → HasItsName (marks_of numbers.now) names.new c }
 {
     for i in 0..count {
         let link = batch[i];
@@ -211,7 +211,7 @@ pub(crate) fn number_names<A: Allocator + Copy>(
     requires names { length names.old ≡ marked_in (marks_of numbers.now) (length numbers.now) }
     requires room { length changed.old ≡ length old.now }
     ensures numbered { (i : ℕ) → i < length old.now → slice_index changed.new i ≡ number_of (marks_of numbers.now) (new_name labels.now (slice_index old.now i)) }
-    ensures named { (i : ℕ) → i < length old.now → IsNamed (marks_of numbers.now) names.new (new_name labels.now (slice_index old.now i)) }
+    ensures named { (i : ℕ) → i < length old.now → HasItsName (marks_of numbers.now) names.new (new_name labels.now (slice_index old.now i)) }
 {
     for i in 0..old.len() {
         changed[i] = numbers.name(new_name(labels, old[i]), names);

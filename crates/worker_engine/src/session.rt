@@ -5,7 +5,7 @@ ghost use Rattle.frames.specs.FrameValue.{HelloFrame, FaultFrame};
 ghost use Rattle.frames.specs.FrameText.{text_of};
 ghost use Rattle.frames.specs.FrameStream.{AreLawful};
 ghost use Rattle.worker_engine.specs.Serving.{replies_in};
-ghost use Rattle.worker_engine.specs.Served.{EndsWell, EndsBy, CountsReplies, AreAnswersOrFaults, WroteFor, CutFor, CutOff, Ungreeted};
+ghost use Rattle.worker_engine.specs.Served.{ServesToEnd, EndsBy, CountsReplies, AreAnswersOrFaults, WroteFor, CutFor, CutOff, Ungreeted};
 ghost use Rattle.worker_engine.specs.declared.session.ServeFault.TheVariants.{Read, Write};
 ghost use Rattle.frames.specs.declared.fault.FrameFault.TheVariants.{Ended};
 ghost use Rattle.worker_engine.specs.declared.session.Written.TheVariants.{AFault};
@@ -81,7 +81,7 @@ pub fn serve_upto<R: Threads + Sync, A: Allocator + Copy + Send + Sync, S: Sourc
     requires worker { worker < MAX_WORKERS }
     requires can_read { S.can_read source.old }
     requires can_write { W.can_write sink.old }
-    ensures ends_well { IfOk result (λ served. EndsWell worker served
+    ensures ends_well { IfOk result (λ served. ServesToEnd worker served
         (S.state source.old) (S.state source.new) (W.state sink.old) (W.state sink.new)) }
     ensures ends_by { IfErr result (λ fault. EndsBy worker frames fault
         (S.state source.old) (S.state source.new) (W.state sink.old) (W.state sink.new)) }
@@ -116,7 +116,7 @@ pub fn serve<R: Threads + Sync, A: Allocator + Copy + Send + Sync, S: Source, W:
     requires worker { worker < MAX_WORKERS }
     requires can_read { S.can_read source.old }
     requires can_write { W.can_write sink.old }
-    ensures ends_well { IfOk result (λ served. EndsWell worker served
+    ensures ends_well { IfOk result (λ served. ServesToEnd worker served
         (S.state source.old) (S.state source.new) (W.state sink.old) (W.state sink.new)) }
     ensures ends_by { IfErr result (λ fault. EndsBy worker (2 ^ 32) fault
         (S.state source.old) (S.state source.new) (W.state sink.old) (W.state sink.new)) }

@@ -2,7 +2,7 @@
 ghost use Rattle.std.specs.Prelude.{IfOk, IfErr, OnOk};
 ghost use Rattle.frames.specs.FrameStream.{AreLawful};
 ghost use Rattle.worker_engine.specs.Serving.{shelf_of, replies_in};
-ghost use Rattle.worker_engine.specs.Served.{HearsNext, StopsBy};
+ghost use Rattle.worker_engine.specs.Served.{HearsNext, HearsNone};
 
 use super::threads::reply_under_par;
 use super::{Ask, Engine};
@@ -25,7 +25,7 @@ impl<A: Allocator + Copy + Send + Sync> Engine<A> {
         ensures hears { IfOk result
             (λ reply. HearsNext (replies_in reply) (shelf_of self.old) (shelf_of self.new) (S.state source.old) (S.state source.new)) }
         ensures lawful { IfOk result (λ reply. AreLawful (replies_in reply)) }
-        ensures stops { IfErr result (λ fault. StopsBy fault (S.state source.old) (S.state source.new)) }
+        ensures stops { IfErr result (λ fault. HearsNone fault (S.state source.old) (S.state source.new)) }
         ensures again { OnOk result (S.can_read source.new) }
     {
         match read_next(alloc, source, self.labels.as_slice()) {

@@ -2,7 +2,7 @@ use Rattle.std.proofs.Common.{pos, ◌≡◌, ◌≢◌, ℕ, ◌<◌, length, g
 use Rattle.std.proofs.lemmas.Bool.{cases_lt}
 use Rattle.std.proofs.lemmas.List.{get_or_default, get_or-set_same, get_or-set_other}
 use Rattle.worker_engine.specs.declared.live.LiveLink.{LiveLink}
-use Rattle.worker_engine.specs.Numbers.{marks_of, numbered, IsMarked, IsNamed, AreBothMarked, AreBothNamed}
+use Rattle.worker_engine.specs.Numbers.{marks_of, numbered, IsMarked, HasItsName, AreBothMarked, AreBothNamed}
 use Rattle.worker_engine.proofs.Numbering.{number_has_place, named_here, named_stays}
 use Rattle.worker_engine.proofs.numbers.number_each.Goals as goal
 
@@ -23,15 +23,15 @@ loop-i-preserved g c =
     let marked = subst (AreBothMarked marks) (sym l_is) (c.requires.marked i default (omega (arith, c.loop-i-test.true))) in
     let place_low = number_has_place c.args.numbers.now c.loop-i.names l.low (omega (arith, c.requires.names)) marked.0 in
     let place_high = number_has_place c.args.numbers.now c.name-low.new.names l.high (omega (arith, c.requires.names)) marked.1 in
-    let stays : (d : ℕ) → IsMarked marks d → IsNamed marks c.loop-i.names d → IsNamed marks c.name-high.new.names d =
+    let stays : (d : ℕ) → IsMarked marks d → HasItsName marks c.loop-i.names d → HasItsName marks c.name-high.new.names d =
     λ d is at.
-    subst (λ n. IsNamed marks n d) (sym c.name-high.ensures.named) (named_stays marks c.name-low.new.names l.high marked.1 d is
-    (subst (λ n. IsNamed marks n d) (sym c.name-low.ensures.named) (named_stays marks c.loop-i.names l.low marked.0 d is at))) in
-    let low_here : IsNamed marks c.name-high.new.names l.low =
-    subst (λ n. IsNamed marks n l.low) (sym c.name-high.ensures.named) (named_stays marks c.name-low.new.names l.high marked.1 l.low marked.0
-    (subst (λ n. IsNamed marks n l.low) (sym c.name-low.ensures.named) (named_here marks c.loop-i.names l.low marked.0 place_low))) in
-    let high_here : IsNamed marks c.name-high.new.names l.high =
-    subst (λ n. IsNamed marks n l.high) (sym c.name-high.ensures.named) (named_here marks c.name-low.new.names l.high marked.1 place_high) in
+    subst (λ n. HasItsName marks n d) (sym c.name-high.ensures.named) (named_stays marks c.name-low.new.names l.high marked.1 d is
+    (subst (λ n. HasItsName marks n d) (sym c.name-low.ensures.named) (named_stays marks c.loop-i.names l.low marked.0 d is at))) in
+    let low_here : HasItsName marks c.name-high.new.names l.low =
+    subst (λ n. HasItsName marks n l.low) (sym c.name-high.ensures.named) (named_stays marks c.name-low.new.names l.high marked.1 l.low marked.0
+    (subst (λ n. HasItsName marks n l.low) (sym c.name-low.ensures.named) (named_here marks c.loop-i.names l.low marked.0 place_low))) in
+    let high_here : HasItsName marks c.name-high.new.names l.high =
+    subst (λ n. HasItsName marks n l.high) (sym c.name-high.ensures.named) (named_here marks c.name-low.new.names l.high marked.1 place_high) in
     record {
       numbered = λ k d lt. elim (cases_lt k i) [
         | inl less ↦ let other : k ≢ i = omega (arith, less) in get_or-set_other batch i k new d other ∙ seen.numbered k d less

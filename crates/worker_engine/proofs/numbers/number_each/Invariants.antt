@@ -1,6 +1,6 @@
 use Rattle.std.proofs.Common.{◌≡◌, ℕ, ◌<◌, ◌≤◌, get_or}
 use Rattle.worker_engine.specs.declared.live.LiveLink.{LiveLink}
-use Rattle.worker_engine.specs.Numbers.{marks_of, numbered, IsMarked, IsNamed, AreBothNamed}
+use Rattle.worker_engine.specs.Numbers.{marks_of, numbered, IsMarked, HasItsName, AreBothNamed}
 use Rattle.worker_engine.proofs.numbers.number_each.Given as goal
 
 -- those before the next one are written with numbers, and the others stand
@@ -9,5 +9,5 @@ invariant-loop-i g l = record {
   numbered : (k : ℕ) (d : LiveLink) → k < l.i → get_or l.batch k d ≡ numbered (marks_of l.numbers) (get_or l.initial.batch k d);
   rest : (k : ℕ) (d : LiveLink) → l.i ≤ k → get_or l.batch k d ≡ get_or l.initial.batch k d;
   named : (k : ℕ) (d : LiveLink) → k < l.i → AreBothNamed (marks_of l.numbers) l.names (get_or l.initial.batch k d);
-  more : (c : ℕ) → IsMarked (marks_of l.numbers) c → IsNamed (marks_of l.numbers) l.initial.names c → IsNamed (marks_of l.numbers) l.names c;
+  more : (c : ℕ) → IsMarked (marks_of l.numbers) c → HasItsName (marks_of l.numbers) l.initial.names c → HasItsName (marks_of l.numbers) l.names c;
 }

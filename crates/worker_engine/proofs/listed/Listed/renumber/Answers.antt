@@ -1,7 +1,7 @@
 use Rattle.std.proofs.Common.{◌≡◌, ℕ, ◌<◌, List, length, get_or, take, sym, ap, ◌∙◌, subst, arith}
 use Rattle.worker_engine.specs.declared.live.LiveLink.{LiveLink}
 use Rattle.worker_engine.specs.Live.{packed}
-use Rattle.worker_engine.specs.Numbers.{marks_of, number_of, IsNamed, new_name, shown, AreByNumbers}
+use Rattle.worker_engine.specs.Numbers.{marks_of, number_of, HasItsName, new_name, shown, AreByNumbers}
 use Rattle.worker_engine.proofs.ByNumbers.{written_back}
 use Rattle.worker_engine.proofs.Relisting.{next_by_numbers}
 use Rattle.worker_engine.proofs.listed.Listed.renumber.Goals as goal
@@ -20,8 +20,8 @@ returns-clause-numbered g c =
     c.as_slice-2.ensures.value ∙ written_back c.resize-2.new.self.len c.resize-2.new.self.items changed (omega (arith, c.number_names.auto.changed, c.as_mut_slice-2.ensures.len)) in
     let number_is : (i : ℕ) → i < length names → get_or changed i 0 ≡ number_of marks (new_name labels (get_or names i 0)) =
     subst (λ (t : List ℕ). (i : ℕ) → i < length t → get_or changed i 0 ≡ number_of marks (new_name labels (get_or t i 0))) old_is c.number_names.ensures.numbered in
-    let name_is : (i : ℕ) → i < length names → IsNamed marks names' (new_name labels (get_or names i 0)) =
-    subst (λ (t : List ℕ). (i : ℕ) → i < length t → IsNamed marks names' (new_name labels (get_or t i 0))) old_is c.number_names.ensures.named in
+    let name_is : (i : ℕ) → i < length names → HasItsName marks names' (new_name labels (get_or names i 0)) =
+    subst (λ (t : List ℕ). (i : ℕ) → i < length t → HasItsName marks names' (new_name labels (get_or t i 0))) old_is c.number_names.ensures.named in
     let links_is : c.truncate.new.self.items ≡ packed changed live =
     c.truncate.ensures.items
     ∙ ap (λ (t : List LiveLink). take c.pack-kept.result t) (written_back c.args.self.now.links.len live c.pack-kept.new.live (omega (arith, c.pack-kept.auto.live, c.as_mut_slice-3.ensures.len)))
