@@ -3,7 +3,7 @@ use Rattle.std.proofs.Common.{◌≡◌, ℕ, zero, suc, ◌+◌, ◌*◌, ◌<�
 use Rattle.std.specs.Prelude.{All, Contains, Option, Some, None}
 use Rattle.std.proofs.Math.Nat.{suc-mul}
 use Rattle.std.proofs.lemmas.List.Folds.{sum_by-replicate}
-use Rattle.std.proofs.lemmas.List.Elements.{All-append, Contains-append_left, Contains-append_right, Contains-append_cases, All-contains, All-contains_itself}
+use Rattle.std.proofs.lemmas.List.Elements.{All-append, Contains-append_left, Contains-append_right, Contains-append_cases, All-contains, All-contains_itself, All-weaker}
 use Rattle.link_key.specs.declared.links.Link.{Link}
 use Rattle.link_key.specs.Link.{EndsUpTo}
 use Rattle.frames.specs.AnswerValue.{AnswerValue}
@@ -26,11 +26,8 @@ pub one : {X : Type 0} (P : X → Type 0) (x : X) → P x → All P (x ∷ [])
 one P x p zero d b = p
 one P x p (suc i) d b = absurd (omega arith)
 
-each_more : {X : Type 0} (P Q : X → Type 0) (xs : List X) → ((x : X) → P x → Q x) → All P xs → All Q xs
-each_more P Q xs h a i d b = h (get_or xs i d) (a i d b)
-
 contains_all : {X : Type 0} (P : X → Type 0) (xs : List X) → ((x : X) → Contains xs x → P x) → All P xs
-contains_all P xs h = each_more (Contains xs) P xs h (All-contains_itself xs)
+contains_all P xs h = All-weaker (Contains xs) P h xs (All-contains_itself xs)
 
 -- a book that was opened for a cut misses each shard
 pub opened_misses : (round : ℕ) (cut : List (List Link)) (labels : List ℕ) → missing (opened round cut labels) ≡ length cut
@@ -98,7 +95,7 @@ just_new new book (zero, b, e) = sym e
 just_new new book (suc k, b, e) = absurd (omega (arith, b))
 
 pub whole_books : (cut : List (List Link)) (books : List BookValue) → All (IsFullBook cut) books → All IsBookValue books
-whole_books cut books whole = each_more (IsFullBook cut) IsBookValue books (λ book w. w.value) whole
+whole_books cut books whole = All-weaker (IsFullBook cut) IsBookValue (λ book w. w.value) books whole
 
 -- exchanges of books of earlier rounds come before those of a round
 pub books_first : (books : List BookValue) (round : ℕ) (xs ys : List Exchange) → All (λ (book : BookValue). book.round < round) books → All (IsKeptIn books) xs → All (λ (y : Exchange). y.round ≡ round) ys → ComeFirst xs ys
@@ -132,7 +129,7 @@ kept_in port old middle new xs ys k v w none =
           one (λ (book : BookValue). All (λ t. IsLight book t ⊎ IsGivenBy (length xs) v.answers_at t) book.answers) new
           (subst (λ (ts : List AnswerValue). All Right ts) (sym answers)
           (All-append Right v.answers w.answers (contains_all Right v.answers (λ t c. inr (v.given t c)))
-          (each_more (IsLight middle) Right w.answers (λ t l. inl (light_still middle new second t l)) w.light)));
+          (All-weaker (IsLight middle) Right (λ t l. inl (light_still middle new second t l)) w.answers w.light)));
       light_at = λ i d b h. contains_all (IsLightIn (new ∷ [])) (v.answers_at i) (λ t c.
           (new, here, there i t b c, light_still old new same t (All-contains (IsLight old) (v.answers_at i) t (v.light_at i d b h) c)));
       once = v.once;
@@ -161,18 +158,18 @@ kept_then {P} honest xs ys books new at bt same stays values value earlier u v =
       ];
       each_is =
           All-append (λ (book : BookValue). All (λ t. IsLight book t ⊎ IsGivenBy (length xs) both t) book.answers) books (new ∷ [])
-          (each_more (λ (book : BookValue). All (λ t. IsLight book t ⊎ IsGivenBy (length xs) at t) book.answers) (λ (book : BookValue). All (λ t. IsLight book t ⊎ IsGivenBy (length xs) both t) book.answers) books
-          (λ book a. each_more (λ t. IsLight book t ⊎ IsGivenBy (length xs) at t) (λ t. IsLight book t ⊎ IsGivenBy (length xs) both t) book.answers
-          (λ t e. elim e [ inl l ↦ inl l | inr g ↦ inr (g.0, g.1, Contains-append_left (at g.0) (bt g.0) t g.2) ]) a)
-          u.each_is)
-          (each_more (λ (book : BookValue). All (λ t. IsLight book t ⊎ IsGivenBy (length ys) bt t) book.answers) (λ (book : BookValue). All (λ t. IsLight book t ⊎ IsGivenBy (length xs) both t) book.answers) (new ∷ [])
-          (λ book a. each_more (λ t. IsLight book t ⊎ IsGivenBy (length ys) bt t) (λ t. IsLight book t ⊎ IsGivenBy (length xs) both t) book.answers
-          (λ t e. elim e [ inl l ↦ inl l | inr g ↦ inr (g.0, (let l = g.1 in omega arith), Contains-append_right (at g.0) (bt g.0) t g.2) ]) a)
-          v.each_is);
+          (All-weaker (λ (book : BookValue). All (λ t. IsLight book t ⊎ IsGivenBy (length xs) at t) book.answers) (λ (book : BookValue). All (λ t. IsLight book t ⊎ IsGivenBy (length xs) both t) book.answers)
+          (λ book a. All-weaker (λ t. IsLight book t ⊎ IsGivenBy (length xs) at t) (λ t. IsLight book t ⊎ IsGivenBy (length xs) both t)
+          (λ t e. elim e [ inl l ↦ inl l | inr g ↦ inr (g.0, g.1, Contains-append_left (at g.0) (bt g.0) t g.2) ]) book.answers a)
+          books u.each_is)
+          (All-weaker (λ (book : BookValue). All (λ t. IsLight book t ⊎ IsGivenBy (length ys) bt t) book.answers) (λ (book : BookValue). All (λ t. IsLight book t ⊎ IsGivenBy (length xs) both t) book.answers)
+          (λ book a. All-weaker (λ t. IsLight book t ⊎ IsGivenBy (length ys) bt t) (λ t. IsLight book t ⊎ IsGivenBy (length xs) both t)
+          (λ t e. elim e [ inl l ↦ inl l | inr g ↦ inr (g.0, (let l = g.1 in omega arith), Contains-append_right (at g.0) (bt g.0) t g.2) ]) book.answers a)
+          (new ∷ []) v.each_is);
       light_at = λ i d b h.
           All-append (IsLightIn (books ++ new ∷ [])) (at i) (bt i)
-          (each_more (IsLightIn books) (IsLightIn (books ++ new ∷ [])) (at i) (λ t q. (q.0, left q.0 q.1, q.2, q.3)) (u.light_at i d b h))
-          (each_more (IsLightIn (new ∷ [])) (IsLightIn (books ++ new ∷ [])) (bt i) (λ t q. (q.0, right q.0 q.1, q.2, q.3)) (v.light_at i d (omega arith) (stays i d b h)));
+          (All-weaker (IsLightIn books) (IsLightIn (books ++ new ∷ [])) (λ t q. (q.0, left q.0 q.1, q.2, q.3)) (at i) (u.light_at i d b h))
+          (All-weaker (IsLightIn (new ∷ [])) (IsLightIn (books ++ new ∷ [])) (λ t q. (q.0, right q.0 q.1, q.2, q.3)) (bt i) (v.light_at i d (omega arith) (stays i d b h)));
       once = once_then (length xs) at bt u.once (subst (λ n. AnswersOnce n bt) same v.once) (λ i j a b bi bj ha hb for_one. (
           let p = kept_round honest xs books at i a values u bi ha in
           let q = kept_round honest ys (new ∷ []) bt j b (one IsBookValue new value) v (omega arith) hb in
@@ -249,9 +246,9 @@ module _ {P A : Type 0} (port : Port.Ghosts P A) where
         ];
         given = λ none.
             All-append (λ (book : BookValue). All (IsGivenBy (length xs) at) book.answers) books (new ∷ [])
-            (each_more (λ (book : BookValue). All (IsGivenBy (length xs) u.answers_at) book.answers) (λ (book : BookValue). All (IsGivenBy (length xs) at) book.answers) books
-            (λ book a. each_more (IsGivenBy (length xs) u.answers_at) (IsGivenBy (length xs) at) book.answers (λ t q. (q.0, q.1, Contains-append_left (u.answers_at q.0) (v.answers_at q.0) t q.2)) a)
-            (u.given (omega arith)))
+            (All-weaker (λ (book : BookValue). All (IsGivenBy (length xs) u.answers_at) book.answers) (λ (book : BookValue). All (IsGivenBy (length xs) at) book.answers)
+            (λ book a. All-weaker (IsGivenBy (length xs) u.answers_at) (IsGivenBy (length xs) at) (λ t q. (q.0, q.1, Contains-append_left (u.answers_at q.0) (v.answers_at q.0) t q.2)) book.answers a)
+            books (u.given (omega arith)))
             (one (λ (book : BookValue). All (IsGivenBy (length xs) at) book.answers) new (
             let nothing_scanned : w.answers ≡ [] = nothing w.answers (let e = w.count_is in omega arith) in
             let just : v.answers ≡ new.answers = sym (append-nil v.answers) ∙ (ap (λ zs. v.answers ++ zs) (sym nothing_scanned) ∙ sym answers) in
@@ -268,5 +265,5 @@ module _ {P A : Type 0} (port : Port.Ghosts P A) where
             let d : LaneState P = lane_at ys g.0 within in
             let l : All (IsLight old) (v.answers_at g.0) = v.light_at g.0 d within ((u.ports.each g.0 d before).honest_is (h g.0 d before)) in
             light_still old new same t (All-contains (IsLight old) (v.answers_at g.0) t l g.2))))
-            (each_more (IsLight r.middle) (IsLight new) w.answers (light_still r.middle new second) w.light))));
+            (All-weaker (IsLight r.middle) (IsLight new) (light_still r.middle new second) w.answers w.light))));
       }
