@@ -22,7 +22,12 @@ use std::sync::Wait;
 use std::thread::Threads;
 
 // One round, and its picks into the solver, which leaves none of them; and how many shards were scanned alone.
-fn turn<'a, A: Allocator + Copy + Send + Sync, P: Port<A> + Send + Drop, R: Threads + Wait + Sync>(
+fn step_once<
+    'a,
+    A: Allocator + Copy + Send + Sync,
+    P: Port<A> + Send + Drop,
+    R: Threads + Wait + Sync,
+>(
     rt: &R,
     reused: &mut Reused<A>,
     solver: &mut Solver<A>,
@@ -85,7 +90,7 @@ fn merge_rounds<
     };
     let mut alone = 0;
     for _ in rt.forever() {
-        let (turn, scanned) = turn(rt, &mut reused, &mut solver, cut, lanes)?;
+        let (turn, scanned) = step_once(rt, &mut reused, &mut solver, cut, lanes)?;
         alone += u64::from(scanned);
         if let Turn::Done = turn {
             break;

@@ -10,26 +10,26 @@ loop-init g c = record { so_far = so_far_none g.P.Port c.args.n c.args.cut.now c
 pub returns-in_err-solver-clause-ports : goal.returns-in_err-solver-clause-ports
 returns-in_err-solver-clause-ports g c = asked_none g.P.Port c.args.n c.args.cut.now c.args.lanes.now
 
-pub turn-requires-clause-wide : goal.turn-requires-clause-wide
-turn-requires-clause-wide g c κs within =
+pub step_once-requires-clause-wide : goal.step_once-requires-clause-wide
+step_once-requires-clause-wide g c κs within =
     wide_more g.P.Port c.args.n c.args.cut.now c.args.lanes.now c.loop.lanes c.loop.solver c.loop.alone c.loop.invariant.so_far c.requires.vertices c.requires.few_shards c.requires.cut c.requires.counts
 
 pub returns-in_err-turn-clause-ports : goal.returns-in_err-turn-clause-ports
 returns-in_err-turn-clause-ports g c =
-    asked_then g.P.Port c.args.n c.args.cut.now c.args.lanes.now c.loop.lanes c.turn.new.lanes c.loop.solver c.loop.alone c.loop.invariant.so_far c.turn.ensures.ports
+    asked_then g.P.Port c.args.n c.args.cut.now c.args.lanes.now c.loop.lanes c.step_once.new.lanes c.loop.solver c.loop.alone c.loop.invariant.so_far c.step_once.ensures.ports
 
 pub returns-in_err-turn-clause-fault : goal.returns-in_err-turn-clause-fault
 returns-in_err-turn-clause-fault g c =
     let answered = err_from_is_err_and c.from_residual-in_err-turn.result c.from_residual-in_err-turn.ensures.1 in
     rw (answered.1, answered.2)
-    (turn_fault g.P.Port c.args.n c.args.cut.now c.args.lanes.now c.loop.lanes c.turn.new.lanes c.loop.solver c.loop.alone c.in_err-turn.field-0.0 c.requires.ends
+    (turn_fault g.P.Port c.args.n c.args.cut.now c.args.lanes.now c.loop.lanes c.step_once.new.lanes c.loop.solver c.loop.alone c.in_err-turn.field-0.0 c.requires.ends
     c.loop.invariant.so_far c.in_err-turn.ensures.fault)
 
 pub returns-in_err-turn-clause-honest_fault : goal.returns-in_err-turn-clause-honest_fault
 returns-in_err-turn-clause-honest_fault g c =
     let answered = err_from_is_err_and c.from_residual-in_err-turn.result c.from_residual-in_err-turn.ensures.1 in
     rw (answered.1, answered.2)
-    (turn_honest g.P.Port c.args.n c.args.cut.now c.args.lanes.now c.loop.lanes c.turn.new.lanes c.loop.solver c.loop.alone c.in_err-turn.field-0.0 c.requires.ends
+    (turn_honest g.P.Port c.args.n c.args.cut.now c.args.lanes.now c.loop.lanes c.step_once.new.lanes c.loop.solver c.loop.alone c.in_err-turn.field-0.0 c.requires.ends
     c.loop.invariant.so_far c.in_err-turn.ensures.fault)
 
 pub overflow_add-alone : goal.overflow_add-alone
@@ -41,9 +41,9 @@ pub loop-preserved : goal.loop-preserved
 loop-preserved g c =
     rw c.from-alone.ensures (record {
       so_far =
-          turned_more g.P.Port c.args.n c.args.cut.now c.args.lanes.now c.loop.lanes c.turn.new.lanes c.loop.solver c.turn.new.solver c.in_ok-turn.turn c.loop.alone c.in_ok-turn.scanned c.requires.ends
+          turned_more g.P.Port c.args.n c.args.cut.now c.args.lanes.now c.loop.lanes c.step_once.new.lanes c.loop.solver c.step_once.new.solver c.in_ok-turn.turn c.loop.alone c.in_ok-turn.scanned c.requires.ends
           c.loop.invariant.so_far c.in_ok-turn.ensures.went c.in_default.not-Done;
-      idle = c.turn.ensures.idle;
+      idle = c.step_once.ensures.idle;
       none = c.in_ok-turn.ensures.none;
     })
 
@@ -51,7 +51,7 @@ pub returns-clause-went : goal.returns-clause-went
 returns-clause-went g c = elim c.match-next.branch [
   | in-None w ↦ absurd (let some = rw w.in-None.is at c.next.ensures.steps in cc)
   | in-Some+in_ok-turn+in-Done w ↦ rw (w.lanes-is, w.solver-is, w.alone-is, w.from-alone.ensures)
-      (turned_last g.P.Port c.args.n c.args.cut.now c.args.lanes.now c.loop.lanes w.turn.new.lanes c.loop.solver w.turn.new.solver w.in_ok-turn.turn c.loop.alone w.in_ok-turn.scanned c.requires.ends
+      (turned_last g.P.Port c.args.n c.args.cut.now c.args.lanes.now c.loop.lanes w.step_once.new.lanes c.loop.solver w.step_once.new.solver w.in_ok-turn.turn c.loop.alone w.in_ok-turn.scanned c.requires.ends
       c.loop.invariant.so_far w.in_ok-turn.ensures.went w.in-Done.is)
 ]
 
@@ -59,11 +59,11 @@ pub returns-clause-ports : goal.returns-clause-ports
 returns-clause-ports g c = elim c.match-next.branch [
   | in-None w ↦ absurd (let some = rw w.in-None.is at c.next.ensures.steps in cc)
   | in-Some+in_ok-turn+in-Done w ↦ rw w.lanes-is
-      (asked_then g.P.Port c.args.n c.args.cut.now c.args.lanes.now c.loop.lanes w.turn.new.lanes c.loop.solver c.loop.alone c.loop.invariant.so_far w.turn.ensures.ports)
+      (asked_then g.P.Port c.args.n c.args.cut.now c.args.lanes.now c.loop.lanes w.step_once.new.lanes c.loop.solver c.loop.alone c.loop.invariant.so_far w.step_once.ensures.ports)
 ]
 
 pub returns-clause-idle : goal.returns-clause-idle
 returns-clause-idle g c = elim c.match-next.branch [
   | in-None w ↦ absurd (let some = rw w.in-None.is at c.next.ensures.steps in cc)
-  | in-Some+in_ok-turn+in-Done w ↦ rw w.lanes-is w.turn.ensures.idle
+  | in-Some+in_ok-turn+in-Done w ↦ rw w.lanes-is w.step_once.ensures.idle
 ]
