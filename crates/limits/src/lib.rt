@@ -2,6 +2,12 @@
 //! limit cites its name, and so does the contract that promises the test; the definitions of `specs/` import it from
 //! this crate's constants.
 //!
+//! ```text
+//!   MAX_VERTICES, MAX_ARCS, .. ──► code: a test
+//!                              ──► contracts: the clause that promises it
+//!                              ──► specs: by `TheConstants`
+//! ```
+//!
 //! What it promises:
 //! - Nothing but the numbers, each by a clause of [`laws`].
 //!

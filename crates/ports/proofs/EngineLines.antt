@@ -49,7 +49,7 @@ pub taken_stays : (taken : ℕ) (a b : List ℕ) → taken ≤ length a → Exte
 taken_stays taken a b within grew = ap (take taken) grew.1 ∙ take-append-le taken a grew.0 within
 
 -- an engine that keeps nothing, before a byte came
-pub engine_line_starts : (worker : ℕ) (s : EngineLineState) → s.kept ≡ [] → s.input ≡ [] → s.written ≡ text_of (HelloFrame VERSION worker) → s.heard ≡ 0 → s.over ≡ false → IsEngineLine worker s
+pub engine_line_starts : (worker : ℕ) (s : EngineLineState) → s.shelf ≡ [] → s.input ≡ [] → s.written ≡ text_of (HelloFrame VERSION worker) → s.heard ≡ 0 → s.over ≡ false → IsEngineLine worker s
 engine_line_starts worker s kept none hello heard over = record {
   session = λ no_failure. rw (kept, none, hello, heard) (session_starts worker);
   all = λ no_failure. rw (none, heard) none_begins_none;

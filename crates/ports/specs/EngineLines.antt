@@ -9,7 +9,7 @@ use Rattle.ports.specs.Lines.{LineState}
 
 -- a session in memory: the shards that its engine keeps, the bytes that came, how many of them were heard, and the bytes that it wrote
 pub record SessionState : Type 0 where
-  pub kept : ShelfList
+  pub shelf : ShelfList
   pub input : List ℕ
   pub heard : ℕ
   pub written : List ℕ
@@ -20,7 +20,7 @@ rest_of s = drop s.heard s.input
 
 -- a session of this worker
 abbrev pub IsSessionOf : ℕ → SessionState → Type 0
-IsSessionOf worker s = InSession worker (shelf_of s.kept) s.input s.written s.heard
+IsSessionOf worker s = InSession worker (shelf_of s.shelf) s.input s.written s.heard
 
 -- whichever worker's session it was, it still is
 abbrev pub GoesOn : SessionState → SessionState → Type 0
@@ -33,7 +33,7 @@ IsOver over s = over ≡ true → IsBad (rest_of s)
 -- the shards that the engine keeps, the bytes that were put and how many of them were heard, the bytes that the session
 -- wrote and how many of them were got, whether the session is over, and the counts
 pub record EngineLineState : Type 0 where
-  pub kept : ShelfList
+  pub shelf : ShelfList
   pub input : List ℕ
   pub heard : ℕ
   pub written : List ℕ
@@ -48,7 +48,7 @@ line_of s = record { sent = Some s.input; got = Some (take s.taken s.written); f
 
 -- until its first failure it is in the worker's session and heard all frames that came; once the session is over, no frame can begin what is left
 pub record IsEngineLine (worker : ℕ) (s : EngineLineState) : Type 0 where
-  pub session : s.failures ≡ 0 → InSession worker (shelf_of s.kept) s.input s.written s.heard
+  pub session : s.failures ≡ 0 → InSession worker (shelf_of s.shelf) s.input s.written s.heard
   pub all : s.failures ≡ 0 → BeginsNone (drop s.heard s.input)
   pub over_is : s.failures ≡ 0 → s.over ≡ true → IsBad (drop s.heard s.input)
 

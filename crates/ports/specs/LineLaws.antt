@@ -17,7 +17,7 @@ pub engine_serves : (worker : ℕ) (s : EngineLineState) → IsEngineLine worker
 engine_serves worker s is no_failure sent got sent_is got_is =
     let rest : List ℕ = drop s.taken s.written in
     let all : Serves VERSION worker s.input s.written =
-    session_serves worker (shelf_of s.kept) s.input s.written s.heard (is.session no_failure) (is.all no_failure) in
+    session_serves worker (shelf_of s.shelf) s.input s.written s.heard (is.session no_failure) (is.all no_failure) in
     let same_sent : s.input ≡ sent = cc in
     let same_got : take s.taken s.written ≡ got = cc in
     let written : s.written ≡ got ++ rest = sym (take-append-drop s.taken s.written) ∙ ap (λ (t : List ℕ). t ++ rest) same_got in

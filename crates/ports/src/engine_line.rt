@@ -37,7 +37,7 @@ impl<A: Allocator> Model for EngineLine<A> {
     ghost Value = { EngineLineState };
 
     ghost view = { λ s. record {
-      kept = s.session.kept;
+      shelf = s.session.shelf;
       input = s.session.input;
       heard = s.session.heard;
       written = s.session.written;

@@ -30,7 +30,7 @@ impl<A: Allocator> Model for Session<A> {
 
     ghost Value = { SessionState };
 
-    ghost view = { λ s. record { kept = s.engine; input = s.input.items; heard = s.heard; written = s.out.items } };
+    ghost view = { λ s. record { shelf = s.engine; input = s.input.items; heard = s.heard; written = s.out.items } };
 
     ghost invariant = { λ s. s.heard ≤ vec_len s.input };
 }
