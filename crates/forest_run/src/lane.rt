@@ -1,5 +1,6 @@
-//! A lane of a run.
-ghost use Rattle.std.specs.Prelude.{◌≡◌};
+//! A lane of a run, and all of them.
+ghost use Rattle.std.specs.Prelude.{◌≡◌, ◌≤◌, length, All};
+ghost use Rattle.limits.specs.declared.TheConstants.{MAX_WORKERS};
 ghost use Rattle.forest_run.specs.Lanes.{IsIdle};
 
 use claim_board::Seat;
@@ -54,5 +55,27 @@ impl<P, A: Allocator> Lane<P, A> {
             kept: _,
         } = self;
         port
+    }
+}
+
+// The lanes of a run between two passes, and where the threads of a pass are made. It owns no memory, so that who made
+// it learns what became of the lanes.
+#[derive(Drop)]
+pub(crate) struct Lanes<'a, 'b, R, P, A: Allocator> {
+    pub(crate) rt: &'b R,
+    pub(crate) lanes: &'a mut [Lane<P, A>],
+    ghost few: { length lanes.now ≤ MAX_WORKERS },
+    ghost idle: { All IsIdle lanes.now },
+}
+
+impl<'a, 'b, R, P, A: Allocator> Lanes<'a, 'b, R, P, A> {
+    // These lanes, between two passes.
+    pub(crate) fn new(rt: &'b R, lanes: &'a mut [Lane<P, A>]) -> Self
+        requires few { length lanes.old ≤ MAX_WORKERS }
+        requires idle { All IsIdle lanes.old }
+        ensures lanes { result.lanes.now ≡ lanes.old }
+        ensures same { result.lanes.ghost_name ≡ lanes.entry.ghost_name }
+    {
+        Lanes { rt, lanes }
     }
 }

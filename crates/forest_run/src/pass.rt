@@ -1,13 +1,12 @@
 //! A pass: one ferry for each lane with an open port, and the kept answers into the book.
 ghost use Rattle.std.specs.Prelude.{◌≡◌, ◌<◌, ◌≤◌, length, All};
 ghost use Rattle.claim_board.specs.State.{AreSeats, IsUnusedSeat};
-ghost use Rattle.limits.specs.declared.TheConstants.{MAX_WORKERS};
 ghost use Rattle.forest_run.specs.Lanes.{open_count, IsIdle};
 ghost use Rattle.forest_run.specs.Bounds.{IsAskable, IsBoardOf, HasRoomForPass};
 ghost use Rattle.forest_run.specs.Passes.{RunsPasses};
 
 use crate::ferry::Ferries;
-use crate::lane::Lane;
+use crate::lane::{Lane, Lanes};
 use crate::seats::{count_open, reserve_answers, seat_lanes, unseat_lanes};
 use crate::taking::take_answers;
 use claim_board::{Board, Seat};
@@ -49,26 +48,28 @@ fn run_ferries<A: Allocator + Copy + Send + Sync, P: Port<A> + Send + Drop, R: T
     take_answers(book, lanes);
 }
 
-// One pass. All its memory is taken before the first ask, so after an error nothing was asked.
-pub(crate) fn pass<A: Allocator + Copy + Send + Sync, P: Port<A> + Send + Drop, R: Threads + Sync>(
-    rt: &R,
-    alloc: A,
-    book: &mut RoundBook<A>,
-    lanes: &mut [Lane<P, A>],
-) -> Result<(), AllocError>
-    requires some_open { 0 < open_count P.state lanes.old }
-    requires few { length lanes.old ≤ MAX_WORKERS }
-    requires round { IsAskable book.old }
-    requires bound { All (λ lane. HasRoomForPass P.state book.old lane.port) lanes.old }
-    requires idle { All IsIdle lanes.old }
-    ensures went { RunsPasses P.Port book.old book.new lanes.old lanes.new }
-    ensures idle { All IsIdle lanes.new }
-{
-    let shards = book.len();
-    reserve_answers(lanes, shards)?;
-    let Ok((board, row)) = Board::open(alloc, shards, count_open(lanes)) else {
-        return Err(AllocError);
-    };
-    run_ferries(rt, board, row, book, lanes);
-    Ok(())
+impl<'a, 'b, R: Threads + Sync, A: Allocator + Copy + Send + Sync, P: Port<A> + Send + Drop> Lanes<
+    'a,
+    'b,
+    R,
+    P,
+    A,
+> {
+    // One pass. All its memory is taken before the first ask, so after an error nothing was asked.
+    pub(crate) fn pass(&mut self, alloc: A, book: &mut RoundBook<A>) -> Result<(), AllocError>
+        requires some_open { 0 < open_count P.state self.old.lanes.now }
+        requires round { IsAskable book.old }
+        requires bound { All (λ lane. HasRoomForPass P.state book.old lane.port) self.old.lanes.now }
+        ensures went { RunsPasses P.Port book.old book.new self.old.lanes.now self.new.lanes.now }
+        ensures same_lanes { self.new.lanes.ghost_name ≡ self.old.lanes.ghost_name }
+    {
+        let shards = book.len();
+        let lanes = &mut *self.lanes;
+        reserve_answers(lanes, shards)?;
+        let Ok((board, row)) = Board::open(alloc, shards, count_open(lanes)) else {
+            return Err(AllocError);
+        };
+        run_ferries(self.rt, board, row, book, lanes);
+        Ok(())
+    }
 }

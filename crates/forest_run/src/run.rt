@@ -10,9 +10,9 @@ ghost use Rattle.forest_run.specs.Lanes.{IsIdle};
 ghost use Rattle.forest_run.specs.Bounds.{HasRoomForRound};
 ghost use Rattle.forest_run.specs.Solved.{AreHonest, StepsOnce, AsksInRound, IsTurnFault, MergesAll, AsksInRun, FindsForest, IsSolveFault};
 
-use crate::lane::Lane;
+use crate::lane::{Lane, Lanes};
 use crate::report::{Counts, Report, report_of};
-use crate::round::{Reused, picks_of_round};
+use crate::round::Reused;
 use crate::seats::count_open;
 use link_key::{Cut, Forest};
 use ports::Port;
@@ -21,82 +21,77 @@ use std::alloc::Allocator;
 use std::sync::Wait;
 use std::thread::Threads;
 
-// One round, and its picks into the solver, which leaves none of them; and how many shards were scanned alone.
-fn step_once<
+impl<
     'a,
+    'b,
+    R: Threads + Wait + Sync,
     A: Allocator + Copy + Send + Sync,
     P: Port<A> + Send + Drop,
-    R: Threads + Wait + Sync,
->(
-    rt: &R,
-    reused: &mut Reused<A>,
-    solver: &mut Solver<A>,
-    cut: &'a Cut<'a, A>,
-    lanes: &mut [Lane<P, A>],
-) -> Result<(Turn, u32), SolveFault>
-    requires none { AreNoPicks reused.old.picks }
-    requires few { length lanes.old ≤ MAX_WORKERS }
-    requires some_shard { 0 < length cut.now }
-    requires few_shards { length cut.now ≤ MAX_SHARDS }
-    requires ends { All (EndsUpTo (vertices solver.old)) cut.now }
-    requires wide { All (λ lane. HasRoomForRound P.state (opened (solver.old.rounds + 1) cut.now solver.old.labels) lane.port) lanes.old }
-    requires idle { All IsIdle lanes.old }
-    ensures went { IfOk result (λ r. StepsOnce P.Port cut.now solver.old solver.new lanes.old lanes.new r.0 r.1) }
-    ensures ports { AsksInRound P.Port cut.now solver.old lanes.old lanes.new }
-    ensures fault { IfErr result (IsTurnFault P.Port cut.now solver.old lanes.old lanes.new) }
-    ensures none { OnOk result (AreNoPicks reused.new.picks) }
-    ensures idle { All IsIdle lanes.new }
-{
-    // Without memory for the bytes of the labels, each wire turns the labels into bytes for itself.
-    let _ = solver.spell_labels();
-    let (mut picks, alone) = picks_of_round(rt, reused, solver, cut, lanes)?;
-    let turn = solver.step_par(rt, &mut picks)?;
-    reused.picks = picks;
-    Ok((turn, alone))
-}
-
-// Rounds from the start until one has no picks: the solver then, and how many shards were scanned alone.
-fn merge_rounds<
-    'a,
-    A: Allocator + Copy + Send + Sync,
-    P: Port<A> + Send + Drop,
-    R: Threads + Wait + Sync,
->(
-    rt: &R,
-    alloc: A,
-    n: u32,
-    cut: &'a Cut<'a, A>,
-    lanes: &mut [Lane<P, A>],
-) -> Result<(Solver<A>, u64), SolveFault>
-    requires few { length lanes.old ≤ MAX_WORKERS }
-    requires vertices { n ≤ MAX_VERTICES }
-    requires some_shard { 0 < length cut.now }
-    requires few_shards { length cut.now ≤ MAX_SHARDS }
-    requires ends { All (EndsUpTo n) cut.now }
-    requires cut { All (λ lane. (P.state lane.port).cut ≡ cut.now) lanes.old }
-    requires counts { All (λ lane. (P.state lane.port).asks < 2 ^ 63) lanes.old }
-    requires idle { All IsIdle lanes.old }
-    ensures went { IfOk result (λ r. (answered : ℕ)
-        × MergesAll P.Port n cut.now lanes.old lanes.new r.0 answered r.1) }
-    ensures ports { AsksInRun P.Port n cut.now lanes.old lanes.new }
-    ensures fault { IfErr result (IsSolveFault P.Port n cut.now lanes.old lanes.new) }
-    ensures honest_fault { IfErr result (λ fault. AreHonest P.honest lanes.old → fault ≡ Memory) }
-    ensures idle { All IsIdle lanes.new }
-{
-    let mut solver = Solver::new(alloc, n)?;
-    let mut reused = Reused {
-        alloc,
-        picks: Picks::empty(alloc),
-    };
-    let mut alone = 0;
-    for _ in rt.forever() {
-        let (turn, scanned) = step_once(rt, &mut reused, &mut solver, cut, lanes)?;
-        alone += u64::from(scanned);
-        if let Turn::Done = turn {
-            break;
-        }
+> Lanes<'a, 'b, R, P, A> {
+    // One round, and its picks into the solver, which leaves none of them; and how many shards were scanned alone.
+    fn step_once<'c>(
+        &mut self,
+        reused: &mut Reused<A>,
+        solver: &mut Solver<A>,
+        cut: &'c Cut<'c, A>,
+    ) -> Result<(Turn, u32), SolveFault>
+        requires none { AreNoPicks reused.old.picks }
+        requires some_shard { 0 < length cut.now }
+        requires few_shards { length cut.now ≤ MAX_SHARDS }
+        requires ends { All (EndsUpTo (vertices solver.old)) cut.now }
+        requires wide { All (λ lane. HasRoomForRound P.state (opened (solver.old.rounds + 1) cut.now solver.old.labels) lane.port)
+            self.old.lanes.now }
+        ensures went { IfOk result (λ r. StepsOnce P.Port cut.now solver.old solver.new
+            self.old.lanes.now self.new.lanes.now r.0 r.1) }
+        ensures ports { AsksInRound P.Port cut.now solver.old self.old.lanes.now self.new.lanes.now }
+        ensures fault { IfErr result (IsTurnFault P.Port cut.now solver.old self.old.lanes.now self.new.lanes.now) }
+        ensures none { OnOk result (AreNoPicks reused.new.picks) }
+        ensures same_lanes { self.new.lanes.ghost_name ≡ self.old.lanes.ghost_name }
+    {
+        // Without memory for the bytes of the labels, each wire turns the labels into bytes for itself.
+        let _ = solver.spell_labels();
+        let (mut picks, alone) = self.picks_of_round(reused, solver, cut)?;
+        let turn = solver.step_par(self.rt, &mut picks)?;
+        reused.picks = picks;
+        Ok((turn, alone))
     }
-    Ok((solver, alone))
+
+    // Rounds from the start until one has no picks: the solver then, and how many shards were scanned alone.
+    fn merge_rounds<'c>(
+        &mut self,
+        alloc: A,
+        n: u32,
+        cut: &'c Cut<'c, A>,
+    ) -> Result<(Solver<A>, u64), SolveFault>
+        requires vertices { n ≤ MAX_VERTICES }
+        requires some_shard { 0 < length cut.now }
+        requires few_shards { length cut.now ≤ MAX_SHARDS }
+        requires ends { All (EndsUpTo n) cut.now }
+        requires cut { All (λ lane. (P.state lane.port).cut ≡ cut.now) self.old.lanes.now }
+        requires counts { All (λ lane. (P.state lane.port).asks < 2 ^ 63) self.old.lanes.now }
+        ensures went { IfOk result (λ r. (answered : ℕ)
+            × MergesAll P.Port n cut.now self.old.lanes.now self.new.lanes.now r.0 answered r.1) }
+        ensures ports { AsksInRun P.Port n cut.now self.old.lanes.now self.new.lanes.now }
+        ensures fault { IfErr result (IsSolveFault P.Port n cut.now self.old.lanes.now self.new.lanes.now) }
+        ensures honest_fault { IfErr result (λ fault. AreHonest P.honest self.old.lanes.now → fault ≡ Memory) }
+        ensures same_lanes { self.new.lanes.ghost_name ≡ self.old.lanes.ghost_name }
+    {
+        let mut solver = Solver::new(alloc, n)?;
+        let mut reused = Reused {
+            alloc,
+            picks: Picks::empty(alloc),
+        };
+        let mut alone = 0;
+        let rt = self.rt;
+        for _ in rt.forever() {
+            let (turn, scanned) = self.step_once(&mut reused, &mut solver, cut)?;
+            alone += u64::from(scanned);
+            if let Turn::Done = turn {
+                break;
+            }
+        }
+        Ok((solver, alone))
+    }
 }
 
 /// A spanning forest of the cut's links, by what the lanes' ports answer and, where none is open, by the coordinator's own
@@ -139,7 +134,8 @@ pub fn solve<
 {
     let shards = cut.len();
     let open = count_open(lanes);
-    let (solver, alone) = merge_rounds(rt, alloc, n, cut, lanes)?;
+    let mut run = Lanes::new(rt, lanes);
+    let (solver, alone) = run.merge_rounds(alloc, n, cut)?;
     let last = solver.round();
     let forest = solver.finish_par(rt, cut)?;
     let counts = Counts {

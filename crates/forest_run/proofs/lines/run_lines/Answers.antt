@@ -1,4 +1,4 @@
-use Rattle.std.proofs.Common.{◌∙◌, Vec, Ok, Err, ap, length}
+use Rattle.std.proofs.Common.{◌∙◌, Vec, Ok, ap, length}
 use Rattle.link_key.specs.Link.{EndsUpTo}
 use Rattle.link_key.specs.Cut.{joined}
 use Rattle.forest_run.specs.Cuttings.{IsCutOf}

@@ -7,7 +7,7 @@ use Rattle.forest_run.proofs.Eaches.{each_refl}
 use Rattle.forest_run.proofs.Passing.{SamePort, passed_none}
 use Rattle.forest_run.proofs.Running.{opened_round, same_still}
 use Rattle.forest_run.proofs.Ending.{turn_asked}
-use Rattle.forest_run.proofs.round.picks_of_round.Goals as goal
+use Rattle.forest_run.proofs.lane.Lanes.picks_of_round.Goals as goal
 
 pub run_round-requires-clause-round : goal.run_round-requires-clause-round
 run_round-requires-clause-round g c κs within =
@@ -22,19 +22,19 @@ run_round-requires-clause-wide g c κs within = rw (c.in_ok-book.ensures.opened,
 pub returns-in_err-book-clause-asked : goal.returns-in_err-book-clause-asked
 returns-in_err-book-clause-asked g c =
     let value = opened c.round.result c.args.cut.now c.labels.result.now in
-    turn_asked g.P.Port c.round.result c.args.cut.now c.labels.result.now c.args.solver.now value c.args.lanes.now c.args.lanes.now c.round.ensures.round c.labels.ensures.labels c.round.ensures.progress c.requires.ends c.requires.few_shards
-    (passed_none g.P.Port value c.args.lanes.now c.args.lanes.now (each_refl SamePort c.args.lanes.now (λ x. record { port = refl })))
+    turn_asked g.P.Port c.round.result c.args.cut.now c.labels.result.now c.args.solver.now value c.args.self.now.lanes.now c.args.self.now.lanes.now c.round.ensures.round c.labels.ensures.labels c.round.ensures.progress c.requires.ends c.requires.few_shards
+    (passed_none g.P.Port value c.args.self.now.lanes.now c.args.self.now.lanes.now (each_refl SamePort c.args.self.now.lanes.now (λ x. record { port = refl })))
 
 pub returns-in_err-alone-clause-asked : goal.returns-in_err-alone-clause-asked
 returns-in_err-alone-clause-asked g c =
     let (middle, asked) = c.run_round.ensures.asked in
-    turn_asked g.P.Port c.round.result c.args.cut.now c.labels.result.now c.args.solver.now middle c.args.lanes.now c.run_round.new.lanes c.round.ensures.round c.labels.ensures.labels c.round.ensures.progress c.requires.ends c.requires.few_shards
+    turn_asked g.P.Port c.round.result c.args.cut.now c.labels.result.now c.args.solver.now middle c.args.self.now.lanes.now c.run_round.new.self.lanes.now c.round.ensures.round c.labels.ensures.labels c.round.ensures.progress c.requires.ends c.requires.few_shards
     (rw c.in_ok-book.ensures.opened at asked)
 
 pub returns-clause-asked : goal.returns-clause-asked
 returns-clause-asked g c =
     let (middle, asked) = c.run_round.ensures.asked in
-    turn_asked g.P.Port c.round.result c.args.cut.now c.labels.result.now c.args.solver.now middle c.args.lanes.now c.run_round.new.lanes c.round.ensures.round c.labels.ensures.labels c.round.ensures.progress c.requires.ends c.requires.few_shards
+    turn_asked g.P.Port c.round.result c.args.cut.now c.labels.result.now c.args.solver.now middle c.args.self.now.lanes.now c.run_round.new.self.lanes.now c.round.ensures.round c.labels.ensures.labels c.round.ensures.progress c.requires.ends c.requires.few_shards
     (rw c.in_ok-book.ensures.opened at asked)
 
 -- ---- its picks
@@ -44,12 +44,12 @@ returns-clause-picked g c =
     let book = c.run_round.new.book in
     let round = c.args.solver.now.rounds + 1 in
     let labels = c.args.solver.now.labels in
-    let went : RunsRound g.P.Port (opened round c.args.cut.now labels) book c.args.lanes.now c.run_round.new.lanes c.in_ok-alone.alone =
+    let went : RunsRound g.P.Port (opened round c.args.cut.now labels) book c.args.self.now.lanes.now c.run_round.new.self.lanes.now c.in_ok-alone.alone =
     rw (c.in_ok-book.ensures.opened, c.round.ensures.round, c.labels.ensures.labels) at c.in_ok-alone.ensures.went in
     record {
       book = book;
       went = went;
       value = c.close_par.ensures.value;
       picked = subst (λ (ls : List ℕ). ArePicks ls (IsNamed (hearings book)) c.close_par.result)
-          (same_still g.P.Port round c.args.cut.now labels book c.args.lanes.now c.run_round.new.lanes c.in_ok-alone.alone went).labels c.close_par.ensures.picks;
+          (same_still g.P.Port round c.args.cut.now labels book c.args.self.now.lanes.now c.run_round.new.self.lanes.now c.in_ok-alone.alone went).labels c.close_par.ensures.picks;
     }

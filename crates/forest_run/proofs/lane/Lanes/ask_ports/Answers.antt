@@ -1,0 +1,31 @@
+use Rattle.std.proofs.Common.{refl, ◌∙◌}
+use Rattle.forest_run.proofs.Eaches.{each_refl}
+use Rattle.forest_run.proofs.Passing.{SamePort, passed_none, passed_then}
+use Rattle.forest_run.proofs.Lasting.{round_stays, bound_stays}
+use Rattle.forest_run.proofs.lane.Lanes.ask_ports.Goals as goal
+
+pub loop-init : goal.loop-init
+loop-init g c = record {
+  went =
+      passed_none g.P.Port c.args.book.now c.args.self.now.lanes.now c.args.self.now.lanes.now
+      (each_refl SamePort c.args.self.now.lanes.now (λ x. record { port = refl }));
+  same_lanes = refl;
+}
+
+pub pass-requires-clause-round : goal.pass-requires-clause-round
+pass-requires-clause-round g c κs within =
+    round_stays g.P.Port c.args.book.now _ c.args.self.now.lanes.now _ c.loop.invariant.went c.requires.round
+
+pub pass-requires-clause-bound : goal.pass-requires-clause-bound
+pass-requires-clause-bound g c κs within =
+    bound_stays g.P.Port c.args.book.now _ c.args.self.now.lanes.now _ c.loop.invariant.went c.requires.round c.requires.wide
+
+pub loop-preserved : goal.loop-preserved
+loop-preserved g c = record {
+  went = passed_then g.P.Port c.args.book.now _ _ c.args.self.now.lanes.now _ _ c.loop.invariant.went c.pass.ensures.went;
+  same_lanes = c.pass.ensures.same_lanes ∙ c.loop.invariant.same_lanes;
+}
+
+pub returns-in_err-pass-clause-went : goal.returns-in_err-pass-clause-went
+returns-in_err-pass-clause-went g c =
+    passed_then g.P.Port c.args.book.now _ _ c.args.self.now.lanes.now _ _ c.loop.invariant.went c.pass.ensures.went
