@@ -571,21 +571,52 @@ const UNDER: [(&[u32], &[(u32, u32)]); 9] = [
     ),
 ];
 
+// A scan of the whole list under these labels gives these offers.
+fn expect_scan(
+    rt: &(impl Abort + Threads + Sync),
+    alloc: Global,
+    scanner: &mut Scanner,
+    links: &[Link],
+    under: (&[u32], &[(u32, u32)]),
+) -> Result<(), Fail> {
+    let (list, expected) = under;
+    let labels = Labels::of_list(Vec::from_slice(alloc, list)?).ok_or("labels")?;
+    let offers = scanned(rt, alloc, scanner, links, &labels)?;
+    expect_offers(rt, &offers, expected);
+    Ok(())
+}
+
+// Scans of the whole list give the offers of each row.
+fn expect_scans(
+    rt: &(impl Abort + Threads + Sync),
+    alloc: Global,
+    links: &[Link],
+) -> Result<(), Fail> {
+    let mut scanner = Scanner::new(alloc);
+    for under in UNDER {
+        expect_scan(rt, alloc, &mut scanner, links, under)?;
+    }
+    Ok(())
+}
+
+// A worker that keeps the list answers so, row by row.
+fn expect_heard(
+    rt: &(impl Abort + Threads + Sync),
+    alloc: Global,
+    by: By,
+    links: &[Link],
+) -> Result<(), Fail> {
+    let mut worker = Worker::new(alloc, by);
+    worker.keep(rt, 0, links.to_vec(alloc)?)?;
+    expect_each(rt, alloc, &mut worker, &UNDER)
+}
+
 // Of parallel links the least is kept, whichever stands first. A scan of the whole list gives the same offers.
 #[test]
 fn parallel_links_are_laid_aside(rt: HostRuntime) -> Result<(), Fail> {
     let alloc = rt.alloc();
     let links = links_of(alloc, 6, &PARALLEL)?.ok_or("arcs")?;
-    let mut scanner = Scanner::new(alloc);
-    for (list, expected) in UNDER {
-        let labels = Labels::of_list(Vec::from_slice(alloc, list)?).ok_or("labels")?;
-        let offers = scanned(&rt, alloc, &mut scanner, links.as_slice(), &labels)?;
-        expect_offers(&rt, &offers, expected);
-    }
-    for by in [By::OneThread, By::Threads] {
-        let mut worker = Worker::new(alloc, by);
-        worker.keep(&rt, 0, links.to_vec(alloc)?)?;
-        expect_each(&rt, alloc, &mut worker, &UNDER)?;
-    }
-    Ok(())
+    expect_scans(&rt, alloc, links.as_slice())?;
+    expect_heard(&rt, alloc, By::OneThread, links.as_slice())?;
+    expect_heard(&rt, alloc, By::Threads, links.as_slice())
 }
