@@ -10,8 +10,8 @@ library is proved in a room of its own: a copy of its files under .git (or under
 was proved before, and whose files are the same, takes a second. The program comes last, by `rt run` where it lies. A
 run that was cut off is begun again by the same words: what was proved stays.
 
-  --jobs N    at most N checks side by side (if not set: as many as there are processors, and one for each 2.5 GB of
-              memory that is free)
+  --jobs N    at most N checks side by side, and N processes for each (if not set: as many as there are processors, and
+              one for each 2.5 GB of memory that is free)
   --dry-run   only shows in which order the crates would be proved, and how many processes each would have
 
 What it is at goes to standard error, when a crate begins and each half minute. Where a crate isn't proved, what `rt`
@@ -34,7 +34,9 @@ from crates import ROOT, below, crate_lines
 
 RT = shlex.split(os.environ.get("RT", "rt"))
 EACH = 2_500_000_000  # bytes of free memory for each check
+PROCESS = 1_250_000_000  # and for each of its processes
 LARGE = 300  # lines of code and of proofs from which on more than one process serves
+LATER = ["nice", "-n", "5"]  # before a check that others stand on less, so that it fills what they leave
 SECONDS = 30  # from one line on what it is at to the next
 PARTS = ("src", "specs", "proofs")
 
@@ -70,8 +72,9 @@ def lines_of(crate):
 class Plan:
     """Which crates wait for which, and how long what stands on each takes, in lines."""
 
-    def __init__(self, program, lines):
-        self.program, self.lines = program, lines
+    def __init__(self, program, lines, most):
+        self.program, self.lines, self.most = program, lines, most
+        self.room = max(most, free_memory() // PROCESS)
         self.names = [*below(program, lines), program]
         self.below = {name: below(name, lines) for name in self.names}
         self.count = {name: lines_of(name) for name in self.names}
@@ -84,12 +87,14 @@ class Plan:
         found = [it for it in self.names[:-1] if it not in begun and all(name in done for name in self.below[it])]
         return sorted(found, key=lambda it: -self.chain[it])
 
-    def processes(self, name, beside, most):
-        """How many processes a check gets: beside others one, but the one with the longest chain upon it has all that they leave."""
-        others = [it for it in beside if it != name]
-        if self.count[name] < LARGE or any(self.chain[it] > self.chain[name] for it in others):
-            return 1
-        return max(1, most - len(others))
+    def processes(self, name, taken):
+        """How many processes a check gets, where so many are taken: a check seldom keeps all of its own at work, so they are
+        more than there are processors, as far as memory goes."""
+        return min(self.most, max(1, self.room - taken)) if self.count[name] >= LARGE else 1
+
+    def is_ahead(self, name, beside):
+        """Whether the longest chain of others stands on it, of those side by side."""
+        return all(self.chain[it] <= self.chain[name] for it in beside)
 
 
 class Progress:
@@ -143,9 +148,10 @@ class Room:
         if os.path.isdir(f"{ROOT}/crates/{crate}/out"):
             shutil.move(f"{ROOT}/crates/{crate}/out", f"{self.folder}/out")
 
-    def begin(self, processes):
+    def begin(self, processes, is_ahead):
+        self.processes = processes
         with open(self.log, "wb") as log:
-            words = [*RT, "lib", "--jobs", str(processes)]
+            words = [*([] if is_ahead else LATER), *RT, "lib", "--jobs", str(processes)]
             # a session of its own, so that all of it can be ended
             self.process = subprocess.Popen(words, cwd=self.folder, stdin=subprocess.DEVNULL, stdout=log, stderr=log, start_new_session=True)
 
@@ -201,7 +207,7 @@ def alone_in(crates):
             os.close(it)
 
 
-def prove_libraries(plan, most, progress):
+def prove_libraries(plan, progress):
     rooms = f"{ROOT}/.git/rooms" if os.path.isdir(f"{ROOT}/.git") else f"{ROOT}/crates/{plan.program}/out/rooms"
     with alone_in(plan.names):
         # what a run that was killed left
@@ -210,11 +216,12 @@ def prove_libraries(plan, most, progress):
         running, done = {}, set()
         try:
             while len(done) < len(plan.names) - 1:
-                begun = plan.ready({*running, *done}, done)[: most - len(running)]
+                begun = plan.ready({*running, *done}, done)[: plan.most - len(running)]
                 beside = [*running, *begun]
                 for name in begun:
+                    processes = plan.processes(name, sum(it.processes for it in running.values()))
                     running[name] = Room(name, plan, rooms)
-                    running[name].begin(plan.processes(name, beside, most))
+                    running[name].begin(processes, plan.is_ahead(name, beside))
                 if begun:
                     progress.tell(running)
                 time.sleep(0.2)
@@ -243,7 +250,7 @@ def prove_program(plan, progress):
     os.makedirs(f"{folder}/out", exist_ok=True)
     progress.tell([plan.program])
     with open(source if os.path.isfile(source) else os.devnull, "rb") as given, open(log, "w+b") as said:
-        words = [*RT, "run", *words_of(folder)]
+        words = [*RT, "run", "--jobs", str(plan.processes(plan.program, 0)), *words_of(folder)]
         process = subprocess.Popen(words, cwd=folder, stdin=given, stdout=said, stderr=said, start_new_session=True)
         try:
             while process.poll() is None:
@@ -262,15 +269,17 @@ def prove_program(plan, progress):
         raise NotProved(f"{text}{plan.program} is not proved, or its run failed")
 
 
-def show_order(plan, most):
+def show_order(plan):
     """As `prove_libraries` would go if each check took as long as its crate has lines."""
-    ends, done, now, number = {}, set(), 0, 0
+    ends, processes, done, now, number = {}, {}, set(), 0, 0
     while len(done) < len(plan.names) - 1:
-        begun = plan.ready({*ends, *done}, done)[: most - len(ends)]
+        begun = plan.ready({*ends, *done}, done)[: plan.most - len(ends)]
         beside = [*ends, *begun]
         for name in begun:
             number += 1
-            print(f"{name} ({number} of {len(plan.names)}): {plan.processes(name, beside, most)} processes, beside {', '.join(ends) or 'none'}")
+            processes[name] = plan.processes(name, sum(processes[it] for it in ends))
+            others = f"beside {', '.join(ends) or 'none'}{'' if plan.is_ahead(name, beside) else ', later'}"
+            print(f"{name} ({number} of {len(plan.names)}): {processes[name]} processes, {others}")
             ends[name] = now + plan.count[name]
         now = min(ends.values())
         for name in [it for it in ends if ends[it] == now]:
@@ -297,9 +306,9 @@ def main(words):
     if len(names) > 1 or program not in lines or not os.path.isfile(f"{ROOT}/crates/{program}/src/main.rt"):
         print(f"tools/prove.py: crates.txt has no program {' '.join(names)}", file=sys.stderr)
         return 2
-    plan, most = Plan(program, lines), most or lanes()
+    plan = Plan(program, lines, most or lanes())
     if is_dry:
-        show_order(plan, most)
+        show_order(plan)
         return 0
     if not shutil.which(RT[0]):
         print(f"To prove and build {program}, the Rattle toolchain's command `{RT[0]}` has to be on the PATH: see the README.", file=sys.stderr)
@@ -308,7 +317,7 @@ def main(words):
     print("proving and building; the first time this takes some minutes", file=sys.stderr, flush=True)
     progress = Progress(len(plan.names))
     try:
-        prove_libraries(plan, most, progress)
+        prove_libraries(plan, progress)
         prove_program(plan, progress)
     except NotProved as error:
         print(error, file=sys.stderr)
