@@ -6,6 +6,7 @@
 //!   board, shard_sets            claims of shards, by one seat and by many; sets of shards
 //!   labels                       labels that coarsen others
 //!   scans                        a worker's scan, by one thread and by threads, and links that are laid aside
+//!   kept_shard                   a shard that is kept, and its offers as components grow
 //!   engine                       what a worker hears, and whole sessions
 //!   sizes                        scans and engines at each size at which something in them changes
 //!   touched                      scans of a few links under many labels, one after the other
@@ -17,9 +18,9 @@
 //!   same                         what is found beside what is expected
 //! ```
 //!
-//! Where to start a change: a new public call of `worker_engine`, `claim_board` or `shard_set`, or of labels and cuts, gets
-//! its example in the file of its subject. What an example is for, and which crate has those of other subjects, stands at
-//! the head of `worked_examples`.
+//! Where to start a change: a new public call of `shard_scans`, `worker_engine`, `claim_board` or `shard_set`, or of labels
+//! and cuts, gets its example in the file of its subject. What an example is for, and which crate has those of other
+//! subjects, stands at the head of `worked_examples`.
 #![tactic(auto)]
 
 #[cfg(test)]

@@ -2,6 +2,7 @@ mod board;
 mod cuts;
 mod engine;
 mod fault_texts;
+mod kept_shard;
 mod labels;
 mod memory_counts;
 mod memory_of_lists;

@@ -13,9 +13,9 @@ use Rattle.link_key.specs.declared.links.Link.{Link}
 use Rattle.link_key.specs.Labels.{Coarsens}
 use Rattle.frames.specs.FrameValue.{ShardFrame}
 use Rattle.worker_engine.specs.Serving.{shelf_of, shelf_with}
-use Rattle.worker_engine.proofs.Written.{live_links_coarser}
-use Rattle.worker_engine.specs.declared.live.LiveLink.{LiveLink}
-use Rattle.worker_engine.specs.Live.{KeptShardState, AreLiveLinks, shelf_list, IsLive, IsAllLive, AreAllLive, AreAllUnder}
+use Rattle.shard_scans.proofs.Written.{kept_coarser}
+use Rattle.shard_scans.specs.Live.{KeptShardState, AreLiveLinks, IsLive, IsAllLive}
+use Rattle.worker_engine.specs.Shelves.{shelf_list, AreAllLive, AreAllUnder}
 
 abbrev links_of : KeptShardState → List Link
 links_of kept = kept.links
@@ -77,11 +77,7 @@ under_coarser labels finer shards coarsens all s = go (lookup (is_at (nat_cmp s)
   where
     go : (o : Option KeptShardState) → IfSome o (IsLive finer) → IfSome o (IsLive labels)
     go None none = tt
-    go (Some kept) live = coarser kept.live live
-      where
-        coarser : (live : Option (List LiveLink)) → IfSome live (AreLiveLinks kept.links finer) → IfSome live (AreLiveLinks kept.links labels)
-        coarser None none = tt
-        coarser (Some live) are = live_links_coarser kept.links labels finer live coarsens are
+    go (Some kept) live = kept_coarser kept labels finer coarsens live
 
 -- a shard that is found
 pub live_there : (labels : List ℕ) (shards : List (ℕ × KeptShardState)) (s : ℕ) (kept : KeptShardState) → Some kept ≡ lookup (is_at (nat_cmp s)) shards → AreAllUnder labels shards → IsLive labels kept

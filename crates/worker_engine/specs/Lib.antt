@@ -1,10 +1,5 @@
-pub mod Scanning
 pub mod Serving
-pub mod Live
-pub mod Batches
-pub mod Parts
-pub mod Tables
-pub mod Numbers
+pub mod Shelves
 pub mod Session
 pub mod Laws
 pub mod Served

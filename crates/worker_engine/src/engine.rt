@@ -4,15 +4,15 @@ ghost use Rattle.frames.specs.FrameValue.{value_of, ShardFrame, FaultFrame};
 ghost use Rattle.frames.specs.Lawful.{IsLawful, IsShard, IsAsk};
 ghost use Rattle.frames.specs.FrameStream.{AreLawful};
 ghost use Rattle.worker_engine.specs.Serving.{shelf_of, shelf_with, IsReply, MayWantMemory, AreReplyTo, MayFollow, IsShardFrame, replies_in};
-ghost use Rattle.worker_engine.specs.Live.{shelf_list, IsReplyWith, IsAllLive, AreAllLive, AreAllUnder};
+ghost use Rattle.shard_scans.specs.Live.{IsAllLive};
+ghost use Rattle.worker_engine.specs.Shelves.{shelf_list, IsReplyWith, AreAllLive, AreAllUnder};
 
 mod hearing;
 mod threads;
 
-use crate::kept_shard::KeptShard;
-use crate::scanning::Scanner;
 use frames::{Answer, Frame, Links};
 use link_key::{Labels, Offers};
+use shard_scans::{KeptShard, Scanner};
 use std::alloc::{AllocError, Allocator, Global};
 use std::collections::BTreeMap;
 use std::marker::Model;
@@ -29,15 +29,9 @@ pub const NO_LABEL: u8 = 3;
 /// What a worker keeps between frames: the last shard that it heard under each number, and the table of its last
 /// scan. Contracts see which links it keeps under which number.
 ///
-/// A shard is scanned by numbers of its own for the labels that its links have: 16 bytes and a bit for each of these for the
-/// table, 4 bytes for its name, and a quarter of a byte a vertex. One of 131,072 links or more, at least twice as many as
-/// vertices, that is scanned by threads is scanned by the labels themselves, each part over a table of 16 bytes and a bit a
-/// vertex.
-///
-/// Once an answer shows that a shard has links whose ends have one label, these are laid aside: it lists the live ones, each
-/// with numbers or labels of its ends, by 24 bytes a live link, and 4 bytes for the name of each number, and a scan passes
-/// over the list alone. Where there is no memory for the list, all stay live. It keeps the labels of the last ask too, 4
-/// bytes a vertex. Where the labels of an ask don't coarsen them, the lists are given back, and all links are live again.
+/// Each shard is a [`KeptShard`], whose docs say what a scan of it takes, and what the list of its live links; one scanner's
+/// table serves for all. It keeps the labels of the last ask too, 4 bytes a vertex. Where the labels of an ask don't coarsen
+/// them, the lists are given back, and all links are live again.
 #[derive(Drop)]
 pub struct Engine<A: Allocator = Global> {
     shards: BTreeMap<u32, KeptShard<A>, A>,
@@ -48,7 +42,7 @@ pub struct Engine<A: Allocator = Global> {
 
 impl<A: Allocator> Model for Engine<A> {
     ghost use Rattle.worker_engine.specs.Serving.{ShelfList};
-    ghost use Rattle.worker_engine.specs.Live.{shelf_list, AreAllUnder};
+    ghost use Rattle.worker_engine.specs.Shelves.{shelf_list, AreAllUnder};
 
     ghost Value = { ShelfList };
 
@@ -136,7 +130,7 @@ impl<A: Allocator + Copy> Engine<A> {
         ensures kept { OnOk result (shelf_of self.new ≡ shelf_with (shelf_of self.old) (ShardFrame number links)) }
         ensures unchanged { OnErr result (self.new ≡ self.old) }
     {
-        let kept = KeptShard::new(links);
+        let kept = KeptShard::new(links.into_list());
         self.shards.insert(number, kept)?;
         Ok(())
     }

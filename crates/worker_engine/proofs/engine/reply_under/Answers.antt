@@ -1,5 +1,5 @@
 use Rattle.std.proofs.Common.{ap, ◌∙◌}
-use Rattle.worker_engine.specs.Live.{shelf_list}
+use Rattle.worker_engine.specs.Shelves.{shelf_list}
 use Rattle.worker_engine.proofs.Shelves.{shelf_some, shelf_none, kept_at, kept_same}
 use Rattle.worker_engine.proofs.engine.reply_under.Goals as goal
 

@@ -12,4 +12,4 @@ pub returns-clause-kept : goal.returns-clause-kept
 returns-clause-kept g c =
     shelf_inserted c.self.inside.shards.entries c.insert.new.self.entries c.args.number c.new-kept.result c.in_ok-insert.ensures.updates.0
     ∙ ap (λ (k : ShelfList). shelf_with (shelf_of k) (ShardFrame c.args.number c.new-kept.result.links)) c.self.view_is
-    ∙ ap (λ (l : List Link). shelf_with (shelf_of c.args.self.now) (ShardFrame c.args.number l)) c.new-kept.ensures.links
+    ∙ ap (λ (l : List Link). shelf_with (shelf_of c.args.self.now) (ShardFrame c.args.number l)) (c.new-kept.ensures.links ∙ c.into_list.ensures)

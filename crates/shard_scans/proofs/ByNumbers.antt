@@ -1,0 +1,234 @@
+-- A pass over links by the numbers of the labels that they have, in place of the labels.
+--
+-- The numbers of the labels of all vertices are a coarser labelling: vertices of one label have one number. A link whose
+-- ends have marked labels leaves a number exactly where it leaves that number's label, since marked labels have numbers of
+-- their own. So the best places by numbers are those by labels, and as numbers ascend with the labels, so do the offers.
+use Rattle.std.proofs.Common.{◌≡◌, ◌≢◌, ℕ, ◌+◌, ◌-◌, ◌<◌, ◌≤◌, ◌^◌, ◌⊎◌, List, ◌++◌, length, get_or, take, drop, map, Contains, refl, sym, ap, ◌∙◌, subst, inl, inr, arith}
+use Rattle.std.proofs.Math.Seq.{take-append_seam}
+use Rattle.std.proofs.lemmas.List.{get_or-map, length-map}
+use Rattle.std.proofs.lemmas.List.Elements.{Contains-get_or}
+use Rattle.link_key.specs.declared.links.Link.{Link}
+use Rattle.link_key.specs.Link.{EndsUpTo}
+use Rattle.link_key.specs.Labels.{label_of, Coarsens}
+use Rattle.link_key.specs.Offers.{Offer}
+use Rattle.round_theory.specs.Labelling.{IsVertex}
+use Rattle.round_theory.specs.Offers.{Leaves, IsLightOffer, AreLightOffers}
+use Rattle.round_theory.proofs.Leaving.{leaves_apart, leaves_end}
+use Rattle.shard_scans.specs.declared.scanning.Best.{Best}
+use Rattle.shard_scans.specs.declared.live.LiveLink.{LiveLink}
+use Rattle.shard_scans.specs.Scanning.{no_best, IsBestPlace, best_of, AreBestUpTo}
+use Rattle.shard_scans.specs.Tables.{IsKept, ArePlaces}
+use Rattle.std.proofs.lemmas.Bool.{cases_lt}
+use Rattle.shard_scans.specs.Batches.{written_at, AreLookedUp, CanBeTakenIn}
+use Rattle.shard_scans.proofs.Written.{link_at}
+use Rattle.shard_scans.specs.Numbers.{IsMarked, number_of, numbered, numbered_labels, HasItsName, offered, HasNumbers, AreNumbered, AreMarkedUpTo, AreNamedUpTo, AreBothMarked, AreBothNamed}
+use Rattle.shard_scans.proofs.BestSoFar.{best_is_light, none_leaves, one_read}
+use Rattle.shard_scans.proofs.Scans.{kept_place, kept_none, end_at}
+use Rattle.shard_scans.proofs.Tables.{kept_below, same_place}
+use Rattle.shard_scans.proofs.Numbering.{numbers_apart, ascends_back}
+
+-- a slice that is written back stands for the whole list
+pub written_back : {X : Type 0} (n : ℕ) (xs ys : List X) → length ys ≡ n → take n (ys ++ drop (length ys) xs) ≡ ys
+written_back n xs ys size = subst (λ k. take k (ys ++ drop (length ys) xs) ≡ ys) size (take-append_seam ys (drop (length ys) xs))
+
+module _ (marks labels : List ℕ) where
+  -- the number of a vertex is that of its label
+  pub own_label : (v : ℕ) → IsVertex (length labels) v → label_of (numbered_labels marks labels) v ≡ number_of marks (label_of labels v)
+  own_label v vertex = get_or-map (number_of marks) labels (v - 1) 0 0 (omega (arith, vertex))
+
+  pub own_coarsens : Coarsens (numbered_labels marks labels) labels
+  own_coarsens = record {
+    vertices = length-map labels (number_of marks);
+    together = λ u v u_low u_high v_low v_high same. own_label u (u_low, u_high) ∙ ap (number_of marks) same ∙ sym (own_label v (v_low, v_high));
+  }
+
+  -- what is written of a link by labels, with their numbers
+  pub numbered_written : (l : Link) (place : ℕ) → l.high ≤ length labels → numbered marks (written_at labels l place) ≡ written_at (numbered_labels marks labels) l place
+  numbered_written l place ends =
+      let low = own_label l.low (l.from_one, omega (arith, l.ascending, ends)) in
+      let high = own_label l.high (omega (arith, l.from_one, l.ascending), ends) in
+      λ k. record { low = (sym low) k; high = (sym high) k; weight = l.weight; place = place }
+
+  module _ (names : List ℕ) (l : Link) (ends : l.high ≤ length labels) (has : (label_of labels l.low ≡ label_of labels l.high) ⊎ HasNumbers labels marks names l) where
+    own_low : label_of (numbered_labels marks labels) l.low ≡ number_of marks (label_of labels l.low)
+    own_low = own_label l.low (l.from_one, omega (arith, l.ascending, ends))
+
+    own_high : label_of (numbered_labels marks labels) l.high ≡ number_of marks (label_of labels l.high)
+    own_high = own_label l.high (omega (arith, l.from_one, l.ascending), ends)
+
+    -- the link leaves the number of a label that it leaves
+    pub leaves_own : (c : ℕ) → IsMarked marks c → Leaves labels l c → Leaves (numbered_labels marks labels) l (number_of marks c)
+    leaves_own c c_is (inl (at, apart)) = elim has [
+      | inl same ↦ absurd (apart (sym same ∙ at))
+      | inr is ↦ inl (own_low ∙ ap (number_of marks) at, λ same. apart (numbers_apart marks (label_of labels l.high) c is.high_marked c_is (sym own_high ∙ same)))
+    ]
+    leaves_own c c_is (inr (apart, at)) = elim has [
+      | inl same ↦ absurd (apart (same ∙ at))
+      | inr is ↦ inr (λ same. apart (numbers_apart marks (label_of labels l.low) c is.low_marked c_is (sym own_low ∙ same)), own_high ∙ ap (number_of marks) at)
+    ]
+
+    -- a number that it leaves is that of a label that it leaves
+    pub leaves_back : (p : ℕ) → Leaves (numbered_labels marks labels) l p → (c : ℕ) × IsMarked marks c × HasItsName marks names c × (number_of marks c ≡ p) × Leaves labels l c
+    leaves_back p (inl (at, apart)) = elim has [
+      | inl same ↦ absurd (apart (own_high ∙ ap (number_of marks) (sym same) ∙ sym own_low ∙ at))
+      | inr is ↦ (label_of labels l.low, is.low_marked, is.low_named, sym own_low ∙ at, inl (refl, λ same. apart (own_high ∙ ap (number_of marks) same ∙ sym own_low ∙ at)))
+    ]
+    leaves_back p (inr (apart, at)) = elim has [
+      | inl same ↦ absurd (apart (own_low ∙ ap (number_of marks) same ∙ sym own_high ∙ at))
+      | inr is ↦ (label_of labels l.high, is.high_marked, is.high_named, sym own_high ∙ at, inr (λ same. apart (own_low ∙ ap (number_of marks) same ∙ sym own_high ∙ at), refl))
+    ]
+
+    pub leaves_again : (c : ℕ) → IsMarked marks c → Leaves (numbered_labels marks labels) l (number_of marks c) → Leaves labels l c
+    leaves_again c c_is leaves =
+        let (d, d_is, named, same, out) = leaves_back (number_of marks c) leaves in
+        subst (Leaves labels l) (numbers_apart marks d c d_is c_is same) out
+
+module _ (links : List Link) (labels marks names : List ℕ) (ends : EndsUpTo (length labels) links) (has : AreNumbered links labels marks names) where
+  -- the best place for a number is that for its label
+  pub best_from_own : (c place : ℕ) → IsMarked marks c → IsBestPlace links (numbered_labels marks labels) 0 (length links) (number_of marks c) place → IsBestPlace links labels 0 (length links) c place
+  best_from_own c place c_is best = record {
+    link = best.link;
+    here = best.here;
+    from_start = best.from_start;
+    before_end = best.before_end;
+    in_list = best.in_list;
+    leaves = leaves_again marks labels names best.link (end_at (length labels) links place best.link ends best.in_list best.here) (has place best.link best.in_list best.here) c c_is best.leaves;
+    first = λ q m from_start before_end in_list read leaves.
+        best.first q m from_start before_end in_list read (leaves_own marks labels names m (end_at (length labels) links q m ends in_list read) (has q m in_list read) c c_is leaves);
+  }
+
+  module _ (few : length links ≤ 2 ^ 24) (within : (c : ℕ) → IsMarked marks c → number_of marks c ≤ length names) (table : List Best)
+      (best : AreBestUpTo (length names) links (numbered_labels marks labels) 0 (length links) table) where
+    -- where a place is kept for a number, it is the best one for the label of the number
+    kept_label : (p place : ℕ) → IsKept table p place → (c : ℕ) × IsMarked marks c × HasItsName marks names c × (number_of marks c ≡ p) × IsBestPlace links labels 0 (length links) c place
+    kept_label p place kept =
+        let own = numbered_labels marks labels in
+        let vertex : IsVertex (length names) p = (kept.from_one, omega (arith, kept_below table p place kept, best.each_vertex)) in
+        let b = kept_place links own 0 (length links) p (best_of table p) (best.best p vertex) (λ none. kept.some (sym kept.here ∙ none)) in
+        let at = subst (IsBestPlace links own 0 (length links) p) kept.here b in
+        let (c, c_is, named, number, leaves) = leaves_back marks labels names at.link (end_at (length labels) links place at.link ends at.in_list at.here) (has place at.link at.in_list at.here) p at.leaves in
+        (c, c_is, named, number, best_from_own c place c_is (subst (λ k. IsBestPlace links own 0 (length links) k place) (sym number) at))
+
+    -- the labels that a link leaves have numbers
+    left_has_number : (l : Link) (place c : ℕ) → place < length links → l ≡ get_or links place l → Leaves labels l c → IsMarked marks c × HasItsName marks names c
+    left_has_number l place c in_list read leaves = elim (has place l in_list read) [
+      | inl same ↦ absurd (leaves_apart labels l c leaves same)
+      | inr is ↦ elim (leaves_end labels l c leaves) [
+        | inl low ↦ subst (λ k. IsMarked marks k × HasItsName marks names k) (sym low) (is.low_marked, is.low_named)
+        | inr high ↦ subst (λ k. IsMarked marks k × HasItsName marks names k) (sym high) (is.high_marked, is.high_named)
+      ]
+    ]
+
+    -- a light offer is kept for the number of its label
+    light_kept : (c place : ℕ) → IsLightOffer links labels c place → IsKept table (number_of marks c) place × HasItsName marks names c
+    light_kept c place (l, least, at) =
+        let own = numbered_labels marks labels in
+        let (c_is, named) = left_has_number l place c at.within (sym at.here) least.leaves in
+        let p = number_of marks c in
+        let vertex : IsVertex (length names) p = (omega arith, within c c_is) in
+        let keeps = best.best p vertex in
+        let leaves = leaves_own marks labels names l (end_at (length labels) links place l ends at.within (sym at.here)) (has place l at.within (sym at.here)) c c_is least.leaves in
+        let some : (best_of table p).place ≢ no_best.place = λ none. none_leaves links own p (kept_none links own 0 (length links) p (best_of table p) keeps few none) l least.member leaves in
+        let found = best_from_own c (best_of table p).place c_is (kept_place links own 0 (length links) p (best_of table p) keeps some) in
+        let same = same_place links labels c (best_of table p).place place found (l, least, at) in
+        (record { from_one = omega arith; here = same; some = λ none. some (same ∙ none) }, named)
+
+    module _ (pairs : List Offer) (places : ArePlaces table pairs) where
+      -- what stands behind so many pairs
+      label_at : (k : ℕ) (d : Offer) → k < length pairs → (c : ℕ) × IsMarked marks c × (number_of marks c ≡ (get_or pairs k d).0)
+          × IsBestPlace links labels 0 (length links) c (get_or pairs k d).1 × (get_or names ((get_or pairs k d).0 - 1) 0 ≡ c)
+      label_at k d lt =
+          let e = get_or pairs k d in
+          let (c, c_is, named, number, b) = kept_label e.0 e.1 ((places.exact e.0 e.1).0 (Contains-get_or pairs k d lt)) in
+          (c, c_is, number, b, ap (λ n. get_or names (n - 1) 0) (sym number) ∙ named)
+
+      -- so the pairs, by the names of the numbers, are the light offers
+      light_by_numbers : AreLightOffers links labels (map (offered names) pairs)
+      light_by_numbers = record { ascending = ascending; exact = λ c place. (to c place, back c place) }
+        where
+          ascending : (i j : ℕ) (d : Offer) → i < j → j < length (map (offered names) pairs) → (get_or (map (offered names) pairs) i d).0 < (get_or (map (offered names) pairs) j d).0
+          ascending i j d lt in_range =
+              let at_j : j < length pairs = omega (arith, in_range, length-map pairs (offered names)) in
+              let at_i : i < length pairs = omega (arith, lt, at_j) in
+              let i_is : (get_or (map (offered names) pairs) i d).0 ≡ get_or names ((get_or pairs i d).0 - 1) 0 = ap (λ (o : Offer). o.0) (get_or-map (offered names) pairs i d d at_i) in
+              let j_is : (get_or (map (offered names) pairs) j d).0 ≡ get_or names ((get_or pairs j d).0 - 1) 0 = ap (λ (o : Offer). o.0) (get_or-map (offered names) pairs j d d at_j) in
+              let (a, a_is, a_number, a_best, a_name) = label_at i d at_i in
+              let (b, b_is, b_number, b_best, b_name) = label_at j d at_j in
+              let less : a < b = ascends_back marks a b a_is b_is (omega (arith, a_number, b_number, places.ascending i j d lt at_j)) in
+              omega (arith, i_is, j_is, a_name, b_name, less)
+
+          to : (c place : ℕ) → Contains (map (offered names) pairs) (c, place) → IsLightOffer links labels c place
+          to c place (k, lt, here) =
+              let d : Offer = (c, place) in
+              let at_k : k < length pairs = omega (arith, lt, length-map pairs (offered names)) in
+              let is : offered names (get_or pairs k d) ≡ d = sym (get_or-map (offered names) pairs k d d at_k) ∙ here in
+              let (a, a_is, number, best, name) = label_at k d at_k in
+              let label : a ≡ c = sym name ∙ ap (λ (o : Offer). o.0) is in
+              let at : (get_or pairs k d).1 ≡ place = ap (λ (o : Offer). o.1) is in
+              best_is_light links labels c place (subst (IsBestPlace links labels 0 (length links) c) at (subst (λ n. IsBestPlace links labels 0 (length links) n (get_or pairs k d).1) label best))
+
+          back : (c place : ℕ) → IsLightOffer links labels c place → Contains (map (offered names) pairs) (c, place)
+          back c place light =
+              let (kept, named) = light_kept c place light in
+              let (k, lt, here) = (places.exact (number_of marks c) place).1 kept in
+              let x : Offer = (number_of marks c, place) in
+              let there : Contains (map (offered names) pairs) (offered names x) = (k, omega (arith, lt, length-map pairs (offered names)), get_or-map (offered names) pairs k x (offered names x) lt ∙ ap (offered names) here) in
+              subst (λ (o : Offer). Contains (map (offered names) pairs) o) (λ j. (named j, place)) there
+
+      -- and so they are once they are written back over the pairs
+      pub written_light : (n : ℕ) (read written : List Offer) → length written ≡ n → read ≡ pairs → written ≡ map (offered names) read → AreLightOffers links labels (take n (written ++ drop (length written) pairs))
+      written_light n read written size read_is written_is =
+          let is : take n (written ++ drop (length written) pairs) ≡ map (offered names) pairs = written_back n pairs written size ∙ written_is ∙ ap (λ (t : List Offer). map (offered names) t) read_is in
+          subst (AreLightOffers links labels) (sym is) light_by_numbers
+
+module _ (links : List Link) (labels marks : List ℕ) (ends : EndsUpTo (length labels) links) (at to : ℕ) (in_list : to ≤ length links) (batch : List LiveLink) (looked_up : AreLookedUp links labels at to batch) where
+  -- links that were looked up by labels, with their numbers
+  pub row_by_numbers : (batch' : List LiveLink) → ((k : ℕ) (d : LiveLink) → k < to - at → get_or batch' k d ≡ numbered marks (get_or batch k d)) → AreLookedUp links (numbered_labels marks labels) at to batch'
+  row_by_numbers batch' each k d l lt read =
+      each k d lt ∙ ap (numbered marks) (looked_up k d l lt read) ∙ numbered_written marks labels l (at + k) (end_at (length labels) links (at + k) l ends (omega (arith, lt, in_list)) read)
+
+  pub row_is_marked : AreMarkedUpTo (length links) links labels marks → (k : ℕ) (d : LiveLink) → k < to - at → AreBothMarked marks (get_or batch k d)
+  row_is_marked marked k d lt =
+      let within : at + k < length links = omega (arith, lt, in_list) in
+      let (l, read) = link_at links (at + k) within in
+      subst (AreBothMarked marks) (sym (looked_up k d l lt read)) (marked (at + k) l within read)
+
+  -- and the names of those before the next batch
+  pub row_is_named : (names names' : List ℕ) → AreMarkedUpTo (length links) links labels marks → AreNamedUpTo at links labels marks names
+      → ((c : ℕ) → IsMarked marks c → HasItsName marks names c → HasItsName marks names' c)
+      → ((k : ℕ) (d : LiveLink) → k < to - at → AreBothNamed marks names' (get_or batch k d)) → AreNamedUpTo to links labels marks names'
+  row_is_named names names' marked named more each q l lt read = elim (cases_lt q at) [
+    | inl less ↦
+        let is = marked q l (omega (arith, lt, in_list)) read in
+        let both = named q l less read in
+        (more (label_of labels l.low) is.0 both.0, more (label_of labels l.high) is.1 both.1)
+    | inr le ↦
+        let d : LiveLink = written_at labels l q in
+        let k_lt : q - at < to - at = omega (arith, lt, le) in
+        let here : at + (q - at) ≡ q = omega (arith, le) in
+        let is : get_or batch (q - at) d ≡ written_at labels l (at + (q - at)) = looked_up (q - at) d l k_lt (subst (λ n. l ≡ get_or links n l) (sym here) read) in
+        subst (AreBothNamed marks names') is (each (q - at) d k_lt)
+  ]
+
+-- such links can be taken in
+pub row_can_be_numbered : (links : List Link) (labels marks : List ℕ) (count at to : ℕ) (batch : List LiveLink) → EndsUpTo (length labels) links → AreMarkedUpTo (length links) links labels marks
+    → ((c : ℕ) → IsMarked marks c → number_of marks c ≤ count) → to ≤ length links → AreLookedUp links (numbered_labels marks labels) at to batch
+    → (k : ℕ) (d : LiveLink) → k < to - at → CanBeTakenIn links count (get_or batch k d)
+row_can_be_numbered links labels marks count at to batch ends marked within in_list looked_up k d lt =
+    let there : at + k < length links = omega (arith, lt, in_list) in
+    let (l, read) = link_at links (at + k) there in
+    let high : l.high ≤ length labels = end_at (length labels) links (at + k) l ends there read in
+    let is = marked (at + k) l there read in
+    subst (CanBeTakenIn links count) (sym (looked_up k d l lt read)) (record {
+      low = subst (IsVertex count) (sym (own_label marks labels l.low (l.from_one, omega (arith, l.ascending, high)))) (omega arith, within (label_of labels l.low) is.0);
+      high = subst (IsVertex count) (sym (own_label marks labels l.high (omega (arith, l.from_one, l.ascending), high))) (omega arith, within (label_of labels l.high) is.1);
+      in_list = there;
+      weight = λ m m_read. ap (λ (x : Link). x.weight) (one_read links (at + k) l m there read m_read);
+    })
+
+-- links all of whose ends have numbers
+pub all_are_numbered : (links : List Link) (labels marks names : List ℕ) → AreMarkedUpTo (length links) links labels marks → AreNamedUpTo (length links) links labels marks names → AreNumbered links labels marks names
+all_are_numbered links labels marks names marked named q l lt read =
+    let is = marked q l lt read in
+    let at = named q l lt read in
+    inr (record { low_marked = is.0; high_marked = is.1; low_named = at.0; high_named = at.1 })

@@ -1,0 +1,14 @@
+pub mod BestSoFar
+pub mod Scans
+pub mod Outdone
+pub mod Laid
+pub mod Written
+pub mod Ahead
+pub mod Merging
+pub mod Tables
+pub mod Packed
+pub mod Numbering
+pub mod ByNumbers
+pub mod Relisting
+pub mod NextScan
+pub mod Ends

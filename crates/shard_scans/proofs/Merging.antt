@@ -1,0 +1,130 @@
+-- Tables of two parts of a shard's links, taken together.
+use Rattle.std.proofs.Common.{◌≡◌, ◌≢◌, ℕ, ◌+◌, ◌-◌, ◌<◌, ◌≤◌, ◌^◌, List, length, get_or, set, Option, Some, None, sym, ap, ◌∙◌, subst, inl, inr, arith}
+use Rattle.std.proofs.lemmas.Bool.{cases_eq, cases_lt}
+use Rattle.std.proofs.lemmas.List.{get_or_default, get_or-set_same, get_or-set_other, length-set, length-map}
+use Rattle.link_key.specs.declared.links.Link.{Link}
+use Rattle.round_theory.proofs.Leaving.{leaves_apart}
+use Rattle.round_theory.specs.Labelling.{IsVertex}
+use Rattle.shard_scans.specs.declared.scanning.Best.{Best}
+use Rattle.shard_scans.specs.Scanning.{NoneLeavesIn, IsBest, no_best, Says, Keeps, KeepsLesser, best_of, AreBest}
+use Rattle.std.specs.Borrow.{Bor}
+use Rattle.std.specs.Prelude.{IfSome}
+use Rattle.shard_scans.specs.Parts.{SayPlaces, count_in, place_in}
+use Rattle.shard_scans.specs.declared.live.LiveLink.{LiveLink}
+use Rattle.shard_scans.specs.Live.{AreLive, AreLiveLinks, places_of}
+use Rattle.shard_scans.proofs.BestSoFar.{best_first}
+use Rattle.shard_scans.proofs.Laid.{live_first, live_end, live_ascends, front_is_quiet}
+use Rattle.shard_scans.proofs.Scans.{kept_place, kept_none, kept_at, keeps_out}
+
+-- what a table keeps says the weight of the link at its place
+pub bests_say : (links : List Link) (labels : List ℕ) (from to : ℕ) (table : List Best) → AreBest links labels from to table → SayPlaces links table
+bests_say links labels from to table are i d within some = go keeps.best keeps.says
+  where
+    kept : Best
+    kept = get_or table i d
+
+    keeps : Keeps links labels from to (i + 1) kept
+    keeps = kept_at (length labels) links labels from to table (i + 1) i d are (omega arith, omega (arith, within, are.each_vertex)) (omega arith)
+
+    go : (best : Option ℕ) → Says links kept best → Says links kept (Some kept.place)
+    go None says = absurd (some (ap (λ (b : Best). b.place) says))
+    go (Some p) says = subst (λ k. Says links kept (Some k)) (sym says.0) says
+
+-- the labels up to one keep the best place of both parts, and those behind it that of the earlier part
+pub record AreMerged (links : List Link) (labels : List ℕ) (from at to done : ℕ) (table : List Best) : Type 0 where
+  pub each_vertex : length table ≡ length labels
+  pub merged : (c : ℕ) → IsVertex (length labels) c → c ≤ done → Keeps links labels from to c (best_of table c)
+  pub rest : (c : ℕ) → IsVertex (length labels) c → done < c → Keeps links labels from at c (best_of table c)
+
+module _ (links : List Link) (labels : List ℕ) (from at to : ℕ) where
+  -- at first none is merged, and in the end each is
+  pub merged_none : (table : List Best) → AreBest links labels from at table → AreMerged links labels from at to 0 table
+  merged_none table are = record {
+    each_vertex = are.each_vertex;
+    merged = λ c vertex le. absurd (omega (arith, vertex.0, le));
+    rest = λ c vertex lt. are.best c vertex;
+  }
+
+  pub merged_all : (table : List Best) (done : ℕ) → length labels ≤ done → AreMerged links labels from at to done table → AreBest links labels from to table
+  merged_all table done all are = record { each_vertex = are.each_vertex; best = λ c vertex. are.merged c vertex (omega (arith, vertex.1, all)) }
+
+  module _ (le : at ≤ to) (few : length links ≤ 2 ^ 24) (later : List Best) (later_are : AreBest links labels at to later) (i : ℕ) (within : i < length later) (d : Best) (table : List Best) (are : AreMerged links labels from at to i table) where
+    abbrev next : Best
+    next = get_or later i d
+
+    vertex : IsVertex (length labels) (i + 1)
+    vertex = (omega arith, omega (arith, within, later_are.each_vertex))
+
+    next_keeps : Keeps links labels at to (i + 1) next
+    next_keeps = kept_at (length labels) links labels at to later (i + 1) i d later_are vertex (omega arith)
+
+    at_next : best_of table (i + 1) ≡ get_or table i d
+    at_next = ap (λ k. get_or table k no_best) (omega arith) ∙ get_or_default table i no_best d (omega (arith, vertex, are.each_vertex))
+
+    -- no link of the later part leaves the label
+    pub merged_skip : next.place ≡ no_best.place → AreMerged links labels from at to (i + 1) table
+    merged_skip none = record {
+      each_vertex = are.each_vertex;
+      merged = λ c c_vertex c_le. elim (cases_eq c (i + 1)) [
+        | inl is ↦ subst (λ k. Keeps links labels from to k (best_of table k)) (sym is)
+            (keeps_out links labels from at to (i + 1) (best_of table (i + 1)) le (kept_none links labels at to (i + 1) next next_keeps few none) (are.rest (i + 1) vertex (omega arith)))
+        | inr other ↦ are.merged c c_vertex (omega (arith, c_le, other))
+      ];
+      rest = λ c c_vertex lt. are.rest c c_vertex (omega (arith, lt));
+    }
+
+    -- the lesser one is kept
+    pub merged_next : from ≤ at → (after : Best) → KeepsLesser links next (get_or table i d) after → next.place ≢ no_best.place → AreMerged links labels from at to (i + 1) (set table i after)
+    merged_next from_le after lesser some = record {
+      each_vertex = length-set table i after ∙ are.each_vertex;
+      merged = λ c c_vertex c_le. elim (cases_eq c (i + 1)) [
+        | inl is ↦ subst (λ k. Keeps links labels from to k (best_of (set table i after) k)) (sym is)
+            (subst (Keeps links labels from to (i + 1)) (sym at_after)
+            (lesser labels (i + 1) from at to from_le (subst (Keeps links labels from at (i + 1)) at_next (are.rest (i + 1) vertex (omega arith))) (kept_place links labels at to (i + 1) next next_keeps some)))
+        | inr other ↦ subst (Keeps links labels from to c) (sym (elsewhere c c_vertex other)) (are.merged c c_vertex (omega (arith, c_le, other)))
+      ];
+      rest = λ c c_vertex lt. subst (Keeps links labels from at c) (sym (elsewhere c c_vertex (λ same. omega (arith, same, lt)))) (are.rest c c_vertex (omega (arith, lt)));
+    }
+      where
+        at_after : best_of (set table i after) (i + 1) ≡ after
+        at_after = ap (λ k. get_or (set table i after) k no_best) (omega arith) ∙ get_or-set_same table i after no_best (omega (arith, vertex, are.each_vertex))
+
+        elsewhere : (c : ℕ) → IsVertex (length labels) c → c ≢ i + 1 → best_of (set table i after) c ≡ best_of table c
+        elsewhere c c_vertex other = get_or-set_other table i (c - 1) after no_best (λ same. other (omega (arith, same, c_vertex)))
+
+-- links before the first place that leave no label change nothing
+keeps_front : (links : List Link) (labels : List ℕ) (from at to c : ℕ) (kept : Best) → from ≤ at → NoneLeavesIn links labels from at c → Keeps links labels at to c kept → Keeps links labels from to c kept
+keeps_front links labels from at to c kept le none keeps = record { best = keeps.best; says = keeps.says; is = go keeps.best keeps.is }
+  where
+    go : (best : Option ℕ) → IsBest links labels at to c best → IsBest links labels from to c best
+    go None is = λ q l from_start before_end in_list read leaves. elim (cases_lt q at) [
+      | inl lt ↦ none q l from_start lt in_list read leaves
+      | inr later ↦ is q l later before_end in_list read leaves
+    ]
+    go (Some p) is = best_first links labels c from at to p le is none
+
+-- a pass over all live places has seen all that leave a label
+pub bests_live : (links : List Link) (labels : List ℕ) (places : List ℕ) (table : List Best) → AreLive links labels 0 (length links) places
+    → AreBest links labels (get_or places 0 (length links)) (get_or places (length places) (length links)) table → AreBest links labels 0 (length links) table
+bests_live links labels places table live are =
+    let first = get_or places 0 (length links) in
+    let (le, aside) = live_first links labels 0 (length links) places live in
+    let whole = subst (λ k. AreBest links labels first k table) (live_end links labels (length links) places) are in
+    record {
+      each_vertex = are.each_vertex;
+      best = λ c vertex. keeps_front links labels 0 first (length links) c (best_of table c) le
+          (λ q l from_start before_end in_list read leaves. leaves_apart labels l c leaves (front_is_quiet links labels first aside q l before_end read).one_label) (whole.best c vertex);
+    }
+
+-- so has a pass over all links
+pub bests_whole : (links : List Link) (labels : List ℕ) (live : Option (Bor (List LiveLink))) (table : List Best) → IfSome live (λ listed. AreLiveLinks links labels listed.now)
+    → AreBest links labels (place_in links live 0) (place_in links live (count_in links live)) table → AreBest links labels 0 (length links) table
+bests_whole links labels None table live_links are = are
+bests_whole links labels (Some listed) table live_links are =
+    bests_live links labels (places_of listed.now) table live_links.places (subst (λ k. AreBest links labels (get_or (places_of listed.now) 0 (length links)) (get_or (places_of listed.now) k (length links)) table) (sym (length-map listed.now (λ (l : LiveLink). l.place))) are)
+
+-- places that are scanned ascend
+pub place_ascends : (links : List Link) (labels : List ℕ) (live : Option (Bor (List LiveLink))) (i j : ℕ) → IfSome live (λ listed. AreLiveLinks links labels listed.now) → i ≤ j
+    → place_in links live i ≤ place_in links live j
+place_ascends links labels None i j live_links le = le
+place_ascends links labels (Some listed) i j live_links le = live_ascends links labels 0 (length links) (places_of listed.now) i j live_links.places le

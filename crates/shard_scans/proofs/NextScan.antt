@@ -1,0 +1,143 @@
+-- The next scan of links that are listed by numbers.
+use Rattle.std.proofs.Common.{◌≡◌, ℕ, ◌+◌, ◌<◌, ◌≤◌, List, length, get_or, take, replicate, All, refl, sym, ap, ◌∙◌, subst, inl, inr, arith}
+use Rattle.std.proofs.lemmas.List.{get_or-map, length-map, take_all}
+use Rattle.link_key.specs.declared.links.Link.{Link}
+use Rattle.link_key.specs.Labels.{label_of, AreLabels}
+use Rattle.shard_scans.specs.declared.scanning.Best.{Best}
+use Rattle.shard_scans.specs.declared.live.LiveLink.{LiveLink}
+use Rattle.shard_scans.specs.declared.numbers.Word.{Word}
+use Rattle.shard_scans.specs.Scanning.{no_best, AreBestUpTo}
+use Rattle.shard_scans.specs.Live.{AreParallel, places_of, AreLiveLinks, relabelled, packed}
+use Rattle.shard_scans.specs.Batches.{CanBeTakenIn, TakesInAll}
+use Rattle.shard_scans.specs.Numbers.{marks_of, IsMarked, marked_in, number_of, numbered, numbered_labels, shown, HasItsName, HasNumbers, AreByNumbers, AreNumbered, HaveNames}
+use Rattle.shard_scans.proofs.Scans.{best_of_none}
+use Rattle.shard_scans.proofs.Laid.{live_or_aside}
+use Rattle.shard_scans.proofs.Written.{next_says, live_ends, live_links_coarser, bests_none, bests_all}
+use Rattle.shard_scans.proofs.Ahead.{takes_live}
+use Rattle.shard_scans.proofs.Packed.{packed_live, packed_own}
+use Rattle.shard_scans.proofs.Numbering.{number_within_names}
+use Rattle.shard_scans.proofs.ByNumbers.{own_label, own_coarsens}
+use Rattle.shard_scans.proofs.Relisting.{number_at, by_numbers_long, shown_again, have_names}
+
+module _ (links : List Link) (labels marks names : List ℕ) (by_labels live : List LiveLink) (are : AreLiveLinks links labels by_labels) (own : All (λ e. relabelled labels e ≡ e) by_labels)
+    (within : (c : ℕ) → IsMarked marks c → number_of marks c ≤ length names) (by : AreByNumbers marks names by_labels live) where
+  -- each can be taken in
+  next_can_be_taken_in : (count k : ℕ) (d : LiveLink) → count ≡ length names → k < length live → CanBeTakenIn links count (get_or live k d)
+  next_can_be_taken_in count k d size lt =
+      let in_labels : k < length by_labels = omega (arith, lt, by_numbers_long marks names within by_labels live by) in
+      let e : LiveLink = get_or by_labels k d in
+      let says = next_says links labels by_labels are k in_labels d (relabelled labels e) refl (record { weight = e.weight; place = e.place }) refl refl in
+      let is = by.marked k d in_labels in
+      subst (CanBeTakenIn links count) (sym (number_at marks names within by_labels live by k d in_labels)) (record {
+        low = (omega arith, omega (arith, size, within e.low is.0));
+        high = (omega arith, omega (arith, size, within e.high is.1));
+        in_list = says.1;
+        weight = says.2;
+      })
+
+  -- of a link that is listed the ends have numbers
+  listed_has_numbers : (k : ℕ) (l : Link) → k < length (places_of by_labels) → l ≡ get_or links (get_or (places_of by_labels) k 0) l → HasNumbers labels marks names l
+  listed_has_numbers k l lt read =
+      let in_labels : k < length by_labels = omega (arith, lt, length-map by_labels (λ (x : LiveLink). x.place)) in
+      let d : LiveLink = record { low = 0; high = 0; weight = l.weight; place = 0 } in
+      let e : LiveLink = get_or by_labels k d in
+      let place : get_or (places_of by_labels) k 0 ≡ e.place = get_or-map (λ (x : LiveLink). x.place) by_labels k d 0 in_labels in
+      let w = are.written k d in_labels l (subst (λ p. l ≡ get_or links p l) place read) in
+      let low : e.low ≡ label_of labels l.low = ap (λ (x : LiveLink). x.low) (sym (own k d in_labels)) ∙ w.low.2 in
+      let high : e.high ≡ label_of labels l.high = ap (λ (x : LiveLink). x.high) (sym (own k d in_labels)) ∙ w.high.2 in
+      let is = by.marked k d in_labels in
+      let called = by.named_are k d in_labels in
+      record {
+        low_marked = subst (IsMarked marks) low is.0;
+        high_marked = subst (IsMarked marks) high is.1;
+        low_named = subst (HasItsName marks names) low called.0;
+        high_named = subst (HasItsName marks names) high called.1;
+      }
+
+  -- and those of a link that is parallel to it
+  parallel_has_numbers : (e l : Link) → AreParallel labels e l → HasNumbers labels marks names e → HasNumbers labels marks names l
+  parallel_has_numbers e l (inl (low, high)) is = record {
+    low_marked = subst (IsMarked marks) low.2 is.low_marked;
+    high_marked = subst (IsMarked marks) high.2 is.high_marked;
+    low_named = subst (HasItsName marks names) low.2 is.low_named;
+    high_named = subst (HasItsName marks names) high.2 is.high_named;
+  }
+  parallel_has_numbers e l (inr (low, high)) is = record {
+    low_marked = subst (IsMarked marks) high.2 is.high_marked;
+    high_marked = subst (IsMarked marks) low.2 is.low_marked;
+    low_named = subst (HasItsName marks names) high.2 is.high_named;
+    high_named = subst (HasItsName marks names) low.2 is.low_named;
+  }
+
+  -- of each link the ends have one label, or they have numbers
+  next_are_numbered : AreNumbered links labels marks names
+  next_are_numbered q l lt read = elim (live_or_aside links labels 0 (length links) (places_of by_labels) q l are.places (omega arith) lt read) [
+    | inl aside ↦ elim aside [
+      | inl quiet ↦ inl quiet.one_label
+      | inr by_none ↦ absurd (omega (arith, by_none.just_before))
+    ]
+    | inr (k, k_lt, e, e_read, is) ↦
+        let has = listed_has_numbers k e k_lt e_read in
+        elim is [
+          | inl same ↦ inr (subst (HasNumbers labels marks names) same has)
+          | inr parallel ↦ inr (parallel_has_numbers e l parallel has)
+        ]
+  ]
+
+  -- once all are taken in, the best places are kept
+  next_best : (count : ℕ) (table table' : List Best) → table ≡ replicate count no_best → TakesInAll links (take (length live) live) table table'
+      → AreBestUpTo count links (numbered_labels marks labels) 0 (length links) table'
+  next_best count table table' none takes =
+      let mine = numbered_labels marks labels in
+      let coarser = live_links_coarser links mine labels by_labels (own_coarsens marks labels) are in
+      let long = by_numbers_long marks names within by_labels live by in
+      let all : TakesInAll links live table table' = subst (λ t. TakesInAll links t table table') (take_all (length live) live (omega arith)) takes in
+      bests_all links mine by_labels coarser count (0 + length live) table' (omega (arith, long))
+      (takes_live links mine by_labels coarser count 0 live 0 table table' (omega (arith, long)) (λ j later. omega arith)
+      (λ k d lt.
+      let in_labels : k < length by_labels = omega (arith, lt, long) in
+      let e : LiveLink = get_or by_labels k d in
+      let ends = live_ends links labels by_labels are k d in_labels in
+      let low : number_of marks e.low ≡ label_of mine e.low = ap (number_of marks) (ap (λ (x : LiveLink). x.low) (sym (own k d in_labels))) ∙ sym (own_label marks labels e.low ends.0) in
+      let high : number_of marks e.high ≡ label_of mine e.high = ap (number_of marks) (ap (λ (x : LiveLink). x.high) (sym (own k d in_labels))) ∙ sym (own_label marks labels e.high ends.1) in
+      let same : numbered marks e ≡ relabelled mine e = λ j. record { low = low j; high = high j; weight = e.weight; place = e.place } in
+      let here : k ≡ 0 + k = omega arith in
+      number_at marks names within by_labels live by k d in_labels ∙ same ∙ ap (λ j. relabelled mine (get_or by_labels j d)) here)
+      all (bests_none links mine by_labels coarser count table (subst (AreBestUpTo count links mine 0 0) (sym none) (best_of_none count links mine 0))))
+
+-- the same of links that are listed by numbers again, where `labels` is a slice of all labels and `words` are the marks that were counted
+module _ (links : List Link) (mine labels : List ℕ) (same : labels ≡ mine) (all : AreLabels mine) (old live : List LiveLink) (old_are : AreLiveLinks links mine old)
+    (words : List Word) (count : ℕ) (counted : count ≡ marked_in (marks_of words) (length words)) (names : List ℕ) (long : length names ≡ count)
+    (by : AreByNumbers (marks_of words) names (packed labels old) live) where
+  are : AreLiveLinks links labels old
+  are = subst (λ (t : List ℕ). AreLiveLinks links t old) (sym same) old_are
+
+  labelled : AreLabels labels
+  labelled = subst AreLabels (sym same) all
+
+  row_are : AreLiveLinks links labels (packed labels old)
+  row_are = packed_live links labels old labelled are
+
+  own : All (λ e. relabelled labels e ≡ e) (packed labels old)
+  own = packed_own links labels old labelled are
+
+  within : (d : ℕ) → IsMarked (marks_of words) d → number_of (marks_of words) d ≤ length names
+  within = number_within_names words names (long ∙ counted)
+
+  pub again_can_be_taken_in : (size k : ℕ) (d : LiveLink) → size ≡ count → k < length live → CanBeTakenIn links size (get_or live k d)
+  again_can_be_taken_in size k d is lt = next_can_be_taken_in links labels (marks_of words) names (packed labels old) live row_are own within by size k d (is ∙ sym long) lt
+
+  pub again_numbered : AreNumbered links labels (marks_of words) names
+  again_numbered = next_are_numbered links labels (marks_of words) names (packed labels old) live row_are own within by
+
+  pub again_best : (table table' : List Best) → table ≡ replicate count no_best → TakesInAll links (take (length live) live) table table'
+      → AreBestUpTo count links (numbered_labels (marks_of words) labels) 0 (length links) table'
+  again_best table table' none takes = next_best links labels (marks_of words) names (packed labels old) live row_are own within by count table table' none takes
+
+  pub again_live : AreLiveLinks links mine (shown names live)
+  again_live =
+      subst (λ (t : List ℕ). AreLiveLinks links t (shown names live)) same
+      (subst (AreLiveLinks links labels) (sym (shown_again (marks_of words) names within (packed labels old) live by)) row_are)
+
+  pub again_names : HaveNames names live
+  again_names = have_names (marks_of words) names within (packed labels old) live by

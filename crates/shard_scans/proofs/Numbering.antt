@@ -1,0 +1,284 @@
+-- Numbers of marked labels: they ascend as the labels do.
+use Rattle.std.proofs.Common.{◌≡◌, ◌≢◌, ℕ, zero, suc, ◌+◌, ◌-◌, ◌*◌, ◌/◌, ◌%◌, ◌^◌, ◌<◌, ◌≤◌, ◌⊎◌, List, length, get_or, set, bit_or, count_ones, refl, sym, ap, ◌∙◌, subst, inl, inr, arith, w64}
+use Rattle.std.specs.Int.{bit_at}
+use Rattle.std.proofs.lemmas.Bool.{cases_eq, cases_lt}
+use Rattle.std.proofs.lemmas.List.{get_or-set_same, get_or-set_other, get_or_past, get_or_default, length-set}
+use Rattle.std.proofs.lemmas.Nat.{ones_cat, mod-pow-add, mod_below, pow_pos}
+use Rattle.std.proofs.lemmas.Nat.Bits.{bit_at_set_same, bit_at_set_other}
+use Rattle.std.proofs.lemmas.List.{get_or-map, length-map, map-set, set-get_or}
+use Rattle.std.proofs.lemmas.Nat.{one_shl}
+use Rattle.link_key.specs.Labels.{label_of, AreLabels}
+use Rattle.round_theory.specs.Labelling.{IsVertex}
+use Rattle.shard_scans.proofs.Written.{label_vertex}
+use Rattle.shard_scans.specs.declared.numbers.Word.{Word}
+use Rattle.shard_scans.specs.Numbers.{marks_of, IsMarked, marked_to, marked_in, AreCounted, number_of, HasItsName, new_name}
+
+no_ones : count_ones 0 ≡ 0
+unfolding lib.Count.ones
+no_ones = refl
+
+one_one : count_ones 1 ≡ 1
+unfolding lib.Count.ones
+one_one = refl
+
+-- one more bit of a word
+ones_next : (w k : ℕ) → count_ones (w % 2 ^ (1 + k)) ≡ bit_at w k + count_ones (w % 2 ^ k)
+ones_next w k =
+    let high = w / 2 ^ k % 2 ^ 1 in
+    let cat : count_ones (high * 2 ^ k + w % 2 ^ k) ≡ count_ones high + count_ones (w % 2 ^ k) = ones_cat k high (w % 2 ^ k) (mod_below w (2 ^ k) (pow_pos k)) in
+    let one : count_ones high ≡ high = elim (cases_eq high 0) [
+      | inl none ↦ ap count_ones none ∙ no_ones ∙ sym none
+      | inr some ↦
+          let is : high ≡ 1 = omega (arith, some) in
+          ap count_ones is ∙ one_one ∙ sym is
+    ] in
+    ap count_ones (mod-pow-add w 1 k) ∙ cat ∙ ap (λ n. n + count_ones (w % 2 ^ k)) one
+
+module _ (marks : List ℕ) where
+  -- more labels have more marks
+  marked_more : (a k : ℕ) → marked_to marks a ≤ marked_to marks (k + a)
+  marked_more a zero = let same : zero + a ≡ a = omega arith in subst (λ n. marked_to marks a ≤ marked_to marks n) (sym same) (omega arith)
+  marked_more a (suc k) =
+      let next : suc k + a ≡ suc (k + a) = omega arith in
+      subst (λ n. marked_to marks a ≤ marked_to marks n) (sym next) (omega (arith, marked_more a k))
+
+  pub marked_rise : (a b : ℕ) → a ≤ b → marked_to marks a ≤ marked_to marks b
+  marked_rise a b le =
+      let at : b - a + a ≡ b = omega (arith, le) in
+      subst (λ k. marked_to marks a ≤ marked_to marks k) at (marked_more a (b - a))
+
+  -- a marked label is counted
+  counts_itself : (c : ℕ) → IsMarked marks c → number_of marks c ≡ marked_to marks c
+  counts_itself c is =
+      let next : suc (c - 1) ≡ c = omega (arith, is.from_one) in
+      ap (λ b. marked_to marks (c - 1) + b) (sym is.bit) ∙ ap (marked_to marks) next
+
+  -- the first so many labels of a word
+  pub marked_within : (at k : ℕ) → k ≤ 64 → marked_to marks (k + at * 64) ≡ count_ones (get_or marks at 0 % 2 ^ k) + marked_to marks (at * 64)
+  marked_within at zero le =
+      let same : zero + at * 64 ≡ at * 64 = omega arith in
+      let none : get_or marks at 0 % 2 ^ 0 ≡ 0 = omega arith in
+      let ones : count_ones (get_or marks at 0 % 2 ^ 0) ≡ 0 = ap count_ones none ∙ no_ones in
+      omega (arith, ones, ap (marked_to marks) same)
+  marked_within at (suc k) le =
+      let next : suc k + at * 64 ≡ suc (k + at * 64) = omega arith in
+      let word : (k + at * 64) / 64 ≡ at = omega (arith, le) in
+      let bit : (k + at * 64) % 64 ≡ k = omega (arith, le) in
+      let one : 1 + k ≡ suc k = omega arith in
+      ap (marked_to marks) next
+      ∙ ap (λ n. n + bit_at (get_or marks ((k + at * 64) / 64) 0) ((k + at * 64) % 64)) (marked_within at k (omega (arith, le)))
+      ∙ ap (λ i. count_ones (get_or marks at 0 % 2 ^ k) + marked_to marks (at * 64) + bit_at (get_or marks i 0) ((k + at * 64) % 64)) word
+      ∙ ap (λ i. count_ones (get_or marks at 0 % 2 ^ k) + marked_to marks (at * 64) + bit_at (get_or marks at 0) i) bit
+      ∙ turn (count_ones (get_or marks at 0 % 2 ^ k)) (marked_to marks (at * 64)) (bit_at (get_or marks at 0) k)
+      ∙ ap (λ n. n + marked_to marks (at * 64)) (sym (ones_next (get_or marks at 0) k))
+      ∙ ap (λ n. count_ones (get_or marks at 0 % 2 ^ n) + marked_to marks (at * 64)) one
+    where
+      turn : (a b c : ℕ) → a + b + c ≡ c + a + b
+      turn a b c = omega arith
+
+  -- the number of a marked label is one of as many as there are marks
+  pub number_within : (c : ℕ) → IsMarked marks c → number_of marks c ≤ marked_in marks (length marks)
+  number_within c is = omega (arith, counts_itself c is, marked_rise c (length marks * 64) (omega (arith, is.in_words)))
+
+  -- numbers ascend
+  pub numbers_ascend : (c d : ℕ) → IsMarked marks c → c < d → number_of marks c < number_of marks d
+  numbers_ascend c d is lt = omega (arith, counts_itself c is, marked_rise c (d - 1) (omega (arith, lt)))
+
+  pub numbers_apart : (c d : ℕ) → IsMarked marks c → IsMarked marks d → number_of marks c ≡ number_of marks d → c ≡ d
+  numbers_apart c d c_is d_is same = elim (cases_lt c d) [
+    | inl lt ↦ absurd (omega (arith, same, numbers_ascend c d c_is lt))
+    | inr le ↦ elim (cases_lt d c) [
+      | inl lt ↦ absurd (omega (arith, same, numbers_ascend d c d_is lt))
+      | inr ge ↦ omega (arith, le, ge)
+    ]
+  ]
+
+  pub ascends_back : (c d : ℕ) → IsMarked marks c → IsMarked marks d → number_of marks c < number_of marks d → c < d
+  ascends_back c d c_is d_is lt = elim (cases_lt c d) [
+    | inl less ↦ less
+    | inr le ↦ elim (cases_eq c d) [
+      | inl same ↦ absurd (omega (arith, lt, ap (number_of marks) same))
+      | inr other ↦ absurd (omega (arith, lt, numbers_ascend d c d_is (omega (arith, le, other))))
+    ]
+  ]
+
+-- a bit is set
+abbrev pub with_bit : ℕ → ℕ → ℕ
+with_bit word at = bit_or word (1 * 2 ^ at % 18446744073709551616)
+
+module _ (marks : List ℕ) (label : ℕ) (from_one : 1 ≤ label) (within : (label - 1) / 64 < length marks) where
+  abbrev at : ℕ
+  at = (label - 1) / 64
+
+  abbrev bit : ℕ
+  bit = (label - 1) % 64
+
+  abbrev new : List ℕ
+  new = set marks at (with_bit (get_or marks at 0) bit)
+
+  small : (k : ℕ) → k % 64 < 64
+  small k = omega arith
+
+  pub mark_sets : IsMarked new label
+  mark_sets = record {
+    from_one = from_one;
+    in_words = omega (arith, within, length-set marks at (with_bit (get_or marks at 0) bit));
+    bit = rw (get_or-set_same marks at (with_bit (get_or marks at 0) bit) 0 within) (bit_at_set_same w64 (get_or marks at 0) bit (small (label - 1)));
+  }
+
+  pub mark_keeps : (c : ℕ) → IsMarked marks c → IsMarked new c
+  mark_keeps c is = elim (cases_eq c label) [
+    | inl same ↦ subst (IsMarked new) (sym same) mark_sets
+    | inr other ↦ record {
+      from_one = is.from_one;
+      in_words = omega (arith, is.in_words, length-set marks at (with_bit (get_or marks at 0) bit));
+      bit = elim (cases_eq ((c - 1) / 64) at) [
+        | inl one ↦
+            let apart : (c - 1) % 64 ≢ bit = λ same. other (omega (arith, one, same, is.from_one, from_one)) in
+            rw (one, get_or-set_same marks at (with_bit (get_or marks at 0) bit) 0 within, bit_at_set_other w64 (get_or marks at 0) bit (small (label - 1)) ((c - 1) % 64) apart)
+            (subst (λ w. bit_at (get_or marks w 0) ((c - 1) % 64) ≡ 1) one is.bit)
+        | inr far ↦ rw (get_or-set_other marks at ((c - 1) / 64) (with_bit (get_or marks at 0) bit) 0 far) is.bit
+      ];
+    }
+  ]
+
+  -- no other label gets a mark
+  pub mark_only : (c : ℕ) → IsMarked new c → (c ≡ label) ⊎ IsMarked marks c
+  mark_only c is = elim (cases_eq c label) [
+    | inl same ↦ inl same
+    | inr other ↦ inr (record {
+      from_one = is.from_one;
+      in_words = omega (arith, is.in_words, length-set marks at (with_bit (get_or marks at 0) bit));
+      bit = elim (cases_eq ((c - 1) / 64) at) [
+        | inl one ↦
+            let apart : (c - 1) % 64 ≢ bit = λ same. other (omega (arith, one, same, is.from_one, from_one)) in
+            let there : bit_at (with_bit (get_or marks at 0) bit) ((c - 1) % 64) ≡ 1 =
+            ap (λ w. bit_at w ((c - 1) % 64)) (sym (get_or-set_same marks at (with_bit (get_or marks at 0) bit) 0 within))
+            ∙ subst (λ w. bit_at (get_or new w 0) ((c - 1) % 64) ≡ 1) one is.bit in
+            subst (λ w. bit_at (get_or marks w 0) ((c - 1) % 64) ≡ 1) (sym one)
+            (sym (bit_at_set_other w64 (get_or marks at 0) bit (small (label - 1)) ((c - 1) % 64) apart) ∙ there)
+        | inr far ↦ ap (λ w. bit_at w ((c - 1) % 64)) (sym (get_or-set_other marks at ((c - 1) / 64) (with_bit (get_or marks at 0) bit) 0 far)) ∙ is.bit
+      ];
+    })
+  ]
+
+abbrev marks_in : Word → ℕ
+marks_in w = w.marks
+
+-- a bit of a word is set
+marks_set : (words : List Word) (i bit : ℕ) (w new : Word) → i < length words → w ≡ get_or words i w → new.marks ≡ with_bit w.marks bit
+    → marks_of (set words i new) ≡ set (marks_of words) i (with_bit (get_or (marks_of words) i 0) bit)
+marks_set words i bit w new within read new_is =
+    map-set marks_in words i new
+    ∙ ap (set (marks_of words) i) (new_is ∙ ap (λ m. with_bit m bit) (ap marks_in read ∙ sym (get_or-map marks_in words i w 0 within)))
+
+-- what marks the words have once the bit of a label is set in its word
+module _ (words : List Word) (label : ℕ) (from_one : 1 ≤ label) (within : (label - 1) / 64 < length words) (w new : Word) (read : w ≡ get_or words ((label - 1) / 64) w)
+    (new_is : new.marks ≡ with_bit w.marks ((label - 1) % 64)) where
+  in_marks : (label - 1) / 64 < length (marks_of words)
+  in_marks = omega (arith, within, length-map words marks_in)
+
+  pub word_sets : IsMarked (marks_of (set words ((label - 1) / 64) new)) label
+  word_sets = subst (λ m. IsMarked m label) (sym (marks_set words ((label - 1) / 64) ((label - 1) % 64) w new within read new_is)) (mark_sets (marks_of words) label from_one in_marks)
+
+  pub word_keeps : (d : ℕ) → IsMarked (marks_of words) d → IsMarked (marks_of (set words ((label - 1) / 64) new)) d
+  word_keeps d is = subst (λ m. IsMarked m d) (sym (marks_set words ((label - 1) / 64) ((label - 1) % 64) w new within read new_is)) (mark_keeps (marks_of words) label from_one in_marks d is)
+
+  pub word_only : (d : ℕ) → IsMarked (marks_of (set words ((label - 1) / 64) new)) d → (d ≡ label) ⊎ IsMarked (marks_of words) d
+  word_only d is = mark_only (marks_of words) label from_one in_marks d (subst (λ m. IsMarked m d) (marks_set words ((label - 1) / 64) ((label - 1) % 64) w new within read new_is) is)
+
+-- the number that a word gives
+pub number_is : (words : List Word) (c : ℕ) (w : Word) → AreCounted words → (c - 1) / 64 < length words → w ≡ get_or words ((c - 1) / 64) w
+    → w.before + count_ones (w.marks % (1 * 2 ^ ((c - 1) % 64) % 18446744073709551616)) + 1 ≡ number_of (marks_of words) c
+number_is words c w counted within read =
+    let at = (c - 1) / 64 in
+    let bit = (c - 1) % 64 in
+    let before : w.before ≡ marked_in (marks_of words) at = ap (λ (x : Word). x.before) read ∙ counted.before at w within in
+    let marks : w.marks ≡ get_or (marks_of words) at 0 = ap marks_in read ∙ sym (get_or-map marks_in words at w 0 within) in
+    let shift : 1 * 2 ^ bit % 18446744073709551616 ≡ 2 ^ bit = one_shl bit 64 (omega arith) in
+    let ones : count_ones (w.marks % (1 * 2 ^ bit % 18446744073709551616)) ≡ count_ones (get_or (marks_of words) at 0 % 2 ^ bit) =
+    ap (λ n. count_ones (w.marks % n)) shift ∙ ap (λ m. count_ones (m % 2 ^ bit)) marks in
+    let there : bit + at * 64 ≡ c - 1 = omega arith in
+    let all : marked_to (marks_of words) (c - 1) ≡ count_ones (get_or (marks_of words) at 0 % 2 ^ bit) + marked_in (marks_of words) at =
+    ap (marked_to (marks_of words)) (sym there) ∙ marked_within (marks_of words) at bit (omega arith) in
+    omega (arith, before, ones, all)
+
+pub number_fits : (words : List Word) (c : ℕ) → AreCounted words → (c - 1) / 64 < length words → number_of (marks_of words) c ≤ 2 ^ 28 + 65
+number_fits words c counted within = omega (arith, marked_rise (marks_of words) (c - 1) (length words * 64) (omega (arith, within)), counted.few)
+
+-- the number of a marked label has a place among the names
+pub number_within_names : (words : List Word) (names : List ℕ) → length names ≡ marked_in (marks_of words) (length words) → (c : ℕ) → IsMarked (marks_of words) c → number_of (marks_of words) c ≤ length names
+number_within_names words names size c is =
+    let within : number_of (marks_of words) c ≤ marked_in (marks_of words) (length words) =
+    subst (λ n. number_of (marks_of words) c ≤ marked_in (marks_of words) n) (length-map words marks_in) (number_within (marks_of words) c is) in
+    omega (arith, size, within)
+
+pub number_has_place : (words : List Word) (names : List ℕ) (c : ℕ) → length names ≡ marked_in (marks_of words) (length words) → IsMarked (marks_of words) c → number_of (marks_of words) c - 1 < length names
+number_has_place words names c size is = omega (arith, number_within_names words names size c is)
+
+-- a name is written, and others stand
+module _ (marks names : List ℕ) (d : ℕ) (d_is : IsMarked marks d) where
+  pub named_here : number_of marks d - 1 < length names → HasItsName marks (set names (number_of marks d - 1) d) d
+  named_here within = get_or-set_same names (number_of marks d - 1) d 0 within
+
+  pub named_stays : (c : ℕ) → IsMarked marks c → HasItsName marks names c → HasItsName marks (set names (number_of marks d - 1) d) c
+  named_stays c c_is is = elim (cases_eq (number_of marks c - 1) (number_of marks d - 1)) [
+    | inl same ↦
+        let one : c ≡ d = numbers_apart marks c d c_is d_is (omega (arith, same)) in
+        elim (cases_lt (number_of marks d - 1) (length names)) [
+          | inl within ↦ subst (λ k. HasItsName marks (set names (number_of marks d - 1) d) k) (sym one) (named_here within)
+          | inr past ↦ absurd (omega (arith, past, same, is, c_is.from_one, get_or_past names (number_of marks c - 1) 0 (omega (arith, past, same))))
+        ]
+    | inr other ↦ get_or-set_other names (number_of marks d - 1) (number_of marks c - 1) d 0 other ∙ is
+  ]
+
+-- the label of a vertex has a word
+pub label_has_word : (labels : List ℕ) (v words : ℕ) → AreLabels labels → IsVertex (length labels) v → words ≡ length labels / 64 + 1 → (label_of labels v - 1) / 64 < words
+label_has_word labels v words are vertex size = let is = label_vertex labels are v vertex in omega (arith, is.1, size)
+
+-- one more word says how many are marked before it
+module _ (words : List Word) (i total : ℕ) (w : Word) (within : i < length words) (read : w ≡ get_or words i w) (total_is : total ≡ marked_in (marks_of words) i) where
+  abbrev noted : Word
+  noted = record { marks = w.marks; before = total }
+
+  pub noted_marks : marks_of (set words i noted) ≡ marks_of words
+  noted_marks =
+      map-set marks_in words i noted
+      ∙ ap (set (marks_of words) i) (ap marks_in read ∙ sym (get_or-map marks_in words i w 0 within))
+      ∙ set-get_or (marks_of words) i 0
+
+  pub noted_total : w.marks < 2 ^ 64 → total + count_ones w.marks ≡ marked_in (marks_of (set words i noted)) (i + 1)
+  noted_total fits =
+      let here : w.marks ≡ get_or (marks_of words) i 0 = ap marks_in read ∙ sym (get_or-map marks_in words i w 0 within) in
+      let whole : w.marks % 2 ^ 64 ≡ w.marks = omega (arith, fits) in
+      let ones : count_ones (get_or (marks_of words) i 0 % 2 ^ 64) ≡ count_ones w.marks = ap (λ m. count_ones (m % 2 ^ 64)) (sym here) ∙ ap count_ones whole in
+      let next : 64 + i * 64 ≡ (i + 1) * 64 = omega arith in
+      let all : marked_in (marks_of words) (i + 1) ≡ count_ones (get_or (marks_of words) i 0 % 2 ^ 64) + marked_in (marks_of words) i =
+      ap (marked_to (marks_of words)) (sym next) ∙ marked_within (marks_of words) i 64 (omega arith) in
+      let sum : total + count_ones w.marks ≡ marked_in (marks_of words) (i + 1) = omega (arith, total_is, ones, all) in
+      sum ∙ ap (λ m. marked_in m (i + 1)) (sym noted_marks)
+
+  pub told_before : ((k : ℕ) (d : Word) → k < i → (get_or words k d).before ≡ marked_in (marks_of words) k)
+      → (k : ℕ) (d : Word) → k < i + 1 → (get_or (set words i noted) k d).before ≡ marked_in (marks_of (set words i noted)) k
+  told_before before k d lt = elim (cases_lt k i) [
+    | inl less ↦
+        let other : k ≢ i = omega (arith, less) in
+        ap (λ (x : Word). x.before) (get_or-set_other words i k noted d other) ∙ before k d less ∙ ap (λ m. marked_in m k) (sym noted_marks)
+    | inr le ↦
+        let at : k ≡ i = omega (arith, le, lt) in
+        subst (λ n. (get_or (set words i noted) n d).before ≡ marked_in (marks_of (set words i noted)) n) (sym at)
+        (ap (λ (x : Word). x.before) (get_or-set_same words i noted d within) ∙ total_is ∙ ap (λ m. marked_in m i) (sym noted_marks))
+  ]
+
+-- a new name has a word
+pub new_name_has_word : (labels : List ℕ) (name words : ℕ) → AreLabels labels → words ≡ length labels / 64 + 1 → (1 ≤ new_name labels name) × ((new_name labels name - 1) / 64 < words)
+new_name_has_word labels name words are size = elim (cases_lt (name - 1) (length labels)) [
+  | inl within ↦
+      let v = name - 1 + 1 in
+      let vertex : IsVertex (length labels) v = (omega arith, omega (arith, within)) in
+      let label = label_vertex labels are v vertex in
+      let at : v - 1 ≡ name - 1 = omega arith in
+      let is : label_of labels v ≡ new_name labels name = ap (λ k. get_or labels k 0) at ∙ get_or_default labels (name - 1) 0 1 within in
+      subst (λ c. (1 ≤ c) × ((c - 1) / 64 < words)) is (label.0, omega (arith, label.1, size))
+  | inr past ↦ subst (λ c. (1 ≤ c) × ((c - 1) / 64 < words)) (sym (get_or_past labels (name - 1) 1 past)) (omega arith, omega (arith, size))
+]

@@ -1,0 +1,59 @@
+-- Links that an earlier one between the same two labels outdoes: the best places so far stay best.
+use Rattle.std.proofs.Common.{◌≡◌, ℕ, ◌<◌, ◌≤◌, List, get_or, Option, Some, None, sym, ◌∙◌, inl, inr, arith}
+use Rattle.std.proofs.lemmas.Bool.{cases_lt}
+use Rattle.link_key.specs.declared.links.Link.{Link}
+use Rattle.round_theory.specs.Offers.{Leaves}
+use Rattle.round_theory.proofs.Leaving.{leaves_apart}
+use Rattle.shard_scans.specs.declared.scanning.Best.{Best}
+use Rattle.shard_scans.specs.Scanning.{ComesFirst, IsBest, AreBestUpTo}
+use Rattle.shard_scans.specs.Live.{AreParallel, AreAside}
+use Rattle.shard_scans.proofs.BestSoFar.{first_then_first}
+
+-- of parallel links one leaves a label where another does
+parallel_leaves : (labels : List ℕ) (l m : Link) (c : ℕ) → AreParallel labels l m → Leaves labels m c → Leaves labels l c
+parallel_leaves labels l m c (inl (low, high)) (inl (at, apart)) = inl (low.2 ∙ at, λ same. apart (sym high.2 ∙ same))
+parallel_leaves labels l m c (inl (low, high)) (inr (apart, at)) = inr (λ same. apart (sym low.2 ∙ same), high.2 ∙ at)
+parallel_leaves labels l m c (inr (low, high)) (inl (at, apart)) = inr (λ same. apart (sym low.2 ∙ same), high.2 ∙ at)
+parallel_leaves labels l m c (inr (low, high)) (inr (apart, at)) = inl (low.2 ∙ at, λ same. apart (sym high.2 ∙ same))
+
+module _ (links : List Link) (labels : List ℕ) (from at to : ℕ) (seen : from < at) (le : at ≤ to) (aside : AreAside links labels at to) where
+  -- a link that is laid aside leaves a label only where an earlier one does that comes first
+  abbrev HasEarlier : ℕ → ℕ → Link → Type 0
+  HasEarlier c q m = (p : ℕ) × (e : Link) × (from ≤ p) × (p < at) × (e ≡ get_or links p e) × Leaves labels e c × ComesFirst e p m q
+
+  has_earlier : (c q : ℕ) (m : Link) → at ≤ q → q < to → m ≡ get_or links q m → Leaves labels m c → HasEarlier c q m
+  has_earlier c q m later before_end read leaves = elim (aside q m later before_end read) [
+    | inl quiet ↦ absurd (leaves_apart labels m c leaves quiet.one_label)
+    | inr by ↦ (by.place, by.earlier, omega (arith, by.just_before, seen), omega (arith, by.just_before), by.here, parallel_leaves labels by.earlier m c by.parallel leaves, by.first)
+  ]
+
+  best_over : (c : ℕ) (best : Option ℕ) → IsBest links labels from at c best → IsBest links labels from to c best
+  best_over c None is = λ q m from_start before_end in_list read leaves. elim (cases_lt q at) [
+    | inl lt ↦ is q m from_start lt in_list read leaves
+    | inr later ↦
+        let (p, e, low, high, e_read, e_leaves, first) = has_earlier c q m later before_end read leaves in
+        is p e low high (omega (arith, high, later, in_list)) e_read e_leaves
+  ]
+  best_over c (Some p) is = record {
+    link = is.link;
+    here = is.here;
+    from_start = is.from_start;
+    before_end = omega (arith, is.before_end, le);
+    in_list = is.in_list;
+    leaves = is.leaves;
+    first = λ q m from_start before_end in_list read leaves. elim (cases_lt q at) [
+      | inl lt ↦ is.first q m from_start lt in_list read leaves
+      | inr later ↦
+          let (i, e, low, high, e_read, e_leaves, first) = has_earlier c q m later before_end read leaves in
+          first_then_first is.link e m p i q (is.first i e low high (omega (arith, high, later, in_list)) e_read e_leaves) first
+    ];
+  }
+
+  -- so a table that has seen the earlier one stays as it is
+  pub bests_over : (count : ℕ) (table : List Best) → AreBestUpTo count links labels from at table → AreBestUpTo count links labels from to table
+  bests_over count table are = record {
+    each_vertex = are.each_vertex;
+    best = λ c vertex.
+        let keeps = are.best c vertex in
+        record { best = keeps.best; says = keeps.says; is = best_over c keeps.best keeps.is };
+  }

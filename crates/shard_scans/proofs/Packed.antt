@@ -1,0 +1,78 @@
+-- Live links under new labels, without those whose ends fall together.
+use Rattle.std.proofs.Common.{◌≡◌, ◌≢◌, ℕ, suc, ◌+◌, List, [], ◌∷◌, ◌++◌, length, get_or, All, cond, refl, sym, ap, ◌∙◌, subst, inl, inr, arith}
+use Rattle.std.proofs.lemmas.Bool.Decides.{eqb_tells}
+use Rattle.std.proofs.lemmas.List.Elements.{All-cons, All-nil}
+use Rattle.link_key.specs.declared.links.Link.{Link}
+use Rattle.link_key.specs.Labels.{label_of, AreLabels}
+use Rattle.shard_scans.specs.declared.live.LiveLink.{LiveLink}
+use Rattle.shard_scans.specs.Live.{IsInside, AreLive, IsEntryOf, places_of, AreLiveLinks, relabelled, packed}
+use Rattle.shard_scans.proofs.Laid.{live_without}
+use Rattle.shard_scans.proofs.Written.{relabelled_written, live_ends}
+use Rattle.shard_scans.proofs.Ahead.{relabelled_stands}
+
+-- what holds of all holds of the first and of the others
+pub all_head : {X : Type 0} (P : X → Type 0) (x : X) (xs : List X) → All P (x ∷ xs) → P x
+all_head P x xs all = all 0 x (omega arith)
+
+pub all_tail : {X : Type 0} (P : X → Type 0) (x : X) (xs : List X) → All P (x ∷ xs) → All P xs
+all_tail P x xs all = λ k d lt. all (suc k) d (omega (arith, lt))
+
+module _ (labels : List ℕ) where
+  pub packed_same : (l : LiveLink) (live : List LiveLink) → label_of labels l.low ≡ label_of labels l.high → packed labels (l ∷ live) ≡ packed labels live
+  packed_same l live same = elim (eqb_tells (label_of labels l.low) (label_of labels l.high)) [
+    | inl (test, is) ↦ ap (λ b. cond b (packed labels live) (relabelled labels l ∷ packed labels live)) test
+    | inr (test, other) ↦ absurd (other same)
+  ]
+
+  pub packed_apart : (l : LiveLink) (live : List LiveLink) → label_of labels l.low ≢ label_of labels l.high → packed labels (l ∷ live) ≡ relabelled labels l ∷ packed labels live
+  packed_apart l live apart = elim (eqb_tells (label_of labels l.low) (label_of labels l.high)) [
+    | inl (test, is) ↦ absurd (apart is)
+    | inr (test, other) ↦ ap (λ b. cond b (packed labels live) (relabelled labels l ∷ packed labels live)) test
+  ]
+
+  pub packed_append : (xs ys : List LiveLink) → packed labels (xs ++ ys) ≡ packed labels xs ++ packed labels ys
+  packed_append [] ys = refl
+  packed_append (x ∷ xs) ys = elim (eqb_tells (label_of labels x.low) (label_of labels x.high)) [
+    | inl (test, same) ↦ packed_same x (xs ++ ys) same ∙ packed_append xs ys ∙ ap (λ t. t ++ packed labels ys) (sym (packed_same x xs same))
+    | inr (test, apart) ↦ packed_apart x (xs ++ ys) apart ∙ ap (λ t. relabelled labels x ∷ t) (packed_append xs ys) ∙ ap (λ t. t ++ packed labels ys) (sym (packed_apart x xs apart))
+  ]
+
+  -- what holds of each under its labels holds of all that stay
+  pub packed_all : (P : LiveLink → Type 0) (live : List LiveLink) → All (λ l. P (relabelled labels l)) live → All P (packed labels live)
+  packed_all P [] all = All-nil P
+  packed_all P (x ∷ live) all = elim (eqb_tells (label_of labels x.low) (label_of labels x.high)) [
+    | inl (test, same) ↦ subst (All P) (sym (packed_same x live same)) (packed_all P live (all_tail (λ l. P (relabelled labels l)) x live all))
+    | inr (test, apart) ↦ subst (All P) (sym (packed_apart x live apart))
+        (All-cons P (relabelled labels x) (packed labels live) (all_head (λ l. P (relabelled labels l)) x live all) (packed_all P live (all_tail (λ l. P (relabelled labels l)) x live all)))
+  ]
+
+module _ (links : List Link) (labels : List ℕ) where
+  abbrev Written : LiveLink → Type 0
+  Written e = (l : Link) → l ≡ get_or links e.place l → IsEntryOf labels l e
+
+  -- the link at the place of one that is left out is quiet
+  left_out : (e : LiveLink) → Written e → label_of labels e.low ≡ label_of labels e.high → (l : Link) → l ≡ get_or links e.place l → IsInside labels l
+  left_out e written same l read = let is = written l read in record { labelled = is.high.1.1; one_label = sym is.low.2 ∙ same ∙ is.high.2 }
+
+  packed_places : (from to : ℕ) (live : List LiveLink) → All Written live → AreLive links labels from to (places_of live) → AreLive links labels from to (places_of (packed labels live))
+  packed_places from to [] all is = is
+  packed_places from to (e ∷ live) all (le, aside, rest) =
+      let later = packed_places (e.place + 1) to live (all_tail Written e live all) rest in
+      elim (eqb_tells (label_of labels e.low) (label_of labels e.high)) [
+        | inl (test, same) ↦ subst (λ t. AreLive links labels from to (places_of t)) (sym (packed_same labels e live same))
+            (live_without links labels from e.place to (places_of (packed labels live)) le aside (left_out e (all_head Written e live all) same) later)
+        | inr (test, apart) ↦ subst (λ t. AreLive links labels from to (places_of t)) (sym (packed_apart labels e live apart)) (le, aside, later)
+      ]
+
+  -- those that stay are the live links
+  pub packed_live : (live : List LiveLink) → AreLabels labels → AreLiveLinks links labels live → AreLiveLinks links labels (packed labels live)
+  packed_live live labelled are = record {
+    places = packed_places 0 (length links) live are.written are.places;
+    written = packed_all labels Written live (λ k d lt l read. relabelled_written labels labelled l (get_or live k d) (are.written k d lt l read));
+  }
+
+  -- and their labels stand for themselves
+  pub packed_own : (live : List LiveLink) → AreLabels labels → AreLiveLinks links labels live → All (λ e. relabelled labels e ≡ e) (packed labels live)
+  packed_own live labelled are = packed_all labels (λ e. relabelled labels e ≡ e) live (λ k d lt.
+      let ends = live_ends links labels live are k d lt in
+      relabelled_stands labels (relabelled labels (get_or live k d)) (get_or live k d) labelled ends.0 ends.1 refl)

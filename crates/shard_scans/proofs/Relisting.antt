@@ -1,0 +1,201 @@
+-- Live links that are listed by numbers.
+use Rattle.std.proofs.Common.{◌≡◌, ◌≢◌, ◌==◌, ℕ, ◌+◌, ◌-◌, ◌<◌, ◌≤◌, List, [], ◌∷◌, ◌++◌, length, get_or, map, All, refl, sym, ap, ◌∙◌, subst, inl, inr, true, eqb-true, arith}
+use Rattle.std.specs.Prelude.{Vec}
+use Rattle.std.proofs.lemmas.Bool.Decides.{eqb_tells}
+use Rattle.std.proofs.lemmas.List.{get_or-map, length-map, get_or_default, same_lists}
+use Rattle.link_key.specs.declared.links.Link.{Link}
+use Rattle.link_key.specs.Link.{EndsUpTo}
+use Rattle.link_key.specs.Labels.{label_of, AreLabels}
+use Rattle.round_theory.specs.Labelling.{IsVertex}
+use Rattle.shard_scans.specs.declared.live.LiveLink.{LiveLink}
+use Rattle.shard_scans.specs.Live.{AreLive, IsEntryOf, places_of, AreLiveLinks, StayLive, relabelled, packed}
+use Rattle.std.proofs.lemmas.List.{map-append}
+use Rattle.std.proofs.lemmas.List.Elements.{All-append, All-cons, All-nil}
+use Rattle.shard_scans.proofs.BestSoFar.{one_read}
+use Rattle.shard_scans.proofs.Laid.{live_push}
+use Rattle.shard_scans.specs.Batches.{written_at}
+use Rattle.shard_scans.specs.Numbers.{IsMarked, number_of, numbered, named, HasItsName, AreBothMarked, AreBothNamed, AreMarkedUpTo, AreNamedUpTo, HaveNames, HaveMarks, new_name, shown, AreByNumbers, AreListedUpTo}
+use Rattle.shard_scans.proofs.Scans.{end_at}
+use Rattle.shard_scans.proofs.Written.{link_at, own_written}
+use Rattle.shard_scans.proofs.Packed.{all_head, all_tail, packed_same, packed_apart, packed_all}
+use Rattle.shard_scans.proofs.Numbering.{numbers_apart}
+
+-- what is written with numbers, by their names, is what was written with labels
+module _ (marks names : List ℕ) (within : (c : ℕ) → IsMarked marks c → number_of marks c ≤ length names) where
+  name_of : (c d : ℕ) → IsMarked marks c → HasItsName marks names c → get_or names (number_of marks c - 1) d ≡ c
+  name_of c d is at = get_or_default names (number_of marks c - 1) d 0 (omega (arith, within c is)) ∙ at
+
+  pub named_again : (e : LiveLink) → AreBothMarked marks e → AreBothNamed marks names e → named names (numbered marks e) ≡ e
+  named_again e is at =
+      let low = name_of e.low (number_of marks e.low) is.0 at.0 in
+      let high = name_of e.high (number_of marks e.high) is.1 at.1 in
+      λ k. record { low = low k; high = high k; weight = e.weight; place = e.place }
+
+  module _ (by_labels live : List LiveLink) (are : AreByNumbers marks names by_labels live) where
+    pub number_at : (k : ℕ) (d : LiveLink) → k < length by_labels → get_or live k d ≡ numbered marks (get_or by_labels k d)
+    number_at k d lt = ap (λ (t : List LiveLink). get_or t k d) are.numbered_are ∙ get_or-map (numbered marks) by_labels k d d lt
+
+    pub by_numbers_long : length live ≡ length by_labels
+    by_numbers_long = ap (λ (t : List LiveLink). length t) are.numbered_are ∙ length-map by_labels (numbered marks)
+
+    pub shown_again : shown names live ≡ by_labels
+    shown_again = same_lists (shown names live) by_labels (length-map live (named names) ∙ by_numbers_long) (λ k d lt.
+        let in_live : k < length live = omega (arith, lt, length-map live (named names)) in
+        let in_labels : k < length by_labels = omega (arith, in_live, by_numbers_long) in
+        get_or-map (named names) live k d d in_live
+        ∙ ap (named names) (number_at k d in_labels)
+        ∙ named_again (get_or by_labels k d) (are.marked k d in_labels) (are.named_are k d in_labels))
+
+    pub have_names : HaveNames names live
+    have_names k d lt =
+        let in_labels : k < length by_labels = omega (arith, lt, by_numbers_long) in
+        let is = are.marked k d in_labels in
+        subst (λ (e : LiveLink). IsVertex (length names) e.low × IsVertex (length names) e.high) (sym (number_at k d in_labels))
+        ((omega arith, within (get_or by_labels k d).low is.0), (omega arith, within (get_or by_labels k d).high is.1))
+
+-- what is written with numbers has the same places
+numbered_places : (marks : List ℕ) (live : List LiveLink) → places_of (map (numbered marks) live) ≡ places_of live
+numbered_places marks [] = refl
+numbered_places marks (l ∷ live) = ap (λ (t : List ℕ). l.place ∷ t) (numbered_places marks live)
+
+-- the first list, a link at a time
+module _ (links : List Link) (labels marks : List ℕ) where
+  abbrev FromLink : LiveLink → Type 0
+  FromLink e = (e.place < length links) × ((l : Link) → l ≡ get_or links e.place l → e ≡ written_at labels l e.place)
+
+  pub listed_none : AreListedUpTo 0 links labels marks []
+  listed_none = record { by_labels = []; places = (omega arith, λ q l from_start before_end read. absurd (omega (arith, before_end))); written = All-nil FromLink; numbered_are = refl }
+
+  module _ (place : ℕ) (l : Link) (within : place < length links) (read : l ≡ get_or links place l) where
+    pub listed_more : (live : List LiveLink) → AreListedUpTo place links labels marks live → AreListedUpTo (place + 1) links labels marks (live ++ numbered marks (written_at labels l place) ∷ [])
+    listed_more live is = record {
+      by_labels = is.by_labels ++ e ∷ [];
+      places = subst (AreLive links labels 0 (place + 1)) (sym (map-append (λ (x : LiveLink). x.place) is.by_labels (e ∷ []))) (live_push links labels 0 place (places_of is.by_labels) is.places);
+      written = All-append FromLink is.by_labels (e ∷ []) is.written
+          (All-cons FromLink e [] (within, λ m m_read. ap (λ (k : Link). written_at labels k place) (one_read links place l m within read m_read)) (All-nil FromLink));
+      numbered_are = ap (λ (t : List LiveLink). t ++ numbered marks e ∷ []) is.numbered_are ∙ sym (map-append (numbered marks) is.by_labels (e ∷ []));
+    }
+      where
+        e : LiveLink
+        e = written_at labels l place
+
+  -- or the next is left out
+  pub listed_left_out : (place : ℕ) (live : List LiveLink) → AreListedUpTo place links labels marks live → StayLive links labels live place → AreListedUpTo (place + 1) links labels marks live
+  listed_left_out place live is stay =
+      let same : places_of live ≡ places_of is.by_labels = ap (λ (t : List LiveLink). places_of t) is.numbered_are ∙ numbered_places marks is.by_labels in
+      record {
+        by_labels = is.by_labels;
+        places = subst (AreLive links labels 0 (place + 1)) same (stay (subst (AreLive links labels 0 place) (sym same) is.places));
+        written = is.written;
+        numbered_are = is.numbered_are;
+      }
+
+-- the first list
+module _ (links : List Link) (labels marks : List ℕ) (live : List LiveLink) (listed : AreListedUpTo (length links) links labels marks live) where
+  first_by_numbers : (names : List ℕ) → AreMarkedUpTo (length links) links labels marks → AreNamedUpTo (length links) links labels marks names → AreByNumbers marks names listed.by_labels live
+  first_by_numbers names marked named_are = record {
+    numbered_are = listed.numbered_are;
+    marked = λ k d lt.
+        let (in_list, is) = listed.written k d lt in
+        let (l, read) = link_at links (get_or listed.by_labels k d).place in_list in
+        subst (AreBothMarked marks) (sym (is l read)) (marked (get_or listed.by_labels k d).place l in_list read);
+    named_are = λ k d lt.
+        let (in_list, is) = listed.written k d lt in
+        let (l, read) = link_at links (get_or listed.by_labels k d).place in_list in
+        subst (AreBothNamed marks names) (sym (is l read)) (named_are (get_or listed.by_labels k d).place l in_list read);
+  }
+
+  first_live : EndsUpTo (length labels) links → AreLabels labels → AreLiveLinks links labels listed.by_labels
+  first_live ends labelled = record {
+    places = listed.places;
+    written = λ k d lt l read.
+        let (in_list, is) = listed.written k d lt in
+        subst (IsEntryOf labels l) (sym (is l read)) (own_written labels labelled l (get_or listed.by_labels k d).place (end_at (length labels) links (get_or listed.by_labels k d).place l ends in_list read));
+  }
+
+  pub first_listed : (names : List ℕ) → EndsUpTo (length labels) links → AreLabels labels → ((c : ℕ) → IsMarked marks c → number_of marks c ≤ length names)
+      → AreMarkedUpTo (length links) links labels marks → AreNamedUpTo (length links) links labels marks names → AreLiveLinks links labels (shown names live) × HaveNames names live
+  first_listed names ends labelled within marked named_are =
+      let are = first_by_numbers names marked named_are in
+      (subst (AreLiveLinks links labels) (sym (shown_again marks names within listed.by_labels live are)) (first_live ends labelled), have_names marks names within listed.by_labels live are)
+
+-- the next list
+module _ (labels marks names names' changed : List ℕ) (marked : HaveMarks labels marks names)
+    (number_is : (i : ℕ) → i < length names → get_or changed i 0 ≡ number_of marks (new_name labels (get_or names i 0)))
+    (name_is : (i : ℕ) → i < length names → HasItsName marks names' (new_name labels (get_or names i 0))) where
+  -- of the label of a number's name
+  at_end : (x : ℕ) → IsVertex (length names) x → IsVertex (length labels) (get_or names (x - 1) x)
+      → (label_of changed x ≡ number_of marks (label_of labels (get_or names (x - 1) x))) × IsMarked marks (label_of labels (get_or names (x - 1) x)) × HasItsName marks names' (label_of labels (get_or names (x - 1) x))
+  at_end x vertex name_vertex =
+      let i = x - 1 in
+      let within : i < length names = omega (arith, vertex) in
+      let v = get_or names i x in
+      let same : get_or names i 0 ≡ v = get_or_default names i 0 x within in
+      let is : new_name labels (get_or names i 0) ≡ label_of labels v = ap (new_name labels) same ∙ get_or_default labels (v - 1) 1 0 (omega (arith, name_vertex)) in
+      (number_is i within ∙ ap (number_of marks) is, subst (IsMarked marks) is (marked i within), subst (HasItsName marks names') is (name_is i within))
+
+  abbrev Ends : LiveLink → Type 0
+  Ends l = IsVertex (length names) l.low × IsVertex (length names) l.high
+
+  abbrev Vertices : LiveLink → Type 0
+  Vertices l = IsVertex (length labels) l.low × IsVertex (length labels) l.high
+
+  packed_numbers : (live : List LiveLink) → All Ends live → All Vertices (shown names live) → packed changed live ≡ map (numbered marks) (packed labels (shown names live))
+  packed_numbers [] have ends = refl
+  packed_numbers (l ∷ live) have ends =
+      let e : LiveLink = named names l in
+      let x = all_head Ends l live have in
+      let v = all_head Vertices e (shown names live) ends in
+      let low = at_end l.low x.0 v.0 in
+      let high = at_end l.high x.1 v.1 in
+      let later = packed_numbers live (all_tail Ends l live have) (all_tail Vertices e (shown names live) ends) in
+      elim (eqb_tells (label_of labels e.low) (label_of labels e.high)) [
+        | inl (test, same) ↦
+            packed_same changed l live (low.0 ∙ ap (number_of marks) same ∙ sym high.0)
+            ∙ later
+            ∙ ap (λ t. map (numbered marks) t) (sym (packed_same labels e (shown names live) same))
+        | inr (test, apart) ↦
+            let changed_apart : label_of changed l.low ≢ label_of changed l.high = λ same. apart (numbers_apart marks (label_of labels e.low) (label_of labels e.high) low.1 high.1 (sym low.0 ∙ same ∙ high.0)) in
+            let first : relabelled changed l ≡ numbered marks (relabelled labels e) = λ k. record { low = low.0 k; high = high.0 k; weight = l.weight; place = l.place } in
+            packed_apart changed l live changed_apart
+            ∙ ap (λ (m : LiveLink). m ∷ packed changed live) first
+            ∙ ap (λ (t : List LiveLink). numbered marks (relabelled labels e) ∷ t) later
+            ∙ ap (λ t. map (numbered marks) t) (sym (packed_apart labels e (shown names live) apart))
+      ]
+
+  abbrev Facts : ℕ → ℕ → Type 0
+  Facts x v = (label_of changed x ≡ number_of marks (label_of labels v)) × IsMarked marks (label_of labels v) × HasItsName marks names' (label_of labels v)
+
+  pub next_by_numbers : (live : List LiveLink) → HaveNames names live → All Vertices (shown names live) → AreByNumbers marks names' (packed labels (shown names live)) (packed changed live)
+  next_by_numbers live have ends = record {
+    numbered_are = packed_numbers live have ends;
+    marked = packed_all labels (AreBothMarked marks) (shown names live) (λ k d lt. let (low, high) = both k d lt in (low.1, high.1));
+    named_are = packed_all labels (AreBothNamed marks names') (shown names live) (λ k d lt. let (low, high) = both k d lt in (low.2, high.2));
+  }
+    where
+      both : (k : ℕ) (d : LiveLink) → k < length (shown names live)
+          → Facts (get_or live k d).low (get_or (shown names live) k d).low × Facts (get_or live k d).high (get_or (shown names live) k d).high
+      both k d lt =
+          let in_live : k < length live = omega (arith, lt, length-map live (named names)) in
+          let l : LiveLink = get_or live k d in
+          let is : get_or (shown names live) k d ≡ named names l = get_or-map (named names) live k d d in_live in
+          let x = have k d in_live in
+          let v = subst Vertices is (ends k d lt) in
+          subst (λ (e : LiveLink). Facts l.low e.low × Facts l.high e.high) (sym is) (at_end l.low x.0 v.0, at_end l.high x.1 v.1)
+
+-- where there are no names a list shows what is written
+pub shown_plain : (names : List ℕ) (live : List LiveLink) → names ≡ [] → shown names live ≡ live
+shown_plain names live none = ap (λ (t : List ℕ). shown t live) none ∙ plain live
+  where
+    plain : (live : List LiveLink) → shown [] live ≡ live
+    plain [] = refl
+    plain (l ∷ live) = ap (λ (t : List LiveLink). l ∷ t) (plain live)
+
+-- a list of no length is empty
+nothing_left : {X : Type 0} (xs : List X) → length xs ≡ 0 → xs ≡ []
+nothing_left [] none = refl
+nothing_left (x ∷ xs) none = absurd (omega (arith, none))
+
+-- where there are no names, a list shows its own links
+pub shown_unnamed : {Z : Type 0} (names : Vec ℕ Z) (live : List LiveLink) → (names.len == 0) ≡ true → shown names.items live ≡ live
+shown_unnamed names live none = shown_plain names.items live (nothing_left names.items (omega (arith, names.ok, eqb-true names.len 0 none)))

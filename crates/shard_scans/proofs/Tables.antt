@@ -1,0 +1,184 @@
+-- A table by blocks and parts of labels, some of which were touched.
+use Rattle.std.proofs.Common.{◌≡◌, ◌≢◌, ℕ, ◌+◌, ◌-◌, ◌*◌, ◌/◌, ◌<◌, ◌≤◌, ◌^◌, Bool, true, false, List, [], ◌∷◌, ◌++◌, length, get_or, set, replicate, Contains, sym, ap, ◌∙◌, subst, inl, inr, arith}
+use Rattle.std.proofs.lemmas.Bool.{cases_eq, cases_lt}
+use Rattle.std.proofs.Math.Nat.{mul-div-le, lt-mul-div-succ, mul_comm}
+use Rattle.std.proofs.lemmas.Nat.{le-div, div_below}
+use Rattle.std.proofs.lemmas.List.{ext_get_or, get_or_past, get_or-replicate, length-replicate, get_or-set_same, get_or-set_other, length-set}
+use Rattle.std.proofs.lemmas.List.Elements.{Contains-get_or, Contains-append_left, Contains-push, Contains-push_cases}
+use Rattle.std.proofs.lemmas.List.Quantifiers.{all_pairs_push}
+use Rattle.link_key.specs.declared.links.Link.{Link}
+use Rattle.link_key.specs.Link.{EndsUpTo}
+use Rattle.link_key.specs.Labels.{AreLabels}
+use Rattle.link_key.specs.Offers.{Offer}
+use Rattle.link_key.proofs.Members.{contains_none}
+use Rattle.round_theory.specs.Labelling.{IsVertex}
+use Rattle.round_theory.specs.Offers.{IsLightOffer, AreLightOffers}
+use Rattle.round_theory.proofs.Lists.{set_ends}
+use Rattle.round_theory.proofs.OfferSteps.{left_label_is_vertex}
+use Rattle.shard_scans.specs.declared.scanning.Best.{Best}
+use Rattle.shard_scans.specs.Scanning.{no_best, IsBestPlace, best_of, AreBest}
+use Rattle.shard_scans.specs.Tables.{HaveNotes, AreNone, KeepNoMore, IsKept, ArePlacesBelow, ArePlaces}
+use Rattle.shard_scans.proofs.BestSoFar.{best_is_light, none_leaves}
+use Rattle.shard_scans.proofs.Scans.{kept_place, kept_none}
+
+module _ (width : ℕ) (some : 0 < width) where
+  -- the labels of a note are those behind so many
+  of_note : (before note : ℕ) → width * note ≤ before → before < width * (note + 1) → before / width ≡ note
+  of_note before note low high = omega (arith, le-div note before width some (omega (arith, low, mul_comm note width)), div_below before width (note + 1) some (omega (arith, high, mul_comm (note + 1) width)))
+
+  at_note : (before note : ℕ) → before / width ≡ note → (width * note ≤ before) × (before < width * (note + 1))
+  at_note before note same = subst (λ n. (width * n ≤ before) × (before < width * (n + 1))) same (mul-div-le before width, lt-mul-div-succ before some)
+
+  -- nothing is kept for the labels of a note that isn't set
+  pub unset_none : (bests : List Best) (notes : List Bool) (note : ℕ) → HaveNotes width bests notes → get_or notes note true ≡ false → AreNone bests (width * note) (width * (note + 1))
+  unset_none bests notes note noted off before low high = elim (cases_lt before (length bests)) [
+    | inl within ↦ noted.unset before within (subst (λ n. get_or notes n true ≡ false) (sym (of_note before note low high)) off)
+    | inr past ↦ get_or_past bests before no_best past
+  ]
+
+  -- a note whose labels are cleared needn't be set
+  pub unset_note : (bests : List Best) (notes : List Bool) (note : ℕ) → HaveNotes width bests notes → AreNone bests (width * note) (width * (note + 1)) → HaveNotes width bests (set notes note false)
+  unset_note bests notes note noted none = record {
+    room = subst (λ n. length bests ≤ width * n) (sym (length-set notes note false)) noted.room;
+    unset = λ before within off. elim (cases_eq (before / width) note) [
+      | inl same ↦ let at = at_note before note same in none before at.0 at.1
+      | inr other ↦ noted.unset before within (sym (get_or-set_other notes note (before / width) false true other) ∙ off)
+    ];
+  }
+
+  -- where no more is kept the notes hold
+  pub notes_stay : (old new : List Best) (notes : List Bool) → length new ≡ length old → KeepNoMore old new → HaveNotes width old notes → HaveNotes width new notes
+  notes_stay old new notes long no_more noted = record {
+    room = omega (arith, long, noted.room);
+    unset = λ before within off. no_more before (noted.unset before (omega (arith, within, long)) off);
+  }
+
+-- labels in a row, and those behind them
+pub none_on : (bests : List Best) (from at to : ℕ) → AreNone bests from at → AreNone bests at to → AreNone bests from to
+none_on bests from at to front back before low high = elim (cases_lt before at) [ inl lt ↦ front before low lt | inr le ↦ back before le high ]
+
+-- one label is cleared
+pub clears : (bests : List Best) (at : ℕ) → at < length bests → AreNone (set bests at no_best) at (at + 1)
+clears bests at within before low high =
+    subst (λ k. get_or (set bests at no_best) k no_best ≡ no_best) (omega (arith, low, high)) (get_or-set_same bests at no_best no_best within)
+
+pub clears_alone : (bests : List Best) (at : ℕ) → KeepNoMore bests (set bests at no_best)
+clears_alone bests at before none = elim (cases_eq before at) [
+  | inl same ↦ elim (cases_lt at (length bests)) [
+    | inl within ↦ subst (λ k. get_or (set bests at no_best) k no_best ≡ no_best) (sym same) (get_or-set_same bests at no_best no_best within)
+    | inr past ↦ get_or_past (set bests at no_best) before no_best (omega (arith, same, past, length-set bests at no_best))
+  ]
+  | inr other ↦ get_or-set_other bests at before no_best no_best other ∙ none
+]
+
+pub all_none : (bests : List Best) (count : ℕ) → length bests ≡ count → AreNone bests 0 count → bests ≡ replicate count no_best
+all_none bests count long none =
+    ext_get_or no_best bests (replicate count no_best) (long ∙ sym (length-replicate count no_best))
+    (λ i lt. let within : i < count = omega (arith, lt, long) in none i (omega arith) within ∙ sym (get_or-replicate count i no_best no_best within))
+
+-- ---- the places that are kept
+
+pub places_none : (bests : List Best) → ArePlacesBelow bests 1 []
+places_none bests = record {
+  ascending = λ i j d lt in_range. absurd (omega arith);
+  exact = λ label place. (λ is_in. absurd (contains_none (label, place) is_in), λ (lt, kept). absurd (omega (arith, lt, kept.from_one)));
+}
+
+-- no place is kept for the next labels
+pub places_skip : (bests : List Best) (from to : ℕ) (pairs : List Offer) → from ≤ to
+    → ((before : ℕ) → from ≤ before → before < to → (get_or bests before no_best).place ≡ no_best.place)
+    → ArePlacesBelow bests (from + 1) pairs → ArePlacesBelow bests (to + 1) pairs
+places_skip bests from to pairs le none are = record {
+  ascending = are.ascending;
+  exact = λ label place. (
+    λ is_in. let had = (are.exact label place).0 is_in in (omega (arith, had.0, le), had.1),
+    λ (lt, kept). (are.exact label place).1 (
+      elim (cases_lt label (from + 1)) [
+        | inl below ↦ below
+        | inr past ↦ absurd (kept.some (sym kept.here ∙ none (label - 1) (omega (arith, past)) (omega (arith, lt, past))))
+      ],
+      kept,
+    ),
+  );
+}
+
+pub places_skip_none : (bests : List Best) (from to : ℕ) (pairs : List Offer) → from ≤ to → AreNone bests from to → ArePlacesBelow bests (from + 1) pairs → ArePlacesBelow bests (to + 1) pairs
+places_skip_none bests from to pairs le none are = places_skip bests from to pairs le (λ before low high. ap (λ (b : Best). b.place) (none before low high)) are
+
+-- or a place is kept for the next label
+pub places_push : (bests : List Best) (before place : ℕ) (pairs : List Offer) → (get_or bests before no_best).place ≡ place → place ≢ no_best.place
+    → ArePlacesBelow bests (before + 1) pairs → ArePlacesBelow bests (before + 1 + 1) (pairs ++ (before + 1, place) ∷ [])
+places_push bests before place pairs here some are = record {
+  ascending = all_pairs_push (λ a b. a.0 < b.0) pairs (before + 1, place) are.ascending (λ k d lt. ((are.exact (get_or pairs k d).0 (get_or pairs k d).1).0 (Contains-get_or pairs k d lt)).0);
+  exact = λ label other. (to label other, back label other);
+}
+  where
+    kept : IsKept bests (before + 1) place
+    kept = record { from_one = omega arith; here = subst (λ k. (get_or bests k no_best).place ≡ place) (omega arith) here; some = some }
+
+    to : (label other : ℕ) → Contains (pairs ++ (before + 1, place) ∷ []) (label, other) → (label < before + 1 + 1) × IsKept bests label other
+    to label other is_in = elim (Contains-push_cases pairs (before + 1, place) (label, other) is_in) [
+      | inl old ↦ let had = (are.exact label other).0 old in (omega (arith, had.0), had.1)
+      | inr same ↦ subst (λ (p : ℕ × ℕ). (p.0 < before + 1 + 1) × IsKept bests p.0 p.1) same (omega arith, kept)
+    ]
+
+    back : (label other : ℕ) → (label < before + 1 + 1) × IsKept bests label other → Contains (pairs ++ (before + 1, place) ∷ []) (label, other)
+    back label other (lt, is) = elim (cases_lt label (before + 1)) [
+      | inl below ↦ Contains-append_left pairs ((before + 1, place) ∷ []) (label, other) ((are.exact label other).1 (below, is))
+      | inr le ↦
+          let same : label ≡ before + 1 = omega (arith, lt, le) in
+          let one : other ≡ place = sym is.here ∙ ap (λ k. (best_of bests k).place) same ∙ kept.here in
+          subst (λ (p : ℕ × ℕ). Contains (pairs ++ (before + 1, place) ∷ []) p) (λ k. (sym same k, sym one k)) (Contains-push pairs (before + 1, place))
+    ]
+
+-- the link that is offered is the one at the best place, and stands first there
+pub same_place : (links : List Link) (labels : List ℕ) (label p place : ℕ) → IsBestPlace links labels 0 (length links) label p → IsLightOffer links labels label place → p ≡ place
+same_place links labels label p place best (l, least, at) = elim (best.first place l (omega arith) at.within at.within (sym at.here) least.leaves) [
+  | inl below ↦ absurd (least.least best.link (p, best.in_list, sym best.here) best.leaves below)
+  | inr (same, le) ↦ elim (cases_lt p place) [
+    | inl lt ↦ absurd (at.first p lt (sym (subst (λ (k : Link). k ≡ get_or links p k) same best.here)))
+    | inr ge ↦ omega (arith, le, ge)
+  ]
+]
+
+-- a place is kept for a label of the table alone
+pub kept_below : (bests : List Best) (label place : ℕ) → IsKept bests label place → label < length bests + 1
+kept_below bests label place kept = elim (cases_lt label (length bests + 1)) [
+  | inl lt ↦ lt
+  | inr le ↦ absurd (kept.some (sym kept.here ∙ ap (λ (b : Best). b.place) (get_or_past bests (label - 1) no_best (omega (arith, le)))))
+]
+
+-- below a bound behind the last label are all that are kept
+pub places_all : (bests : List Best) (bound : ℕ) (pairs : List Offer) → length bests < bound → ArePlacesBelow bests bound pairs → ArePlaces bests pairs
+places_all bests bound pairs past are = record {
+  ascending = are.ascending;
+  exact = λ label place. (
+    λ is_in. ((are.exact label place).0 is_in).1,
+    λ kept. (are.exact label place).1 (omega (arith, kept_below bests label place kept, past), kept),
+  );
+}
+
+-- the best places are the light offers
+module _ (links : List Link) (labels : List ℕ) (bests : List Best) (few : length links ≤ 2 ^ 24) (ends : EndsUpTo (length labels) links) (all : AreLabels labels) (are : AreBest links labels 0 (length links) bests) where
+  kept_is_light : (label place : ℕ) → label < length bests + 1 → IsKept bests label place → IsLightOffer links labels label place
+  kept_is_light label place lt kept =
+      let vertex : IsVertex (length labels) label = (kept.from_one, omega (arith, lt, are.each_vertex)) in
+      let best = kept_place links labels 0 (length links) label (best_of bests label) (are.best label vertex) (λ none. kept.some (sym kept.here ∙ none)) in
+      best_is_light links labels label place (subst (IsBestPlace links labels 0 (length links) label) kept.here best)
+
+  light_is_kept : (label place : ℕ) → IsLightOffer links labels label place → (label < length bests + 1) × IsKept bests label place
+  light_is_kept label place (l, least, at) =
+      let vertex = left_label_is_vertex labels l label all (set_ends (length labels) links ends l least.member) least.leaves in
+      let keeps = are.best label vertex in
+      let some : (best_of bests label).place ≢ no_best.place = λ none. none_leaves links labels label (kept_none links labels 0 (length links) label (best_of bests label) keeps few none) l least.member least.leaves in
+      let same = same_place links labels label (best_of bests label).place place (kept_place links labels 0 (length links) label (best_of bests label) keeps some) (l, least, at) in
+      (omega (arith, vertex, are.each_vertex), record { from_one = vertex.0; here = same; some = λ none. some (same ∙ none) })
+
+  pub places_are_light : (pairs : List Offer) → ArePlaces bests pairs → AreLightOffers links labels pairs
+  places_are_light pairs places = record {
+    ascending = places.ascending;
+    exact = λ label place. (
+      λ is_in. let kept = (places.exact label place).0 is_in in kept_is_light label place (kept_below bests label place kept) kept,
+      λ light. (places.exact label place).1 (light_is_kept label place light).1,
+    );
+  }

@@ -1,0 +1,160 @@
+-- Live links, each written with labels of its ends.
+use Rattle.std.proofs.Common.{◌≡◌, ◌≢◌, ◌↔◌, ℕ, ◌+◌, ◌<◌, ◌≤◌, List, [], ◌∷◌, ◌++◌, length, get_or, All, Bool, true, false, Option, Some, None, inl, inr, refl, sym, ap, ◌∙◌, subst, arith}
+use Rattle.std.specs.Prelude.{IfSome}
+use Rattle.std.proofs.lemmas.Bool.{cases_eq}
+use Rattle.std.proofs.lemmas.List.{get_or_default, get_or-map, map-append, length-map}
+use Rattle.std.proofs.lemmas.List.Elements.{All-append, All-cons, All-nil}
+use Rattle.link_key.specs.declared.links.Link.{Link}
+use Rattle.link_key.specs.Labels.{label_of, AreLabels, Coarsens}
+use Rattle.round_theory.specs.Labelling.{IsVertex}
+use Rattle.shard_scans.specs.declared.scanning.Best.{Best}
+use Rattle.shard_scans.specs.declared.live.LiveLink.{LiveLink}
+use Rattle.shard_scans.specs.Scanning.{Says, AreBestUpTo, TakesIn}
+use Rattle.shard_scans.specs.Batches.{written_at}
+use Rattle.shard_scans.specs.Live.{AreLive, HaveOneLabel, IsEntryOf, places_of, AreLiveLinks, StayLive, relabelled, KeptShardState, IsLive}
+use Rattle.shard_scans.proofs.Laid.{one_label_coarser, live_coarser, live_first, live_next, live_within, live_end, live_push, front_is_quiet}
+use Rattle.shard_scans.proofs.BestSoFar.{one_read}
+use Rattle.shard_scans.proofs.Scans.{bests_stay}
+use Rattle.shard_scans.proofs.Outdone.{bests_over}
+
+-- what is written of a link stays right under labels that coarsen
+pub written_coarser : (labels finer : List ℕ) (l : Link) (e : LiveLink) → Coarsens labels finer → IsEntryOf finer l e → IsEntryOf labels l e
+written_coarser labels finer l e coarsens is = record {
+  weight = is.weight;
+  low = one_label_coarser labels finer e.low l.low coarsens is.low;
+  high = one_label_coarser labels finer e.high l.high coarsens is.high;
+}
+
+pub live_links_coarser : (links : List Link) (labels finer : List ℕ) (live : List LiveLink) → Coarsens labels finer → AreLiveLinks links finer live → AreLiveLinks links labels live
+live_links_coarser links labels finer live coarsens are = record {
+  places = live_coarser links labels finer 0 (length links) (places_of live) coarsens are.places;
+  written = λ i d within l read. written_coarser labels finer l (get_or live i d) coarsens (are.written i d within l read);
+}
+
+-- what is live of a shard stays so under labels that coarsen
+pub kept_coarser : (kept : KeptShardState) (labels finer : List ℕ) → Coarsens labels finer → IsLive finer kept → IsLive labels kept
+kept_coarser kept labels finer coarsens live = go kept.live live
+  where
+    go : (listed : Option (List LiveLink)) → IfSome listed (AreLiveLinks kept.links finer) → IfSome listed (AreLiveLinks kept.links labels)
+    go None none = tt
+    go (Some listed) are = live_links_coarser kept.links labels finer listed coarsens are
+
+module _ (labels : List ℕ) (are : AreLabels labels) where
+  -- a label is a vertex, and its own label
+  pub label_vertex : (v : ℕ) → IsVertex (length labels) v → IsVertex (length labels) (label_of labels v)
+  label_vertex v (low, high) = let is = are.labelled v low high in (is.from_one, omega (arith, is.at_most_itself, high))
+
+  label_stands : (u v : ℕ) → HaveOneLabel labels u v → HaveOneLabel labels (label_of labels u) v
+  label_stands u v (at_u, at_v, same) = (label_vertex u at_u, at_v, (are.labelled u at_u.0 at_u.1).own ∙ same)
+
+  -- the labels of what is written of a link may stand in its place
+  pub relabelled_written : (l : Link) (e : LiveLink) → IsEntryOf labels l e → IsEntryOf labels l (relabelled labels e)
+  relabelled_written l e is = record { weight = is.weight; low = label_stands e.low l.low is.low; high = label_stands e.high l.high is.high }
+
+  pub own_written : (l : Link) (place : ℕ) → l.high ≤ length labels → IsEntryOf labels l (written_at labels l place)
+  own_written l place ends =
+      let at_low : IsVertex (length labels) l.low = (l.from_one, omega (arith, l.ascending, ends)) in
+      let at_high : IsVertex (length labels) l.high = (omega (arith, l.from_one, l.ascending), ends) in
+      record { weight = refl; low = label_stands l.low l.low (at_low, at_low, refl); high = label_stands l.high l.high (at_high, at_high, refl) }
+
+-- as many places as live links
+places_count : (live : List LiveLink) → length (places_of live) ≡ length live
+places_count live = length-map live (λ (l : LiveLink). l.place)
+
+-- the link at a place of the list
+pub link_at : (links : List Link) (p : ℕ) → p < length links → (l : Link) × (l ≡ get_or links p l)
+link_at [] p within = absurd (omega (arith, within))
+link_at (x ∷ links) p within = (get_or (x ∷ links) p x, get_or_default (x ∷ links) p x (get_or (x ∷ links) p x) within)
+
+-- a test for different labels that fails
+pub one_unless : (b : Bool) (u v : ℕ) → (b ≡ true) ↔ (u ≢ v) → b ≡ false → u ≡ v
+one_unless b u v is fails = elim (cases_eq u v) [
+  | inl same ↦ same
+  | inr apart ↦ let holds = is.1 apart in cc
+]
+
+module _ (links : List Link) (labels : List ℕ) where
+  module _ (old : List LiveLink) (are : AreLiveLinks links labels old) where
+    -- a table of no links stands before the first live one, and in the end all are seen
+    pub bests_none : (count : ℕ) (table : List Best) → AreBestUpTo count links labels 0 0 table → AreBestUpTo count links labels 0 (get_or (places_of old) 0 (length links)) table
+    bests_none count table none =
+        let (le, aside) = live_first links labels 0 (length links) (places_of old) are.places in
+        bests_stay count links labels 0 0 (get_or (places_of old) 0 (length links)) table le
+        (λ q l from_start before_end in_list read. (front_is_quiet links labels (get_or (places_of old) 0 (length links)) aside q l before_end read).one_label) none
+
+    pub bests_all : (count i : ℕ) (table : List Best) → i ≡ length old → AreBestUpTo count links labels 0 (get_or (places_of old) i (length links)) table → AreBestUpTo count links labels 0 (length links) table
+    bests_all count i table at best =
+        let end = ap (λ k. get_or (places_of old) k (length links)) (at ∙ sym (places_count old)) ∙ live_end links labels (length links) (places_of old) in
+        subst (λ k. AreBestUpTo count links labels 0 k table) end best
+
+    module _ (i : ℕ) (within : i < length old) (d : LiveLink) where
+      abbrev here : LiveLink
+      here = get_or old i d
+
+      in_places : i < length (places_of old)
+      in_places = omega (arith, within, places_count old)
+
+      -- its place is one of the list, and it is written of the link there
+      place_is : get_or (places_of old) i 0 ≡ here.place
+      place_is = get_or-map (λ (l : LiveLink). l.place) old i d 0 within
+
+      place_in_list : here.place < length links
+      place_in_list = subst (λ p. p < length links) place_is (live_within links labels 0 (length links) (places_of old) i 0 are.places in_places).1
+
+      pub written_here : (l : Link) × (l ≡ get_or links here.place l) × IsEntryOf labels l here
+      written_here = let (l, read) = link_at links here.place place_in_list in (l, read, are.written i d within l read)
+
+      pub low_is_vertex : IsVertex (length labels) here.low
+      low_is_vertex = let (l, read, is) = written_here in is.low.0
+
+      pub high_is_vertex : IsVertex (length labels) here.high
+      high_is_vertex = let (l, read, is) = written_here in is.high.0
+
+      module _ (next : LiveLink) (next_is : next ≡ relabelled labels here) where
+        -- what is kept of it says its weight and place
+        pub next_says : (b : Best) → b.weight ≡ next.weight → b.place ≡ next.place → Says links b (Some b.place)
+        next_says b weight_is b_place_is =
+            let at : b.place ≡ here.place = b_place_is ∙ ap (λ (l : LiveLink). l.place) next_is in (
+              refl,
+              subst (λ p. p < length links) (sym at) place_in_list,
+              λ l read. weight_is ∙ ap (λ (k : LiveLink). k.weight) next_is ∙ (are.written i d within l (subst (λ p. l ≡ get_or links p l) at read)).weight,
+            )
+
+        -- once it is taken in, all before the next one is seen
+        pub bests_next : (count from p : ℕ) (table table' : List Best) → p ≡ next.place → from ≤ get_or (places_of old) i (length links) → TakesIn links next.low next.high p table table'
+            → AreBestUpTo count links labels from (get_or (places_of old) i (length links)) table → AreBestUpTo count links labels from (get_or (places_of old) (i + 1) (length links)) table'
+        bests_next count from p table table' p_is le takes best =
+            let (l, read, is) = written_here in
+            let at : p ≡ here.place = p_is ∙ ap (λ (l : LiveLink). l.place) next_is in
+            let end : get_or (places_of old) i (length links) ≡ p = get_or_default (places_of old) i (length links) 0 in_places ∙ place_is ∙ sym at in
+            let taken = takes count labels from l (subst (λ k. l ≡ get_or links k l) (sym at) read) (ap (λ (k : LiveLink). k.low) next_is ∙ is.low.2) (ap (λ (k : LiveLink). k.high) next_is ∙ is.high.2)
+            (subst (λ k. from ≤ k) end le) (subst (λ k. AreBestUpTo count links labels from k table) end best) in
+            let (le', aside) = live_next links labels 0 (length links) (places_of old) i 0 are.places in_places in
+            let seen : from < get_or (places_of old) i 0 + 1 = omega (arith, le, get_or_default (places_of old) i (length links) 0 in_places) in
+            bests_over links labels from (get_or (places_of old) i 0 + 1) (get_or (places_of old) (i + 1) (length links)) seen le' aside count table'
+            (subst (λ k. AreBestUpTo count links labels from (k + 1) table') (at ∙ sym place_is) taken)
+
+  -- what is written of their ends are vertices
+  pub live_ends : (live : List LiveLink) → AreLiveLinks links labels live → All (λ l. IsVertex (length labels) l.low × IsVertex (length labels) l.high) live
+  live_ends live are = λ i d within. (low_is_vertex live are i within d, high_is_vertex live are i within d)
+
+  -- live links before a place of the list
+  pub record AreWrittenBefore (to : ℕ) (live : List LiveLink) : Type 0 where
+    pub places : AreLive links labels 0 to (places_of live)
+    pub written : All (λ e. (l : Link) → l ≡ get_or links e.place l → IsEntryOf labels l e) live
+
+  -- one more is written behind them
+  module _ (place : ℕ) (l : Link) (within : place < length links) (read : l ≡ get_or links place l) (ends : l.high ≤ length labels) (live : List LiveLink) (before : AreWrittenBefore place live) where
+    pub written_more : AreLabels labels → AreWrittenBefore (place + 1) (live ++ written_at labels l place ∷ [])
+    written_more are = record {
+      places = subst (AreLive links labels 0 (place + 1)) (sym (map-append (λ (e : LiveLink). e.place) live (written_at labels l place ∷ []))) (live_push links labels 0 place (places_of live) before.places);
+      written = All-append P live (written_at labels l place ∷ []) before.written
+          (All-cons P (written_at labels l place) [] (λ k k_read. subst (λ m. IsEntryOf labels m (written_at labels l place)) (one_read links place l k within read k_read) (own_written labels are l place ends)) (All-nil P));
+    }
+      where
+        P : LiveLink → Type 0
+        P e = (k : Link) → k ≡ get_or links e.place k → IsEntryOf labels k e
+
+  -- or left out
+  pub written_left_out : (place : ℕ) (live : List LiveLink) → AreWrittenBefore place live → StayLive links labels live place → AreWrittenBefore (place + 1) live
+  written_left_out place live before stay = record { places = stay before.places; written = before.written }

@@ -1,0 +1,7 @@
+pub mod Scanning
+pub mod Live
+pub mod Batches
+pub mod Parts
+pub mod Tables
+pub mod Numbers
+pub mod Laws

@@ -1,0 +1,100 @@
+-- Links of a shard that are laid aside, since they leave no label, or another one between the same two labels comes first.
+use Rattle.std.specs.Prelude.{◌≡◌, ℕ, ◌+◌, ◌<◌, ◌≤◌, ◌↔◌, ◌⊎◌, ◌==◌, if◌then◌else◌, List, [], ◌∷◌, length, map, slice_index_or, All}
+use Rattle.std.specs.Prelude.{Option, None, Some, IfSome}
+use Rattle.link_key.specs.declared.links.Link.{Link}
+use Rattle.link_key.specs.Link.{EndsUpTo}
+use Rattle.link_key.specs.Labels.{label_of}
+use Rattle.link_key.specs.Offers.{Offer}
+use Rattle.round_theory.specs.Labelling.{IsVertex}
+use Rattle.round_theory.specs.Offers.{AreLightOffers}
+use Rattle.shard_scans.specs.declared.live.LiveLink.{LiveLink}
+use Rattle.shard_scans.specs.Scanning.{ComesFirst}
+
+-- two vertices of one label
+abbrev pub HaveOneLabel : List ℕ → ℕ → ℕ → Type 0
+HaveOneLabel labels u v = IsVertex (length labels) u × IsVertex (length labels) v × (label_of labels u ≡ label_of labels v)
+
+-- both ends of the link have one label
+pub record IsInside (labels : List ℕ) (l : Link) : Type 0 where
+  pub labelled : l.high ≤ length labels
+  pub one_label : label_of labels l.low ≡ label_of labels l.high
+
+-- parallel links: their ends have the same two labels
+abbrev pub AreParallel : List ℕ → Link → Link → Type 0
+AreParallel labels l m = (HaveOneLabel labels l.low m.low × HaveOneLabel labels l.high m.high)
+    ⊎ (HaveOneLabel labels l.low m.high × HaveOneLabel labels l.high m.low)
+
+-- of parallel links the one that comes first is kept, and outdoes the others: that just before place `from` outdoes the one at place q
+pub record IsOutdone (links : List Link) (labels : List ℕ) (from q : ℕ) (l : Link) : Type 0 where
+  pub place : ℕ
+  pub just_before : place + 1 ≡ from
+  pub earlier : Link
+  pub here : earlier ≡ slice_index_or links place earlier
+  pub parallel : AreParallel labels earlier l
+  pub first : ComesFirst earlier place l q
+
+-- the link at place q may be laid aside, behind the place just before `from`
+abbrev pub IsAside : List Link → List ℕ → ℕ → ℕ → Link → Type 0
+IsAside links labels from q l = IsInside labels l ⊎ IsOutdone links labels from q l
+
+-- so may those at the places from `from` on before `to`
+abbrev pub AreAside : List Link → List ℕ → ℕ → ℕ → Type 0
+AreAside links labels from to = (q : ℕ) (l : Link) → from ≤ q → q < to → l ≡ slice_index_or links q l → IsAside links labels from q l
+
+-- live places: they ascend from `from` on, before `to`, and the links at all other places there may be laid aside
+abbrev pub AreLive : List Link → List ℕ → ℕ → ℕ → List ℕ → Type 0
+AreLive links labels from to [] = (from ≤ to) × AreAside links labels from to
+AreLive links labels from to (p ∷ places) = (from ≤ p) × AreAside links labels from p × AreLive links labels (p + 1) to places
+
+-- what is written of a link: its weight, and for each end a vertex of that end's label
+pub record IsEntryOf (labels : List ℕ) (l : Link) (written : LiveLink) : Type 0 where
+  pub weight : written.weight ≡ l.weight
+  pub low : HaveOneLabel labels written.low l.low
+  pub high : HaveOneLabel labels written.high l.high
+
+abbrev pub places_of : List LiveLink → List ℕ
+places_of live = map (λ (l : LiveLink). l.place) live
+
+-- the place of the live link behind so many others; the end of the list behind the last
+abbrev pub live_place : List Link → List LiveLink → ℕ → ℕ
+live_place links live i = slice_index_or (places_of live) i (length links)
+
+-- live links: each is written of the link at its place, and the links at all other places may be laid aside
+pub record AreLiveLinks (links : List Link) (labels : List ℕ) (live : List LiveLink) : Type 0 where
+  pub places : AreLive links labels 0 (length links) (places_of live)
+  pub written : All (λ written. (l : Link) → l ≡ slice_index_or links written.place l → IsEntryOf labels l written) live
+
+-- the live places before a place are those before the next: the link there may be laid aside
+abbrev pub StayLive : List Link → List ℕ → List LiveLink → ℕ → Type 0
+StayLive links labels live place = AreLive links labels 0 place (places_of live) → AreLive links labels 0 (place + 1) (places_of live)
+
+-- what is written of a live link, with labels in place of its vertices
+abbrev pub relabelled : List ℕ → LiveLink → LiveLink
+relabelled labels l = record { low = label_of labels l.low; high = label_of labels l.high; weight = l.weight; place = l.place }
+
+-- so all live links, without those whose ends fall together
+abbrev pub packed : List ℕ → List LiveLink → List LiveLink
+packed labels [] = []
+packed labels (l ∷ live) = if label_of labels l.low == label_of labels l.high then packed labels live else relabelled labels l ∷ packed labels live
+
+-- a shard's links, and which of them are live: all, or those that are listed
+pub record KeptShardState : Type 0 where
+  pub links : List Link
+  pub live : Option (List LiveLink)
+
+-- a number by which it is known which numbers of vertices the ends of the links keep to
+abbrev pub IsGreatestEnd : List Link → ℕ → Type 0
+IsGreatestEnd links greatest = (n : ℕ) → EndsUpTo n links ↔ (greatest ≤ n)
+
+-- the light offers of the links, where each end has a label; none where one has no label
+abbrev pub AreOffersOf : List Link → List ℕ → Option (List Offer) → Type 0
+AreOffersOf links labels None = ¬ EndsUpTo (length labels) links
+AreOffersOf links labels (Some offers) = EndsUpTo (length labels) links × AreLightOffers links labels offers
+
+-- where live links are kept, they are those of the shard's links under these labels
+abbrev pub IsLive : List ℕ → KeptShardState → Type 0
+IsLive labels kept = IfSome kept.live (AreLiveLinks kept.links labels)
+
+-- all links are live
+abbrev pub IsAllLive : KeptShardState → Type 0
+IsAllLive kept = kept.live ≡ None

@@ -1,0 +1,133 @@
+-- Numbers for the labels that a shard's links have, in the order of the labels, and the labels by their numbers.
+use Rattle.std.specs.Prelude.{◌≡◌, ℕ, zero, suc, ◌+◌, ◌-◌, ◌*◌, ◌/◌, ◌%◌, ◌^◌, ◌<◌, ◌≤◌, ◌⊎◌}
+use Rattle.std.specs.Prelude.{List, [], length, map, slice_index, slice_index_or, All}
+use Rattle.std.specs.Int.{bit_at}
+use Rattle.link_key.specs.declared.links.Link.{Link}
+use Rattle.link_key.specs.Labels.{label_of}
+use Rattle.link_key.specs.Offers.{Offer}
+use Rattle.round_theory.specs.Labelling.{IsVertex}
+use Rattle.shard_scans.specs.declared.live.LiveLink.{LiveLink}
+use Rattle.shard_scans.specs.declared.numbers.Word.{Word}
+use Rattle.shard_scans.specs.Batches.{written_at}
+use Rattle.shard_scans.specs.Live.{AreLive, places_of, packed}
+
+-- no label of a word is marked
+abbrev pub no_marks : Word
+no_marks = record { marks = 0; before = 0 }
+
+abbrev pub marks_of : List Word → List ℕ
+marks_of words = map (λ (w : Word). w.marks) words
+
+-- the label is marked: 64 labels a word, label 1 the lowest bit of the first one
+pub record IsMarked (marks : List ℕ) (c : ℕ) : Type 0 where
+  pub from_one : 1 ≤ c
+  pub in_words : (c - 1) / 64 < length marks
+  pub bit : bit_at (slice_index marks ((c - 1) / 64)) ((c - 1) % 64) ≡ 1
+
+-- how many of so many labels, from 1 on, are marked
+abbrev pub marked_to : List ℕ → ℕ → ℕ
+marked_to marks zero = 0
+marked_to marks (suc c) = marked_to marks c + bit_at (slice_index marks (c / 64)) (c % 64)
+
+-- how many are marked in so many words
+abbrev pub marked_in : List ℕ → ℕ → ℕ
+marked_in marks words = marked_to marks (words * 64)
+
+-- each word says how many are marked before it, and they are few
+pub record AreCounted (words : List Word) : Type 0 where
+  pub before : (w : ℕ) (d : Word) → w < length words → (slice_index_or words w d).before ≡ marked_in (marks_of words) w
+  pub few : marked_in (marks_of words) (length words) ≤ 2 ^ 28
+
+-- the number of a label: how many marked labels stand below it, and one
+abbrev pub number_of : List ℕ → ℕ → ℕ
+number_of marks c = marked_to marks (c - 1) + 1
+
+-- the label stands by its number among the names
+abbrev pub HasItsName : List ℕ → List ℕ → ℕ → Type 0
+HasItsName marks names c = slice_index names (number_of marks c - 1) ≡ c
+
+-- what is written of a link by labels, with their numbers in place of them
+abbrev pub numbered : List ℕ → LiveLink → LiveLink
+numbered marks l = record { low = number_of marks l.low; high = number_of marks l.high; weight = l.weight; place = l.place }
+
+-- of what is written of a link both labels are marked, or stand among the names
+abbrev pub AreBothMarked : List ℕ → LiveLink → Type 0
+AreBothMarked marks l = IsMarked marks l.low × IsMarked marks l.high
+
+abbrev pub AreBothNamed : List ℕ → List ℕ → LiveLink → Type 0
+AreBothNamed marks names l = HasItsName marks names l.low × HasItsName marks names l.high
+
+-- the name of a number; the number itself where it has none
+abbrev pub name_of : List ℕ → ℕ → ℕ
+name_of names number = slice_index_or names (number - 1) number
+
+-- what is written by numbers, with the names of these in place of them; where there are no names it stands
+abbrev pub named : List ℕ → LiveLink → LiveLink
+named names l = record { low = name_of names l.low; high = name_of names l.high; weight = l.weight; place = l.place }
+
+-- labels of vertices, with their numbers in place of them
+abbrev pub numbered_labels : List ℕ → List ℕ → List ℕ
+numbered_labels marks labels = map (number_of marks) labels
+
+-- of the links before a place the labels of the ends are marked
+abbrev pub AreMarkedUpTo : ℕ → List Link → List ℕ → List ℕ → Type 0
+AreMarkedUpTo to links labels marks = (q : ℕ) (l : Link) → q < to → l ≡ slice_index_or links q l
+    → IsMarked marks (label_of labels l.low) × IsMarked marks (label_of labels l.high)
+
+-- and stand by their numbers among the names
+abbrev pub AreNamedUpTo : ℕ → List Link → List ℕ → List ℕ → List ℕ → Type 0
+AreNamedUpTo to links labels marks names = (q : ℕ) (l : Link) → q < to → l ≡ slice_index_or links q l
+    → HasItsName marks names (label_of labels l.low) × HasItsName marks names (label_of labels l.high)
+
+-- each number is that of a label that stands there
+abbrev pub HaveNames : List ℕ → List LiveLink → Type 0
+HaveNames names live = All (λ l. IsVertex (length names) l.low × IsVertex (length names) l.high) live
+
+-- a pair of a number and a place, with the name of the number in place of it
+abbrev pub offered : List ℕ → Offer → Offer
+offered names o = (slice_index names (o.0 - 1), o.1)
+
+-- the label of a name, as of a vertex; label 1 where there is no such vertex
+abbrev pub new_name : List ℕ → ℕ → ℕ
+new_name labels name = slice_index_or labels (name - 1) 1
+
+-- what is listed of live links, by labels of vertices
+abbrev pub shown : List ℕ → List LiveLink → List LiveLink
+shown names live = map (named names) live
+
+-- they are written with labels, where there are no names, or with numbers that have names
+abbrev pub IsListed : List ℕ → List LiveLink → Type 0
+IsListed names live = (names ≡ []) ⊎ HaveNames names live
+
+-- the labels of both ends are marked, and stand by their numbers among the names
+pub record HasNumbers (labels marks names : List ℕ) (l : Link) : Type 0 where
+  pub low_marked : IsMarked marks (label_of labels l.low)
+  pub high_marked : IsMarked marks (label_of labels l.high)
+  pub low_named : HasItsName marks names (label_of labels l.low)
+  pub high_named : HasItsName marks names (label_of labels l.high)
+
+-- so it is of each link whose ends don't have one label
+abbrev pub AreNumbered : List Link → List ℕ → List ℕ → List ℕ → Type 0
+AreNumbered links labels marks names = (q : ℕ) (l : Link) → q < length links → l ≡ slice_index_or links q l
+    → (label_of labels l.low ≡ label_of labels l.high) ⊎ HasNumbers labels marks names l
+
+-- the labels of all names are marked
+abbrev pub HaveMarks : List ℕ → List ℕ → List ℕ → Type 0
+HaveMarks labels marks names = (i : ℕ) → i < length names → IsMarked marks (new_name labels (slice_index names i))
+
+-- what is written of links by marked labels that have names, with their numbers
+pub record AreByNumbers (marks names : List ℕ) (by_labels live : List LiveLink) : Type 0 where
+  pub numbered_are : live ≡ map (numbered marks) by_labels
+  pub marked : All (AreBothMarked marks) by_labels
+  pub named_are : All (AreBothNamed marks names) by_labels
+
+-- a list by names is written anew under labels: without the links whose ends fall together, and with the numbers of the labels
+abbrev pub AreRenumbered : List ℕ → List ℕ → List ℕ → List LiveLink → List ℕ → List LiveLink → Type 0
+AreRenumbered labels marks names live names' live' = AreByNumbers marks names' (packed labels (shown names live)) live'
+
+-- the live links before a place of the list are written with the numbers of their labels
+pub record AreListedUpTo (to : ℕ) (links : List Link) (labels marks : List ℕ) (live : List LiveLink) : Type 0 where
+  pub by_labels : List LiveLink
+  pub places : AreLive links labels 0 to (places_of by_labels)
+  pub written : All (λ e. (e.place < length links) × ((l : Link) → l ≡ slice_index_or links e.place l → e ≡ written_at labels l e.place)) by_labels
+  pub numbered_are : live ≡ map (numbered marks) by_labels

@@ -1,0 +1,152 @@
+//! The live links of a shard, which are listed once some links are to be laid aside.
+ghost use Rattle.std.specs.Prelude.{◌≡◌, ◌≤◌, [], length, map, All, IfSome, IfOk, OnOk, OnErr};
+ghost use Rattle.limits.specs.declared.TheConstants.{MAX_SHARD_LINKS};
+ghost use Rattle.link_key.specs.Link.{EndsUpTo};
+ghost use Rattle.link_key.specs.Labels.{AreLabels};
+ghost use Rattle.round_theory.specs.Labelling.{IsVertex};
+ghost use Rattle.shard_scans.specs.Live.{AreLiveLinks};
+ghost use Rattle.shard_scans.specs.Numbers.{marks_of, marked_in, AreCounted, AreMarkedUpTo, AreNamedUpTo, HaveNames, HaveMarks, AreRenumbered, AreListedUpTo, shown, IsListed};
+
+use crate::live::{LiveLink, is_live, pack, write_live};
+use crate::numbers::{Numbers, number_names};
+use link_key::Link;
+use std::alloc::{AllocError, Allocator};
+
+// Live links, each written with labels of its ends; or with numbers of its own labels, and the label of each number.
+#[derive(Drop)]
+pub(crate) struct Listed<A: Allocator> {
+    pub(crate) names: Vec<u32, A>,
+    pub(crate) links: Vec<LiveLink, A>,
+}
+
+impl<A: Allocator + Copy> Listed<A> {
+    // A list by labels.
+    pub(crate) fn by_labels(links: Vec<LiveLink, A>) -> Self
+        ensures names { result.names.items ≡ [] }
+        ensures links { result.links.items ≡ links.items }
+    {
+        Listed {
+            names: Vec::new(*links.allocator()),
+            links,
+        }
+    }
+
+    // Writes the links with the numbers of their new labels, without those whose ends fall together.
+    pub(crate) fn renumber(
+        &mut self,
+        labels: &[u32],
+        numbers: &Numbers<A>,
+        count: usize,
+    ) -> Result<(), AllocError>
+        requires ends { All (λ l. IsVertex (length labels.now) l.low × IsVertex (length labels.now) l.high) (shown self.old.names.items self.old.links.items) }
+        requires have_names { HaveNames self.old.names.items self.old.links.items }
+        requires counted { AreCounted numbers.now }
+        requires marked { HaveMarks labels.now (marks_of numbers.now) self.old.names.items }
+        requires count { count ≡ marked_in (marks_of numbers.now) (length numbers.now) }
+        ensures names { OnOk result (length self.new.names.items ≡ count) }
+        ensures numbered { OnOk result (AreRenumbered labels.now (marks_of numbers.now) self.old.names.items self.old.links.items self.new.names.items self.new.links.items) }
+        ensures same_names { OnErr result (self.new.names.items ≡ self.old.names.items) }
+        ensures same_links { OnErr result (self.new.links.items ≡ self.old.links.items) }
+    {
+        let alloc = *self.names.allocator();
+        let mut names = Vec::new(alloc);
+        names.resize(count, NO_NAME)?;
+        let mut changed = Vec::new(alloc);
+        changed.resize(self.names.len(), NO_NAME)?;
+        number_names(
+            self.names.as_slice(),
+            labels,
+            numbers,
+            names.as_mut_slice(),
+            changed.as_mut_slice(),
+        );
+        let kept = pack(self.links.as_mut_slice(), changed.as_slice());
+        self.links.truncate(kept);
+        self.names = names;
+        Ok(())
+    }
+}
+
+// Of a number before its name is written.
+pub(crate) const NO_NAME: u32 = 0;
+
+// The live links of a shard by numbers, where so many leave a label and the others are to be laid aside; none where all
+// leave one, or where there is no memory for the list.
+pub(crate) fn list_by_numbers<A: Allocator + Copy>(
+    links: &[Link],
+    labels: &[u32],
+    numbers: &Numbers<A>,
+    names: Vec<u32, A>,
+    leaving: usize,
+) -> Option<Listed<A>>
+    requires few_links { length links.now ≤ MAX_SHARD_LINKS }
+    requires ends { EndsUpTo (length labels.now) links.now }
+    requires labels { AreLabels labels.now }
+    requires counted { AreCounted numbers.now }
+    requires marked { AreMarkedUpTo (length links.now) links.now labels.now (marks_of numbers.now) }
+    requires named { AreNamedUpTo (length links.now) links.now labels.now (marks_of numbers.now) names.items }
+    requires names { length names.items ≡ marked_in (marks_of numbers.now) (length numbers.now) }
+    ensures live { IfSome result (λ it. AreLiveLinks links.now labels.now (shown it.names.items it.links.items)) }
+    ensures listed { IfSome result (λ it. IsListed it.names.items it.links.items) }
+{
+    if leaving == links.len() {
+        return None;
+    }
+    match write_by_numbers(*names.allocator(), links, labels, numbers, leaving) {
+        Ok(live) => Some(Listed { names, links: live }),
+        Err(_) => None,
+    }
+}
+
+// The same by labels.
+pub(crate) fn list_by_labels<A: Allocator + Copy>(
+    alloc: A,
+    links: &[Link],
+    labels: &[u32],
+    leaving: usize,
+) -> Option<Listed<A>>
+    requires few_links { length links.now ≤ MAX_SHARD_LINKS }
+    requires ends { EndsUpTo (length labels.now) links.now }
+    requires labels { AreLabels labels.now }
+    ensures live { IfSome result (λ it. AreLiveLinks links.now labels.now (shown it.names.items it.links.items)) }
+    ensures listed { IfSome result (λ it. IsListed it.names.items it.links.items) }
+{
+    if leaving == links.len() {
+        return None;
+    }
+    match write_live(alloc, links, labels, leaving) {
+        Ok(live) => Some(Listed::by_labels(live)),
+        Err(_) => None,
+    }
+}
+
+// The live links of a shard by numbers, with room for so many to begin with; room that is left is given back.
+fn write_by_numbers<A: Allocator + Copy>(
+    alloc: A,
+    links: &[Link],
+    labels: &[u32],
+    numbers: &Numbers<A>,
+    room: usize,
+) -> Result<Vec<LiveLink, A>, AllocError>
+    requires few_links { length links.now ≤ MAX_SHARD_LINKS }
+    requires ends { EndsUpTo (length labels.now) links.now }
+    requires labels { AreLabels labels.now }
+    requires counted { AreCounted numbers.now }
+    requires marked { AreMarkedUpTo (length links.now) links.now labels.now (marks_of numbers.now) }
+    ensures live { IfOk result (λ live. AreListedUpTo (length links.now) links.now labels.now (marks_of numbers.now) live.items) }
+{
+    let mut live = Vec::with_capacity(alloc, room)?;
+    for place in 0..links.len() {
+        if is_live(links, labels, live.as_slice(), place) {
+            let link = links[place];
+            live.push(LiveLink {
+                low: numbers.number(labels[link.low as usize - 1]),
+                high: numbers.number(labels[link.high as usize - 1]),
+                weight: link.weight,
+                place: place as u32,
+            })?;
+        }
+    }
+    live.shrink_to_fit();
+    Ok(live)
+}

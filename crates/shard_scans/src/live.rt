@@ -1,0 +1,225 @@
+//! Links of a shard that are live, each written with labels of its ends, or with a shard's own numbers of them.
+//!
+//! A link whose ends have one label leaves no component, and never will under labels that coarsen these: it is quiet, and
+//! laid aside. So is a link where the one listed before it lies between the same two labels and is no greater, as in files
+//! that have both directions of a link beside each other: under all these labels that one is light before it. Of the
+//! others a label of each end is written beside the weight and the place. Under labels that coarsen, the label of such a
+//! label is that of the end itself, so a pass in order over what is written looks at no link, and looks up labels of labels
+//! alone, of which there are fewer and fewer.
+ghost use Rattle.std.specs.Prelude.{◌≡◌, ◌<◌, ◌≤◌, List, length, take, replicate, All, IfSome, IfOk, IsTrue, IsFalse};
+ghost use Rattle.limits.specs.declared.TheConstants.{MAX_SHARD_LINKS};
+ghost use Rattle.link_key.specs.declared.links.Link.{Link};
+ghost use Rattle.link_key.specs.Link.{EndsUpTo};
+ghost use Rattle.link_key.specs.Labels.{AreLabels};
+ghost use Rattle.round_theory.specs.Labelling.{IsVertex};
+ghost use Rattle.shard_scans.specs.Scanning.{no_best, AreBest};
+ghost use Rattle.shard_scans.specs.Live.{AreParallel, AreLiveLinks, StayLive, live_place, relabelled, packed};
+
+use crate::batches::{BATCH, NOTHING, keep_each, look_up_live};
+use crate::parts::Part;
+use crate::scanning::Best;
+use crate::table::Table;
+use link_key::Link;
+use std::alloc::{AllocError, Allocator};
+
+// What is written of a live link: a label of its lower end, or that label's number, the same of its higher end, its weight
+// and its place.
+#[derive(Clone, Copy)]
+pub(crate) struct LiveLink {
+    pub(crate) low: u32,
+    pub(crate) high: u32,
+    pub(crate) weight: i64,
+    pub(crate) place: u32,
+}
+
+impl LiveLink {
+    // The same under labels that coarsen those it was written under.
+    #[inline]
+    pub(crate) fn under(self, labels: &[u32]) -> Self
+        requires low { IsVertex (length labels.now) self.low }
+        requires high { IsVertex (length labels.now) self.high }
+        ensures { result ≡ relabelled labels.now self }
+    {
+        LiveLink {
+            low: labels[self.low as usize - 1],
+            high: labels[self.high as usize - 1],
+            weight: self.weight,
+            place: self.place,
+        }
+    }
+
+    // The same with other ends.
+    #[inline]
+    pub(crate) fn between(self, low: u32, high: u32) -> Self
+        ensures { result ≡ record { low = low; high = high; weight = self.weight; place = self.place } }
+    {
+        LiveLink {
+            low,
+            high,
+            weight: self.weight,
+            place: self.place,
+        }
+    }
+
+    #[inline]
+    pub(crate) fn best(self) -> Best
+        ensures weight { result.weight ≡ self.weight }
+        ensures place { result.place ≡ self.place }
+    {
+        Best {
+            weight: self.weight,
+            place: self.place,
+        }
+    }
+}
+
+// The pass over a part of the live links, a batch at a time. The others leave no label.
+pub(crate) fn find_best_live<A: Allocator + Copy>(
+    links: &[Link],
+    live: &[LiveLink],
+    labels: &[u32],
+    part: Part,
+    table: &mut Table<A>,
+)
+    requires few_links { length links.now ≤ MAX_SHARD_LINKS }
+    requires labels { AreLabels labels.now }
+    requires live { AreLiveLinks links.now labels.now live.now }
+    requires in_list { part.to ≤ length live.now }
+    requires none_yet { table.old ≡ replicate (length labels.now) no_best }
+    ensures best { AreBest links.now labels.now (live_place links.now live.now part.from) (live_place links.now live.now part.to) table.new }
+{
+    let mut batch = [NOTHING; BATCH];
+    let mut at = part.from;
+    while at < part.to {
+        let next = at + BATCH.min(part.to - at);
+        look_up_live(live, labels, at, next, &mut batch);
+        keep_each(links, &batch, next - at, table);
+        at = next;
+    }
+}
+
+// The pass over all live links, once their new labels are written, and those that aren't quiet are moved to the front, in
+// order. It says how many these are.
+pub(crate) fn find_best_and_pack<A: Allocator + Copy>(
+    links: &[Link],
+    live: &mut [LiveLink],
+    labels: &[u32],
+    table: &mut Table<A>,
+) -> usize
+    requires few_links { length links.now ≤ MAX_SHARD_LINKS }
+    requires labels { AreLabels labels.now }
+    requires live { AreLiveLinks links.now labels.now live.old }
+    requires none_yet { table.old ≡ replicate (length labels.now) no_best }
+    ensures best { AreBest links.now labels.now 0 (length links.now) table.new }
+    ensures front { result ≤ length live.old }
+    ensures live { AreLiveLinks links.now labels.now (take result live.new) }
+{
+    let kept = pack(live, labels);
+    keep_each(links, live, kept, table);
+    kept
+}
+
+// Moves the live links that aren't quiet to the front, with their new labels, and says how many these are.
+pub(crate) fn pack_live(live: &mut [LiveLink], labels: &[u32]) -> usize
+    requires labels { AreLabels labels.now }
+    requires ends { All (λ l. IsVertex (length labels.now) l.low × IsVertex (length labels.now) l.high) live.old }
+    ensures front { result ≤ length live.old }
+    ensures live { (links : List Link) → AreLiveLinks links labels.now live.old → AreLiveLinks links labels.now (take result live.new) }
+{
+    pack(live, labels)
+}
+
+// Writes the new labels of all live links, and moves those that aren't quiet to the front, in order. It says how many
+// these are.
+pub(crate) fn pack(live: &mut [LiveLink], labels: &[u32]) -> usize
+    requires ends { All (λ l. IsVertex (length labels.now) l.low × IsVertex (length labels.now) l.high) live.old }
+    ensures front { result ≤ length live.old }
+    ensures packed { take result live.new ≡ packed labels.now live.old }
+{
+    let mut kept = 0;
+    for i in 0..live.len() {
+        let next = live[i].under(labels);
+        if next.low != next.high {
+            live[kept] = next;
+            kept += 1;
+        }
+    }
+    kept
+}
+
+// Whether two links are parallel.
+#[inline]
+fn are_parallel(labels: &[u32], earlier: Link, link: Link) -> bool
+    requires earlier { earlier.high ≤ length labels.now }
+    requires link { link.high ≤ length labels.now }
+    ensures { IsTrue result → AreParallel labels.now earlier link }
+{
+    let low = labels[earlier.low as usize - 1];
+    let high = labels[earlier.high as usize - 1];
+    let other_low = labels[link.low as usize - 1];
+    let other_high = labels[link.high as usize - 1];
+    if low == other_low {
+        return high == other_high;
+    }
+    low == other_high && high == other_low
+}
+
+// Whether the link at a place is outdone by the one that is listed last.
+#[inline]
+fn is_outdone(links: &[Link], labels: &[u32], live: &[LiveLink], place: usize) -> bool
+    requires ends { EndsUpTo (length labels.now) links.now }
+    requires in_list { place < length links.now }
+    ensures { IsTrue result → StayLive links.now labels.now live.now place }
+{
+    if live.is_empty() {
+        return false;
+    }
+    let last = live[live.len() - 1];
+    let link = links[place];
+    match links.get(last.place as usize) {
+        Some(earlier) if are_parallel(labels, *earlier, link) => *earlier <= link,
+        _ => false,
+    }
+}
+
+// Whether the next link is to be listed behind those that are: it isn't quiet, and not outdone by the last of them.
+#[inline]
+pub(crate) fn is_live(links: &[Link], labels: &[u32], live: &[LiveLink], place: usize) -> bool
+    requires ends { EndsUpTo (length labels.now) links.now }
+    requires in_list { place < length links.now }
+    ensures { IsFalse result → StayLive links.now labels.now live.now place }
+{
+    let link = links[place];
+    if labels[link.low as usize - 1] == labels[link.high as usize - 1] {
+        return false;
+    }
+    !is_outdone(links, labels, live, place)
+}
+
+// The live links of a shard, with room for so many to begin with; room that is left is given back.
+pub(crate) fn write_live<A: Allocator + Copy>(
+    alloc: A,
+    links: &[Link],
+    labels: &[u32],
+    room: usize,
+) -> Result<Vec<LiveLink, A>, AllocError>
+    requires few_links { length links.now ≤ MAX_SHARD_LINKS }
+    requires ends { EndsUpTo (length labels.now) links.now }
+    requires labels { AreLabels labels.now }
+    ensures live { IfOk result (λ live. AreLiveLinks links.now labels.now live.items) }
+{
+    let mut live = Vec::with_capacity(alloc, room)?;
+    for place in 0..links.len() {
+        if is_live(links, labels, live.as_slice(), place) {
+            let link = links[place];
+            live.push(LiveLink {
+                low: labels[link.low as usize - 1],
+                high: labels[link.high as usize - 1],
+                weight: link.weight,
+                place: place as u32,
+            })?;
+        }
+    }
+    live.shrink_to_fit();
+    Ok(live)
+}

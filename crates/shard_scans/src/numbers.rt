@@ -1,0 +1,219 @@
+//! Numbers of a shard's own for the labels that its links have.
+//!
+//! A shard among many has links to few of the vertices. A table of what is kept for each of their labels stays in a
+//! processor's cache where one of what is kept for each label of the graph doesn't. So the labels that a shard's links
+//! have are marked, a bit each, and numbered in their order: the number of a label is one more than there are marked
+//! labels below it, which are counted a word of bits at a time.
+ghost use Rattle.std.specs.Prelude.{◌≡◌, ℕ, ◌+◌, ◌-◌, ◌/◌, ◌^◌, ◌<◌, ◌≤◌, ◌⊎◌, [], length, slice_index, slice_index_or, replicate, set, count_ones, OnOk};
+ghost use Rattle.link_key.specs.Link.{EndsUpTo};
+ghost use Rattle.link_key.specs.Labels.{AreLabels};
+ghost use Rattle.shard_scans.specs.declared.live.LiveLink.{LiveLink};
+ghost use Rattle.shard_scans.specs.Numbers.{no_marks, marks_of, IsMarked, marked_in, AreCounted, number_of, numbered, HasItsName, AreMarkedUpTo, AreBothMarked, AreBothNamed, HaveMarks, new_name};
+
+use crate::live::LiveLink;
+use link_key::Link;
+use std::alloc::{AllocError, Allocator};
+use std::marker::Model;
+
+// A bit for each of 64 labels, set where it is marked, and how many labels are marked in the words before.
+#[derive(Clone, Copy)]
+pub(crate) struct Word {
+    pub(crate) marks: u64,
+    pub(crate) before: u32,
+}
+
+impl Word {
+    // How many labels of it are marked.
+    #[inline]
+    fn count(self) -> u32
+        ensures ones { result ≡ count_ones self.marks }
+        ensures few { result ≤ 64 }
+        ensures bits { self.marks < 2 ^ 64 }
+    {
+        self.marks.count_ones()
+    }
+}
+
+// Which labels are marked. Contracts see the words.
+#[derive(Drop)]
+pub(crate) struct Numbers<A: Allocator> {
+    words: Vec<Word, A>,
+}
+
+impl<A: Allocator> Model for Numbers<A> {
+    ghost use Rattle.std.specs.Prelude.{List};
+    ghost use Rattle.shard_scans.specs.declared.numbers.Word.{Word};
+
+    ghost Value = { List Word };
+
+    ghost view = { λ n. n.words.items };
+}
+
+impl<A: Allocator + Copy> Numbers<A> {
+    // No words. It takes no memory.
+    pub(crate) fn new(alloc: A) -> Self
+        ensures { result ≡ [] }
+    {
+        Numbers {
+            words: Vec::new(alloc),
+        }
+    }
+
+    // Marks none of so many labels.
+    pub(crate) fn clear(&mut self, labels: usize) -> Result<(), AllocError>
+        requires few { labels ≤ 2 ^ 26 }
+        ensures { OnOk result (self.new ≡ replicate (labels / 64 + 1) no_marks) }
+    {
+        self.words.clear();
+        let none = Word {
+            marks: 0,
+            before: 0,
+        };
+        self.words.resize(labels / 64 + 1, none)
+    }
+
+    // Marks a label, where it may be marked already.
+    #[inline]
+    pub(crate) fn mark(&mut self, label: u32)
+        requires from_one { 1 ≤ label }
+        requires in_words { (label - 1) / 64 < length self.old }
+        ensures words { length self.new ≡ length self.old }
+        ensures marked { IsMarked (marks_of self.new) label }
+        ensures more { (c : ℕ) → IsMarked (marks_of self.old) c → IsMarked (marks_of self.new) c }
+        ensures only { (c : ℕ) → IsMarked (marks_of self.new) c → (c ≡ label) ⊎ IsMarked (marks_of self.old) c }
+    {
+        let at = label as usize - 1;
+        self.words[at / 64].marks |= 1 << (at % 64);
+    }
+
+    // Counts the marks, so that labels have numbers.
+    pub(crate) fn count(&mut self) -> usize
+        requires few { length self.old ≤ 2 ^ 21 }
+        ensures words { length self.new ≡ length self.old }
+        ensures marks { marks_of self.new ≡ marks_of self.old }
+        ensures counted { AreCounted self.new }
+        ensures total { result ≡ marked_in (marks_of self.new) (length self.new) }
+    {
+        let mut total = 0;
+        for word in self.words.iter_mut() {
+            word.before = total;
+            total += word.count();
+        }
+        total as usize
+    }
+
+    // The number of a label.
+    #[inline]
+    pub(crate) fn number(&self, label: u32) -> u32
+        requires from_one { 1 ≤ label }
+        requires in_words { (label - 1) / 64 < length self.now }
+        requires counted { AreCounted self.now }
+        ensures { result ≡ number_of (marks_of self.now) label }
+    {
+        let at = label as usize - 1;
+        let word = self.words[at / 64];
+        word.before + (word.marks % (1 << (at % 64))).count_ones() + 1
+    }
+
+    // The number of a marked label, which is written as its name.
+    #[inline]
+    fn name(&self, label: u32, names: &mut [u32]) -> u32
+        requires counted { AreCounted self.now }
+        requires marked { IsMarked (marks_of self.now) label }
+        requires names { length names.old ≡ marked_in (marks_of self.now) (length self.now) }
+        ensures number { result ≡ number_of (marks_of self.now) label }
+        ensures named { names.new ≡ set names.old (number_of (marks_of self.now) label - 1) label }
+    {
+        let number = self.number(label);
+        names[number as usize - 1] = label;
+        number
+    }
+}
+
+// Marks the labels of the ends of all links.
+pub(crate) fn mark_ends<A: Allocator + Copy>(
+    links: &[Link],
+    labels: &[u32],
+    numbers: &mut Numbers<A>,
+)
+    requires ends { EndsUpTo (length labels.now) links.now }
+    requires labels { AreLabels labels.now }
+    requires words { length numbers.old ≡ length labels.now / 64 + 1 }
+    ensures words { length numbers.new ≡ length numbers.old }
+    ensures marked { AreMarkedUpTo (length links.now) links.now labels.now (marks_of numbers.new) }
+{
+    for link in links {
+        numbers.mark(labels[link.low as usize - 1]);
+        numbers.mark(labels[link.high as usize - 1]);
+    }
+}
+
+// Writes the numbers of the labels of so many links in place of the labels, and the names of these numbers.
+pub(crate) fn number_each<A: Allocator + Copy>(
+    numbers: &Numbers<A>,
+    names: &mut [u32],
+    batch: &mut [LiveLink],
+    count: usize,
+)
+    requires counted { AreCounted numbers.now }
+    requires in_batch { count ≤ length batch.old }
+    requires marked { (k : ℕ) (d : LiveLink) → k < count → AreBothMarked (marks_of numbers.now) (slice_index_or batch.old k d) }
+    requires names { length names.old ≡ marked_in (marks_of numbers.now) (length numbers.now) }
+    ensures numbered { (k : ℕ) (d : LiveLink) → k < count → slice_index_or batch.new k d ≡ numbered (marks_of numbers.now) (slice_index_or batch.old k d) }
+    ensures named { (k : ℕ) (d : LiveLink) → k < count → AreBothNamed (marks_of numbers.now) names.new (slice_index_or batch.old k d) }
+    ensures more { (c : ℕ) → IsMarked (marks_of numbers.now) c → HasItsName (marks_of numbers.now) names.old c → HasItsName (marks_of numbers.now) names.new c }
+{
+    for i in 0..count {
+        let link = batch[i];
+        let low = numbers.name(link.low, names);
+        let high = numbers.name(link.high, names);
+        batch[i] = link.between(low, high);
+    }
+}
+
+// The label of a name, as of a vertex; label 1 where there is no such vertex.
+#[inline]
+fn new_name(labels: &[u32], name: u32) -> u32
+    ensures { result ≡ new_name labels.now name }
+{
+    match labels.get((name as usize).saturating_sub(1)) {
+        Some(label) => *label,
+        None => 1,
+    }
+}
+
+// Marks the labels of all names.
+pub(crate) fn mark_names<A: Allocator + Copy>(
+    names: &[u32],
+    labels: &[u32],
+    numbers: &mut Numbers<A>,
+)
+    requires labels { AreLabels labels.now }
+    requires words { length numbers.old ≡ length labels.now / 64 + 1 }
+    ensures words { length numbers.new ≡ length numbers.old }
+    ensures marked { HaveMarks labels.now (marks_of numbers.new) names.now }
+{
+    for i in 0..names.len() {
+        numbers.mark(new_name(labels, names[i]));
+    }
+}
+
+// Writes, for each name, the number of its label, and the names of these numbers.
+pub(crate) fn number_names<A: Allocator + Copy>(
+    old: &[u32],
+    labels: &[u32],
+    numbers: &Numbers<A>,
+    names: &mut [u32],
+    changed: &mut [u32],
+)
+    requires counted { AreCounted numbers.now }
+    requires marked { HaveMarks labels.now (marks_of numbers.now) old.now }
+    requires names { length names.old ≡ marked_in (marks_of numbers.now) (length numbers.now) }
+    requires room { length changed.old ≡ length old.now }
+    ensures numbered { (i : ℕ) → i < length old.now → slice_index changed.new i ≡ number_of (marks_of numbers.now) (new_name labels.now (slice_index old.now i)) }
+    ensures named { (i : ℕ) → i < length old.now → HasItsName (marks_of numbers.now) names.new (new_name labels.now (slice_index old.now i)) }
+{
+    for i in 0..old.len() {
+        changed[i] = numbers.name(new_name(labels, old[i]), names);
+    }
+}

@@ -1,0 +1,136 @@
+//! A pass over a shard's links in threads, each over a part with a table of its own.
+ghost use Rattle.std.specs.Prelude.{◌≡◌, ◌<◌, ◌≤◌, length, IfOk};
+ghost use denote.Param.Send.{IsSync, IsSend, Frees};
+ghost use Rattle.shard_scans.specs.Scanning.{AreBest};
+ghost use Rattle.shard_scans.specs.Parts.{CanScan, count_of, IsPartOf, AreBestOf, SayPlaces, Merges};
+
+use crate::live::find_best_live;
+use crate::parts::{Part, Scanned};
+use crate::scanning::{Best, NO_PLACE, find_best};
+use crate::table::Table;
+use limits::MAX_SHARD_LINKS;
+use link_key::Link;
+use rayon::{current_num_threads, join};
+use std::alloc::{AllocError, Allocator};
+use std::thread::Threads;
+
+// So few links are worth no thread of their own.
+pub(crate) const FEW_LINKS: usize = 1 << 17;
+
+// How often the links to be scanned are halved: as often as there are processors for, while a part has as many links as a
+// table of its own has labels.
+pub(crate) fn halvings_of<R: Threads>(rt: &R, count: usize, labels: usize) -> usize {
+    let most = count / labels.max(1);
+    if count < FEW_LINKS || most < 2 {
+        return 0;
+    }
+    let parts = current_num_threads(rt).min(most).max(1);
+    parts.ilog2() as usize
+}
+
+// How many links are to be scanned.
+fn how_many(scanned: Scanned) -> usize
+    ensures { result ≡ count_of scanned.entry }
+{
+    match scanned.live {
+        Some(listed) => listed.len(),
+        None => scanned.links.len(),
+    }
+}
+
+// What a table keeps for all links to be scanned.
+pub(crate) fn best_of_all<R: Threads + Sync, A: Allocator + Copy + Send + Sync>(
+    rt: &R,
+    alloc: A,
+    scanned: Scanned,
+    halvings: usize,
+) -> Result<Table<A>, AllocError>
+    requires can { CanScan scanned }
+    ensures best { IfOk result (AreBest scanned.entry.links.now scanned.entry.labels.now 0 (length scanned.entry.links.now)) }
+{
+    let count = how_many(scanned);
+    let whole = Part { from: 0, to: count };
+    best_between(rt, alloc, scanned, whole, halvings)
+}
+
+// What a table keeps for a part of the links to be scanned. It is halved so many times, or until a half has few links, and
+// one half goes to a thread of its own where one can be made.
+#[cycle(halves)]
+pub(crate) fn best_between<R: Threads + Sync, A: Allocator + Copy + Send + Sync>(
+    rt: &R,
+    alloc: A,
+    scanned: Scanned,
+    part: Part,
+    halvings: usize,
+) -> Result<Table<A>, AllocError>
+    requires can { CanScan scanned }
+    requires part { IsPartOf scanned part }
+    ensures best { IfOk result (AreBestOf scanned.entry part) }
+{
+    if halvings == 0 || part.to - part.from < FEW_LINKS {
+        return best_alone(alloc, scanned, part);
+    }
+    let middle = part.from + (part.to - part.from) / 2;
+    let first = Part {
+        from: part.from,
+        to: middle,
+    };
+    let second = Part {
+        from: middle,
+        to: part.to,
+    };
+    let front = move || -> Result<Table<A>, AllocError>
+        requires { IsSync R.row × IsSend A.row × Frees A.Allocator A.dealloc_token × (0 < halvings) × CanScan scanned × IsPartOf scanned first }
+        ensures { IfOk result (AreBestOf scanned.entry first) }
+    { best_between(rt, alloc, scanned, first, halvings - 1) };
+    let back = move || -> Result<Table<A>, AllocError>
+        requires { IsSync R.row × IsSend A.row × Frees A.Allocator A.dealloc_token × (0 < halvings) × CanScan scanned × IsPartOf scanned second }
+        ensures { IfOk result (AreBestOf scanned.entry second) }
+    { best_between(rt, alloc, scanned, second, halvings - 1) };
+    let (earlier, later) = join(rt, front, back);
+    let mut table = earlier?;
+    let rest = later?;
+    merge(scanned.links, &mut table, rest.bests());
+    Ok(table)
+}
+
+// The same in one thread.
+fn best_alone<A: Allocator + Copy>(
+    alloc: A,
+    scanned: Scanned,
+    part: Part,
+) -> Result<Table<A>, AllocError>
+    requires can { CanScan scanned }
+    requires part { IsPartOf scanned part }
+    ensures best { IfOk result (AreBestOf scanned.entry part) }
+{
+    let Scanned {
+        links,
+        live,
+        labels,
+    } = scanned;
+    let mut table = Table::new(alloc);
+    table.clear(labels.len())?;
+    match live {
+        Some(listed) => find_best_live(links, listed, labels, part, &mut table),
+        None => {
+            let _ = find_best(links, labels, part, &mut table);
+        }
+    }
+    Ok(table)
+}
+
+// Takes what was kept for later links into a table of the earlier ones. Of equal links the earlier one stays.
+fn merge<A: Allocator + Copy>(links: &[Link], table: &mut Table<A>, later: &[Best])
+    requires few_links { length links.now ≤ MAX_SHARD_LINKS }
+    requires each_label { length table.old ≡ length later.now }
+    requires later { SayPlaces links.now later.now }
+    ensures best { Merges links.now later.now table.old table.new }
+{
+    for i in 0..later.len() {
+        let next = later[i];
+        if next.place != NO_PLACE {
+            table.keep(i, links, next);
+        }
+    }
+}

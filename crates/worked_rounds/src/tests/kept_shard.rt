@@ -1,0 +1,47 @@
+// A shard that is kept, and asked for its offers as components grow, and once all its links are live again.
+ghost use Rattle.std.specs.Prelude.{IfOk};
+ghost use Rattle.shard_scans.specs.Live.{IsAllLive};
+
+use super::scans::{expect_offers, neighbours};
+use link_key::Labels;
+use shard_scans::{KeptShard, Scanner, laws};
+use std::alloc::Global;
+use std::process::Abort;
+use std::test::Fail;
+use worked_graphs::{Row, links_of};
+
+// The least link at 1 and at 2 is the first, at 3 and at 4 the second; between these pairs the fourth is.
+const ARCS: [Row; 5] = [(1, 2, 7), (3, 4, 2), (2, 3, 9), (1, 4, 8), (2, 4, 8)];
+
+const EACH: [(u32, u32); 4] = [(1, 0), (2, 0), (3, 1), (4, 1)];
+
+const PAIRS: [(u32, u32); 2] = [(1, 3), (3, 3)];
+
+// A kept shard of these arcs.
+fn kept_arcs(rt: &impl Abort, alloc: Global) -> Result<KeptShard, Fail>
+    ensures { IfOk result IsAllLive }
+{
+    let links = links_of(alloc, 4, &ARCS)?.ok_or("arcs")?;
+    assert!(rt; links.len() <= 1 << 24);
+    Ok(KeptShard::new(links))
+}
+
+// The first two links are laid aside where pairs are components, and offered again once all are live.
+#[test]
+fn kept_shard_lays_aside(rt: HostRuntime) -> Result<(), Fail> {
+    let alloc = rt.alloc();
+    let mut scanner = Scanner::new(alloc);
+    let mut kept = kept_arcs(&rt, alloc)?;
+    let each = Labels::apart(alloc, 4)?;
+    let pairs = neighbours(alloc, 4, 2)?;
+    let offers = kept.offers(&mut scanner, &each)?.ok_or("labels")?;
+    expect_offers(&rt, &offers, &EACH);
+    laws::live_under_coarser();
+    assert!(rt; pairs.coarsens(&each));
+    let offers = kept.offers_par(&rt, &mut scanner, &pairs)?.ok_or("labels")?;
+    expect_offers(&rt, &offers, &PAIRS);
+    kept.make_all_live();
+    let offers = kept.offers(&mut scanner, &each)?.ok_or("labels")?;
+    expect_offers(&rt, &offers, &EACH);
+    Ok(())
+}

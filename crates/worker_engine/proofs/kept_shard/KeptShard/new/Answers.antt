@@ -1,8 +1,0 @@
-use Rattle.std.proofs.Common.{rules}
-use Rattle.worker_engine.specs.Live.{IsGreatestEnd}
-use Rattle.worker_engine.proofs.kept_shard.KeptShard.new.Goals as goal
-
-pub invariant_of-result : goal.invariant_of-result
-invariant_of-result g c =
-    let greatest : IsGreatestEnd c.into_list-links.result.items c.greatest_end-greatest.result = rw c.as_slice.ensures.value at c.greatest_end-greatest.ensures in
-    (search rules, greatest, tt)

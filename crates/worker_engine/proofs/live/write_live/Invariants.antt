@@ -1,5 +1,0 @@
-use Rattle.worker_engine.proofs.Written.{AreWrittenBefore}
-use Rattle.worker_engine.proofs.live.write_live.Given as goal
-
-abbrev pub invariant-loop-place : goal.invariant-loop-place
-invariant-loop-place g l = AreWrittenBefore l.links l.labels l.place l.live.items
