@@ -199,11 +199,11 @@ impl<'a, A: Allocator> RoundBook<'a, A> {
 }
 
 impl<'a, A: Allocator + Copy + Send + Sync> RoundBook<'a, A> {
-    /// The picks of the round, as `close` makes them, counted by up to eight threads, as there are processors for.
+    /// The picks of the round, as `close` makes them, counted by two threads where there are processors for them.
     ///
-    /// Each thread but the first counts into picks of its own, 16 bytes a vertex that are freed at the end, and only where
-    /// there are many offers: 2^17 in all, and one for each four vertices for each thread. Where that memory is refused
-    /// the caller counts that thread's offers, as it does where no thread can be made: like `close` it never fails.
+    /// The second counts into picks of its own, 16 bytes a vertex that are freed at the end, and only where there are many
+    /// offers: 2^17 in all, and one for each four vertices for each thread. Where that memory is refused the caller counts
+    /// that thread's offers, as it does where no thread can be made: like `close` it never fails.
     pub fn close_par<R: Threads + Sync>(self, rt: &R) -> Picks<A>
         requires { missing self ≡ 0 }
         ensures picks { ArePicks self.entry.labels (IsNamed (hearings self.entry)) result }

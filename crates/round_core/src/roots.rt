@@ -339,6 +339,34 @@ fn follow_each(roots: &[u32], leads: &[Lead], parents: &mut [u32])
     }
 }
 
+// Asks for room for the links of a whole run before the first is taken, so that their list doesn't move while it grows: of
+// honest answers a run takes fewer links than there are roots with a pick in its first round.
+fn make_room_for_links<A: Allocator>(
+    roots: &[u32],
+    leads: &[Lead],
+    taken: &mut Vec<Link, A>,
+) -> Result<(), AllocError>
+    requires room { length leads.now ≡ length roots.now }
+    ensures same { taken.new.items ≡ taken.old.items }
+{
+    if !taken.is_empty() {
+        return Ok(());
+    }
+    taken.reserve(count_led(roots, leads))
+}
+
+// How many roots have a pick.
+fn count_led(roots: &[u32], leads: &[Lead]) -> usize
+    requires room { length leads.now ≡ length roots.now }
+{
+    let mut count = 0usize;
+    for i in 0..roots.len() {
+        let lead = leads[i];
+        count = count.wrapping_add((lead.takes | (lead.parent != roots[i])) as usize);
+    }
+    count
+}
+
 // Takes the pick of each root that is to take it, behind what was taken before.
 fn take_all<A: Allocator>(
     roots: &[u32],
@@ -352,6 +380,7 @@ fn take_all<A: Allocator>(
     ensures given { OnOk result (TakesBatch picks.now roots.now taken.old.items taken.new.items) }
     ensures before { StandsBefore taken.old.items taken.new.items }
 {
+    make_room_for_links(roots, leads, taken)?;
     let mut done = 0;
     while done < roots.len() {
         let next = roots.len().min(done + BATCH);

@@ -57,7 +57,7 @@ impl From<AllocError> for SolveFault {
 /// picks that comes past the bound is refused.
 ///
 /// 8 bytes a vertex, 4 more where the labels' bytes are kept, and 8 more from the first step that takes links on; 16
-/// bytes for each link taken.
+/// bytes for each link taken, and at least for each vertex that had a pick in that step.
 #[derive(Drop)]
 pub struct Solver<A: Allocator = Global> {
     labels: Labels<A>,
@@ -102,7 +102,7 @@ impl<A: Allocator + Copy> Solver<A> {
     ///
     /// It looks at the picks of the k vertices that are their own label, and once at each of n vertices: O(n + k log k)
     /// time. Memory: 4 bytes a vertex for the new labels and 8 for each of the k, 8 more a vertex that stay from the first
-    /// step that takes links on, and 16 bytes for each link of the round, in the list of those taken before.
+    /// step that takes links on, and then 16 bytes for each vertex with a pick, in which mostly all links of a run have room.
     pub fn step(&mut self, picks: &Picks<A>) -> Result<Turn, SolveFault>
         requires picks { ArePicksOfHearings self.old.labels picks.now }
         ensures turn { IfOk result (IsTurn picks.now self.old self.new) }

@@ -23,8 +23,8 @@ const FEW_OFFERS: usize = 1 << 17;
 const LABELS_PER_OFFER: usize = 4;
 
 // Offers are halved so often at most, however many processors there are: each part after the first has picks of its own,
-// of 16 bytes a label.
-const MOST_HALVINGS: usize = 3;
+// of 16 bytes a label, and to ask for these and clear them takes longer than a third and a fourth thread save.
+const MOST_HALVINGS: usize = 1;
 
 // So many offers are looked up before any of them is counted.
 const BATCH: usize = 64;
