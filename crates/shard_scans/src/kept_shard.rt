@@ -12,10 +12,11 @@ use std::alloc::{AllocError, Allocator, Global};
 use std::marker::Model;
 use std::thread::Threads;
 
-/// A shard that is scanned again and again under labels that coarsen. Once a scan shows links that leave no label, these are
-/// laid aside, and so is a link where the one listed before it lies between the same two labels and is no greater: the live
-/// ones are listed, and a scan passes over the list alone. Contracts see the links and the live ones, if these are listed;
-/// where they aren't, all are live.
+/// A shard that is scanned again and again under labels that coarsen. Once a scan shows links that leave no label, or at the
+/// first one where many links have the ends of the link before them, the live links are listed, and later scans pass over the
+/// list alone: links that leave no label are laid aside, and so is a link where the one listed before it lies between the same
+/// two labels and is no greater. Contracts see the links and the live ones, if these are listed; where they aren't, all are
+/// live.
 ///
 /// It keeps the links' memory. The list takes 24 bytes for each live link, and 4 bytes for the name of each number where it
 /// is by numbers; where there is no memory for it, all links stay live.

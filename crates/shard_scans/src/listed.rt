@@ -1,4 +1,4 @@
-//! The live links of a shard, which are listed once some links are to be laid aside.
+//! The live links of a shard, which are listed once that is worth its room.
 ghost use Rattle.std.specs.Prelude.{◌≡◌, ◌≤◌, [], length, map, All, IfSome, IfOk, OnOk, OnErr};
 ghost use Rattle.limits.specs.declared.TheConstants.{MAX_SHARD_LINKS};
 ghost use Rattle.link_key.specs.Link.{EndsUpTo};
@@ -70,8 +70,24 @@ impl<A: Allocator + Copy> Listed<A> {
 // Of a number before its name is written.
 pub(crate) const NO_NAME: u32 = 0;
 
-// The live links of a shard by numbers, where so many leave a label and the others are to be laid aside; none where all
-// leave one, or where there is no memory for the list.
+// Whether the live links are worth a list, where so many links leave a label: others don't, or many have the ends of the one
+// before them, as in files that have both directions of a link beside each other. Of such links the list has one.
+fn are_worth_a_list(links: &[Link], leaving: usize) -> bool {
+    leaving < links.len() || links.len() / 4 < count_repeats(links)
+}
+
+// How many links have the ends of the one before them.
+fn count_repeats(links: &[Link]) -> usize {
+    let mut count = 0usize;
+    for i in 1..links.len() {
+        let is_repeat = links[i].low == links[i - 1].low && links[i].high == links[i - 1].high;
+        count = count.wrapping_add(is_repeat as usize);
+    }
+    count
+}
+
+// The live links of a shard by numbers, where so many leave a label; none where they aren't worth a list, or where there is
+// no memory for it.
 pub(crate) fn list_by_numbers<A: Allocator + Copy>(
     links: &[Link],
     labels: &[u32],
@@ -89,7 +105,7 @@ pub(crate) fn list_by_numbers<A: Allocator + Copy>(
     ensures live { IfSome result (λ it. AreLiveLinks links.now labels.now (shown it.names.items it.links.items)) }
     ensures listed { IfSome result (λ it. IsListed it.names.items it.links.items) }
 {
-    if leaving == links.len() {
+    if !are_worth_a_list(links, leaving) {
         return None;
     }
     match write_by_numbers(*names.allocator(), links, labels, numbers, leaving) {
@@ -111,7 +127,7 @@ pub(crate) fn list_by_labels<A: Allocator + Copy>(
     ensures live { IfSome result (λ it. AreLiveLinks links.now labels.now (shown it.names.items it.links.items)) }
     ensures listed { IfSome result (λ it. IsListed it.names.items it.links.items) }
 {
-    if leaving == links.len() {
+    if !are_worth_a_list(links, leaving) {
         return None;
     }
     match write_live(alloc, links, labels, leaving) {

@@ -115,7 +115,8 @@ impl<A: Allocator + Copy> Numbers<A> {
         word.before + (word.marks % (1 << (at % 64))).count_ones() + 1
     }
 
-    // The number of a marked label, which is written as its name.
+    // The number of a marked label, which is written as its name. Mostly it stands there already, and is read alone: a write
+    // anywhere in the names holds up those behind it.
     #[inline]
     fn name(&self, label: u32, names: &mut [u32]) -> u32
         requires counted { AreCounted self.now }
@@ -125,7 +126,10 @@ impl<A: Allocator + Copy> Numbers<A> {
         ensures named { names.new ≡ set names.old (number_of (marks_of self.now) label - 1) label }
     {
         let number = self.number(label);
-        names[number as usize - 1] = label;
+        let place = number as usize - 1;
+        if names[place] != label {
+            names[place] = label;
+        }
         number
     }
 }

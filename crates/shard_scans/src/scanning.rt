@@ -139,8 +139,8 @@ impl<A: Allocator + Copy> Scanner<A> {
         Ok((offers, leaving))
     }
 
-    // The same offers, by numbers of the labels that the links have; and the live links, where some are to be laid aside and
-    // there is memory to list the others.
+    // The same offers, by numbers of the labels that the links have; and the live links, where they are worth a list and there
+    // is memory for it.
     pub(crate) fn scan_and_list<B: Allocator>(
         &mut self,
         links: &[Link],
@@ -392,7 +392,7 @@ fn offers_of<A: Allocator + Copy>(
 }
 
 // The pass over a part of the links, a batch at a time. It says how many of them leave a label, on which no answer rests:
-// whether to list the live ones, and room for how many to ask for.
+// room for so many live ones is asked for.
 pub(crate) fn find_best<A: Allocator + Copy>(
     links: &[Link],
     labels: &[u32],

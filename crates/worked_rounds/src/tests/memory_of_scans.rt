@@ -204,14 +204,15 @@ fn blocks_of_ask<'a>(
     Ok(taken)
 }
 
-const BY_ONE: [Ask; 4] = [(2, 6), (1, 1), (1, 2), (2, 2)];
+const BY_ONE: [Ask; 4] = [(2, 7), (1, 2), (1, 2), (2, 3)];
 
-const BY_HALVES: [Ask; 4] = [(2, 7), (1, 6), (1, 0), (2, 7)];
+const BY_HALVES: [Ask; 4] = [(2, 8), (1, 6), (1, 0), (2, 8)];
 
-// An answer that offers something takes one block. By one thread the table of the first ask, three blocks, is used again,
-// and so is the one of the marks; the names of the numbers take one at each scan, and once links are listed one more for
-// what becomes of the names. By threads, which scan by labels, each part makes a table. Under the labels of one component
-// all links are laid aside at the first ask, so that nothing is left to be scanned at the second.
+// An answer that offers something takes one block, and so does a list of live links, which is worth its room where all links
+// have the same ends. By one thread the table of the first ask, three blocks, is used again, and so is the one of the marks;
+// the names of the numbers take one at each scan, and once links are listed one more for what becomes of the names. By
+// threads, which scan by labels, each part makes a table. Under the labels of one component all links are laid aside at the
+// first ask, so that nothing is left to be scanned at the second.
 #[test]
 fn links_laid_aside_are_scanned_no_more(rt: HostRuntime) -> Result<(), Fail> {
     let memory = Refusing::new(rt.alloc(), Refusals::none());
