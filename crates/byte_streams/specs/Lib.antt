@@ -1,3 +1,4 @@
 pub mod Streams
 pub mod FusedSource
 pub mod FusedSink
+pub mod BufferedSink

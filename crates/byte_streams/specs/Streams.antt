@@ -77,6 +77,10 @@ abbrev pub WriteTook : Result ℕ Failed → List ℕ → SinkState → SinkStat
 WriteTook (Ok n) buf before after = (¬ IsRefusal n buf → Took 0 (take n buf) before after) × (IsRefusal n buf → Took 1 [] before after)
 WriteTook (Err fault) buf before after = Took 1 [] before after
 
+-- no byte waits for a flush, where it is known which do
+abbrev pub IsFlushed : Option (List ℕ) → Type 0
+IsFlushed unflushed = IfSome unflushed (λ bytes. bytes ≡ [])
+
 -- one flush, which takes no byte
 abbrev pub FlushTook : {T : Type 0} → Result T Failed → SinkState → SinkState → Type 0
 FlushTook (Ok passed) before after = Took 0 [] before after

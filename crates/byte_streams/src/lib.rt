@@ -14,6 +14,7 @@
 //! - [`fill`] fills a buffer with the next bytes, or says whether a read failed or the stream ended, and after how many.
 //! - [`put`] writes a text, or says how many of its bytes went out; it stops only where a write failed or took nothing.
 //! - [`FusedSource`] and [`FusedSink`], which fail at a chosen byte, are known whole; of a device nothing is known.
+//! - A flush that ends well leaves no byte waiting, where it is known which do, as of a [`BufferedSink`].
 //!
 //! Where to start a change: `specs/Streams` for what is known of a stream and what a call does to it, with the traits in
 //! `traits`; `memory` and `devices` for a new kind of stream; `transfer` for the loops.
@@ -27,5 +28,6 @@ mod transfer;
 
 pub use devices::Uncounted;
 pub use fused::{FusedSink, FusedSource};
+pub use memory::BufferedSink;
 pub use traits::{Failed, Sink, Source};
 pub use transfer::{FillFault, PutFault, fill, put};

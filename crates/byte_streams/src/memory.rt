@@ -1,12 +1,14 @@
 //! Bytes in memory. A slice never fails. A vector fails only where its growth is refused, and keeps
-//! no count of that.
-ghost use Rattle.std.specs.Prelude.{◌≡◌, ◌+◌, ◌<◌, length, Some, None, IsOk, IfOk, OnErr, vec_len, vec_capacity};
+//! no count of that. A sink over a vector knows which of its bytes wait for a flush.
+ghost use Rattle.std.specs.Prelude.{◌≡◌, ◌+◌, ◌<◌, ◌≤◌, take, drop, length, Some, None, IsOk, IfOk, OnOk, OnErr, vec_len, vec_capacity};
 ghost use Rattle.std.specs.Io.{WritesAtMost};
-ghost use Rattle.byte_streams.specs.Streams.{only_held, WriteTook, FlushTook};
+ghost use Rattle.byte_streams.specs.Streams.{only_held, WriteTook, FlushTook, IsFlushed};
+ghost use Rattle.byte_streams.specs.BufferedSink.{BufferedSinkState};
 
 use crate::{Failed, Sink, Source};
-use std::alloc::Allocator;
+use std::alloc::{Allocator, Global};
 use std::io::Read;
+use std::marker::Model;
 
 impl Source for &[u8] {
     ghost state = { λ s. record { left = Some s.now; given = None; failures = Some 0; ends = None } };
@@ -42,5 +44,66 @@ impl<A: Allocator> Sink for Vec<u8, A> {
         ensures passes { IsOk result }
     {
         Ok(())
+    }
+}
+
+/// A sink over a vector whose bytes wait until it is flushed, for the tests of the crates above.
+#[derive(Drop)]
+pub struct BufferedSink<A: Allocator = Global> {
+    held: Vec<u8, A>,
+    flushed: usize,
+}
+
+impl<A: Allocator> Model for BufferedSink<A> {
+    ghost Value = { BufferedSinkState };
+
+    ghost view = { λ s. record { held = s.held.items; flushed = s.flushed; capacity = vec_capacity s.held } };
+
+    ghost invariant = { λ s. s.flushed ≤ vec_len s.held };
+}
+
+impl<A: Allocator> BufferedSink<A> {
+    /// A sink that has taken these bytes, all of which wait.
+    pub fn new(held: Vec<u8, A>) -> Self
+        ensures { result ≡ record { held = held.items; flushed = 0; capacity = vec_capacity held } }
+    {
+        BufferedSink { held, flushed: 0 }
+    }
+
+    /// The bytes that were flushed.
+    pub fn flushed(&self) -> &[u8]
+        ensures { result.now ≡ take self.now.flushed self.now.held }
+    {
+        &self.held[..self.flushed]
+    }
+}
+
+impl<A: Allocator> Sink for BufferedSink<A> {
+    ghost state = { λ s. only_held (Some s.held) };
+
+    ghost unflushed = { λ s. Some (drop s.flushed s.held) };
+
+    fn write(&mut self, buf: &[u8]) -> Result<usize, Failed>
+        ensures bound { WritesAtMost result buf.now }
+        ensures took { WriteTook result buf.now (only_held (Some self.old.held))
+            (only_held (Some self.new.held)) }
+
+        // It takes the whole buffer, which then waits, and fails only where it has no room for it.
+        ensures whole { IfOk result (λ n. n ≡ length buf.now) }
+        ensures waits { self.new.flushed ≡ self.old.flushed }
+        ensures full { OnErr result
+            (self.old.capacity < length self.old.held + length buf.now) }
+    {
+        self.held.write(buf)
+    }
+
+    fn flush(&mut self) -> Result<(), Failed>
+        ensures took { FlushTook result (only_held (Some self.old.held))
+            (only_held (Some self.new.held)) }
+        ensures flushed { OnOk result (IsFlushed (Some (drop self.new.flushed self.new.held))) }
+        ensures passes { IsOk result }
+    {
+        self.flushed = self.held.len();
+        self.held.flush()
     }
 }

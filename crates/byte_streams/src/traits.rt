@@ -1,7 +1,7 @@
 //! The two traits.
-ghost use Rattle.std.specs.Prelude.{ℕ, ◌<◌, length, None, IfOk, OnOk};
+ghost use Rattle.std.specs.Prelude.{ℕ, ◌<◌, List, Option, length, None, IfOk, OnOk};
 ghost use Rattle.std.specs.Io.{ReadsAtMost, WritesAtMost};
-ghost use Rattle.byte_streams.specs.Streams.{SourceState, SinkState, only_left, only_held, ReadGave, WriteTook, FlushTook, IsRefusal};
+ghost use Rattle.byte_streams.specs.Streams.{SourceState, SinkState, only_left, only_held, ReadGave, WriteTook, FlushTook, IsFlushed, IsRefusal};
 
 use thiserror::Error;
 
@@ -47,10 +47,15 @@ pub trait Source {
 ///
 /// Known may be the bytes that it took, and its setbacks: writes and flushes that failed, and writes that
 /// took no byte of some. As for a [`Source`], a `None` is a sink that doesn't know.
-/// Of a [`FusedSink`](crate::FusedSink) both are known, of a `Vec` its bytes alone.
+/// Of a [`FusedSink`](crate::FusedSink) both are known, of a `Vec` its bytes alone. Which of the bytes wait for a flush
+/// a [`BufferedSink`](crate::BufferedSink) knows.
 pub trait Sink {
     // What is known of the sink, each thing where it is.
     ghost state: { Self → SinkState } = { λ _. only_held None };
+
+    // The bytes that it took and that wait for a flush, where they are known. It may hand them on before, so no
+    // relation of two states says what a write does to them.
+    ghost unflushed: { Self → Option (List ℕ) } = { λ _. None };
 
     // The count has room for one more. A sink that counts nothing asks for nothing.
     ghost can_write: { Self → Type 0 } = { λ _. Unit {0} };
@@ -69,5 +74,6 @@ pub trait Sink {
     fn flush(&mut self) -> Result<(), Failed>
         requires { can_write self.old }
         ensures took { FlushTook result (state self.old) (state self.new) }
+        ensures flushed { OnOk result (IsFlushed (unflushed self.new)) }
         ensures again { OnOk result (can_write self.new) };
 }

@@ -1,7 +1,8 @@
 // Sources and sinks, and those that fail at a chosen byte.
 use super::same::expect_same;
 use byte_streams::{
-    Failed, FillFault, FusedSink, FusedSource, PutFault, Sink, Source, Uncounted, fill, put,
+    BufferedSink, Failed, FillFault, FusedSink, FusedSource, PutFault, Sink, Source, Uncounted,
+    fill, put,
 };
 use std::fs::{File, OpenOptions};
 use std::test::Fail;
@@ -126,6 +127,20 @@ fn stopped_sink_takes_nothing_more(rt: HostRuntime) -> Result<(), Fail> {
     expect_same(&rt, sink.held(), b"p sp".as_slice());
     let mut sink = FusedSink::stopped(rt.alloc(), 9, 3)?;
     expect_same(&rt, put(&mut sink, 0, text), Ok(9));
+    Ok(())
+}
+
+// Bytes wait until the next flush, those that it began with too.
+#[test]
+fn buffered_sink_keeps_bytes_until_a_flush(rt: HostRuntime) -> Result<(), Fail> {
+    let mut sink = BufferedSink::new(Vec::from_slice(rt.alloc(), b"p ")?);
+    expect_same(&rt, put(&mut sink, 2, b"sp "), Ok(5));
+    expect_same(&rt, sink.flushed(), b"".as_slice());
+    expect_same(&rt, sink.flush(), Ok(()));
+    expect_same(&rt, put(&mut sink, 5, b"6 5\n"), Ok(9));
+    expect_same(&rt, sink.flushed(), b"p sp ".as_slice());
+    expect_same(&rt, sink.flush(), Ok(()));
+    expect_same(&rt, sink.flushed(), b"p sp 6 5\n".as_slice());
     Ok(())
 }
 
