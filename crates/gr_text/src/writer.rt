@@ -1,6 +1,6 @@
 //! The writer of a forest's text.
 ghost use Rattle.std.specs.Prelude.{◌≡◌, ◌+◌, ◌≤◌, [], length, IsOk, IfOk, IfErr, OnOk};
-ghost use Rattle.byte_streams.specs.Streams.{Took, HadNoSetback};
+ghost use Rattle.byte_streams.specs.Streams.{Took, HadNoSetback, IsFlushed};
 ghost use Rattle.gr_text.specs.FaultText.{unwritten_text};
 ghost use Rattle.gr_text.specs.ForestText.{forest_text};
 ghost use Rattle.gr_text.specs.Handing.{HandsOn, HandsPrefix};
@@ -97,6 +97,9 @@ pub fn write_forest<W: Sink, A: Allocator>(
     ensures whole { OnOk result
         (Took 0 (forest_text n forest.now) (W.state sink.old) (W.state sink.new)) }
     ensures count { IfOk result (λ written. written ≡ written_count (length (forest_text n forest.now))) }
+
+    // None of its bytes waits for a flush then.
+    ensures flushed { OnOk result (IsFlushed (W.unflushed sink.new)) }
 
     // At a fault it has taken a prefix of the text, of as many bytes as the fault counts, and had a setback.
     ensures part { IfErr result (λ fault. PrefixWentOut fault.written (forest_text n forest.now)

@@ -1,5 +1,5 @@
 // The texts of forests, how a sink is called, and how much of a text went out.
-use byte_streams::{Failed, Sink};
+use byte_streams::{BufferedSink, Failed, Sink};
 use gr_text::{FusedSink, WriteFault, write_forest};
 use link_key::Forest;
 use std::alloc::{AllocError, Global};
@@ -49,14 +49,20 @@ impl Sink for Counted {
     }
 }
 
-// The forest has this text. It is flushed once, behind its last byte, and written in pieces of 8 KiB, each of which but
-// the last has no room for one more line of 64 bytes.
+// The forest has this text. It is flushed once, behind its last byte, so no byte of it waits then, and written in pieces
+// of 8 KiB, each of which but the last has no room for one more line of 64 bytes.
 fn expect_text(rt: &impl Abort, alloc: Global, n: u32, forest: &Forest, text: &[u8]) {
     let mut sink = Counted::new(alloc);
     assert_eq!(rt; write_forest(&mut sink, n, forest), Ok(text.len() as u64));
     assert_eq!(rt; sink.bytes.as_slice(), text);
     assert_eq!(rt; (sink.flushes, sink.late_writes), (1, 0));
     assert!(rt; sink.writes <= text.len() / 8128 + 1);
+    let mut buffered = BufferedSink::new(Vec::new(alloc));
+    assert_eq!(rt;
+        write_forest(&mut buffered, n, forest),
+        Ok(text.len() as u64)
+    );
+    assert_eq!(rt; buffered.flushed(), text);
 }
 
 #[test]
