@@ -1,6 +1,7 @@
 //! A run over lines to workers, from the bytes of a file to the text of its forest.
 ghost use Rattle.std.specs.Prelude.{◌≡◌, ℕ, ◌⊎◌, ◌≤◌, List, [], length, All, IfOk, IfErr, OnOk, vec_capacity};
 ghost use Rattle.limits.specs.declared.TheConstants.{MAX_ARCS, MAX_VERTICES, MAX_WORKERS};
+ghost use Rattle.byte_streams.specs.Streams.{IsFlushed};
 ghost use Rattle.link_key.specs.Cut.{IsCutFault};
 ghost use Rattle.link_key.specs.Link.{EndsUpTo};
 ghost use Rattle.round_core.specs.declared.solver.SolveFault.TheVariants.{Memory};
@@ -164,7 +165,8 @@ pub fn run_lines<
     ensures ends_well { AreServed L.Line lines.items → EndsWell cutting.entry result
         (known S.state W.state source.old sink.old) (known S.state W.state source.new sink.new) }
 
-    // After a run that ends well the sink can be written again.
+    // After a run that ends well no byte of the sink waits for a flush, and it can be written again.
+    ensures flushed { OnOk result (IsFlushed (W.unflushed sink.new)) }
     ensures again { OnOk result (W.can_write sink.new) }
 {
     let graph = match read_graph(alloc, source) {

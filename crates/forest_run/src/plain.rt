@@ -1,5 +1,6 @@
 //! A run by one thread, from the bytes of a file to the text of its forest.
 ghost use Rattle.std.specs.Prelude.{ℕ, List, OnOk, IfOk};
+ghost use Rattle.byte_streams.specs.Streams.{IsFlushed};
 ghost use Rattle.forest_run.specs.Files.{HasFile, MeansGraph, MeansNothing, IsFirstFaultOf, IsNoRefusal};
 ghost use Rattle.forest_run.specs.Outcomes.{known};
 ghost use Rattle.forest_run.specs.PlainRun.{RanPlain, WritesAgain};
@@ -40,7 +41,8 @@ pub fn run_plain<S: Source, W: Sink, A: Allocator + Copy>(
     ensures itself { IfOk result (λ report. WritesAgain report
         (known S.state W.state source.old sink.old) (known S.state W.state source.new sink.new)) }
 
-    // After a run that ends well the sink can be written again.
+    // After a run that ends well no byte of the sink waits for a flush, and it can be written again.
+    ensures flushed { OnOk result (IsFlushed (W.unflushed sink.new)) }
     ensures again { OnOk result (W.can_write sink.new) }
 {
     let graph = match read_graph(alloc, source) {
