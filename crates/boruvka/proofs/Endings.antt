@@ -1,9 +1,9 @@
 -- What the program does, by what its words ask for.
-use Rattle.std.specs.Prelude.{Result, Bool, true, false, option_map}
+use Rattle.std.specs.Prelude.{Result, OnOk, Bool, true, false, option_map}
 use Rattle.std.specs.String.{string_bytes}
 use Rattle.std.specs.Global.{Vec}
 use Rattle.std.proofs.Common.{◌≡◌, ◌≢◌, ◌≤◌, ℕ, ◌⊎◌, ◌∙◌, List, [], length, All, Option, None, Some, inl, inr, Ok, Err, refl, sym, subst, arith, codes}
-use Rattle.byte_streams.specs.Streams.{SourceState, SinkState}
+use Rattle.byte_streams.specs.Streams.{SourceState, SinkState, IsFlushed}
 use Rattle.byte_streams.proofs.Streaming.{gave_nothing, took_nothing}
 use Rattle.link_key.specs.declared.cuts.CutFault.TheVariants as cut
 use Rattle.gr_text.specs.Graph.{GraphValue}
@@ -150,24 +150,30 @@ fault_status fault.Memory status s t a b is ran = omega arith
 fault_status (fault.Write written) status s t a b is ran = omega arith
 
 -- each fault has one of five statuses
-pub status_bound : (why : RunFault) → status_for why ≤ 5
-status_bound (fault.Read (read.Gr f)) = omega arith
-status_bound (fault.Read (read.Source line)) = omega arith
-status_bound (fault.Read read.TooLong) = omega arith
-status_bound (fault.Read read.Memory) = omega arith
-status_bound (fault.Cut cut.NoShards) = omega arith
-status_bound (fault.Cut cut.TooManyShards) = omega arith
-status_bound (fault.Cut cut.ShardTooLarge) = omega arith
-status_bound (fault.Cut cut.BadPlaces) = omega arith
-status_bound (fault.Cut cut.Memory) = omega arith
-status_bound (fault.Rounds round) = omega arith
-status_bound (fault.Missed link) = omega arith
-status_bound fault.Memory = omega arith
-status_bound (fault.Write written) = omega arith
+pub status_bound : (why : RunFault) → (1 ≤ status_for why) × (status_for why ≤ 5)
+status_bound (fault.Read (read.Gr f)) = (omega arith, omega arith)
+status_bound (fault.Read (read.Source line)) = (omega arith, omega arith)
+status_bound (fault.Read read.TooLong) = (omega arith, omega arith)
+status_bound (fault.Read read.Memory) = (omega arith, omega arith)
+status_bound (fault.Cut cut.NoShards) = (omega arith, omega arith)
+status_bound (fault.Cut cut.TooManyShards) = (omega arith, omega arith)
+status_bound (fault.Cut cut.ShardTooLarge) = (omega arith, omega arith)
+status_bound (fault.Cut cut.BadPlaces) = (omega arith, omega arith)
+status_bound (fault.Cut cut.Memory) = (omega arith, omega arith)
+status_bound (fault.Rounds round) = (omega arith, omega arith)
+status_bound (fault.Missed link) = (omega arith, omega arith)
+status_bound fault.Memory = (omega arith, omega arith)
+status_bound (fault.Write written) = (omega arith, omega arith)
 
 pub run_bound : {X : Type 0} (result : Result X RunFault) (status : ℕ) → status ≡ status_of_run result → status ≤ 5
 run_bound (Ok x) status is = omega arith
-run_bound (Err why) status is = (let bound = status_bound why in omega arith)
+run_bound (Err why) status is = (let bound = (status_bound why).1 in omega arith)
+
+-- a run of status 0 ended well, and so left its sink flushed
+pub flushed_at_end : {X : Type 0} (result : Result X RunFault) (status : ℕ) (unflushed : Option (List ℕ)) → status ≡ status_of_run result
+    → OnOk result (IsFlushed unflushed) → status ≡ 0 → IsFlushed unflushed
+flushed_at_end (Ok x) status unflushed is flushed none = flushed
+flushed_at_end (Err why) status unflushed is flushed none = (let bound = (status_bound why).0 in absurd (omega arith))
 
 -- a plain run has one of four
 pub plain_bound : (result : Result Report RunFault) (status : ℕ) (s t : SourceState) (a b : SinkState) → status ≡ status_of_run result

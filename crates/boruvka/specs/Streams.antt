@@ -1,7 +1,7 @@
 -- The program's three streams, before a call and after it.
-use Rattle.std.specs.Prelude.{◌≡◌, ⊤}
+use Rattle.std.specs.Prelude.{◌≡◌, ⊤, ℕ, List, Option}
 use Rattle.std.specs.Borrow.{MutBor}
-use Rattle.byte_streams.specs.Streams.{SourceState, SinkState}
+use Rattle.byte_streams.specs.Streams.{SourceState, SinkState, IsFlushed}
 use Rattle.forest_run.specs.Outcomes.{Streams, streams}
 use Rattle.boruvka.specs.declared.standard.StandardStreams.{StandardStreams}
 
@@ -49,6 +49,10 @@ OnInput source_of R before after = R (source_of before.input.now) (source_of aft
 abbrev pub OnOutput : {I O E : Type 0} → (O → SinkState) → (SinkState → SinkState → Type 0)
     → StandardStreams I O E → Left I O E → Type 0
 OnOutput sink_of R before after = R (sink_of before.output.now) (sink_of after.1.0.now)
+
+-- no byte of the output waits for a flush
+abbrev pub OutputIsFlushed : {I O E : Type 0} → (O → Option (List ℕ)) → Left I O E → Type 0
+OutputIsFlushed unflushed_of after = IsFlushed (unflushed_of after.1.0.now)
 
 -- the input wasn't touched
 abbrev pub SameInput : {I O E : Type 0} → StandardStreams I O E → Left I O E → Type 0

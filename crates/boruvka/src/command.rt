@@ -2,6 +2,7 @@
 ghost use Rattle.std.specs.Prelude.{◌≡◌, ◌≢◌, ◌≤◌, ◌⊎◌, [], map, length, All, IsSome, true, false, codes};
 ghost use Rattle.std.specs.IoError.{error_kind};
 ghost use Rattle.limits.specs.declared.TheConstants.{MAX_WORKERS};
+ghost use Rattle.byte_streams.specs.Streams.{IsFlushed};
 ghost use Rattle.clap.specs.Words.{kind_of};
 ghost use Rattle.ports.specs.Lines.{HasRoom};
 ghost use Rattle.forest_run.specs.LinesRun.{HasGraphToCut};
@@ -10,7 +11,7 @@ ghost use Rattle.forest_run.specs.declared.cutting.Cutting.TheVariants.{Even};
 ghost use Rattle.tcp_lines.specs.Lines.{tcp_line, unused};
 ghost use Rattle.boruvka.specs.Arguments.{IsMistake, file_named, is_set, refusals};
 ghost use Rattle.boruvka.specs.Messages.{message_line, no_text_line};
-ghost use Rattle.boruvka.specs.Streams.{OnThree, OnStreams, OnInput, OnOutput, SameInput, SameErrors};
+ghost use Rattle.boruvka.specs.Streams.{OnThree, OnStreams, OnInput, OnOutput, OutputIsFlushed, SameInput, SameErrors};
 ghost use Rattle.boruvka.specs.Status.{asked_of, status_of_run, report_of, IsReported, EndsOver, EndsAs, Obeys, ObeysWords};
 ghost use Rattle.boruvka.specs.Status.{HasNoGraph, IsDone, LeavesOutput, IsUntouched, IsWritten, AskForHelp, AreWrong, HelpEnds, RefusesWords, EndsRefused};
 
@@ -86,6 +87,7 @@ pub fn run_over<
         io.entry io.exit }
     ensures status { result ≤ 5 }
     ensures silent { LeavesOutput result → OnOutput O.state IsUntouched io.entry io.exit }
+    ensures flushed { result ≡ 0 → OutputIsFlushed O.unflushed io.exit }
     ensures quiet { wants_report ≡ false → result ≡ 0 → SameErrors io.entry io.exit }
 
     // A file that means nothing is refused.
@@ -131,6 +133,7 @@ where
         (EndsOver tcp_line started.0.items chosen.now.shards chosen.now.report result) io.entry io.exit }
     ensures status { result ≤ 5 }
     ensures silent { LeavesOutput result → OnOutput O.state IsUntouched io.entry io.exit }
+    ensures flushed { result ≡ 0 → OutputIsFlushed O.unflushed io.exit }
     ensures quiet { chosen.now.report ≡ false → result ≡ 0 → SameErrors io.entry io.exit }
 {
     let (lines, workers) = started;
@@ -164,6 +167,7 @@ where
     ensures status { result ≤ 5 }
     ensures plain_status { chosen.now.plain ≡ true → result ≤ 4 }
     ensures silent { LeavesOutput result → OnOutput O.state IsUntouched io.entry io.exit }
+    ensures flushed { result ≡ 0 → OutputIsFlushed O.unflushed io.exit }
     ensures quiet { chosen.now.report ≡ false → result ≡ 0 → SameErrors io.entry io.exit }
 {
     let alloc = rt.alloc();
@@ -213,10 +217,11 @@ where
     ensures leaves_input { IsSome chosen.now.file → SameInput io.entry io.exit }
 
     // A file that is refused or can't be cut, want of memory and answers that make no forest write nothing to the
-    // output. Where the run ends well the errors get the report alone.
+    // output. Where the run ends well no byte of it waits for a flush, and the errors get the report alone.
     ensures status { result ≤ 5 }
     ensures plain_status { chosen.now.plain ≡ true → result ≤ 4 }
     ensures silent { LeavesOutput result → OnOutput O.state IsUntouched io.entry io.exit }
+    ensures flushed { result ≡ 0 → OutputIsFlushed O.unflushed io.exit }
     ensures quiet { chosen.now.report ≡ false → result ≡ 0 → SameErrors io.entry io.exit }
 {
     let Some(name) = &chosen.file else {
@@ -324,9 +329,11 @@ where
     ensures leaves_input { IsSome (file_named (map S.text words.now)) → input.new ≡ input.old }
 
     // A file that is refused or can't be cut, wrong words, want of memory and answers that make no forest write
-    // nothing to the output. Where all went well the errors get the report alone.
+    // nothing to the output. Where all went well none of the forest's bytes waits for a flush, and the errors get the
+    // report alone.
     ensures status { result ≤ 5 }
     ensures silent { LeavesOutput result → IsUntouched (O.state output.old) (O.state output.new) }
+    ensures flushed { refusals (map S.text words.now) ≡ [] → result ≡ 0 → IsFlushed (O.unflushed output.new) }
     ensures quiet { is_set (map S.text words.now) (codes "report") ≡ false → result ≡ 0 → errors.new ≡ errors.old }
 
     // The help goes to the output, and wrong words touch nothing. Words that are refused and ask for the help too end

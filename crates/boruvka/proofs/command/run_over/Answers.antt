@@ -1,4 +1,4 @@
-use Rattle.boruvka.proofs.Endings.{over_lines, bound_lines, silent_lines, blameless_lines, done_lines, refused_lines}
+use Rattle.boruvka.proofs.Endings.{status_by_report, over_lines, bound_lines, silent_lines, flushed_at_end, blameless_lines, done_lines, refused_lines}
 use Rattle.boruvka.proofs.command.run_over.Goals as goal
 
 pub returns-clause-ends : goal.returns-clause-ends
@@ -19,3 +19,6 @@ returns-clause-blameless g c = blameless_lines _ _ _ _ _ _ _ (returns-clause-end
 
 pub returns-clause-done : goal.returns-clause-done
 returns-clause-done g c = done_lines _ _ _ _ _ _ _ (returns-clause-ends g c)
+
+pub returns-clause-flushed : goal.returns-clause-flushed
+returns-clause-flushed g c = flushed_at_end c.run_lines.result _ _ (status_by_report _ _ _ c.without_lines-ended.ensures c.write_end.ensures.status) c.run_lines.ensures.flushed
