@@ -92,6 +92,39 @@ impl<
         }
         Ok((solver, alone))
     }
+
+    // The rounds, and what they found: the forest, and what the run did.
+    fn find_forest<'c>(
+        &mut self,
+        alloc: A,
+        n: u32,
+        cut: &'c Cut<'c, A>,
+    ) -> Result<(Forest<A>, Report), SolveFault>
+        requires vertices { n ≤ MAX_VERTICES }
+        requires ends { All (EndsUpTo n) cut.now }
+        requires cut { All (λ lane. (P.state lane.port).cut ≡ cut.now) self.old.lanes.now }
+        requires counts { All (λ lane. (P.state lane.port).asks < 2 ^ 63) self.old.lanes.now }
+        ensures went { IfOk result (λ r. FindsForest P.Port n cut.now self.old.lanes.now self.new.lanes.now r.0 r.1) }
+        ensures ports { AsksInRun P.Port n cut.now self.old.lanes.now self.new.lanes.now }
+        ensures fault { IfErr result (IsSolveFault P.Port n cut.now self.old.lanes.now self.new.lanes.now) }
+        ensures honest_fault { IfErr result (λ fault. AreHonest P.honest self.old.lanes.now → fault ≡ Memory) }
+        ensures same_lanes { self.new.lanes.ghost_name ≡ self.old.lanes.ghost_name }
+    {
+        let shards = cut.len();
+        let lanes = &mut *self.lanes;
+        let open = count_open(lanes);
+        let (solver, alone) = self.merge_rounds(alloc, n, cut)?;
+        let last = solver.round();
+        let forest = solver.finish_par(self.rt, cut)?;
+        let lanes = &mut *self.lanes;
+        let counts = Counts {
+            last,
+            alone,
+            closed: open - count_open(lanes),
+        };
+        let report = report_of(cut, shards, n, &forest, counts);
+        Ok((forest, report))
+    }
 }
 
 /// A spanning forest of the cut's links, by what the lanes' ports answer and, where none is open, by the coordinator's own
@@ -132,17 +165,6 @@ pub fn solve<
     ensures honest_fault { IfErr result (λ fault. AreHonest P.honest lanes.old → fault ≡ Memory) }
     ensures idle { All IsIdle lanes.new }
 {
-    let shards = cut.len();
-    let open = count_open(lanes);
     let mut run = Lanes::new(rt, lanes);
-    let (solver, alone) = run.merge_rounds(alloc, n, cut)?;
-    let last = solver.round();
-    let forest = solver.finish_par(rt, cut)?;
-    let counts = Counts {
-        last,
-        alone,
-        closed: open - count_open(lanes),
-    };
-    let report = report_of(cut, shards, n, &forest, counts);
-    Ok((forest, report))
+    run.find_forest(alloc, n, cut)
 }
