@@ -9,6 +9,10 @@ pub each_refl : {X : Type 0} (R : X → X → Type 0) (xs : List X) → ((x : X)
 each_refl R [] h = tt
 each_refl R (x ∷ xs) h = (h x, each_refl R xs h)
 
+pub each_none : {X : Type 0} (R : X → X → Type 0) (xs : List X) → length xs ≡ 0 → AllZip R xs xs
+each_none R [] none = tt
+each_none R (x ∷ xs) none = absurd (omega arith)
+
 pub each_then : {X Y Z : Type 0} (R : X → Y → Type 0) (S : Y → Z → Type 0) (T : X → Z → Type 0) → ((x : X) (y : Y) (z : Z) → R x y → S y z → T x z)
     → (xs : List X) (ys : List Y) (zs : List Z) → AllZip R xs ys → AllZip S ys zs → AllZip T xs zs
 each_then R S T h [] [] [] p q = tt

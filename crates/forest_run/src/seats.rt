@@ -64,6 +64,14 @@ pub(crate) fn unseat_lanes<A: Allocator, P>(row: &mut Vec<Seat, A>, lanes: &mut 
     }
 }
 
+// Makes room for as many kept answers in the lane.
+fn reserve_lane<A: Allocator, P>(lane: &mut Lane<P, A>, shards: u32) -> Result<(), AllocError>
+    ensures lane { GainsRoom lane.old lane.new }
+    ensures room { OnOk result (shards ≤ lane.new.room) }
+{
+    lane.kept.reserve(shards as usize)
+}
+
 #[tactic(auto, using(crate::proofs::Eaches::each_cons, crate::proofs::Eaches::each_refl))]
 // Makes room for as many kept answers in each lane.
 pub(crate) fn reserve_answers<A: Allocator, P>(
@@ -74,7 +82,7 @@ pub(crate) fn reserve_answers<A: Allocator, P>(
     ensures room { OnOk result (All (λ lane. shards ≤ lane.room) lanes.new) }
 {
     if let Some((lane, rest)) = lanes.split_first_mut() {
-        lane.kept.reserve(shards as usize)?;
+        reserve_lane(lane, shards)?;
         reserve_answers(rest, shards)?;
     }
     Ok(())
