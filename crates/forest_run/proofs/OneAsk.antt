@@ -1,10 +1,13 @@
 -- What one ask does to its port, and what its answer is to the book that asked for it.
-use Rattle.std.proofs.Common.{◌≡◌, ℕ, zero, suc, ◌+◌, ◌<◌, true, false, inl, inr, List, [], ◌∷◌, ◌++◌, length, refl, sym, ap, subst, ◌∙◌, append-nil, arith}
-use Rattle.std.specs.Prelude.{All, Option, Some, None, Result, Ok, Err, IfErr, OnOk, IsSome, is_some}
+use Rattle.std.proofs.Common.{◌≡◌, ℕ, zero, suc, ◌+◌, ◌<◌, Bool, not, true, false, inl, inr, List, [], ◌∷◌, ◌++◌, length, refl, sym, ap, subst, ◌∙◌, append-nil, arith}
+use Rattle.std.specs.Prelude.{All, Option, Some, None, Result, Ok, Err, IfSome, IfErr, OnOk, IsSome, is_some, option_to_list}
 use Rattle.std.specs.Result.{is_err}
 use Rattle.std.proofs.lemmas.Grind.{common_steps}
 use Rattle.std.proofs.lemmas.Bool.Decides.{nat_tests}
 use Rattle.link_key.specs.declared.links.Link.{Link}
+use Rattle.claim_board.specs.State.{IfHeld}
+use Rattle.claim_board.specs.declared.claim.Claim.{Claim}
+use Rattle.claim_board.specs.declared.claim.Claim.TheVariants.{Won, Held}
 use Rattle.frames.specs.AnswerValue.{AnswerValue}
 use Rattle.round_core.specs.BookValue.{BookValue, refusal, is_taken, LightOffersAreTaken}
 use Rattle.round_core.specs.declared.refusals.Refusal.{Refusal}
@@ -14,7 +17,7 @@ use Rattle.ports.specs.declared.fault.PortFault.TheVariants.{Down, Garbled, Wron
 use Rattle.ports.specs.Ports.{CountsAsks, AnswersAsk, IsHonestAnswer}
 use Rattle.ports.specs.Exchanges.{Exchange, exchange_of}
 use Rattle.forest_run.specs.Lanes.{count_if}
-use Rattle.forest_run.specs.Asks.{IsAskOf, IsExchangeOf, TakesExchange, ClosesPort, Takes, IsLight, AnswersAsks}
+use Rattle.forest_run.specs.Asks.{IsAskOf, IsExchangeOf, TakesExchange, ClosesPort, Takes, IsLight, AnswersAsks, shards_of}
 
 -- an honest answer to an ask under the book's labels
 pub honest_of : (value : BookValue) (cut : List (List Link)) (round shard : ℕ) (labels : List ℕ) (t : AnswerValue) → cut ≡ value.cut → round ≡ value.round → value.labels ≡ labels
@@ -39,6 +42,21 @@ is_taken_of value shard t within e =
 pub nothing_of : {X : Type 0} (o : Option X) → is_some o ≡ false → o ≡ None
 nothing_of None e = refl
 nothing_of (Some x) e = absurd (cc)
+
+-- what isn't missing is taken
+pub not_taken : (missing taken : Bool) → missing ≡ not taken → missing ≡ true → taken ≡ false
+not_taken missing true e h = absurd (cc)
+not_taken missing false e h = refl
+
+-- what a claim that wasn't won says of the seat
+pub where_held : (r : Claim) (fact : Type 0) → ¬ (r ≡ Won) → IfHeld r (λ (by : ℕ). fact) → fact
+where_held Won fact lost h = absurd (lost refl)
+where_held (Held by) fact lost h = h
+
+-- an answer for a shard names that shard alone
+pub shard_named : (o : Option AnswerValue) (shard : ℕ) → is_some o ≡ true → IfSome o (λ (t : AnswerValue). t.shard ≡ shard) → shards_of (option_to_list o) ≡ shard ∷ []
+shard_named None shard some e = absurd (cc)
+shard_named (Some t) shard some e = ap (λ (s : ℕ). s ∷ []) e
 
 -- the book doesn't refuse an honest answer
 pub honest_taken : (value : BookValue) (cut : List (List Link)) (round shard : ℕ) (labels : List ℕ) (t : AnswerValue) → LightOffersAreTaken → cut ≡ value.cut → round ≡ value.round → value.labels ≡ labels → is_taken value shard ≡ false
