@@ -50,7 +50,7 @@ abbrev pub OnOutput : {I O E : Type 0} → (O → SinkState) → (SinkState → 
     → StandardStreams I O E → Left I O E → Type 0
 OnOutput sink_of R before after = R (sink_of before.output.now) (sink_of after.1.0.now)
 
--- no byte of the output waits for a flush
+-- no byte of the output waits for a flush, where it is known which do
 abbrev pub OutputIsFlushed : {I O E : Type 0} → (O → Option (List ℕ)) → Left I O E → Type 0
 OutputIsFlushed unflushed_of after = IsFlushed (unflushed_of after.1.0.now)
 

@@ -217,7 +217,8 @@ where
     ensures leaves_input { IsSome chosen.now.file → SameInput io.entry io.exit }
 
     // A file that is refused or can't be cut, want of memory and answers that make no forest write nothing to the
-    // output. Where the run ends well no byte of it waits for a flush, and the errors get the report alone.
+    // output. Where the run ends well none of its bytes waits for a flush, where that is known, and the errors get the
+    // report alone.
     ensures status { result ≤ 5 }
     ensures plain_status { chosen.now.plain ≡ true → result ≤ 4 }
     ensures silent { LeavesOutput result → OnOutput O.state IsUntouched io.entry io.exit }
@@ -329,8 +330,8 @@ where
     ensures leaves_input { IsSome (file_named (map S.text words.now)) → input.new ≡ input.old }
 
     // A file that is refused or can't be cut, wrong words, want of memory and answers that make no forest write
-    // nothing to the output. Where all went well none of the forest's bytes waits for a flush, and the errors get the
-    // report alone.
+    // nothing to the output. Where all went well none of the forest's bytes waits for a flush, where that is known, and
+    // the errors get the report alone. (The help is written, and not flushed.)
     ensures status { result ≤ 5 }
     ensures silent { LeavesOutput result → IsUntouched (O.state output.old) (O.state output.new) }
     ensures flushed { refusals (map S.text words.now) ≡ [] → result ≡ 0 → IsFlushed (O.unflushed output.new) }

@@ -53,8 +53,8 @@ pub trait Sink {
     // What is known of the sink, each thing where it is.
     ghost state: { Self → SinkState } = { λ _. only_held None };
 
-    // The bytes that it took and that wait for a flush, where they are known. It may hand them on before, so no
-    // relation of two states says what a write does to them.
+    // The bytes that it took and that wait for a flush, where they are known. The trait says nothing of what a write
+    // does to them: a flush is all that its callers rest on.
     ghost unflushed: { Self → Option (List ℕ) } = { λ _. None };
 
     // The count has room for one more. A sink that counts nothing asks for nothing.

@@ -165,7 +165,7 @@ pub fn run_lines<
     ensures ends_well { AreServed L.Line lines.items → EndsWell cutting.entry result
         (known S.state W.state source.old sink.old) (known S.state W.state source.new sink.new) }
 
-    // After a run that ends well no byte of the sink waits for a flush, and it can be written again.
+    // After a run that ends well no byte of a sink that knows which wait for a flush does, and it can be written again.
     ensures flushed { OnOk result (IsFlushed (W.unflushed sink.new)) }
     ensures again { OnOk result (W.can_write sink.new) }
 {

@@ -41,7 +41,7 @@ pub fn run_plain<S: Source, W: Sink, A: Allocator + Copy>(
     ensures itself { IfOk result (λ report. WritesAgain report
         (known S.state W.state source.old sink.old) (known S.state W.state source.new sink.new)) }
 
-    // After a run that ends well no byte of the sink waits for a flush, and it can be written again.
+    // After a run that ends well no byte of a sink that knows which wait for a flush does, and it can be written again.
     ensures flushed { OnOk result (IsFlushed (W.unflushed sink.new)) }
     ensures again { OnOk result (W.can_write sink.new) }
 {

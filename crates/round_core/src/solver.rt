@@ -101,8 +101,9 @@ impl<A: Allocator + Copy> Solver<A> {
     /// for. After an error the solver is as it was.
     ///
     /// It looks at the picks of the k vertices that are their own label, and once at each of n vertices: O(n + k log k)
-    /// time. Memory: 4 bytes a vertex for the new labels and 8 for each of the k, 8 more a vertex that stay from the first
-    /// step that takes links on, and then 16 bytes for each vertex with a pick, in which mostly all links of a run have room.
+    /// time. Memory: 4 bytes a vertex for the new labels and 8 for each of the k; from the first step that takes links on 8
+    /// more a vertex that stay, and 16 for each vertex with a pick in it: where answers are honest all links of the run have
+    /// room there.
     pub fn step(&mut self, picks: &Picks<A>) -> Result<Turn, SolveFault>
         requires picks { ArePicksOfHearings self.old.labels picks.now }
         ensures turn { IfOk result (IsTurn picks.now self.old self.new) }

@@ -70,18 +70,20 @@ impl<A: Allocator + Copy> Listed<A> {
 // Of a number before its name is written.
 pub(crate) const NO_NAME: u32 = 0;
 
-// Whether the live links are worth a list, where so many links leave a label: others don't, or many have the ends of the one
-// before them, as in files that have both directions of a link beside each other. Of such links the list has one.
+// Whether the live links are worth a list, where so many links leave a label: others don't, or many lie between the ends of
+// the one before them and are no less, as in files that have both directions of a link beside each other. The list leaves
+// these out.
 fn are_worth_a_list(links: &[Link], leaving: usize) -> bool {
     leaving < links.len() || links.len() / 4 < count_repeats(links)
 }
 
-// How many links have the ends of the one before them.
+// How many links lie between the ends of the one before them, and are no less.
 fn count_repeats(links: &[Link]) -> usize {
     let mut count = 0usize;
     for i in 1..links.len() {
-        let is_repeat = links[i].low == links[i - 1].low && links[i].high == links[i - 1].high;
-        count = count.wrapping_add(is_repeat as usize);
+        let (earlier, link) = (links[i - 1], links[i]);
+        let has_its_ends = link.low == earlier.low && link.high == earlier.high;
+        count = count.wrapping_add((has_its_ends && earlier <= link) as usize);
     }
     count
 }

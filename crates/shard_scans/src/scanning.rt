@@ -74,7 +74,8 @@ pub fn scan_par<R: Threads + Sync, A: Allocator + Copy + Send + Sync, B: Allocat
 
 /// Scans one shard after another, each over the table of the one before, so that only the first one, or one of more
 /// labels, asks for memory for it; a scan by threads makes a table for each part. Contracts see how many labels the table
-/// has: those of the last scan. After the offers of a kept shard it has a place for each number of that shard's labels.
+/// has: those of the last scan. After the offers of a kept shard it has a place for each number of that shard's labels, or,
+/// where it was scanned by labels, for each label.
 #[derive(Drop)]
 pub struct Scanner<A: Allocator = Global> {
     table: Table<A>,

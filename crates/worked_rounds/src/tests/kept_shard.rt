@@ -17,11 +17,18 @@ const EACH: [(u32, u32); 4] = [(1, 0), (2, 0), (3, 1), (4, 1)];
 
 const PAIRS: [(u32, u32); 2] = [(1, 3), (3, 3)];
 
+// Both directions of two links, of which the second of each is listed at no scan.
+const DIRECTIONS: [Row; 4] = [(1, 2, 3), (2, 1, 3), (2, 3, 5), (3, 2, 5)];
+
+const ENDS: [(u32, u32); 3] = [(1, 0), (2, 0), (3, 2)];
+
+const JOINED: [(u32, u32); 2] = [(1, 2), (3, 2)];
+
 // A kept shard of these arcs.
-fn kept_arcs(rt: &impl Abort, alloc: Global) -> Result<KeptShard, Fail>
+fn kept_arcs(rt: &impl Abort, alloc: Global, n: u32, arcs: &[Row]) -> Result<KeptShard, Fail>
     ensures { IfOk result IsAllLive }
 {
-    let links = links_of(alloc, 4, &ARCS)?.ok_or("arcs")?;
+    let links = links_of(alloc, n, arcs)?.ok_or("arcs")?;
     assert!(rt; links.len() <= 1 << 24);
     Ok(KeptShard::new(links))
 }
@@ -31,7 +38,7 @@ fn kept_arcs(rt: &impl Abort, alloc: Global) -> Result<KeptShard, Fail>
 fn kept_shard_lays_aside(rt: HostRuntime) -> Result<(), Fail> {
     let alloc = rt.alloc();
     let mut scanner = Scanner::new(alloc);
-    let mut kept = kept_arcs(&rt, alloc)?;
+    let mut kept = kept_arcs(&rt, alloc, 4, &ARCS)?;
     let each = Labels::apart(alloc, 4)?;
     let pairs = neighbours(alloc, 4, 2)?;
     let offers = kept.offers(&mut scanner, &each)?.ok_or("labels")?;
@@ -43,5 +50,22 @@ fn kept_shard_lays_aside(rt: HostRuntime) -> Result<(), Fail> {
     kept.make_all_live();
     let offers = kept.offers(&mut scanner, &each)?.ok_or("labels")?;
     expect_offers(&rt, &offers, &EACH);
+    Ok(())
+}
+
+// A shard with both directions of each link is listed at its first scan, and the list offers what the shard would.
+#[test]
+fn kept_shard_of_both_directions(rt: HostRuntime) -> Result<(), Fail> {
+    let alloc = rt.alloc();
+    let mut scanner = Scanner::new(alloc);
+    let mut kept = kept_arcs(&rt, alloc, 3, &DIRECTIONS)?;
+    let each = Labels::apart(alloc, 3)?;
+    let joined = Labels::of_list([1, 1, 3].to_vec(alloc)?).ok_or("labels")?;
+    let offers = kept.offers(&mut scanner, &each)?.ok_or("labels")?;
+    expect_offers(&rt, &offers, &ENDS);
+    laws::live_under_coarser();
+    assert!(rt; joined.coarsens(&each));
+    let offers = kept.offers(&mut scanner, &joined)?.ok_or("labels")?;
+    expect_offers(&rt, &offers, &JOINED);
     Ok(())
 }

@@ -8,7 +8,7 @@ use std::process::Abort;
 use std::test::Fail;
 use std::thread::{Threads, available_parallelism};
 use test_memory::{Refusals, Refusing};
-use worked_graphs::have_labels;
+use worked_graphs::{Row, have_labels, links_of};
 use worker_engine::{Scanner, scan, scan_par};
 
 // How many vertices and links there are, and the most parts that they are scanned in.
@@ -204,15 +204,14 @@ fn blocks_of_ask<'a>(
     Ok(taken)
 }
 
-const BY_ONE: [Ask; 4] = [(2, 7), (1, 2), (1, 2), (2, 3)];
+const BY_ONE: [Ask; 4] = [(2, 6), (1, 1), (1, 2), (2, 2)];
 
-const BY_HALVES: [Ask; 4] = [(2, 8), (1, 6), (1, 0), (2, 8)];
+const BY_HALVES: [Ask; 4] = [(2, 7), (1, 6), (1, 0), (2, 7)];
 
-// An answer that offers something takes one block, and so does a list of live links, which is worth its room where all links
-// have the same ends. By one thread the table of the first ask, three blocks, is used again, and so is the one of the marks;
-// the names of the numbers take one at each scan, and once links are listed one more for what becomes of the names. By
-// threads, which scan by labels, each part makes a table. Under the labels of one component all links are laid aside at the
-// first ask, so that nothing is left to be scanned at the second.
+// An answer that offers something takes one block. By one thread the table of the first ask, three blocks, is used again,
+// and so is the one of the marks; the names of the numbers take one at each scan, and once links are listed one more for
+// what becomes of the names. By threads, which scan by labels, each part makes a table. Under the labels of one component
+// all links are laid aside at the first ask, so that nothing is left to be scanned at the second.
 #[test]
 fn links_laid_aside_are_scanned_no_more(rt: HostRuntime) -> Result<(), Fail> {
     let memory = Refusing::new(rt.alloc(), Refusals::none());
@@ -223,6 +222,22 @@ fn links_laid_aside_are_scanned_no_more(rt: HostRuntime) -> Result<(), Fail> {
         BY_ONE
     };
     expect_asks(&rt, &memory, By::Threads, &by_threads)
+}
+
+// Both directions of a link, beside each other.
+const DIRECTIONS: [Row; 2] = [(1, 2, 3), (2, 1, 3)];
+
+// A list of the first of them is made with the first answer, in a block for both that is given back for a smaller one: behind
+// one block for the marks, one for the names, three of the table and one of the offers.
+#[test]
+fn links_of_both_directions_are_listed_at_once(rt: HostRuntime) -> Result<(), Fail> {
+    let memory = Refusing::new(rt.alloc(), Refusals::none());
+    let links = links_of(&memory, 2, &DIRECTIONS)?.ok_or("arcs")?;
+    let mut worker = Worker::new(&memory, By::OneThread);
+    worker.keep(&rt, 0, links)?;
+    let taken = blocks_of_ask(&rt, &memory, &mut worker, 2)?;
+    expect_same(&rt, taken, 8);
+    Ok(())
 }
 
 /// The labels of three vertices at an ask, and how many blocks the ask asks for.
