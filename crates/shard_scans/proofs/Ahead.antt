@@ -10,9 +10,8 @@ use Rattle.shard_scans.specs.declared.live.LiveLink.{LiveLink}
 use Rattle.shard_scans.specs.Scanning.{AreBestUpTo, TakesIn}
 use Rattle.shard_scans.specs.Live.{AreLiveLinks, places_of, relabelled}
 use Rattle.shard_scans.specs.Batches.{written_at, AreLookedUp, AreRelabelled, CanBeTakenIn, TakesInAll}
-use Rattle.shard_scans.proofs.BestSoFar.{one_read}
 use Rattle.shard_scans.proofs.Scans.{end_at}
-use Rattle.shard_scans.proofs.Written.{link_at, label_vertex, low_is_vertex, high_is_vertex, next_says, bests_next, bests_none, bests_all}
+use Rattle.shard_scans.proofs.Written.{link_at, label_vertex, low_is_vertex, high_is_vertex, place_in_list, bests_next, bests_none, bests_all}
 
 -- one more is taken in behind the others
 pub takes_one_more : (links : List Link) (front : List LiveLink) (l : LiveLink) (old mid new : List Best) → TakesInAll links front old mid
@@ -61,19 +60,16 @@ row_can_be_taken_in links labels n at to batch size labelled ends within looked_
       low = subst (λ m. IsVertex m (label_of labels l.low)) (sym size) (label_vertex labels labelled l.low (l.from_one, omega (arith, l.ascending, high)));
       high = subst (λ m. IsVertex m (label_of labels l.high)) (sym size) (label_vertex labels labelled l.high (omega (arith, l.from_one, l.ascending), high));
       in_list = in_list;
-      weight = λ m m_read. ap (λ (x : Link). x.weight) (one_read links (at + k) l m in_list read m_read);
     })
 
 module _ (links : List Link) (labels : List ℕ) (live : List LiveLink) (are : AreLiveLinks links labels live) where
   -- a live link with its labels can be taken in
   pub live_can_be_taken_in : AreLabels labels → (n : ℕ) → n ≡ length labels → (i : ℕ) (within : i < length live) (d next : LiveLink) → next ≡ relabelled labels (get_or live i d) → CanBeTakenIn links n next
   live_can_be_taken_in labelled n size i within d next next_is =
-      let says = next_says links labels live are i within d next next_is (record { weight = next.weight; place = next.place }) refl refl in
       record {
         low = subst (λ (e : LiveLink). IsVertex n e.low) (sym next_is) (subst (λ m. IsVertex m (label_of labels (get_or live i d).low)) (sym size) (label_vertex labels labelled (get_or live i d).low (low_is_vertex links labels live are i within d)));
         high = subst (λ (e : LiveLink). IsVertex n e.high) (sym next_is) (subst (λ m. IsVertex m (label_of labels (get_or live i d).high)) (sym size) (label_vertex labels labelled (get_or live i d).high (high_is_vertex links labels live are i within d)));
-        in_list = says.1;
-        weight = says.2;
+        in_list = subst (λ (e : LiveLink). e.place < length links) (sym next_is) (place_in_list links labels live are i within d);
       }
 
   -- a table that took in live links, one after another, keeps the best places up to the next of them
@@ -126,5 +122,5 @@ relabelled_stands labels next l are low high next_is =
     let own_low : label_of labels (label_of labels l.low) ≡ label_of labels l.low = (are.labelled l.low low.0 low.1).own in
     let own_high : label_of labels (label_of labels l.high) ≡ label_of labels l.high = (are.labelled l.high high.0 high.1).own in
     ap (relabelled labels) next_is
-    ∙ (λ k. record { low = own_low k; high = own_high k; weight = l.weight; place = l.place })
+    ∙ (λ k. record { low = own_low k; high = own_high k; place = l.place })
     ∙ sym next_is

@@ -22,7 +22,7 @@ use Rattle.std.proofs.lemmas.Bool.{cases_lt}
 use Rattle.shard_scans.specs.Batches.{written_at, AreLookedUp, CanBeTakenIn}
 use Rattle.shard_scans.proofs.Written.{link_at}
 use Rattle.shard_scans.specs.Numbers.{IsMarked, number_of, numbered, numbered_labels, HasItsName, offered, HasNumbers, AreNumbered, AreMarkedUpTo, AreNamedUpTo, AreBothMarked, AreBothNamed}
-use Rattle.shard_scans.proofs.BestSoFar.{best_is_light, none_leaves, one_read}
+use Rattle.shard_scans.proofs.BestSoFar.{best_is_light, none_leaves}
 use Rattle.shard_scans.proofs.Scans.{kept_place, kept_none, end_at}
 use Rattle.shard_scans.proofs.Tables.{kept_below, same_place}
 use Rattle.shard_scans.proofs.Numbering.{numbers_apart, ascends_back}
@@ -47,7 +47,7 @@ module _ (marks labels : List ℕ) where
   numbered_written l place ends =
       let low = own_label l.low (l.from_one, omega (arith, l.ascending, ends)) in
       let high = own_label l.high (omega (arith, l.from_one, l.ascending), ends) in
-      λ k. record { low = (sym low) k; high = (sym high) k; weight = l.weight; place = place }
+      λ k. record { low = (sym low) k; high = (sym high) k; place = place }
 
   module _ (names : List ℕ) (l : Link) (ends : l.high ≤ length labels) (has : (label_of labels l.low ≡ label_of labels l.high) ⊎ HasNumbers labels marks names l) where
     own_low : label_of (numbered_labels marks labels) l.low ≡ number_of marks (label_of labels l.low)
@@ -223,7 +223,6 @@ row_can_be_numbered links labels marks count at to batch ends marked within in_l
       low = subst (IsVertex count) (sym (own_label marks labels l.low (l.from_one, omega (arith, l.ascending, high)))) (omega arith, within (label_of labels l.low) is.0);
       high = subst (IsVertex count) (sym (own_label marks labels l.high (omega (arith, l.from_one, l.ascending), high))) (omega arith, within (label_of labels l.high) is.1);
       in_list = there;
-      weight = λ m m_read. ap (λ (x : Link). x.weight) (one_read links (at + k) l m there read m_read);
     })
 
 -- links all of whose ends have numbers

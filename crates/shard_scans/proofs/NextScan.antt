@@ -1,5 +1,5 @@
 -- The next scan of links that are listed by numbers.
-use Rattle.std.proofs.Common.{◌≡◌, ℕ, ◌+◌, ◌<◌, ◌≤◌, List, length, get_or, take, replicate, All, refl, sym, ap, ◌∙◌, subst, inl, inr, arith}
+use Rattle.std.proofs.Common.{◌≡◌, ℕ, ◌+◌, ◌<◌, ◌≤◌, List, length, get_or, take, replicate, All, sym, ap, ◌∙◌, subst, inl, inr, arith}
 use Rattle.std.proofs.lemmas.List.{get_or-map, length-map, take_all}
 use Rattle.link_key.specs.declared.links.Link.{Link}
 use Rattle.link_key.specs.Labels.{label_of, AreLabels}
@@ -12,7 +12,7 @@ use Rattle.shard_scans.specs.Batches.{CanBeTakenIn, TakesInAll}
 use Rattle.shard_scans.specs.Numbers.{marks_of, IsMarked, marked_in, number_of, numbered, numbered_labels, shown, HasItsName, HasNumbers, AreByNumbers, AreNumbered, HaveNames}
 use Rattle.shard_scans.proofs.Scans.{best_of_none}
 use Rattle.shard_scans.proofs.Laid.{live_or_aside}
-use Rattle.shard_scans.proofs.Written.{next_says, live_ends, live_links_coarser, bests_none, bests_all}
+use Rattle.shard_scans.proofs.Written.{place_in_list, live_ends, live_links_coarser, bests_none, bests_all}
 use Rattle.shard_scans.proofs.Ahead.{takes_live}
 use Rattle.shard_scans.proofs.Packed.{packed_live, packed_own}
 use Rattle.shard_scans.proofs.Numbering.{number_within_names}
@@ -26,20 +26,18 @@ module _ (links : List Link) (labels marks names : List ℕ) (by_labels live : L
   next_can_be_taken_in count k d size lt =
       let in_labels : k < length by_labels = omega (arith, lt, by_numbers_long marks names within by_labels live by) in
       let e : LiveLink = get_or by_labels k d in
-      let says = next_says links labels by_labels are k in_labels d (relabelled labels e) refl (record { weight = e.weight; place = e.place }) refl refl in
       let is = by.marked k d in_labels in
       subst (CanBeTakenIn links count) (sym (number_at marks names within by_labels live by k d in_labels)) (record {
         low = (omega arith, omega (arith, size, within e.low is.0));
         high = (omega arith, omega (arith, size, within e.high is.1));
-        in_list = says.1;
-        weight = says.2;
+        in_list = place_in_list links labels by_labels are k in_labels d;
       })
 
   -- of a link that is listed the ends have numbers
   listed_has_numbers : (k : ℕ) (l : Link) → k < length (places_of by_labels) → l ≡ get_or links (get_or (places_of by_labels) k 0) l → HasNumbers labels marks names l
   listed_has_numbers k l lt read =
       let in_labels : k < length by_labels = omega (arith, lt, length-map by_labels (λ (x : LiveLink). x.place)) in
-      let d : LiveLink = record { low = 0; high = 0; weight = l.weight; place = 0 } in
+      let d : LiveLink = record { low = 0; high = 0; place = 0 } in
       let e : LiveLink = get_or by_labels k d in
       let place : get_or (places_of by_labels) k 0 ≡ e.place = get_or-map (λ (x : LiveLink). x.place) by_labels k d 0 in_labels in
       let w = are.written k d in_labels l (subst (λ p. l ≡ get_or links p l) place read) in
@@ -100,7 +98,7 @@ module _ (links : List Link) (labels marks names : List ℕ) (by_labels live : L
       let ends = live_ends links labels by_labels are k d in_labels in
       let low : number_of marks e.low ≡ label_of mine e.low = ap (number_of marks) (ap (λ (x : LiveLink). x.low) (sym (own k d in_labels))) ∙ sym (own_label marks labels e.low ends.0) in
       let high : number_of marks e.high ≡ label_of mine e.high = ap (number_of marks) (ap (λ (x : LiveLink). x.high) (sym (own k d in_labels))) ∙ sym (own_label marks labels e.high ends.1) in
-      let same : numbered marks e ≡ relabelled mine e = λ j. record { low = low j; high = high j; weight = e.weight; place = e.place } in
+      let same : numbered marks e ≡ relabelled mine e = λ j. record { low = low j; high = high j; place = e.place } in
       let here : k ≡ 0 + k = omega arith in
       number_at marks names within by_labels live by k d in_labels ∙ same ∙ ap (λ j. relabelled mine (get_or by_labels j d)) here)
       all (bests_none links mine by_labels coarser count table (subst (AreBestUpTo count links mine 0 0) (sym none) (best_of_none count links mine 0))))

@@ -29,7 +29,7 @@ module _ (marks names : List ℕ) (within : (c : ℕ) → IsMarked marks c → n
   named_again e is at =
       let low = name_of e.low (number_of marks e.low) is.0 at.0 in
       let high = name_of e.high (number_of marks e.high) is.1 at.1 in
-      λ k. record { low = low k; high = high k; weight = e.weight; place = e.place }
+      λ k. record { low = low k; high = high k; place = e.place }
 
   module _ (by_labels live : List LiveLink) (are : AreByNumbers marks names by_labels live) where
     pub number_at : (k : ℕ) (d : LiveLink) → k < length by_labels → get_or live k d ≡ numbered marks (get_or by_labels k d)
@@ -156,7 +156,7 @@ module _ (labels marks names names' changed : List ℕ) (marked : HaveMarks labe
             ∙ ap (λ t. map (numbered marks) t) (sym (packed_same labels e (shown names live) same))
         | inr (test, apart) ↦
             let changed_apart : label_of changed l.low ≢ label_of changed l.high = λ same. apart (numbers_apart marks (label_of labels e.low) (label_of labels e.high) low.1 high.1 (sym low.0 ∙ same ∙ high.0)) in
-            let first : relabelled changed l ≡ numbered marks (relabelled labels e) = λ k. record { low = low.0 k; high = high.0 k; weight = l.weight; place = l.place } in
+            let first : relabelled changed l ≡ numbered marks (relabelled labels e) = λ k. record { low = low.0 k; high = high.0 k; place = l.place } in
             packed_apart changed l live changed_apart
             ∙ ap (λ (m : LiveLink). m ∷ packed changed live) first
             ∙ ap (λ (t : List LiveLink). numbered marks (relabelled labels e) ∷ t) later

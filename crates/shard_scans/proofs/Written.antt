@@ -9,7 +9,7 @@ use Rattle.link_key.specs.Labels.{label_of, AreLabels, Coarsens}
 use Rattle.round_theory.specs.Labelling.{IsVertex}
 use Rattle.shard_scans.specs.declared.scanning.Best.{Best}
 use Rattle.shard_scans.specs.declared.live.LiveLink.{LiveLink}
-use Rattle.shard_scans.specs.Scanning.{Says, AreBestUpTo, TakesIn}
+use Rattle.shard_scans.specs.Scanning.{AreBestUpTo, TakesIn}
 use Rattle.shard_scans.specs.Batches.{written_at}
 use Rattle.shard_scans.specs.Live.{AreLive, HaveOneLabel, IsEntryOf, places_of, AreLiveLinks, StayLive, relabelled, KeptShardState, IsLive}
 use Rattle.shard_scans.proofs.Laid.{one_label_coarser, live_coarser, live_first, live_next, live_within, live_end, live_push, front_is_quiet}
@@ -20,7 +20,6 @@ use Rattle.shard_scans.proofs.Outdone.{bests_over}
 -- what is written of a link stays right under labels that coarsen
 pub written_coarser : (labels finer : List ℕ) (l : Link) (e : LiveLink) → Coarsens labels finer → IsEntryOf finer l e → IsEntryOf labels l e
 written_coarser labels finer l e coarsens is = record {
-  weight = is.weight;
   low = one_label_coarser labels finer e.low l.low coarsens is.low;
   high = one_label_coarser labels finer e.high l.high coarsens is.high;
 }
@@ -49,13 +48,13 @@ module _ (labels : List ℕ) (are : AreLabels labels) where
 
   -- the labels of what is written of a link may stand in its place
   pub relabelled_written : (l : Link) (e : LiveLink) → IsEntryOf labels l e → IsEntryOf labels l (relabelled labels e)
-  relabelled_written l e is = record { weight = is.weight; low = label_stands e.low l.low is.low; high = label_stands e.high l.high is.high }
+  relabelled_written l e is = record { low = label_stands e.low l.low is.low; high = label_stands e.high l.high is.high }
 
   pub own_written : (l : Link) (place : ℕ) → l.high ≤ length labels → IsEntryOf labels l (written_at labels l place)
   own_written l place ends =
       let at_low : IsVertex (length labels) l.low = (l.from_one, omega (arith, l.ascending, ends)) in
       let at_high : IsVertex (length labels) l.high = (omega (arith, l.from_one, l.ascending), ends) in
-      record { weight = refl; low = label_stands l.low l.low (at_low, at_low, refl); high = label_stands l.high l.high (at_high, at_high, refl) }
+      record { low = label_stands l.low l.low (at_low, at_low, refl); high = label_stands l.high l.high (at_high, at_high, refl) }
 
 -- as many places as live links
 places_count : (live : List LiveLink) → length (places_of live) ≡ length live
@@ -98,7 +97,7 @@ module _ (links : List Link) (labels : List ℕ) where
       place_is : get_or (places_of old) i 0 ≡ here.place
       place_is = get_or-map (λ (l : LiveLink). l.place) old i d 0 within
 
-      place_in_list : here.place < length links
+      pub place_in_list : here.place < length links
       place_in_list = subst (λ p. p < length links) place_is (live_within links labels 0 (length links) (places_of old) i 0 are.places in_places).1
 
       pub written_here : (l : Link) × (l ≡ get_or links here.place l) × IsEntryOf labels l here
@@ -111,15 +110,6 @@ module _ (links : List Link) (labels : List ℕ) where
       high_is_vertex = let (l, read, is) = written_here in is.high.0
 
       module _ (next : LiveLink) (next_is : next ≡ relabelled labels here) where
-        -- what is kept of it says its weight and place
-        pub next_says : (b : Best) → b.weight ≡ next.weight → b.place ≡ next.place → Says links b (Some b.place)
-        next_says b weight_is b_place_is =
-            let at : b.place ≡ here.place = b_place_is ∙ ap (λ (l : LiveLink). l.place) next_is in (
-              refl,
-              subst (λ p. p < length links) (sym at) place_in_list,
-              λ l read. weight_is ∙ ap (λ (k : LiveLink). k.weight) next_is ∙ (are.written i d within l (subst (λ p. l ≡ get_or links p l) at read)).weight,
-            )
-
         -- once it is taken in, all before the next one is seen
         pub bests_next : (count from p : ℕ) (table table' : List Best) → p ≡ next.place → from ≤ get_or (places_of old) i (length links) → TakesIn links next.low next.high p table table'
             → AreBestUpTo count links labels from (get_or (places_of old) i (length links)) table → AreBestUpTo count links labels from (get_or (places_of old) (i + 1) (length links)) table'

@@ -8,9 +8,9 @@ use Rattle.shard_scans.specs.declared.live.LiveLink.{LiveLink}
 use Rattle.shard_scans.specs.Scanning.{TakesIn}
 use Rattle.shard_scans.specs.Live.{relabelled}
 
--- a link, written by its own labels
+-- a link, written by its own labels and its place
 abbrev pub written_at : List ℕ → Link → ℕ → LiveLink
-written_at labels l place = record { low = label_of labels l.low; high = label_of labels l.high; weight = l.weight; place = place }
+written_at labels l place = record { low = label_of labels l.low; high = label_of labels l.high; place = place }
 
 -- of the links at the places from `from` on before `to` each is written by its labels, in order
 abbrev pub AreLookedUp : List Link → List ℕ → ℕ → ℕ → List LiveLink → Type 0
@@ -22,12 +22,11 @@ abbrev pub AreRelabelled : List ℕ → List LiveLink → ℕ → ℕ → List L
 AreRelabelled labels live from to batch = (k : ℕ) (d : LiveLink) → k < to - from
     → slice_index_or batch k d ≡ relabelled labels (slice_index_or live (from + k) d)
 
--- what is written of a link has labels of so many, and the weight of the link at its place
+-- what is written of a link has labels of so many, and a place of the list
 pub record CanBeTakenIn (links : List Link) (labels : ℕ) (written : LiveLink) : Type 0 where
   pub low : IsVertex labels written.low
   pub high : IsVertex labels written.high
   pub in_list : written.place < length links
-  pub weight : (l : Link) → l ≡ slice_index_or links written.place l → written.weight ≡ l.weight
 
 -- a table took in one link after another
 abbrev pub TakesInAll : List Link → List LiveLink → List Best → List Best → Type 0

@@ -46,9 +46,8 @@ abbrev pub AreLive : List Link → List ℕ → ℕ → ℕ → List ℕ → Typ
 AreLive links labels from to [] = (from ≤ to) × AreAside links labels from to
 AreLive links labels from to (p ∷ places) = (from ≤ p) × AreAside links labels from p × AreLive links labels (p + 1) to places
 
--- what is written of a link: its weight, and for each end a vertex of that end's label
+-- what is written of a link: for each end a vertex of that end's label
 pub record IsEntryOf (labels : List ℕ) (l : Link) (written : LiveLink) : Type 0 where
-  pub weight : written.weight ≡ l.weight
   pub low : HaveOneLabel labels written.low l.low
   pub high : HaveOneLabel labels written.high l.high
 
@@ -70,7 +69,7 @@ StayLive links labels live place = AreLive links labels 0 place (places_of live)
 
 -- what is written of a live link, with labels in place of its vertices
 abbrev pub relabelled : List ℕ → LiveLink → LiveLink
-relabelled labels l = record { low = label_of labels l.low; high = label_of labels l.high; weight = l.weight; place = l.place }
+relabelled labels l = record { low = label_of labels l.low; high = label_of labels l.high; place = l.place }
 
 -- so all live links, without those whose ends fall together
 abbrev pub packed : List ℕ → List LiveLink → List LiveLink

@@ -48,7 +48,7 @@ HasItsName marks names c = slice_index names (number_of marks c - 1) ≡ c
 
 -- what is written of a link by labels, with their numbers in place of them
 abbrev pub numbered : List ℕ → LiveLink → LiveLink
-numbered marks l = record { low = number_of marks l.low; high = number_of marks l.high; weight = l.weight; place = l.place }
+numbered marks l = record { low = number_of marks l.low; high = number_of marks l.high; place = l.place }
 
 -- of what is written of a link both labels are marked, or stand among the names
 abbrev pub AreBothMarked : List ℕ → LiveLink → Type 0
@@ -63,7 +63,7 @@ name_of names number = slice_index_or names (number - 1) number
 
 -- what is written by numbers, with the names of these in place of them; where there are no names it stands
 abbrev pub named : List ℕ → LiveLink → LiveLink
-named names l = record { low = name_of names l.low; high = name_of names l.high; weight = l.weight; place = l.place }
+named names l = record { low = name_of names l.low; high = name_of names l.high; place = l.place }
 
 -- labels of vertices, with their numbers in place of them
 abbrev pub numbered_labels : List ℕ → List ℕ → List ℕ

@@ -16,18 +16,18 @@ use crate::table::Table;
 use link_key::Link;
 use std::alloc::Allocator;
 
-// So many links are looked up before they are kept. What is written of them stays in the processor's nearest cache.
+// So many links are looked up before they are kept. What is written of them stays in the processor's nearest cache, as do
+// the links themselves.
 pub(crate) const BATCH: usize = 64;
 
 // What a batch has before anything is looked up.
 pub(crate) const NOTHING: LiveLink = LiveLink {
     low: 0,
     high: 0,
-    weight: 0,
     place: 0,
 };
 
-// Writes, of the links from a place on before another, the labels of the ends, the weight and the place.
+// Writes, of the links from a place on before another, the labels of the ends and the place.
 pub(crate) fn look_up(
     links: &[Link],
     labels: &[u32],
@@ -47,7 +47,6 @@ pub(crate) fn look_up(
         batch[place - from] = LiveLink {
             low: labels[link.low as usize - 1],
             high: labels[link.high as usize - 1],
-            weight: link.weight,
             place: place as u32,
         };
     }
@@ -90,8 +89,7 @@ pub(crate) fn keep_each<A: Allocator + Copy>(
 {
     let mut leaving = 0;
     for i in 0..count {
-        let next = batch[i];
-        if keep_next(links, next.low, next.high, next.best(), table) {
+        if keep_next(links, batch[i], table) {
             leaving += 1;
         }
     }

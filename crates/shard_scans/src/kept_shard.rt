@@ -18,7 +18,7 @@ use std::thread::Threads;
 /// the one listed before it lies between the same two labels and is no greater. Contracts see the links and the live ones, if
 /// these are listed; where they aren't, all are live.
 ///
-/// It keeps the links' memory. The list takes 24 bytes for each live link, while it is made for each link that leaves a label,
+/// It keeps the links' memory. The list takes 12 bytes for each live link, while it is made for each link that leaves a label,
 /// and 4 bytes for the name of each number where it is by numbers; where there is no memory for it, all links stay live.
 #[derive(Drop)]
 pub struct KeptShard<A: Allocator = Global> {

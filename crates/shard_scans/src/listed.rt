@@ -160,7 +160,6 @@ fn write_by_numbers<A: Allocator + Copy>(
             live.push(LiveLink {
                 low: numbers.number(labels[link.low as usize - 1]),
                 high: numbers.number(labels[link.high as usize - 1]),
-                weight: link.weight,
                 place: place as u32,
             })?;
         }

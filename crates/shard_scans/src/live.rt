@@ -3,16 +3,16 @@
 //! A link whose ends have one label leaves no component, and never will under labels that coarsen these: it is quiet, and
 //! laid aside. So is a link where the one listed before it lies between the same two labels and is no greater, as in files
 //! that have both directions of a link beside each other: under all these labels that one is light before it. Of the
-//! others a label of each end is written beside the weight and the place. Under labels that coarsen, the label of such a
-//! label is that of the end itself, so a pass in order over what is written looks at no link, and looks up labels of labels
-//! alone, of which there are fewer and fewer.
-ghost use Rattle.std.specs.Prelude.{◌≡◌, ◌<◌, ◌≤◌, List, length, take, replicate, All, IfSome, IfOk, IsTrue, IsFalse};
+//! others a label of each end is written, and the place, in 12 bytes. Under labels that coarsen, the label of such a label is
+//! that of the end itself, so a pass in order over what is written looks up labels of labels alone, of which there are fewer
+//! and fewer. The weight is read where the link itself stands: places ascend, so that is a walk in order too.
+ghost use Rattle.std.specs.Prelude.{◌≡◌, ◌<◌, ◌≤◌, List, length, take, replicate, All, Some, IfSome, IfOk, IsTrue, IsFalse};
 ghost use Rattle.limits.specs.declared.TheConstants.{MAX_SHARD_LINKS};
 ghost use Rattle.link_key.specs.declared.links.Link.{Link};
 ghost use Rattle.link_key.specs.Link.{EndsUpTo};
 ghost use Rattle.link_key.specs.Labels.{AreLabels};
 ghost use Rattle.round_theory.specs.Labelling.{IsVertex};
-ghost use Rattle.shard_scans.specs.Scanning.{no_best, AreBest};
+ghost use Rattle.shard_scans.specs.Scanning.{no_best, Says, AreBest};
 ghost use Rattle.shard_scans.specs.Live.{AreParallel, AreLiveLinks, StayLive, live_place, relabelled, packed};
 
 use crate::batches::{BATCH, NOTHING, keep_each, look_up_live};
@@ -22,13 +22,11 @@ use crate::table::Table;
 use link_key::Link;
 use std::alloc::{AllocError, Allocator};
 
-// What is written of a live link: a label of its lower end, or that label's number, the same of its higher end, its weight
-// and its place.
+// What is written of a link: a label of its lower end, or that label's number, the same of its higher end, and its place.
 #[derive(Clone, Copy)]
 pub(crate) struct LiveLink {
     pub(crate) low: u32,
     pub(crate) high: u32,
-    pub(crate) weight: i64,
     pub(crate) place: u32,
 }
 
@@ -43,7 +41,6 @@ impl LiveLink {
         LiveLink {
             low: labels[self.low as usize - 1],
             high: labels[self.high as usize - 1],
-            weight: self.weight,
             place: self.place,
         }
     }
@@ -51,23 +48,24 @@ impl LiveLink {
     // The same with other ends.
     #[inline]
     pub(crate) fn between(self, low: u32, high: u32) -> Self
-        ensures { result ≡ record { low = low; high = high; weight = self.weight; place = self.place } }
+        ensures { result ≡ record { low = low; high = high; place = self.place } }
     {
         LiveLink {
             low,
             high,
-            weight: self.weight,
             place: self.place,
         }
     }
 
+    // What a table keeps of it: the weight of the link at its place, and the place.
     #[inline]
-    pub(crate) fn best(self) -> Best
-        ensures weight { result.weight ≡ self.weight }
+    pub(crate) fn best(self, links: &[Link]) -> Best
+        requires in_list { self.place < length links.now }
         ensures place { result.place ≡ self.place }
+        ensures says { Says links.now result (Some result.place) }
     {
         Best {
-            weight: self.weight,
+            weight: links[self.place as usize].weight,
             place: self.place,
         }
     }
@@ -215,7 +213,6 @@ pub(crate) fn write_live<A: Allocator + Copy>(
             live.push(LiveLink {
                 low: labels[link.low as usize - 1],
                 high: labels[link.high as usize - 1],
-                weight: link.weight,
                 place: place as u32,
             })?;
         }

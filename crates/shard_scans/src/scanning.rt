@@ -2,10 +2,10 @@
 ghost use Rattle.std.specs.Prelude.{◌≡◌, ◌≢◌, ℕ, ◌+◌, ◌-◌, ◌<◌, ◌≤◌, ◌↔◌, length, replicate, Some, IfSome, IfOk, OnOk, IsTrue};
 ghost use Rattle.link_key.specs.Link.{EndsUpTo};
 ghost use Rattle.link_key.specs.Labels.{AreLabels};
-ghost use Rattle.round_theory.specs.Labelling.{IsVertex};
 ghost use Rattle.round_theory.specs.Offers.{AreLightOffers};
 ghost use Rattle.shard_scans.specs.Scanning.{no_best, Says, KeepsLesser, AreBest, TakesIn};
 ghost use Rattle.shard_scans.specs.Live.{AreLiveLinks};
+ghost use Rattle.shard_scans.specs.Batches.{CanBeTakenIn};
 ghost use Rattle.shard_scans.specs.Numbers.{HaveNames, shown, IsListed};
 
 use crate::batches::{BATCH, NOTHING, keep_each, look_up};
@@ -434,29 +434,26 @@ fn count_leaving(links: &[Link], labels: &[u32]) -> usize
     leaving
 }
 
-// Takes the next link into the table by the labels of its ends: where they differ it leaves both, and else none. It says
-// which.
+// Takes the next link into the table by the labels that are written of its ends: where they differ it leaves both, and else
+// none. It says which.
 #[inline]
 pub(crate) fn keep_next<A: Allocator + Copy>(
     links: &[Link],
-    low: u32,
-    high: u32,
-    next: Best,
+    next: LiveLink,
     table: &mut Table<A>,
 ) -> bool
     requires few_links { length links.now ≤ MAX_SHARD_LINKS }
-    requires next { Says links.now next (Some next.place) }
-    requires low { IsVertex (length table.old) low }
-    requires high { IsVertex (length table.old) high }
-    ensures best { TakesIn links.now low high next.place table.old table.new }
+    requires next { CanBeTakenIn links.now (length table.old) next }
+    ensures best { TakesIn links.now next.low next.high next.place table.old table.new }
     ensures size { length table.new ≡ length table.old }
-    ensures leaves { IsTrue result ↔ (low ≢ high) }
+    ensures leaves { IsTrue result ↔ (next.low ≢ next.high) }
 {
-    if low == high {
+    if next.low == next.high {
         return false;
     }
-    table.keep(low as usize - 1, links, next);
-    table.keep(high as usize - 1, links, next);
+    let best = next.best(links);
+    table.keep(next.low as usize - 1, links, best);
+    table.keep(next.high as usize - 1, links, best);
     true
 }
 

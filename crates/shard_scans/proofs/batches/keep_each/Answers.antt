@@ -1,7 +1,6 @@
-use Rattle.std.proofs.Common.{pos, get_or, take, sym, ◌∙◌, subst, arith}
+use Rattle.std.proofs.Common.{get_or, take, sym, ◌∙◌, subst, arith}
 use Rattle.std.proofs.lemmas.List.{take_more}
 use Rattle.shard_scans.specs.declared.live.LiveLink.{LiveLink}
-use Rattle.shard_scans.specs.Scanning.{TakesIn}
 use Rattle.shard_scans.specs.Batches.{TakesInAll}
 use Rattle.shard_scans.proofs.Ahead.{takes_one_more}
 use Rattle.shard_scans.proofs.batches.keep_each.Goals as goal
@@ -13,10 +12,9 @@ loop-i-preserved g c =
     let batch = c.args.batch.now in
     let i = c.loop-i.i in
     let seen = c.loop-i.invariant in
-    let default : LiveLink = record { low = 0; high = 0; weight = pos 0; place = 0 } in
+    let default : LiveLink = record { low = 0; high = 0; place = 0 } in
     let l = get_or batch i default in
-    let takes = subst (λ p. TakesIn links l.low l.high p c.loop-i.table c.keep_next.new.table) c.best.ensures.place c.keep_next.ensures.best in
-    let taken = takes_one_more links (take i batch) l c.args.table.now c.loop-i.table c.keep_next.new.table seen.taken takes in
+    let taken = takes_one_more links (take i batch) l c.args.table.now c.loop-i.table c.keep_next.new.table seen.taken c.keep_next.ensures.best in
     record {
       taken = subst (λ row. TakesInAll links row c.args.table.now c.keep_next.new.table) (sym (take_more batch i default (omega (arith, c.loop-i-test.true, c.requires.in_batch)))) taken;
       size = c.keep_next.ensures.size ∙ seen.size;

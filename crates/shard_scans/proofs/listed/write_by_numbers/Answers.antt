@@ -1,5 +1,4 @@
-use Rattle.std.proofs.Common.{◌≡◌, ◌+◌, ℤ, w64, [], ◌∷◌, ◌++◌, sym, ap, ◌∙◌, subst}
-use Rattle.std.proofs.lemmas.Int.{to_z-of_z}
+use Rattle.std.proofs.Common.{◌≡◌, ◌+◌, [], ◌∷◌, ◌++◌, sym, ap, ◌∙◌, subst}
 use Rattle.link_key.specs.declared.links.Link.{Link}
 use Rattle.shard_scans.specs.declared.live.LiveLink.{LiveLink}
 use Rattle.shard_scans.specs.Batches.{written_at}
@@ -23,10 +22,10 @@ loop-place-preserved g c =
     elim c.if-is_live.branch [
       | then-is_live+in_ok-push w ↦
           let l : Link = w.index-links-place.result in
-          let e : ℤ → LiveLink = λ weight. record { low = w.number.result; high = w.number-then-is_live.result; weight = weight; place = place } in
-          let x_is : e l.weight ≡ numbered marks (written_at labels l place) = λ k. record { low = w.number.ensures k; high = w.number-then-is_live.ensures k; weight = l.weight; place = place } in
+          let e : LiveLink = record { low = w.number.result; high = w.number-then-is_live.result; place = place } in
+          let e_is : e ≡ numbered marks (written_at labels l place) = λ k. record { low = w.number.ensures k; high = w.number-then-is_live.ensures k; place = place } in
           let items_is : c.if-is_live.live.items ≡ live ++ numbered marks (written_at labels l place) ∷ [] =
-          ap (λ v. v.items) w.live-is ∙ w.in_ok-push.ensures.items ∙ ap (λ weight. live ++ e weight ∷ []) (to_z-of_z w64 l.weight l.weight_fits) ∙ ap (λ (x : LiveLink). live ++ x ∷ []) x_is in
+          ap (λ v. v.items) w.live-is ∙ w.in_ok-push.ensures.items ∙ ap (λ (x : LiveLink). live ++ x ∷ []) e_is in
           subst (AreListedUpTo (place + 1) links labels marks) (sym items_is) (listed_more links labels marks place l within w.index-links-place.is live c.loop-place.invariant)
       | else-is_live w ↦
           let stay : StayLive links labels live place = subst (λ t. StayLive links labels t place) c.as_slice.ensures.value (c.is_live.ensures w.if-is_live.false) in

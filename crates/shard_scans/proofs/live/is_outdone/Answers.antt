@@ -1,4 +1,4 @@
-use Rattle.std.proofs.Common.{◌≡◌, ◌+◌, ◌-◌, ◌≤◌, pos, length, get_or, true, is_le, refl, sym, ◌∙◌, subst, arith, rules}
+use Rattle.std.proofs.Common.{◌≡◌, ◌+◌, ◌-◌, ◌≤◌, length, get_or, true, is_le, refl, sym, ◌∙◌, subst, arith, rules}
 use Rattle.std.proofs.lemmas.Bool.{eqb-false}
 use Rattle.std.proofs.lemmas.List.{get_or-map, length-map}
 use Rattle.link_key.specs.declared.links.Link.{Link}
@@ -17,7 +17,7 @@ returns-in-Some c = λ test before.
     let live = c.args.live.now in
     let at = c.args.place in
     let k = length live - 1 in
-    let d : LiveLink = record { low = 0; high = 0; weight = pos 0; place = 0 } in
+    let d : LiveLink = record { low = 0; high = 0; place = 0 } in
     let last : LiveLink = get_or live k d in
     let link : Link = c.index-links-place.result in
     let earlier : Link = c.in-Some.earlier.now in

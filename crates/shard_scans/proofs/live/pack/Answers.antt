@@ -1,4 +1,4 @@
-use Rattle.std.proofs.Common.{pos, ◌≡◌, ◌≢◌, ◌+◌, ◌<◌, ◌++◌, [], ◌∷◌, List, length, get_or, take, sym, ap, ◌∙◌, arith}
+use Rattle.std.proofs.Common.{◌≡◌, ◌≢◌, ◌+◌, ◌<◌, ◌++◌, [], ◌∷◌, List, length, get_or, take, sym, ap, ◌∙◌, arith}
 use Rattle.std.proofs.lemmas.List.{take_more, take_more_set, take_all, get_or-set_other, append-nil}
 use Rattle.shard_scans.specs.declared.live.LiveLink.{LiveLink}
 use Rattle.link_key.specs.Labels.{label_of}
@@ -16,7 +16,7 @@ loop-i-preserved c =
     let kept = c.loop-i.kept in
     let next = c.under-next.result in
     let seen = c.loop-i.invariant in
-    let default : LiveLink = record { low = 0; high = 0; weight = pos 0; place = 0 } in
+    let default : LiveLink = record { low = 0; high = 0; place = 0 } in
     let x : LiveLink = get_or old i default in
     let in_live : i < length live = omega (arith, c.loop-i-test.true, c.loop-i.auto.live) in
     let within : i < length old = omega (arith, in_live, c.loop-i.auto.live) in

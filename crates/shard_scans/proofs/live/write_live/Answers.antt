@@ -1,8 +1,5 @@
-use Rattle.std.proofs.Common.{◌≡◌, ◌+◌, ℤ, w64, [], ◌∷◌, ◌++◌, sym, ap, ◌∙◌, subst}
-use Rattle.std.proofs.lemmas.Int.{to_z-of_z}
+use Rattle.std.proofs.Common.{◌≡◌, ◌+◌, [], ◌∷◌, ◌++◌, sym, ap, ◌∙◌, subst}
 use Rattle.link_key.specs.declared.links.Link.{Link}
-use Rattle.link_key.specs.Labels.{label_of}
-use Rattle.shard_scans.specs.declared.live.LiveLink.{LiveLink}
 use Rattle.shard_scans.specs.Batches.{written_at}
 use Rattle.shard_scans.specs.Live.{StayLive}
 use Rattle.shard_scans.proofs.Scans.{end_at}
@@ -22,9 +19,7 @@ loop-place-preserved g c =
           let l : Link = w.index-links-place.result in
           let read = w.index-links-place.is in
           let ends = end_at _ links place l c.requires.ends within read in
-          let e : ℤ → LiveLink = λ weight. record { low = label_of labels l.low; high = label_of labels l.high; weight = weight; place = place } in
-          let items_is : c.if-is_live.live.items ≡ live ++ written_at labels l place ∷ [] =
-          ap (λ v. v.items) w.live-is ∙ w.in_ok-push.ensures.items ∙ ap (λ weight. live ++ e weight ∷ []) (to_z-of_z w64 l.weight l.weight_fits) in
+          let items_is : c.if-is_live.live.items ≡ live ++ written_at labels l place ∷ [] = ap (λ v. v.items) w.live-is ∙ w.in_ok-push.ensures.items in
           subst (AreWrittenBefore links labels (place + 1)) (sym items_is) (written_more links labels place l within read ends live c.loop-place.invariant c.requires.labels)
       | else-is_live w ↦
           let stay : StayLive links labels live place = subst (λ t. StayLive links labels t place) c.as_slice.ensures.value (c.is_live.ensures w.if-is_live.false) in

@@ -1,4 +1,4 @@
-use Rattle.std.proofs.Common.{pos, ◌≡◌, ◌≢◌, ℕ, ◌<◌, length, get_or, set, sym, ap, ◌∙◌, subst, inl, inr, arith}
+use Rattle.std.proofs.Common.{◌≡◌, ◌≢◌, ℕ, ◌<◌, length, get_or, set, sym, ap, ◌∙◌, subst, inl, inr, arith}
 use Rattle.std.proofs.lemmas.Bool.{cases_lt}
 use Rattle.std.proofs.lemmas.List.{get_or_default, get_or-set_same, get_or-set_other}
 use Rattle.shard_scans.specs.declared.live.LiveLink.{LiveLink}
@@ -13,13 +13,13 @@ loop-i-preserved g c =
     let batch = c.loop-i.batch in
     let i = c.loop-i.i in
     let seen = c.loop-i.invariant in
-    let default : LiveLink = record { low = 0; high = 0; weight = pos 0; place = 0 } in
+    let default : LiveLink = record { low = 0; high = 0; place = 0 } in
     let l = get_or batch i default in
     let new = c.between.result in
     let in_batch : i < length batch = omega (arith, c.loop-i-test.true, c.requires.in_batch) in
     let in_start : i < length start = omega (arith, c.loop-i-test.true, c.requires.in_batch) in
     let l_is : l ≡ get_or start i default = seen.rest i default (omega arith) in
-    let new_is : new ≡ numbered marks l = c.between.ensures ∙ (λ k. record { low = c.name-low.ensures.number k; high = c.name-high.ensures.number k; weight = l.weight; place = l.place }) in
+    let new_is : new ≡ numbered marks l = c.between.ensures ∙ (λ k. record { low = c.name-low.ensures.number k; high = c.name-high.ensures.number k; place = l.place }) in
     let marked = subst (AreBothMarked marks) (sym l_is) (c.requires.marked i default (omega (arith, c.loop-i-test.true))) in
     let place_low = number_has_place c.args.numbers.now c.loop-i.names l.low (omega (arith, c.requires.names)) marked.0 in
     let place_high = number_has_place c.args.numbers.now c.name-low.new.names l.high (omega (arith, c.requires.names)) marked.1 in
