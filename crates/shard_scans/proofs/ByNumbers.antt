@@ -21,7 +21,7 @@ use Rattle.shard_scans.specs.Tables.{IsKept, ArePlaces}
 use Rattle.std.proofs.lemmas.Bool.{cases_lt}
 use Rattle.shard_scans.specs.Batches.{written_at, AreLookedUp, CanBeTakenIn}
 use Rattle.shard_scans.proofs.Written.{link_at}
-use Rattle.shard_scans.specs.Numbers.{IsMarked, number_of, numbered, numbered_labels, HasItsName, offered, HasNumbers, AreNumbered, AreMarkedUpTo, AreNamedUpTo, AreBothMarked, AreBothNamed}
+use Rattle.shard_scans.specs.Numbers.{IsMarked, number_of, numbered, numbered_labels, HasItsName, offered, HasNumbers, AreNumbered, AreBothMarked, AreBothNamed}
 use Rattle.shard_scans.proofs.BestSoFar.{best_is_light, none_leaves}
 use Rattle.shard_scans.proofs.Scans.{kept_place, kept_none, end_at}
 use Rattle.shard_scans.proofs.Tables.{kept_below, same_place}
@@ -41,13 +41,6 @@ module _ (marks labels : List ℕ) where
     vertices = length-map labels (number_of marks);
     together = λ u v u_low u_high v_low v_high same. own_label u (u_low, u_high) ∙ ap (number_of marks) same ∙ sym (own_label v (v_low, v_high));
   }
-
-  -- what is written of a link by labels, with their numbers
-  pub numbered_written : (l : Link) (place : ℕ) → l.high ≤ length labels → numbered marks (written_at labels l place) ≡ written_at (numbered_labels marks labels) l place
-  numbered_written l place ends =
-      let low = own_label l.low (l.from_one, omega (arith, l.ascending, ends)) in
-      let high = own_label l.high (omega (arith, l.from_one, l.ascending), ends) in
-      λ k. record { low = (sym low) k; high = (sym high) k; place = place }
 
   module _ (names : List ℕ) (l : Link) (ends : l.high ≤ length labels) (has : (label_of labels l.low ≡ label_of labels l.high) ⊎ HasNumbers labels marks names l) where
     own_low : label_of (numbered_labels marks labels) l.low ≡ number_of marks (label_of labels l.low)
@@ -180,54 +173,3 @@ module _ (links : List Link) (labels marks names : List ℕ) (ends : EndsUpTo (l
       written_light n read written size read_is written_is =
           let is : take n (written ++ drop (length written) pairs) ≡ map (offered names) pairs = written_back n pairs written size ∙ written_is ∙ ap (λ (t : List Offer). map (offered names) t) read_is in
           subst (AreLightOffers links labels) (sym is) light_by_numbers
-
-module _ (links : List Link) (labels marks : List ℕ) (ends : EndsUpTo (length labels) links) (at to : ℕ) (in_list : to ≤ length links) (batch : List LiveLink) (looked_up : AreLookedUp links labels at to batch) where
-  -- links that were looked up by labels, with their numbers
-  pub row_by_numbers : (batch' : List LiveLink) → ((k : ℕ) (d : LiveLink) → k < to - at → get_or batch' k d ≡ numbered marks (get_or batch k d)) → AreLookedUp links (numbered_labels marks labels) at to batch'
-  row_by_numbers batch' each k d l lt read =
-      each k d lt ∙ ap (numbered marks) (looked_up k d l lt read) ∙ numbered_written marks labels l (at + k) (end_at (length labels) links (at + k) l ends (omega (arith, lt, in_list)) read)
-
-  pub row_is_marked : AreMarkedUpTo (length links) links labels marks → (k : ℕ) (d : LiveLink) → k < to - at → AreBothMarked marks (get_or batch k d)
-  row_is_marked marked k d lt =
-      let within : at + k < length links = omega (arith, lt, in_list) in
-      let (l, read) = link_at links (at + k) within in
-      subst (AreBothMarked marks) (sym (looked_up k d l lt read)) (marked (at + k) l within read)
-
-  -- and the names of those before the next batch
-  pub row_is_named : (names names' : List ℕ) → AreMarkedUpTo (length links) links labels marks → AreNamedUpTo at links labels marks names
-      → ((c : ℕ) → IsMarked marks c → HasItsName marks names c → HasItsName marks names' c)
-      → ((k : ℕ) (d : LiveLink) → k < to - at → AreBothNamed marks names' (get_or batch k d)) → AreNamedUpTo to links labels marks names'
-  row_is_named names names' marked named more each q l lt read = elim (cases_lt q at) [
-    | inl less ↦
-        let is = marked q l (omega (arith, lt, in_list)) read in
-        let both = named q l less read in
-        (more (label_of labels l.low) is.0 both.0, more (label_of labels l.high) is.1 both.1)
-    | inr le ↦
-        let d : LiveLink = written_at labels l q in
-        let k_lt : q - at < to - at = omega (arith, lt, le) in
-        let here : at + (q - at) ≡ q = omega (arith, le) in
-        let is : get_or batch (q - at) d ≡ written_at labels l (at + (q - at)) = looked_up (q - at) d l k_lt (subst (λ n. l ≡ get_or links n l) (sym here) read) in
-        subst (AreBothNamed marks names') is (each (q - at) d k_lt)
-  ]
-
--- such links can be taken in
-pub row_can_be_numbered : (links : List Link) (labels marks : List ℕ) (count at to : ℕ) (batch : List LiveLink) → EndsUpTo (length labels) links → AreMarkedUpTo (length links) links labels marks
-    → ((c : ℕ) → IsMarked marks c → number_of marks c ≤ count) → to ≤ length links → AreLookedUp links (numbered_labels marks labels) at to batch
-    → (k : ℕ) (d : LiveLink) → k < to - at → CanBeTakenIn links count (get_or batch k d)
-row_can_be_numbered links labels marks count at to batch ends marked within in_list looked_up k d lt =
-    let there : at + k < length links = omega (arith, lt, in_list) in
-    let (l, read) = link_at links (at + k) there in
-    let high : l.high ≤ length labels = end_at (length labels) links (at + k) l ends there read in
-    let is = marked (at + k) l there read in
-    subst (CanBeTakenIn links count) (sym (looked_up k d l lt read)) (record {
-      low = subst (IsVertex count) (sym (own_label marks labels l.low (l.from_one, omega (arith, l.ascending, high)))) (omega arith, within (label_of labels l.low) is.0);
-      high = subst (IsVertex count) (sym (own_label marks labels l.high (omega (arith, l.from_one, l.ascending), high))) (omega arith, within (label_of labels l.high) is.1);
-      in_list = there;
-    })
-
--- links all of whose ends have numbers
-pub all_are_numbered : (links : List Link) (labels marks names : List ℕ) → AreMarkedUpTo (length links) links labels marks → AreNamedUpTo (length links) links labels marks names → AreNumbered links labels marks names
-all_are_numbered links labels marks names marked named q l lt read =
-    let is = marked q l lt read in
-    let at = named q l lt read in
-    inr (record { low_marked = is.0; high_marked = is.1; low_named = at.0; high_named = at.1 })

@@ -1,5 +1,6 @@
 -- The next scan of links that are listed by numbers.
 use Rattle.std.proofs.Common.{◌≡◌, ℕ, ◌+◌, ◌<◌, ◌≤◌, List, length, get_or, take, replicate, All, sym, ap, ◌∙◌, subst, inl, inr, arith}
+use Rattle.std.specs.Prelude.{Result, Ok, Err, OnOk}
 use Rattle.std.proofs.lemmas.List.{get_or-map, length-map, take_all}
 use Rattle.link_key.specs.declared.links.Link.{Link}
 use Rattle.link_key.specs.Labels.{label_of, AreLabels}
@@ -9,7 +10,7 @@ use Rattle.shard_scans.specs.declared.numbers.Word.{Word}
 use Rattle.shard_scans.specs.Scanning.{no_best, AreBestUpTo}
 use Rattle.shard_scans.specs.Live.{AreParallel, places_of, AreLiveLinks, relabelled, packed}
 use Rattle.shard_scans.specs.Batches.{CanBeTakenIn, TakesInAll}
-use Rattle.shard_scans.specs.Numbers.{marks_of, IsMarked, marked_in, number_of, numbered, numbered_labels, shown, HasItsName, HasNumbers, AreByNumbers, AreNumbered, HaveNames}
+use Rattle.shard_scans.specs.Numbers.{marks_of, IsMarked, marked_in, number_of, numbered, numbered_labels, shown, HasItsName, HasNumbers, AreByNumbers, AreLiveByNumbers, AreNumbered, HaveNames}
 use Rattle.shard_scans.proofs.Scans.{best_of_none}
 use Rattle.shard_scans.proofs.Laid.{live_or_aside}
 use Rattle.shard_scans.proofs.Written.{place_in_list, live_ends, live_links_coarser, bests_none, bests_all}
@@ -22,7 +23,7 @@ use Rattle.shard_scans.proofs.Relisting.{number_at, by_numbers_long, shown_again
 module _ (links : List Link) (labels marks names : List ℕ) (by_labels live : List LiveLink) (are : AreLiveLinks links labels by_labels) (own : All (λ e. relabelled labels e ≡ e) by_labels)
     (within : (c : ℕ) → IsMarked marks c → number_of marks c ≤ length names) (by : AreByNumbers marks names by_labels live) where
   -- each can be taken in
-  next_can_be_taken_in : (count k : ℕ) (d : LiveLink) → count ≡ length names → k < length live → CanBeTakenIn links count (get_or live k d)
+  pub next_can_be_taken_in : (count k : ℕ) (d : LiveLink) → count ≡ length names → k < length live → CanBeTakenIn links count (get_or live k d)
   next_can_be_taken_in count k d size lt =
       let in_labels : k < length by_labels = omega (arith, lt, by_numbers_long marks names within by_labels live by) in
       let e : LiveLink = get_or by_labels k d in
@@ -68,7 +69,7 @@ module _ (links : List Link) (labels marks names : List ℕ) (by_labels live : L
   }
 
   -- of each link the ends have one label, or they have numbers
-  next_are_numbered : AreNumbered links labels marks names
+  pub next_are_numbered : AreNumbered links labels marks names
   next_are_numbered q l lt read = elim (live_or_aside links labels 0 (length links) (places_of by_labels) q l are.places (omega arith) lt read) [
     | inl aside ↦ elim aside [
       | inl quiet ↦ inl quiet.one_label
@@ -83,7 +84,7 @@ module _ (links : List Link) (labels marks names : List ℕ) (by_labels live : L
   ]
 
   -- once all are taken in, the best places are kept
-  next_best : (count : ℕ) (table table' : List Best) → table ≡ replicate count no_best → TakesInAll links (take (length live) live) table table'
+  pub next_best : (count : ℕ) (table table' : List Best) → table ≡ replicate count no_best → TakesInAll links (take (length live) live) table table'
       → AreBestUpTo count links (numbered_labels marks labels) 0 (length links) table'
   next_best count table table' none takes =
       let mine = numbered_labels marks labels in
@@ -103,39 +104,23 @@ module _ (links : List Link) (labels marks names : List ℕ) (by_labels live : L
       number_at marks names within by_labels live by k d in_labels ∙ same ∙ ap (λ j. relabelled mine (get_or by_labels j d)) here)
       all (bests_none links mine by_labels coarser count table (subst (AreBestUpTo count links mine 0 0) (sym none) (best_of_none count links mine 0))))
 
--- the same of links that are listed by numbers again, where `labels` is a slice of all labels and `words` are the marks that were counted
-module _ (links : List Link) (mine labels : List ℕ) (same : labels ≡ mine) (all : AreLabels mine) (old live : List LiveLink) (old_are : AreLiveLinks links mine old)
+-- live links by labels that stand for themselves, and what is written of them by numbers
+module _ (links : List Link) (labels : List ℕ) (row live : List LiveLink) (row_are : AreLiveLinks links labels row) (own : All (λ e. relabelled labels e ≡ e) row)
     (words : List Word) (count : ℕ) (counted : count ≡ marked_in (marks_of words) (length words)) (names : List ℕ) (long : length names ≡ count)
-    (by : AreByNumbers (marks_of words) names (packed labels old) live) where
-  are : AreLiveLinks links labels old
-  are = subst (λ (t : List ℕ). AreLiveLinks links t old) (sym same) old_are
-
-  labelled : AreLabels labels
-  labelled = subst AreLabels (sym same) all
-
-  row_are : AreLiveLinks links labels (packed labels old)
-  row_are = packed_live links labels old labelled are
-
-  own : All (λ e. relabelled labels e ≡ e) (packed labels old)
-  own = packed_own links labels old labelled are
-
+    (by : AreByNumbers (marks_of words) names row live) where
   within : (d : ℕ) → IsMarked (marks_of words) d → number_of (marks_of words) d ≤ length names
   within = number_within_names words names (long ∙ counted)
 
-  pub again_can_be_taken_in : (size k : ℕ) (d : LiveLink) → size ≡ count → k < length live → CanBeTakenIn links size (get_or live k d)
-  again_can_be_taken_in size k d is lt = next_can_be_taken_in links labels (marks_of words) names (packed labels old) live row_are own within by size k d (is ∙ sym long) lt
+  pub row_by_numbers : AreLiveByNumbers links labels (marks_of words) names live
+  row_by_numbers = record { by_labels = row; live_are = row_are; own = own; by_numbers = by }
 
-  pub again_numbered : AreNumbered links labels (marks_of words) names
-  again_numbered = next_are_numbered links labels (marks_of words) names (packed labels old) live row_are own within by
+  pub row_live : AreLiveLinks links labels (shown names live)
+  row_live = subst (AreLiveLinks links labels) (sym (shown_again (marks_of words) names within row live by)) row_are
 
-  pub again_best : (table table' : List Best) → table ≡ replicate count no_best → TakesInAll links (take (length live) live) table table'
-      → AreBestUpTo count links (numbered_labels (marks_of words) labels) 0 (length links) table'
-  again_best table table' none takes = next_best links labels (marks_of words) names (packed labels old) live row_are own within by count table table' none takes
+  pub row_names : HaveNames names live
+  row_names = have_names (marks_of words) names within row live by
 
-  pub again_live : AreLiveLinks links mine (shown names live)
-  again_live =
-      subst (λ (t : List ℕ). AreLiveLinks links t (shown names live)) same
-      (subst (AreLiveLinks links labels) (sym (shown_again (marks_of words) names within (packed labels old) live by)) row_are)
-
-  pub again_names : HaveNames names live
-  again_names = have_names (marks_of words) names within (packed labels old) live by
+-- what is so in any case is so where there is a result
+pub so_where_ok : {T E P : Type 0} (r : Result T E) → P → OnOk r P
+so_where_ok (Ok x) is = is
+so_where_ok (Err e) is = tt

@@ -14,7 +14,7 @@ use Rattle.std.proofs.lemmas.List.Elements.{All-append, All-cons, All-nil}
 use Rattle.shard_scans.proofs.BestSoFar.{one_read}
 use Rattle.shard_scans.proofs.Laid.{live_push}
 use Rattle.shard_scans.specs.Batches.{written_at}
-use Rattle.shard_scans.specs.Numbers.{IsMarked, number_of, numbered, named, HasItsName, AreBothMarked, AreBothNamed, AreMarkedUpTo, AreNamedUpTo, HaveNames, HaveMarks, new_name, shown, AreByNumbers, AreListedUpTo}
+use Rattle.shard_scans.specs.Numbers.{IsMarked, number_of, numbered, named, HasItsName, AreBothMarked, AreBothNamed, HaveNames, HaveMarks, new_name, shown, AreByNumbers}
 use Rattle.shard_scans.proofs.Scans.{end_at}
 use Rattle.shard_scans.proofs.Written.{link_at, own_written}
 use Rattle.shard_scans.proofs.Packed.{all_head, all_tail, packed_same, packed_apart, packed_all}
@@ -53,71 +53,16 @@ module _ (marks names : List ℕ) (within : (c : ℕ) → IsMarked marks c → n
         subst (λ (e : LiveLink). IsVertex (length names) e.low × IsVertex (length names) e.high) (sym (number_at k d in_labels))
         ((omega arith, within (get_or by_labels k d).low is.0), (omega arith, within (get_or by_labels k d).high is.1))
 
--- what is written with numbers has the same places
-numbered_places : (marks : List ℕ) (live : List LiveLink) → places_of (map (numbered marks) live) ≡ places_of live
-numbered_places marks [] = refl
-numbered_places marks (l ∷ live) = ap (λ (t : List ℕ). l.place ∷ t) (numbered_places marks live)
-
--- the first list, a link at a time
-module _ (links : List Link) (labels marks : List ℕ) where
-  abbrev FromLink : LiveLink → Type 0
-  FromLink e = (e.place < length links) × ((l : Link) → l ≡ get_or links e.place l → e ≡ written_at labels l e.place)
-
-  pub listed_none : AreListedUpTo 0 links labels marks []
-  listed_none = record { by_labels = []; places = (omega arith, λ q l from_start before_end read. absurd (omega (arith, before_end))); written = All-nil FromLink; numbered_are = refl }
-
-  module _ (place : ℕ) (l : Link) (within : place < length links) (read : l ≡ get_or links place l) where
-    pub listed_more : (live : List LiveLink) → AreListedUpTo place links labels marks live → AreListedUpTo (place + 1) links labels marks (live ++ numbered marks (written_at labels l place) ∷ [])
-    listed_more live is = record {
-      by_labels = is.by_labels ++ e ∷ [];
-      places = subst (AreLive links labels 0 (place + 1)) (sym (map-append (λ (x : LiveLink). x.place) is.by_labels (e ∷ []))) (live_push links labels 0 place (places_of is.by_labels) is.places);
-      written = All-append FromLink is.by_labels (e ∷ []) is.written
-          (All-cons FromLink e [] (within, λ m m_read. ap (λ (k : Link). written_at labels k place) (one_read links place l m within read m_read)) (All-nil FromLink));
-      numbered_are = ap (λ (t : List LiveLink). t ++ numbered marks e ∷ []) is.numbered_are ∙ sym (map-append (numbered marks) is.by_labels (e ∷ []));
-    }
-      where
-        e : LiveLink
-        e = written_at labels l place
-
-  -- or the next is left out
-  pub listed_left_out : (place : ℕ) (live : List LiveLink) → AreListedUpTo place links labels marks live → StayLive links labels live place → AreListedUpTo (place + 1) links labels marks live
-  listed_left_out place live is stay =
-      let same : places_of live ≡ places_of is.by_labels = ap (λ (t : List LiveLink). places_of t) is.numbered_are ∙ numbered_places marks is.by_labels in
-      record {
-        by_labels = is.by_labels;
-        places = subst (AreLive links labels 0 (place + 1)) same (stay (subst (AreLive links labels 0 place) (sym same) is.places));
-        written = is.written;
-        numbered_are = is.numbered_are;
-      }
-
--- the first list
-module _ (links : List Link) (labels marks : List ℕ) (live : List LiveLink) (listed : AreListedUpTo (length links) links labels marks live) where
-  first_by_numbers : (names : List ℕ) → AreMarkedUpTo (length links) links labels marks → AreNamedUpTo (length links) links labels marks names → AreByNumbers marks names listed.by_labels live
-  first_by_numbers names marked named_are = record {
-    numbered_are = listed.numbered_are;
-    marked = λ k d lt.
-        let (in_list, is) = listed.written k d lt in
-        let (l, read) = link_at links (get_or listed.by_labels k d).place in_list in
-        subst (AreBothMarked marks) (sym (is l read)) (marked (get_or listed.by_labels k d).place l in_list read);
-    named_are = λ k d lt.
-        let (in_list, is) = listed.written k d lt in
-        let (l, read) = link_at links (get_or listed.by_labels k d).place in_list in
-        subst (AreBothNamed marks names) (sym (is l read)) (named_are (get_or listed.by_labels k d).place l in_list read);
-  }
-
-  first_live : EndsUpTo (length labels) links → AreLabels labels → AreLiveLinks links labels listed.by_labels
-  first_live ends labelled = record {
-    places = listed.places;
-    written = λ k d lt l read.
-        let (in_list, is) = listed.written k d lt in
-        subst (IsEntryOf labels l) (sym (is l read)) (own_written labels labelled l (get_or listed.by_labels k d).place (end_at (length labels) links (get_or listed.by_labels k d).place l ends in_list read));
-  }
-
-  pub first_listed : (names : List ℕ) → EndsUpTo (length labels) links → AreLabels labels → ((c : ℕ) → IsMarked marks c → number_of marks c ≤ length names)
-      → AreMarkedUpTo (length links) links labels marks → AreNamedUpTo (length links) links labels marks names → AreLiveLinks links labels (shown names live) × HaveNames names live
-  first_listed names ends labelled within marked named_are =
-      let are = first_by_numbers names marked named_are in
-      (subst (AreLiveLinks links labels) (sym (shown_again marks names within listed.by_labels live are)) (first_live ends labelled), have_names marks names within listed.by_labels live are)
+-- links that are written by numbers one by one
+pub all_by_numbers : (marks names : List ℕ) (by_labels live : List LiveLink) → length live ≡ length by_labels
+    → ((k : ℕ) (d : LiveLink) → k < length by_labels → get_or live k d ≡ numbered marks (get_or by_labels k d))
+    → All (AreBothMarked marks) by_labels → ((k : ℕ) (d : LiveLink) → k < length by_labels → AreBothNamed marks names (get_or by_labels k d)) → AreByNumbers marks names by_labels live
+all_by_numbers marks names by_labels live size each marked named_are = record {
+  numbered_are = same_lists live (map (numbered marks) by_labels) (size ∙ sym (length-map by_labels (numbered marks)))
+      (λ k d lt. let within : k < length by_labels = omega (arith, lt, size) in each k d within ∙ sym (get_or-map (numbered marks) by_labels k d d within));
+  marked = marked;
+  named_are = named_are;
+}
 
 -- the next list
 module _ (labels marks names names' changed : List ℕ) (marked : HaveMarks labels marks names)

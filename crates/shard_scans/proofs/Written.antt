@@ -56,6 +56,13 @@ module _ (labels : List ℕ) (are : AreLabels labels) where
       let at_high : IsVertex (length labels) l.high = (omega (arith, l.from_one, l.ascending), ends) in
       record { low = label_stands l.low l.low (at_low, at_low, refl); high = label_stands l.high l.high (at_high, at_high, refl) }
 
+  -- labels of ends stand for themselves
+  pub own_stands : (l : Link) (place : ℕ) → l.high ≤ length labels → relabelled labels (written_at labels l place) ≡ written_at labels l place
+  own_stands l place ends =
+      let low = (are.labelled l.low l.from_one (omega (arith, l.ascending, ends))).own in
+      let high = (are.labelled l.high (omega (arith, l.from_one, l.ascending)) ends).own in
+      λ k. record { low = low k; high = high k; place = place }
+
 -- as many places as live links
 places_count : (live : List LiveLink) → length (places_of live) ≡ length live
 places_count live = length-map live (λ (l : LiveLink). l.place)
@@ -132,6 +139,7 @@ module _ (links : List Link) (labels : List ℕ) where
   pub record AreWrittenBefore (to : ℕ) (live : List LiveLink) : Type 0 where
     pub places : AreLive links labels 0 to (places_of live)
     pub written : All (λ e. (l : Link) → l ≡ get_or links e.place l → IsEntryOf labels l e) live
+    pub own : All (λ e. relabelled labels e ≡ e) live
 
   -- one more is written behind them
   module _ (place : ℕ) (l : Link) (within : place < length links) (read : l ≡ get_or links place l) (ends : l.high ≤ length labels) (live : List LiveLink) (before : AreWrittenBefore place live) where
@@ -140,11 +148,15 @@ module _ (links : List Link) (labels : List ℕ) where
       places = subst (AreLive links labels 0 (place + 1)) (sym (map-append (λ (e : LiveLink). e.place) live (written_at labels l place ∷ []))) (live_push links labels 0 place (places_of live) before.places);
       written = All-append P live (written_at labels l place ∷ []) before.written
           (All-cons P (written_at labels l place) [] (λ k k_read. subst (λ m. IsEntryOf labels m (written_at labels l place)) (one_read links place l k within read k_read) (own_written labels are l place ends)) (All-nil P));
+      own = All-append Own live (written_at labels l place ∷ []) before.own (All-cons Own (written_at labels l place) [] (own_stands labels are l place ends) (All-nil Own));
     }
       where
+        Own : LiveLink → Type 0
+        Own e = relabelled labels e ≡ e
+
         P : LiveLink → Type 0
         P e = (k : Link) → k ≡ get_or links e.place k → IsEntryOf labels k e
 
   -- or left out
   pub written_left_out : (place : ℕ) (live : List LiveLink) → AreWrittenBefore place live → StayLive links labels live place → AreWrittenBefore (place + 1) live
-  written_left_out place live before stay = record { places = stay before.places; written = before.written }
+  written_left_out place live before stay = record { places = stay before.places; written = before.written; own = before.own }

@@ -8,8 +8,7 @@ use Rattle.link_key.specs.Offers.{Offer}
 use Rattle.round_theory.specs.Labelling.{IsVertex}
 use Rattle.shard_scans.specs.declared.live.LiveLink.{LiveLink}
 use Rattle.shard_scans.specs.declared.numbers.Word.{Word}
-use Rattle.shard_scans.specs.Batches.{written_at}
-use Rattle.shard_scans.specs.Live.{AreLive, places_of, packed}
+use Rattle.shard_scans.specs.Live.{AreLiveLinks, relabelled, packed}
 
 -- no label of a word is marked
 abbrev pub no_marks : Word
@@ -69,16 +68,6 @@ named names l = record { low = name_of names l.low; high = name_of names l.high;
 abbrev pub numbered_labels : List ℕ → List ℕ → List ℕ
 numbered_labels marks labels = map (number_of marks) labels
 
--- of the links before a place the labels of the ends are marked
-abbrev pub AreMarkedUpTo : ℕ → List Link → List ℕ → List ℕ → Type 0
-AreMarkedUpTo to links labels marks = (q : ℕ) (l : Link) → q < to → l ≡ slice_index_or links q l
-    → IsMarked marks (label_of labels l.low) × IsMarked marks (label_of labels l.high)
-
--- and stand by their numbers among the names
-abbrev pub AreNamedUpTo : ℕ → List Link → List ℕ → List ℕ → List ℕ → Type 0
-AreNamedUpTo to links labels marks names = (q : ℕ) (l : Link) → q < to → l ≡ slice_index_or links q l
-    → HasItsName marks names (label_of labels l.low) × HasItsName marks names (label_of labels l.high)
-
 -- each number is that of a label that stands there
 abbrev pub HaveNames : List ℕ → List LiveLink → Type 0
 HaveNames names live = All (λ l. IsVertex (length names) l.low × IsVertex (length names) l.high) live
@@ -125,9 +114,9 @@ pub record AreByNumbers (marks names : List ℕ) (by_labels live : List LiveLink
 abbrev pub AreRenumbered : List ℕ → List ℕ → List ℕ → List LiveLink → List ℕ → List LiveLink → Type 0
 AreRenumbered labels marks names live names' live' = AreByNumbers marks names' (packed labels (shown names live)) live'
 
--- the live links before a place of the list are written with the numbers of their labels
-pub record AreListedUpTo (to : ℕ) (links : List Link) (labels marks : List ℕ) (live : List LiveLink) : Type 0 where
+-- live links by labels that stand for themselves are written with the numbers of these labels, which have names
+pub record AreLiveByNumbers (links : List Link) (labels marks names : List ℕ) (live : List LiveLink) : Type 0 where
   pub by_labels : List LiveLink
-  pub places : AreLive links labels 0 to (places_of by_labels)
-  pub written : All (λ e. (e.place < length links) × ((l : Link) → l ≡ slice_index_or links e.place l → e ≡ written_at labels l e.place)) by_labels
-  pub numbered_are : live ≡ map (numbered marks) by_labels
+  pub live_are : AreLiveLinks links labels by_labels
+  pub own : All (λ e. relabelled labels e ≡ e) by_labels
+  pub by_numbers : AreByNumbers marks names by_labels live

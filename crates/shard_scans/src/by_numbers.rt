@@ -1,51 +1,39 @@
 //! Passes over links by the numbers of their labels.
-ghost use Rattle.std.specs.Prelude.{◌≡◌, ℕ, ◌<◌, ◌≤◌, ◌^◌, length, map, slice_index_or, replicate, IfOk};
+ghost use Rattle.std.specs.Prelude.{◌≡◌, ℕ, ◌<◌, ◌≤◌, length, map, slice_index_or, replicate, IfOk};
 ghost use Rattle.limits.specs.declared.TheConstants.{MAX_SHARD_LINKS};
 ghost use Rattle.link_key.specs.Link.{EndsUpTo};
-ghost use Rattle.link_key.specs.Labels.{AreLabels};
 ghost use Rattle.link_key.specs.Offers.{Offer};
 ghost use Rattle.round_theory.specs.Labelling.{IsVertex};
 ghost use Rattle.round_theory.specs.Offers.{AreLightOffers};
 ghost use Rattle.shard_scans.specs.Scanning.{no_best, AreBestUpTo};
-ghost use Rattle.shard_scans.specs.Numbers.{marks_of, marked_in, AreCounted, AreMarkedUpTo, AreNamedUpTo, AreNumbered, numbered_labels, offered};
+ghost use Rattle.shard_scans.specs.Numbers.{marks_of, marked_in, AreCounted, AreNumbered, AreLiveByNumbers, numbered_labels, offered};
 
-use crate::batches::{BATCH, NOTHING, keep_each, look_up};
-use crate::numbers::{Numbers, number_each};
+use crate::batches::keep_each;
+use crate::listed::Listed;
+use crate::numbers::Numbers;
 use crate::table::Table;
 use link_key::{Link, Offers};
 use std::alloc::{AllocError, Allocator};
 
-// The pass over all links, a batch at a time, into a table by numbers. It writes the name of each number, and says how many
-// links leave a label.
-pub(crate) fn find_best_by_numbers<A: Allocator + Copy>(
+// The offers of live links that are listed by numbers, over a table that keeps nothing yet.
+pub(crate) fn offers_of_listed<A: Allocator + Copy>(
     links: &[Link],
     labels: &[u32],
+    listed: &Listed<A>,
     numbers: &Numbers<A>,
-    names: &mut [u32],
     table: &mut Table<A>,
-) -> usize
+) -> Result<Offers<A>, AllocError>
     requires few_links { length links.now ≤ MAX_SHARD_LINKS }
     requires ends { EndsUpTo (length labels.now) links.now }
-    requires labels { AreLabels labels.now }
     requires counted { AreCounted numbers.now }
-    requires marked { AreMarkedUpTo (length links.now) links.now labels.now (marks_of numbers.now) }
-    requires names { length names.old ≡ marked_in (marks_of numbers.now) (length numbers.now) }
-    requires none_yet { table.old ≡ replicate (length names.old) no_best }
-    ensures best { AreBestUpTo (length names.old) links.now (numbered_labels (marks_of numbers.now) labels.now) 0 (length links.now) table.new }
-    ensures named { AreNamedUpTo (length links.now) links.now labels.now (marks_of numbers.now) names.new }
-    ensures leaving { result ≤ length links.now }
+    requires names { length listed.now.names.items ≡ marked_in (marks_of numbers.now) (length numbers.now) }
+    requires none_yet { table.old ≡ replicate (length listed.now.names.items) no_best }
+    requires live { AreLiveByNumbers links.now labels.now (marks_of numbers.now) listed.now.names.items listed.now.links.items }
+    ensures light { IfOk result (AreLightOffers links.now labels.now) }
 {
-    let mut batch = [NOTHING; BATCH];
-    let mut leaving = 0;
-    let mut at = 0;
-    while at < links.len() {
-        let next = at + BATCH.min(links.len() - at);
-        look_up(links, labels, at, next, &mut batch);
-        number_each(numbers, names, &mut batch, next - at);
-        leaving += keep_each(links, &batch, next - at, table);
-        at = next;
-    }
-    leaving
+    let live = listed.links.as_slice();
+    keep_each(links, live, live.len(), table);
+    offers_by_numbers(links, labels, numbers, listed.names.as_slice(), table)
 }
 
 // The offers of a table by numbers.

@@ -12,14 +12,14 @@ use std::alloc::{AllocError, Allocator, Global};
 use std::marker::Model;
 use std::thread::Threads;
 
-/// A shard that is scanned again and again under labels that coarsen. Once a scan shows links that leave no label, or at the
-/// first one where more than a quarter of the links lie between the ends of the link before them and are no less, the live
-/// links are listed, and later scans pass over the list alone: links that leave no label are laid aside, and so is a link where
-/// the one listed before it lies between the same two labels and is no greater. Contracts see the links and the live ones, if
+/// A shard that is scanned again and again under labels that coarsen. At the first scan the live links are listed, and scans
+/// pass over the list alone: links that leave no label are laid aside, and so is a link where the one listed before it lies
+/// between the same two labels and is no greater. A scan by threads lists them once some link leaves no label, or where more
+/// than a quarter lie between the ends of the link before them and are no less. Contracts see the links and the live ones, if
 /// these are listed; where they aren't, all are live.
 ///
-/// It keeps the links' memory. The list takes 12 bytes for each live link, while it is made for each link that leaves a label,
-/// and 4 bytes for the name of each number where it is by numbers; where there is no memory for it, all links stay live.
+/// It keeps the links' memory. The list takes 12 bytes for each link that was live when it was made, and 4 bytes for the name of
+/// each number where it is by numbers; where there is no memory for it, all links stay live.
 #[derive(Drop)]
 pub struct KeptShard<A: Allocator = Global> {
     links: Vec<Link, A>,

@@ -1,14 +1,14 @@
-//! The live links of a shard, which are listed once that is worth its room.
+//! The live links of a shard, listed by labels of their ends or by numbers of these.
 ghost use Rattle.std.specs.Prelude.{◌≡◌, ◌≤◌, [], length, map, All, IfSome, IfOk, OnOk, OnErr};
 ghost use Rattle.limits.specs.declared.TheConstants.{MAX_SHARD_LINKS};
 ghost use Rattle.link_key.specs.Link.{EndsUpTo};
 ghost use Rattle.link_key.specs.Labels.{AreLabels};
 ghost use Rattle.round_theory.specs.Labelling.{IsVertex};
 ghost use Rattle.shard_scans.specs.Live.{AreLiveLinks};
-ghost use Rattle.shard_scans.specs.Numbers.{marks_of, marked_in, AreCounted, AreMarkedUpTo, AreNamedUpTo, HaveNames, HaveMarks, AreRenumbered, AreListedUpTo, shown, IsListed};
+ghost use Rattle.shard_scans.specs.Numbers.{marks_of, marked_in, AreCounted, AreBothMarked, AreByNumbers, HaveNames, HaveMarks, AreRenumbered, shown, IsListed};
 
-use crate::live::{LiveLink, is_live, pack, write_live};
-use crate::numbers::{Numbers, number_names};
+use crate::live::{LiveLink, pack, write_live};
+use crate::numbers::{Numbers, number_each, number_names};
 use link_key::Link;
 use std::alloc::{AllocError, Allocator};
 
@@ -29,6 +29,22 @@ impl<A: Allocator + Copy> Listed<A> {
             names: Vec::new(*links.allocator()),
             links,
         }
+    }
+
+    // Writes the links with the numbers of their labels, of which there are so many, in place of these.
+    pub(crate) fn number(&mut self, numbers: &Numbers<A>, count: usize) -> Result<(), AllocError>
+        requires counted { AreCounted numbers.now }
+        requires marked { All (AreBothMarked (marks_of numbers.now)) self.old.links.items }
+        requires count { count ≡ marked_in (marks_of numbers.now) (length numbers.now) }
+        ensures names { OnOk result (length self.new.names.items ≡ count) }
+        ensures numbered { OnOk result (AreByNumbers (marks_of numbers.now) self.new.names.items self.old.links.items self.new.links.items) }
+    {
+        let mut own_names = Vec::new(*self.names.allocator());
+        own_names.resize(count, NO_NAME)?;
+        let links = self.links.as_mut_slice();
+        number_each(numbers, own_names.as_mut_slice(), links, links.len());
+        self.names = own_names;
+        Ok(())
     }
 
     // Writes the links with the numbers of their new labels, without those whose ends fall together.
@@ -70,9 +86,9 @@ impl<A: Allocator + Copy> Listed<A> {
 // Of a number before its name is written.
 pub(crate) const NO_NAME: u32 = 0;
 
-// Whether the live links are worth a list, where so many links leave a label: others don't, or many lie between the ends of
-// the one before them and are no less, as in files that have both directions of a link beside each other. The list leaves
-// these out.
+// Whether the live links are worth a list by labels, where so many links leave a label: others don't, or many lie between the
+// ends of the one before them and are no less, as in files that have both directions of a link beside each other. The list
+// leaves these out.
 fn are_worth_a_list(links: &[Link], leaving: usize) -> bool {
     leaving < links.len() || links.len() / 4 < count_repeats(links)
 }
@@ -88,35 +104,8 @@ fn count_repeats(links: &[Link]) -> usize {
     count
 }
 
-// The live links of a shard by numbers, where so many leave a label; none where they aren't worth a list, or where there is
-// no memory for it.
-pub(crate) fn list_by_numbers<A: Allocator + Copy>(
-    links: &[Link],
-    labels: &[u32],
-    numbers: &Numbers<A>,
-    names: Vec<u32, A>,
-    leaving: usize,
-) -> Option<Listed<A>>
-    requires few_links { length links.now ≤ MAX_SHARD_LINKS }
-    requires ends { EndsUpTo (length labels.now) links.now }
-    requires labels { AreLabels labels.now }
-    requires counted { AreCounted numbers.now }
-    requires marked { AreMarkedUpTo (length links.now) links.now labels.now (marks_of numbers.now) }
-    requires named { AreNamedUpTo (length links.now) links.now labels.now (marks_of numbers.now) names.items }
-    requires names { length names.items ≡ marked_in (marks_of numbers.now) (length numbers.now) }
-    ensures live { IfSome result (λ it. AreLiveLinks links.now labels.now (shown it.names.items it.links.items)) }
-    ensures listed { IfSome result (λ it. IsListed it.names.items it.links.items) }
-{
-    if !are_worth_a_list(links, leaving) {
-        return None;
-    }
-    match write_by_numbers(*names.allocator(), links, labels, numbers, leaving) {
-        Ok(live) => Some(Listed { names, links: live }),
-        Err(_) => None,
-    }
-}
-
-// The same by labels.
+// The live links of a shard by labels, where so many leave a label; none where they aren't worth a list, or where there is no
+// memory for it.
 pub(crate) fn list_by_labels<A: Allocator + Copy>(
     alloc: A,
     links: &[Link],
@@ -136,34 +125,4 @@ pub(crate) fn list_by_labels<A: Allocator + Copy>(
         Ok(live) => Some(Listed::by_labels(live)),
         Err(_) => None,
     }
-}
-
-// The live links of a shard by numbers, with room for so many to begin with; room that is left is given back.
-fn write_by_numbers<A: Allocator + Copy>(
-    alloc: A,
-    links: &[Link],
-    labels: &[u32],
-    numbers: &Numbers<A>,
-    room: usize,
-) -> Result<Vec<LiveLink, A>, AllocError>
-    requires few_links { length links.now ≤ MAX_SHARD_LINKS }
-    requires ends { EndsUpTo (length labels.now) links.now }
-    requires labels { AreLabels labels.now }
-    requires counted { AreCounted numbers.now }
-    requires marked { AreMarkedUpTo (length links.now) links.now labels.now (marks_of numbers.now) }
-    ensures live { IfOk result (λ live. AreListedUpTo (length links.now) links.now labels.now (marks_of numbers.now) live.items) }
-{
-    let mut live = Vec::with_capacity(alloc, room)?;
-    for place in 0..links.len() {
-        if is_live(links, labels, live.as_slice(), place) {
-            let link = links[place];
-            live.push(LiveLink {
-                low: numbers.number(labels[link.low as usize - 1]),
-                high: numbers.number(labels[link.high as usize - 1]),
-                place: place as u32,
-            })?;
-        }
-    }
-    live.shrink_to_fit();
-    Ok(live)
 }

@@ -205,6 +205,7 @@ pub(crate) fn write_live<A: Allocator + Copy>(
     requires ends { EndsUpTo (length labels.now) links.now }
     requires labels { AreLabels labels.now }
     ensures live { IfOk result (λ live. AreLiveLinks links.now labels.now live.items) }
+    ensures own { IfOk result (λ live. All (λ e. relabelled labels.now e ≡ e) live.items) }
 {
     let mut live = Vec::with_capacity(alloc, room)?;
     for place in 0..links.len() {

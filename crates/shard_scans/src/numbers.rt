@@ -4,14 +4,13 @@
 //! processor's cache where one of what is kept for each label of the graph doesn't. So the labels that a shard's links
 //! have are marked, a bit each, and numbered in their order: the number of a label is one more than there are marked
 //! labels below it, which are counted a word of bits at a time.
-ghost use Rattle.std.specs.Prelude.{◌≡◌, ℕ, ◌+◌, ◌-◌, ◌/◌, ◌^◌, ◌<◌, ◌≤◌, ◌⊎◌, [], length, slice_index, slice_index_or, replicate, set, count_ones, OnOk};
-ghost use Rattle.link_key.specs.Link.{EndsUpTo};
+ghost use Rattle.std.specs.Prelude.{◌≡◌, ℕ, ◌+◌, ◌-◌, ◌*◌, ◌/◌, ◌^◌, ◌<◌, ◌≤◌, ◌⊎◌, [], length, All, slice_index, slice_index_or, replicate, set, count_ones, OnOk};
 ghost use Rattle.link_key.specs.Labels.{AreLabels};
+ghost use Rattle.round_theory.specs.Labelling.{IsVertex};
 ghost use Rattle.shard_scans.specs.declared.live.LiveLink.{LiveLink};
-ghost use Rattle.shard_scans.specs.Numbers.{no_marks, marks_of, IsMarked, marked_in, AreCounted, number_of, numbered, HasItsName, AreMarkedUpTo, AreBothMarked, AreBothNamed, HaveMarks, new_name};
+ghost use Rattle.shard_scans.specs.Numbers.{no_marks, marks_of, IsMarked, marked_in, AreCounted, number_of, numbered, HasItsName, AreBothMarked, AreBothNamed, HaveMarks, new_name};
 
 use crate::live::LiveLink;
-use link_key::Link;
 use std::alloc::{AllocError, Allocator};
 use std::marker::Model;
 
@@ -134,21 +133,15 @@ impl<A: Allocator + Copy> Numbers<A> {
     }
 }
 
-// Marks the labels of the ends of all links.
-pub(crate) fn mark_ends<A: Allocator + Copy>(
-    links: &[Link],
-    labels: &[u32],
-    numbers: &mut Numbers<A>,
-)
-    requires ends { EndsUpTo (length labels.now) links.now }
-    requires labels { AreLabels labels.now }
-    requires words { length numbers.old ≡ length labels.now / 64 + 1 }
+// Marks the labels that are written of all live links.
+pub(crate) fn mark_each<A: Allocator + Copy>(live: &[LiveLink], numbers: &mut Numbers<A>)
+    requires ends { All (λ e. IsVertex (64 * length numbers.old) e.low × IsVertex (64 * length numbers.old) e.high) live.now }
     ensures words { length numbers.new ≡ length numbers.old }
-    ensures marked { AreMarkedUpTo (length links.now) links.now labels.now (marks_of numbers.new) }
+    ensures marked { All (AreBothMarked (marks_of numbers.new)) live.now }
 {
-    for link in links {
-        numbers.mark(labels[link.low as usize - 1]);
-        numbers.mark(labels[link.high as usize - 1]);
+    for link in live {
+        numbers.mark(link.low);
+        numbers.mark(link.high);
     }
 }
 

@@ -1,18 +1,18 @@
 //! The light offers of a shard, in one pass over its links.
-ghost use Rattle.std.specs.Prelude.{◌≡◌, ◌≢◌, ℕ, ◌+◌, ◌-◌, ◌<◌, ◌≤◌, ◌↔◌, length, replicate, Some, IfSome, IfOk, OnOk, IsTrue};
+ghost use Rattle.std.specs.Prelude.{◌≡◌, ◌≢◌, ℕ, ◌+◌, ◌-◌, ◌<◌, ◌≤◌, ◌↔◌, length, replicate, Some, All, IfSome, IfOk, OnOk, IsTrue};
 ghost use Rattle.link_key.specs.Link.{EndsUpTo};
 ghost use Rattle.link_key.specs.Labels.{AreLabels};
 ghost use Rattle.round_theory.specs.Offers.{AreLightOffers};
 ghost use Rattle.shard_scans.specs.Scanning.{no_best, Says, KeepsLesser, AreBest, TakesIn};
-ghost use Rattle.shard_scans.specs.Live.{AreLiveLinks};
+ghost use Rattle.shard_scans.specs.Live.{AreLiveLinks, relabelled};
 ghost use Rattle.shard_scans.specs.Batches.{CanBeTakenIn};
 ghost use Rattle.shard_scans.specs.Numbers.{HaveNames, shown, IsListed};
 
 use crate::batches::{BATCH, NOTHING, keep_each, look_up};
-use crate::by_numbers::{find_best_by_numbers, offers_by_numbers};
-use crate::listed::{Listed, NO_NAME, list_by_labels, list_by_numbers};
-use crate::live::{LiveLink, find_best_and_pack, pack_live};
-use crate::numbers::{Numbers, mark_ends, mark_names};
+use crate::by_numbers::offers_of_listed;
+use crate::listed::{Listed, list_by_labels};
+use crate::live::{LiveLink, find_best_and_pack, pack_live, write_live};
+use crate::numbers::{Numbers, mark_each, mark_names};
 use crate::parallel::{best_of_all, halvings_of};
 use crate::parts::{Part, Scanned};
 use crate::table::Table;
@@ -140,8 +140,9 @@ impl<A: Allocator + Copy> Scanner<A> {
         Ok((offers, leaving))
     }
 
-    // The same offers, by numbers of the labels that the links have; and the live links, where they are worth a list and there
-    // is memory for it.
+    // The same offers, and the live links, which are listed first, so that the labels of ends are looked up once; only what is
+    // listed is scanned, by numbers of the labels that are written there. Where there is no memory for a list all links are
+    // scanned by labels, and there is none.
     pub(crate) fn scan_and_list<B: Allocator>(
         &mut self,
         links: &[Link],
@@ -153,29 +154,38 @@ impl<A: Allocator + Copy> Scanner<A> {
         ensures live { IfOk result (λ scanned. IfSome scanned.1 (λ listed. AreLiveLinks links.now labels.now (shown listed.names.items listed.links.items))) }
         ensures listed { IfOk result (λ scanned. IfSome scanned.1 (λ listed. IsListed listed.names.items listed.links.items)) }
     {
+        let alloc = self.table.allocator();
+        let Ok(live) = write_live(alloc, links, labels.as_slice(), links.len()) else {
+            let offers = self.scan(links, labels)?;
+            return Ok((offers, None));
+        };
+        let mut listed = Listed::by_labels(live);
+        let offers = self.scan_and_number(links, &mut listed, labels)?;
+        Ok((offers, Some(listed)))
+    }
+
+    // The same offers, by live links that are listed by these labels, which are numbered.
+    fn scan_and_number<B: Allocator>(
+        &mut self,
+        links: &[Link],
+        listed: &mut Listed<A>,
+        labels: &Labels<B>,
+    ) -> Result<Offers<A>, AllocError>
+        requires few_links { length links.now ≤ MAX_SHARD_LINKS }
+        requires ends { EndsUpTo (length labels.now) links.now }
+        requires live { AreLiveLinks links.now labels.now listed.old.links.items }
+        requires own { All (λ e. relabelled labels.now e ≡ e) listed.old.links.items }
+        ensures light { IfOk result (AreLightOffers links.now labels.now) }
+        ensures live { OnOk result (AreLiveLinks links.now labels.now (shown listed.new.names.items listed.new.links.items)) }
+        ensures have_names { OnOk result (HaveNames listed.new.names.items listed.new.links.items) }
+    {
         let labels = labels.as_slice();
         self.numbers.clear(labels.len())?;
-        mark_ends(links, labels, &mut self.numbers);
+        mark_each(listed.links.as_slice(), &mut self.numbers);
         let count = self.numbers.count();
-        let mut names = Vec::new(self.table.allocator());
-        names.resize(count, NO_NAME)?;
         self.table.clear(count)?;
-        let leaving = find_best_by_numbers(
-            links,
-            labels,
-            &self.numbers,
-            names.as_mut_slice(),
-            &mut self.table,
-        );
-        let offers = offers_by_numbers(
-            links,
-            labels,
-            &self.numbers,
-            names.as_slice(),
-            &self.table,
-        )?;
-        let listed = list_by_numbers(links, labels, &self.numbers, names, leaving);
-        Ok((offers, listed))
+        listed.number(&self.numbers, count)?;
+        offers_of_listed(links, labels, listed, &self.numbers, &mut self.table)
     }
 
     // The same offers, by the live links alone, of which those that are quiet under the labels are laid aside.
@@ -220,15 +230,7 @@ impl<A: Allocator + Copy> Scanner<A> {
         let count = self.numbers.count();
         self.table.clear(count)?;
         listed.renumber(labels, &self.numbers, count)?;
-        let live = listed.links.as_slice();
-        keep_each(links, live, live.len(), &mut self.table);
-        offers_by_numbers(
-            links,
-            labels,
-            &self.numbers,
-            listed.names.as_slice(),
-            &self.table,
-        )
+        offers_of_listed(links, labels, listed, &self.numbers, &mut self.table)
     }
 
     // The same offers, where all links are written with labels.
