@@ -1,8 +1,7 @@
 -- What the fields of a body say of the frames that have it.
-use Rattle.std.proofs.Common.{◌≡◌, ℕ, ◌+◌, ◌*◌, ◌/◌, ◌<◌, ◌≤◌, ◌≢◌, Bool, true, false, cond, List, [], ◌∷◌, ◌++◌, length, take, get_or, All, refl, sym, ap, subst, ◌∙◌, append-nil, arith, inl, inr}
+use Rattle.std.proofs.Common.{◌≡◌, ℕ, ◌+◌, ◌*◌, ◌/◌, ◌<◌, ◌≤◌, ◌≢◌, List, [], ◌∷◌, ◌++◌, length, take, get_or, All, refl, sym, ap, subst, ◌∙◌, append-nil, arith, inl, inr}
 use Rattle.std.specs.Int.{w16, from_be_bytes}
 use Rattle.std.specs.List.{flat_map, AllByRecursion}
-use Rattle.std.proofs.lemmas.Bool.{true≢false}
 use Rattle.std.proofs.lemmas.List.{length-append, nil_from_length}
 use Rattle.std.proofs.lemmas.List.Elements.{recursion_from_All}
 use Rattle.limits.specs.declared.TheConstants.{MAX_SHARDS, MAX_SHARD_LINKS, MAX_VERTICES, MAX_WORKERS}
@@ -10,13 +9,17 @@ use Rattle.link_key.specs.declared.links.Link.{Link}
 use Rattle.link_key.specs.Labels.{AreLabels}
 use Rattle.link_key.specs.Offers.{Offer, AreOffers}
 use Rattle.frames.specs.FrameValue.{FrameValue, HelloFrame, ShardFrame, AskFrame, AnswerFrame, FaultFrame}
-use Rattle.frames.specs.FrameText.{u16_text, u32_text, are_narrow, link_text, wide_link_text, links_text, offer_text}
+use Rattle.frames.specs.FrameText.{u16_text, u32_text, links_text, offer_text}
 use Rattle.frames.specs.Lawful.{IsU32, IsVersion, IsShard}
-use Rattle.frames.specs.Refusals.{IsWithItems, IsOtherVersion, IsFrameOf, ShardBegun, IsListBegun, BodyRefused, LinksRefused}
+use Rattle.frames.specs.Refusals.{IsWithItems, IsOtherVersion, IsFrameOf, ShardBegun, IsListBegun, BodyRefused, AreNoLinks}
+use Rattle.frames.specs.Spellings.{spelled_in, size_in, kind_in, spelling_of, Spells}
+use Rattle.frames.specs.declared.spelling.Spelling.{Spelling}
+use Rattle.frames.specs.declared.spelling.Spelling.TheVariants.{Narrow, Wide}
 use Rattle.frames.specs.declared.fault.FrameFault.{FrameFault}
-use Rattle.frames.specs.declared.fault.FrameFault.TheVariants.{BadField, Memory}
-use Rattle.frames.proofs.Texts.{u16_length, u32_length, u16_prefix, u32_prefix, link_length, wide_link_length, narrow_text, wide_text, offer_length, items_length, items_same, offer_prefix, FitsOffer}
-use Rattle.frames.proofs.OneText.{two_prefix, labels_fit, kind_by, alike, wide_same, shard_kind}
+use Rattle.frames.specs.declared.fault.FrameFault.TheVariants.{BadField}
+use Rattle.frames.proofs.Texts.{u16_length, u32_length, u16_prefix, u32_prefix, offer_length, items_length, items_same, offer_prefix, FitsOffer}
+use Rattle.frames.proofs.OneText.{two_prefix, labels_fit, shard_kind}
+use Rattle.frames.proofs.Spelled.{length_in, counted_in, fit_of, text_in, spelling_by_kind, kind_by_spelling, spelled_same}
 
 -- ---- a hello
 
@@ -47,107 +50,96 @@ hello_found version worker body rest behind low one first second len =
 
 -- ---- a shard, in either spelling
 
--- how many bytes a link has in a spelling, and which
-abbrev pub size_by : Bool → ℕ
-size_by narrow = cond narrow 12 16
+no_hello : (s : Spelling) (body : List ℕ) → IsOtherVersion (kind_in s) body → ⊥
+no_hello Narrow body other = omega (arith, other.0)
+no_hello Wide body other = omega (arith, other.0)
 
-abbrev pub spelled_by : Bool → Link → List ℕ
-spelled_by true l = link_text l
-spelled_by false l = wide_link_text l
+no_shard : (s : Spelling) (kind : ℕ) → kind ≤ 5 → kind ≢ 2 → kind ≡ kind_in s → ⊥
+no_shard Narrow kind to not_two is = not_two is
+no_shard Wide kind to not_two is = omega (arith, is)
 
-text_by : (narrow : Bool) (links : List Link) → are_narrow links ≡ narrow → links_text links ≡ flat_map (spelled_by narrow) links
-text_by true links is = narrow_text links is
-text_by false links is = wide_text links is
-
-length_by : (narrow : Bool) (links : List Link) → length (flat_map (spelled_by narrow) links) ≡ size_by narrow * length links
-length_by true links = items_length link_text 12 link_length links
-length_by false links = items_length wide_link_text 16 wide_link_length links
-
--- so many bytes are of so many links
-counted_by : (narrow : Bool) (len count : ℕ) → len ≡ size_by narrow * count → len / size_by narrow ≡ count
-counted_by true len count is = omega (arith, is)
-counted_by false len count is = omega (arith, is)
-
-no_hello : (narrow : Bool) (body : List ℕ) → IsOtherVersion (kind_by narrow) body → ⊥
-no_hello true body other = omega (arith, other.0)
-no_hello false body other = omega (arith, other.0)
-
-no_shard : (narrow : Bool) (kind : ℕ) → kind ≤ 5 → kind ≢ 2 → kind ≡ kind_by narrow → ⊥
-no_shard true kind to not_two is = not_two is
-no_shard false kind to not_two is = omega (arith, is)
-
-shard_parts : (narrow : Bool) (v : FrameValue) (n c : ℕ) (body rest links : List ℕ) → IsU32 n → IsU32 c → body ≡ u32_text n ++ rest → rest ≡ u32_text c ++ links
-    → IsFrameOf v (kind_by narrow) body → (ls : List Link) × IsShard n ls × (length ls ≡ c) × (are_narrow ls ≡ narrow) × (flat_map (spelled_by narrow) ls ≡ links)
-shard_parts narrow (ShardFrame n' ls) n c body rest links wide wide' first second is =
+shard_parts : (s : Spelling) (v : FrameValue) (n c : ℕ) (body rest links : List ℕ) → IsU32 n → IsU32 c → body ≡ u32_text n ++ rest → rest ≡ u32_text c ++ links
+    → IsFrameOf v (kind_in s) body → (ls : List Link) × IsShard n ls × (length ls ≡ c) × (spelling_of ls ≡ s) × (flat_map (spelled_in s) ls ≡ links)
+shard_parts s (ShardFrame n' ls) n c body rest links wide wide' first second is =
     let fields = two_prefix n' (length ls) n c (links_text ls) links (omega (arith, is.lawful.number)) (omega (arith, is.lawful.count)) wide wide' (is.body ∙ first ∙ ap (λ (t : List ℕ). u32_text n ++ t) second) in
-    let spelling : are_narrow ls ≡ narrow = alike (are_narrow ls) narrow is.kind in
-    (ls, subst (λ (k : ℕ). IsShard k ls) fields.0 is.lawful, fields.1, spelling, sym (text_by narrow ls spelling) ∙ fields.2)
-shard_parts narrow (HelloFrame v w) n c body rest links wide wide' first second is = absurd (no_shard narrow 1 (omega arith) (omega arith) is.kind)
-shard_parts narrow (AskFrame r s ls) n c body rest links wide wide' first second is = absurd (no_shard narrow 3 (omega arith) (omega arith) is.kind)
-shard_parts narrow (AnswerFrame a) n c body rest links wide wide' first second is = absurd (no_shard narrow 4 (omega arith) (omega arith) is.kind)
-shard_parts narrow (FaultFrame r s code) n c body rest links wide wide' first second is = absurd (no_shard narrow 5 (omega arith) (omega arith) is.kind)
+    let spelling : spelling_of ls ≡ s = spelling_by_kind s ls is.kind in
+    (ls, subst (λ (k : ℕ). IsShard k ls) fields.0 is.lawful, fields.1, spelling, sym (text_in s ls spelling) ∙ fields.2)
+shard_parts s (HelloFrame v w) n c body rest links wide wide' first second is = absurd (no_shard s 1 (omega arith) (omega arith) is.kind)
+shard_parts s (AskFrame r sh ls) n c body rest links wide wide' first second is = absurd (no_shard s 3 (omega arith) (omega arith) is.kind)
+shard_parts s (AnswerFrame a) n c body rest links wide wide' first second is = absurd (no_shard s 4 (omega arith) (omega arith) is.kind)
+shard_parts s (FaultFrame r sh code) n c body rest links wide wide' first second is = absurd (no_shard s 5 (omega arith) (omega arith) is.kind)
 
-pub shard_refused : (narrow : Bool) (n c : ℕ) (body rest links : List ℕ) → IsU32 n → IsU32 c → body ≡ u32_text n ++ rest → rest ≡ u32_text c ++ links
-    → (n < MAX_SHARDS → c ≡ length links / size_by narrow → ⊥) → BodyRefused BadField (kind_by narrow) body
-shard_refused narrow n c body rest links wide wide' first second never = (
-  no_hello narrow body,
+pub shard_refused : (s : Spelling) (n c : ℕ) (body rest links : List ℕ) → IsU32 n → IsU32 c → body ≡ u32_text n ++ rest → rest ≡ u32_text c ++ links
+    → (n < MAX_SHARDS → c ≡ length links / size_in s → ⊥) → BodyRefused BadField (kind_in s) body
+shard_refused s n c body rest links wide wide' first second never = (
+  no_hello s body,
   λ v is.
-      let (ls, lawful, count, spelling, same) = shard_parts narrow v n c body rest links wide wide' first second is in
-      never lawful.number (sym (counted_by narrow (length links) c (sym (ap length same) ∙ length_by narrow ls ∙ ap (λ (k : ℕ). size_by narrow * k) count))),
+      let (ls, lawful, count, spelling, same) = shard_parts s v n c body rest links wide wide' first second is in
+      never lawful.number (sym (counted_in s (length links) c (sym (ap length same) ∙ length_in s ls ∙ ap (λ (k : ℕ). size_in s * k) count))),
 )
 
 -- a shard's body of this length, with these fields before its links
-pub shard_begun : (narrow : Bool) (n c : ℕ) (body rest links : List ℕ) → n < MAX_SHARDS → c ≡ length links / size_by narrow → IsWithItems 8 (size_by narrow) MAX_SHARD_LINKS (length body)
-    → body ≡ u32_text n ++ rest → rest ≡ u32_text c ++ links → ShardBegun (size_by narrow) body × (c ≤ MAX_SHARD_LINKS)
-shard_begun narrow n c body rest links low counted (count, few, len) first second =
-    let long : length links ≡ size_by narrow * count = omega (arith, len, ap length first, ap length second, length-append (u32_text n) rest, length-append (u32_text c) links, u32_length n, u32_length c) in
-    let total : c ≡ count = counted ∙ counted_by narrow (length links) count long in (
+pub shard_begun : (s : Spelling) (n c : ℕ) (body rest links : List ℕ) → n < MAX_SHARDS → c ≡ length links / size_in s → IsWithItems 8 (size_in s) MAX_SHARD_LINKS (length body)
+    → body ≡ u32_text n ++ rest → rest ≡ u32_text c ++ links → ShardBegun (size_in s) body × (c ≤ MAX_SHARD_LINKS)
+shard_begun s n c body rest links low counted (count, few, len) first second =
+    let long : length links ≡ size_in s * count = omega (arith, len, ap length first, ap length second, length-append (u32_text n) rest, length-append (u32_text c) links, u32_length n, u32_length c) in
+    let total : c ≡ count = counted ∙ counted_in s (length links) count long in (
       record {
         number = n;
         count = c;
         links = links;
         split = first ∙ ap (λ (t : List ℕ). u32_text n ++ t) second;
         in_range = low;
-        counted = long ∙ ap (λ (k : ℕ). size_by narrow * k) (sym total);
+        counted = long ∙ ap (λ (k : ℕ). size_in s * k) (sym total);
       },
       omega (arith, few, total),
     )
 
-list_begun : (narrow : Bool) (body : List ℕ) → ShardBegun (size_by narrow) body → IsListBegun (kind_by narrow) body
-list_begun true body begun = inl (refl, begun)
-list_begun false body begun = inr (inl (refl, begun))
+pub list_begun : (s : Spelling) (body : List ℕ) → ShardBegun (size_in s) body → IsListBegun (kind_in s) body
+list_begun Narrow body begun = inl (refl, begun)
+list_begun Wide body begun = inr (inl (refl, begun))
 
-pub shard_unlinked : (narrow : Bool) (fault : FrameFault) (n c : ℕ) (body rest links : List ℕ) → IsU32 n → IsU32 c → body ≡ u32_text n ++ rest → rest ≡ u32_text c ++ links
-    → ShardBegun (size_by narrow) body → LinksRefused fault (spelled_by narrow) links → BodyRefused fault (kind_by narrow) body
-shard_unlinked narrow BadField n c body rest links wide wide' first second begun none = (
-  no_hello narrow body,
+-- bytes that are those of no links
+pub shard_unlinked : (s : Spelling) (n c : ℕ) (body rest links : List ℕ) → IsU32 n → IsU32 c → body ≡ u32_text n ++ rest → rest ≡ u32_text c ++ links
+    → AreNoLinks (spelled_in s) links → BodyRefused BadField (kind_in s) body
+shard_unlinked s n c body rest links wide wide' first second none = (
+  no_hello s body,
   λ v is.
-      let (ls, lawful, count, spelling, same) = shard_parts narrow v n c body rest links wide wide' first second is in
+      let (ls, lawful, count, spelling, same) = shard_parts s v n c body rest links wide wide' first second is in
       none ls same,
 )
-shard_unlinked narrow Memory n c body rest links wide wide' first second begun none = list_begun narrow body begun
-shard_unlinked narrow _ n c body rest links wide wide' first second begun none = absurd none
 
--- links whose weights all fit 32 bits, with weights of 64
-pub shard_of_another_kind : (n c : ℕ) (ls : List Link) (body rest links : List ℕ) → IsU32 n → IsU32 c → body ≡ u32_text n ++ rest → rest ≡ u32_text c ++ links
-    → flat_map wide_link_text ls ≡ links → are_narrow ls ≡ true → BodyRefused BadField 6 body
-shard_of_another_kind n c ls body rest links wide wide' first second spelled fit = (
-  no_hello false body,
+-- links that are to go in the other spelling
+pub shard_of_another_kind : (s : Spelling) (n c : ℕ) (ls : List Link) (body rest links : List ℕ) → IsU32 n → IsU32 c → body ≡ u32_text n ++ rest → rest ≡ u32_text c ++ links
+    → Spells s ls links → spelling_of ls ≢ s → BodyRefused BadField (kind_in s) body
+shard_of_another_kind s n c ls body rest links wide wide' first second spelled other = (
+  no_hello s body,
   λ v is.
-      let (ls', lawful, count, spelling, same) = shard_parts false v n c body rest links wide wide' first second is in
-      true≢false (sym fit ∙ ap are_narrow (wide_same ls ls' (spelled ∙ sym same)) ∙ spelling),
+      let (ls', lawful, count, spelling, same) = shard_parts s v n c body rest links wide wide' first second is in
+      other (ap spelling_of (spelled_same s ls ls' spelled.fit (fit_of s ls' spelling) (spelled.bytes_are ∙ sym same)) ∙ spelling),
 )
 
-pub shard_found : (narrow : Bool) (n c : ℕ) (ls : List Link) (body rest links : List ℕ) → n < MAX_SHARDS → c ≡ length links / size_by narrow → IsWithItems 8 (size_by narrow) MAX_SHARD_LINKS (length body)
-    → body ≡ u32_text n ++ rest → rest ≡ u32_text c ++ links → flat_map (spelled_by narrow) ls ≡ links → are_narrow ls ≡ narrow → IsFrameOf (ShardFrame n ls) (kind_by narrow) body
-shard_found narrow n c ls body rest links low counted possible first second same spelling =
-    let begun = shard_begun narrow n c body rest links low counted possible first second in
-    let total : length ls ≡ c = sym (counted ∙ counted_by narrow (length links) (length ls) (sym (ap length same) ∙ length_by narrow ls)) in
+pub shard_found : (s : Spelling) (n c : ℕ) (ls : List Link) (body rest links : List ℕ) → n < MAX_SHARDS → c ≡ length links / size_in s → IsWithItems 8 (size_in s) MAX_SHARD_LINKS (length body)
+    → body ≡ u32_text n ++ rest → rest ≡ u32_text c ++ links → flat_map (spelled_in s) ls ≡ links → spelling_of ls ≡ s → IsFrameOf (ShardFrame n ls) (kind_in s) body
+shard_found s n c ls body rest links low counted possible first second same spelling =
+    let begun = shard_begun s n c body rest links low counted possible first second in
+    let total : length ls ≡ c = sym (counted ∙ counted_in s (length links) (length ls) (sym (ap length same) ∙ length_in s ls)) in
     record {
       lawful = record { number = low; count = omega (arith, begun.1, total) };
-      kind = ap kind_by spelling;
-      body = sym (first ∙ ap (λ (t : List ℕ). u32_text n ++ t) (second ∙ ap (λ (t : List ℕ). u32_text c ++ t) (sym same ∙ sym (text_by narrow ls spelling)) ∙ ap (λ (k : ℕ). u32_text k ++ links_text ls) (sym total)));
+      kind = kind_by_spelling s ls spelling;
+      body = sym (first ∙ ap (λ (t : List ℕ). u32_text n ++ t) (second ∙ ap (λ (t : List ℕ). u32_text c ++ t) (sym same ∙ sym (text_in s ls spelling)) ∙ ap (λ (k : ℕ). u32_text k ++ links_text ls) (sym total)));
     }
+
+-- what is made of links that came in a spelling
+pub shard_is : (s : Spelling) (n c : ℕ) (ls : List Link) (body rest links : List ℕ) (v : FrameValue) → n < MAX_SHARDS → c ≡ length links / size_in s → IsWithItems 8 (size_in s) MAX_SHARD_LINKS (length body)
+    → body ≡ u32_text n ++ rest → rest ≡ u32_text c ++ links → Spells s ls links → (v ≡ ShardFrame n ls) × (spelling_of ls ≡ s) → IsFrameOf v (kind_in s) body
+shard_is s n c ls body rest links v low counted possible first second spelled (is, spelling) =
+    subst (λ (w : FrameValue). IsFrameOf w (kind_in s) body) (sym is) (shard_found s n c ls body rest links low counted possible first second spelled.bytes_are spelling)
+
+pub shard_is_not : (s : Spelling) (n c : ℕ) (ls : List Link) (body rest links : List ℕ) (fault : FrameFault) → IsU32 n → IsU32 c → body ≡ u32_text n ++ rest → rest ≡ u32_text c ++ links
+    → Spells s ls links → (fault ≡ BadField) × (spelling_of ls ≢ s) → BodyRefused fault (kind_in s) body
+shard_is_not s n c ls body rest links fault wide wide' first second spelled (is, other) =
+    subst (λ (f : FrameFault). BodyRefused f (kind_in s) body) (sym is) (shard_of_another_kind s n c ls body rest links wide wide' first second spelled other)
 
 -- ---- an ask
 

@@ -1,11 +1,13 @@
 pub mod Texts
 pub mod Lengths
 pub mod OneText
+pub mod Listed
+pub mod Spelled
 pub mod Written
 pub mod Decoded
-pub mod Listed
 pub mod Streams
 pub mod NeverRefused
 pub mod FrameStreams
 pub mod Refusing
 pub mod NextFrames
+pub mod ShardPieces

@@ -3,7 +3,7 @@ use Rattle.std.proofs.Common.{◌≡◌, ℕ, zero, suc, ◌+◌, ◌*◌, ◌/�
 use Rattle.std.specs.Int.{w32, from_be_bytes, cast_signed, cast_unsigned}
 use Rattle.std.specs.List.{flat_map, AllByRecursion}
 use Rattle.std.specs.Simd.{first_chunks}
-use Rattle.std.proofs.lemmas.Bool.{and_parts, and_from}
+use Rattle.std.proofs.lemmas.Bool.{and_parts}
 use Rattle.std.proofs.lemmas.Int.{of_z-to_z}
 use Rattle.std.proofs.lemmas.List.{length-append, nil_from_length, take-append-drop, length-drop, length-take, take_more, take_more_set, map-append, take_all}
 use Rattle.std.proofs.lemmas.List.Elements.{All-append, All-cons, All-nil, All-from_recursion}
@@ -59,6 +59,12 @@ pub three_joined : (all a b c x y z : List ℕ) → all ≡ a ++ (b ++ (c ++ [])
 three_joined all a b c x y z is first second third =
     is ∙ ap (λ (t : List ℕ). t ++ (b ++ (c ++ []))) first ∙ ap (λ (t : List ℕ). x ++ (t ++ (c ++ []))) second ∙ ap (λ (t : List ℕ). x ++ (y ++ t)) (append-nil c ∙ third)
 
+-- texts of three fields, put one behind the other
+pub three_put : (t0 t1 t2 t3 a b c x y z : List ℕ) → t1 ≡ t0 ++ a → t2 ≡ t1 ++ b → t3 ≡ t2 ++ c → a ≡ x → b ≡ y → c ≡ z → t3 ≡ t0 ++ (x ++ (y ++ z))
+three_put t0 t1 t2 t3 a b c x y z e1 e2 e3 first second third =
+    let all : t3 ≡ ((t0 ++ x) ++ y) ++ z = cc in
+    all ∙ append_assoc (t0 ++ x) y z ∙ append_assoc t0 x (y ++ z)
+
 -- ---- weights of 32 bits
 
 and-assoc : (a b c : Bool) → (a && (b && c)) ≡ ((a && b) && c)
@@ -69,20 +75,18 @@ and-true : (a : Bool) → (a && true) ≡ a
 and-true true = refl
 and-true false = refl
 
-narrow-append : (links : List Link) (l : Link) → are_narrow (links ++ l ∷ []) ≡ (are_narrow links && is_narrow l)
-narrow-append [] l = and-true (is_narrow l)
-narrow-append (k ∷ links) l = ap (λ (b : Bool). is_narrow k && b) (narrow-append links l) ∙ and-assoc (is_narrow k) (are_narrow links) (is_narrow l)
+pub narrow-append : (a b : List Link) → are_narrow (a ++ b) ≡ (are_narrow a && are_narrow b)
+narrow-append [] b = refl
+narrow-append (l ∷ a) b = ap (λ (t : Bool). is_narrow l && t) (narrow-append a b) ∙ and-assoc (is_narrow l) (are_narrow a) (are_narrow b)
 
 pub narrow_more : (links : List Link) (i : ℕ) (d : Link) → i < length links → are_narrow (take (i + 1) links) ≡ (are_narrow (take i links) && is_narrow (get_or links i d))
-narrow_more links i d more = ap are_narrow (take_more links i d more) ∙ narrow-append (take i links) (get_or links i d)
+narrow_more links i d more =
+    ap are_narrow (take_more links i d more) ∙ narrow-append (take i links) (get_or links i d ∷ []) ∙ ap (λ (t : Bool). are_narrow (take i links) && t) (and-true (is_narrow (get_or links i d)))
 
 pub narrow_at : (links : List Link) (i : ℕ) (d : Link) → IsTrue (are_narrow links) → i < length links → IsTrue (is_narrow (get_or links i d))
 narrow_at [] i d narrow within = absurd (omega arith)
 narrow_at (l ∷ links) zero d narrow within = (and_parts (is_narrow l) (are_narrow links) narrow).0
 narrow_at (l ∷ links) (suc i) d narrow within = narrow_at links i d (and_parts (is_narrow l) (are_narrow links) narrow).1 (omega arith)
-
-pub narrow_pushed : (new links : List Link) (l : Link) → new ≡ links ++ l ∷ [] → IsTrue (are_narrow links) → IsTrue (is_narrow l) → IsTrue (are_narrow new)
-narrow_pushed new links l is before this = ap are_narrow is ∙ narrow-append links l ∙ and_from (are_narrow links) (is_narrow l) before this
 
 -- ---- links, read
 

@@ -1,13 +1,15 @@
 -- A text is what was written: the head, and the fields one behind the other.
-use Rattle.std.proofs.Common.{◌≡◌, ℕ, ◌+◌, ◌*◌, ◌≤◌, true, false, List, ◌∷◌, ◌++◌, length, take, drop, refl, sym, ap, subst, ◌∙◌, append_assoc, arith}
+use Rattle.std.proofs.Common.{◌≡◌, ℕ, ◌+◌, ◌*◌, ◌≤◌, List, ◌∷◌, ◌++◌, length, take, drop, refl, sym, ap, subst, ◌∙◌, append_assoc, arith}
 use Rattle.std.specs.List.{flat_map}
-use Rattle.std.proofs.lemmas.Bool.{cond-true, cond-false}
 use Rattle.std.proofs.lemmas.List.{length-append, length-drop, take-append-le, take_all}
 use Rattle.link_key.specs.declared.links.Link.{Link}
 use Rattle.frames.specs.AnswerValue.{AnswerValue}
 use Rattle.frames.specs.FrameValue.{HelloFrame, ShardFrame, AskFrame, AnswerFrame}
-use Rattle.frames.specs.FrameText.{u16_text, u32_text, are_narrow, link_text, wide_link_text, links_text, offer_text, kind_of, body_of, text_of}
-use Rattle.frames.proofs.Texts.{u16_length, u32_length, link_length, wide_link_length, offer_length, items_length, narrow_text, wide_text}
+use Rattle.frames.specs.FrameText.{u16_text, u32_text, offer_text, body_of, text_of}
+use Rattle.frames.specs.Spellings.{spelled_in, size_in, kind_in, spelling_of}
+use Rattle.frames.specs.declared.spelling.Spelling.{Spelling}
+use Rattle.frames.proofs.Texts.{u16_length, u32_length, offer_length, items_length}
+use Rattle.frames.proofs.Spelled.{length_in, text_in, kind_by_spelling}
 
 -- a head with the length of the body that follows it
 behind_head : (kind len : ℕ) (body text : List ℕ) → len ≡ length body → text ≡ kind ∷ (u32_text len ++ body) → text ≡ kind ∷ (u32_text (length body) ++ body)
@@ -33,29 +35,20 @@ pub hello_written : (version worker : ℕ) (t0 t1 t2 : List ℕ) → t0 ≡ 1 �
 hello_written version worker t0 t1 t2 e0 e1 e2 =
     two_fields 1 6 (u16_text version) (u32_text worker) t0 t1 t2 (omega (arith, length-append (u16_text version) (u32_text worker), u16_length version, u32_length worker)) e0 e1 e2
 
-shard_behind : (kind len number count : ℕ) (links : List Link) (spelled t0 t1 : List ℕ) → kind_of (ShardFrame number links) ≡ kind → links_text links ≡ spelled
-    → count ≡ length links → len ≡ 8 + length spelled → t0 ≡ ((kind ∷ u32_text len) ++ u32_text number) ++ u32_text count → t1 ≡ t0 ++ spelled → t1 ≡ text_of (ShardFrame number links)
-shard_behind kind len number count links spelled t0 t1 kind-is spelled-is counted long e0 e1 =
+-- a head with these fields, and the links behind it
+pub shard_written : (s : Spelling) (number count len : ℕ) (links : List Link) → spelling_of links ≡ s → count ≡ length links → len ≡ 8 + size_in s * count
+    → (((kind_in s ∷ u32_text len) ++ u32_text number) ++ u32_text count) ++ flat_map (spelled_in s) links ≡ text_of (ShardFrame number links)
+shard_written s number count len links spelling counted long =
     let a : List ℕ = u32_text number in
     let b : List ℕ = u32_text (length links) in
-    let head : List ℕ = (kind ∷ u32_text len) ++ a in
-    three_fields kind len a b spelled (kind ∷ u32_text len) head t0 t1
-    (omega (arith, long, length-append a (b ++ spelled), length-append b spelled, u32_length number, u32_length (length links)))
-    refl refl (e0 ∙ ap (λ (n : ℕ). head ++ u32_text n) counted) e1
-    ∙ ap (λ (t : List ℕ). kind ∷ (u32_text (length (a ++ (b ++ t))) ++ (a ++ (b ++ t)))) (sym spelled-is)
-    ∙ ap (λ (k : ℕ). k ∷ (u32_text (length (body_of (ShardFrame number links))) ++ body_of (ShardFrame number links))) (sym kind-is)
-
-pub shard_written : (number count : ℕ) (links : List Link) (t0 t1 : List ℕ) → are_narrow links ≡ true → count ≡ length links
-    → t0 ≡ ((2 ∷ u32_text (8 + 12 * count)) ++ u32_text number) ++ u32_text count → t1 ≡ t0 ++ flat_map link_text links → t1 ≡ text_of (ShardFrame number links)
-shard_written number count links t0 t1 narrow counted =
-    shard_behind 2 (8 + 12 * count) number count links (flat_map link_text links) t0 t1 (cond-true (are_narrow links) 2 6 narrow) (narrow_text links narrow) counted
-    (omega (arith, counted, items_length link_text 12 link_length links))
-
-pub wide_shard_written : (number count : ℕ) (links : List Link) (t0 t1 : List ℕ) → are_narrow links ≡ false → count ≡ length links
-    → t0 ≡ ((6 ∷ u32_text (8 + 16 * count)) ++ u32_text number) ++ u32_text count → t1 ≡ t0 ++ flat_map wide_link_text links → t1 ≡ text_of (ShardFrame number links)
-wide_shard_written number count links t0 t1 wide counted =
-    shard_behind 6 (8 + 16 * count) number count links (flat_map wide_link_text links) t0 t1 (cond-false (are_narrow links) 2 6 wide) (wide_text links wide) counted
-    (omega (arith, counted, items_length wide_link_text 16 wide_link_length links))
+    let spelled : List ℕ = flat_map (spelled_in s) links in
+    let head : List ℕ = (kind_in s ∷ u32_text len) ++ a in
+    let size : length spelled ≡ size_in s * count = length_in s links ∙ ap (λ (n : ℕ). size_in s * n) (sym counted) in
+    three_fields (kind_in s) len a b spelled (kind_in s ∷ u32_text len) head (head ++ u32_text count) ((head ++ u32_text count) ++ spelled)
+    (omega (arith, long, size, length-append a (b ++ spelled), length-append b spelled, u32_length number, u32_length (length links)))
+    refl refl (ap (λ (n : ℕ). head ++ u32_text n) counted) refl
+    ∙ ap (λ (t : List ℕ). kind_in s ∷ (u32_text (length (a ++ (b ++ t))) ++ (a ++ (b ++ t)))) (sym (text_in s links spelling))
+    ∙ ap (λ (k : ℕ). k ∷ (u32_text (length (body_of (ShardFrame number links))) ++ body_of (ShardFrame number links))) (sym (kind_by_spelling s links spelling))
 
 pub ask_written : (round shard count : ℕ) (labels : List ℕ) (t0 t1 t2 t3 t4 : List ℕ) → count ≡ length labels → t0 ≡ 3 ∷ u32_text (12 + 4 * count)
     → t1 ≡ t0 ++ u32_text round → t2 ≡ t1 ++ u32_text shard → t3 ≡ t2 ++ u32_text count → t4 ≡ t3 ++ flat_map u32_text labels → t4 ≡ text_of (AskFrame round shard labels)

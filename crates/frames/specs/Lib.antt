@@ -7,3 +7,4 @@ pub mod OneText
 pub mod FrameStream
 pub mod ReadFault
 pub mod NextFrame
+pub mod Spellings

@@ -1,5 +1,5 @@
 -- When a stream of bytes gives no frame, and why: each fault stands where those before it in the list don't.
-use Rattle.std.specs.Prelude.{◌≡◌, ◌≢◌, ℕ, ◌+◌, ◌*◌, ◌<◌, ◌≤◌, ◌⊎◌, ⊤, List, [], ◌++◌, length, slice_index, take, drop}
+use Rattle.std.specs.Prelude.{◌≡◌, ◌≢◌, ℕ, ◌+◌, ◌*◌, ◌<◌, ◌≤◌, ◌⊎◌, List, [], ◌++◌, length, slice_index, take, drop}
 use Rattle.std.specs.List.{flat_map}
 use Rattle.std.specs.Int.{w16, w32, from_be_bytes}
 use Rattle.limits.specs.declared.TheConstants.{MAX_SHARDS, MAX_SHARD_LINKS, MAX_VERTICES}
@@ -42,12 +42,6 @@ IsNoLink spelled bytes = (l : Link) → spelled l ≢ bytes
 -- bytes that no list of links has in this spelling
 abbrev pub AreNoLinks : (Link → List ℕ) → List ℕ → Type 0
 AreNoLinks spelled bytes = (links : List Link) → flat_map spelled links ≢ bytes
-
--- why a list of links was not read
-abbrev pub LinksRefused : FrameFault → (Link → List ℕ) → List ℕ → Type 0
-LinksRefused BadField spelled bytes = AreNoLinks spelled bytes
-LinksRefused Memory spelled bytes = ⊤
-LinksRefused _ spelled bytes = ⊥
 
 -- a lawful frame of this kind, with this body
 pub record IsFrameOf (v : FrameValue) (k : ℕ) (bytes : List ℕ) : Type 0 where

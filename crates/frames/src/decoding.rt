@@ -1,15 +1,18 @@
 //! Frames from bytes.
-ghost use Rattle.std.specs.Prelude.{◌≡◌, ◌*◌, length, IfOk, IfErr};
-ghost use Rattle.frames.specs.FrameValue.{value_of};
+ghost use Rattle.std.specs.Prelude.{◌≡◌, ◌≢◌, ◌*◌, length, IfOk, IfErr};
+ghost use Rattle.frames.specs.FrameValue.{value_of, ShardFrame};
 ghost use Rattle.frames.specs.Refusals.{IsPossible, IsWithItems, IsFrameOf, BodyRefused};
+ghost use Rattle.frames.specs.Spellings.{size_in, kind_in, spelling_of, FitIn};
+ghost use Rattle.frames.specs.declared.fault.FrameFault.TheVariants.{BadField};
 
 use crate::fault::FrameFault;
 use crate::fields::{split_u16, split_u32};
 use crate::frame::{Answer, Frame, Links, VERSION};
 use crate::head::Head;
-use crate::items::{fit_32_bits, links_of, numbers_of, offers_of, wide_links_of};
+use crate::items::{numbers_of, offers_of, push_links};
+use crate::spelling::Spelling;
 use limits::{MAX_SHARD_LINKS, MAX_SHARDS, MAX_VERTICES, MAX_WORKERS};
-use link_key::{Labels, Offers};
+use link_key::{Labels, Link, Offers};
 use std::alloc::Allocator;
 
 /// The frame of a head and its body.
@@ -26,11 +29,11 @@ pub fn decode_body<A: Allocator>(alloc: A, head: Head, body: &[u8]) -> Result<Fr
 {
     match head.kind {
         1 => decode_hello(body),
-        2 => decode_shard(alloc, body),
+        2 => decode_shard(alloc, Spelling::Narrow, body),
         3 => decode_ask(alloc, body),
         4 => decode_answer(alloc, body),
         5 => decode_fault(body),
-        _ => decode_wide_shard(alloc, body),
+        _ => decode_shard(alloc, Spelling::Wide, body),
     }
 }
 
@@ -50,33 +53,39 @@ fn decode_hello<A: Allocator>(body: &[u8]) -> Result<Frame<A>, FrameFault>
     Ok(Frame::Hello { version, worker })
 }
 
-fn decode_shard<A: Allocator>(alloc: A, body: &[u8]) -> Result<Frame<A>, FrameFault>
-    requires { IsWithItems 8 12 MAX_SHARD_LINKS (length body.now) }
-    ensures frame { IfOk result (λ f. IsFrameOf (value_of f) 2 body.now) }
-    ensures refused { IfErr result (λ fault. BodyRefused fault 2 body.now) }
+fn decode_shard<A: Allocator>(
+    alloc: A,
+    spelling: Spelling,
+    body: &[u8],
+) -> Result<Frame<A>, FrameFault>
+    requires { IsWithItems 8 (size_in spelling) MAX_SHARD_LINKS (length body.now) }
+    ensures frame { IfOk result (λ f. IsFrameOf (value_of f) (kind_in spelling) body.now) }
+    ensures refused { IfErr result (λ fault. BodyRefused fault (kind_in spelling) body.now) }
 {
     let (number, rest) = split_u32(body);
     let (count, rest) = split_u32(rest);
-    if number as usize >= MAX_SHARDS || count as usize != rest.len() / 12 {
+    if number as usize >= MAX_SHARDS || count as usize != spelling.links_in(rest.len()) {
         return Err(FrameFault::BadField);
     }
-    let links = Links::of_list(links_of(alloc, rest)?);
-    Ok(Frame::Shard { number, links })
+    let mut links = Vec::with_capacity(alloc, count as usize)?;
+    if !push_links(&mut links, spelling, rest)? {
+        return Err(FrameFault::BadField);
+    }
+    shard_of(spelling, number, links)
 }
 
-// A shard of which some weight doesn't fit 32 bits; one whose weights all fit has another kind.
-fn decode_wide_shard<A: Allocator>(alloc: A, body: &[u8]) -> Result<Frame<A>, FrameFault>
-    requires { IsWithItems 8 16 MAX_SHARD_LINKS (length body.now) }
-    ensures frame { IfOk result (λ f. IsFrameOf (value_of f) 6 body.now) }
-    ensures refused { IfErr result (λ fault. BodyRefused fault 6 body.now) }
+// The shard of links that came in this spelling; `BadField` where they have the other one.
+pub(crate) fn shard_of<A: Allocator>(
+    spelling: Spelling,
+    number: u32,
+    links: Vec<Link, A>,
+) -> Result<Frame<A>, FrameFault>
+    requires { FitIn spelling links.items }
+    ensures frame { IfOk result
+        (λ f. (value_of f ≡ ShardFrame number links.items) × (spelling_of links.items ≡ spelling)) }
+    ensures refused { IfErr result (λ fault. (fault ≡ BadField) × (spelling_of links.items ≢ spelling)) }
 {
-    let (number, rest) = split_u32(body);
-    let (count, rest) = split_u32(rest);
-    if number as usize >= MAX_SHARDS || count as usize != rest.len() / 16 {
-        return Err(FrameFault::BadField);
-    }
-    let links = wide_links_of(alloc, rest)?;
-    if fit_32_bits(links.as_slice()) {
+    if !spelling.is_of(links.as_slice()) {
         return Err(FrameFault::BadField);
     }
     let links = Links::of_list(links);

@@ -2,12 +2,14 @@
 ghost use Rattle.std.specs.Prelude.{◌≡◌, ◌+◌, ◌*◌, ◌<◌, ◌≤◌, ◌∷◌, ◌++◌, [], length, drop, IfSome, IfOk, OnOk};
 ghost use Rattle.std.specs.List.{flat_map};
 ghost use Rattle.frames.specs.FrameValue.{value_of, HelloFrame, ShardFrame, AskFrame, AnswerFrame, FaultFrame};
-ghost use Rattle.frames.specs.FrameText.{u32_text, are_narrow, link_text, wide_link_text, offer_text, text_of};
+ghost use Rattle.frames.specs.FrameText.{u32_text, text_of};
 ghost use Rattle.frames.specs.Lawful.{IsLawful};
+ghost use Rattle.frames.specs.Spellings.{spelled_in, spelling_of};
 
 use crate::fields::{put_u16, put_u32};
 use crate::frame::{Answer, Frame};
-use crate::items::{fit_32_bits, put_links, put_numbers, put_offers, put_wide_links, spells};
+use crate::items::{put_links, put_numbers, put_offers, spells};
+use crate::spelling::Spelling;
 use limits::{MAX_SHARD_LINKS, MAX_SHARDS, MAX_VERTICES};
 use link_key::{Labels, Link, Shard};
 use std::alloc::{AllocError, Allocator};
@@ -60,39 +62,48 @@ fn encode_hello<A: Allocator>(alloc: A, version: u16, worker: u32) -> Result<Vec
 /// copy of them. The only error is want of memory.
 ///
 /// Each link has 12 bytes where all weights fit 32 bits, and 16 where one doesn't. One look at the weights decides
-/// which; then memory for the whole text is taken once.
+/// which; then memory for the whole text is taken once. Who sends many links needs no text of all of them: it is the
+/// [`shard_head`] and the links by [`put_links`], as many at a time as there is room for.
 pub fn encode_shard<A: Allocator>(alloc: A, shard: &Shard) -> Result<Vec<u8, A>, AllocError>
     requires number { shard.now.number < MAX_SHARDS }
     requires count { length shard.now.links.now ≤ MAX_SHARD_LINKS }
     ensures { IfOk result
         (λ text. text.items ≡ text_of (ShardFrame shard.now.number shard.now.links.now)) }
 {
-    let count = shard.links.len() as u32;
-    if fit_32_bits(shard.links) {
-        let mut text = begin_shard(alloc, 2, 8 + 12 * count, shard.number, count)?;
-        put_links(&mut text, shard.links)?;
-        return Ok(text);
-    }
-    let mut text = begin_shard(alloc, 6, 8 + 16 * count, shard.number, count)?;
-    put_wide_links(&mut text, shard.links)?;
+    let spelling = Spelling::of(shard.links);
+    let room = SHARD_HEAD + spelling.bytes_of(shard.links.len());
+    let mut text = Vec::with_capacity(alloc, room)?;
+    text.extend_from_slice(&shard_head(shard, spelling))?;
+    put_links(&mut text, spelling, shard.links);
     Ok(text)
 }
 
-// A text with room for a whole shard, and what stands before its links.
-fn begin_shard<A: Allocator>(
-    alloc: A,
-    kind: u8,
-    length: u32,
-    number: u32,
-    count: u32,
-) -> Result<Vec<u8, A>, AllocError>
-    ensures { IfOk result
-        (λ text. text.items ≡ ((kind ∷ u32_text length) ++ u32_text number) ++ u32_text count) }
+/// How many bytes stand before the links of a shard.
+pub const SHARD_HEAD: usize = 13;
+
+/// What stands before the links in the text of a shard's frame, of which this is the spelling: the kind, the length, the
+/// number and the count. It looks at no link, and takes no memory.
+pub fn shard_head(shard: &Shard, spelling: Spelling) -> [u8; 13]
+    requires number { shard.now.number < MAX_SHARDS }
+    requires count { length shard.now.links.now ≤ MAX_SHARD_LINKS }
+    requires spelling { spelling_of shard.now.links.now ≡ spelling }
+    ensures { result ++ flat_map (spelled_in spelling) shard.now.links.now
+        ≡ text_of (ShardFrame shard.now.number shard.now.links.now) }
 {
-    let mut text = begin(alloc, kind, length)?;
-    put_u32(&mut text, number)?;
-    put_u32(&mut text, count)?;
-    Ok(text)
+    let count = shard.links.len();
+    let length = 8 + spelling.bytes_of(count) as u32;
+    head_and_fields(spelling.kind(), length, shard.number, count as u32)
+}
+
+// The bytes of a head and of two fields.
+#[tactic(auto, unfolding(crate::specs::FrameText::u32_text))]
+fn head_and_fields(kind: u8, length: u32, number: u32, count: u32) -> [u8; 13]
+    ensures { result ≡ ((kind ∷ u32_text length) ++ u32_text number) ++ u32_text count }
+{
+    let [l0, l1, l2, l3] = length.to_be_bytes();
+    let [n0, n1, n2, n3] = number.to_be_bytes();
+    let [c0, c1, c2, c3] = count.to_be_bytes();
+    [kind, l0, l1, l2, l3, n0, n1, n2, n3, c0, c1, c2, c3]
 }
 
 /// The text of the frame that asks for a shard's offers under these labels, without a copy of the

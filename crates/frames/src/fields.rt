@@ -56,10 +56,3 @@ pub(crate) fn put_u16<A: Allocator>(text: &mut Vec<u8, A>, n: u16) -> Result<(),
 {
     text.extend_from_slice(&n.to_be_bytes())
 }
-
-#[tactic(auto, unfolding(crate::specs::FrameText::i64_text))]
-pub(crate) fn put_i64<A: Allocator>(text: &mut Vec<u8, A>, n: i64) -> Result<(), AllocError>
-    ensures { OnOk result (text.new.items ≡ text.old.items ++ i64_text n) }
-{
-    text.extend_from_slice(&n.cast_unsigned().to_be_bytes())
-}

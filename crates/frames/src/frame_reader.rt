@@ -1,22 +1,22 @@
 //! Frames from a stream of bytes.
-ghost use Rattle.std.specs.Prelude.{◌≡◌, ◌∷◌, ◌+◌, ◌<◌, ◌^◌, length, IfOk, IfErr, OnOk, vec_len};
+ghost use Rattle.std.specs.Prelude.{◌∷◌, IfOk, IfErr, OnOk};
 ghost use Rattle.byte_streams.specs.Streams.{Gave};
 ghost use Rattle.frames.specs.FrameValue.{value_of};
 ghost use Rattle.frames.specs.FrameText.{u32_text, text_of};
 ghost use Rattle.frames.specs.Lawful.{IsLawful};
 ghost use Rattle.frames.specs.Refusals.{IsPossible};
-ghost use Rattle.frames.specs.ReadFault.{IsReadRefused, IsCutShort, GrowsBy};
+ghost use Rattle.frames.specs.ReadFault.{IsReadRefused};
 ghost use Rattle.frames.specs.NextFrame.{BodyCame, IsBodyRefused};
 
+use crate::bodies::read_body;
 use crate::decoding::decode_body;
 use crate::fault::FrameFault;
 use crate::frame::Frame;
 use crate::head::{Head, decode_head};
+use crate::shard_reader::read_shard;
+use crate::spelling::Spelling;
 use byte_streams::{FillFault, Source, fill};
 use std::alloc::Allocator;
-
-// How many bytes a body grows by at most, once those before them have come.
-const PIECE: usize = 65_536;
 
 /// The next frame of a stream.
 ///
@@ -24,10 +24,15 @@ const PIECE: usize = 65_536;
 /// frame, `Device` where a read failed; else the fault of the head or of the body. After a fault no
 /// more of the stream was taken than the frame.
 ///
-/// The body grows by pieces of at most 65,536 bytes, and room for a piece is taken before it comes. So a head
-/// that announces more than the stream has costs at most 65,536 bytes at first, however little comes; once a whole
-/// piece came, at most twice what came, and three times that while it moves to a larger block. `Memory` where
-/// such a growth was refused, or that of the list made of the body.
+/// Of a shard the list of its links alone is kept. They are made of the bytes as these come, at most 65,536 at a time
+/// through one buffer, and no body is stored. Room for the links of a piece is taken before it comes: a head that announces
+/// more than the stream has costs at most 87,376 bytes at first, however little comes; once a whole piece came, at
+/// most three times what came, and four times that while the list moves to a larger block. Where the shard is refused,
+/// the rest of it is taken all the same, without memory.
+///
+/// Of another frame the body grows by pieces of at most 65,536 bytes, and its list is made of it: at most 65,536 bytes at
+/// first; once a whole piece came, at most twice what came, and three times that while it moves. `Memory` where a
+/// growth was refused, or the list made of a body.
 pub fn read_frame<A: Allocator + Copy, S: Source>(
     alloc: A,
     source: &mut S,
@@ -65,6 +70,10 @@ pub(crate) fn read_rest<A: Allocator + Copy, S: Source>(
     ensures lasts { (fact : S.Fact) → S.lasts source.old fact → S.lasts source.new fact }
     ensures again { OnOk result (S.can_read source.new) }
 {
+    if let Some(spelling) = Spelling::of_kind(head.kind) {
+        let most = spelling.links_in(head.length as usize - 8);
+        return read_shard(alloc, source, spelling, most);
+    }
     let body = read_body(alloc, source, head.length)?;
     decode_body(alloc, head, body.as_slice())
 }
@@ -85,65 +94,6 @@ pub(crate) fn read_head<S: Source>(source: &mut S) -> Result<Head, FrameFault>
         Ok(()) => decode_head(&bytes),
         Err(FillFault::Failed(_)) => Err(FrameFault::Device),
         Err(FillFault::Ended(0)) => Err(FrameFault::Ended),
-        Err(FillFault::Ended(_)) => Err(FrameFault::Torn),
-    }
-}
-
-// The next `len` bytes.
-pub(crate) fn read_body<A: Allocator, S: Source>(
-    alloc: A,
-    source: &mut S,
-    len: u32,
-) -> Result<Vec<u8, A>, FrameFault>
-    requires { S.can_read source.old }
-    ensures len { IfOk result (λ body. length body.items ≡ len) }
-    ensures came { IfOk result
-        (λ body. Gave 0 0 body.items (S.state source.old) (S.state source.new)) }
-    ensures short { IfErr result
-        (λ fault. IsCutShort fault len (S.state source.old) (S.state source.new)) }
-    ensures lasts { (fact : S.Fact) → S.lasts source.old fact → S.lasts source.new fact }
-    ensures again { OnOk result (S.can_read source.new) }
-{
-    let mut body = Vec::new(alloc);
-    while body.len() < len as usize {
-        let count = (len as usize - body.len()).min(PIECE);
-        read_more(&mut body, source, count)?;
-    }
-    Ok(body)
-}
-
-// The next `count` bytes, behind those that came before.
-fn read_more<A: Allocator, S: Source>(
-    body: &mut Vec<u8, A>,
-    source: &mut S,
-    count: usize,
-) -> Result<(), FrameFault>
-    requires can { S.can_read source.old }
-    requires some { 0 < count }
-    requires fits { vec_len body.old + count < 2 ^ 32 }
-    ensures came { OnOk result (GrowsBy count body.old.items body.new.items (S.state source.old) (S.state source.new)) }
-    ensures short { IfErr result
-        (λ fault. IsCutShort fault count (S.state source.old) (S.state source.new)) }
-    ensures lasts { (fact : S.Fact) → S.lasts source.old fact → S.lasts source.new fact }
-    ensures again { OnOk result (S.can_read source.new) }
-{
-    let start = body.len();
-    body.resize(start + count, 0)?;
-    read_bytes(source, &mut body[start..])
-}
-
-// The next bytes of a body, as many as there is room for.
-pub(crate) fn read_bytes<S: Source>(source: &mut S, bytes: &mut [u8]) -> Result<(), FrameFault>
-    requires { S.can_read source.old }
-    ensures came { OnOk result (Gave 0 0 bytes.new (S.state source.old) (S.state source.new)) }
-    ensures short { IfErr result
-        (λ fault. IsCutShort fault (length bytes.new) (S.state source.old) (S.state source.new)) }
-    ensures lasts { (fact : S.Fact) → S.lasts source.old fact → S.lasts source.new fact }
-    ensures again { OnOk result (S.can_read source.new) }
-{
-    match fill(source, bytes) {
-        Ok(()) => Ok(()),
-        Err(FillFault::Failed(_)) => Err(FrameFault::Device),
         Err(FillFault::Ended(_)) => Err(FrameFault::Torn),
     }
 }

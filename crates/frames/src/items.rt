@@ -1,13 +1,14 @@
 //! Lists in bodies: texts of one length, one behind the other.
-ghost use Rattle.std.specs.Prelude.{◌≡◌, ◌++◌, ◌<◌, ◌≤◌, ◌↔◌, ◌%◌, length, map, All, OnOk, IfOk, IfErr, IfSome, IfNone, IsTrue};
+ghost use Rattle.std.specs.Prelude.{◌≡◌, ◌∷◌, ◌++◌, ◌+◌, ◌*◌, ◌<◌, ◌≤◌, ◌↔◌, ◌%◌, false, [], length, map, All, OnOk, IfOk, IfSome, IfNone, IsTrue, vec_len, vec_capacity};
 ghost use Rattle.std.specs.Int.{w32, from_be_bytes};
 ghost use Rattle.std.specs.List.{flat_map};
 ghost use Rattle.frames.specs.FrameText.{u32_text, is_narrow, are_narrow, link_text, wide_link_text, offer_text};
 ghost use Rattle.frames.specs.Lawful.{IsU32};
-ghost use Rattle.frames.specs.Refusals.{IsNoLink, LinksRefused};
+ghost use Rattle.frames.specs.Refusals.{IsNoLink, AreNoLinks};
+ghost use Rattle.frames.specs.Spellings.{spelled_in, size_in, FitIn, Pushes};
 
-use crate::fault::FrameFault;
-use crate::fields::{put_i64, put_u32, split_i64, split_u32};
+use crate::fields::{put_u32, split_i64, split_u32};
+use crate::spelling::Spelling;
 use limits::MAX_VERTICES;
 use link_key::Link;
 use std::alloc::{AllocError, Allocator};
@@ -61,24 +62,39 @@ fn fits_32_bits(link: &Link) -> bool
     (-0x8000_0000 <= link.weight) & (link.weight < 0x8000_0000)
 }
 
-// Writes links at the end, with weights of 32 bits.
-pub(crate) fn put_links<A: Allocator>(
-    text: &mut Vec<u8, A>,
-    links: &[Link],
-) -> Result<(), AllocError>
-    requires { IsTrue (are_narrow links.now) }
-    ensures { OnOk result (text.new.items ≡ text.old.items ++ flat_map link_text links.now) }
+/// Puts links behind a text that has room for them, in a spelling that they fit. It takes no memory, and writes each byte
+/// once.
+pub fn put_links<A: Allocator>(text: &mut Vec<u8, A>, spelling: Spelling, links: &[Link])
+    requires fit { FitIn spelling links.now }
+    requires room { vec_len text.old + size_in spelling * length links.now ≤ vec_capacity text.old }
+    ensures put { text.new.items ≡ text.old.items ++ flat_map (spelled_in spelling) links.now }
+    ensures room { vec_capacity text.old ≤ vec_capacity text.new }
+{
+    match spelling {
+        Spelling::Narrow => put_narrow_links(text, links),
+        Spelling::Wide => put_wide_links(text, links),
+    }
+}
+
+// Puts links with weights of 32 bits.
+fn put_narrow_links<A: Allocator>(text: &mut Vec<u8, A>, links: &[Link])
+    requires fit { IsTrue (are_narrow links.now) }
+    requires room { vec_len text.old + 12 * length links.now ≤ vec_capacity text.old }
+    ensures put { text.new.items ≡ text.old.items ++ flat_map link_text links.now }
+    ensures room { vec_capacity text.old ≤ vec_capacity text.new }
 {
     for link in links {
-        put_link(text, link)?;
+        put_narrow_link(text, link);
     }
-    Ok(())
 }
 
 // The fields are put all at once, so that room is asked for once a link.
-fn put_link<A: Allocator>(text: &mut Vec<u8, A>, link: &Link) -> Result<(), AllocError>
-    requires { IsTrue (is_narrow link.now) }
-    ensures { OnOk result (text.new.items ≡ text.old.items ++ link_text link.now) }
+fn put_narrow_link<A: Allocator>(text: &mut Vec<u8, A>, link: &Link)
+    requires fit { IsTrue (is_narrow link.now) }
+    requires room { vec_len text.old + 12 ≤ vec_capacity text.old }
+    ensures put { text.new.items ≡ text.old.items ++ link_text link.now }
+    ensures len { vec_len text.new ≡ vec_len text.old + 12 }
+    ensures room { vec_capacity text.old ≤ vec_capacity text.new }
 {
     let weight = link.weight as i32;
     let fields = [
@@ -86,22 +102,43 @@ fn put_link<A: Allocator>(text: &mut Vec<u8, A>, link: &Link) -> Result<(), Allo
         link.high.to_be_bytes(),
         weight.cast_unsigned().to_be_bytes(),
     ];
-    text.extend_from_slice(fields.as_flattened())
+    put_bytes(text, fields.as_flattened());
 }
 
-// Writes links at the end, with weights of 64 bits.
-pub(crate) fn put_wide_links<A: Allocator>(
-    text: &mut Vec<u8, A>,
-    links: &[Link],
-) -> Result<(), AllocError>
-    ensures { OnOk result (text.new.items ≡ text.old.items ++ flat_map wide_link_text links.now) }
+// Puts links with weights of 64 bits.
+fn put_wide_links<A: Allocator>(text: &mut Vec<u8, A>, links: &[Link])
+    requires room { vec_len text.old + 16 * length links.now ≤ vec_capacity text.old }
+    ensures put { text.new.items ≡ text.old.items ++ flat_map wide_link_text links.now }
+    ensures room { vec_capacity text.old ≤ vec_capacity text.new }
 {
     for link in links {
-        put_u32(text, link.low)?;
-        put_u32(text, link.high)?;
-        put_i64(text, link.weight)?;
+        put_wide_link(text, link);
     }
-    Ok(())
+}
+
+#[tactic(auto, unfolding(crate::specs::FrameText::u32_text, crate::specs::FrameText::i64_text))]
+fn put_wide_link<A: Allocator>(text: &mut Vec<u8, A>, link: &Link)
+    requires room { vec_len text.old + 16 ≤ vec_capacity text.old }
+    ensures put { text.new.items ≡ text.old.items ++ wide_link_text link.now }
+    ensures len { vec_len text.new ≡ vec_len text.old + 16 }
+    ensures room { vec_capacity text.old ≤ vec_capacity text.new }
+{
+    put_bytes(text, &link.low.to_be_bytes());
+    put_bytes(text, &link.high.to_be_bytes());
+    put_bytes(text, &link.weight.cast_unsigned().to_be_bytes());
+}
+
+// Puts bytes behind a text that has room for them.
+fn put_bytes<A: Allocator>(text: &mut Vec<u8, A>, bytes: &[u8])
+    requires room { vec_len text.old + length bytes.now ≤ vec_capacity text.old }
+    ensures put { text.new.items ≡ text.old.items ++ bytes.now }
+    ensures len { vec_len text.new ≡ vec_len text.old + length bytes.now }
+    ensures room { vec_capacity text.old ≤ vec_capacity text.new }
+{
+    match text.extend_from_slice(bytes) {
+        Ok(()) => {}
+        Err(_) => unreachable!(),
+    }
 }
 
 // Writes offers at the end.
@@ -180,24 +217,41 @@ pub(crate) fn offers_of<A: Allocator>(
     Ok(offers)
 }
 
-// The links whose bytes these are, with weights of 32 bits; `BadField` where they are no links.
-pub(crate) fn links_of<A: Allocator>(alloc: A, bytes: &[u8]) -> Result<Vec<Link, A>, FrameFault>
-    requires { length bytes.now % 12 ≡ 0 }
-    ensures spelled { IfOk result (λ links. flat_map link_text links.items ≡ bytes.now) }
-    ensures narrow { IfOk result (λ links. IsTrue (are_narrow links.items)) }
-    ensures refused { IfErr result (λ fault. LinksRefused fault link_text bytes.now) }
+// Pushes the links whose bytes these are, behind those that came before. It answers whether they are links: where one is
+// none, those before it were pushed.
+pub(crate) fn push_links<A: Allocator>(
+    links: &mut Vec<Link, A>,
+    spelling: Spelling,
+    bytes: &[u8],
+) -> Result<bool, AllocError>
+    requires { length bytes.now % size_in spelling ≡ 0 }
+    ensures pushed { IfOk result
+        (λ all. IsTrue all → Pushes spelling bytes.now links.old.items links.new.items) }
+    ensures refused { IfOk result (λ all. all ≡ false → AreNoLinks (spelled_in spelling) bytes.now) }
 {
-    let mut links = Vec::with_capacity(alloc, bytes.len() / 12)?;
     let mut rest = bytes;
     while !rest.is_empty() {
-        let (first, behind) = rest.split_at(12);
-        match link_of(first) {
+        let (first, behind) = rest.split_at(spelling.size());
+        match link_of(spelling, first) {
             Some(link) => links.push(link)?,
-            None => return Err(FrameFault::BadField),
+            None => return Ok(false),
         }
         rest = behind;
     }
-    Ok(links)
+    Ok(true)
+}
+
+// The link whose bytes these are.
+fn link_of(spelling: Spelling, bytes: &[u8]) -> Option<Link>
+    requires { length bytes.now ≡ size_in spelling }
+    ensures found { IfSome result (λ link. spelled_in spelling link ≡ bytes.now) }
+    ensures fits { IfSome result (λ link. FitIn spelling (link ∷ [])) }
+    ensures none { IfNone result (IsNoLink (spelled_in spelling) bytes.now) }
+{
+    match spelling {
+        Spelling::Narrow => narrow_link_of(bytes),
+        Spelling::Wide => wide_link_of(bytes),
+    }
 }
 
 // Whether these are a link's ends, the lower one first.
@@ -208,7 +262,7 @@ fn are_ends(low: u32, high: u32) -> bool
 }
 
 // The link whose bytes these are, with a weight of 32 bits.
-fn link_of(bytes: &[u8]) -> Option<Link>
+fn narrow_link_of(bytes: &[u8]) -> Option<Link>
     requires { length bytes.now ≡ 12 }
     ensures found { IfSome result (λ link. link_text link ≡ bytes.now) }
     ensures narrow { IfSome result (λ link. IsTrue (is_narrow link)) }
@@ -222,28 +276,6 @@ fn link_of(bytes: &[u8]) -> Option<Link>
     }
     let weight = i64::from(bits.cast_signed());
     Some(Link { weight, low, high })
-}
-
-// The links whose bytes these are, with weights of 64 bits; `BadField` where they are no links.
-pub(crate) fn wide_links_of<A: Allocator>(
-    alloc: A,
-    bytes: &[u8],
-) -> Result<Vec<Link, A>, FrameFault>
-    requires { length bytes.now % 16 ≡ 0 }
-    ensures spelled { IfOk result (λ links. flat_map wide_link_text links.items ≡ bytes.now) }
-    ensures refused { IfErr result (λ fault. LinksRefused fault wide_link_text bytes.now) }
-{
-    let mut links = Vec::with_capacity(alloc, bytes.len() / 16)?;
-    let mut rest = bytes;
-    while !rest.is_empty() {
-        let (first, behind) = rest.split_at(16);
-        match wide_link_of(first) {
-            Some(link) => links.push(link)?,
-            None => return Err(FrameFault::BadField),
-        }
-        rest = behind;
-    }
-    Ok(links)
 }
 
 // The link whose bytes these are, with a weight of 64 bits.

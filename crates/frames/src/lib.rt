@@ -10,6 +10,8 @@
 //!                                                   /                              \
 //!                       5 bytes --decode_head--> Head                body --decode_body--> Frame
 //! ```
+//! A shard goes out and comes by pieces too: [`shard_head`] and [`put_links`] make its text of some links at a time, and
+//! `read_frame` makes links of some bytes at a time.
 //!
 //! What it promises:
 //! - The encoders give exactly the text of a lawful frame, which has one, the same in both versions; no frame's text
@@ -20,10 +22,11 @@
 //!
 //! Where to start a change: the grammar stands in `specs/FrameText`, what a lawful frame says in `specs/Lawful`, and
 //! the refusals with their order in `specs/Refusals`. `fields` and `items` have a function for each field and list,
-//! `encoding` and `decoding` one for each kind; `frame_reader` takes a frame from a stream, and `next_frame` an ask by
-//! pieces (`specs/NextFrame`).
+//! `encoding` and `decoding` one for each kind; `frame_reader` takes a frame from a stream, `shard_reader` a shard by
+//! pieces (`specs/Spellings`), and `next_frame` an ask by pieces (`specs/NextFrame`).
 #![tactic(auto)]
 
+mod bodies;
 mod decoding;
 mod encoding;
 mod fault;
@@ -35,12 +38,18 @@ mod items;
 mod lawful;
 pub mod laws;
 mod next_frame;
+mod shard_reader;
+mod spelling;
 
 pub use decoding::decode_body;
-pub use encoding::{ask_parts, encode, encode_ask, encode_ask_over, encode_shard, fault_bytes};
+pub use encoding::{
+    SHARD_HEAD, ask_parts, encode, encode_ask, encode_ask_over, encode_shard, fault_bytes,
+    shard_head,
+};
 pub use fault::FrameFault;
 pub use frame::{Answer, Frame, Links, VERSION};
 pub use frame_reader::read_frame;
 pub use head::{Head, decode_head};
-pub use items::fit_32_bits;
+pub use items::{fit_32_bits, put_links};
 pub use next_frame::{NextFrame, read_next};
+pub use spelling::Spelling;

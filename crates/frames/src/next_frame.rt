@@ -15,10 +15,11 @@ ghost use Rattle.frames.specs.ReadFault.{IsReadRefused};
 ghost use Rattle.frames.specs.NextFrame.{next_value, numbers_of_ask, IsAskUnder, HearsMore, StayU32, BodyCame, IsBodyRefused, IsStopped};
 ghost use Rattle.frames.specs.declared.fault.FrameFault.TheVariants.{BadField};
 
+use crate::bodies::{read_body, read_bytes};
 use crate::fault::FrameFault;
 use crate::fields::split_u32;
 use crate::frame::Frame;
-use crate::frame_reader::{read_body, read_bytes, read_head, read_rest};
+use crate::frame_reader::{read_head, read_rest};
 use crate::head::Head;
 use crate::items::spells;
 use byte_streams::Source;

@@ -1,7 +1,13 @@
-use Rattle.std.proofs.Common.{◌≡◌, ◌++◌, take}
+-- The links so far stand behind the text, with room for the others.
+use Rattle.std.proofs.Common.{◌≡◌, ◌≤◌, ◌+◌, ◌*◌, ◌++◌, take}
+use Rattle.std.specs.Prelude.{vec_len, vec_capacity}
 use Rattle.std.specs.List.{flat_map}
 use Rattle.frames.specs.FrameText.{wide_link_text}
 use Rattle.frames.proofs.items.put_wide_links.Given as goal
 
 abbrev pub invariant-loop-link : goal.invariant-loop-link
-invariant-loop-link g l = l.text.items ≡ l.initial.text.items ++ flat_map wide_link_text (take l.link-index l.links)
+invariant-loop-link g l = record {
+  put : l.text.items ≡ l.initial.text.items ++ flat_map wide_link_text (take l.link-index l.links);
+  len : vec_len l.text ≡ vec_len l.initial.text + 16 * l.link-index;
+  room : vec_capacity l.initial.text ≤ vec_capacity l.text;
+}

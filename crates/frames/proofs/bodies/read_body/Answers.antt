@@ -1,7 +1,7 @@
 use Rattle.std.proofs.Common.{◌≤◌, ◌+◌, length, rules}
 use Rattle.std.proofs.lemmas.Result.{err_from_is_err_and}
 use Rattle.frames.proofs.Streams.{cut_more}
-use Rattle.frames.proofs.frame_reader.read_body.Goals as goal
+use Rattle.frames.proofs.bodies.read_body.Goals as goal
 
 pub returns-in_err-read_more-clause-short : goal.returns-in_err-read_more-clause-short
 returns-in_err-read_more-clause-short g c =

@@ -3,7 +3,7 @@ use Rattle.std.specs.Int.{w32, w64}
 use Rattle.std.proofs.lemmas.Int.{to_z-of_z}
 use Rattle.frames.specs.FrameText.{i32_text}
 use Rattle.frames.proofs.Listed.{link_unlike, link_back}
-use Rattle.frames.proofs.items.link_of.Goals as goal
+use Rattle.frames.proofs.items.narrow_link_of.Goals as goal
 
 pub returns-then-not-are_ends-clause-none : goal.returns-then-not-are_ends-clause-none
 returns-then-not-are_ends-clause-none c =

@@ -1,7 +1,7 @@
 -- What came stands in the body, and no read failed or found the end.
 use Rattle.std.proofs.Common.{length, ◌-◌, ◌≤◌}
 use Rattle.byte_streams.specs.Streams.{Gave}
-use Rattle.frames.proofs.frame_reader.read_body.Given as goal
+use Rattle.frames.proofs.bodies.read_body.Given as goal
 
 abbrev pub invariant-loop-body : goal.invariant-loop-body
 invariant-loop-body g l = record {

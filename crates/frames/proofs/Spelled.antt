@@ -1,0 +1,160 @@
+-- Links in either spelling.
+use Rattle.std.proofs.Common.{◌≡◌, ℕ, ◌+◌, ◌*◌, ◌/◌, ◌%◌, ◌^◌, ◌<◌, ◌≤◌, Bool, true, false, cond, List, [], ◌∷◌, ◌++◌, length, take, drop, refl, sym, ap, subst, ◌∙◌, append_assoc, append-nil, arith}
+use Rattle.std.specs.List.{flat_map}
+use Rattle.std.proofs.lemmas.Bool.{and_parts, and_from}
+use Rattle.std.proofs.lemmas.List.{length-append, length-take, take-append-drop}
+use Rattle.std.proofs.lemmas.Grind.{flat_map-append}
+use Rattle.link_key.specs.declared.links.Link.{Link}
+use Rattle.frames.specs.FrameText.{are_narrow, links_text}
+use Rattle.frames.specs.Refusals.{AreNoLinks, IsNoLink}
+use Rattle.frames.specs.Spellings.{spelled_in, size_in, kind_in, spelling_of, FitIn, Spells, Pushes}
+use Rattle.frames.specs.declared.spelling.Spelling.{Spelling}
+use Rattle.frames.specs.declared.spelling.Spelling.TheVariants.{Narrow, Wide}
+use Rattle.frames.proofs.Texts.{parts_same, link_length, wide_link_length, items_length, narrow_text, wide_text}
+use Rattle.frames.proofs.Listed.{narrow-append, no_links_behind}
+use Rattle.frames.proofs.OneText.{narrow_same, wide_same}
+
+-- ---- sizes
+
+pub size_some : (s : Spelling) → 0 < size_in s
+size_some Narrow = omega arith
+size_some Wide = omega arith
+
+-- a shard's links have few bytes
+pub size_few : (s : Spelling) (n : ℕ) → n ≤ 2 ^ 24 → size_in s * n ≤ 2 ^ 28
+size_few Narrow n few = omega arith
+size_few Wide n few = omega arith
+
+pub spelled_length : (s : Spelling) (l : Link) → length (spelled_in s l) ≡ size_in s
+spelled_length Narrow l = link_length l
+spelled_length Wide l = wide_link_length l
+
+pub length_in : (s : Spelling) (links : List Link) → length (flat_map (spelled_in s) links) ≡ size_in s * length links
+length_in s links = items_length (spelled_in s) (size_in s) (spelled_length s) links
+
+-- so many bytes are of so many links
+pub counted_in : (s : Spelling) (len count : ℕ) → len ≡ size_in s * count → len / size_in s ≡ count
+counted_in Narrow len count is = omega (arith, is)
+counted_in Wide len count is = omega (arith, is)
+
+fewer : (s : Spelling) (k m n : ℕ) → size_in s * k + m ≡ size_in s * n → k ≤ n
+fewer Narrow k m n is = omega (arith, is)
+fewer Wide k m n is = omega (arith, is)
+
+-- ---- the spelling of a list
+
+cond_narrow : (b : Bool) → cond b Narrow Wide ≡ Narrow → b ≡ true
+cond_narrow true is = refl
+cond_narrow false is = cc
+
+cond_wide : (b : Bool) → cond b Narrow Wide ≡ Wide → b ≡ false
+cond_wide true is = cc
+cond_wide false is = refl
+
+pub fit_of : (s : Spelling) (links : List Link) → spelling_of links ≡ s → FitIn s links
+fit_of Narrow links is = cond_narrow (are_narrow links) is
+fit_of Wide links is = tt
+
+pub text_in : (s : Spelling) (links : List Link) → spelling_of links ≡ s → links_text links ≡ flat_map (spelled_in s) links
+text_in Narrow links is = narrow_text links (cond_narrow (are_narrow links) is)
+text_in Wide links is = wide_text links (cond_wide (are_narrow links) is)
+
+kind_cond : (b : Bool) (s : Spelling) → cond b 2 6 ≡ kind_in s → cond b Narrow Wide ≡ s
+kind_cond true Narrow is = refl
+kind_cond true Wide is = absurd (omega (arith, is))
+kind_cond false Narrow is = absurd (omega (arith, is))
+kind_cond false Wide is = refl
+
+cond_kind : (b : Bool) (s : Spelling) → cond b Narrow Wide ≡ s → cond b 2 6 ≡ kind_in s
+cond_kind true s is = ap kind_in is
+cond_kind false s is = ap kind_in is
+
+pub spelling_by_kind : (s : Spelling) (links : List Link) → cond (are_narrow links) 2 6 ≡ kind_in s → spelling_of links ≡ s
+spelling_by_kind s links is = kind_cond (are_narrow links) s is
+
+pub kind_by_spelling : (s : Spelling) (links : List Link) → spelling_of links ≡ s → cond (are_narrow links) 2 6 ≡ kind_in s
+kind_by_spelling s links is = cond_kind (are_narrow links) s is
+
+-- ---- links that fit
+
+pub fit_append : (s : Spelling) (a b : List Link) → FitIn s a → FitIn s b → FitIn s (a ++ b)
+fit_append Narrow a b first second = narrow-append a b ∙ and_from (are_narrow a) (are_narrow b) first second
+fit_append Wide a b first second = tt
+
+pub fit_parts : (s : Spelling) (a b : List Link) → FitIn s (a ++ b) → FitIn s a × FitIn s b
+fit_parts Narrow a b all = and_parts (are_narrow a) (are_narrow b) (sym (narrow-append a b) ∙ all)
+fit_parts Wide a b all = (tt, tt)
+
+pub fit_none : (s : Spelling) → FitIn s []
+fit_none Narrow = refl
+fit_none Wide = tt
+
+-- links that fit a spelling and have one text are the same
+pub spelled_same : (s : Spelling) (a b : List Link) → FitIn s a → FitIn s b → flat_map (spelled_in s) a ≡ flat_map (spelled_in s) b → a ≡ b
+spelled_same Narrow a b first second same = narrow_same a b first second same
+spelled_same Wide a b first second same = wide_same a b same
+
+-- ---- links and more links
+
+pub spells_none : (s : Spelling) → Spells s [] []
+spells_none s = record { fit = fit_none s; bytes_are = refl }
+
+pub spells_more : (s : Spelling) (a b : List Link) (x y : List ℕ) → Spells s a x → Spells s b y → Spells s (a ++ b) (x ++ y)
+spells_more s a b x y first second = record {
+  fit = fit_append s a b first.fit second.fit;
+  bytes_are = flat_map-append (spelled_in s) a b ∙ ap (λ (t : List ℕ). t ++ flat_map (spelled_in s) b) first.bytes_are ∙ ap (λ (t : List ℕ). x ++ t) second.bytes_are;
+}
+
+-- bytes of so many links, and those behind them, part where the links do
+links_split : (s : Spelling) (links : List Link) (x y : List ℕ) (k : ℕ) → length x ≡ size_in s * k → flat_map (spelled_in s) links ≡ x ++ y
+    → (flat_map (spelled_in s) (take k links) ≡ x) × (flat_map (spelled_in s) (drop k links) ≡ y)
+links_split s links x y k count same =
+    let f = spelled_in s in
+    let total : size_in s * k + length y ≡ size_in s * length links = ap (λ (n : ℕ). n + length y) (sym count) ∙ sym (length-append x y) ∙ sym (ap length same) ∙ length_in s links in
+    let enough : k ≤ length links = fewer s k (length y) (length links) total in
+    let taken : length (take k links) ≡ k = omega (arith, length-take k links) in
+    let parted : flat_map f (take k links) ++ flat_map f (drop k links) ≡ x ++ y = sym (flat_map-append f (take k links) (drop k links)) ∙ ap (flat_map f) (take-append-drop k links) ∙ same in
+    parts_same (flat_map f (take k links)) x (flat_map f (drop k links)) y (length_in s (take k links) ∙ ap (λ (n : ℕ). size_in s * n) taken ∙ sym count) parted
+
+pub none_before : (s : Spelling) (x y : List ℕ) (k : ℕ) → length x ≡ size_in s * k → AreNoLinks (spelled_in s) x → AreNoLinks (spelled_in s) (x ++ y)
+none_before s x y k count none links same = none (take k links) (links_split s links x y k count same).0
+
+pub none_behind_them : (s : Spelling) (x y : List ℕ) (k : ℕ) → length x ≡ size_in s * k → AreNoLinks (spelled_in s) y → AreNoLinks (spelled_in s) (x ++ y)
+none_behind_them s x y k count none links same = none (drop k links) (links_split s links x y k count same).1
+
+-- ---- one link after another
+
+-- some bytes of whole links have one at least
+pub one_at_least : (s : Spelling) (n : ℕ) → n % size_in s ≡ 0 → 0 < n → size_in s ≤ n
+one_at_least Narrow n whole some = omega (arith, whole)
+one_at_least Wide n whole some = omega (arith, whole)
+
+pub whole_behind : (s : Spelling) (m n : ℕ) → n % size_in s ≡ 0 → m + size_in s ≡ n → m % size_in s ≡ 0
+whole_behind Narrow m n whole is = omega (arith, whole, is)
+whole_behind Wide m n whole is = omega (arith, whole, is)
+
+pub whole_of : (s : Spelling) (n count : ℕ) → n ≡ size_in s * count → n % size_in s ≡ 0
+whole_of Narrow n count is = omega (arith, is)
+whole_of Wide n count is = omega (arith, is)
+
+-- a link that was pushed behind those of the bytes before its own
+pub pushed_one : (s : Spelling) (new old before more : List Link) (link : Link) (bytes rest first behind : List ℕ)
+    → new ≡ old ++ link ∷ [] → old ≡ before ++ more → flat_map (spelled_in s) more ++ rest ≡ bytes → FitIn s more
+    → first ≡ take (size_in s) rest → behind ≡ drop (size_in s) rest → spelled_in s link ≡ first → FitIn s (link ∷ [])
+    → (new ≡ before ++ (more ++ link ∷ [])) × (flat_map (spelled_in s) (more ++ link ∷ []) ++ behind ≡ bytes) × FitIn s (more ++ link ∷ [])
+pushed_one s new old before more link bytes rest first behind pushed so_far read fits front back spelled fit =
+    let f = spelled_in s in
+    let split : rest ≡ f link ++ behind = sym (take-append-drop (size_in s) rest) ∙ ap (λ (t : List ℕ). t ++ drop (size_in s) rest) (sym front ∙ sym spelled) ∙ ap (λ (t : List ℕ). f link ++ t) (sym back) in (
+      pushed ∙ ap (λ (t : List Link). t ++ link ∷ []) so_far ∙ append_assoc before more (link ∷ []),
+      ap (λ (t : List ℕ). t ++ behind) (flat_map-append f more (link ∷ []) ∙ ap (λ (t : List ℕ). flat_map f more ++ t) (append-nil (f link)))
+          ∙ append_assoc (flat_map f more) (f link) behind ∙ ap (λ (t : List ℕ). flat_map f more ++ t) (sym split) ∙ read,
+      fit_append s more (link ∷ []) fits fit,
+    )
+
+pub no_link_behind : (s : Spelling) (more : List Link) (bytes rest first behind : List ℕ) → flat_map (spelled_in s) more ++ rest ≡ bytes → first ≡ take (size_in s) rest → behind ≡ drop (size_in s) rest
+    → length first ≡ size_in s → IsNoLink (spelled_in s) first → AreNoLinks (spelled_in s) bytes
+no_link_behind s more bytes rest first behind = no_links_behind (spelled_in s) (size_in s) (size_some s) (spelled_length s) more bytes rest first behind
+
+-- links that were pushed into an empty list
+pub spells_pushed : (s : Spelling) (bytes : List ℕ) (before after : List Link) → before ≡ [] → Pushes s bytes before after → Spells s after bytes
+spells_pushed s bytes before after empty (more, is, spelled) = subst (λ (ls : List Link). Spells s ls bytes) (sym (is ∙ ap (λ (t : List Link). t ++ more) empty)) spelled

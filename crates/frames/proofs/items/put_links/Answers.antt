@@ -1,8 +1,0 @@
-use Rattle.std.proofs.Common.{ap, ◌∙◌}
-use Rattle.frames.specs.FrameText.{is_narrow}
-use Rattle.frames.proofs.Listed.{narrow_at}
-use Rattle.frames.proofs.items.put_links.Goals as goal
-
-pub put_link-requires : goal.put_link-requires
-put_link-requires g c =
-    ap is_narrow c.link-item.is ∙ narrow_at c.args.links.now c.loop-link.link-index c.link-item.result c.requires c.loop-link-test.true

@@ -1,0 +1,54 @@
+use Rattle.std.proofs.Common.{arith, rules}
+use Rattle.std.proofs.lemmas.Result.{IfOk-weaker, IfErr-weaker, err_from_is_err_and}
+use Rattle.frames.specs.FrameValue.{value_of}
+use Rattle.frames.proofs.ShardPieces.{shard_unlawful, shard_unpassed, shard_stopped, shard_came, no_shard_came, no_links_came, passed_so_many, unpassed_so_many}
+use Rattle.frames.proofs.shard_reader.read_shard.Goals.{then-number-ge-MAX_SHARDS-via-then-number-ge-MAX_SHARDS, then-number-ge-MAX_SHARDS-via-else-number-ge-MAX_SHARDS+then-count-most}
+use Rattle.frames.proofs.shard_reader.read_shard.Goals as goal
+
+pub returns-in_err-pass_over-clause-refused : goal.returns-in_err-pass_over-clause-refused
+returns-in_err-pass_over-clause-refused g c =
+    let p = err_from_is_err_and c.from_residual-in_err-pass_over.result c.from_residual-in_err-pass_over.ensures.1 in
+    rw (p.1, p.2) (shard_unpassed c.args.spelling c.read_bytes.new.bytes _ _ c.split_u32-number.result.0 c.split_u32-count.result.0 c.args.most (search rules)
+    c.split_u32-number.ensures.fits c.split_u32-count.ensures.fits c.split_u32-number.ensures.parts c.split_u32-count.ensures.parts
+    _ _ _ _ c.in_ok-read_bytes.ensures.came (unpassed_so_many _ _ _ _ _ c.bytes_of.ensures c.in_err-pass_over.ensures.short))
+
+pub returns-then-number-ge-MAX_SHARDS-clause-refused : goal.returns-then-number-ge-MAX_SHARDS-clause-refused
+returns-then-number-ge-MAX_SHARDS-clause-refused g c =
+    shard_unlawful c.args.spelling c.read_bytes.new.bytes _ _ c.split_u32-number.result.0 c.split_u32-count.result.0 c.args.most (search rules)
+    c.split_u32-number.ensures.fits c.split_u32-count.ensures.fits c.split_u32-number.ensures.parts c.split_u32-count.ensures.parts
+    _ _ _ c.in_ok-read_bytes.ensures.came (passed_so_many _ _ _ _ c.bytes_of.ensures c.in_ok-pass_over.ensures.came)
+    (λ low counted. elim c.then-number-ge-MAX_SHARDS.branch [ then-number-ge-MAX_SHARDS-via-then-number-ge-MAX_SHARDS w ↦ omega arith | then-number-ge-MAX_SHARDS-via-else-number-ge-MAX_SHARDS+then-count-most w ↦ w.if-count-most.true counted ])
+
+pub returns-in_err-links-clause-refused : goal.returns-in_err-links-clause-refused
+returns-in_err-links-clause-refused g c =
+    let p = err_from_is_err_and c.from_residual-in_err-links.result c.from_residual-in_err-links.ensures.1 in
+    rw (p.1, p.2) (shard_stopped c.args.spelling c.read_bytes.new.bytes _ _ c.split_u32-number.result.0 c.split_u32-count.result.0 c.args.most (search rules)
+    c.split_u32-number.ensures.fits c.split_u32-count.ensures.fits c.split_u32-number.ensures.parts c.split_u32-count.ensures.parts
+    c.if-number-ge-MAX_SHARDS.false c.if-count-most.false c.requires.few _ _ _ _ c.in_ok-read_bytes.ensures.came c.in_err-links.ensures.stopped)
+
+pub returns-in-Some-clause-came : goal.returns-in-Some-clause-came
+returns-in-Some-clause-came g c =
+    IfOk-weaker _ _ _
+    (λ f is.
+    shard_came c.args.spelling c.read_bytes.new.bytes _ _ c.split_u32-number.result.0 c.split_u32-count.result.0 c.args.most (search rules)
+    c.split_u32-number.ensures.fits c.split_u32-count.ensures.fits c.split_u32-number.ensures.parts c.split_u32-count.ensures.parts
+    c.if-number-ge-MAX_SHARDS.false c.if-count-most.false c.requires.few
+    _ _ _ _ c.in_ok-read_bytes.ensures.came c.in_ok-links.ensures.came c.in-Some.links (value_of f) c.in-Some.is is)
+    c.shard_of.ensures.frame
+
+pub returns-in-Some-clause-refused : goal.returns-in-Some-clause-refused
+returns-in-Some-clause-refused g c =
+    IfErr-weaker _ _ _
+    (λ fault is.
+    no_shard_came c.args.spelling c.read_bytes.new.bytes _ _ c.split_u32-number.result.0 c.split_u32-count.result.0 c.args.most (search rules)
+    c.split_u32-number.ensures.fits c.split_u32-count.ensures.fits c.split_u32-number.ensures.parts c.split_u32-count.ensures.parts
+    c.if-number-ge-MAX_SHARDS.false c.if-count-most.false c.requires.few
+    _ _ _ _ c.in_ok-read_bytes.ensures.came c.in_ok-links.ensures.came c.in-Some.links fault c.in-Some.is is)
+    c.shard_of.ensures.refused
+
+pub returns-in-None-clause-refused : goal.returns-in-None-clause-refused
+returns-in-None-clause-refused g c =
+    no_links_came c.args.spelling c.read_bytes.new.bytes _ _ c.split_u32-number.result.0 c.split_u32-count.result.0 c.args.most (search rules)
+    c.split_u32-number.ensures.fits c.split_u32-count.ensures.fits c.split_u32-number.ensures.parts c.split_u32-count.ensures.parts
+    c.if-number-ge-MAX_SHARDS.false c.if-count-most.false c.requires.few
+    _ _ _ _ c.in_ok-read_bytes.ensures.came c.in_ok-links.ensures.came c.in-None.is

@@ -1,0 +1,65 @@
+-- The two spellings of a shard's links, and lists of links as they come in one.
+use Rattle.std.specs.Prelude.{◌≡◌, ℕ, ◌*◌, ⊤, if◌then◌else◌, IsTrue, List, ◌++◌, length, Option, Some, None, Vec}
+use Rattle.std.specs.List.{flat_map}
+use Rattle.byte_streams.specs.Streams.{SourceState, Gave}
+use Rattle.link_key.specs.declared.links.Link.{Link}
+use Rattle.frames.specs.FrameText.{are_narrow, link_text, wide_link_text}
+use Rattle.frames.specs.Refusals.{AreNoLinks}
+use Rattle.frames.specs.declared.spelling.Spelling.{Spelling}
+use Rattle.frames.specs.declared.spelling.Spelling.TheVariants.{Narrow, Wide}
+
+-- the text of a link in a spelling
+abbrev pub spelled_in : Spelling → Link → List ℕ
+spelled_in Narrow l = link_text l
+spelled_in Wide l = wide_link_text l
+
+-- how many bytes that is
+abbrev pub size_in : Spelling → ℕ
+size_in Narrow = 12
+size_in Wide = 16
+
+-- the kind of a shard's frame
+abbrev pub kind_in : Spelling → ℕ
+kind_in Narrow = 2
+kind_in Wide = 6
+
+-- the spelling of a shard with these links
+abbrev pub spelling_of : List Link → Spelling
+spelling_of links = if are_narrow links then Narrow else Wide
+
+-- links that a spelling has room for: any, or those whose weights fit 32 bits
+abbrev pub FitIn : Spelling → List Link → Type 0
+FitIn Narrow links = IsTrue (are_narrow links)
+FitIn Wide links = ⊤
+
+-- these links have these bytes
+pub record Spells (s : Spelling) (links : List Link) (bytes : List ℕ) : Type 0 where
+  pub fit : FitIn s links
+  pub bytes_are : flat_map (spelled_in s) links ≡ bytes
+
+-- behind the links of before stand those that have these bytes
+abbrev pub Pushes : Spelling → List ℕ → List Link → List Link → Type 0
+Pushes s bytes before after = (more : List Link) × (after ≡ before ++ more) × Spells s more bytes
+
+-- the links of these bytes, or none where no links have them
+abbrev pub AreLinksOf : {A : Type 0} → Spelling → List ℕ → Option (Vec Link A) → Type 0
+AreLinksOf s bytes (Some links) = Spells s links.items bytes
+AreLinksOf s bytes None = AreNoLinks (spelled_in s) bytes
+
+-- behind the bytes of some links that came so far, these were heard too
+abbrev pub HearsLinks : {A : Type 0} → Spelling → List ℕ → Option (Vec Link A) → Option (Vec Link A) → Type 0
+HearsLinks s piece before after =
+    (bytes : List ℕ) (count : ℕ) → length bytes ≡ size_in s * count → AreLinksOf s bytes before → AreLinksOf s (bytes ++ piece) after
+
+-- the bytes of so many links came, and these are the links
+pub record LinksCame {A : Type 0} (s : Spelling) (count : ℕ) (links : Option (Vec Link A)) (before after : SourceState) : Type 0 where
+  pub bytes : List ℕ
+  pub counted : length bytes ≡ size_in s * count
+  pub gave : Gave 0 0 bytes before after
+  pub are : AreLinksOf s bytes links
+
+-- so many bytes came
+pub record BytesCame (count : ℕ) (before after : SourceState) : Type 0 where
+  pub bytes : List ℕ
+  pub counted : length bytes ≡ count
+  pub gave : Gave 0 0 bytes before after

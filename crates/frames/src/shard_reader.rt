@@ -1,0 +1,158 @@
+//! Shards from a stream: the links come by pieces through one buffer, and are pushed into the list that the frame owns.
+//! So the bytes of a shard are never stored, and those of a piece become links while the next ones are on their way.
+ghost use Rattle.std.specs.Prelude.{◌≡◌, ℕ, ◌+◌, ◌*◌, ◌%◌, ◌≤◌, List, length, IfOk, IfErr, OnOk};
+ghost use Rattle.byte_streams.specs.Streams.{Gave};
+ghost use Rattle.frames.specs.FrameValue.{value_of};
+ghost use Rattle.frames.specs.ReadFault.{IsCutShort};
+ghost use Rattle.frames.specs.NextFrame.{BodyCame, IsBodyRefused, IsStopped};
+ghost use Rattle.frames.specs.declared.spelling.Spelling.{Spelling};
+ghost use Rattle.frames.specs.Spellings.{size_in, kind_in, AreLinksOf, HearsLinks, LinksCame, BytesCame};
+
+use crate::bodies::read_bytes;
+use crate::decoding::shard_of;
+use crate::fault::FrameFault;
+use crate::fields::split_u32;
+use crate::frame::Frame;
+use crate::items::push_links;
+use crate::spelling::Spelling;
+use byte_streams::Source;
+use limits::{MAX_SHARD_LINKS, MAX_SHARDS};
+use link_key::Link;
+use std::alloc::{AllocError, Allocator};
+
+// How many bytes of links come at a time.
+const PIECE: usize = 65_536;
+
+// The shard whose head came, with a length for so many links. Its fields are judged first. Where they or some link are
+// refused, the rest is taken all the same, and not kept: a stream may end in it.
+pub(crate) fn read_shard<A: Allocator + Copy, S: Source>(
+    alloc: A,
+    source: &mut S,
+    spelling: Spelling,
+    most: usize,
+) -> Result<Frame<A>, FrameFault>
+    requires few { most ≤ MAX_SHARD_LINKS }
+    requires can { S.can_read source.old }
+    ensures came { IfOk result (λ f. BodyCame (value_of f) (kind_in spelling) (8 + size_in spelling * most)
+        (S.state source.old) (S.state source.new)) }
+    ensures refused { IfErr result (λ fault. IsBodyRefused fault (kind_in spelling) (8 + size_in spelling * most)
+        (S.state source.old) (S.state source.new)) }
+    ensures lasts { (fact : S.Fact) → S.lasts source.old fact → S.lasts source.new fact }
+    ensures again { OnOk result (S.can_read source.new) }
+{
+    let mut fields = [0; 8];
+    read_bytes(source, &mut fields)?;
+    let (number, rest) = split_u32(&fields);
+    let (count, _) = split_u32(rest);
+    let mut buffer = [0; PIECE];
+    if number as usize >= MAX_SHARDS || count as usize != most {
+        pass_over(source, spelling.bytes_of(most), &mut buffer)?;
+        return Err(FrameFault::BadField);
+    }
+    match read_links(alloc, source, spelling, most, &mut buffer)? {
+        Some(links) => shard_of(spelling, number, links),
+        None => Err(FrameFault::BadField),
+    }
+}
+
+// Takes so many bytes, and keeps none.
+fn pass_over<S: Source>(source: &mut S, len: usize, buffer: &mut [u8]) -> Result<(), FrameFault>
+    requires room { length buffer.old ≡ PIECE }
+    requires can { S.can_read source.old }
+    ensures came { OnOk result (BytesCame len (S.state source.old) (S.state source.new)) }
+    ensures short { IfErr result
+        (λ fault. IsCutShort fault len (S.state source.old) (S.state source.new)) }
+    ensures lasts { (fact : S.Fact) → S.lasts source.old fact → S.lasts source.new fact }
+    ensures again { OnOk result (S.can_read source.new) }
+{
+    let mut came = 0;
+    while came < len {
+        let count = (len - came).min(PIECE);
+        read_bytes(source, &mut buffer[..count])?;
+        came += count;
+    }
+    Ok(())
+}
+
+// The next links of a stream; none where some are refused.
+fn read_links<A: Allocator + Copy, S: Source>(
+    alloc: A,
+    source: &mut S,
+    spelling: Spelling,
+    count: usize,
+    buffer: &mut [u8],
+) -> Result<Option<Vec<Link, A>>, FrameFault>
+    requires room { length buffer.old ≡ PIECE }
+    requires few { count ≤ MAX_SHARD_LINKS }
+    requires can { S.can_read source.old }
+    ensures came { IfOk result
+        (λ links. LinksCame spelling count links (S.state source.old) (S.state source.new)) }
+    ensures stopped { IfErr result
+        (λ fault. IsStopped fault (size_in spelling * count) (S.state source.old) (S.state source.new)) }
+    ensures lasts { (fact : S.Fact) → S.lasts source.old fact → S.lasts source.new fact }
+    ensures again { OnOk result (S.can_read source.new) }
+{
+    let mut links = Some(Vec::new(alloc));
+    let mut came = 0;
+    while came < count {
+        let more = (count - came).min(spelling.links_in(PIECE));
+        let piece = &mut buffer[..spelling.bytes_of(more)];
+        read_piece(source, &mut links, spelling, more, piece)?;
+        came += more;
+    }
+    Ok(links)
+}
+
+// Reads the bytes of so many links, behind those that came before. Room for the links is taken before they come.
+fn read_piece<A: Allocator, S: Source>(
+    source: &mut S,
+    links: &mut Option<Vec<Link, A>>,
+    spelling: Spelling,
+    count: usize,
+    piece: &mut [u8],
+) -> Result<(), FrameFault>
+    requires whole { length piece.old ≡ size_in spelling * count }
+    requires can { S.can_read source.old }
+    ensures len { length piece.new ≡ length piece.old }
+    ensures came { OnOk result (Gave 0 0 piece.new (S.state source.old) (S.state source.new)) }
+    ensures heard { OnOk result (HearsLinks spelling piece.new links.old links.new) }
+    ensures stopped { IfErr result
+        (λ fault. IsStopped fault (size_in spelling * count) (S.state source.old) (S.state source.new)) }
+    ensures lasts { (fact : S.Fact) → S.lasts source.old fact → S.lasts source.new fact }
+    ensures again { OnOk result (S.can_read source.new) }
+{
+    make_room(links, count)?;
+    read_bytes(source, piece)?;
+    hear_links(links, spelling, piece)?;
+    Ok(())
+}
+
+// Room for so many links more, unless some were refused.
+fn make_room<A: Allocator>(links: &mut Option<Vec<Link, A>>, count: usize) -> Result<(), AllocError>
+    ensures { (spelling : Spelling) (bytes : List ℕ) → AreLinksOf spelling bytes links.old → AreLinksOf spelling bytes links.new }
+{
+    match links {
+        Some(list) => list.reserve(count),
+        None => Ok(()),
+    }
+}
+
+// Hears the bytes of the next links, behind those that came before.
+fn hear_links<A: Allocator>(
+    links: &mut Option<Vec<Link, A>>,
+    spelling: Spelling,
+    piece: &[u8],
+) -> Result<(), AllocError>
+    requires { length piece.now % size_in spelling ≡ 0 }
+    ensures { OnOk result (HearsLinks spelling piece.now links.old links.new) }
+{
+    match links {
+        Some(list) => {
+            if !push_links(list, spelling, piece)? {
+                *links = None;
+            }
+            Ok(())
+        }
+        None => Ok(()),
+    }
+}
