@@ -38,7 +38,7 @@ pub then_failed : (a b c : LineState) (said came : List ℕ) → Transfers 0 0 s
 then_failed a b c said came first second = failed_of a c (said ++ []) (came ++ []) (went_then 0 0 1 0 said came [] [] a b c first second)
 
 -- a part that wasn't put, behind one that was
-pub down_later : (r : Result (Unit {0}) PortFault) (a b c : LineState) (said came : List ℕ) → Transfers 0 0 said came a b
+pub down_later : {T : Type 0} (r : Result T PortFault) (a b c : LineState) (said came : List ℕ) → Transfers 0 0 said came a b
     → IfErr r (λ e. e ≡ Down) → IfErr r (λ e. SendingFault e b c) → IfErr r (λ e. SendingFault e a c)
 down_later (Ok put) a b c said came went down fault = tt
 down_later (Err e) a b c said came went down fault =

@@ -1,6 +1,7 @@
 pub mod GivenBytes
 pub mod PortCalls
 pub mod Going
+pub mod SendingPieces
 pub mod LineReads
 pub mod Refused
 pub mod Asking

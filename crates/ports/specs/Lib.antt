@@ -5,6 +5,7 @@ pub mod Exchanges
 pub mod LineSources
 pub mod Clients
 pub mod Causes
+pub mod Sending
 pub mod EngineLines
 pub mod LineLaws
 pub mod Wires

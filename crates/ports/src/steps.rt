@@ -1,25 +1,28 @@
-//! The steps of an ask over a line: hear the hello, send the shard, send the ask, hear the answer.
-ghost use Rattle.std.specs.Prelude.{◌≡◌, ℕ, ◌<◌, ◌≤◌, ◌==◌, ◌||◌, ◌++◌, length, Some, None, IfSome, IfOk, OnOk, IfErr};
-ghost use Rattle.frames.specs.FrameValue.{AskFrame, AnswerFrame, value_of};
+//! The steps of an ask over a line: hear the hello, send the shard by pieces, send the ask, hear the answer.
+ghost use Rattle.std.specs.Prelude.{◌≡◌, ℕ, ◌<◌, ◌≤◌, ◌==◌, ◌||◌, [], ◌++◌, length, Some, None, IfSome, IfOk, OnOk, IfErr};
+ghost use Rattle.std.specs.List.{flat_map};
+ghost use Rattle.frames.specs.FrameValue.{ShardFrame, AskFrame, AnswerFrame, value_of};
 ghost use Rattle.frames.specs.FrameText.{text_of};
 ghost use Rattle.frames.specs.Lawful.{IsVersion, IsAnswer, IsLawful};
 ghost use Rattle.frames.specs.FrameStream.{texts_of};
+ghost use Rattle.frames.specs.Spellings.{spelled_in, spelling_of};
 ghost use Rattle.shard_set.specs.Shards.{has_shard};
 ghost use Rattle.ports.specs.Lines.{HasRoom};
 ghost use Rattle.ports.specs.Causes.{Transmits, Receives, GreetingFault, SendingFault, LacksFrame, AnswerFault, FailsToRead, port_fault};
 ghost use Rattle.ports.specs.Clients.{HasFrames, hello_due, shard_put};
+ghost use Rattle.ports.specs.Sending.{AwaitsLinks, PutsSome};
 
 use crate::fault::PortFault;
 use crate::line::Line;
 use crate::line_source::LineSource;
 use frames::{
-    Answer, Frame, FrameFault, VERSION, ask_parts, encode_ask_over, encode_shard, fit_32_bits,
-    read_frame,
+    Answer, Frame, FrameFault, SHARD_HEAD, Spelling, VERSION, ask_parts, encode_ask_over,
+    fit_32_bits, put_links, read_frame, shard_head,
 };
 use limits::{MAX_SHARD_LINKS, MAX_SHARDS};
-use link_key::{Labels, Shard};
+use link_key::{Labels, Link, Shard};
 use shard_set::ShardSet;
-use std::alloc::Allocator;
+use std::alloc::{AllocError, Allocator};
 
 // The version of the worker's hello; hears the hello, unless it came before, of the version `heard`.
 pub fn greet<L: Line, A: Allocator + Copy>(
@@ -71,10 +74,15 @@ pub fn check_version(version: u16, sent: &ShardSet, part: &Shard) -> Result<(), 
     Err(PortFault::TooOld)
 }
 
-// Sends the shard, unless it was sent before.
+// How many bytes of a shard go out by one put, at most.
+const MOST: usize = 1 << 16;
+
+// Sends the shard, unless it was sent before. It goes out by puts of at most 64 KiB, so that the worker makes links of
+// one while the next is made, and its text never stands in memory as a whole. A shard of few links is one put, for a
+// socket sends each at once, and two would wake the worker twice. Room for a put is taken in the text before the first.
 pub fn send_shard<L: Line, A: Allocator + Copy>(
-    alloc: A,
     line: &mut L,
+    text: &mut Vec<u8, A>,
     sent: &mut ShardSet,
     part: &Shard,
 ) -> Result<(), PortFault>
@@ -91,10 +99,77 @@ pub fn send_shard<L: Line, A: Allocator + Copy>(
     if sent.has(part.number) {
         return Ok(());
     }
-    let text = encode_shard(alloc, part)?;
-    send(line, text.as_slice())?;
+    let spelling = Spelling::of(part.links);
+    begin_shard(text, part, spelling)?;
+    send_links(line, text, spelling, part.links)?;
     sent.insert(part.number);
     Ok(())
+}
+
+// What stands before the links of a shard, in place of another text, and room for the links of a put.
+fn begin_shard<A: Allocator>(
+    text: &mut Vec<u8, A>,
+    part: &Shard,
+    spelling: Spelling,
+) -> Result<(), AllocError>
+    requires number { part.now.number < MAX_SHARDS }
+    requires count { length part.now.links.now ≤ MAX_SHARD_LINKS }
+    requires spelling { spelling_of part.now.links.now ≡ spelling }
+    ensures begun { OnOk result (text.new.items ++ flat_map (spelled_in spelling) part.now.links.now
+        ≡ text_of (ShardFrame part.now.number part.now.links.now)) }
+    ensures awaits { OnOk result (AwaitsLinks spelling part.now.links.now text.new) }
+{
+    let room = SHARD_HEAD + spelling.bytes_of(part.links.len());
+    text.clear();
+    text.reserve(room.min(MOST))?;
+    text.extend_from_slice(&shard_head(part, spelling))
+}
+
+// Sends what stands in the text, and the links behind it.
+fn send_links<L: Line, A: Allocator>(
+    line: &mut L,
+    text: &mut Vec<u8, A>,
+    spelling: Spelling,
+    links: &[Link],
+) -> Result<(), PortFault>
+    requires can { HasRoom (L.state line.old) }
+    requires awaits { AwaitsLinks spelling links.now text.old }
+    ensures went { OnOk result (Transmits (text.old.items ++ flat_map (spelled_in spelling) links.now)
+        (L.state line.old) (L.state line.new)) }
+    ensures fault { IfErr result (λ e. SendingFault e (L.state line.old) (L.state line.new)) }
+    ensures faithful { (w : ℕ) → L.faithful line.old w → L.faithful line.new w }
+{
+    let mut rest = send_piece(line, text, spelling, links)?;
+    while !rest.is_empty() {
+        rest = send_piece(line, text, spelling, rest)?;
+    }
+    Ok(())
+}
+
+// Sends what stands in the text, and as many links behind it as a put has room for. It answers the others.
+fn send_piece<'a, L: Line, A: Allocator>(
+    line: &mut L,
+    text: &mut Vec<u8, A>,
+    spelling: Spelling,
+    links: &'a [Link],
+) -> Result<&'a [Link], PortFault>
+    requires can { HasRoom (L.state line.old) }
+    requires awaits { AwaitsLinks spelling links.now text.old }
+    ensures went { IfOk result (λ rest. PutsSome spelling text.old.items links.now rest.now
+        (L.state line.old) (L.state line.new)) }
+    ensures fewer { IfOk result (λ rest. 0 < length links.now → length rest.now < length links.now) }
+    ensures emptied { OnOk result (text.new.items ≡ []) }
+    ensures awaits { IfOk result (λ rest. AwaitsLinks spelling rest.now text.new) }
+    ensures down { IfErr result (λ e. e ≡ PortFault.Down) }
+    ensures fault { IfErr result (λ e. SendingFault e (L.state line.old) (L.state line.new)) }
+    ensures faithful { (w : ℕ) → L.faithful line.old w → L.faithful line.new w }
+{
+    let most = spelling.links_in(MOST - SHARD_HEAD);
+    let (piece, rest) = links.split_at(links.len().min(most));
+    put_links(text, spelling, piece);
+    send(line, text.as_slice())?;
+    text.clear();
+    Ok(rest)
 }
 
 // From so many bytes of labels on an ask goes out by two puts.

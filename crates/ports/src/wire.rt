@@ -23,11 +23,13 @@ use std::marker::Model;
 
 /// A port that asks a worker over a line, which it owns.
 ///
-/// At its first ask it hears the worker's hello. It sends a shard before its first ask, and never again; it sends each
-/// frame whole, by one `put`, or, where the labels of an ask keep their bytes ([`Labels::spell`]) and these are 64 KiB or
-/// more, by two, of which the second has just those bytes. Other labels it turns into bytes at the first ask under them
-/// alone. Every fault closes it for good, want of memory too. It keeps 512 bytes for the shards that were sent, whatever
-/// the cut, and 4 bytes a vertex for the labels of the last ask that it turned into bytes.
+/// At its first ask it hears the worker's hello. It sends a shard before its first ask, and never again, by a `put` for at
+/// most 64 KiB of its frame each, so that a frame of no more is one. An ask it sends whole, by one `put`, or, where its
+/// labels keep their bytes ([`Labels::spell`]) and these are 64 KiB or more, by two, of which the second has just those
+/// bytes. Other labels it turns into bytes at the first ask under them alone, and again at one behind a shard, which takes
+/// the place of their text. Every fault closes it for good, want of memory too. It keeps 512 bytes for the shards that
+/// were sent, whatever the cut, and one text: at most 64 KiB for a shard, or 4 bytes a vertex for the labels of the last
+/// ask that it turned into bytes, whichever was more.
 #[derive(Drop)]
 pub struct Wire<'a, L: Line, A: Allocator> {
     client: Client<'a, L, A>,
