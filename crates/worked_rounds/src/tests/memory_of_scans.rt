@@ -204,14 +204,15 @@ fn blocks_of_ask<'a>(
     Ok(taken)
 }
 
-const BY_ONE: [Ask; 4] = [(2, 6), (1, 1), (1, 2), (2, 2)];
+const BY_ONE: [Ask; 4] = [(2, 7), (1, 2), (1, 2), (2, 3)];
 
 const BY_HALVES: [Ask; 4] = [(2, 7), (1, 6), (1, 0), (2, 7)];
 
-// An answer that offers something takes one block. By one thread the table of the first ask, three blocks, is used again,
-// and so is the one of the marks; the names of the numbers take one at each scan, and once links are listed one more for
-// what becomes of the names. By threads, which scan by labels, each part makes a table. Under the labels of one component
-// all links are laid aside at the first ask, so that nothing is left to be scanned at the second.
+// An answer that offers something takes one block. By one thread the first ask lists the links, in one block, and so does one
+// whose labels make all links live again. The table of the first ask, three blocks, is used again, and so is the one of the
+// marks; the names of the numbers take one at each scan, and at each scan of what is listed one more for what becomes of the
+// names. By threads, which scan by labels, each part makes a table. Under the labels of one component all links are laid
+// aside at the first ask, so that nothing is left to be scanned at the second.
 #[test]
 fn links_laid_aside_are_scanned_no_more(rt: HostRuntime) -> Result<(), Fail> {
     let memory = Refusing::new(rt.alloc(), Refusals::none());
@@ -227,8 +228,8 @@ fn links_laid_aside_are_scanned_no_more(rt: HostRuntime) -> Result<(), Fail> {
 // Both directions of a link, beside each other.
 const DIRECTIONS: [Row; 2] = [(1, 2, 3), (2, 1, 3)];
 
-// A list of the first of them is made with the first answer, in a block for both that is given back for a smaller one: behind
-// one block for the marks, one for the names, three of the table and one of the offers.
+// A list of the first of them is made before the first scan, in a block for both that is given back for a smaller one: before
+// one block for the marks, three of the table, one for the names and one of the offers.
 #[test]
 fn links_of_both_directions_are_listed_at_once(rt: HostRuntime) -> Result<(), Fail> {
     let memory = Refusing::new(rt.alloc(), Refusals::none());
@@ -290,28 +291,29 @@ fn expect_scanned<A: Allocator>(
 }
 
 const LISTED: [CoarserAsk; 4] = [
-    ([1, 2, 3], 6),
+    ([1, 2, 3], 7),
     ([1, 1, 3], 3),
     ([1, 1, 3], 3),
     ([1, 1, 1], 2),
 ];
 
 const NOT_LISTED_FIRST: [CoarserAsk; 4] = [
-    ([1, 2, 3], 6),
-    ([1, 1, 3], 3),
+    ([1, 2, 3], 5),
+    ([1, 1, 3], 5),
     ([1, 1, 3], 3),
     ([1, 1, 1], 2),
 ];
 
-// The live links are listed, in one block, once some are laid aside: the second ask's third block, behind its names and
-// its offers, six of the first ask and one for the labels of each. Where that one is refused, all stay live, and the next
-// ask asks for it again.
+// The live links are listed, in one block, before the first scan: the first ask's first block, behind the one for its labels,
+// and before that of the marks, three of the table, the names and the offers. Where it is refused all links are scanned by
+// labels, without marks and names, and the next ask asks for it again: then some links are laid aside, and the block is given
+// back for a smaller one.
 #[test]
 fn live_links_are_listed_once(rt: HostRuntime) -> Result<(), Fail> {
     for by in [By::OneThread, By::Threads] {
         let memory = Refusing::new(rt.alloc(), Refusals::none());
         let before = expect_coarser_asks(&rt, rt.alloc(), &memory, by, &LISTED)?;
-        let memory = Refusing::new(rt.alloc(), Refusals::only(before.wrapping_add(11)));
+        let memory = Refusing::new(rt.alloc(), Refusals::only(before.wrapping_add(2)));
         expect_coarser_asks(&rt, rt.alloc(), &memory, by, &NOT_LISTED_FIRST)?;
     }
     Ok(())
