@@ -5,5 +5,6 @@ mod memory_of_frames;
 mod next_frames;
 mod refused_in_turn;
 mod same;
+mod shard_pieces;
 mod sizes;
 mod streams;

@@ -1,5 +1,5 @@
-// Frames that are read from bytes: the body's block, and the list that is made of it. Frames that are written: the
-// text's one block.
+// Frames that are read from bytes: the body's block, and the list that is made of it; of a shard the list's alone. Frames
+// that are written: the text's one block.
 use super::same::expect_same;
 use frames::{
     FrameFault, decode_body, decode_head, encode, encode_ask, encode_ask_over, read_frame,
@@ -117,6 +117,39 @@ fn a_body_is_given_room_as_it_comes(rt: HostRuntime) -> Result<(), Fail> {
             (pieces, found),
             (pieces, (Some(FrameFault::Torn), blocks, 0)),
         );
+    }
+    Ok(())
+}
+
+// A head and fields promise 2^24 links, and this one comes again and again, 5,461 times for each piece, and then one byte.
+fn expect_given(
+    rt: &impl Abort,
+    alloc: Global,
+    link: &[u8],
+    pieces: usize,
+    blocks: u64,
+) -> Result<(), Fail> {
+    let head = [2, 12, 0, 0, 8, 0, 0, 0, 0, 1, 0, 0, 0];
+    let mut bytes = Vec::from_slice(alloc, &head)?;
+    for _ in 0..pieces.min(100) * 5_461 {
+        bytes.extend_from_slice(link)?;
+    }
+    bytes.push(0)?;
+    let memory = Refusing::new(alloc, Refusals::none());
+    let found = refused(&memory, bytes.as_slice());
+    let expected = (Some(FrameFault::Torn), blocks, 0);
+    expect_same(rt, (pieces, found), (pieces, expected));
+    Ok(())
+}
+
+// The links of a shard are given room for one piece before any has come, and then a new block, twice as large, only once
+// that one is full. Behind a link that is refused no more room is asked for.
+#[test]
+fn links_are_given_room_as_they_come(rt: HostRuntime) -> Result<(), Fail> {
+    let link = [0, 0, 0, 1, 0, 0, 0, 2, 0, 0, 0, 5];
+    for (pieces, blocks) in [(0, 1), (1, 2), (2, 3), (3, 3), (4, 4), (7, 4), (8, 5)] {
+        expect_given(&rt, rt.alloc(), &link, pieces, blocks)?;
+        expect_given(&rt, rt.alloc(), &[0; 12], pieces, 1)?;
     }
     Ok(())
 }

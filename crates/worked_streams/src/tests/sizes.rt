@@ -1,8 +1,9 @@
 // Frames at the size of every inner piece, one less and one more, up to twice the largest of them and past it. A body that
 // gives up at some size is proved as well as one that doesn't. What is expected is written by a formula, here.
 //
-// Labels are turned into bytes 1,024 at a time. A body is read in pieces of 65,536 bytes: 12 and 4 for each label are
-// just so many for 16,381 labels; 8 and 12 or 16 for each link, and 12 and 8 for each offer, come to no whole piece.
+// Labels are turned into bytes 1,024 at a time. The links of a shard are read in pieces of 5,461, or 4,096 with weights of
+// 64 bits. Another body is read in pieces of 65,536 bytes: 12 and 4 for each label are just so many for 16,381 labels; 12
+// and 8 for each offer come to no whole piece.
 use super::next_frames::next_bytes;
 use byte_streams::FusedSource;
 use frames::{
@@ -21,7 +22,12 @@ fn put_number(text: &mut Vec<u8>, number: u32) -> Result<(), Fail> {
 }
 
 // The text of a frame of this kind, whose body is these numbers.
-fn frame_bytes(rt: &impl Abort, alloc: Global, kind: u8, numbers: &[u32]) -> Result<Vec<u8>, Fail> {
+pub(super) fn frame_bytes(
+    rt: &impl Abort,
+    alloc: Global,
+    kind: u8,
+    numbers: &[u32],
+) -> Result<Vec<u8>, Fail> {
     assert!(rt; numbers.len() < 1 << 30);
     let mut text = Vec::from_slice(alloc, &[kind])?;
     put_number(&mut text, numbers.len() as u32 * 4)?;
@@ -59,14 +65,14 @@ const HALF: u64 = 1 << 32;
 
 // How many bits the weights of a shard have.
 #[derive(Clone, Copy)]
-enum Weights {
+pub(super) enum Weights {
     Of32,
     Of64,
 }
 
 // The links of a path from vertex 1 on, and their shard's numbers. The first has the least weight of so many bits, and the
 // others those from the greatest down. A weight of 64 bits is two numbers, the higher first.
-fn path(
+pub(super) fn path(
     rt: &impl Abort,
     alloc: Global,
     weights: Weights,
