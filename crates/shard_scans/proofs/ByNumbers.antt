@@ -3,7 +3,7 @@
 -- The numbers of the labels of all vertices are a coarser labelling: vertices of one label have one number. A link whose
 -- ends have marked labels leaves a number exactly where it leaves that number's label, since marked labels have numbers of
 -- their own. So the best places by numbers are those by labels, and as numbers ascend with the labels, so do the offers.
-use Rattle.std.proofs.Common.{◌≡◌, ◌≢◌, ℕ, ◌+◌, ◌-◌, ◌<◌, ◌≤◌, ◌^◌, ◌⊎◌, List, ◌++◌, length, get_or, take, drop, map, Contains, refl, sym, ap, ◌∙◌, subst, inl, inr, arith}
+use Rattle.std.proofs.Common.{◌≡◌, ◌≢◌, ℕ, ◌-◌, ◌<◌, ◌≤◌, ◌^◌, ◌⊎◌, List, ◌++◌, length, get_or, take, drop, map, Contains, refl, sym, ap, ◌∙◌, subst, inl, inr, arith}
 use Rattle.std.proofs.Math.Seq.{take-append_seam}
 use Rattle.std.proofs.lemmas.List.{get_or-map, length-map}
 use Rattle.std.proofs.lemmas.List.Elements.{Contains-get_or}
@@ -15,13 +15,9 @@ use Rattle.round_theory.specs.Labelling.{IsVertex}
 use Rattle.round_theory.specs.Offers.{Leaves, IsLightOffer, AreLightOffers}
 use Rattle.round_theory.proofs.Leaving.{leaves_apart, leaves_end}
 use Rattle.shard_scans.specs.declared.scanning.Best.{Best}
-use Rattle.shard_scans.specs.declared.live.LiveLink.{LiveLink}
 use Rattle.shard_scans.specs.Scanning.{no_best, IsBestPlace, best_of, AreBestUpTo}
 use Rattle.shard_scans.specs.Tables.{IsKept, ArePlaces}
-use Rattle.std.proofs.lemmas.Bool.{cases_lt}
-use Rattle.shard_scans.specs.Batches.{written_at, AreLookedUp, CanBeTakenIn}
-use Rattle.shard_scans.proofs.Written.{link_at}
-use Rattle.shard_scans.specs.Numbers.{IsMarked, number_of, numbered, numbered_labels, HasItsName, offered, HasNumbers, AreNumbered, AreBothMarked, AreBothNamed}
+use Rattle.shard_scans.specs.Numbers.{IsMarked, number_of, numbered_labels, HasItsName, offered, HasNumbers, AreNumbered}
 use Rattle.shard_scans.proofs.BestSoFar.{best_is_light, none_leaves}
 use Rattle.shard_scans.proofs.Scans.{kept_place, kept_none, end_at}
 use Rattle.shard_scans.proofs.Tables.{kept_below, same_place}

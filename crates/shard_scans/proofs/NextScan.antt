@@ -3,19 +3,18 @@ use Rattle.std.proofs.Common.{◌≡◌, ℕ, ◌+◌, ◌<◌, ◌≤◌, List,
 use Rattle.std.specs.Prelude.{Result, Ok, Err, OnOk}
 use Rattle.std.proofs.lemmas.List.{get_or-map, length-map, take_all}
 use Rattle.link_key.specs.declared.links.Link.{Link}
-use Rattle.link_key.specs.Labels.{label_of, AreLabels}
+use Rattle.link_key.specs.Labels.{label_of}
 use Rattle.shard_scans.specs.declared.scanning.Best.{Best}
 use Rattle.shard_scans.specs.declared.live.LiveLink.{LiveLink}
 use Rattle.shard_scans.specs.declared.numbers.Word.{Word}
 use Rattle.shard_scans.specs.Scanning.{no_best, AreBestUpTo}
-use Rattle.shard_scans.specs.Live.{AreParallel, places_of, AreLiveLinks, relabelled, packed}
+use Rattle.shard_scans.specs.Live.{AreParallel, places_of, AreLiveLinks, relabelled}
 use Rattle.shard_scans.specs.Batches.{CanBeTakenIn, TakesInAll}
 use Rattle.shard_scans.specs.Numbers.{marks_of, IsMarked, marked_in, number_of, numbered, numbered_labels, shown, HasItsName, HasNumbers, AreByNumbers, AreLiveByNumbers, AreNumbered, HaveNames}
 use Rattle.shard_scans.proofs.Scans.{best_of_none}
 use Rattle.shard_scans.proofs.Laid.{live_or_aside}
 use Rattle.shard_scans.proofs.Written.{place_in_list, live_ends, live_links_coarser, bests_none, bests_all}
 use Rattle.shard_scans.proofs.Ahead.{takes_live}
-use Rattle.shard_scans.proofs.Packed.{packed_live, packed_own}
 use Rattle.shard_scans.proofs.Numbering.{number_within_names}
 use Rattle.shard_scans.proofs.ByNumbers.{own_label, own_coarsens}
 use Rattle.shard_scans.proofs.Relisting.{number_at, by_numbers_long, shown_again, have_names}

@@ -232,10 +232,6 @@ module _ (marks names : List ℕ) (d : ℕ) (d_is : IsMarked marks d) where
     | inr other ↦ get_or-set_other names (number_of marks d - 1) (number_of marks c - 1) d 0 other ∙ is
   ]
 
--- the label of a vertex has a word
-pub label_has_word : (labels : List ℕ) (v words : ℕ) → AreLabels labels → IsVertex (length labels) v → words ≡ length labels / 64 + 1 → (label_of labels v - 1) / 64 < words
-label_has_word labels v words are vertex size = let is = label_vertex labels are v vertex in omega (arith, is.1, size)
-
 -- one more word says how many are marked before it
 module _ (words : List Word) (i total : ℕ) (w : Word) (within : i < length words) (read : w ≡ get_or words i w) (total_is : total ≡ marked_in (marks_of words) i) where
   abbrev noted : Word

@@ -1,7 +1,6 @@
 -- Live links, each written with labels of its ends.
-use Rattle.std.proofs.Common.{◌≡◌, ◌≢◌, ◌↔◌, ℕ, ◌+◌, ◌<◌, ◌≤◌, List, [], ◌∷◌, ◌++◌, length, get_or, All, Bool, true, false, Option, Some, None, inl, inr, refl, sym, ap, ◌∙◌, subst, arith}
+use Rattle.std.proofs.Common.{◌≡◌, ℕ, ◌+◌, ◌<◌, ◌≤◌, List, [], ◌∷◌, ◌++◌, length, get_or, All, Option, Some, None, refl, sym, ap, ◌∙◌, subst, arith}
 use Rattle.std.specs.Prelude.{IfSome}
-use Rattle.std.proofs.lemmas.Bool.{cases_eq}
 use Rattle.std.proofs.lemmas.List.{get_or_default, get_or-map, map-append, length-map}
 use Rattle.std.proofs.lemmas.List.Elements.{All-append, All-cons, All-nil}
 use Rattle.link_key.specs.declared.links.Link.{Link}
@@ -71,13 +70,6 @@ places_count live = length-map live (λ (l : LiveLink). l.place)
 pub link_at : (links : List Link) (p : ℕ) → p < length links → (l : Link) × (l ≡ get_or links p l)
 link_at [] p within = absurd (omega (arith, within))
 link_at (x ∷ links) p within = (get_or (x ∷ links) p x, get_or_default (x ∷ links) p x (get_or (x ∷ links) p x) within)
-
--- a test for different labels that fails
-pub one_unless : (b : Bool) (u v : ℕ) → (b ≡ true) ↔ (u ≢ v) → b ≡ false → u ≡ v
-one_unless b u v is fails = elim (cases_eq u v) [
-  | inl same ↦ same
-  | inr apart ↦ let holds = is.1 apart in cc
-]
 
 module _ (links : List Link) (labels : List ℕ) where
   module _ (old : List LiveLink) (are : AreLiveLinks links labels old) where

@@ -1,10 +1,9 @@
-use Rattle.std.proofs.Common.{◌≡◌, ◌+◌, ◌*◌, ◌/◌, ◌≤◌, ℕ, List, length, get_or, All, sym, ap, ◌∙◌, subst, arith}
+use Rattle.std.proofs.Common.{◌≡◌, ◌+◌, ◌*◌, ◌/◌, ℕ, List, length, All, sym, ap, ◌∙◌, subst, arith}
 use Rattle.std.proofs.lemmas.List.{length-replicate}
 use Rattle.round_theory.specs.Labelling.{IsVertex}
 use Rattle.shard_scans.specs.declared.live.LiveLink.{LiveLink}
 use Rattle.shard_scans.specs.declared.numbers.Word.{Word}
-use Rattle.shard_scans.specs.Live.{relabelled}
-use Rattle.shard_scans.specs.Numbers.{no_marks, marks_of, AreBothMarked}
+use Rattle.shard_scans.specs.Numbers.{no_marks}
 use Rattle.shard_scans.proofs.Written.{live_ends}
 use Rattle.shard_scans.proofs.NextScan.{row_live, row_names, so_where_ok}
 use Rattle.shard_scans.proofs.scanning.Scanner.scan_and_number.Goals as goal

@@ -1,6 +1,6 @@
-use Rattle.std.proofs.Common.{ℕ, List, All, sym, subst}
+use Rattle.std.proofs.Common.{ℕ, List, sym, subst}
 use Rattle.link_key.specs.Labels.{AreLabels}
-use Rattle.shard_scans.specs.Live.{AreLiveLinks, relabelled, packed}
+use Rattle.shard_scans.specs.Live.{AreLiveLinks, packed}
 use Rattle.shard_scans.specs.Numbers.{shown}
 use Rattle.shard_scans.proofs.Written.{live_ends}
 use Rattle.shard_scans.proofs.Packed.{packed_live, packed_own}
