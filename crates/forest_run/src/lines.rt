@@ -121,7 +121,7 @@ fn solve_lines<
 /// those of the file.
 ///
 /// It waits for the workers' answers. The forest is whole before the first byte is written; after a fault the lines are
-/// dropped. It takes a list of the links, the places of the cut, 600 bytes for each line and at most 64 KiB, or 4 bytes
+/// dropped. It takes a list of the links, the places of the cut, 600 bytes for each line and less than 128 KiB, or 4 bytes
 /// a vertex where the labels find no memory for bytes of their own, and what [`solve`] takes; the time of a round is
 /// that of scanning the links once, shared by the workers.
 pub fn run_lines<

@@ -12,7 +12,7 @@ use Rattle.frames.specs.Lawful.{IsU32}
 use Rattle.frames.specs.Refusals.{IsPossible, AreNoLinks}
 use Rattle.frames.specs.ReadFault.{failures_of, ends_of, IsCutShort}
 use Rattle.frames.specs.NextFrame.{BodyCame, IsBodyRefused, IsStopped}
-use Rattle.frames.specs.Spellings.{spelled_in, size_in, kind_in, spelling_of, Spells, Pushes, AreLinksOf, HearsLinks, LinksCame, BytesCame}
+use Rattle.frames.specs.Spellings.{spelled_in, size_in, kind_in, spelling_of, Spells, Pushes, AreLinksIn, HearsLinks, LinksCame, BytesCame}
 use Rattle.frames.specs.declared.spelling.Spelling.{Spelling}
 use Rattle.frames.specs.declared.spelling.Spelling.TheVariants.{Narrow, Wide}
 use Rattle.frames.specs.declared.fault.FrameFault.{FrameFault}
@@ -180,7 +180,7 @@ module _ (s : Spelling) (fields rest none : List ℕ) (n c k : ℕ) (eight : len
       -- links came, in their spelling
       pub shard_came : (list : Vec Link A) (v : FrameValue) → links ≡ Some list → (v ≡ ShardFrame n list.items) × (spelling_of list.items ≡ s) → BodyCame v (kind_in s) (8 + size_in s * k) x z
       shard_came list v is (same, spelling) =
-          let are : AreLinksOf s behind.bytes (Some list) = subst (AreLinksOf s behind.bytes) is behind.are in
+          let are : AreLinksIn s behind.bytes (Some list) = subst (AreLinksIn s behind.bytes) is behind.are in
           let body = fields ++ behind.bytes in
           subst (λ (w : FrameValue). BodyCame w (kind_in s) (8 + size_in s * k) x z) (sym same)
           (whole_came (ShardFrame n list.items) (kind_in s) (8 + size_in s * k) body x z (with_fields behind.bytes behind.counted) (gave_more 0 0 fields behind.bytes x y z came behind.gave)
@@ -189,7 +189,7 @@ module _ (s : Spelling) (fields rest none : List ℕ) (n c k : ℕ) (eight : len
       -- links came in the other spelling
       pub no_shard_came : (list : Vec Link A) (fault : FrameFault) → links ≡ Some list → (fault ≡ BadField) × (spelling_of list.items ≢ s) → IsBodyRefused fault (kind_in s) (8 + size_in s * k) x z
       no_shard_came list fault is (bad, other) =
-          let are : AreLinksOf s behind.bytes (Some list) = subst (AreLinksOf s behind.bytes) is behind.are in
+          let are : AreLinksIn s behind.bytes (Some list) = subst (AreLinksIn s behind.bytes) is behind.are in
           let body = fields ++ behind.bytes in
           subst (λ (f : FrameFault). IsBodyRefused f (kind_in s) (8 + size_in s * k) x z) (sym bad)
           (whole_refused BadField (kind_in s) (8 + size_in s * k) body x z (with_fields behind.bytes behind.counted) (gave_more 0 0 fields behind.bytes x y z came behind.gave)
@@ -200,4 +200,4 @@ module _ (s : Spelling) (fields rest none : List ℕ) (n c k : ℕ) (eight : len
       no_links_came is =
           let body = fields ++ behind.bytes in
           whole_refused BadField (kind_in s) (8 + size_in s * k) body x z (with_fields behind.bytes behind.counted) (gave_more 0 0 fields behind.bytes x y z came behind.gave)
-          (shard_unlinked s n c body (u32_text c ++ behind.bytes) behind.bytes wide_n wide_c (shard_body behind.bytes) refl (subst (AreLinksOf s behind.bytes) is behind.are))
+          (shard_unlinked s n c body (u32_text c ++ behind.bytes) behind.bytes wide_n wide_c (shard_body behind.bytes) refl (subst (AreLinksIn s behind.bytes) is behind.are))

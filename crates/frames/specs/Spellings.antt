@@ -18,7 +18,7 @@ abbrev pub size_in : Spelling → ℕ
 size_in Narrow = 12
 size_in Wide = 16
 
--- the kind of a shard's frame
+-- the kind of a shard's frame in a spelling
 abbrev pub kind_in : Spelling → ℕ
 kind_in Narrow = 2
 kind_in Wide = 6
@@ -27,7 +27,7 @@ kind_in Wide = 6
 abbrev pub spelling_of : List Link → Spelling
 spelling_of links = if are_narrow links then Narrow else Wide
 
--- links that a spelling has room for: any, or those whose weights fit 32 bits
+-- links that a spelling has room for: those whose weights fit 32 bits, or any
 abbrev pub FitIn : Spelling → List Link → Type 0
 FitIn Narrow links = IsTrue (are_narrow links)
 FitIn Wide links = ⊤
@@ -42,21 +42,21 @@ abbrev pub Pushes : Spelling → List ℕ → List Link → List Link → Type 0
 Pushes s bytes before after = (more : List Link) × (after ≡ before ++ more) × Spells s more bytes
 
 -- the links of these bytes, or none where no links have them
-abbrev pub AreLinksOf : {A : Type 0} → Spelling → List ℕ → Option (Vec Link A) → Type 0
-AreLinksOf s bytes (Some links) = Spells s links.items bytes
-AreLinksOf s bytes None = AreNoLinks (spelled_in s) bytes
+abbrev pub AreLinksIn : {A : Type 0} → Spelling → List ℕ → Option (Vec Link A) → Type 0
+AreLinksIn s bytes (Some links) = Spells s links.items bytes
+AreLinksIn s bytes None = AreNoLinks (spelled_in s) bytes
 
--- behind the bytes of some links that came so far, these were heard too
+-- behind the bytes that came so far, of whole links or of none, these were heard too
 abbrev pub HearsLinks : {A : Type 0} → Spelling → List ℕ → Option (Vec Link A) → Option (Vec Link A) → Type 0
 HearsLinks s piece before after =
-    (bytes : List ℕ) (count : ℕ) → length bytes ≡ size_in s * count → AreLinksOf s bytes before → AreLinksOf s (bytes ++ piece) after
+    (bytes : List ℕ) (count : ℕ) → length bytes ≡ size_in s * count → AreLinksIn s bytes before → AreLinksIn s (bytes ++ piece) after
 
--- the bytes of so many links came, and these are the links
+-- the bytes of so many links came, and these are the links; or none, where no links have them
 pub record LinksCame {A : Type 0} (s : Spelling) (count : ℕ) (links : Option (Vec Link A)) (before after : SourceState) : Type 0 where
   pub bytes : List ℕ
   pub counted : length bytes ≡ size_in s * count
   pub gave : Gave 0 0 bytes before after
-  pub are : AreLinksOf s bytes links
+  pub are : AreLinksIn s bytes links
 
 -- so many bytes came
 pub record BytesCame (count : ℕ) (before after : SourceState) : Type 0 where

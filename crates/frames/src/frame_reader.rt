@@ -25,14 +25,15 @@ use std::alloc::Allocator;
 /// more of the stream was taken than the frame.
 ///
 /// Of a shard the list of its links alone is kept. They are made of the bytes as these come, at most 65,536 at a time
-/// through one buffer, and no body is stored. Room for the links of a piece is taken before it comes: a head that announces
+/// through one buffer on the stack, and no body is stored. Room for the links of a piece is taken before it comes: a head that announces
 /// more than the stream has costs at most 87,376 bytes at first, however little comes; once a whole piece came, at
 /// most three times what came, and four times that while the list moves to a larger block. Where the shard is refused,
 /// the rest of it is taken all the same, without memory.
 ///
 /// Of another frame the body grows by pieces of at most 65,536 bytes, and its list is made of it: at most 65,536 bytes at
-/// first; once a whole piece came, at most twice what came, and three times that while it moves. `Memory` where a
-/// growth was refused, or the list made of a body.
+/// first; once a whole piece came, at most twice what came, and three times that while it moves.
+///
+/// `Memory` where a growth was refused, or the list made of a body.
 pub fn read_frame<A: Allocator + Copy, S: Source>(
     alloc: A,
     source: &mut S,

@@ -1,5 +1,5 @@
 //! The frames that a coordinator and its workers exchange, as bytes and back: a kind, the length of the body, and the
-//! body (`docs/PROTOCOL.md` has them whole). Version 1 has the kinds 1 to 5, version 2 also 6, a shard with a weight
+//! body (`docs/PROTOCOL.md`). Version 1 has the kinds 1 to 5, version 2 also 6, a shard with a weight
 //! that doesn't fit 32 bits; nothing here knows a peer's version, so who sends keeps kind 6 from a worker
 //! of version 1.
 //!
@@ -10,7 +10,7 @@
 //!                                                   /                              \
 //!                       5 bytes --decode_head--> Head                body --decode_body--> Frame
 //! ```
-//! A shard goes by pieces: [`shard_head`] and [`put_links`] make its text, and `read_frame` its links, some at
+//! A shard may go by pieces: [`shard_head`], [`put_links`] make its text, and `read_frame` its links, some at
 //! a time.
 //!
 //! What it promises:
@@ -18,7 +18,7 @@
 //!   begins another's, so a stream of frames reads in one way (`laws`).
 //! - [`read_frame`] that answers a frame took exactly its text, and answers else the first refusal that fits; so do
 //!   [`decode_head`] and [`decode_body`] for its parts, and [`read_next`] behind an ask. (That it answers another ask
-//!   under its labels as that alone is only tested.)
+//!   under its labels as that alone, and stores none, is only tested.)
 //!
 //! Where to start a change: the grammar stands in `specs/FrameText`, what is lawful in `specs/Lawful`, and
 //! the refusals with their order in `specs/Refusals`. `fields` and `items` have one function a field and list,

@@ -6,7 +6,7 @@ ghost use Rattle.frames.specs.FrameValue.{value_of};
 ghost use Rattle.frames.specs.ReadFault.{IsCutShort};
 ghost use Rattle.frames.specs.NextFrame.{BodyCame, IsBodyRefused, IsStopped};
 ghost use Rattle.frames.specs.declared.spelling.Spelling.{Spelling};
-ghost use Rattle.frames.specs.Spellings.{size_in, kind_in, AreLinksOf, HearsLinks, LinksCame, BytesCame};
+ghost use Rattle.frames.specs.Spellings.{size_in, kind_in, AreLinksIn, HearsLinks, LinksCame, BytesCame};
 
 use crate::bodies::read_bytes;
 use crate::decoding::shard_of;
@@ -129,7 +129,7 @@ fn read_piece<A: Allocator, S: Source>(
 
 // Room for so many links more, unless some were refused.
 fn make_room<A: Allocator>(links: &mut Option<Vec<Link, A>>, count: usize) -> Result<(), AllocError>
-    ensures { (spelling : Spelling) (bytes : List ℕ) → AreLinksOf spelling bytes links.old → AreLinksOf spelling bytes links.new }
+    ensures { (spelling : Spelling) (bytes : List ℕ) → AreLinksIn spelling bytes links.old → AreLinksIn spelling bytes links.new }
 {
     match links {
         Some(list) => list.reserve(count),

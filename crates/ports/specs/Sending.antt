@@ -8,7 +8,7 @@ use Rattle.frames.specs.Spellings.{spelled_in, size_in, FitIn}
 use Rattle.ports.specs.Lines.{LineState}
 use Rattle.ports.specs.Causes.{Transmits}
 
--- a text that is empty or has what stands before links that fit this spelling, with room behind that for a put of them
+-- links that fit this spelling, and a text no longer than a shard's head, whose room is 64 KiB or that of a head and all these links
 pub record AwaitsLinks {A : Type 0} (s : Spelling) (links : List Link) (text : Vec ℕ A) : Type 0 where
   pub fit : FitIn s links
   pub begun : vec_len text ≤ SHARD_HEAD

@@ -28,7 +28,7 @@ use std::marker::Model;
 /// labels keep their bytes ([`Labels::spell`]) and these are 64 KiB or more, by two, of which the second has just those
 /// bytes. Other labels it turns into bytes at the first ask under them alone, and again at one behind a shard, which takes
 /// the place of their text. Every fault closes it for good, want of memory too. It keeps 512 bytes for the shards that
-/// were sent, whatever the cut, and one text: at most 64 KiB for a shard, or 4 bytes a vertex for the labels of the last
+/// were sent, whatever the cut, and one text: less than 128 KiB for a shard, or 4 bytes a vertex for the labels of the last
 /// ask that it turned into bytes, whichever was more.
 #[derive(Drop)]
 pub struct Wire<'a, L: Line, A: Allocator> {

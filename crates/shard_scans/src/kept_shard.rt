@@ -18,8 +18,8 @@ use std::thread::Threads;
 /// than a quarter lie between the ends of the link before them and are no less. Contracts see the links and the live ones, if
 /// these are listed; where they aren't, all are live.
 ///
-/// It keeps the links' memory. The list takes 12 bytes for each link that was live when it was made, and 4 bytes for the name of
-/// each number where it is by numbers; where there is no memory for it, all links stay live.
+/// It keeps the links' memory. The list takes 12 bytes for each link while it is made, then for each that was live, and 4 bytes
+/// for the name of each number where it is by numbers; where there is no memory for it, all links stay live.
 #[derive(Drop)]
 pub struct KeptShard<A: Allocator = Global> {
     links: Vec<Link, A>,
@@ -64,9 +64,9 @@ impl<A: Allocator + Copy> KeptShard<A> {
     /// greater than the number of labels. Under these labels the links that aren't live have to offer nothing: so it is
     /// where all are live, and where the labels coarsen those of the offers before ([`laws`](crate::laws)).
     ///
-    /// For m live links of n vertices O(m + n) time. It scans by numbers of its own for the labels that the links have: the
-    /// scanner's table takes 16 bytes and a bit for each of these, its marks a quarter of a byte a vertex. Beside them it
-    /// takes 8 bytes for each offer, and 4 for the name of each number; once links are listed, 8 more for each number that
+    /// For m live links of n vertices O(m + n) time. It scans by numbers of its own for the labels that live links have: the
+    /// scanner's table takes 16 bytes and a bit for each of these, its marks a quarter of a byte a vertex. Beside them it takes
+    /// the list, 8 bytes for each offer, and 4 for the name of each number; once links are listed, 8 more for each number that
     /// they had before, until it returns. The only error is want of memory, and the shard can be asked again after it.
     pub fn offers(
         &mut self,

@@ -84,7 +84,7 @@ impl<A: Allocator + Copy> Listed<A> {
 }
 
 // Of a number before its name is written.
-pub(crate) const NO_NAME: u32 = 0;
+const NO_NAME: u32 = 0;
 
 // Whether the live links are worth a list by labels, where so many links leave a label: others don't, or many lie between the
 // ends of the one before them and are no less, as in files that have both directions of a link beside each other. The list

@@ -1,8 +1,8 @@
-//! Numbers of a shard's own for the labels that its links have.
+//! Numbers of a shard's own for the labels that its live links have.
 //!
 //! A shard among many has links to few of the vertices. A table of what is kept for each of their labels stays in a
-//! processor's cache where one of what is kept for each label of the graph doesn't. So the labels that a shard's links
-//! have are marked, a bit each, and numbered in their order: the number of a label is one more than there are marked
+//! processor's cache where one of what is kept for each label of the graph doesn't. So the labels that live
+//! links have are marked, a bit each, and numbered in their order: the number of a label is one more than there are marked
 //! labels below it, which are counted a word of bits at a time.
 ghost use Rattle.std.specs.Prelude.{◌≡◌, ℕ, ◌+◌, ◌-◌, ◌*◌, ◌/◌, ◌^◌, ◌<◌, ◌≤◌, ◌⊎◌, [], length, All, slice_index, slice_index_or, replicate, set, count_ones, OnOk};
 ghost use Rattle.link_key.specs.Labels.{AreLabels};

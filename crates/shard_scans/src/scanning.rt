@@ -140,9 +140,8 @@ impl<A: Allocator + Copy> Scanner<A> {
         Ok((offers, leaving))
     }
 
-    // The same offers, and the live links, which are listed first, so that the labels of ends are looked up once; only what is
-    // listed is scanned, by numbers of the labels that are written there. Where there is no memory for a list all links are
-    // scanned by labels, and there is none.
+    // The same offers, and the live links, which are listed first, so that the labels of ends are looked up once; none where
+    // there is no memory for a list, and then all links are scanned by labels.
     pub(crate) fn scan_and_list<B: Allocator>(
         &mut self,
         links: &[Link],
