@@ -18,11 +18,13 @@
 //! Where to start a change: `scanning` has the pass over the links (`specs/Scanning`), `table` what is kept for each label
 //! (`specs/Tables`), `batches` what is looked up before it is kept (`specs/Batches`), `live` the passes over live links
 //! (`specs/Live`), `parallel` those over `parts` of the links (`specs/Parts`). `numbers` numbers a shard's labels
-//! (`specs/Numbers`), `by_numbers` passes by these, `listed` lists live links, `kept_shard` lays the others aside.
+//! (`specs/Numbers`), `by_numbers` passes by these, `listed` lists live links, `end_labels` looks up the labels of their ends,
+//! `kept_shard` lays the others aside.
 #![tactic(auto)]
 
 mod batches;
 mod by_numbers;
+mod end_labels;
 mod kept_shard;
 pub mod laws;
 mod listed;

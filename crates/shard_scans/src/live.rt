@@ -16,6 +16,7 @@ ghost use Rattle.shard_scans.specs.Scanning.{no_best, Says, AreBest};
 ghost use Rattle.shard_scans.specs.Live.{AreParallel, AreLiveLinks, StayLive, live_place, relabelled, packed};
 
 use crate::batches::{BATCH, NOTHING, keep_each, look_up_live};
+use crate::end_labels::EndLabels;
 use crate::parts::Part;
 use crate::scanning::Best;
 use crate::table::Table;
@@ -147,15 +148,15 @@ pub(crate) fn pack(live: &mut [LiveLink], labels: &[u32]) -> usize
 
 // Whether two links are parallel.
 #[inline]
-fn are_parallel(labels: &[u32], earlier: Link, link: Link) -> bool
-    requires earlier { earlier.high ≤ length labels.now }
-    requires link { link.high ≤ length labels.now }
-    ensures { IsTrue result → AreParallel labels.now earlier link }
+fn are_parallel(labels: EndLabels, earlier: Link, link: Link) -> bool
+    requires earlier { earlier.high ≤ length labels.labels.now }
+    requires link { link.high ≤ length labels.labels.now }
+    ensures { IsTrue result → AreParallel labels.entry.labels.now earlier link }
 {
-    let low = labels[earlier.low as usize - 1];
-    let high = labels[earlier.high as usize - 1];
-    let other_low = labels[link.low as usize - 1];
-    let other_high = labels[link.high as usize - 1];
+    let low = labels.of(earlier.low);
+    let high = labels.of(earlier.high);
+    let other_low = labels.of(link.low);
+    let other_high = labels.of(link.high);
     if low == other_low {
         return high == other_high;
     }
@@ -164,10 +165,10 @@ fn are_parallel(labels: &[u32], earlier: Link, link: Link) -> bool
 
 // Whether the link at a place is outdone by the one that is listed last.
 #[inline]
-fn is_outdone(links: &[Link], labels: &[u32], live: &[LiveLink], place: usize) -> bool
-    requires ends { EndsUpTo (length labels.now) links.now }
+fn is_outdone(links: &[Link], labels: EndLabels, live: &[LiveLink], place: usize) -> bool
+    requires ends { EndsUpTo (length labels.labels.now) links.now }
     requires in_list { place < length links.now }
-    ensures { IsTrue result → StayLive links.now labels.now live.now place }
+    ensures { IsTrue result → StayLive links.now labels.entry.labels.now live.now place }
 {
     if live.is_empty() {
         return false;
@@ -182,13 +183,13 @@ fn is_outdone(links: &[Link], labels: &[u32], live: &[LiveLink], place: usize) -
 
 // Whether the next link is to be listed behind those that are: it isn't quiet, and not outdone by the last of them.
 #[inline]
-pub(crate) fn is_live(links: &[Link], labels: &[u32], live: &[LiveLink], place: usize) -> bool
-    requires ends { EndsUpTo (length labels.now) links.now }
+pub(crate) fn is_live(links: &[Link], labels: EndLabels, live: &[LiveLink], place: usize) -> bool
+    requires ends { EndsUpTo (length labels.labels.now) links.now }
     requires in_list { place < length links.now }
-    ensures { IsFalse result → StayLive links.now labels.now live.now place }
+    ensures { IsFalse result → StayLive links.now labels.entry.labels.now live.now place }
 {
     let link = links[place];
-    if labels[link.low as usize - 1] == labels[link.high as usize - 1] {
+    if labels.of(link.low) == labels.of(link.high) {
         return false;
     }
     !is_outdone(links, labels, live, place)
@@ -207,13 +208,14 @@ pub(crate) fn write_live<A: Allocator + Copy>(
     ensures live { IfOk result (λ live. AreLiveLinks links.now labels.now live.items) }
     ensures own { IfOk result (λ live. All (λ e. relabelled labels.now e ≡ e) live.items) }
 {
+    let ends = EndLabels::new(labels);
     let mut live = Vec::with_capacity(alloc, room)?;
     for place in 0..links.len() {
-        if is_live(links, labels, live.as_slice(), place) {
+        if is_live(links, ends, live.as_slice(), place) {
             let link = links[place];
             live.push(LiveLink {
-                low: labels[link.low as usize - 1],
-                high: labels[link.high as usize - 1],
+                low: ends.of(link.low),
+                high: ends.of(link.high),
                 place: place as u32,
             })?;
         }

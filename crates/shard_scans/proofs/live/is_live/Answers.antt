@@ -1,13 +1,13 @@
-use Rattle.std.proofs.Common.{length}
+use Rattle.std.proofs.Common.{length, sym, ◌∙◌}
 use Rattle.shard_scans.specs.Live.{places_of}
 use Rattle.shard_scans.proofs.Laid.{live_goes_on, quiet_alone}
 use Rattle.shard_scans.proofs.Scans.{end_at}
 use Rattle.shard_scans.proofs.live.is_live.Goals as goal
 
-pub returns-then-labels-link : goal.returns-then-labels-link
-returns-then-labels-link c = λ not_live before.
+pub returns-then-of : goal.returns-then-of
+returns-then-of c = λ not_live before.
     let links = c.args.links.now in
-    let labels = c.args.labels.now in
+    let labels = c.args.labels.labels.now in
     let l = c.index-links-place.result in
     let ends = end_at (length labels) links c.args.place l c.requires.ends c.requires.in_list c.index-links-place.is in
-    live_goes_on links labels 0 c.args.place (places_of c.args.live.now) before (quiet_alone links labels c.args.place l c.requires.in_list c.index-links-place.is ends c.if-labels-link.true)
+    live_goes_on links labels 0 c.args.place (places_of c.args.live.now) before (quiet_alone links labels c.args.place l c.requires.in_list c.index-links-place.is ends (sym c.of.ensures ∙ c.if-of.true ∙ c.of-2.ensures))
