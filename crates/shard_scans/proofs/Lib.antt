@@ -1,4 +1,5 @@
 pub mod BestSoFar
+pub mod ShortKeys
 pub mod Scans
 pub mod Outdone
 pub mod Laid

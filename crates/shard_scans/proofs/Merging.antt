@@ -16,7 +16,7 @@ use Rattle.shard_scans.proofs.BestSoFar.{best_first}
 use Rattle.shard_scans.proofs.Laid.{live_first, live_end, live_ascends, front_is_quiet}
 use Rattle.shard_scans.proofs.Scans.{kept_place, kept_none, kept_at, keeps_out}
 
--- what a table keeps says the weight of the link at its place
+-- what a table keeps says the short key of the weight of the link at its place
 pub bests_say : (links : List Link) (labels : List ℕ) (from to : ℕ) (table : List Best) → AreBest links labels from to table → SayPlaces links table
 bests_say links labels from to table are i d within some = go keeps.best keeps.says
   where

@@ -1,9 +1,9 @@
 -- A pass over a shard's links, with a table of the best place for each label.
-use Rattle.std.proofs.Common.{◌≡◌, ◌≢◌, ℕ, ◌+◌, ◌-◌, ◌<◌, ◌≤◌, ◌^◌, ℤ, w64, to_z, of_z, List, length, get_or, set, replicate, true, false, is_le, Option, Some, None, Ordering, Less, Greater, nat_cmp, refl, sym, ap, ◌∙◌, subst, inl, inr, arith}
+use Rattle.std.proofs.Common.{◌≡◌, ◌≢◌, ℕ, ◌+◌, ◌-◌, ◌<◌, ◌≤◌, ◌^◌, ℤ, w32, to_z, of_z, List, length, get_or, set, replicate, true, false, is_le, Option, Some, None, Ordering, Less, Greater, nat_cmp, refl, sym, ap, ◌∙◌, subst, inl, inr, arith}
 use Rattle.std.specs.Int.Signed.{◌<ℤ◌, lt_z}
 use Rattle.std.specs.Ordering.{ordering_then}
 use Rattle.std.specs.Cmp.{int_cmp_is}
-use Rattle.std.proofs.lemmas.Int.{ints, to_z-of_z}
+use Rattle.std.proofs.lemmas.Int.{ints, to_z-of_z, by_lt_z}
 use Rattle.std.proofs.lemmas.Bool.{cases_eq}
 use Rattle.std.proofs.lemmas.List.{length-replicate, get_or-replicate, get_or_default, get_or-set_same, get_or-set_other, length-set}
 use Rattle.link_key.specs.declared.links.Link.{Link}
@@ -13,8 +13,9 @@ use Rattle.round_theory.specs.Labelling.{IsVertex}
 use Rattle.round_theory.specs.Offers.{Leaves}
 use Rattle.round_theory.proofs.Leaving.{leaves_apart, leaves_end}
 use Rattle.shard_scans.proofs.BestSoFar.{one_read, not_below_from_le, below_from_gt, best_goes_on, best_first, best_stays, best_new}
+use Rattle.shard_scans.proofs.ShortKeys.{key_fits, not_above_all, keys_keep_order}
 use Rattle.shard_scans.specs.declared.scanning.Best.{Best}
-use Rattle.shard_scans.specs.Scanning.{no_best, IsBestPlace, NoneLeavesIn, IsBest, Says, Keeps, best_of, AreBestUpTo}
+use Rattle.shard_scans.specs.Scanning.{short_key, no_best, IsBestPlace, NoneLeavesIn, IsBest, Says, Keeps, best_of, AreBestUpTo}
 
 -- of two links the one of the smaller weight is below the other
 lighter_is_below : (l m : Link) → l.weight <ℤ m.weight → is_le (key_cmp l m) ≡ true
@@ -23,24 +24,28 @@ lighter_is_below l m lt = subst (λ (o : Ordering). is_le (ordering_then o (orde
 heavier_is_above : (l m : Link) → m.weight <ℤ l.weight → is_le (key_cmp l m) ≡ false
 heavier_is_above l m lt = subst (λ (o : Ordering). is_le (ordering_then o (ordering_then (nat_cmp l.low m.low) (nat_cmp l.high m.high))) ≡ false) (int_cmp_is l.weight m.weight Greater lt) refl
 
--- weights compare as those that they are equal to
-lighter_as : (a a' b b' : ℤ) → a' ≡ a → b' ≡ b → lt_z a' b' ≡ true → a <ℤ b
-lighter_as a a' b b' a_is b_is test =
+-- of two weights the one of the lesser key is the lesser one
+lesser_by_key : (v w : ℤ) → short_key v <ℤ short_key w → v <ℤ w
+lesser_by_key v w lt = by_lt_z v w (λ less. less) (λ ge. absurd (keys_keep_order w v ge lt))
+
+-- keys compare as those that they are equal to
+lesser_as : (a a' b b' : ℤ) → a' ≡ a → b' ≡ b → lt_z a' b' ≡ true → a <ℤ b
+lesser_as a a' b b' a_is b_is test =
     let lt : a' <ℤ b' = omega (arith, ints, test) in
     subst (λ w. a <ℤ w) b_is (subst (λ w. w <ℤ b') a_is lt)
 
--- a weight that is kept is one of 64 bits
-said_weight : (links : List Link) (kept : Best) (best : Option ℕ) → Says links kept best → Link → to_z w64 (of_z w64 kept.weight) ≡ kept.weight
-said_weight links kept best says x = go best says
+-- a key that is kept is one of 32 bits
+said_key : (links : List Link) (kept : Best) (best : Option ℕ) → Says links kept best → Link → to_z w32 (of_z w32 kept.key) ≡ kept.key
+said_key links kept best says x = go best says
   where
-    by : (w : ℤ) → kept.weight ≡ w → to_z w64 (of_z w64 w) ≡ w → to_z w64 (of_z w64 kept.weight) ≡ kept.weight
-    by w is fits = ap (λ k. to_z w64 (of_z w64 k)) is ∙ fits ∙ sym is
+    by : (w : ℤ) → kept.key ≡ w → to_z w32 (of_z w32 w) ≡ w → to_z w32 (of_z w32 kept.key) ≡ kept.key
+    by w is fits = ap (λ k. to_z w32 (of_z w32 k)) is ∙ fits ∙ sym is
 
-    go : (best : Option ℕ) → Says links kept best → to_z w64 (of_z w64 kept.weight) ≡ kept.weight
-    go None says = by no_best.weight (ap (λ (b : Best). b.weight) says) refl
+    go : (best : Option ℕ) → Says links kept best → to_z w32 (of_z w32 kept.key) ≡ kept.key
+    go None says = by no_best.key (ap (λ (b : Best). b.key) says) refl
     go (Some p) says =
         let l : Link = get_or links p x in
-        by l.weight (says.2 l (get_or_default links p x l says.1)) (to_z-of_z w64 l.weight l.weight_fits)
+        by (short_key l.weight) (says.2 l (get_or_default links p x l says.1)) (to_z-of_z w32 (short_key l.weight) (key_fits l.weight l.weight_fits))
 
 -- a table of nothing keeps the best places of no links
 pub best_of_none : (count : ℕ) (links : List Link) (labels : List ℕ) (from : ℕ) → AreBestUpTo count links labels from from (replicate count no_best)
@@ -66,49 +71,51 @@ module _ (links : List Link) (labels : List ℕ) (from to c : ℕ) (kept : Best)
       go None says is = is
       go (Some place) says is = absurd (omega (arith, few, says.0, says.1, none))
 
-  -- its weight is one of 64 bits
-  kept_weight : Keeps links labels from to c kept → Link → to_z w64 (of_z w64 kept.weight) ≡ kept.weight
-  kept_weight keeps x = said_weight links kept keeps.best keeps.says x
+  -- its key is one of 32 bits
+  kept_key : Keeps links labels from to c kept → Link → to_z w32 (of_z w32 kept.key) ≡ kept.key
+  kept_key keeps x = said_key links kept keeps.best keeps.says x
 
 module _ (links : List Link) (labels : List ℕ) (c from at to : ℕ) (le : from ≤ at) (few : length links ≤ 2 ^ 24) (next : Best) (next_says : Says links next (Some next.place)) (x : Link) (read : x ≡ get_or links next.place x) (next_is : IsBestPlace links labels at to c next.place) (kept : Best) (keeps : Keeps links labels from at c kept) where
   -- the link that is said is the best one
   is_next : x ≡ next_is.link
   is_next = one_read links next.place x next_is.link next_is.in_list read next_is.here
 
-  -- the weights are compared as numbers of 64 bits
-  next_weight : to_z w64 (of_z w64 next.weight) ≡ next.weight
-  next_weight = said_weight links next (Some next.place) next_says x
+  -- the keys are compared as numbers of 32 bits
+  next_key : to_z w32 (of_z w32 next.key) ≡ next.key
+  next_key = said_key links next (Some next.place) next_says x
 
-  weight_kept : to_z w64 (of_z w64 kept.weight) ≡ kept.weight
-  weight_kept = kept_weight links labels from at c kept keeps x
+  key_kept : to_z w32 (of_z w32 kept.key) ≡ kept.key
+  key_kept = kept_key links labels from at c kept keeps x
 
-  -- what is kept weighs less
-  keeps_less : kept.weight <ℤ next.weight → Keeps links labels from to c kept
+  -- what is kept has a lesser key, and so weighs less
+  keeps_less : kept.key <ℤ next.key → Keeps links labels from to c kept
   keeps_less lt = go keeps.best keeps.says keeps.is
     where
       go : (best : Option ℕ) → Says links kept best → IsBest links labels from at c best → Keeps links labels from to c kept
-      go None says is = absurd (omega (arith, ints, ap (λ (b : Best). b.weight) says, next_says.2 x read, lt, x.weight_fits))
+      go None says is = absurd (not_above_all x.weight x.weight_fits (subst (λ k. k <ℤ short_key x.weight) (ap (λ (b : Best). b.key) says) (subst (λ k. kept.key <ℤ k) (next_says.2 x read) lt)))
       go (Some p) says is =
           let l : Link = is.link in
-          let lower = subst (λ w. l.weight <ℤ w) (next_says.2 next_is.link next_is.here) (subst (λ w. w <ℤ next.weight) (says.2 l is.here) lt) in
-          record { best = Some p; says = says; is = best_stays links labels c from at to next.place le next_is p is (not_below_from_le l next_is.link (lighter_is_below l next_is.link lower)) }
+          let lower = subst (λ k. short_key l.weight <ℤ k) (next_says.2 next_is.link next_is.here) (subst (λ k. k <ℤ next.key) (says.2 l is.here) lt) in
+          let lighter = lesser_by_key l.weight next_is.link.weight lower in
+          record { best = Some p; says = says; is = best_stays links labels c from at to next.place le next_is p is (not_below_from_le l next_is.link (lighter_is_below l next_is.link lighter)) }
 
-  -- it weighs more
-  keeps_new_less : next.weight <ℤ kept.weight → Keeps links labels from to c next
+  -- it has a greater one
+  keeps_new_less : next.key <ℤ kept.key → Keeps links labels from to c next
   keeps_new_less lt = record { best = Some next.place; says = next_says; is = go keeps.best keeps.says keeps.is }
     where
       go : (best : Option ℕ) → Says links kept best → IsBest links labels from at c best → IsBestPlace links labels from to c next.place
       go None says is = best_first links labels c from at to next.place le next_is is
       go (Some p) says is =
           let l : Link = is.link in
-          let above = subst (λ w. next_is.link.weight <ℤ w) (says.2 l is.here) (subst (λ w. w <ℤ kept.weight) (next_says.2 next_is.link next_is.here) lt) in
-          best_new links labels c from at to next.place le next_is p is (below_from_gt l next_is.link (heavier_is_above l next_is.link above))
+          let above = subst (λ k. short_key next_is.link.weight <ℤ k) (says.2 l is.here) (subst (λ k. k <ℤ kept.key) (next_says.2 next_is.link next_is.here) lt) in
+          let lighter = lesser_by_key next_is.link.weight l.weight above in
+          best_new links labels c from at to next.place le next_is p is (below_from_gt l next_is.link (heavier_is_above l next_is.link lighter))
 
-  pub keeps_lighter : lt_z (to_z w64 (of_z w64 kept.weight)) (to_z w64 (of_z w64 next.weight)) ≡ true → Keeps links labels from to c kept
-  keeps_lighter test = keeps_less (lighter_as kept.weight (to_z w64 (of_z w64 kept.weight)) next.weight (to_z w64 (of_z w64 next.weight)) weight_kept next_weight test)
+  pub keeps_lighter : lt_z (to_z w32 (of_z w32 kept.key)) (to_z w32 (of_z w32 next.key)) ≡ true → Keeps links labels from to c kept
+  keeps_lighter test = keeps_less (lesser_as kept.key (to_z w32 (of_z w32 kept.key)) next.key (to_z w32 (of_z w32 next.key)) key_kept next_key test)
 
-  pub keeps_new_lighter : lt_z (to_z w64 (of_z w64 next.weight)) (to_z w64 (of_z w64 kept.weight)) ≡ true → Keeps links labels from to c next
-  keeps_new_lighter test = keeps_new_less (lighter_as next.weight (to_z w64 (of_z w64 next.weight)) kept.weight (to_z w64 (of_z w64 kept.weight)) next_weight weight_kept test)
+  pub keeps_new_lighter : lt_z (to_z w32 (of_z w32 next.key)) (to_z w32 (of_z w32 kept.key)) ≡ true → Keeps links labels from to c next
+  keeps_new_lighter test = keeps_new_less (lesser_as next.key (to_z w32 (of_z w32 next.key)) kept.key (to_z w32 (of_z w32 kept.key)) next_key key_kept test)
 
   -- no link is kept
   pub keeps_new_first : length links ≤ kept.place → Keeps links labels from to c next

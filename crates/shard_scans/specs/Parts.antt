@@ -49,7 +49,7 @@ abbrev pub Merges : List Link → List Best → List Best → List Best → Type
 Merges links later old new = (labels : List ℕ) (from at to : ℕ) → from ≤ at → at ≤ to
     → AreBest links labels from at old → AreBest links labels at to later → AreBest links labels from to new
 
--- where a table keeps a place, it keeps the weight of the link there
+-- where a table keeps a place, it keeps the short key of the weight of the link there
 abbrev pub SayPlaces : List Link → List Best → Type 0
 SayPlaces links table = (i : ℕ) (d : Best) → i < length table → (slice_index_or table i d).place ≢ NO_PLACE
     → Says links (slice_index_or table i d) (Some (slice_index_or table i d).place)

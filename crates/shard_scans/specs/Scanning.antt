@@ -1,11 +1,11 @@
 -- What is known of each label once the links at some places of a shard are seen.
-use Rattle.std.specs.Prelude.{◌≡◌, ℕ, ◌+◌, ◌-◌, ◌<◌, ◌≤◌, ◌⊎◌, List, length, slice_index_or, Option, None, Some, MatchOption}
+use Rattle.std.specs.Prelude.{◌≡◌, ℕ, ◌+◌, ◌-◌, ◌/◌, ◌^◌, ◌<◌, ◌≤◌, ◌⊎◌, min, ℤ, pos, negsuc, List, length, slice_index_or, Option, None, Some, MatchOption}
 use Rattle.link_key.specs.declared.links.Link.{Link}
 use Rattle.link_key.specs.Link.{IsBelow}
 use Rattle.link_key.specs.Labels.{label_of}
 use Rattle.round_theory.specs.Labelling.{IsVertex}
 use Rattle.round_theory.specs.Offers.{Leaves}
-use Rattle.shard_scans.specs.declared.scanning.TheConstants.{NO_WEIGHT, NO_PLACE}
+use Rattle.shard_scans.specs.declared.scanning.TheConstants.{NO_KEY, NO_PLACE}
 use Rattle.shard_scans.specs.declared.scanning.Best.{Best}
 
 -- the link l at place p comes before the link m at place q: it is below m, or it is m and stands no later
@@ -30,15 +30,20 @@ NoneLeavesIn links labels from to c = (q : ℕ) (m : Link) → from ≤ q → q 
 abbrev pub IsBest : List Link → List ℕ → ℕ → ℕ → ℕ → Option ℕ → Type 0
 IsBest links labels from to c best = MatchOption best (NoneLeavesIn links labels from to c) (λ place. IsBestPlace links labels from to c place)
 
+-- a key of 32 bits for a weight: a greater weight has no lesser one
+abbrev pub short_key : ℤ → ℤ
+short_key (pos n) = pos (min n (2 ^ 30) + n / 2 ^ 33)
+short_key (negsuc n) = negsuc (min n (2 ^ 30 - 1) + n / 2 ^ 33 + 1)
+
 -- no link
 abbrev pub no_best : Best
-no_best = record { weight = NO_WEIGHT; place = NO_PLACE }
+no_best = record { key = NO_KEY; place = NO_PLACE }
 
--- the place in the list, and the weight of the link there
+-- the place in the list, and the short key of the weight of the link there
 abbrev pub Says : List Link → Best → Option ℕ → Type 0
 Says links kept None = kept ≡ no_best
 Says links kept (Some place) =
-    (kept.place ≡ place) × (place < length links) × ((l : Link) → l ≡ slice_index_or links place l → kept.weight ≡ l.weight)
+    (kept.place ≡ place) × (place < length links) × ((l : Link) → l ≡ slice_index_or links place l → kept.key ≡ short_key l.weight)
 
 -- what is kept for a label says its best place
 pub record Keeps (links : List Link) (labels : List ℕ) (from to c : ℕ) (kept : Best) : Type 0 where

@@ -18,7 +18,7 @@ ghost use Rattle.shard_scans.specs.Live.{AreParallel, AreLiveLinks, StayLive, li
 use crate::batches::{BATCH, NOTHING, keep_each, look_up_live};
 use crate::end_labels::EndLabels;
 use crate::parts::Part;
-use crate::scanning::Best;
+use crate::scanning::{Best, short_key};
 use crate::table::Table;
 use link_key::Link;
 use std::alloc::{AllocError, Allocator};
@@ -58,7 +58,7 @@ impl LiveLink {
         }
     }
 
-    // What a table keeps of it: the weight of the link at its place, and the place.
+    // What a table keeps of it: a short key of the weight of the link at its place, and the place.
     #[inline]
     pub(crate) fn best(self, links: &[Link]) -> Best
         requires in_list { self.place < length links.now }
@@ -66,7 +66,7 @@ impl LiveLink {
         ensures says { Says links.now result (Some result.place) }
     {
         Best {
-            weight: links[self.place as usize].weight,
+            key: short_key(links[self.place as usize].weight),
             place: self.place,
         }
     }

@@ -3,7 +3,7 @@ ghost use Rattle.std.specs.Prelude.{◌≡◌, ◌≢◌, ℕ, ◌+◌, ◌-◌,
 ghost use Rattle.link_key.specs.Link.{EndsUpTo};
 ghost use Rattle.link_key.specs.Labels.{AreLabels};
 ghost use Rattle.round_theory.specs.Offers.{AreLightOffers};
-ghost use Rattle.shard_scans.specs.Scanning.{no_best, Says, KeepsLesser, AreBest, TakesIn};
+ghost use Rattle.shard_scans.specs.Scanning.{short_key, no_best, Says, KeepsLesser, AreBest, TakesIn};
 ghost use Rattle.shard_scans.specs.Live.{AreLiveLinks, relabelled};
 ghost use Rattle.shard_scans.specs.Batches.{CanBeTakenIn};
 ghost use Rattle.shard_scans.specs.Numbers.{HaveNames, shown, IsListed};
@@ -22,23 +22,23 @@ use std::alloc::{AllocError, Allocator, Global};
 use std::marker::Model;
 use std::thread::Threads;
 
-// What a table keeps for a label: of the links so far that leave it, the least one's weight, and the first place where
-// that link stands. Most comparisons need the weight alone, and so no look at a link anywhere in the list.
+// What a table keeps for a label: of the links so far that leave it, a short key of the least one's weight, and the first
+// place where that link stands. Most comparisons need the keys alone, and so no look at a link anywhere in the list.
 #[derive(Clone, Copy)]
 pub(crate) struct Best {
-    pub(crate) weight: i64,
+    pub(crate) key: i32,
     pub(crate) place: u32,
 }
 
-// The weight and the place of no link: no weight is greater, and no shard has so many links.
-pub(crate) const NO_WEIGHT: i64 = i64::MAX;
+// The key and the place of no link: no key is greater, and no shard has so many links.
+pub(crate) const NO_KEY: i32 = i32::MAX;
 
 pub(crate) const NO_PLACE: u32 = u32::MAX;
 
 /// The light offers of a shard's links under the labels: for each label that has a link with exactly one end under
 /// it, the least such link, by the first place where it stands.
 ///
-/// One pass over the links, and one over a table of the labels: for m links of n vertices O(m + n) time, 16 bytes and
+/// One pass over the links, and one over a table of the labels: for m links of n vertices O(m + n) time, 8 bytes and
 /// a bit a vertex for the table and 8 bytes for each offer. For scan after scan a [`Scanner`] keeps the table. The only
 /// error is want of memory.
 pub fn scan<A: Allocator + Copy, B: Allocator>(
@@ -56,7 +56,7 @@ pub fn scan<A: Allocator + Copy, B: Allocator>(
 /// The same offers as [`scan`] gives, by threads: the links are halved, at most as often as there are processors for, each
 /// part is scanned over a table of its own, and the tables are taken together.
 ///
-/// For m links of n vertices in p parts O(m / p + n p) time, and 16 bytes and a bit a vertex for each part's table. A part
+/// For m links of n vertices in p parts O(m / p + n p) time, and 8 bytes and a bit a vertex for each part's table. A part
 /// has at least as many links as there are vertices, and a list of few links, or one for which no thread can be made, is
 /// scanned by the caller's. The only error is want of memory.
 pub fn scan_par<R: Threads + Sync, A: Allocator + Copy + Send + Sync, B: Allocator>(
@@ -458,6 +458,16 @@ pub(crate) fn keep_next<A: Allocator + Copy>(
     true
 }
 
+// A key of 32 bits for a weight: a greater weight has no lesser one. Within 2^30 of zero different weights have different
+// keys, so that they are parted with no look at the links; farther out so have those that lie 2^33 apart.
+#[inline]
+pub(crate) fn short_key(weight: i64) -> i32
+    ensures { result ≡ short_key weight }
+{
+    let near = weight.max(-(1 << 30)).min(1 << 30);
+    (near + (weight >> 33)) as i32
+}
+
 // Keeps the next link where it is less than the best one so far, or the first one. Mostly it is neither, and then
 // nothing is stored.
 #[inline]
@@ -466,10 +476,10 @@ pub(crate) fn keep_lesser(best: &mut Best, links: &[Link], next: Best)
     requires next { Says links.now next (Some next.place) }
     ensures lesser { KeepsLesser links.now next best.old best.new }
 {
-    if best.weight < next.weight {
+    if best.key < next.key {
         return;
     }
-    if next.weight < best.weight {
+    if next.key < best.key {
         *best = next;
         return;
     }

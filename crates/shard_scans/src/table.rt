@@ -7,12 +7,12 @@ ghost use Rattle.limits.specs.declared.TheConstants.{MAX_SHARD_LINKS};
 ghost use Rattle.shard_scans.specs.Scanning.{no_best, Says};
 ghost use Rattle.shard_scans.specs.Tables.{KeepsAt, HaveNotes, AreNoted, AreNone, KeepNoMore, ArePlacesBelow, ArePlaces};
 
-use crate::scanning::{Best, NO_PLACE, NO_WEIGHT, keep_lesser};
+use crate::scanning::{Best, NO_KEY, NO_PLACE, keep_lesser};
 use link_key::Link;
 use std::alloc::{AllocError, Allocator};
 use std::marker::Model;
 
-// So many labels share a note: what is kept for them fills two lines of the processor's cache.
+// So many labels share a note: what is kept for them fills a line of the processor's cache.
 pub(crate) const BLOCK: usize = 8;
 
 // So many labels, eight blocks, share a note above those of the blocks. With more of them links that are spread over the
@@ -69,7 +69,7 @@ impl<A: Allocator + Copy> Table<A> {
         self.bests.resize(
             labels,
             Best {
-                weight: NO_WEIGHT,
+                key: NO_KEY,
                 place: NO_PLACE,
             },
         )
@@ -204,7 +204,7 @@ fn clear_block(bests: &mut [Best], block: usize)
     let from = block * BLOCK;
     for before in from..from + BLOCK.min(bests.len() - from) {
         bests[before] = Best {
-            weight: NO_WEIGHT,
+            key: NO_KEY,
             place: NO_PLACE,
         };
     }

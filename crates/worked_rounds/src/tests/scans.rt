@@ -373,6 +373,33 @@ fn weights_past_32_bits(rt: HostRuntime) -> Result<(), Fail> {
     Ok(())
 }
 
+// Of weights farther than 2^30 from zero many have one short key. Here all three have one, or lie where keys begin to.
+const FAR: i64 = 1 << 30;
+
+const FARTHER: i64 = 1 << 33;
+
+#[test]
+fn weights_of_one_short_key(rt: HostRuntime) -> Result<(), Fail> {
+    let alloc = rt.alloc();
+    let graphs: [([i64; 3], [(u32, u32); 3]); 9] = [
+        ([FAR + 2, FAR + 1, FAR + 3], [(1, 0), (2, 1), (3, 1)]),
+        ([-FAR - 2, -FAR - 1, -FAR - 3], [(1, 2), (2, 0), (3, 2)]),
+        ([FAR, FAR - 1, FAR + 1], [(1, 0), (2, 1), (3, 1)]),
+        ([-FAR, 1 - FAR, -FAR - 1], [(1, 2), (2, 0), (3, 2)]),
+        ([0, -1, 1], [(1, 0), (2, 1), (3, 1)]),
+        ([FARTHER, FARTHER - 1, FARTHER], [(1, 0), (2, 1), (3, 1)]),
+        ([-FARTHER, 1 - FARTHER, -FARTHER - 1], [(1, 2), (2, 0), (3, 2)]),
+        ([i64::MAX - 1, i64::MAX, i64::MAX - 2], [(1, 2), (2, 0), (3, 2)]),
+        ([i64::MIN + 1, i64::MIN + 2, i64::MIN], [(1, 2), (2, 0), (3, 2)]),
+    ];
+    let mut scanner = Scanner::new(alloc);
+    for (weights, expected) in graphs {
+        let arcs = [(1, 2, weights[0]), (2, 3, weights[1]), (1, 3, weights[2])];
+        expect_offers_of_three(&rt, alloc, &mut scanner, &arcs, &expected)?;
+    }
+    Ok(())
+}
+
 // How many neighbours make a component, and how many of two shards are asked for.
 const COMPONENTS: [(u32, u32); 9] = [
     (1, 2),

@@ -16,7 +16,7 @@ loop-i-preserved g c =
     let links = c.args.links.now in
     let i = c.loop-i.i in
     let within = c.loop-i-test.true in
-    let default : Best = record { weight = pos 0; place = 0 } in
+    let default : Best = record { key = pos 0; place = 0 } in
     elim c.if-next.branch [
       | then-next w ↦
           let kept = w.keep.ensures.kept in

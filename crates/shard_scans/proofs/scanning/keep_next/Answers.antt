@@ -35,7 +35,7 @@ returns-clause-best g c = λ count labels from l read low_is high_is le are.
     let leaves_at_high = subst (Leaves labels l) (sym high_is) (leaves_high labels l apart) in
     let low_vertex = subst (λ n. IsVertex n low) are.each_vertex can.low in
     let high_vertex = subst (λ n. IsVertex n high) are.each_vertex can.high in
-    let default : Best = record { weight = pos 0; place = 0 } in
+    let default : Best = record { key = pos 0; place = 0 } in
     let at_low = c.keep.ensures.kept in
     let at_high = c.keep-2.ensures.kept in
     let other : get_or c.keep.new.self (high - 1) default ≡ get_or table (high - 1) default =

@@ -12,7 +12,7 @@ loop-before-preserved g c =
     let bests = c.args.bests.now in
     let before = c.loop-before.before in
     let pairs = c.loop-before.pairs.items in
-    let default : Best = record { weight = pos 0; place = 0 } in
+    let default : Best = record { key = pos 0; place = 0 } in
     let within : before < length bests = omega (arith, c.loop-before-test.true, c.min.ensures, c.requires.within) in
     let read : (get_or bests before no_best).place ≡ (get_or bests before default).place = ap (λ (b : Best). b.place) (get_or_default bests before no_best default within) in
     elim c.if-place.branch [
