@@ -39,20 +39,22 @@ is_taken_now p (x ∷ ts) t (zero, b, e) = elim (either (is_taken (with_answers 
 ]
 is_taken_now p (x ∷ ts) t (suc k, b, e) = is_taken_now (with_answer p x) ts t (k, omega arith, e)
 
-pub value_opened : (round : ℕ) (cut : List (List Link)) (labels : List ℕ) → AreLabels labels → All (EndsUpTo (length labels)) cut → length cut ≤ MAX_SHARDS → IsBook (opened round cut labels) (length cut) (replicate (length labels) None)
+pub value_opened : (round : ℕ) (cut : List (List Link)) (labels : List ℕ) → AreLabels labels → All (EndsUpTo (length labels)) cut → length cut ≤ MAX_SHARDS → IsBook (opened round cut labels) labels (length cut) (replicate (length labels) None)
 value_opened round cut labels are ends few =
     let nothing : List (Option Link) = replicate (length labels) None in
     let long : length nothing ≡ length labels = length-replicate (length labels) None in
-    book_opened round (length cut) cut labels (replicate (length cut) false) [] nothing are ends few refl refl (omega arith) long
+    book_opened round (length cut) cut labels labels (replicate (length cut) false) [] nothing are ends few refl refl (omega arith) long
     (λ i d b. get_or-replicate (length labels) i None d (omega (arith, b, long)))
+    refl
 
-book_all : (p : BookValue) (ts : List AnswerValue) (room : ℕ) (best : List (Option Link)) → IsBook p room best → TakesAll p ts → IsBook (with_answers p ts) room best
-book_all p [] room best is are = is
-book_all p (t ∷ ts) room best is are = book_all (with_answer p t) ts room best (book_heard p room best t.shard t is are.0.within are.0.taken) are.1
+book_all : (p : BookValue) (looked_up : List ℕ) (ts : List AnswerValue) (room : ℕ) (best : List (Option Link))
+    → IsBook p looked_up room best → TakesAll p ts → IsBook (with_answers p ts) looked_up room best
+book_all p looked_up [] room best is are = is
+book_all p looked_up (t ∷ ts) room best is are = book_all (with_answer p t) looked_up ts room best (book_heard p looked_up room best t.shard t is are.0.within are.0.taken) are.1
 
 -- a book that was opened stays a book
 pub value_of_book : (round : ℕ) (cut : List (List Link)) (labels : List ℕ) (ts : List AnswerValue) → AreLabels labels → All (EndsUpTo (length labels)) cut → length cut ≤ MAX_SHARDS → TakesAll (opened round cut labels) ts → IsBookValue (with_answers (opened round cut labels) ts)
-value_of_book round cut labels ts labels_are ends few are = (book_all (opened round cut labels) ts _ _ (value_opened round cut labels labels_are ends few) are).value
+value_of_book round cut labels ts labels_are ends few are = (book_all (opened round cut labels) labels ts _ _ (value_opened round cut labels labels_are ends few) are).value
 
 -- ---- lists of numbers, none of which stands twice
 

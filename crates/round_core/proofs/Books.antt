@@ -28,11 +28,12 @@ all_missing : (k : ℕ) → count_by not (replicate k false) ≡ k
 all_missing zero = refl
 all_missing (suc k) = let n = sum_by-cons (λ (x : Bool). cond (not x) 1 0) false (replicate k false) in let m = all_missing k in omega (arith, n, m)
 
-pub book_opened : (round room : ℕ) (cut : List (List Link)) (labels : List ℕ) (taken : List Bool) (answers : List AnswerValue) (best : List (Option Link))
+pub book_opened : (round room : ℕ) (cut : List (List Link)) (labels looked_up : List ℕ) (taken : List Bool) (answers : List AnswerValue) (best : List (Option Link))
     → AreLabels labels → All (EndsUpTo (length labels)) cut → length cut ≤ MAX_SHARDS → taken ≡ replicate (length cut) false → answers ≡ [] → length cut ≤ room → length best ≡ length labels → AreNoPicks best
-    → IsBook (record { round = round; cut = cut; labels = labels; taken = taken; answers = answers }) room best
-book_opened round room cut labels taken answers best are ends few taken_is answers_is room_is best_len best_is = record {
+    → looked_up ≡ labels → IsBook (record { round = round; cut = cut; labels = labels; taken = taken; answers = answers }) looked_up room best
+book_opened round room cut labels looked_up taken answers best are ends few taken_is answers_is room_is best_len best_is same = record {
   value = rw (taken_is, answers_is) value;
+  same_labels = same;
   room_for_answers = room_is;
   room_for_picks = best_len;
   no_picks = best_is;

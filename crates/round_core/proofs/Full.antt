@@ -112,9 +112,11 @@ module _ (p : BookValue) (s : ℕ) (a : AnswerValue) (is : IsBookValue p) (lt : 
     once = all_pairs_push (λ (b c : AnswerValue). b.shard ≢ c.shard) p.answers a is.once apart;
   }
 
-pub book_heard : (p : BookValue) (room : ℕ) (best : List (Option Link)) (s : ℕ) (a : AnswerValue) → IsBook p room best → s < length p.cut → refusal p s a ≡ None → IsBook (with_answer p a) room best
-book_heard p room best s a is lt none = record {
+pub book_heard : (p : BookValue) (looked_up : List ℕ) (room : ℕ) (best : List (Option Link)) (s : ℕ) (a : AnswerValue) → IsBook p looked_up room best → s < length p.cut → refusal p s a ≡ None
+    → IsBook (with_answer p a) looked_up room best
+book_heard p looked_up room best s a is lt none = record {
   value = value_heard p s a is.value lt (accepted p s a none);
+  same_labels = is.same_labels;
   room_for_answers = is.room_for_answers;
   room_for_picks = is.room_for_picks;
   no_picks = is.no_picks;

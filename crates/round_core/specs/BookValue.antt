@@ -82,9 +82,10 @@ pub record IsBookValue (p : BookValue) : Type 0 where
   pub answered : (s : ℕ) → s < length p.cut → (is_taken p s ≡ true) ↔ IsAnswered p s
   pub once : AllPairs (λ (a b : AnswerValue). a.shard ≢ b.shard) p.answers
 
--- a book whose memory has room for an answer of each shard and a pick of each label
-pub record IsBook (p : BookValue) (room : ℕ) (best : List (Option Link)) : Type 0 where
+-- a book that looks up its own labels, and whose memory has room for an answer of each shard and a pick of each label
+pub record IsBook (p : BookValue) (looked_up : List ℕ) (room : ℕ) (best : List (Option Link)) : Type 0 where
   pub value : IsBookValue p
+  pub same_labels : looked_up ≡ p.labels
   pub room_for_answers : length p.cut ≤ room
   pub room_for_picks : length best ≡ length p.labels
   pub no_picks : AreNoPicks best

@@ -7,3 +7,4 @@ pub mod Solver
 pub mod SolverLaws
 pub mod Examples
 pub mod LookedUp
+pub mod EndLabels

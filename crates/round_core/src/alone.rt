@@ -10,6 +10,7 @@ ghost use Rattle.round_core.specs.Picks.{ArePicks, ArePicksOfHearings};
 ghost use Rattle.round_core.specs.Solver.{vertices, HasRoundsOf, IsRoundOf};
 ghost use Rattle.round_core.specs.declared.solver.SolveFault.TheVariants.{Memory};
 
+use crate::end_labels::EndLabels;
 use crate::picks::Picks;
 use crate::solver::{SolveFault, Solver, Turn};
 use limits::MAX_VERTICES;
@@ -72,14 +73,15 @@ fn pick_all<A: Allocator + Copy>(
     ensures heard { IfOk result (ArePicksOfHearings labels.now) }
 {
     let mut picks = Picks::none(alloc, labels.n())?;
+    let end_labels = EndLabels::over(labels.as_slice());
     for number in 0..cut.len() {
-        count_leaving(&mut picks, labels.as_slice(), cut.shard(number).links);
+        count_leaving(&mut picks, &end_labels, cut.shard(number).links);
     }
     Ok(picks)
 }
 
 // Counts each link of a shard that leaves a component, for both of its components.
-fn count_leaving<A: Allocator>(picks: &mut Picks<A>, labels: &[u32], links: &[Link])
+fn count_leaving<A: Allocator>(picks: &mut Picks<A>, labels: &EndLabels, links: &[Link])
     requires labels { AreLabels labels.now }
     requires ends { EndsUpTo (length labels.now) links.now }
     requires each_vertex { length picks.old ≡ length labels.now }
@@ -87,8 +89,8 @@ fn count_leaving<A: Allocator>(picks: &mut Picks<A>, labels: &[u32], links: &[Li
     ensures picks { (seen : List TheLink) → ArePicks labels.now (Contains seen) picks.old → ArePicks labels.now (Contains (seen ++ links.now)) picks.new }
 {
     for link in links {
-        let low = labels[link.low as usize - 1];
-        let high = labels[link.high as usize - 1];
+        let low = labels.of(link.low);
+        let high = labels.of(link.high);
         if low != high {
             picks.count(labels, *link);
         }

@@ -7,6 +7,7 @@ ghost use Rattle.round_theory.specs.Offers.{IsNamed};
 ghost use Rattle.round_core.specs.BookValue.{BookValue, opened, is_taken, missing, is_leaving, is_offer, refusal, with_answer, hearings, named_links, IsBookValue};
 ghost use Rattle.round_core.specs.Picks.{ArePicks, AreNoPicks};
 
+use crate::end_labels::EndLabels;
 use crate::picks::Picks;
 use crate::refusals::Refusal;
 use crate::tally::{count_answers, count_by_halves, halvings_of, offers_in};
@@ -28,6 +29,7 @@ pub struct RoundBook<'a, A: Allocator = Global> {
     round: u32,
     cut: &'a Cut<'a, A>,
     labels: &'a Labels<A>,
+    end_labels: EndLabels<'a>,
     taken: Vec<bool, A>,
     answers: Vec<Answer<A>, A>,
     picks: Picks<A>,
@@ -41,7 +43,7 @@ impl<'a, A: Allocator> Model for RoundBook<'a, A> {
 
     ghost view = { λ s. record { round = s.round; cut = s.cut.now; labels = s.labels.now; taken = s.taken.items; answers = s.answers.items } };
 
-    ghost invariant = { λ s. IsBook (record { round = s.round; cut = s.cut.now; labels = s.labels.now; taken = s.taken.items; answers = s.answers.items }) (vec_capacity s.answers) s.picks };
+    ghost invariant = { λ s. IsBook (record { round = s.round; cut = s.cut.now; labels = s.labels.now; taken = s.taken.items; answers = s.answers.items }) s.end_labels (vec_capacity s.answers) s.picks };
 }
 
 impl<'a, A: Allocator + Copy> RoundBook<'a, A> {
@@ -60,7 +62,8 @@ impl<'a, A: Allocator + Copy> RoundBook<'a, A> {
 
     /// The same in the room of picks of which none is left, as a step by threads leaves them
     /// ([`Solver::step_par`](crate::Solver::step_par)): no pick is written, and room for picks is asked for only where there
-    /// are more labels. What it takes for each shard is as `open` takes it.
+    /// are more labels. What it takes for each shard is as `open` takes it. Labels are looked at up to the first that isn't
+    /// its own vertex, so that no label of an end is looked up where each is.
     pub fn open_over(
         picks: Picks<A>,
         round: u32,
@@ -80,6 +83,7 @@ impl<'a, A: Allocator + Copy> RoundBook<'a, A> {
             round,
             cut,
             labels,
+            end_labels: EndLabels::over(labels.as_slice()),
             taken,
             answers,
             picks,
@@ -149,7 +153,7 @@ impl<'a, A: Allocator> RoundBook<'a, A> {
             return Err(Refusal::Double);
         }
         let links = self.cut.shard(shard).links;
-        if !are_offers(links, self.labels.as_slice(), answer.offers.pairs()) {
+        if !are_offers(links, &self.end_labels, answer.offers.pairs()) {
             return Err(Refusal::NotALink);
         }
         Ok(())
@@ -188,12 +192,13 @@ impl<'a, A: Allocator> RoundBook<'a, A> {
         let RoundBook {
             round: _,
             cut,
-            labels,
+            labels: _,
+            end_labels,
             taken: _,
             answers,
             mut picks,
         } = self;
-        count_answers(cut, labels.as_slice(), answers.as_slice(), &mut picks);
+        count_answers(cut, &end_labels, answers.as_slice(), &mut picks);
         picks
     }
 }
@@ -212,19 +217,20 @@ impl<'a, A: Allocator + Copy + Send + Sync> RoundBook<'a, A> {
         let RoundBook {
             round: _,
             cut,
-            labels,
+            labels: _,
+            end_labels,
             taken: _,
             answers,
             picks,
         } = self;
         let answers = answers.as_slice();
-        let halvings = halvings_of(rt, offers_in(answers), labels.as_slice().len());
-        count_by_halves(rt, cut, labels.as_slice(), answers, picks, halvings)
+        let halvings = halvings_of(rt, offers_in(answers), end_labels.len());
+        count_by_halves(rt, cut, &end_labels, answers, picks, halvings)
     }
 }
 
 // Whether each pair is the place of a link with exactly one end under the label.
-fn are_offers(links: &[Link], labels: &[u32], pairs: &[(u32, u32)]) -> bool
+fn are_offers(links: &[Link], labels: &EndLabels, pairs: &[(u32, u32)]) -> bool
     requires labels { AreLabels labels.now }
     requires ends { EndsUpTo (length labels.now) links.now }
     ensures { result ≡ list_all (is_offer links.now labels.now) pairs.now }
@@ -239,7 +245,7 @@ fn are_offers(links: &[Link], labels: &[u32], pairs: &[(u32, u32)]) -> bool
 
 // Whether the pair is the place of a link with exactly one end under the label.
 #[inline]
-fn is_offered(links: &[Link], labels: &[u32], pair: (u32, u32)) -> bool
+fn is_offered(links: &[Link], labels: &EndLabels, pair: (u32, u32)) -> bool
     requires labels { AreLabels labels.now }
     requires ends { EndsUpTo (length labels.now) links.now }
     ensures { result ≡ is_offer links.now labels.now pair }
@@ -250,9 +256,9 @@ fn is_offered(links: &[Link], labels: &[u32], pair: (u32, u32)) -> bool
 
 // Whether exactly one end of the link has the label.
 #[inline]
-fn leaves(labels: &[u32], link: Link, label: u32) -> bool
+fn leaves(labels: &EndLabels, link: Link, label: u32) -> bool
     requires ends { link.high ≤ length labels.now }
     ensures { result ≡ is_leaving labels.now label link }
 {
-    (labels[link.low as usize - 1] == label) != (labels[link.high as usize - 1] == label)
+    (labels.of(link.low) == label) != (labels.of(link.high) == label)
 }

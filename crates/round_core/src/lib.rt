@@ -14,13 +14,15 @@
 //!   where they span; by the least links it makes just the merging rounds, and the forest.
 //!
 //! Where to start a change: `specs/BookValue` says what a book is and when it refuses, `specs/Picks` what picks are,
-//! `specs/LookedUp` what is read of a batch of offers before it is counted, `specs/Hooks` how components are joined,
-//! `specs/Roots` how a solver joins those that are left, and `specs/Solver` what a round and the end are; `laws` ties
-//! them to the theory. `book`, `tally`, `picks`, `hooks`, `roots`, `missed`, `solver` and `alone` do it.
+//! `specs/EndLabels` in what labels of ends are looked up, `specs/LookedUp` what is read of a batch of offers before it
+//! is counted, `specs/Hooks` how components are joined, `specs/Roots` how a solver joins those that are left, and
+//! `specs/Solver` what a round and the end are; `laws` ties them to the theory. `book`, `end_labels`, `tally`, `picks`,
+//! `hooks`, `roots`, `missed`, `solver` and `alone` do it.
 #![tactic(auto)]
 
 pub mod alone;
 pub mod book;
+mod end_labels;
 pub mod examples;
 pub mod hooks;
 pub mod laws;

@@ -6,6 +6,7 @@ ghost use Rattle.round_core.specs.Picks.{pick_of, AreNoPicks, HaveAllPicks, AreP
 ghost use Rattle.round_core.specs.PickNumbers.{IsKeyNumber, IsPickNumber, AreLesserOf, AreCleared, pick_in};
 ghost use Rattle.round_core.specs.LookedUp.{IsLookedUp, IsCountable, CountsFound, CountsEach};
 
+use crate::end_labels::EndLabels;
 use link_key::Link;
 use std::alloc::{AllocError, Allocator, Global};
 use std::marker::Model;
@@ -160,7 +161,7 @@ impl<A: Allocator> Picks<A> {
 
     // Counts a link for both of the components that it leaves.
     #[inline]
-    pub(crate) fn count(&mut self, labels: &[u32], link: Link)
+    pub(crate) fn count(&mut self, labels: &EndLabels, link: Link)
         requires labels { AreLabels labels.now }
         requires ends { link.high ≤ length labels.now }
         requires each_vertex { length self.old ≡ length labels.now }
@@ -225,7 +226,7 @@ impl LookedUp {
 
 // Looks up a link.
 #[inline]
-pub(crate) fn look_up(labels: &[u32], link: Link) -> LookedUp
+pub(crate) fn look_up(labels: &EndLabels, link: Link) -> LookedUp
     requires labels { AreLabels labels.now }
     requires ends { link.high ≤ length labels.now }
     requires leaving { label_of labels.now link.low ≢ label_of labels.now link.high }
@@ -233,8 +234,8 @@ pub(crate) fn look_up(labels: &[u32], link: Link) -> LookedUp
 {
     LookedUp {
         number: key_number(link),
-        low: labels[link.low as usize - 1],
-        high: labels[link.high as usize - 1],
+        low: labels.of(link.low),
+        high: labels.of(link.high),
     }
 }
 

@@ -8,6 +8,7 @@ ghost use Rattle.round_core.specs.BookValue.{is_offer, named_links, all_named, C
 ghost use Rattle.round_core.specs.Picks.{Counts};
 ghost use Rattle.round_core.specs.LookedUp.{AreLookedUp};
 
+use crate::end_labels::EndLabels;
 use crate::picks::{LookedUp, Picks, look_up};
 use frames::Answer;
 use link_key::{Cut, Link};
@@ -59,7 +60,7 @@ fn are_worth_halving(offers: usize, labels: usize) -> bool {
 pub(crate) fn count_by_halves<R: Threads + Sync, A: Allocator + Copy + Send + Sync>(
     rt: &R,
     cut: &Cut<A>,
-    labels: &[u32],
+    labels: &EndLabels,
     answers: &[Answer<A>],
     picks: Picks<A>,
     halvings: usize,
@@ -115,7 +116,7 @@ fn middle_of<A: Allocator>(answers: &[Answer<A>]) -> usize
 fn count_undivided<R: Threads + Sync, A: Allocator + Copy + Send + Sync>(
     rt: &R,
     cut: &Cut<A>,
-    labels: &[u32],
+    labels: &EndLabels,
     answers: &[Answer<A>],
     picks: Picks<A>,
     halvings: usize,
@@ -136,7 +137,7 @@ fn count_undivided<R: Threads + Sync, A: Allocator + Copy + Send + Sync>(
 // Counts each link that the answers offer, for both of its components, in one thread.
 fn count_alone<A: Allocator>(
     cut: &Cut<A>,
-    labels: &[u32],
+    labels: &EndLabels,
     answers: &[Answer<A>],
     mut picks: Picks<A>,
 ) -> Picks<A>
@@ -152,7 +153,7 @@ fn count_alone<A: Allocator>(
 // The same into picks that are lent.
 pub(crate) fn count_answers<A: Allocator>(
     cut: &Cut<A>,
-    labels: &[u32],
+    labels: &EndLabels,
     answers: &[Answer<A>],
     picks: &mut Picks<A>,
 )
@@ -172,7 +173,7 @@ pub(crate) fn count_answers<A: Allocator>(
 #[cycle(offers)]
 fn count_offers_by_halves<R: Threads + Sync, A: Allocator + Copy + Send + Sync>(
     rt: &R,
-    labels: &[u32],
+    labels: &EndLabels,
     links: &[Link],
     pairs: &[(u32, u32)],
     picks: Picks<A>,
@@ -209,7 +210,7 @@ fn count_offers_by_halves<R: Threads + Sync, A: Allocator + Copy + Send + Sync>(
 
 // The same in one thread.
 fn count_one<A: Allocator>(
-    labels: &[u32],
+    labels: &EndLabels,
     links: &[Link],
     pairs: &[(u32, u32)],
     mut picks: Picks<A>,
@@ -226,7 +227,7 @@ fn count_one<A: Allocator>(
 // Counts each offered link of a shard for both of its components. The offers are looked up by batches: what a pick is lowered
 // to stands in the way of the look-ups after it, so a batch's come before any of its picks.
 fn count_all<A: Allocator>(
-    labels: &[u32],
+    labels: &EndLabels,
     links: &[Link],
     pairs: &[(u32, u32)],
     picks: &mut Picks<A>,
@@ -249,7 +250,7 @@ fn count_all<A: Allocator>(
 }
 
 // Looks up the link that each offer of a batch names.
-fn look_up_each(labels: &[u32], links: &[Link], pairs: &[(u32, u32)], found: &mut [LookedUp])
+fn look_up_each(labels: &EndLabels, links: &[Link], pairs: &[(u32, u32)], found: &mut [LookedUp])
     requires can { CanCountOffers links.now labels.now pairs.now }
     requires room { length pairs.now ≤ length found.old }
     ensures room { length found.new ≡ length found.old }

@@ -100,15 +100,28 @@ fn expect_least<R: Abort + Threads + Sync>(
     counts: &[u32],
     order: &[u32],
 ) -> Result<(), Fail> {
+    assert!(rt; n < 1 << 20);
+    let labels = Labels::apart(alloc, n)?;
+    expect_least_under(rt, alloc, &labels, counts, order)
+}
+
+// So they are under labels, where no link that is offered joins two vertices of one.
+fn expect_least_under<R: Abort + Threads + Sync>(
+    rt: &R,
+    alloc: Global,
+    labels: &Labels,
+    counts: &[u32],
+    order: &[u32],
+) -> Result<(), Fail> {
+    let n = labels.n();
     assert!(rt; n < 1 << 20 && order.len() <= 8);
     let shards = order.len() as u32;
     let links = paths(rt, alloc, n, shards)?;
     let cut = Cut::even(alloc, links.as_slice(), shards).expect(rt, "a cut");
-    let labels = Labels::apart(alloc, n)?;
-    let book = opened(rt, alloc, &cut, 1, &labels)?;
+    let book = opened(rt, alloc, &cut, 1, labels)?;
     let alone = heard(rt, alloc, book, counts, order)?.close();
     expect_picks(rt, alloc, &alone, n, counts)?;
-    let book = opened(rt, alloc, &cut, 1, &labels)?;
+    let book = opened(rt, alloc, &cut, 1, labels)?;
     let beside = heard(rt, alloc, book, counts, order)?.close_par(rt);
     expect_picks(rt, alloc, &beside, n, counts)
 }
@@ -158,6 +171,28 @@ fn two_answers_of_unequal_length(rt: HostRuntime) -> Result<(), Fail> {
     let counts = [140_000, 3_000];
     expect_least(&rt, rt.alloc(), 140_001, &counts, &[0, 1])?;
     expect_least(&rt, rt.alloc(), 140_001, &counts, &[1, 0])
+}
+
+// Labels of the vertices up to n, each its own but for that of the last, which is the one before.
+fn apart_but_for_the_last(rt: &impl Abort, alloc: Global, n: u32) -> Result<Labels, Fail> {
+    assert!(rt; 1 < n && n < 1 << 20);
+    let mut labels = Vec::new(alloc);
+    for vertex in 1..n {
+        labels.push(vertex)?;
+    }
+    labels.push(n - 1)?;
+    Ok(Labels::of_list(labels).expect(rt, "labels"))
+}
+
+// Links to all vertices but the last are offered, whose label is the one before: its own is picked by none.
+#[test]
+fn labels_apart_but_for_the_last(rt: HostRuntime) -> Result<(), Fail> {
+    let alloc = rt.alloc();
+    let labels = apart_but_for_the_last(&rt, alloc, 10)?;
+    expect_least_under(&rt, alloc, &labels, &[8, 3, 8], &[0, 1, 2])?;
+    let labels = apart_but_for_the_last(&rt, alloc, 20_002)?;
+    let counts = [20_000; 8];
+    expect_least_under(&rt, alloc, &labels, &counts, &[0, 1, 2, 3, 4, 5, 6, 7])
 }
 
 #[test]

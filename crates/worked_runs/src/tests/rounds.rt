@@ -236,6 +236,40 @@ fn books_of_late_rounds(rt: HostRuntime) -> Result<(), Fail> {
     Ok(())
 }
 
+// Where 2 and 3 are joined, both components pick the link from 1 to 2, and 3 names none.
+fn are_of_two(picks: &Picks) -> bool
+    requires { length picks.now ≡ 3 }
+{
+    let least = Link::of_arc(1, 2, 5);
+    picks.of(1) == least && picks.of(2) == least && picks.of(3).is_none()
+}
+
+// Each vertex of the triangle is its own label but the last, which is joined to the second: the link between these is none
+// to offer, and the other two leave the second's label and not the last's own.
+#[test]
+fn the_last_vertex_is_joined(rt: HostRuntime) -> Result<(), Fail> {
+    let alloc = rt.alloc();
+    let links = links_to_cut(&rt, alloc, 3, EQUAL_WEIGHTS.arcs)?;
+    let cut = Cut::even(alloc, links.as_slice(), 1).expect(&rt, "a cut");
+    let labels = Labels::of_list(Vec::from_slice(alloc, &[1, 2, 2])?).expect(&rt, "labels");
+    assert!(rt; labels.n() == 3);
+    let book = opened(&rt, alloc, &cut, 2, &labels)?;
+    expect_judged(
+        &rt,
+        alloc,
+        &book,
+        &[
+            (2, 0, &[(2, 1)], Err(Refusal::NotALink)),
+            (2, 0, &[(3, 1)], Err(Refusal::NotALink)),
+            (2, 0, &[(3, 2)], Err(Refusal::NotALink)),
+            (2, 0, &[(1, 0), (2, 2)], Ok(())),
+        ],
+    )?;
+    let picks = picks_of_offers(&rt, alloc, book, &[&[(1, 2), (2, 0)]])?;
+    assert!(rt; are_of_two(&picks));
+    Ok(())
+}
+
 // It has this text.
 pub(crate) fn expect_text(
     rt: &impl Abort,

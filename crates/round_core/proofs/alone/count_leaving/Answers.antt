@@ -25,7 +25,7 @@ loop-link-preserved g c =
         each_vertex = so_far.each_vertex;
         picks = λ seen are.
             let next = append_assoc seen (take i links) (l ∷ []) ∙ ap (λ xs. seen ++ xs) (sym more) in
-            subst (λ (xs : List Link). ArePicks labels (Contains xs) c.loop-link.picks) next (picks_stay labels (seen ++ take i links) l c.loop-link.picks w.if-low-high.false (so_far.picks seen are));
+            subst (λ (xs : List Link). ArePicks labels (Contains xs) c.loop-link.picks) next (picks_stay labels (seen ++ take i links) l c.loop-link.picks (sym c.of-low.ensures.label ∙ w.if-low-high.false ∙ c.of-high.ensures.label) (so_far.picks seen are));
       })
     ]
 

@@ -15,10 +15,10 @@ loop-number-init g c =
 pub count_leaving-requires-clause-ends : goal.count_leaving-requires-clause-ends
 count_leaving-requires-clause-ends g c =
     let within : c.loop-number.number < length c.args.cut.now = omega (arith, c.loop-number-test.true, c.len-number-end.ensures.shards) in
-    rw (c.as_slice.ensures.labels, c.shard.ensures.links) (shard_ends (length c.args.labels.now) c.args.cut.now c.loop-number.number c.requires.ends within)
+    rw (c.over-end_labels.ensures, c.as_slice.ensures.labels, c.shard.ensures.links) (shard_ends (length c.args.labels.now) c.args.cut.now c.loop-number.number c.requires.ends within)
 
 pub count_leaving-requires-clause-each_vertex : goal.count_leaving-requires-clause-each_vertex
-count_leaving-requires-clause-each_vertex g c = rw c.as_slice.ensures.labels c.loop-number.invariant.each_vertex
+count_leaving-requires-clause-each_vertex g c = rw (c.over-end_labels.ensures, c.as_slice.ensures.labels) c.loop-number.invariant.each_vertex
 
 pub loop-number-preserved : goal.loop-number-preserved
 loop-number-preserved g c =
@@ -26,9 +26,9 @@ loop-number-preserved g c =
     let labels = c.args.labels.now in
     let number = c.loop-number.number in
     let within : number < length cut = omega (arith, c.loop-number-test.true, c.len-number-end.ensures.shards) in
-    let before : ArePicks c.as_slice.result.now (Contains (joined (take number cut))) c.loop-number.picks = rw c.as_slice.ensures.labels c.loop-number.invariant.picks in
-    let counted : ArePicks c.as_slice.result.now (Contains (joined (take number cut) ++ c.shard.result.links.now)) c.count_leaving.new.picks = c.count_leaving.ensures.picks (joined (take number cut)) before in
-    let here : ArePicks labels (Contains (joined (take number cut) ++ links_at cut number)) c.count_leaving.new.picks = rw (← c.as_slice.ensures.labels, ← c.shard.ensures.links) counted in
+    let before : ArePicks c.over-end_labels.result (Contains (joined (take number cut))) c.loop-number.picks = rw (c.over-end_labels.ensures, c.as_slice.ensures.labels) c.loop-number.invariant.picks in
+    let counted : ArePicks c.over-end_labels.result (Contains (joined (take number cut) ++ c.shard.result.links.now)) c.count_leaving.new.picks = c.count_leaving.ensures.picks (joined (take number cut)) before in
+    let here : ArePicks labels (Contains (joined (take number cut) ++ links_at cut number)) c.count_leaving.new.picks = rw (← c.as_slice.ensures.labels, ← c.over-end_labels.ensures, ← c.shard.ensures.links) counted in
     record {
       each_vertex = c.count_leaving.ensures.each_vertex ∙ c.loop-number.invariant.each_vertex;
       picks = subst (λ (xs : List Link). ArePicks labels (Contains xs) c.count_leaving.new.picks) (sym (one_more_shard cut number within)) here;

@@ -15,5 +15,5 @@ invariant_of-self g c =
     let within : a.shard < length p.cut = omega (arith, free, c.self.invariant.value.each_shard) in
     let same : c.answer.inside.shard ≡ a.shard = ap (λ (b : AnswerValue). b.shard) c.answer.view_is in
     rw (c.push_reserved.ensures.items, c.push_reserved.ensures.capacity)
-    (subst (λ (k : ℕ). IsBook (record { round = p.round; cut = p.cut; labels = p.labels; taken = slice_set p.taken k true; answers = p.answers ++ a ∷ [] }) room c.self.inside.picks) (sym same)
-    (book_heard p room c.self.inside.picks a.shard a c.self.invariant within allowed))
+    (subst (λ (k : ℕ). IsBook (record { round = p.round; cut = p.cut; labels = p.labels; taken = slice_set p.taken k true; answers = p.answers ++ a ∷ [] }) c.self.inside.end_labels room c.self.inside.picks) (sym same)
+    (book_heard p c.self.inside.end_labels room c.self.inside.picks a.shard a c.self.invariant within allowed))

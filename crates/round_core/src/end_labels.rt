@@ -1,0 +1,70 @@
+ghost use Rattle.std.specs.Prelude.{◌≡◌, ◌≤◌, ◌↔◌, length, IsTrue};
+ghost use Rattle.link_key.specs.Labels.{label_of, AreLabels, AreApart};
+
+use std::marker::Model;
+
+// The labels of a round, for those of the ends of links. Before components are merged each vertex labels itself, and the
+// most links are offered: then a label is told by its vertex, and no look-up waits for memory.
+#[derive(Drop)]
+pub(crate) struct EndLabels<'a> {
+    labels: &'a [u32],
+    apart: bool,
+}
+
+impl<'a> Model for EndLabels<'a> {
+    ghost use Rattle.std.specs.Prelude.{ℕ, List};
+    ghost use Rattle.round_core.specs.EndLabels.{AreEndLabels};
+
+    ghost Value = { List ℕ };
+
+    ghost view = { λ s. s.labels.now };
+
+    ghost invariant = { λ s. AreEndLabels s.labels.now s.apart };
+}
+
+impl<'a> EndLabels<'a> {
+    // The labels of a list. It looks at them up to the first that isn't its vertex, or at all.
+    pub(crate) fn over(labels: &'a [u32]) -> Self
+        requires { AreLabels labels.now }
+        ensures { result ≡ labels.now }
+    {
+        EndLabels {
+            labels,
+            apart: are_apart(labels),
+        }
+    }
+
+    // The label of a vertex.
+    #[inline]
+    pub(crate) fn of(&self, vertex: u32) -> u32
+        requires from_one { 1 ≤ vertex }
+        requires to_n { vertex ≤ length self.now }
+        ensures label { result ≡ label_of self.now vertex }
+    {
+        if self.apart {
+            return vertex;
+        }
+        self.labels[vertex as usize - 1]
+    }
+
+    // How many labels there are.
+    pub(crate) fn len(&self) -> usize
+        ensures each { result ≡ length self.now }
+        ensures labelled { AreLabels self.now }
+    {
+        self.labels.len()
+    }
+}
+
+// Whether each vertex is labelled by itself.
+fn are_apart(labels: &[u32]) -> bool
+    requires { AreLabels labels.now }
+    ensures { IsTrue result ↔ AreApart (length labels.now) labels.now }
+{
+    for i in 0..labels.len() {
+        if labels[i] as usize != i + 1 {
+            return false;
+        }
+    }
+    true
+}
