@@ -1,6 +1,5 @@
 -- The next scan of links that are listed by numbers.
 use Rattle.std.proofs.Common.{◌≡◌, ℕ, ◌+◌, ◌<◌, ◌≤◌, List, length, get_or, take, replicate, All, sym, ap, ◌∙◌, subst, inl, inr, arith}
-use Rattle.std.specs.Prelude.{Result, Ok, Err, OnOk}
 use Rattle.std.proofs.lemmas.List.{get_or-map, length-map, take_all}
 use Rattle.link_key.specs.declared.links.Link.{Link}
 use Rattle.link_key.specs.Labels.{label_of}
@@ -118,8 +117,3 @@ module _ (links : List Link) (labels : List ℕ) (row live : List LiveLink) (row
 
   pub row_names : HaveNames names live
   row_names = have_names (marks_of words) names within row live by
-
--- what is so in any case is so where there is a result
-pub so_where_ok : {T E P : Type 0} (r : Result T E) → P → OnOk r P
-so_where_ok (Ok x) is = is
-so_where_ok (Err e) is = tt

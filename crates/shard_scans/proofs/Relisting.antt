@@ -3,10 +3,11 @@ use Rattle.std.proofs.Common.{◌≡◌, ◌≢◌, ◌==◌, ℕ, ◌-◌, ◌<
 use Rattle.std.specs.Prelude.{Vec}
 use Rattle.std.proofs.lemmas.Bool.Decides.{eqb_tells}
 use Rattle.std.proofs.lemmas.List.{get_or-map, length-map, get_or_default, same_lists}
+use Rattle.link_key.specs.declared.links.Link.{Link}
 use Rattle.link_key.specs.Labels.{label_of}
 use Rattle.round_theory.specs.Labelling.{IsVertex}
 use Rattle.shard_scans.specs.declared.live.LiveLink.{LiveLink}
-use Rattle.shard_scans.specs.Live.{relabelled, packed}
+use Rattle.shard_scans.specs.Live.{AreLiveLinks, relabelled, packed}
 use Rattle.shard_scans.specs.Numbers.{IsMarked, number_of, numbered, named, HasItsName, AreBothMarked, AreBothNamed, HaveNames, HaveMarks, new_name, shown, AreByNumbers}
 use Rattle.shard_scans.proofs.Packed.{all_head, all_tail, packed_same, packed_apart, packed_all}
 use Rattle.shard_scans.proofs.Numbering.{numbers_apart}
@@ -126,6 +127,10 @@ shown_plain names live none = ap (λ (t : List ℕ). shown t live) none ∙ plai
     plain : (live : List LiveLink) → shown [] live ≡ live
     plain [] = refl
     plain (l ∷ live) = ap (λ (t : List LiveLink). l ∷ t) (plain live)
+
+-- so it does with the live links
+pub plain_live : (links : List Link) (labels names : List ℕ) (live : List LiveLink) → names ≡ [] → AreLiveLinks links labels live → AreLiveLinks links labels (shown names live)
+plain_live links labels names live none are = subst (AreLiveLinks links labels) (sym (shown_plain names live none)) are
 
 -- a list of no length is empty
 nothing_left : {X : Type 0} (xs : List X) → length xs ≡ 0 → xs ≡ []

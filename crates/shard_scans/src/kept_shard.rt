@@ -64,10 +64,12 @@ impl<A: Allocator + Copy> KeptShard<A> {
     /// greater than the number of labels. Under these labels the links that aren't live have to offer nothing: so it is
     /// where all are live, and where the labels coarsen those of the offers before ([`laws`](crate::laws)).
     ///
-    /// For m live links of n vertices O(m + n) time. It scans by numbers of its own for the labels that live links have: the
-    /// scanner's table takes 8 bytes and a bit for each of these, its marks a quarter of a byte a vertex. Beside them it takes
-    /// the list, 8 bytes for each offer, and 4 for the name of each number; once links are listed, 8 more for each number that
-    /// they had before, until it returns. The only error is want of memory, and the shard can be asked again after it.
+    /// For m live links of n vertices O(m + n) time. Where the list is made, of n live links or more, it scans by the labels
+    /// themselves, over a table of 8 bytes and a bit a vertex. Else it scans by numbers of its own for the labels that live
+    /// links have: the scanner's table takes 8 bytes and a bit for each of these, its marks a quarter of a byte a vertex. Beside
+    /// them it takes the list, 8 bytes for each offer, and 4 for the name of each number; once links are listed by numbers, 8
+    /// more for each number that they had before, until it returns. The only error is want of memory, and the shard can be
+    /// asked again after it.
     pub fn offers(
         &mut self,
         scanner: &mut Scanner<A>,
@@ -111,8 +113,8 @@ impl<A: Allocator + Copy + Send + Sync> KeptShard<A> {
     ///
     /// Where 131,072 links or more, at least twice as many as vertices, are to be scanned, it scans by the labels
     /// themselves, each part over a table of 8 bytes and a bit a vertex; live links that were listed by numbers are scanned
-    /// by these in one thread, and so is a shorter list. The only error is want of memory, and the shard can be asked again
-    /// after it.
+    /// by these in one thread, and a shorter list in one as [`offers`](KeptShard::offers) has it. The only error is want of
+    /// memory, and the shard can be asked again after it.
     pub fn offers_par<R: Threads + Sync>(
         &mut self,
         rt: &R,

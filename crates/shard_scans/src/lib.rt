@@ -6,7 +6,7 @@
 //!                      │ batch by batch ──► Table      ▲
 //!   links ── KeptShard::new ──► KeptShard ── offers ───┘
 //!                                │   ▲
-//!                         live links, listed by the labels' numbers
+//!                         live links, listed by labels, and then by numbers of these
 //! ```
 //!
 //! What it promises:

@@ -1,10 +1,11 @@
 //! The live links of a shard, listed by labels of their ends or by numbers of these.
-ghost use Rattle.std.specs.Prelude.{◌≡◌, ◌≤◌, [], length, map, All, IfSome, IfOk, OnOk, OnErr};
+ghost use Rattle.std.specs.Prelude.{◌≡◌, ◌≤◌, [], List, length, All, IfSome, OnOk, OnErr};
 ghost use Rattle.limits.specs.declared.TheConstants.{MAX_SHARD_LINKS};
+ghost use Rattle.link_key.specs.declared.links.Link.{Link};
 ghost use Rattle.link_key.specs.Link.{EndsUpTo};
 ghost use Rattle.link_key.specs.Labels.{AreLabels};
 ghost use Rattle.round_theory.specs.Labelling.{IsVertex};
-ghost use Rattle.shard_scans.specs.Live.{AreLiveLinks};
+ghost use Rattle.shard_scans.specs.Live.{AreLiveLinks, relabelled};
 ghost use Rattle.shard_scans.specs.Numbers.{marks_of, marked_in, AreCounted, AreBothMarked, AreByNumbers, HaveNames, HaveMarks, AreRenumbered, shown, IsListed};
 
 use crate::live::{LiveLink, pack, write_live};
@@ -31,6 +32,18 @@ impl<A: Allocator + Copy> Listed<A> {
         }
     }
 
+    // Lays the links aside whose ends fall together under these labels, and writes the others with them.
+    pub(crate) fn lay_aside(&mut self, labels: &[u32])
+        requires labels { AreLabels labels.now }
+        requires ends { All (λ l. IsVertex (length labels.now) l.low × IsVertex (length labels.now) l.high) self.old.links.items }
+        ensures names { self.new.names.items ≡ self.old.names.items }
+        ensures own { All (λ e. relabelled labels.now e ≡ e) self.new.links.items }
+        ensures live { (links : List Link) → AreLiveLinks links labels.now self.old.links.items → AreLiveLinks links labels.now self.new.links.items }
+    {
+        let kept = pack(self.links.as_mut_slice(), labels);
+        self.links.truncate(kept);
+    }
+
     // Writes the links with the numbers of their labels, of which there are so many, in place of these.
     pub(crate) fn number(&mut self, numbers: &Numbers<A>, count: usize) -> Result<(), AllocError>
         requires counted { AreCounted numbers.now }
@@ -38,6 +51,8 @@ impl<A: Allocator + Copy> Listed<A> {
         requires count { count ≡ marked_in (marks_of numbers.now) (length numbers.now) }
         ensures names { OnOk result (length self.new.names.items ≡ count) }
         ensures numbered { OnOk result (AreByNumbers (marks_of numbers.now) self.new.names.items self.old.links.items self.new.links.items) }
+        ensures same_names { OnErr result (self.new.names.items ≡ self.old.names.items) }
+        ensures same_links { OnErr result (self.new.links.items ≡ self.old.links.items) }
     {
         let mut own_names = Vec::new(*self.names.allocator());
         own_names.resize(count, NO_NAME)?;

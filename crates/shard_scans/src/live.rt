@@ -6,9 +6,8 @@
 //! others a label of each end is written, and the place, in 12 bytes. Under labels that coarsen, the label of such a label is
 //! that of the end itself, so a pass in order over what is written looks up labels of labels alone, of which there are fewer
 //! and fewer. The weight is read where the link itself stands: places ascend, so that is a walk in order too.
-ghost use Rattle.std.specs.Prelude.{◌≡◌, ◌<◌, ◌≤◌, List, length, take, replicate, All, Some, IfSome, IfOk, IsTrue, IsFalse};
+ghost use Rattle.std.specs.Prelude.{◌≡◌, ◌<◌, ◌≤◌, length, take, replicate, All, Some, IfOk, IsTrue, IsFalse};
 ghost use Rattle.limits.specs.declared.TheConstants.{MAX_SHARD_LINKS};
-ghost use Rattle.link_key.specs.declared.links.Link.{Link};
 ghost use Rattle.link_key.specs.Link.{EndsUpTo};
 ghost use Rattle.link_key.specs.Labels.{AreLabels};
 ghost use Rattle.round_theory.specs.Labelling.{IsVertex};
@@ -97,35 +96,21 @@ pub(crate) fn find_best_live<A: Allocator + Copy>(
     }
 }
 
-// The pass over all live links, once their new labels are written, and those that aren't quiet are moved to the front, in
-// order. It says how many these are.
-pub(crate) fn find_best_and_pack<A: Allocator + Copy>(
+// The pass over all live links, whose labels stand for themselves.
+pub(crate) fn keep_live<A: Allocator + Copy>(
     links: &[Link],
-    live: &mut [LiveLink],
+    live: &[LiveLink],
     labels: &[u32],
     table: &mut Table<A>,
-) -> usize
+)
     requires few_links { length links.now ≤ MAX_SHARD_LINKS }
     requires labels { AreLabels labels.now }
-    requires live { AreLiveLinks links.now labels.now live.old }
+    requires live { AreLiveLinks links.now labels.now live.now }
+    requires own { All (λ e. relabelled labels.now e ≡ e) live.now }
     requires none_yet { table.old ≡ replicate (length labels.now) no_best }
     ensures best { AreBest links.now labels.now 0 (length links.now) table.new }
-    ensures front { result ≤ length live.old }
-    ensures live { AreLiveLinks links.now labels.now (take result live.new) }
 {
-    let kept = pack(live, labels);
-    keep_each(links, live, kept, table);
-    kept
-}
-
-// Moves the live links that aren't quiet to the front, with their new labels, and says how many these are.
-pub(crate) fn pack_live(live: &mut [LiveLink], labels: &[u32]) -> usize
-    requires labels { AreLabels labels.now }
-    requires ends { All (λ l. IsVertex (length labels.now) l.low × IsVertex (length labels.now) l.high) live.old }
-    ensures front { result ≤ length live.old }
-    ensures live { (links : List Link) → AreLiveLinks links labels.now live.old → AreLiveLinks links labels.now (take result live.new) }
-{
-    pack(live, labels)
+    keep_each(links, live, live.len(), table);
 }
 
 // Writes the new labels of all live links, and moves those that aren't quiet to the front, in order. It says how many

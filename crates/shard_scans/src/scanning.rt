@@ -1,5 +1,5 @@
 //! The light offers of a shard, in one pass over its links.
-ghost use Rattle.std.specs.Prelude.{◌≡◌, ◌≢◌, ℕ, ◌+◌, ◌-◌, ◌<◌, ◌≤◌, ◌↔◌, length, replicate, Some, All, IfSome, IfOk, OnOk, IsTrue};
+ghost use Rattle.std.specs.Prelude.{◌≡◌, ◌≢◌, ℕ, ◌+◌, ◌-◌, ◌<◌, ◌≤◌, ◌↔◌, [], length, replicate, Some, All, IfSome, IfOk, OnOk, IsTrue};
 ghost use Rattle.link_key.specs.Link.{EndsUpTo};
 ghost use Rattle.link_key.specs.Labels.{AreLabels};
 ghost use Rattle.round_theory.specs.Offers.{AreLightOffers};
@@ -11,7 +11,7 @@ ghost use Rattle.shard_scans.specs.Numbers.{HaveNames, shown, IsListed};
 use crate::batches::{BATCH, NOTHING, keep_each, look_up};
 use crate::by_numbers::offers_of_listed;
 use crate::listed::{Listed, list_by_labels};
-use crate::live::{LiveLink, find_best_and_pack, pack_live, write_live};
+use crate::live::{LiveLink, keep_live, write_live};
 use crate::numbers::{Numbers, mark_each, mark_names};
 use crate::parallel::{best_of_all, halvings_of};
 use crate::parts::{Part, Scanned};
@@ -159,8 +159,51 @@ impl<A: Allocator + Copy> Scanner<A> {
             return Ok((offers, None));
         };
         let mut listed = Listed::by_labels(live);
-        let offers = self.scan_and_number(links, &mut listed, labels)?;
+        let offers = self.scan_new_list(links, &mut listed, labels)?;
         Ok((offers, Some(listed)))
+    }
+
+    // The same offers, by live links that are listed by these labels. Where they are as many as the labels or more, nearly
+    // each label stands at one of them, and the numbers would be nearly the labels themselves: by these the list is scanned as
+    // it stands. Fewer links are numbered.
+    fn scan_new_list<B: Allocator>(
+        &mut self,
+        links: &[Link],
+        listed: &mut Listed<A>,
+        labels: &Labels<B>,
+    ) -> Result<Offers<A>, AllocError>
+        requires few_links { length links.now ≤ MAX_SHARD_LINKS }
+        requires ends { EndsUpTo (length labels.now) links.now }
+        requires by_labels { listed.old.names.items ≡ [] }
+        requires live { AreLiveLinks links.now labels.now listed.old.links.items }
+        requires own { All (λ e. relabelled labels.now e ≡ e) listed.old.links.items }
+        ensures light { IfOk result (AreLightOffers links.now labels.now) }
+        ensures live { AreLiveLinks links.now labels.now (shown listed.new.names.items listed.new.links.items) }
+        ensures listed { IsListed listed.new.names.items listed.new.links.items }
+    {
+        if listed.links.len() < labels.as_slice().len() {
+            return self.scan_and_number(links, listed, labels);
+        }
+        self.scan_by_labels(links, listed.links.as_slice(), labels)
+    }
+
+    // The same offers, by live links with these labels, as they stand.
+    fn scan_by_labels<B: Allocator>(
+        &mut self,
+        links: &[Link],
+        live: &[LiveLink],
+        labels: &Labels<B>,
+    ) -> Result<Offers<A>, AllocError>
+        requires few_links { length links.now ≤ MAX_SHARD_LINKS }
+        requires ends { EndsUpTo (length labels.now) links.now }
+        requires live { AreLiveLinks links.now labels.now live.now }
+        requires own { All (λ e. relabelled labels.now e ≡ e) live.now }
+        ensures light { IfOk result (AreLightOffers links.now labels.now) }
+    {
+        let labels = labels.as_slice();
+        self.table.clear(labels.len())?;
+        keep_live(links, live, labels, &mut self.table);
+        offers_of(links, labels, &self.table)
     }
 
     // The same offers, by live links that are listed by these labels, which are numbered.
@@ -172,11 +215,12 @@ impl<A: Allocator + Copy> Scanner<A> {
     ) -> Result<Offers<A>, AllocError>
         requires few_links { length links.now ≤ MAX_SHARD_LINKS }
         requires ends { EndsUpTo (length labels.now) links.now }
+        requires by_labels { listed.old.names.items ≡ [] }
         requires live { AreLiveLinks links.now labels.now listed.old.links.items }
         requires own { All (λ e. relabelled labels.now e ≡ e) listed.old.links.items }
         ensures light { IfOk result (AreLightOffers links.now labels.now) }
-        ensures live { OnOk result (AreLiveLinks links.now labels.now (shown listed.new.names.items listed.new.links.items)) }
-        ensures have_names { OnOk result (HaveNames listed.new.names.items listed.new.links.items) }
+        ensures live { AreLiveLinks links.now labels.now (shown listed.new.names.items listed.new.links.items) }
+        ensures listed { IsListed listed.new.names.items listed.new.links.items }
     {
         let labels = labels.as_slice();
         self.numbers.clear(labels.len())?;
@@ -203,7 +247,7 @@ impl<A: Allocator + Copy> Scanner<A> {
         ensures listed { IsListed listed.new.names.items listed.new.links.items }
     {
         if listed.names.is_empty() {
-            self.scan_live(links, &mut listed.links, labels)
+            self.scan_older_list(links, listed, labels)
         } else {
             self.scan_by_numbers(links, listed, labels)
         }
@@ -232,24 +276,25 @@ impl<A: Allocator + Copy> Scanner<A> {
         offers_of_listed(links, labels, listed, &self.numbers, &mut self.table)
     }
 
-    // The same offers, where all links are written with labels.
-    pub(crate) fn scan_live<B: Allocator>(
+    // The same offers, where all links are written with labels of an earlier scan: those that are quiet are laid aside, and the
+    // others are numbered, however many they are. Once components have joined, half of the labels or more stand at no link,
+    // and all later scans pass over the numbers.
+    fn scan_older_list<B: Allocator>(
         &mut self,
         links: &[Link],
-        live: &mut Vec<LiveLink, A>,
+        listed: &mut Listed<A>,
         labels: &Labels<B>,
     ) -> Result<Offers<A>, AllocError>
         requires few_links { length links.now ≤ MAX_SHARD_LINKS }
         requires ends { EndsUpTo (length labels.now) links.now }
-        requires live { AreLiveLinks links.now labels.now live.old.items }
+        requires by_labels { listed.old.names.items ≡ [] }
+        requires live { AreLiveLinks links.now labels.now listed.old.links.items }
         ensures light { IfOk result (AreLightOffers links.now labels.now) }
-        ensures live { AreLiveLinks links.now labels.now live.new.items }
+        ensures live { AreLiveLinks links.now labels.now (shown listed.new.names.items listed.new.links.items) }
+        ensures listed { IsListed listed.new.names.items listed.new.links.items }
     {
-        let labels = labels.as_slice();
-        self.table.clear(labels.len())?;
-        let kept = find_best_and_pack(links, live.as_mut_slice(), labels, &mut self.table);
-        live.truncate(kept);
-        offers_of(links, labels, &self.table)
+        listed.lay_aside(labels.as_slice());
+        self.scan_and_number(links, listed, labels)
     }
 }
 
@@ -340,37 +385,39 @@ impl<A: Allocator + Copy + Send + Sync> Scanner<A> {
         ensures listed { IsListed listed.new.names.items listed.new.links.items }
     {
         if listed.names.is_empty() {
-            self.scan_live_par(rt, links, &mut listed.links, labels)
+            self.scan_live_par(rt, links, listed, labels)
         } else {
             self.scan_by_numbers(links, listed, labels)
         }
     }
 
-    // The same offers, where all links are written with labels: those that are quiet are laid aside first.
+    // The same offers, where all links are written with labels: those that are quiet are laid aside first. A list that
+    // isn't worth threads is scanned as by one.
     pub(crate) fn scan_live_par<'a, R: Threads + Sync, B: Allocator>(
         &mut self,
         rt: &R,
         links: &'a [Link],
-        live: &mut Vec<LiveLink, A>,
+        listed: &mut Listed<A>,
         labels: &'a Labels<B>,
     ) -> Result<Offers<A>, AllocError>
         requires few_links { length links.now ≤ MAX_SHARD_LINKS }
         requires ends { EndsUpTo (length labels.now) links.now }
-        requires live { AreLiveLinks links.now labels.now live.old.items }
+        requires by_labels { listed.old.names.items ≡ [] }
+        requires live { AreLiveLinks links.now labels.now listed.old.links.items }
         ensures light { IfOk result (AreLightOffers links.now labels.now) }
-        ensures live { AreLiveLinks links.now labels.now live.new.items }
+        ensures live { AreLiveLinks links.now labels.now (shown listed.new.names.items listed.new.links.items) }
+        ensures listed { IsListed listed.new.names.items listed.new.links.items }
     {
-        let halvings = halvings_of(rt, live.len(), labels.as_slice().len());
+        let halvings = halvings_of(rt, listed.links.len(), labels.as_slice().len());
         if halvings == 0 {
-            return self.scan_live(links, live, labels);
+            return self.scan_older_list(links, listed, labels);
         }
         let labels = labels.as_slice();
-        let kept = pack_live(live.as_mut_slice(), labels);
-        live.truncate(kept);
+        listed.lay_aside(labels);
         let alloc = self.table.allocator();
         let scanned = Scanned {
             links,
-            live: Some(live.as_slice()),
+            live: Some(listed.links.as_slice()),
             labels,
         };
         self.table = best_of_all(rt, alloc, scanned, halvings)?;

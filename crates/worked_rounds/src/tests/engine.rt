@@ -236,8 +236,8 @@ fn blocks_of_session(
     Ok(memory.given())
 }
 
-// An ask under the labels of the one before takes four blocks, for the names of its scan's numbers, for what became of those
-// before, for its offers and for the answer's text: none for what came.
+// An ask under the labels of the one before takes four blocks, for the marks and the names of its scan's numbers, for its
+// offers and for the answer's text: none for what came.
 #[test]
 fn an_ask_that_comes_again_is_not_stored(rt: HostRuntime) -> Result<(), Fail> {
     let once = blocks_of_session(&rt, rt.alloc(), &[&SHARD, &ASK])?;

@@ -204,15 +204,14 @@ fn blocks_of_ask<'a>(
     Ok(taken)
 }
 
-const BY_ONE: [Ask; 4] = [(2, 7), (1, 2), (1, 2), (2, 3)];
+const BY_ONE: [Ask; 4] = [(2, 5), (1, 1), (1, 0), (2, 2)];
 
-const BY_HALVES: [Ask; 4] = [(2, 7), (1, 6), (1, 0), (2, 7)];
+const BY_HALVES: [Ask; 4] = [(2, 7), (1, 6), (1, 1), (2, 7)];
 
 // An answer that offers something takes one block. By one thread the first ask lists the links, in one block, and so does one
-// whose labels make all links live again. The table of the first ask, three blocks, is used again, and so is the one of the
-// marks; the names of the numbers take one at each scan, and at each scan of what is listed one more for what becomes of the
-// names. By threads, which scan by labels, each part makes a table. Under the labels of one component all links are laid
-// aside at the first ask, so that nothing is left to be scanned at the second.
+// whose labels make all links live again. They are scanned by labels, over a table of three blocks that is used again. By
+// threads, which scan by labels too, each part makes a table. Under the labels of one component all links are laid aside at
+// the first ask of a list, so that no number has a name: there is one block for the marks, which is used again.
 #[test]
 fn links_laid_aside_are_scanned_no_more(rt: HostRuntime) -> Result<(), Fail> {
     let memory = Refusing::new(rt.alloc(), Refusals::none());
@@ -244,6 +243,9 @@ fn links_of_both_directions_are_listed_at_once(rt: HostRuntime) -> Result<(), Fa
 /// The labels of three vertices at an ask, and how many blocks the ask asks for.
 type CoarserAsk = ([u32; 3], u64);
 
+/// How many links there are between three vertices, and the asks for them.
+type Asked = (u32, [CoarserAsk; 4]);
+
 // A worker is asked for links between three vertices, under the labels of each by itself, twice under those of two
 // components, and under those of one. It answers as a scan does each time. How many blocks were asked for before.
 fn expect_coarser_asks(
@@ -251,10 +253,10 @@ fn expect_coarser_asks(
     alloc: Global,
     memory: &Memory,
     by: By,
-    asks: &[CoarserAsk],
+    asked: &Asked,
 ) -> Result<u64, Fail> {
     let mut worker = Worker::new(memory, by);
-    expect_coarser_asks_of(rt, alloc, memory, &mut worker, asks)
+    expect_coarser_asks_of(rt, alloc, memory, &mut worker, asked)
 }
 
 fn expect_coarser_asks_of<'a>(
@@ -262,26 +264,29 @@ fn expect_coarser_asks_of<'a>(
     alloc: Global,
     memory: &'a Memory,
     worker: &mut Worker<&'a Memory>,
-    asks: &[CoarserAsk],
+    asked: &Asked,
 ) -> Result<u64, Fail> {
-    worker.keep(rt, 0, falling(memory, 3, 0, 2000)?)?;
+    let (count, asks) = asked;
+    let count = *count;
+    worker.keep(rt, 0, falling(memory, 3, 0, count)?)?;
     let before = memory.asked();
     for (list, blocks) in asks {
         let (offers, taken) = answered(rt, memory, worker, list)?;
-        expect_same(rt, taken, *blocks);
-        expect_scanned(rt, alloc, &offers, list)?;
+        expect_same(rt, (count, taken), (count, *blocks));
+        expect_scanned(rt, alloc, &offers, count, list)?;
     }
     Ok(before)
 }
 
-// The offers are those of a scan of the worker's links under these labels.
+// The offers are those of a scan of the worker's links, of which there are so many, under these labels.
 fn expect_scanned<A: Allocator>(
     rt: &impl Abort,
     alloc: Global,
     offers: &Offers<A>,
+    count: u32,
     list: &[u32],
 ) -> Result<(), Fail> {
-    let links = falling(alloc, 3, 0, 2000)?;
+    let links = falling(alloc, 3, 0, count)?;
     let links = links.as_slice();
     let labels = Labels::of_list(list.to_vec(alloc)?).expect(rt, "labels");
     assert!(rt; links.len() <= 1 << 24 && have_labels(links, labels.n()));
@@ -290,31 +295,96 @@ fn expect_scanned<A: Allocator>(
     Ok(())
 }
 
-const LISTED: [CoarserAsk; 4] = [
-    ([1, 2, 3], 7),
-    ([1, 1, 3], 3),
-    ([1, 1, 3], 3),
-    ([1, 1, 1], 2),
+// Fewer links than vertices, as many, and many more.
+const LISTED: [Asked; 3] = [
+    (
+        2,
+        [
+            ([1, 2, 3], 7),
+            ([1, 1, 3], 3),
+            ([1, 1, 3], 3),
+            ([1, 1, 1], 2),
+        ],
+    ),
+    (
+        3,
+        [
+            ([1, 2, 3], 5),
+            ([1, 1, 3], 3),
+            ([1, 1, 3], 3),
+            ([1, 1, 1], 2),
+        ],
+    ),
+    (
+        2000,
+        [
+            ([1, 2, 3], 5),
+            ([1, 1, 3], 3),
+            ([1, 1, 3], 3),
+            ([1, 1, 1], 2),
+        ],
+    ),
 ];
 
-const NOT_LISTED_FIRST: [CoarserAsk; 4] = [
-    ([1, 2, 3], 5),
-    ([1, 1, 3], 5),
-    ([1, 1, 3], 3),
-    ([1, 1, 1], 2),
-];
-
-// The live links are listed, in one block, before the first scan: the first ask's first block, behind the one for its labels,
-// and before that of the marks, three of the table, the names and the offers. Where it is refused all links are scanned by
-// labels, without marks and names, and the next ask asks for it again: then some links are laid aside, and the block is given
-// back for a smaller one.
+// The live links are listed, in one block, before the first scan. Where they are fewer than the labels they are numbered then,
+// else at the next ask: in one block for the marks, three of the table, which are used again, and one for the names, and at
+// each later ask in one more for what becomes of the names. Each answer that offers something takes one.
 #[test]
 fn live_links_are_listed_once(rt: HostRuntime) -> Result<(), Fail> {
     for by in [By::OneThread, By::Threads] {
-        let memory = Refusing::new(rt.alloc(), Refusals::none());
-        let before = expect_coarser_asks(&rt, rt.alloc(), &memory, by, &LISTED)?;
-        let memory = Refusing::new(rt.alloc(), Refusals::only(before.wrapping_add(2)));
-        expect_coarser_asks(&rt, rt.alloc(), &memory, by, &NOT_LISTED_FIRST)?;
+        for asked in &LISTED {
+            let memory = Refusing::new(rt.alloc(), Refusals::none());
+            let _before = expect_coarser_asks(&rt, rt.alloc(), &memory, by, asked)?;
+        }
+    }
+    Ok(())
+}
+
+// How many blocks were asked for before the first ask of a worker that is asked so.
+fn blocks_before(
+    rt: &(impl Abort + Threads + Sync),
+    alloc: Global,
+    by: By,
+    asked: &Asked,
+) -> Result<u64, Fail> {
+    let memory = Refusing::new(alloc, Refusals::none());
+    expect_coarser_asks(rt, alloc, &memory, by, asked)
+}
+
+const NOT_LISTED_FIRST: [Asked; 2] = [
+    (
+        2,
+        [
+            ([1, 2, 3], 5),
+            ([1, 1, 3], 5),
+            ([1, 1, 3], 3),
+            ([1, 1, 1], 2),
+        ],
+    ),
+    (
+        2000,
+        [
+            ([1, 2, 3], 5),
+            ([1, 1, 3], 3),
+            ([1, 1, 3], 3),
+            ([1, 1, 1], 2),
+        ],
+    ),
+];
+
+// The block of the list is the first ask's first one, behind the one for its labels. Where it is refused all links are scanned
+// by labels, and the next ask asks for it again: then some links are laid aside, and the block is given back for a smaller one.
+#[test]
+fn live_links_are_listed_at_the_next_ask(rt: HostRuntime) -> Result<(), Fail> {
+    for by in [By::OneThread, By::Threads] {
+        for (at_once, later) in [
+            (&LISTED[0], &NOT_LISTED_FIRST[0]),
+            (&LISTED[2], &NOT_LISTED_FIRST[1]),
+        ] {
+            let before = blocks_before(&rt, rt.alloc(), by, at_once)?;
+            let memory = Refusing::new(rt.alloc(), Refusals::only(before.wrapping_add(2)));
+            let _before = expect_coarser_asks(&rt, rt.alloc(), &memory, by, later)?;
+        }
     }
     Ok(())
 }

@@ -388,9 +388,18 @@ fn weights_of_one_short_key(rt: HostRuntime) -> Result<(), Fail> {
         ([-FAR, 1 - FAR, -FAR - 1], [(1, 2), (2, 0), (3, 2)]),
         ([0, -1, 1], [(1, 0), (2, 1), (3, 1)]),
         ([FARTHER, FARTHER - 1, FARTHER], [(1, 0), (2, 1), (3, 1)]),
-        ([-FARTHER, 1 - FARTHER, -FARTHER - 1], [(1, 2), (2, 0), (3, 2)]),
-        ([i64::MAX - 1, i64::MAX, i64::MAX - 2], [(1, 2), (2, 0), (3, 2)]),
-        ([i64::MIN + 1, i64::MIN + 2, i64::MIN], [(1, 2), (2, 0), (3, 2)]),
+        (
+            [-FARTHER, 1 - FARTHER, -FARTHER - 1],
+            [(1, 2), (2, 0), (3, 2)],
+        ),
+        (
+            [i64::MAX - 1, i64::MAX, i64::MAX - 2],
+            [(1, 2), (2, 0), (3, 2)],
+        ),
+        (
+            [i64::MIN + 1, i64::MIN + 2, i64::MIN],
+            [(1, 2), (2, 0), (3, 2)],
+        ),
     ];
     let mut scanner = Scanner::new(alloc);
     for (weights, expected) in graphs {
@@ -503,6 +512,24 @@ impl Near {
         let expected = scanned(rt, alloc, &mut self.scanner, links, &labels)?;
         self.worker.expect_answer(rt, 0, labels, expected.pairs())
     }
+}
+
+// Lists of about as many links as there are vertices, and of twice as many. Fewer are numbered at the first ask, and others at
+// the second.
+#[test]
+fn as_many_links_as_vertices(rt: HostRuntime) -> Result<(), Fail> {
+    let links = near_links(rt.alloc())?;
+    for by in [By::OneThread, By::Threads, By::OrFault] {
+        for count in [NEAR - 1, NEAR, NEAR + 1, 2 * NEAR] {
+            let few = links.as_slice().get(..count as usize).ok_or("links")?;
+            let mut near = Near {
+                worker: Worker::new(rt.alloc(), by),
+                scanner: Scanner::new(rt.alloc()),
+            };
+            near.expect_fewer_and_fewer(&rt, rt.alloc(), few)?;
+        }
+    }
+    Ok(())
 }
 
 // The worker answers an ask of its only shard under these labels with these offers.

@@ -3,12 +3,7 @@ use Rattle.shard_scans.specs.Live.{AreLiveLinks}
 use Rattle.shard_scans.proofs.Relisting.{shown_unnamed}
 use Rattle.shard_scans.proofs.scanning.Scanner.scan_listed.Goals as goal
 
-pub scan_live-requires-clause-live : goal.scan_live-requires-clause-live
-scan_live-requires-clause-live g c =
+pub scan_older_list-requires-clause-live : goal.scan_older_list-requires-clause-live
+scan_older_list-requires-clause-live g c =
     let shows = shown_unnamed c.args.listed.now.names c.args.listed.now.links.items (sym c.is_empty.ensures ∙ c.if-is_empty.true) in
     subst (AreLiveLinks c.args.links.now c.args.labels.now) shows c.requires.live
-
-pub returns-then-is_empty-clause-live : goal.returns-then-is_empty-clause-live
-returns-then-is_empty-clause-live g c =
-    let shows = shown_unnamed c.args.listed.now.names c.scan_live.new.live.items (sym c.is_empty.ensures ∙ c.if-is_empty.true) in
-    subst (AreLiveLinks c.args.links.now c.args.labels.now) (sym shows) c.scan_live.ensures.live

@@ -7,8 +7,3 @@ pub scan_live_par-requires-clause-live : goal.scan_live_par-requires-clause-live
 scan_live_par-requires-clause-live g c κs within =
     let shows = shown_unnamed c.args.listed.now.names c.args.listed.now.links.items (sym c.is_empty.ensures ∙ c.if-is_empty.true) in
     subst (AreLiveLinks c.args.links.now c.args.labels.now) shows c.requires.live
-
-pub returns-then-is_empty-clause-live : goal.returns-then-is_empty-clause-live
-returns-then-is_empty-clause-live g c =
-    let shows = shown_unnamed c.args.listed.now.names c.scan_live_par.new.live.items (sym c.is_empty.ensures ∙ c.if-is_empty.true) in
-    subst (AreLiveLinks c.args.links.now c.args.labels.now) (sym shows) c.scan_live_par.ensures.live
