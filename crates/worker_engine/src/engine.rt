@@ -7,6 +7,7 @@ ghost use Rattle.worker_engine.specs.Serving.{shelf_of, shelf_with, IsReply, May
 ghost use Rattle.shard_scans.specs.Live.{IsAllLive};
 ghost use Rattle.worker_engine.specs.Shelves.{shelf_list, IsReplyWith, AreAllLive, AreAllUnder};
 
+mod coarser;
 mod hearing;
 mod threads;
 
