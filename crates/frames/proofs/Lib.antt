@@ -9,5 +9,7 @@ pub mod Streams
 pub mod NeverRefused
 pub mod FrameStreams
 pub mod Refusing
+pub mod Pieces
 pub mod NextFrames
 pub mod ShardPieces
+pub mod AnswerPieces

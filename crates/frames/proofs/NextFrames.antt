@@ -1,10 +1,9 @@
 -- A frame behind an ask, from its head and its body.
-use Rattle.std.proofs.Common.{◌≡◌, ℕ, ◌+◌, ◌*◌, ◌<◌, ◌≤◌, ◌^◌, List, [], ◌∷◌, ◌++◌, length, take, drop, get_or, All, Option, Vec, refl, sym, ap, subst, ◌∙◌, inl, inr, append_assoc, append-nil, arith}
+use Rattle.std.proofs.Common.{◌≡◌, ℕ, ◌+◌, ◌*◌, ◌<◌, ◌≤◌, ◌^◌, List, ◌∷◌, ◌++◌, length, take, drop, get_or, All, Option, Vec, refl, sym, ap, subst, ◌∙◌, inl, inr, arith}
 use Rattle.std.specs.Prelude.{Result, Ok, Err, OnOk, is_ok, if◌then◌else◌}
 use Rattle.std.specs.List.{flat_map}
 use Rattle.std.proofs.Math.Seq.{take-add}
-use Rattle.std.proofs.lemmas.Bool.{cases_lt}
-use Rattle.std.proofs.lemmas.List.{length-append, nil_from_length, get_or_default}
+use Rattle.std.proofs.lemmas.List.{length-append, get_or_default}
 use Rattle.std.proofs.lemmas.List.Elements.{All-append, All-take}
 use Rattle.std.proofs.lemmas.Grind.{flat_map-append}
 use Rattle.byte_streams.specs.Streams.{SourceState, Gave}
@@ -14,14 +13,15 @@ use Rattle.link_key.specs.Labels.{AreLabels}
 use Rattle.frames.specs.FrameValue.{FrameValue, AskFrame}
 use Rattle.frames.specs.FrameText.{u32_text, text_of}
 use Rattle.frames.specs.Lawful.{IsU32, IsLawful}
-use Rattle.frames.specs.Refusals.{IsPossible, IsFrameOf, BodyRefused}
-use Rattle.frames.specs.ReadFault.{failures_of, ends_of, IsReadRefused, IsCutShort}
+use Rattle.frames.specs.Refusals.{IsPossible}
+use Rattle.frames.specs.ReadFault.{IsReadRefused, IsCutShort}
 use Rattle.frames.specs.NextFrame.{next_value, numbers_of_ask, BodyCame, IsBodyRefused, IsStopped}
 use Rattle.frames.specs.declared.next_frame.NextFrame.{NextFrame}
 use Rattle.frames.specs.declared.fault.FrameFault.{FrameFault}
 use Rattle.frames.specs.declared.fault.FrameFault.TheVariants.{BadField, Memory}
 use Rattle.frames.proofs.Streams.{frame_gave, cut_more, cut_refused, body_refused}
 use Rattle.frames.proofs.Texts.{u32_length, items_length}
+use Rattle.frames.proofs.Pieces.{three_fields, list_came, list_refused, list_stopped}
 use Rattle.frames.proofs.Decoded.{ask_refused, ask_begun, ask_found, ask_unlabelled}
 
 -- ---- a head and what came behind it
@@ -36,12 +36,6 @@ pub refused_behind : (fault : FrameFault) (kind len : ℕ) (s t u : SourceState)
 refused_behind fault kind len s t u wide possible first (inl cut) = cut_refused fault kind len (kind ∷ u32_text len) s t u wide possible refl first cut
 refused_behind fault kind len s t u wide possible first (inr whole) =
     body_refused fault kind len (kind ∷ u32_text len) whole.body s t u wide possible whole.counted refl first whole.gave whole.refused
-
-pub whole_came : (v : FrameValue) (kind len : ℕ) (body : List ℕ) (s t : SourceState) → length body ≡ len → Gave 0 0 body s t → IsFrameOf v kind body → BodyCame v kind len s t
-whole_came v kind len body s t counted gave is = record { body = body; counted = counted; gave = gave; is = is }
-
-pub whole_refused : (fault : FrameFault) (kind len : ℕ) (body : List ℕ) (s t : SourceState) → length body ≡ len → Gave 0 0 body s t → BodyRefused fault kind body → IsBodyRefused fault kind len s t
-whole_refused fault kind len body s t counted gave refused = inr (record { body = body; counted = counted; gave = gave; refused = refused })
 
 -- ---- the numbers of an ask, a piece at a time
 
@@ -98,11 +92,10 @@ stopped_at len body piece x y z within first second = record {
 module _ (fields rest rest' none : List ℕ) (r s c n : ℕ) (twelve : length fields ≡ 12) (wide_r : IsU32 r) (wide_s : IsU32 s) (wide_c : IsU32 c)
     (first : fields ≡ u32_text r ++ rest) (second : rest ≡ u32_text s ++ rest') (third : rest' ≡ u32_text c ++ none) where
   ask_body : (labels : List ℕ) → fields ++ labels ≡ u32_text r ++ (u32_text s ++ (u32_text c ++ labels))
-  ask_body labels =
-      let empty : none ≡ [] = nil_from_length none (omega (arith, ap length first, ap length second, ap length third, length-append (u32_text r) rest, length-append (u32_text s) rest', length-append (u32_text c) none, u32_length r, u32_length s, u32_length c)) in
-      let count : rest' ≡ u32_text c = third ∙ ap (λ (t : List ℕ). u32_text c ++ t) empty ∙ append-nil (u32_text c) in
-      let all : fields ≡ u32_text r ++ (u32_text s ++ u32_text c) = first ∙ ap (λ (t : List ℕ). u32_text r ++ t) (second ∙ ap (λ (t : List ℕ). u32_text s ++ t) count) in
-      ap (λ (t : List ℕ). t ++ labels) all ∙ append_assoc (u32_text r) (u32_text s ++ u32_text c) labels ∙ ap (λ (t : List ℕ). u32_text r ++ t) (append_assoc (u32_text s) (u32_text c) labels)
+  ask_body labels = three_fields fields rest rest' none labels r s c twelve first second third
+
+  long : length fields + 4 * n ≡ 12 + 4 * n
+  long = omega (arith, twelve)
 
   with_fields : (labels : List ℕ) → length labels ≡ 4 * n → length (fields ++ labels) ≡ 12 + 4 * n
   with_fields labels count = omega (arith, length-append fields labels)
@@ -111,28 +104,16 @@ module _ (fields rest rest' none : List ℕ) (r s c n : ℕ) (twelve : length fi
   pub ask_unlawful : (labels : List ℕ) (x y z : SourceState) → length labels ≡ 4 * n → Gave 0 0 fields x y → Gave 0 0 labels y z → (s < MAX_SHARDS → c ≡ n → ⊥)
       → IsBodyRefused BadField 3 (12 + 4 * n) x z
   ask_unlawful labels x y z count came behind never =
-      whole_refused BadField 3 (12 + 4 * n) (fields ++ labels) x z (with_fields labels count) (gave_more 0 0 fields labels x y z came behind)
+      list_refused 3 (12 + 4 * n) (4 * n) fields long x y z came BadField labels count behind
       (ask_refused r s c (fields ++ labels) (u32_text s ++ (u32_text c ++ labels)) (u32_text c ++ labels) labels wide_r wide_s wide_c (ask_body labels) refl refl
       (λ low counted. never low (omega (arith, counted, count))))
 
   module _ (low : s < MAX_SHARDS) (counted : c ≡ n) (few : n ≤ MAX_VERTICES) where
     -- less than all labels came, or memory was wanting
     pub ask_stopped : (fault : FrameFault) (x y z : SourceState) → Gave 0 0 fields x y → IsStopped fault (4 * n) y z → IsBodyRefused fault 3 (12 + 4 * n) x z
-    ask_stopped fault x y z came stopped = elim (cases_lt (length stopped.bytes) (4 * n)) [
-      | inl short ↦ inl (cut_more fault (4 * n) (12 + 4 * n) fields x y z (omega arith) came (record { bytes = stopped.bytes; gave = stopped.gave; short = short; cause = stopped.cause }))
-      | inr all ↦ elim stopped.short [
-        | inl memory ↦ whole memory (omega (arith, all, stopped.within))
-        | inr short ↦ absurd (omega arith)
-      ]
-    ]
-      where
-        whole : fault ≡ Memory → length stopped.bytes ≡ 4 * n → IsBodyRefused fault 3 (12 + 4 * n) x z
-        whole memory count =
-            let gave : Gave 0 0 stopped.bytes y z = subst (λ (f : FrameFault). Gave (failures_of f) (ends_of f) stopped.bytes y z) memory stopped.gave in
-            subst (λ (f : FrameFault). IsBodyRefused f 3 (12 + 4 * n) x z) (sym memory)
-            (whole_refused Memory 3 (12 + 4 * n) (fields ++ stopped.bytes) x z (with_fields stopped.bytes count) (gave_more 0 0 fields stopped.bytes x y z came gave)
-            (ask_begun r s c (fields ++ stopped.bytes) (u32_text s ++ (u32_text c ++ stopped.bytes)) (u32_text c ++ stopped.bytes) stopped.bytes low (omega (arith, counted, count))
-            (n, few, with_fields stopped.bytes count) (ask_body stopped.bytes) refl refl))
+    ask_stopped fault x y z came stopped =
+        list_stopped 3 (12 + 4 * n) (4 * n) fields long x y z came fault stopped
+        (λ labels count. ask_begun r s c (fields ++ labels) (u32_text s ++ (u32_text c ++ labels)) (u32_text c ++ labels) labels low (omega (arith, counted, count)) (n, few, with_fields labels count) (ask_body labels) refl refl)
 
     -- labels came
     ask_came : (v : FrameValue) (ls : List ℕ) (x y z : SourceState) → v ≡ AskFrame r s ls → AreLabels ls → length ls ≡ n → Gave 0 0 fields x y → Gave 0 0 (flat_map u32_text ls) y z
@@ -140,7 +121,7 @@ module _ (fields rest rest' none : List ℕ) (r s c n : ℕ) (twelve : length fi
     ask_came v ls x y z is labels count came behind =
         let text : List ℕ = flat_map u32_text ls in
         subst (λ (w : FrameValue). BodyCame w 3 (12 + 4 * n) x z) (sym is)
-        (whole_came (AskFrame r s ls) 3 (12 + 4 * n) (fields ++ text) x z (with_fields text (omega (arith, bytes_of ls, count))) (gave_more 0 0 fields text x y z came behind)
+        (list_came 3 (12 + 4 * n) (4 * n) fields long x y z came (AskFrame r s ls) text (omega (arith, bytes_of ls, count)) behind
         (ask_found r s c (fields ++ text) (u32_text s ++ (u32_text c ++ text)) (u32_text c ++ text) text ls wide_r low (omega (arith, counted, count, bytes_of ls)) (ask_body text) refl refl refl labels))
 
     -- numbers came that are no labels
@@ -149,7 +130,7 @@ module _ (fields rest rest' none : List ℕ) (r s c n : ℕ) (twelve : length fi
     no_ask_came fault ls x y z is fit never count came behind =
         let text : List ℕ = flat_map u32_text ls in
         subst (λ (f : FrameFault). IsBodyRefused f 3 (12 + 4 * n) x z) (sym is)
-        (whole_refused BadField 3 (12 + 4 * n) (fields ++ text) x z (with_fields text (omega (arith, bytes_of ls, count))) (gave_more 0 0 fields text x y z came behind)
+        (list_refused 3 (12 + 4 * n) (4 * n) fields long x y z came BadField text (omega (arith, bytes_of ls, count)) behind
         (ask_unlabelled r s c (fields ++ text) (u32_text s ++ (u32_text c ++ text)) (u32_text c ++ text) text ls wide_r wide_s wide_c (ask_body text) refl refl refl fit never))
 
     module _ {A : Type 0} (last : List ℕ) (are : AreLabels last) (numbers : Option (Vec ℕ A)) (x y z : SourceState) (count : length (numbers_of_ask last numbers) ≡ n) (came : Gave 0 0 fields x y)

@@ -1,6 +1,5 @@
 -- A shard whose links come by pieces.
-use Rattle.std.proofs.Common.{◌≡◌, ◌≢◌, ℕ, ◌+◌, ◌-◌, ◌*◌, ◌/◌, ◌<◌, ◌≤◌, List, [], ◌++◌, length, Option, Some, None, Vec, refl, sym, ap, subst, ◌∙◌, inl, inr, append_assoc, append-nil, arith}
-use Rattle.std.proofs.lemmas.Bool.{cases_lt}
+use Rattle.std.proofs.Common.{◌≡◌, ◌≢◌, ℕ, ◌+◌, ◌-◌, ◌*◌, ◌/◌, ◌<◌, ◌≤◌, List, [], ◌++◌, length, Option, Some, None, Vec, refl, sym, ap, subst, ◌∙◌, append_assoc, append-nil, arith}
 use Rattle.std.proofs.lemmas.List.{length-append, nil_from_length}
 use Rattle.byte_streams.specs.Streams.{SourceState, Gave}
 use Rattle.byte_streams.proofs.Streaming.{gave_more, gave_nothing}
@@ -10,15 +9,15 @@ use Rattle.frames.specs.FrameValue.{FrameValue, ShardFrame}
 use Rattle.frames.specs.FrameText.{u32_text}
 use Rattle.frames.specs.Lawful.{IsU32}
 use Rattle.frames.specs.Refusals.{IsPossible, AreNoLinks}
-use Rattle.frames.specs.ReadFault.{failures_of, ends_of, IsCutShort}
+use Rattle.frames.specs.ReadFault.{IsCutShort}
 use Rattle.frames.specs.NextFrame.{BodyCame, IsBodyRefused, IsStopped}
-use Rattle.frames.specs.Spellings.{spelled_in, size_in, kind_in, spelling_of, Spells, Pushes, AreLinksIn, HearsLinks, LinksCame, BytesCame}
+use Rattle.frames.specs.Pieces.{BytesCame}
+use Rattle.frames.specs.Spellings.{spelled_in, size_in, kind_in, spelling_of, Spells, Pushes, AreLinksIn, HearsLinks, LinksCame}
 use Rattle.frames.specs.declared.spelling.Spelling.{Spelling}
 use Rattle.frames.specs.declared.spelling.Spelling.TheVariants.{Narrow, Wide}
 use Rattle.frames.specs.declared.fault.FrameFault.{FrameFault}
-use Rattle.frames.specs.declared.fault.FrameFault.TheVariants.{BadField, Memory}
-use Rattle.frames.proofs.Streams.{cut_more}
-use Rattle.frames.proofs.NextFrames.{whole_came, whole_refused}
+use Rattle.frames.specs.declared.fault.FrameFault.TheVariants.{BadField}
+use Rattle.frames.proofs.Pieces.{list_came, list_refused, list_cut, list_stopped}
 use Rattle.frames.proofs.Texts.{u32_length}
 use Rattle.frames.proofs.Spelled.{counted_in, spells_none, spells_more, none_before, none_behind_them}
 use Rattle.frames.proofs.Decoded.{shard_refused, shard_begun, list_begun, shard_unlinked, shard_of_another_kind, shard_found}
@@ -52,10 +51,6 @@ mul-none : (s : Spelling) → 0 ≡ size_in s * 0
 mul-none Narrow = refl
 mul-none Wide = refl
 
-mul-within : (s : Spelling) (n k count : ℕ) → n + k ≤ count → size_in s * n + size_in s * k ≤ size_in s * count
-mul-within Narrow n k count within = omega arith
-mul-within Wide n k count within = omega arith
-
 -- nothing more is heard once some link was refused
 pub hears_none : (A : Type 0) (s : Spelling) (piece : List ℕ) → HearsLinks {A = A} s piece None None
 hears_none A s piece bytes count counted none = none_before s bytes piece count counted none
@@ -86,50 +81,6 @@ came_none s x links is = record {
   are = subst (λ (ls : List Link). Spells s ls []) (sym is) (spells_none s);
 }
 
--- so many bytes, and more
-pub bytes_more : (m n : ℕ) (piece : List ℕ) (x y z : SourceState) → BytesCame m x y → length piece ≡ n → Gave 0 0 piece y z → BytesCame (m + n) x z
-bytes_more m n piece x y z came count behind = record {
-  bytes = came.bytes ++ piece;
-  counted = omega (arith, length-append came.bytes piece, came.counted, count);
-  gave = gave_more 0 0 came.bytes piece x y z came.gave behind;
-}
-
-pub bytes_none : (x : SourceState) → BytesCame 0 x x
-bytes_none x = record { bytes = []; counted = refl; gave = gave_nothing x }
-
-pub passed_so_many : (m n : ℕ) (x y : SourceState) → m ≡ n → BytesCame m x y → BytesCame n x y
-passed_so_many m n x y is came = subst (λ (k : ℕ). BytesCame k x y) is came
-
-pub unpassed_so_many : (fault : FrameFault) (m n : ℕ) (x y : SourceState) → m ≡ n → IsCutShort fault m x y → IsCutShort fault n x y
-unpassed_so_many fault m n x y is cut = subst (λ (k : ℕ). IsCutShort fault k x y) is cut
-
--- ---- a piece that was stopped
-
--- no memory for its links
-pub stopped_before : (len : ℕ) (x : SourceState) → IsStopped Memory len x x
-stopped_before len x = record { bytes = []; gave = gave_nothing x; within = omega arith; short = inl refl; cause = inr (inr refl) }
-
--- less than the piece came
-pub stopped_short : (fault : FrameFault) (len : ℕ) (x y : SourceState) → IsCutShort fault len x y → IsStopped fault len x y
-stopped_short fault len x y cut = record { bytes = cut.bytes; gave = cut.gave; within = omega (arith, cut.short); short = inr cut.short; cause = cut.cause }
-
--- it came, and there was no memory for its links
-pub stopped_behind : (piece : List ℕ) (len : ℕ) (x y : SourceState) → length piece ≡ len → Gave 0 0 piece x y → IsStopped Memory len x y
-stopped_behind piece len x y count gave = record { bytes = piece; gave = gave; within = omega (arith, count); short = inl refl; cause = inr (inr refl) }
-
--- links that came before it
-pub stopped_later : (s : Spelling) (fault : FrameFault) (n k count : ℕ) (bytes : List ℕ) (x y z : SourceState) → n + k ≤ count → length bytes ≡ size_in s * n → Gave 0 0 bytes x y
-    → IsStopped fault (size_in s * k) y z → IsStopped fault (size_in s * count) x z
-stopped_later s fault n k count bytes x y z within counted came stopped =
-    let most : size_in s * n + size_in s * k ≤ size_in s * count = mul-within s n k count within in
-    record {
-      bytes = bytes ++ stopped.bytes;
-      gave = gave_more (failures_of fault) (ends_of fault) bytes stopped.bytes x y z came stopped.gave;
-      within = omega (arith, length-append bytes stopped.bytes, stopped.within, most, counted);
-      short = elim stopped.short [ inl memory ↦ inl memory | inr short ↦ inr (omega (arith, length-append bytes stopped.bytes, short, most, counted)) ];
-      cause = stopped.cause;
-    }
-
 -- ---- the eight bytes before the links
 
 module _ (s : Spelling) (fields rest none : List ℕ) (n c k : ℕ) (eight : length fields ≡ 8) (wide_n : IsU32 n) (wide_c : IsU32 c)
@@ -140,19 +91,22 @@ module _ (s : Spelling) (fields rest none : List ℕ) (n c k : ℕ) (eight : len
       let count : rest ≡ u32_text c = second ∙ ap (λ (t : List ℕ). u32_text c ++ t) empty ∙ append-nil (u32_text c) in
       ap (λ (t : List ℕ). t ++ links) (first ∙ ap (λ (t : List ℕ). u32_text n ++ t) count) ∙ append_assoc (u32_text n) (u32_text c) links
 
+  long : length fields + size_in s * k ≡ 8 + size_in s * k
+  long = omega (arith, eight)
+
   with_fields : (links : List ℕ) → length links ≡ size_in s * k → length (fields ++ links) ≡ 8 + size_in s * k
   with_fields links count = omega (arith, length-append fields links, count)
 
   -- fields that no shard has
   pub shard_unlawful : (x y z : SourceState) → Gave 0 0 fields x y → BytesCame (size_in s * k) y z → (n < MAX_SHARDS → c ≡ k → ⊥) → IsBodyRefused BadField (kind_in s) (8 + size_in s * k) x z
   shard_unlawful x y z came behind never =
-      whole_refused BadField (kind_in s) (8 + size_in s * k) (fields ++ behind.bytes) x z (with_fields behind.bytes behind.counted) (gave_more 0 0 fields behind.bytes x y z came behind.gave)
+      list_refused (kind_in s) (8 + size_in s * k) (size_in s * k) fields long x y z came BadField behind.bytes behind.counted behind.gave
       (shard_refused s n c (fields ++ behind.bytes) (u32_text c ++ behind.bytes) behind.bytes wide_n wide_c (shard_body behind.bytes) refl
       (λ low counted. never low (counted ∙ counted_in s (length behind.bytes) k behind.counted)))
 
   -- less than those bytes came
   pub shard_unpassed : (fault : FrameFault) (x y z : SourceState) → Gave 0 0 fields x y → IsCutShort fault (size_in s * k) y z → IsBodyRefused fault (kind_in s) (8 + size_in s * k) x z
-  shard_unpassed fault x y z came cut = inl (cut_more fault (size_in s * k) (8 + size_in s * k) fields x y z (omega (arith, eight)) came cut)
+  shard_unpassed fault x y z came cut = list_cut (kind_in s) (8 + size_in s * k) (size_in s * k) fields long x y z came fault cut
 
   module _ (low : n < MAX_SHARDS) (counted : c ≡ k) (few : k ≤ MAX_SHARD_LINKS) where
     count_is : (links : List ℕ) → length links ≡ size_in s * k → c ≡ length links / size_in s
@@ -160,21 +114,9 @@ module _ (s : Spelling) (fields rest none : List ℕ) (n c k : ℕ) (eight : len
 
     -- less than all links came, or memory was wanting
     pub shard_stopped : (fault : FrameFault) (x y z : SourceState) → Gave 0 0 fields x y → IsStopped fault (size_in s * k) y z → IsBodyRefused fault (kind_in s) (8 + size_in s * k) x z
-    shard_stopped fault x y z came stopped = elim (cases_lt (length stopped.bytes) (size_in s * k)) [
-      | inl short ↦ shard_unpassed fault x y z came (record { bytes = stopped.bytes; gave = stopped.gave; short = short; cause = stopped.cause })
-      | inr all ↦ elim stopped.short [
-        | inl memory ↦ whole memory (omega (arith, all, stopped.within))
-        | inr short ↦ absurd (omega (arith, all, short))
-      ]
-    ]
-      where
-        whole : fault ≡ Memory → length stopped.bytes ≡ size_in s * k → IsBodyRefused fault (kind_in s) (8 + size_in s * k) x z
-        whole memory count =
-            let gave : Gave 0 0 stopped.bytes y z = subst (λ (f : FrameFault). Gave (failures_of f) (ends_of f) stopped.bytes y z) memory stopped.gave in
-            let body = fields ++ stopped.bytes in
-            subst (λ (f : FrameFault). IsBodyRefused f (kind_in s) (8 + size_in s * k) x z) (sym memory)
-            (whole_refused Memory (kind_in s) (8 + size_in s * k) body x z (with_fields stopped.bytes count) (gave_more 0 0 fields stopped.bytes x y z came gave)
-            (list_begun s body (shard_begun s n c body (u32_text c ++ stopped.bytes) stopped.bytes low (count_is stopped.bytes count) (k, few, with_fields stopped.bytes count) (shard_body stopped.bytes) refl).0))
+    shard_stopped fault x y z came stopped =
+        list_stopped (kind_in s) (8 + size_in s * k) (size_in s * k) fields long x y z came fault stopped
+        (λ links count. list_begun s (fields ++ links) (shard_begun s n c (fields ++ links) (u32_text c ++ links) links low (count_is links count) (k, few, with_fields links count) (shard_body links) refl).0)
 
     module _ {A : Type 0} (links : Option (Vec Link A)) (x y z : SourceState) (came : Gave 0 0 fields x y) (behind : LinksCame s k links y z) where
       -- links came, in their spelling
@@ -183,7 +125,7 @@ module _ (s : Spelling) (fields rest none : List ℕ) (n c k : ℕ) (eight : len
           let are : AreLinksIn s behind.bytes (Some list) = subst (AreLinksIn s behind.bytes) is behind.are in
           let body = fields ++ behind.bytes in
           subst (λ (w : FrameValue). BodyCame w (kind_in s) (8 + size_in s * k) x z) (sym same)
-          (whole_came (ShardFrame n list.items) (kind_in s) (8 + size_in s * k) body x z (with_fields behind.bytes behind.counted) (gave_more 0 0 fields behind.bytes x y z came behind.gave)
+          (list_came (kind_in s) (8 + size_in s * k) (size_in s * k) fields long x y z came (ShardFrame n list.items) behind.bytes behind.counted behind.gave
           (shard_found s n c list.items body (u32_text c ++ behind.bytes) behind.bytes low (count_is behind.bytes behind.counted) (k, few, with_fields behind.bytes behind.counted) (shard_body behind.bytes) refl are.bytes_are spelling))
 
       -- links came in the other spelling
@@ -192,12 +134,12 @@ module _ (s : Spelling) (fields rest none : List ℕ) (n c k : ℕ) (eight : len
           let are : AreLinksIn s behind.bytes (Some list) = subst (AreLinksIn s behind.bytes) is behind.are in
           let body = fields ++ behind.bytes in
           subst (λ (f : FrameFault). IsBodyRefused f (kind_in s) (8 + size_in s * k) x z) (sym bad)
-          (whole_refused BadField (kind_in s) (8 + size_in s * k) body x z (with_fields behind.bytes behind.counted) (gave_more 0 0 fields behind.bytes x y z came behind.gave)
+          (list_refused (kind_in s) (8 + size_in s * k) (size_in s * k) fields long x y z came BadField behind.bytes behind.counted behind.gave
           (shard_of_another_kind s n c list.items body (u32_text c ++ behind.bytes) behind.bytes wide_n wide_c (shard_body behind.bytes) refl are other))
 
       -- no links came
       pub no_links_came : links ≡ None → IsBodyRefused BadField (kind_in s) (8 + size_in s * k) x z
       no_links_came is =
           let body = fields ++ behind.bytes in
-          whole_refused BadField (kind_in s) (8 + size_in s * k) body x z (with_fields behind.bytes behind.counted) (gave_more 0 0 fields behind.bytes x y z came behind.gave)
+          list_refused (kind_in s) (8 + size_in s * k) (size_in s * k) fields long x y z came BadField behind.bytes behind.counted behind.gave
           (shard_unlinked s n c body (u32_text c ++ behind.bytes) behind.bytes wide_n wide_c (shard_body behind.bytes) refl (subst (AreLinksIn s behind.bytes) is behind.are))

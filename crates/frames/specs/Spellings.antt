@@ -57,9 +57,3 @@ pub record LinksCame {A : Type 0} (s : Spelling) (count : ℕ) (links : Option (
   pub counted : length bytes ≡ size_in s * count
   pub gave : Gave 0 0 bytes before after
   pub are : AreLinksIn s bytes links
-
--- so many bytes came
-pub record BytesCame (count : ℕ) (before after : SourceState) : Type 0 where
-  pub bytes : List ℕ
-  pub counted : length bytes ≡ count
-  pub gave : Gave 0 0 bytes before after

@@ -1,14 +1,15 @@
 //! Bodies from a stream, as bytes.
 ghost use Rattle.std.specs.Prelude.{◌≡◌, ◌+◌, ◌<◌, ◌^◌, length, IfOk, IfErr, OnOk, vec_len};
 ghost use Rattle.byte_streams.specs.Streams.{Gave};
+ghost use Rattle.frames.specs.Pieces.{BytesCame};
 ghost use Rattle.frames.specs.ReadFault.{IsCutShort, GrowsBy};
 
 use crate::fault::FrameFault;
 use byte_streams::{FillFault, Source, fill};
 use std::alloc::Allocator;
 
-// How many bytes a body grows by at most, once those before them have come.
-const PIECE: usize = 65_536;
+// How many bytes come at a time: a body grows by at most so many, once those before them have come.
+pub(crate) const PIECE: usize = 65_536;
 
 // The next `len` bytes.
 pub(crate) fn read_body<A: Allocator, S: Source>(
@@ -67,4 +68,27 @@ pub(crate) fn read_bytes<S: Source>(source: &mut S, bytes: &mut [u8]) -> Result<
         Err(FillFault::Failed(_)) => Err(FrameFault::Device),
         Err(FillFault::Ended(_)) => Err(FrameFault::Torn),
     }
+}
+
+// Takes so many bytes, and keeps none.
+pub(crate) fn pass_over<S: Source>(
+    source: &mut S,
+    len: usize,
+    buffer: &mut [u8],
+) -> Result<(), FrameFault>
+    requires room { length buffer.old ≡ PIECE }
+    requires can { S.can_read source.old }
+    ensures came { OnOk result (BytesCame len (S.state source.old) (S.state source.new)) }
+    ensures short { IfErr result
+        (λ fault. IsCutShort fault len (S.state source.old) (S.state source.new)) }
+    ensures lasts { (fact : S.Fact) → S.lasts source.old fact → S.lasts source.new fact }
+    ensures again { OnOk result (S.can_read source.new) }
+{
+    let mut came = 0;
+    while came < len {
+        let count = (len - came).min(PIECE);
+        read_bytes(source, &mut buffer[..count])?;
+        came += count;
+    }
+    Ok(())
 }

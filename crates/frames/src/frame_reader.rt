@@ -8,6 +8,7 @@ ghost use Rattle.frames.specs.Refusals.{IsPossible};
 ghost use Rattle.frames.specs.ReadFault.{IsReadRefused};
 ghost use Rattle.frames.specs.NextFrame.{BodyCame, IsBodyRefused};
 
+use crate::answer_reader::read_answer;
 use crate::bodies::read_body;
 use crate::decoding::decode_body;
 use crate::fault::FrameFault;
@@ -24,11 +25,13 @@ use std::alloc::Allocator;
 /// frame, `Device` where a read failed; else the fault of the head or of the body. After a fault no
 /// more of the stream was taken than the frame.
 ///
-/// Of a shard the list of its links alone is kept. They are made of the bytes as these come, at most 65,536 at a time
-/// through one buffer on the stack, and no body is stored. Room for the links of a piece is taken before it comes: a head that announces
-/// more than the stream has costs at most 87,376 bytes at first, however little comes; once a whole piece came, at
-/// most three times what came, and four times that while the list moves to a larger block. Where the shard is refused,
-/// the rest of it is taken all the same, without memory.
+/// Of a shard the list of its links alone is kept, and of an answer that of its offers. They are made of the bytes as these
+/// come, at most 65,536 at a time through one buffer on the stack, and no body is stored. Room for the items of a piece is
+/// taken before it comes: a head that announces more than the stream has costs at most 87,376 bytes at first for a shard,
+/// and 65,536 for an answer, however little comes; once a whole piece came, at most three times what came, and four times
+/// that while the list moves to a larger block, for an answer twice and three times. Where the fields before the list are
+/// refused, or a link, the rest of the frame is taken all the same, without memory; that the components of an answer
+/// ascend is judged in one look once all of them came.
 ///
 /// Of another frame the body grows by pieces of at most 65,536 bytes, and its list is made of it: at most 65,536 bytes at
 /// first; once a whole piece came, at most twice what came, and three times that while it moves.
@@ -74,6 +77,10 @@ pub(crate) fn read_rest<A: Allocator + Copy, S: Source>(
     if let Some(spelling) = Spelling::of_kind(head.kind) {
         let most = spelling.links_in(head.length as usize - 8);
         return read_shard(alloc, source, spelling, most);
+    }
+    if head.kind == 4 {
+        let most = (head.length as usize - 12) / 8;
+        return read_answer(alloc, source, most);
     }
     let body = read_body(alloc, source, head.length)?;
     decode_body(alloc, head, body.as_slice())

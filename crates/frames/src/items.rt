@@ -4,6 +4,7 @@ ghost use Rattle.std.specs.Int.{w32, from_be_bytes};
 ghost use Rattle.std.specs.List.{flat_map};
 ghost use Rattle.frames.specs.FrameText.{u32_text, is_narrow, are_narrow, link_text, wide_link_text, offer_text};
 ghost use Rattle.frames.specs.Lawful.{IsU32};
+ghost use Rattle.frames.specs.Pieces.{PushesOffers};
 ghost use Rattle.frames.specs.Refusals.{IsNoLink, AreNoLinks};
 ghost use Rattle.frames.specs.Spellings.{spelled_in, size_in, FitIn, Pushes};
 
@@ -207,6 +208,18 @@ pub(crate) fn offers_of<A: Allocator>(
     ensures fit { IfOk result (λ offers. All (λ o. IsU32 o.0 × IsU32 o.1) offers.items) }
 {
     let mut offers = Vec::with_capacity(alloc, bytes.len() / 8)?;
+    push_offers(&mut offers, bytes)?;
+    Ok(offers)
+}
+
+// Pushes the offers whose bytes these are, behind those that came before.
+pub(crate) fn push_offers<A: Allocator>(
+    offers: &mut Vec<(u32, u32), A>,
+    bytes: &[u8],
+) -> Result<(), AllocError>
+    requires { length bytes.now % 8 ≡ 0 }
+    ensures { OnOk result (PushesOffers bytes.now offers.old.items offers.new.items) }
+{
     let mut rest = bytes;
     while !rest.is_empty() {
         let (component, behind) = split_u32(rest);
@@ -214,7 +227,7 @@ pub(crate) fn offers_of<A: Allocator>(
         offers.push((component, place))?;
         rest = behind;
     }
-    Ok(offers)
+    Ok(())
 }
 
 // Pushes the links whose bytes these are, behind those that came before. It answers whether they are links: where one is

@@ -23,9 +23,10 @@
 //! Where to start a change: the grammar stands in `specs/FrameText`, what is lawful in `specs/Lawful`, and
 //! the refusals with their order in `specs/Refusals`. `fields` and `items` have one function a field and list,
 //! `encoding` and `decoding` one for each kind; `frame_reader` reads a frame, `shard_reader` a shard by pieces
-//! (`specs/Spellings`), `next_frame` an ask by pieces (`specs/NextFrame`).
+//! (`specs/Spellings`), `answer_reader` an answer (`specs/Pieces`), `next_frame` an ask (`specs/NextFrame`).
 #![tactic(auto)]
 
+mod answer_reader;
 mod bodies;
 mod decoding;
 mod encoding;

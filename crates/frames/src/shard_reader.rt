@@ -3,12 +3,11 @@
 ghost use Rattle.std.specs.Prelude.{◌≡◌, ℕ, ◌+◌, ◌*◌, ◌%◌, ◌≤◌, List, length, IfOk, IfErr, OnOk};
 ghost use Rattle.byte_streams.specs.Streams.{Gave};
 ghost use Rattle.frames.specs.FrameValue.{value_of};
-ghost use Rattle.frames.specs.ReadFault.{IsCutShort};
 ghost use Rattle.frames.specs.NextFrame.{BodyCame, IsBodyRefused, IsStopped};
 ghost use Rattle.frames.specs.declared.spelling.Spelling.{Spelling};
-ghost use Rattle.frames.specs.Spellings.{size_in, kind_in, AreLinksIn, HearsLinks, LinksCame, BytesCame};
+ghost use Rattle.frames.specs.Spellings.{size_in, kind_in, AreLinksIn, HearsLinks, LinksCame};
 
-use crate::bodies::read_bytes;
+use crate::bodies::{PIECE, pass_over, read_bytes};
 use crate::decoding::shard_of;
 use crate::fault::FrameFault;
 use crate::fields::split_u32;
@@ -19,9 +18,6 @@ use byte_streams::Source;
 use limits::{MAX_SHARD_LINKS, MAX_SHARDS};
 use link_key::Link;
 use std::alloc::{AllocError, Allocator};
-
-// How many bytes of links come at a time.
-const PIECE: usize = 65_536;
 
 // The shard whose head came, with a length for so many links. Its fields are judged first. Where they or some link are
 // refused, the rest is taken all the same, and not kept: a stream may end in it.
@@ -53,25 +49,6 @@ pub(crate) fn read_shard<A: Allocator + Copy, S: Source>(
         Some(links) => shard_of(spelling, number, links),
         None => Err(FrameFault::BadField),
     }
-}
-
-// Takes so many bytes, and keeps none.
-fn pass_over<S: Source>(source: &mut S, len: usize, buffer: &mut [u8]) -> Result<(), FrameFault>
-    requires room { length buffer.old ≡ PIECE }
-    requires can { S.can_read source.old }
-    ensures came { OnOk result (BytesCame len (S.state source.old) (S.state source.new)) }
-    ensures short { IfErr result
-        (λ fault. IsCutShort fault len (S.state source.old) (S.state source.new)) }
-    ensures lasts { (fact : S.Fact) → S.lasts source.old fact → S.lasts source.new fact }
-    ensures again { OnOk result (S.can_read source.new) }
-{
-    let mut came = 0;
-    while came < len {
-        let count = (len - came).min(PIECE);
-        read_bytes(source, &mut buffer[..count])?;
-        came += count;
-    }
-    Ok(())
 }
 
 // The next links of a stream; none where some are refused.

@@ -1,3 +1,4 @@
+mod answer_pieces;
 mod failing_devices;
 mod frames_codec;
 mod given_streams;

@@ -155,14 +155,14 @@ fn a_line_that_stops_after_each_byte(rt: HostRuntime) -> Result<(), Fail> {
     Ok(())
 }
 
-// The calls of two asks over an engine: the hello's head and body, the shard, the ask, the answer's head and body; and
-// then the ask and the answer's two.
+// The calls of two asks over an engine: the hello's head and body, the shard, the ask, the answer's head, its fields and its
+// offers; and then the ask and the answer's three.
 #[test]
 fn a_line_that_stops_after_so_many_calls(rt: HostRuntime) -> Result<(), Fail> {
     let alloc = rt.alloc();
-    for calls in 0..10u64 {
+    for calls in 0..12u64 {
         let line = FusedLine::after_calls(EngineLine::new(alloc, 0)?, calls);
-        expect_two(&rt, alloc, line, 0, stopped(calls, 6, 9))?;
+        expect_two(&rt, alloc, line, 0, stopped(calls, 7, 11))?;
     }
     Ok(())
 }
@@ -437,18 +437,18 @@ fn labels_with_and_without_their_bytes(rt: HostRuntime) -> Result<(), Fail> {
 }
 
 // The calls of two asks under labels of 64 KiB that keep their bytes: the hello's head and body, the shard, the ask's two
-// parts, the answer's head and body; and then the ask's two and the answer's.
+// parts, the answer's head, its fields and its offers; and then the ask's two and the answer's three.
 #[test]
 fn a_line_that_stops_between_the_parts_of_an_ask(rt: HostRuntime) -> Result<(), Fail> {
     let alloc = rt.alloc();
     let mut labels = Labels::apart(alloc, 16_384)?;
     labels.spell()?;
     let offers = [(1, 0), (16_384, 0)];
-    for calls in 0..12u64 {
+    for calls in 0..14u64 {
         let line = FusedLine::after_calls(EngineLine::new(alloc, 0)?, calls);
-        let replies: (Reply, Reply) = if calls < 7 {
+        let replies: (Reply, Reply) = if calls < 8 {
             (DOWN, CLOSED)
-        } else if calls < 11 {
+        } else if calls < 13 {
             (Ok(&offers), DOWN)
         } else {
             (Ok(&offers), Ok(&offers))

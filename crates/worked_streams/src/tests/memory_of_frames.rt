@@ -1,5 +1,5 @@
-// Frames that are read from bytes: the body's block, and the list that is made of it; of a shard the list's alone. Frames
-// that are written: the text's one block.
+// Frames that are read from bytes: the body's block, and the list that is made of it; of a shard and of an answer the
+// list's alone. Frames that are written: the text's one block.
 use super::same::expect_same;
 use frames::{
     FrameFault, decode_body, decode_head, encode, encode_ask, encode_ask_over, read_frame,
@@ -121,24 +121,24 @@ fn a_body_is_given_room_as_it_comes(rt: HostRuntime) -> Result<(), Fail> {
     Ok(())
 }
 
-// A head and fields promise 2^24 links, and this one comes again and again, 5,461 times for each piece, and then one byte.
+// A head and fields promise many items, and this one comes again and again, `count` times, and then one byte.
 fn expect_given(
     rt: &impl Abort,
     alloc: Global,
-    link: &[u8],
-    pieces: usize,
+    head: &[u8],
+    item: &[u8],
+    count: usize,
     blocks: u64,
 ) -> Result<(), Fail> {
-    let head = [2, 12, 0, 0, 8, 0, 0, 0, 0, 1, 0, 0, 0];
-    let mut bytes = Vec::from_slice(alloc, &head)?;
-    for _ in 0..pieces.min(100) * 5_461 {
-        bytes.extend_from_slice(link)?;
+    let mut bytes = Vec::from_slice(alloc, head)?;
+    for _ in 0..count {
+        bytes.extend_from_slice(item)?;
     }
     bytes.push(0)?;
     let memory = Refusing::new(alloc, Refusals::none());
     let found = refused(&memory, bytes.as_slice());
     let expected = (Some(FrameFault::Torn), blocks, 0);
-    expect_same(rt, (pieces, found), (pieces, expected));
+    expect_same(rt, (count, found), (count, expected));
     Ok(())
 }
 
@@ -146,10 +146,25 @@ fn expect_given(
 // that one is full. Behind a link that is refused no more room is asked for.
 #[test]
 fn links_are_given_room_as_they_come(rt: HostRuntime) -> Result<(), Fail> {
+    let head = [2, 12, 0, 0, 8, 0, 0, 0, 0, 1, 0, 0, 0];
     let link = [0, 0, 0, 1, 0, 0, 0, 2, 0, 0, 0, 5];
     for (pieces, blocks) in [(0, 1), (1, 2), (2, 3), (3, 3), (4, 4), (7, 4), (8, 5)] {
-        expect_given(&rt, rt.alloc(), &link, pieces, blocks)?;
-        expect_given(&rt, rt.alloc(), &[0; 12], pieces, 1)?;
+        expect_given(&rt, rt.alloc(), &head, &link, pieces * 5_461, blocks)?;
+        expect_given(&rt, rt.alloc(), &head, &[0; 12], pieces * 5_461, 1)?;
+    }
+    Ok(())
+}
+
+// The offers of an answer likewise, 8,192 a piece, whether they ascend or not; and none where the count isn't theirs.
+#[test]
+fn offers_are_given_room_as_they_come(rt: HostRuntime) -> Result<(), Fail> {
+    let head = [4, 16, 0, 0, 12, 0, 0, 0, 1, 0, 0, 0, 0, 2, 0, 0, 0];
+    let mut other = head;
+    other[16] = 1;
+    let offer = [0, 0, 0, 1, 0, 0, 0, 2];
+    for (pieces, blocks) in [(0, 1), (1, 2), (2, 3), (3, 3), (4, 4), (7, 4), (8, 5)] {
+        expect_given(&rt, rt.alloc(), &head, &offer, pieces * 8_192, blocks)?;
+        expect_given(&rt, rt.alloc(), &other, &offer, pieces * 8_192, 0)?;
     }
     Ok(())
 }

@@ -33,7 +33,11 @@ fn number_at(weights: Weights, place: u32) -> usize
 }
 
 // What is read of a source that gives so many bytes at a time.
-fn read_by(alloc: Global, bytes: &[u8], piece: usize) -> Result<Result<Frame, FrameFault>, Fail> {
+pub(super) fn read_by(
+    alloc: Global,
+    bytes: &[u8],
+    piece: usize,
+) -> Result<Result<Frame, FrameFault>, Fail> {
     let piece = piece.max(1);
     let source = FusedSource::new(Vec::from_slice(alloc, bytes)?, usize::MAX, piece);
     Ok(read_frame(alloc, &mut { source }))
@@ -106,9 +110,14 @@ fn shards_by_pieces(rt: HostRuntime) -> Result<(), Fail> {
     Ok(())
 }
 
-// Bytes of a shard with a flaw are refused behind all of them, and where they end before that, the stream is torn: behind
+// Bytes of a frame with a flaw are refused behind all of them, and where they end before that, the stream is torn: behind
 // `came` of them, and one byte before their end.
-fn expect_refused(rt: &impl Abort, alloc: Global, bytes: &[u8], came: usize) -> Result<(), Fail> {
+pub(super) fn expect_refused(
+    rt: &impl Abort,
+    alloc: Global,
+    bytes: &[u8],
+    came: usize,
+) -> Result<(), Fail> {
     for piece in [1, 7, usize::MAX] {
         let found = read_by(alloc, bytes, piece)?.err();
         expect_same(rt, found, Some(FrameFault::BadField));

@@ -2,8 +2,8 @@
 // gives up at some size is proved as well as one that doesn't. What is expected is written by a formula, here.
 //
 // Labels are turned into bytes 1,024 at a time. The links of a shard are read in pieces of 5,461, or 4,096 with weights of
-// 64 bits. Another body is read in pieces of 65,536 bytes: 12 and 4 for each label are just so many for 16,381 labels; 12
-// and 8 for each offer come to no whole piece.
+// 64 bits, and the offers of an answer in pieces of 8,192. Another body is read in pieces of 65,536 bytes: 12 and 4 for each
+// label are just so many for 16,381 labels.
 use super::next_frames::next_bytes;
 use byte_streams::FusedSource;
 use frames::{
@@ -218,7 +218,8 @@ fn asks_of_so_many_labels(rt: HostRuntime) -> Result<(), Fail> {
     Ok(())
 }
 
-fn expect_answer(rt: &impl Abort, alloc: Global, count: u32) -> Result<(), Fail> {
+// The offers of the components from 1 on, and the numbers of their answer.
+pub(super) fn answer_of(alloc: Global, count: u32) -> Result<(Vec<(u32, u32)>, Vec<u32>), Fail> {
     let mut pairs = Vec::new(alloc);
     let mut numbers = Vec::from_slice(alloc, &[5, 6, count])?;
     for before in 0..count {
@@ -226,6 +227,11 @@ fn expect_answer(rt: &impl Abort, alloc: Global, count: u32) -> Result<(), Fail>
         pairs.push(pair)?;
         numbers.extend_from_slice(&[pair.0, pair.1])?;
     }
+    Ok((pairs, numbers))
+}
+
+fn expect_answer(rt: &impl Abort, alloc: Global, count: u32) -> Result<(), Fail> {
+    let (pairs, numbers) = answer_of(alloc, count)?;
     let bytes = frame_bytes(rt, alloc, 4, numbers.as_slice())?;
     let frame = Frame::Answer(Answer {
         round: 5,
@@ -237,7 +243,7 @@ fn expect_answer(rt: &impl Abort, alloc: Global, count: u32) -> Result<(), Fail>
 
 #[test]
 fn answers_of_so_many_offers(rt: HostRuntime) -> Result<(), Fail> {
-    for count in [0, 1, 8_189, 8_190, 8_191, 24_000, 100_001] {
+    for count in [0, 1, 8_191, 8_192, 8_193, 16_384, 16_385, 24_000, 100_001] {
         expect_answer(&rt, rt.alloc(), count)?;
     }
     Ok(())

@@ -2,7 +2,7 @@ use Rattle.std.proofs.Common.{List, ℕ, refl, subst, inl}
 use Rattle.std.proofs.lemmas.Result.{IfOk-weaker, IfErr-weaker, err_from_is_err_and}
 use Rattle.frames.specs.FrameValue.{value_of}
 use Rattle.frames.specs.Refusals.{IsFrameOf, BodyRefused}
-use Rattle.frames.proofs.NextFrames.{whole_came, whole_refused}
+use Rattle.frames.proofs.Pieces.{whole_came, whole_refused}
 use Rattle.frames.proofs.ShardPieces.{says_links, came_by_head, refused_by_head}
 use Rattle.frames.proofs.frame_reader.read_rest.Goals as goal
 

@@ -1,7 +1,9 @@
 use Rattle.std.proofs.Common.{◌≡◌, ◌≤◌, ◌+◌, length, drop, ◌∙◌, arith, rules}
 use Rattle.std.proofs.lemmas.List.{length-append, length-drop}
 use Rattle.std.proofs.lemmas.Result.{err_from_is_err_and}
-use Rattle.frames.proofs.ShardPieces.{came_more, stopped_later}
+use Rattle.frames.specs.Spellings.{size_in}
+use Rattle.frames.proofs.Pieces.{stopped_later}
+use Rattle.frames.proofs.ShardPieces.{came_more}
 use Rattle.frames.proofs.shard_reader.read_links.Goals as goal
 
 pub returns-in_err-read_piece-clause-stopped : goal.returns-in_err-read_piece-clause-stopped
@@ -9,7 +11,7 @@ returns-in_err-read_piece-clause-stopped g c =
     let p = err_from_is_err_and c.from_residual.result c.from_residual.ensures.1 in
     let so_far = c.loop-came.invariant.links in
     let within : c.loop-came.came + c.min-more.result ≤ c.args.count = search rules in
-    rw (p.1, p.2) (stopped_later c.args.spelling _ c.loop-came.came c.min-more.result c.args.count so_far.bytes _ _ _ within so_far.counted so_far.gave c.in_err-read_piece.ensures.stopped)
+    rw (p.1, p.2) (stopped_later (size_in c.args.spelling) c.loop-came.came c.min-more.result c.args.count _ so_far.bytes _ _ _ within so_far.counted so_far.gave c.in_err-read_piece.ensures.stopped)
 
 pub loop-came-preserved : goal.loop-came-preserved
 loop-came-preserved g c =

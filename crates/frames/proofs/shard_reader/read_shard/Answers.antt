@@ -1,7 +1,8 @@
 use Rattle.std.proofs.Common.{arith, rules}
 use Rattle.std.proofs.lemmas.Result.{IfOk-weaker, IfErr-weaker, err_from_is_err_and}
 use Rattle.frames.specs.FrameValue.{value_of}
-use Rattle.frames.proofs.ShardPieces.{shard_unlawful, shard_unpassed, shard_stopped, shard_came, no_shard_came, no_links_came, passed_so_many, unpassed_so_many}
+use Rattle.frames.proofs.Pieces.{passed_so_many, unpassed_so_many}
+use Rattle.frames.proofs.ShardPieces.{shard_unlawful, shard_unpassed, shard_stopped, shard_came, no_shard_came, no_links_came}
 use Rattle.frames.proofs.shard_reader.read_shard.Goals.{then-number-ge-MAX_SHARDS-via-then-number-ge-MAX_SHARDS, then-number-ge-MAX_SHARDS-via-else-number-ge-MAX_SHARDS+then-count-most}
 use Rattle.frames.proofs.shard_reader.read_shard.Goals as goal
 

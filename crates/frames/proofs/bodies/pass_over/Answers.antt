@@ -2,8 +2,8 @@ use Rattle.std.proofs.Common.{◌≡◌, ◌≤◌, ◌+◌, length, drop, arith
 use Rattle.std.proofs.lemmas.List.{length-append, length-drop}
 use Rattle.std.proofs.lemmas.Result.{err_from_is_err_and}
 use Rattle.frames.proofs.Streams.{cut_more}
-use Rattle.frames.proofs.ShardPieces.{bytes_more}
-use Rattle.frames.proofs.shard_reader.pass_over.Goals as goal
+use Rattle.frames.proofs.Pieces.{bytes_more}
+use Rattle.frames.proofs.bodies.pass_over.Goals as goal
 
 pub returns-in_err-read_bytes-clause-short : goal.returns-in_err-read_bytes-clause-short
 returns-in_err-read_bytes-clause-short g c =

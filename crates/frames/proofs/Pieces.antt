@@ -1,0 +1,112 @@
+-- Bodies that come by pieces: fields, and behind them a list.
+use Rattle.std.proofs.Common.{◌≡◌, ℕ, ◌+◌, ◌*◌, ◌≤◌, List, [], ◌++◌, length, refl, sym, ap, subst, ◌∙◌, inl, inr, append_assoc, append-nil, arith}
+use Rattle.std.proofs.Math.Nat.{mul-add, mul-le-mul_left}
+use Rattle.std.proofs.lemmas.Bool.{cases_lt}
+use Rattle.std.proofs.lemmas.List.{length-append, nil_from_length}
+use Rattle.byte_streams.specs.Streams.{SourceState, Gave}
+use Rattle.byte_streams.proofs.Streaming.{gave_more, gave_nothing}
+use Rattle.frames.specs.FrameValue.{FrameValue}
+use Rattle.frames.specs.FrameText.{u32_text}
+use Rattle.frames.specs.Refusals.{IsFrameOf, BodyRefused, IsListBegun}
+use Rattle.frames.specs.ReadFault.{failures_of, ends_of, IsCutShort}
+use Rattle.frames.specs.NextFrame.{BodyCame, IsBodyRefused, IsStopped}
+use Rattle.frames.specs.Pieces.{BytesCame}
+use Rattle.frames.specs.declared.fault.FrameFault.{FrameFault}
+use Rattle.frames.specs.declared.fault.FrameFault.TheVariants.{Memory}
+use Rattle.frames.proofs.Streams.{cut_more}
+use Rattle.frames.proofs.Texts.{u32_length}
+
+-- ---- whole bodies
+
+pub whole_came : (v : FrameValue) (kind len : ℕ) (body : List ℕ) (s t : SourceState) → length body ≡ len → Gave 0 0 body s t → IsFrameOf v kind body → BodyCame v kind len s t
+whole_came v kind len body s t counted gave is = record { body = body; counted = counted; gave = gave; is = is }
+
+pub whole_refused : (fault : FrameFault) (kind len : ℕ) (body : List ℕ) (s t : SourceState) → length body ≡ len → Gave 0 0 body s t → BodyRefused fault kind body → IsBodyRefused fault kind len s t
+whole_refused fault kind len body s t counted gave refused = inr (record { body = body; counted = counted; gave = gave; refused = refused })
+
+-- ---- bytes that are passed over
+
+-- so many bytes, and more
+pub bytes_more : (m n : ℕ) (piece : List ℕ) (x y z : SourceState) → BytesCame m x y → length piece ≡ n → Gave 0 0 piece y z → BytesCame (m + n) x z
+bytes_more m n piece x y z came count behind = record {
+  bytes = came.bytes ++ piece;
+  counted = omega (arith, length-append came.bytes piece, came.counted, count);
+  gave = gave_more 0 0 came.bytes piece x y z came.gave behind;
+}
+
+pub bytes_none : (x : SourceState) → BytesCame 0 x x
+bytes_none x = record { bytes = []; counted = refl; gave = gave_nothing x }
+
+pub passed_so_many : (m n : ℕ) (x y : SourceState) → m ≡ n → BytesCame m x y → BytesCame n x y
+passed_so_many m n x y is came = subst (λ (k : ℕ). BytesCame k x y) is came
+
+pub unpassed_so_many : (fault : FrameFault) (m n : ℕ) (x y : SourceState) → m ≡ n → IsCutShort fault m x y → IsCutShort fault n x y
+unpassed_so_many fault m n x y is cut = subst (λ (k : ℕ). IsCutShort fault k x y) is cut
+
+-- ---- a piece that was stopped
+
+-- no memory for its items
+pub stopped_before : (len : ℕ) (x : SourceState) → IsStopped Memory len x x
+stopped_before len x = record { bytes = []; gave = gave_nothing x; within = omega arith; short = inl refl; cause = inr (inr refl) }
+
+-- less than the piece came
+pub stopped_short : (fault : FrameFault) (len : ℕ) (x y : SourceState) → IsCutShort fault len x y → IsStopped fault len x y
+stopped_short fault len x y cut = record { bytes = cut.bytes; gave = cut.gave; within = omega (arith, cut.short); short = inr cut.short; cause = cut.cause }
+
+-- it came, and there was no memory for its items
+pub stopped_behind : (piece : List ℕ) (len : ℕ) (x y : SourceState) → length piece ≡ len → Gave 0 0 piece x y → IsStopped Memory len x y
+stopped_behind piece len x y count gave = record { bytes = piece; gave = gave; within = omega (arith, count); short = inl refl; cause = inr (inr refl) }
+
+-- items of so many bytes each came before it
+pub stopped_later : (size n k count : ℕ) (fault : FrameFault) (bytes : List ℕ) (x y z : SourceState) → n + k ≤ count → length bytes ≡ size * n → Gave 0 0 bytes x y
+    → IsStopped fault (size * k) y z → IsStopped fault (size * count) x z
+stopped_later size n k count fault bytes x y z within counted came stopped =
+    let most : size * n + size * k ≤ size * count = subst (λ (m : ℕ). m ≤ size * count) (mul-add size n k) (mul-le-mul_left size within) in
+    record {
+      bytes = bytes ++ stopped.bytes;
+      gave = gave_more (failures_of fault) (ends_of fault) bytes stopped.bytes x y z came stopped.gave;
+      within = omega (arith, length-append bytes stopped.bytes, stopped.within, most, counted);
+      short = elim stopped.short [ inl memory ↦ inl memory | inr short ↦ inr (omega (arith, length-append bytes stopped.bytes, short, most, counted)) ];
+      cause = stopped.cause;
+    }
+
+-- ---- fields, and the bytes of a list behind them
+
+-- three fields, and what stands behind them
+pub three_fields : (fields rest rest' none list : List ℕ) (r s c : ℕ) → length fields ≡ 12 → fields ≡ u32_text r ++ rest → rest ≡ u32_text s ++ rest' → rest' ≡ u32_text c ++ none
+    → fields ++ list ≡ u32_text r ++ (u32_text s ++ (u32_text c ++ list))
+three_fields fields rest rest' none list r s c twelve first second third =
+    let empty : none ≡ [] = nil_from_length none (omega (arith, twelve, ap length first, ap length second, ap length third, length-append (u32_text r) rest, length-append (u32_text s) rest', length-append (u32_text c) none, u32_length r, u32_length s, u32_length c)) in
+    let count : rest' ≡ u32_text c = third ∙ ap (λ (t : List ℕ). u32_text c ++ t) empty ∙ append-nil (u32_text c) in
+    let all : fields ≡ u32_text r ++ (u32_text s ++ u32_text c) = first ∙ ap (λ (t : List ℕ). u32_text r ++ t) (second ∙ ap (λ (t : List ℕ). u32_text s ++ t) count) in
+    ap (λ (t : List ℕ). t ++ list) all ∙ append_assoc (u32_text r) (u32_text s ++ u32_text c) list ∙ ap (λ (t : List ℕ). u32_text r ++ t) (append_assoc (u32_text s) (u32_text c) list)
+
+module _ (kind len m : ℕ) (fields : List ℕ) (long : length fields + m ≡ len) (x y z : SourceState) (came : Gave 0 0 fields x y) where
+  -- the list came, and the body is a frame's
+  pub list_came : (v : FrameValue) (list : List ℕ) → length list ≡ m → Gave 0 0 list y z → IsFrameOf v kind (fields ++ list) → BodyCame v kind len x z
+  list_came v list count behind is =
+      whole_came v kind len (fields ++ list) x z (omega (arith, length-append fields list, count, long)) (gave_more 0 0 fields list x y z came behind) is
+
+  -- the list came, and the body is refused
+  pub list_refused : (fault : FrameFault) (list : List ℕ) → length list ≡ m → Gave 0 0 list y z → BodyRefused fault kind (fields ++ list) → IsBodyRefused fault kind len x z
+  list_refused fault list count behind refused =
+      whole_refused fault kind len (fields ++ list) x z (omega (arith, length-append fields list, count, long)) (gave_more 0 0 fields list x y z came behind) refused
+
+  -- less than the list came
+  pub list_cut : (fault : FrameFault) → IsCutShort fault m y z → IsBodyRefused fault kind len x z
+  list_cut fault cut = inl (cut_more fault m len fields x y z (omega (arith, long)) came cut)
+
+  -- less than it came, or memory was wanting
+  pub list_stopped : (fault : FrameFault) → IsStopped fault m y z → ((list : List ℕ) → length list ≡ m → IsListBegun kind (fields ++ list)) → IsBodyRefused fault kind len x z
+  list_stopped fault stopped begun = elim (cases_lt (length stopped.bytes) m) [
+    | inl short ↦ list_cut fault (record { bytes = stopped.bytes; gave = stopped.gave; short = short; cause = stopped.cause })
+    | inr all ↦ elim stopped.short [
+      | inl memory ↦ whole memory (omega (arith, all, stopped.within))
+      | inr short ↦ absurd (omega (arith, all, short))
+    ]
+  ]
+    where
+      whole : fault ≡ Memory → length stopped.bytes ≡ m → IsBodyRefused fault kind len x z
+      whole memory count =
+          let gave : Gave 0 0 stopped.bytes y z = subst (λ (f : FrameFault). Gave (failures_of f) (ends_of f) stopped.bytes y z) memory stopped.gave in
+          subst (λ (f : FrameFault). IsBodyRefused f kind len x z) (sym memory) (list_refused Memory stopped.bytes count gave (begun stopped.bytes count))

@@ -1,0 +1,108 @@
+// Answers that come by pieces: 64 KiB have 8,192 offers. Their bytes are written by a formula, and flaws are put into them
+// where a piece begins, ends or is in the middle, and between two pieces.
+ghost use Rattle.std.specs.Prelude.{◌^◌, ◌<◌};
+
+use super::same::expect_same;
+use super::shard_pieces::{expect_refused, read_by};
+use super::sizes::{answer_of, frame_bytes};
+use frames::{Frame, read_frame};
+use std::alloc::Global;
+use std::process::Abort;
+use std::test::Fail;
+
+// Which number of the body is the component of the offer at this place, or what follows the offers before it.
+fn number_at(place: u32) -> usize
+    ensures { result < 2 ^ 40 }
+{
+    3 + 2 * place as usize
+}
+
+// It is the answer of round 5 and shard 6 with these offers.
+fn expect_offers(rt: &impl Abort, frame: Frame, expected: &[(u32, u32)]) {
+    match frame {
+        Frame::Answer(answer) => {
+            expect_same(rt, (answer.round, answer.shard), (5, 6));
+            expect_same(rt, answer.offers.pairs() == expected, true);
+        }
+        _ => assert!(rt; false),
+    }
+}
+
+// Bytes of an answer are read as it, whole, by sevens and by one, and no byte behind them is taken.
+fn expect_read(rt: &impl Abort, alloc: Global, count: u32) -> Result<(), Fail> {
+    let (pairs, numbers) = answer_of(alloc, count)?;
+    let mut bytes = frame_bytes(rt, alloc, 4, numbers.as_slice())?;
+    for piece in [1, 7, usize::MAX] {
+        let frame = read_by(alloc, bytes.as_slice(), piece)??;
+        expect_offers(rt, frame, pairs.as_slice());
+    }
+    bytes.push(77)?;
+    let mut source = bytes.as_slice();
+    expect_offers(rt, read_frame(alloc, &mut source)?, pairs.as_slice());
+    expect_same(rt, source, [77].as_slice());
+    Ok(())
+}
+
+#[test]
+fn answers_by_pieces(rt: HostRuntime) -> Result<(), Fail> {
+    for count in [0, 1, 8_191, 8_192, 8_193, 20_000] {
+        expect_read(&rt, rt.alloc(), count)?;
+    }
+    Ok(())
+}
+
+// An answer of 20,000 offers whose component at this place is another number; refused behind all of it, and torn where it
+// ends before that, also just behind the flaw.
+fn expect_bad_component(
+    rt: &impl Abort,
+    alloc: Global,
+    place: u32,
+    component: u32,
+) -> Result<(), Fail> {
+    let (_, numbers) = answer_of(alloc, 20_000)?;
+    let mut numbers = numbers;
+    match numbers.as_mut_slice().get_mut(number_at(place)) {
+        Some(number) => *number = component,
+        None => assert!(rt; false),
+    }
+    let bytes = frame_bytes(rt, alloc, 4, numbers.as_slice())?;
+    let behind = 5 + 4 * number_at(place.saturating_add(1));
+    let came = behind.min(bytes.len().saturating_sub(1));
+    expect_refused(rt, alloc, bytes.as_slice(), came)
+}
+
+// The component of a place is that place, counted from 1. So it is the one before it, a lesser one, or the one behind it: in
+// the first piece, in the middle one and in the last, and where one piece ends and the next begins.
+#[test]
+fn components_that_do_not_ascend(rt: HostRuntime) -> Result<(), Fail> {
+    for place in [
+        1, 4_000, 8_191, 8_192, 12_000, 16_383, 16_384, 18_000, 19_999,
+    ] {
+        expect_bad_component(&rt, rt.alloc(), place, place)?;
+        expect_bad_component(&rt, rt.alloc(), place, 0)?;
+    }
+    for place in [0, 8_191, 16_383, 19_998] {
+        expect_bad_component(&rt, rt.alloc(), place, place + 2)?;
+    }
+    Ok(())
+}
+
+// An answer of 9,000 offers that counts others.
+fn expect_bad_count(rt: &impl Abort, alloc: Global, count: u32) -> Result<(), Fail> {
+    let (_, numbers) = answer_of(alloc, 9_000)?;
+    let mut numbers = numbers;
+    match numbers.as_mut_slice().get_mut(2) {
+        Some(number) => *number = count,
+        None => assert!(rt; false),
+    }
+    let bytes = frame_bytes(rt, alloc, 4, numbers.as_slice())?;
+    expect_refused(rt, alloc, bytes.as_slice(), 17)
+}
+
+#[test]
+fn counts_of_other_offers(rt: HostRuntime) -> Result<(), Fail> {
+    for count in [0, 8_192, 8_999, 9_001, 9_000 + (1 << 26), u32::MAX] {
+        expect_bad_count(&rt, rt.alloc(), count)?;
+    }
+    Ok(())
+}
