@@ -163,9 +163,9 @@ impl<A: Allocator + Copy> Scanner<A> {
         Ok((offers, Some(listed)))
     }
 
-    // The same offers, by live links that are listed by these labels. Where they are as many as the labels or more, nearly
-    // each label stands at one of them, and the numbers would be nearly the labels themselves: by these the list is scanned as
-    // it stands. Fewer links are numbered.
+    // The same offers, by live links that are listed by these labels. Where they are half as many as the labels or more, most
+    // labels stand at one of them, and a table of numbers would be hardly smaller than one of labels: by these the list is
+    // scanned as it stands. Fewer links are numbered.
     fn scan_new_list<B: Allocator>(
         &mut self,
         links: &[Link],
@@ -181,7 +181,7 @@ impl<A: Allocator + Copy> Scanner<A> {
         ensures live { AreLiveLinks links.now labels.now (shown listed.new.names.items listed.new.links.items) }
         ensures listed { IsListed listed.new.names.items listed.new.links.items }
     {
-        if listed.links.len() < labels.as_slice().len() {
+        if listed.links.len() < labels.as_slice().len().div_ceil(2) {
             return self.scan_and_number(links, listed, labels);
         }
         self.scan_by_labels(links, listed.links.as_slice(), labels)

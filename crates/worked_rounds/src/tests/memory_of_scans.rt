@@ -228,7 +228,7 @@ fn links_laid_aside_are_scanned_no_more(rt: HostRuntime) -> Result<(), Fail> {
 const DIRECTIONS: [Row; 2] = [(1, 2, 3), (2, 1, 3)];
 
 // A list of the first of them is made before the first scan, in a block for both that is given back for a smaller one: before
-// one block for the marks, three of the table, one for the names and one of the offers.
+// three blocks of the table and one of the offers.
 #[test]
 fn links_of_both_directions_are_listed_at_once(rt: HostRuntime) -> Result<(), Fail> {
     let memory = Refusing::new(rt.alloc(), Refusals::none());
@@ -236,7 +236,7 @@ fn links_of_both_directions_are_listed_at_once(rt: HostRuntime) -> Result<(), Fa
     let mut worker = Worker::new(&memory, By::OneThread);
     worker.keep(&rt, 0, links)?;
     let taken = blocks_of_ask(&rt, &memory, &mut worker, 2)?;
-    expect_same(&rt, taken, 8);
+    expect_same(&rt, taken, 6);
     Ok(())
 }
 
@@ -295,19 +295,19 @@ fn expect_scanned<A: Allocator>(
     Ok(())
 }
 
-// Fewer links than vertices, as many, and many more.
+// Less than half as many links as vertices, more than that, and many more.
 const LISTED: [Asked; 3] = [
     (
-        2,
+        1,
         [
             ([1, 2, 3], 7),
-            ([1, 1, 3], 3),
-            ([1, 1, 3], 3),
+            ([1, 1, 3], 2),
+            ([1, 1, 3], 2),
             ([1, 1, 1], 2),
         ],
     ),
     (
-        3,
+        2,
         [
             ([1, 2, 3], 5),
             ([1, 1, 3], 3),
@@ -326,8 +326,8 @@ const LISTED: [Asked; 3] = [
     ),
 ];
 
-// The live links are listed, in one block, before the first scan. Where they are fewer than the labels they are numbered then,
-// else at the next ask: in one block for the marks, three of the table, which are used again, and one for the names, and at
+// The live links are listed, in one block, before the first scan. Where they are less than half as many as the labels they are
+// numbered then, else at the next ask: in one block for the marks, three of the table, which are used again, and one for the names, and at
 // each later ask in one more for what becomes of the names. Each answer that offers something takes one.
 #[test]
 fn live_links_are_listed_once(rt: HostRuntime) -> Result<(), Fail> {
@@ -378,7 +378,7 @@ const NOT_LISTED_FIRST: [Asked; 2] = [
 fn live_links_are_listed_at_the_next_ask(rt: HostRuntime) -> Result<(), Fail> {
     for by in [By::OneThread, By::Threads] {
         for (at_once, later) in [
-            (&LISTED[0], &NOT_LISTED_FIRST[0]),
+            (&LISTED[1], &NOT_LISTED_FIRST[0]),
             (&LISTED[2], &NOT_LISTED_FIRST[1]),
         ] {
             let before = blocks_before(&rt, rt.alloc(), by, at_once)?;

@@ -514,13 +514,13 @@ impl Near {
     }
 }
 
-// Lists of about as many links as there are vertices, and of twice as many. Fewer are numbered at the first ask, and others at
-// the second.
+// Lists of about half as many links as there are vertices, and of twice as many as these. Fewer are numbered at the first ask,
+// and others at the second.
 #[test]
-fn as_many_links_as_vertices(rt: HostRuntime) -> Result<(), Fail> {
+fn half_as_many_links_as_vertices(rt: HostRuntime) -> Result<(), Fail> {
     let links = near_links(rt.alloc())?;
     for by in [By::OneThread, By::Threads, By::OrFault] {
-        for count in [NEAR - 1, NEAR, NEAR + 1, 2 * NEAR] {
+        for count in [NEAR / 2 - 1, NEAR / 2, NEAR / 2 + 1, 2 * NEAR] {
             let few = links.as_slice().get(..count as usize).ok_or("links")?;
             let mut near = Near {
                 worker: Worker::new(rt.alloc(), by),
