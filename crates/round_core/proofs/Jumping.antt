@@ -1,5 +1,5 @@
 -- A jump: a root's parent's parent in place of its parent.
-use Rattle.std.proofs.Common.{◌≡◌, ◌≢◌, ℕ, ◌+◌, ◌<◌, ◌≤◌, ◌^◌, List, length, get_or, set, Contains, refl, sym, ap, ◌∙◌, subst, inl, inr, add-one, below_more, arith}
+use Rattle.std.proofs.Common.{◌≡◌, ◌≢◌, ℕ, ◌+◌, ◌<◌, ◌≤◌, ◌^◌, List, length, get_or, set, Contains, sym, ap, ◌∙◌, subst, inl, inr, add-one, below_more, arith}
 use Rattle.std.specs.Prelude.{Option}
 use Rattle.std.proofs.lemmas.Bool.{cases_eq, cases_lt}
 use Rattle.std.proofs.Math.Nat.{two-pow-succ}
@@ -8,7 +8,7 @@ use Rattle.std.proofs.lemmas.List.Elements.{Contains-get_or}
 use Rattle.link_key.specs.declared.links.Link.{Link}
 use Rattle.round_theory.specs.Labelling.{JoinsOver}
 use Rattle.round_core.specs.Picks.{Picked}
-use Rattle.round_core.specs.Roots.{ArePointers, AreParents, IsSettled, AreSettled, IsNear, AreNear}
+use Rattle.round_core.specs.Roots.{ArePointers, AreParents, jumped, IsSettled, AreSettled, IsNear, AreNear}
 use Rattle.round_core.proofs.HookWalks.{over_then}
 
 power_more : (i : ℕ) → 2 ^ (i + 1) ≡ 2 ^ i + 2 ^ i
@@ -102,43 +102,73 @@ jumped_none roots old pointers = record {
   nearer = λ rank i are j none. absurd (omega (arith, none));
 }
 
--- one more root jumps
-pub jumped_more : (roots old new new' : List ℕ) (k c : ℕ) → k < length roots → get_or roots k 0 ≡ c → length new' ≡ length new → get_or new' c 0 ≡ get_or new (get_or new c 0) 0
-    → ((x : ℕ) → x ≢ c → get_or new' x 0 ≡ get_or new x 0) → HaveJumped roots old new k → HaveJumped roots old new' (k + 1)
-jumped_more roots old new new' k c k_in c_is long at off have = record {
-  pointers = jump_points roots new new' c c_in have.pointers long at off;
-  parents = λ labels picks are. jump_joins roots new new' c c_in have.pointers long at off labels picks (have.parents labels picks are);
-  near = near_all;
+-- what a jump writes
+jump_long : (new : List ℕ) (c : ℕ) → length (jumped new c) ≡ length new
+jump_long new c = length-set new c (get_or new (get_or new c 0) 0)
+
+jump_at : (new : List ℕ) (c : ℕ) → c < length new → get_or (jumped new c) c 0 ≡ get_or new (get_or new c 0) 0
+jump_at new c within = get_or-set_same new c (get_or new (get_or new c 0) 0) 0 within
+
+jump_off : (new : List ℕ) (c x : ℕ) → x ≢ c → get_or (jumped new c) x 0 ≡ get_or new x 0
+jump_off new c x other = get_or-set_other new c x (get_or new (get_or new c 0) 0) 0 other
+
+-- the root that jumps comes nearer, as far as it and its parent were near
+jumps_nearer : (roots old new : List ℕ) (k c : ℕ) → Contains roots c → HaveJumped roots old new k → (rank : ℕ → ℕ) (i : ℕ) → AreNear roots rank i old → IsNear rank (i + 1) (jumped new c) c
+jumps_nearer roots old new k c c_in have rank i are =
+    let near = have.near rank i are in
+    nearer_here roots new (jumped new c) c c_in have.pointers (jump_long new c) (jump_at new c (have.pointers.within c c_in)) (jump_off new c) rank i (near c c_in) (near (get_or new c 0) (have.pointers.closed c c_in))
+
+-- whichever root jumps, the first k roots have jumped still
+pub jumped_again : (roots old new : List ℕ) (k c : ℕ) → Contains roots c → HaveJumped roots old new k → HaveJumped roots old (jumped new c) k
+jumped_again roots old new k c c_in have = record {
+  pointers = jump_points roots new (jumped new c) c c_in have.pointers long at off;
+  parents = λ labels picks are. jump_joins roots new (jumped new c) c c_in have.pointers long at off labels picks (have.parents labels picks are);
+  near = λ rank i are x x_in. elim (cases_eq x c) [
+    | inl is ↦ subst (IsNear rank i (jumped new c)) (sym is) (less_near rank i (jumped new c) c (jumps_nearer roots old new k c c_in have rank i are))
+    | inr other ↦ near_still roots new (jumped new c) c c_in have.pointers long at off rank i x other (have.near rank i are x x_in)
+  ];
   nearer = λ rank i are j j_in j_within. elim (cases_eq (get_or roots j 0) c) [
-    | inl is ↦ subst (IsNear rank (i + 1) new') (sym is) (here rank i are)
-    | inr other ↦ elim (cases_lt j k) [
-      | inl before ↦ near_still roots new new' c c_in have.pointers long at off rank (i + 1) (get_or roots j 0) other (have.nearer rank i are j before j_within)
-      | inr last ↦ let itself : j ≡ k = omega (arith, last, j_in) in absurd (other (ap (λ (m : ℕ). get_or roots m 0) itself ∙ c_is))
-    ]
+    | inl is ↦ subst (IsNear rank (i + 1) (jumped new c)) (sym is) (jumps_nearer roots old new k c c_in have rank i are)
+    | inr other ↦ near_still roots new (jumped new c) c c_in have.pointers long at off rank (i + 1) (get_or roots j 0) other (have.nearer rank i are j j_in j_within)
   ];
 }
   where
-    c_in : Contains roots c
-    c_in = subst (Contains roots) c_is (Contains-get_or roots k 0 k_in)
+    long : length (jumped new c) ≡ length new
+    long = jump_long new c
 
-    here : (rank : ℕ → ℕ) (i : ℕ) → AreNear roots rank i old → IsNear rank (i + 1) new' c
-    here rank i are =
-        let near = have.near rank i are in
-        nearer_here roots new new' c c_in have.pointers long at off rank i (near c c_in) (near (get_or new c 0) (have.pointers.closed c c_in))
+    at : get_or (jumped new c) c 0 ≡ get_or new (get_or new c 0) 0
+    at = jump_at new c (have.pointers.within c c_in)
 
-    near_all : (rank : ℕ → ℕ) (i : ℕ) → AreNear roots rank i old → AreNear roots rank i new'
-    near_all rank i are x x_in = elim (cases_eq x c) [
-      | inl is ↦ subst (IsNear rank i new') (sym is) (less_near rank i new' c (here rank i are))
-      | inr other ↦ near_still roots new new' c c_in have.pointers long at off rank i x other (have.near rank i are x x_in)
-    ]
+    off : (x : ℕ) → x ≢ c → get_or (jumped new c) x 0 ≡ get_or new x 0
+    off = jump_off new c
 
--- the root at place k jumps
-pub jumped_by_write : (roots old new : List ℕ) (k : ℕ) → k < length roots → HaveJumped roots old new k
-    → HaveJumped roots old (set new (get_or roots k 0) (get_or new (get_or new (get_or roots k 0) 0) 0)) (k + 1)
-jumped_by_write roots old new k k_in have =
+-- the root at place k jumps, the first time
+pub jumped_first : (roots old new : List ℕ) (k : ℕ) → k < length roots → HaveJumped roots old new k → HaveJumped roots old (jumped new (get_or roots k 0)) (k + 1)
+jumped_first roots old new k k_in have =
     let c : ℕ = get_or roots k 0 in
-    let q : ℕ = get_or new (get_or new c 0) 0 in
-    jumped_more roots old new (set new c q) k c k_in refl (length-set new c q) (get_or-set_same new c q 0 (have.pointers.within c (Contains-get_or roots k 0 k_in))) (λ x other. get_or-set_other new c x q 0 other) have
+    let c_in : Contains roots c = Contains-get_or roots k 0 k_in in
+    let again = jumped_again roots old new k c c_in have in
+    record {
+      pointers = again.pointers;
+      parents = again.parents;
+      near = again.near;
+      nearer = λ rank i are j j_in j_within. elim (cases_lt j k) [
+        | inl before ↦ again.nearer rank i are j before j_within
+        | inr last ↦
+            let itself : j ≡ k = omega (arith, last, j_in) in
+            subst (λ (m : ℕ). IsNear rank (i + 1) (jumped new c) (get_or roots m 0)) (sym itself) (jumps_nearer roots old new k c c_in have rank i are)
+      ];
+    }
+
+-- what is settled stays so when any root jumps
+pub settled_on : (roots new : List ℕ) (c x : ℕ) → Contains roots c → ArePointers roots new → IsSettled new x → IsSettled (jumped new c) x
+settled_on roots new c x c_in pointers settled = elim (cases_eq x c) [
+  | inl is ↦
+      let rests : get_or new (get_or new c 0) 0 ≡ get_or new c 0 = subst (IsSettled new) is settled in
+      let same : jumped new c ≡ new = ap (set new c) rests ∙ set-get_or new c 0 in
+      subst (λ ps. IsSettled ps x) (sym same) settled
+  | inr other ↦ settled_still roots new (jumped new c) c c_in pointers (jump_long new c) (jump_at new c (pointers.within c c_in)) (jump_off new c) x other settled
+]
 
 -- where it has nowhere to jump to, and those before it had not, all of them are settled
 pub settled_more : (roots new : List ℕ) (k : ℕ) → ((j : ℕ) → j < k → IsSettled new (get_or roots j 0)) → get_or new (get_or new (get_or roots k 0) 0) 0 ≡ get_or new (get_or roots k 0) 0

@@ -1,5 +1,5 @@
 -- The labels that name components, as they stay from round to round, and where picks lead each of them.
-use Rattle.std.specs.Prelude.{◌≡◌, ◌≢◌, ℕ, ◌+◌, ◌-◌, ◌<◌, ◌≤◌, ◌^◌, ◌⊎◌, ◌↔◌, min, Bool, true, List, ◌++◌, length, slice_index, slice_index_or, AllPairs, Contains, Option, Some, None}
+use Rattle.std.specs.Prelude.{◌≡◌, ◌≢◌, ℕ, ◌+◌, ◌-◌, ◌<◌, ◌≤◌, ◌^◌, ◌⊎◌, ◌↔◌, min, Bool, true, List, ◌++◌, length, slice_index, slice_index_or, slice_set, AllPairs, Contains, Option, Some, None}
 use Rattle.link_key.specs.declared.links.Link.{Link}
 use Rattle.link_key.specs.Labels.{label_of}
 use Rattle.round_theory.specs.Labelling.{IsVertex, JoinsOver}
@@ -108,6 +108,10 @@ pub record AreParents (labels roots : List ℕ) (picks : List (Option Link)) (pa
   pub joined : (c : ℕ) → Contains roots c → JoinsOver labels (Picked picks) c (slice_index parents c)
   pub together : (f : ℕ → ℕ) → ((c : ℕ) → Contains roots c → f c ≡ f (slice_index parents c))
       → (l : Link) → Picked picks l → f (label_of labels l.low) ≡ f (label_of labels l.high)
+
+-- the parents, once root c has its parent's parent
+abbrev pub jumped : List ℕ → ℕ → List ℕ
+jumped parents c = slice_set parents c (slice_index parents (slice_index parents c))
 
 -- the parent of root c is its own parent
 abbrev pub IsSettled : List ℕ → ℕ → Type 0

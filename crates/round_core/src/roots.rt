@@ -4,7 +4,7 @@ ghost use Rattle.link_key.specs.Labels.{label_of, AreLabels, AreApart};
 ghost use Rattle.round_theory.specs.Labelling.{IsVertex, IsRelabelling};
 ghost use Rattle.round_theory.specs.Offers.{Leaves};
 ghost use Rattle.round_core.specs.Picks.{pick_of, Picked, AreNoPicks, HaveAllPicks, ArePicksOfHearings};
-ghost use Rattle.round_core.specs.Roots.{IsRoot, AreRoots, HasEndLabels, IsLed, IsLedBy, IsTaker, AreLeads, ArePartLeads, AreTakers, Follows, TakesBatch, TakesPicked, StandsBefore, ArePointers, AreParents, AreSettled, AreNear, IsLeastUnder};
+ghost use Rattle.round_core.specs.Roots.{IsRoot, AreRoots, HasEndLabels, IsLed, IsLedBy, IsTaker, AreLeads, ArePartLeads, AreTakers, Follows, TakesBatch, TakesPicked, StandsBefore, ArePointers, AreParents, IsSettled, AreSettled, AreNear, IsLeastUnder, jumped};
 
 use crate::picks::Picks;
 use limits::MAX_VERTICES;
@@ -14,7 +14,7 @@ use std::marker::Model;
 use std::thread;
 use std::thread::Threads;
 
-// How often parents are jumped over at most: each time doubles how far the rank of a parent is below that of its root,
+// How often all roots jump at most: each time doubles at least how far the rank of a parent is below that of its root,
 // and a rank, the key of a pick, has 128 bits.
 const JUMPS: u32 = 129;
 
@@ -417,8 +417,8 @@ fn take_each<A: Allocator>(
     Ok(())
 }
 
-// Gives each root its parent's parent in place of its parent, and says whether one of them is another. It takes no branch
-// on what it looks up.
+// Lets each root jump three times in a row, where its chain is at hand, and says whether the last jump of one led to another
+// parent. It takes no branch on what it looks up.
 fn jump(roots: &[u32], parents: &mut [u32]) -> bool
     requires { ArePointers roots.now parents.old }
     ensures pointers { ArePointers roots.now parents.new }
@@ -429,12 +429,25 @@ fn jump(roots: &[u32], parents: &mut [u32]) -> bool
 {
     let mut moved = false;
     for root in roots {
-        let parent = parents[*root as usize];
-        let next = parents[parent as usize];
-        parents[*root as usize] = next;
-        moved |= next != parent;
+        jump_once(parents, *root);
+        jump_once(parents, *root);
+        moved |= jump_once(parents, *root);
     }
     moved
+}
+
+// Gives a root its parent's parent in place of its parent, and says whether that is another.
+#[inline]
+fn jump_once(parents: &mut [u32], root: u32) -> bool
+    requires root { root < length parents.old }
+    requires parent { slice_index parents.old root < length parents.old }
+    ensures jumped { parents.new ≡ jumped parents.old root }
+    ensures settled { (result ≡ false) → IsSettled parents.old root }
+{
+    let parent = parents[root as usize];
+    let next = parents[parent as usize];
+    parents[root as usize] = next;
+    next != parent
 }
 
 // Gives each root the least root under its parent in place of its parent.
