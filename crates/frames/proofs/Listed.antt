@@ -5,7 +5,9 @@ use Rattle.std.specs.List.{flat_map, AllByRecursion}
 use Rattle.std.specs.Simd.{first_chunks}
 use Rattle.std.proofs.lemmas.Bool.{and_parts}
 use Rattle.std.proofs.lemmas.Int.{of_z-to_z}
-use Rattle.std.proofs.lemmas.List.{length-append, nil_from_length, take-append-drop, length-drop, length-take, take_more, take_more_set, map-append, take_all}
+use Rattle.std.proofs.lemmas.List.{length-append, nil_from_length, take-append-drop, length-drop, length-take, take_more, take_more_set, map-append, take_all, flat_map_more}
+use Rattle.std.proofs.lemmas.Slice.{take-put_mid}
+use borrow.Rule.Slice.PartMut.{put_mid}
 use Rattle.std.proofs.lemmas.List.Elements.{All-append, All-cons, All-nil, All-from_recursion}
 use Rattle.std.proofs.lemmas.List.Folds.{flat_map-map}
 use Rattle.std.proofs.lemmas.Grind.{flat_map-append}
@@ -13,7 +15,7 @@ use Rattle.link_key.specs.declared.links.Link.{Link}
 use Rattle.frames.specs.FrameText.{u32_text, i32_text, i64_text, is_narrow, are_narrow, offer_text}
 use Rattle.frames.specs.Lawful.{IsU32}
 use Rattle.frames.specs.Refusals.{AreNoLinks, IsNoLink}
-use Rattle.frames.proofs.Texts.{IsBytes, IsBytes-drop, IsBytes-take, u32_length, u32_back, i64_length, parts_same, FitsOffer}
+use Rattle.frames.proofs.Texts.{IsBytes, IsBytes-drop, IsBytes-take, u32_length, u32_back, i64_length, parts_same, FitsOffer, offer_length}
 use Rattle.frames.proofs.OneText.{two_prefix}
 use Rattle.link_key.specs.Offers.{Offer}
 
@@ -130,6 +132,17 @@ module _ (spelled : Link → List ℕ) (size : ℕ) (some : 0 < size) (each : (l
   no_links_behind read bytes rest prefix behind so_far first second len none links same =
       let split : rest ≡ prefix ++ behind = sym (take-append-drop size rest) ∙ ap (λ (t : List ℕ). t ++ drop size rest) (sym first) ∙ ap (λ (t : List ℕ). prefix ++ t) (sym second) in
       none_behind read links prefix behind len none (same ∙ sym so_far ∙ ap (λ (t : List ℕ). flat_map spelled read ++ t) split)
+
+-- ---- offers, written
+
+-- the bytes of one more, behind those of the first offers
+pub offer_put : (bytes cell : List ℕ) (offers : List Offer) (i k : ℕ) (d : Offer) → length bytes ≡ 8 * length offers → i < length offers → cell ≡ offer_text (get_or offers i d)
+    → take (8 * i) bytes ≡ flat_map offer_text (take i offers) → take (8 * (i + 1)) (put_mid (8 * i) k bytes cell) ≡ flat_map offer_text (take (i + 1) offers)
+offer_put bytes cell offers i k d room more is so_far =
+    let next = get_or offers i d in
+    take-put_mid (8 * i) k bytes cell (8 * (i + 1)) (omega (arith, ap length is, offer_length next)) (omega (arith, room, more))
+    ∙ ap (λ (t : List ℕ). t ++ cell) so_far ∙ ap (λ (t : List ℕ). flat_map offer_text (take i offers) ++ t) is
+    ∙ flat_map_more offer_text [] (take i offers) next ∙ ap (flat_map offer_text) (sym (take_more offers i d more))
 
 -- ---- offers, read
 

@@ -2,13 +2,13 @@
 ghost use Rattle.std.specs.Prelude.{◌≡◌, ◌+◌, ◌*◌, ◌<◌, ◌≤◌, ◌∷◌, ◌++◌, [], length, drop, IfSome, IfOk, OnOk};
 ghost use Rattle.std.specs.List.{flat_map};
 ghost use Rattle.frames.specs.FrameValue.{value_of, HelloFrame, ShardFrame, AskFrame, AnswerFrame, FaultFrame};
-ghost use Rattle.frames.specs.FrameText.{u32_text, text_of};
+ghost use Rattle.frames.specs.FrameText.{u32_text, offer_text, text_of};
 ghost use Rattle.frames.specs.Lawful.{IsLawful};
 ghost use Rattle.frames.specs.Spellings.{spelled_in, spelling_of};
 
 use crate::fields::{put_u16, put_u32};
 use crate::frame::{Answer, Frame};
-use crate::items::{put_links, put_numbers, put_offers, spells};
+use crate::items::{put_links, put_numbers, spells, write_offers};
 use crate::spelling::Spelling;
 use limits::{MAX_SHARD_LINKS, MAX_SHARDS, MAX_VERTICES};
 use link_key::{Labels, Link, Shard};
@@ -166,17 +166,24 @@ pub fn ask_parts<'a, B: Allocator>(
 const ASK_HEAD: usize = 17;
 
 // The bytes of an ask before so many labels.
-#[tactic(auto, unfolding(crate::specs::FrameText::u32_text))]
 fn ask_head(round: u32, shard: u32, count: u32) -> [u8; 17]
     requires { count ≤ MAX_VERTICES }
     ensures { result ≡ (((3 ∷ u32_text (12 + 4 * count)) ++ u32_text round) ++ u32_text shard) ++ u32_text count }
 {
-    let [l0, l1, l2, l3] = (12 + 4 * count).to_be_bytes();
+    head_and_three_fields(3, 12 + 4 * count, round, shard, count)
+}
+
+// The bytes of a head and of three fields.
+#[tactic(auto, unfolding(crate::specs::FrameText::u32_text))]
+fn head_and_three_fields(kind: u8, length: u32, round: u32, shard: u32, count: u32) -> [u8; 17]
+    ensures { result ≡ (((kind ∷ u32_text length) ++ u32_text round) ++ u32_text shard) ++ u32_text count }
+{
+    let [l0, l1, l2, l3] = length.to_be_bytes();
     let [r0, r1, r2, r3] = round.to_be_bytes();
     let [s0, s1, s2, s3] = shard.to_be_bytes();
     let [c0, c1, c2, c3] = count.to_be_bytes();
     [
-        3, l0, l1, l2, l3, r0, r1, r2, r3, s0, s1, s2, s3, c0, c1, c2, c3,
+        kind, l0, l1, l2, l3, r0, r1, r2, r3, s0, s1, s2, s3, c0, c1, c2, c3,
     ]
 }
 
@@ -210,13 +217,24 @@ fn encode_answer<A: Allocator, B: Allocator>(
     ensures { IfOk result (λ text. text.items ≡ text_of (AnswerFrame answer.now)) }
 {
     let offers = answer.offers.pairs();
-    let count = offers.len() as u32;
-    let mut text = begin(alloc, 4, 12 + 8 * count)?;
-    put_u32(&mut text, answer.round)?;
-    put_u32(&mut text, answer.shard)?;
-    put_u32(&mut text, count)?;
-    put_offers(&mut text, offers)?;
+    let mut text = Vec::with_capacity(alloc, ANSWER_HEAD + 8 * offers.len())?;
+    text.extend_from_slice(&answer_head(answer))?;
+    write_offers(&mut text, offers)?;
     Ok(text)
+}
+
+/// How many bytes stand before the offers of an answer.
+pub const ANSWER_HEAD: usize = 17;
+
+/// What stands before the offers in the text of an answer's frame: the kind, the length, the round, the shard and the
+/// count. Who writes many offers needs no text of all of them: it is this and the offers by
+/// [`put_offers`](crate::put_offers). It looks at no offer, and takes no memory.
+pub fn answer_head<A: Allocator>(answer: &Answer<A>) -> [u8; 17]
+    requires { length answer.now.offers ≤ 2 * MAX_SHARD_LINKS }
+    ensures { result ++ flat_map offer_text answer.now.offers ≡ text_of (AnswerFrame answer.now) }
+{
+    let count = answer.offers.pairs().len() as u32;
+    head_and_three_fields(4, 12 + 8 * count, answer.round, answer.shard, count)
 }
 
 /// The text of a fault: the answer to an ask of this round and shard that can't be met. It takes

@@ -143,7 +143,7 @@ fn put_bytes<A: Allocator>(text: &mut Vec<u8, A>, bytes: &[u8])
 }
 
 // Writes offers at the end.
-pub(crate) fn put_offers<A: Allocator>(
+pub(crate) fn write_offers<A: Allocator>(
     text: &mut Vec<u8, A>,
     offers: &[(u32, u32)],
 ) -> Result<(), AllocError>
@@ -154,6 +154,29 @@ pub(crate) fn put_offers<A: Allocator>(
         put_u32(text, place)?;
     }
     Ok(())
+}
+
+/// Puts the bytes of offers in place of as many others: 8 for each, those of its component and of its place. So an
+/// answer goes out behind its [`answer_head`](crate::answer_head), as many offers at a time as there is room for. It takes
+/// no memory, and writes each byte once.
+pub fn put_offers(bytes: &mut [u8], offers: &[(u32, u32)])
+    requires room { length bytes.old ≡ 8 * length offers.now }
+    ensures put { bytes.new ≡ flat_map offer_text offers.now }
+{
+    for i in 0..offers.len() {
+        let start = 8 * i;
+        bytes[start..start + 8].copy_from_slice(&offer_bytes(offers[i]));
+    }
+}
+
+// The bytes of an offer.
+#[tactic(auto, unfolding(crate::specs::FrameText::u32_text))]
+fn offer_bytes(offer: (u32, u32)) -> [u8; 8]
+    ensures { result ≡ offer_text offer }
+{
+    let [c0, c1, c2, c3] = offer.0.to_be_bytes();
+    let [p0, p1, p2, p3] = offer.1.to_be_bytes();
+    [c0, c1, c2, c3, p0, p1, p2, p3]
 }
 
 // The numbers whose bytes these are.

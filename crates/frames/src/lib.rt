@@ -10,8 +10,8 @@
 //!                                                   /                              \
 //!                       5 bytes --decode_head--> Head                body --decode_body--> Frame
 //! ```
-//! A shard may go by pieces: [`shard_head`], [`put_links`] make its text, and `read_frame` its links, some at
-//! a time.
+//! Shards and answers may go by pieces: [`shard_head`] and [`put_links`], [`answer_head`] and [`put_offers`] make a text,
+//! and `read_frame` its links or offers, some at a time.
 //!
 //! What it promises:
 //! - The encoders give exactly a lawful frame's one text, the same in both versions; no frame's text
@@ -44,13 +44,13 @@ mod spelling;
 
 pub use decoding::decode_body;
 pub use encoding::{
-    SHARD_HEAD, ask_parts, encode, encode_ask, encode_ask_over, encode_shard, fault_bytes,
-    shard_head,
+    ANSWER_HEAD, SHARD_HEAD, answer_head, ask_parts, encode, encode_ask, encode_ask_over,
+    encode_shard, fault_bytes, shard_head,
 };
 pub use fault::FrameFault;
 pub use frame::{Answer, Frame, Links, VERSION};
 pub use frame_reader::read_frame;
 pub use head::{Head, decode_head};
-pub use items::{fit_32_bits, put_links};
+pub use items::{fit_32_bits, put_links, put_offers};
 pub use next_frame::{NextFrame, read_next};
 pub use spelling::Spelling;

@@ -5,7 +5,8 @@ ghost use Rattle.std.specs.Prelude.{◌^◌, ◌<◌};
 use super::same::expect_same;
 use super::shard_pieces::{expect_refused, read_by};
 use super::sizes::{answer_of, frame_bytes};
-use frames::{Frame, read_frame};
+use frames::{ANSWER_HEAD, Answer, Frame, answer_head, put_offers, read_frame};
+use link_key::Offers;
 use std::alloc::Global;
 use std::process::Abort;
 use std::test::Fail;
@@ -26,6 +27,47 @@ fn expect_offers(rt: &impl Abort, frame: Frame, expected: &[(u32, u32)]) {
         }
         _ => assert!(rt; false),
     }
+}
+
+// The bytes of this answer, made of so many offers at a time, are these.
+fn expect_put(
+    rt: &impl Abort,
+    alloc: Global,
+    answer: &Answer,
+    at_a_time: usize,
+    bytes: &[u8],
+) -> Result<(), Fail> {
+    let offers = answer.offers.pairs();
+    assert!(rt; offers.len() <= 1 << 25);
+    let head = answer_head(answer);
+    expect_same(rt, head.len(), ANSWER_HEAD);
+    let mut text = Vec::from_slice(alloc, &head)?;
+    for piece in offers.chunks(at_a_time.max(1)) {
+        assert!(rt; piece.len() <= 1 << 25);
+        let mut put = Vec::new(alloc);
+        put.resize(8 * piece.len(), 0)?;
+        put_offers(put.as_mut_slice(), piece);
+        text.extend_from_slice(put.as_slice())?;
+    }
+    expect_same(rt, text.as_slice() == bytes, true);
+    Ok(())
+}
+
+#[test]
+fn answers_made_by_pieces(rt: HostRuntime) -> Result<(), Fail> {
+    for count in [0, 1, 8_191, 8_192, 8_193, 20_000] {
+        let (pairs, numbers) = answer_of(rt.alloc(), count)?;
+        let bytes = frame_bytes(&rt, rt.alloc(), 4, numbers.as_slice())?;
+        let answer = Answer {
+            round: 5,
+            shard: 6,
+            offers: Offers::of_pairs(pairs).expect(&rt, "ascending"),
+        };
+        for at_a_time in [1, 1_000, 8_192, 20_000] {
+            expect_put(&rt, rt.alloc(), &answer, at_a_time, bytes.as_slice())?;
+        }
+    }
+    Ok(())
 }
 
 // Bytes of an answer are read as it, whole, by sevens and by one, and no byte behind them is taken.

@@ -3,8 +3,8 @@ use super::next_frames::next_bytes;
 use super::same::expect_same;
 use byte_streams::FusedSource;
 use frames::{
-    Answer, Frame, FrameFault, Head, Links, VERSION, decode_body, decode_head, encode, encode_ask,
-    encode_ask_over, encode_shard, fault_bytes, read_frame, read_next,
+    Answer, Frame, FrameFault, Head, Links, VERSION, answer_head, decode_body, decode_head, encode,
+    encode_ask, encode_ask_over, encode_shard, fault_bytes, put_offers, read_frame, read_next,
 };
 use link_key::{Labels, Link, Offers, Shard};
 use std::alloc::{AllocError, Global};
@@ -332,6 +332,24 @@ fn answer_of_three_offers(rt: HostRuntime) -> Result<(), Fail> {
     expect_text(&rt, rt.alloc(), &frame, &ANSWER)?;
     let read = read_frame(rt.alloc(), &mut ANSWER.as_slice())?;
     expect_answer(&rt, read, (1, 0), &pairs);
+    Ok(())
+}
+
+// Its head, and the bytes of its offers.
+#[test]
+fn parts_of_an_answer(rt: HostRuntime) -> Result<(), Fail> {
+    let pairs = Vec::from_slice(rt.alloc(), &[(1, 0), (2, 0), (3, 2)])?;
+    let offers = Offers::of_pairs(pairs).expect(&rt, "ascending");
+    let answer = Answer {
+        round: 1,
+        shard: 0,
+        offers,
+    };
+    assert!(rt; answer.offers.pairs().len() == 3);
+    let mut bytes = [0; 24];
+    put_offers(&mut bytes, answer.offers.pairs());
+    expect_same(&rt, answer_head(&answer).as_slice(), &ANSWER[..17]);
+    expect_same(&rt, bytes.as_slice(), &ANSWER[17..]);
     Ok(())
 }
 

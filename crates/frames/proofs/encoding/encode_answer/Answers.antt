@@ -1,8 +1,12 @@
-use Rattle.std.proofs.Common.{ap, length}
-use Rattle.frames.proofs.Written.{answer_written}
+use Rattle.std.proofs.Common.{◌≡◌, ◌++◌, List, ℕ, ap, ◌∙◌, rules}
+use Rattle.std.specs.List.{flat_map}
+use Rattle.link_key.specs.Offers.{Offer}
+use Rattle.frames.specs.AnswerValue.{AnswerValue}
+use Rattle.frames.specs.FrameText.{offer_text}
 use Rattle.frames.proofs.encoding.encode_answer.Goals as goal
 
 pub returns : goal.returns
 returns g c =
-    rw (← c.answer.view_is) (answer_written _ _ _ _ _ _ _ (ap length c.pairs-offers.ensures.pairs) c.in_ok-text.ensures c.in_ok-put_u32.ensures c.in_ok-put_u32-2.ensures c.in_ok-put_u32-3.ensures
-    (rw (← c.pairs-offers.ensures.pairs) c.in_ok-put_offers.ensures))
+    let head : c.extend_from_slice.new.self.items ≡ c.answer_head.result = search rules in
+    let offers : c.pairs-offers.result.now ≡ c.args.answer.now.offers = c.pairs-offers.ensures.pairs ∙ ap (λ (a : AnswerValue). a.offers) c.answer.view_is in
+    c.in_ok-write_offers.ensures ∙ ap (λ (t : List ℕ). t ++ flat_map offer_text c.pairs-offers.result.now) head ∙ ap (λ (os : List Offer). c.answer_head.result ++ flat_map offer_text os) offers ∙ c.answer_head.ensures
