@@ -5,3 +5,4 @@ pub mod Replying
 pub mod Sessions
 pub mod Steps
 pub mod Worked
+pub mod Pieces

@@ -1,10 +1,12 @@
 -- How a session ends: what the source gave it, and what the sink took.
 use Rattle.std.specs.Prelude.{◌≡◌, ◌≢◌, ℕ, ◌+◌, ◌<◌, ◌⊎◌, List, [], ◌∷◌, ◌++◌, length, take}
+use Rattle.std.specs.List.{flat_map}
 use Rattle.byte_streams.specs.Streams.{SourceState, Gave, SinkState, Took}
 use Rattle.link_key.specs.declared.links.Link.{Link}
+use Rattle.link_key.specs.Offers.{Offer}
 use Rattle.frames.specs.FrameValue.{FrameValue, ShardFrame, AnswerFrame, FaultFrame}
 use Rattle.frames.specs.declared.frame.TheConstants.{VERSION}
-use Rattle.frames.specs.FrameText.{text_of}
+use Rattle.frames.specs.FrameText.{offer_text, text_of}
 use Rattle.frames.specs.Lawful.{IsLawful}
 use Rattle.frames.specs.FrameStream.{texts_of, AreLawful}
 use Rattle.frames.specs.Refusals.{StreamRefused}
@@ -147,6 +149,12 @@ pub record CutOff (text : List ℕ) (sink sink' : SinkState) : Type 0 where
   pub count : ℕ
   pub short : count < length text
   pub took : Took 1 (take count text) sink sink'
+
+-- a head was written, and offers behind it; the rest of them wasn't
+pub record WroteSome (head : List ℕ) (offers rest : List Offer) (sink sink' : SinkState) : Type 0 where
+  pub first : List Offer
+  pub split : offers ≡ first ++ rest
+  pub took : Took 0 (head ++ flat_map offer_text first) sink sink'
 
 -- what stands for the replies was written in part
 pub record CutFor (replies : List FrameValue) (sink sink' : SinkState) : Type 0 where

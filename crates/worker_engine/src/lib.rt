@@ -2,7 +2,7 @@
 //! scanned stands in `shard_scans`, whose scans are lent on.
 //!
 //! ```text
-//!   Source --read_next--> NextFrame --Engine::hear_next--> reply --encode, fault_bytes, put--> Sink
+//!   Source --read_next--> NextFrame --Engine::hear_next--> reply --answer_head, put_offers, fault_bytes, put--> Sink
 //!                                            |
 //!                         KeptShard, Labels --KeptShard::offers_par--> Offers
 //! ```

@@ -1,19 +1,22 @@
 //! A worker's session: frames from a source, replies to a sink.
-ghost use Rattle.std.specs.Prelude.{◌≡◌, ◌≢◌, ◌+◌, ◌-◌, ◌<◌, ◌≤◌, ◌^◌, IfOk, IfErr, OnOk, OnErr, length};
+ghost use Rattle.std.specs.Prelude.{◌≡◌, ◌≢◌, ◌+◌, ◌-◌, ◌*◌, ◌<◌, ◌≤◌, ◌^◌, ◌++◌, IfOk, IfErr, OnOk, OnErr, length};
+ghost use Rattle.std.specs.List.{flat_map};
 ghost use Rattle.byte_streams.specs.Streams.{Took};
-ghost use Rattle.frames.specs.FrameValue.{HelloFrame, FaultFrame};
-ghost use Rattle.frames.specs.FrameText.{text_of};
+ghost use Rattle.frames.specs.FrameValue.{HelloFrame, AnswerFrame, FaultFrame};
+ghost use Rattle.frames.specs.FrameText.{offer_text, text_of};
 ghost use Rattle.frames.specs.FrameStream.{AreLawful};
 ghost use Rattle.worker_engine.specs.Serving.{replies_in};
-ghost use Rattle.worker_engine.specs.Served.{ServesToEnd, EndsBy, CountsReplies, AreAnswersOrFaults, WroteFor, CutFor, CutOff, Ungreeted};
+ghost use Rattle.worker_engine.specs.Served.{ServesToEnd, EndsBy, CountsReplies, AreAnswersOrFaults, WroteFor, WroteSome, CutFor, CutOff, Ungreeted};
 ghost use Rattle.worker_engine.specs.declared.session.ServeFault.TheVariants.{Read, Write};
 ghost use Rattle.frames.specs.declared.fault.FrameFault.TheVariants.{Ended};
 ghost use Rattle.worker_engine.specs.declared.session.Written.TheVariants.{AFault};
 
-use crate::engine::{Engine, NO_MEMORY};
+use crate::engine::Engine;
 use byte_streams::{Sink, Source, put};
-use frames::{Frame, FrameFault, VERSION, encode, fault_bytes};
-use limits::MAX_WORKERS;
+use frames::{
+    ANSWER_HEAD, Answer, Frame, FrameFault, VERSION, answer_head, encode, fault_bytes, put_offers,
+};
+use limits::{MAX_SHARD_LINKS, MAX_WORKERS};
 use std::alloc::Allocator;
 use std::thread::Threads;
 use thiserror::Error;
@@ -69,7 +72,8 @@ pub(crate) enum Written {
 /// `Read` where no whole lawful frame could be read, `Write` at the first write that fails or takes nothing,
 /// `Memory` where the hello couldn't be made or a shard not be kept, `TooMany` once `frames` frames were heard,
 /// without a further read. Nothing is flushed. It holds one frame and one reply at a time beside what its
-/// [`Engine`] keeps.
+/// [`Engine`] keeps. An answer goes out by writes of at most 65,536 bytes, made one after the other in one buffer on the
+/// stack: its text takes no memory, and the coordinator makes offers of one part while the next is made.
 pub fn serve_upto<R: Threads + Sync, A: Allocator + Copy + Send + Sync, S: Source, W: Sink>(
     rt: &R,
     alloc: A,
@@ -99,7 +103,7 @@ pub fn serve_upto<R: Threads + Sync, A: Allocator + Copy + Send + Sync, S: Sourc
             Ok(reply) => reply,
             Err(fault) => return stopped(served, fault),
         };
-        let written = write_reply(alloc, reply, sink)?;
+        let written = write_reply(reply, sink)?;
         served.count(written);
     }
     Err(ServeFault::TooMany)
@@ -191,10 +195,8 @@ fn write_whole<W: Sink>(sink: &mut W, text: &[u8]) -> Result<(), ServeFault>
     }
 }
 
-// Writes the reply to a frame, if there is one. In place of an answer whose text finds no memory it writes a fault that
-// says so, which needs none.
+// Writes the reply to a frame, if there is one. It takes no memory.
 fn write_reply<A: Allocator + Copy, W: Sink>(
-    alloc: A,
     reply: Option<Frame<A>>,
     sink: &mut W,
 ) -> Result<Written, ServeFault>
@@ -211,15 +213,82 @@ fn write_reply<A: Allocator + Copy, W: Sink>(
     };
     match &reply {
         Frame::Fault { round, shard, code } => write_fault(sink, *round, *shard, *code),
-        Frame::Answer(answer) => match encode(alloc, &reply) {
-            Ok(text) => match write_whole(sink, text.as_slice()) {
-                Ok(()) => Ok(Written::AnAnswer),
-                Err(fault) => Err(fault),
-            },
-            Err(_) => write_fault(sink, answer.round, answer.shard, NO_MEMORY),
+        Frame::Answer(answer) => match write_answer(sink, answer) {
+            Ok(()) => Ok(Written::AnAnswer),
+            Err(fault) => Err(fault),
         },
         _ => unreachable!(),
     }
+}
+
+// Writes an answer.
+fn write_answer<A: Allocator, W: Sink>(sink: &mut W, answer: &Answer<A>) -> Result<(), ServeFault>
+    requires few { length answer.now.offers ≤ 2 * MAX_SHARD_LINKS }
+    requires can { W.can_write sink.old }
+    ensures whole { OnOk result (Took 0 (text_of (AnswerFrame answer.now)) (W.state sink.old) (W.state sink.new)) }
+    ensures write { IfErr result (λ fault. fault ≡ Write) }
+    ensures cut { OnErr result (CutOff (text_of (AnswerFrame answer.now)) (W.state sink.old) (W.state sink.new)) }
+    ensures again { OnOk result (W.can_write sink.new) }
+{
+    let head = answer_head(answer);
+    write_offers(sink, &head, answer.offers.pairs())
+}
+
+// How many bytes of an answer go out by one write, at most.
+const MOST: usize = 1 << 16;
+
+// Writes a head and the offers behind it, by writes of at most 64 KiB. An answer of few offers is one write, for a socket
+// sends each at once, and two would wake the coordinator twice.
+fn write_offers<W: Sink>(sink: &mut W, head: &[u8], offers: &[(u32, u32)]) -> Result<(), ServeFault>
+    requires short { length head.now ≤ ANSWER_HEAD }
+    requires can { W.can_write sink.old }
+    ensures whole { OnOk result (Took 0 (head.now ++ flat_map offer_text offers.now) (W.state sink.old) (W.state sink.new)) }
+    ensures write { IfErr result (λ fault. fault ≡ Write) }
+    ensures cut { OnErr result (CutOff (head.now ++ flat_map offer_text offers.now) (W.state sink.old) (W.state sink.new)) }
+    ensures again { OnOk result (W.can_write sink.new) }
+{
+    let mut buffer = [0; MOST];
+    let mut rest = write_piece(sink, &mut buffer, head, offers)?;
+    while !rest.is_empty() {
+        rest = write_piece(sink, &mut buffer, &[], rest)?;
+    }
+    Ok(())
+}
+
+// Writes a head and as many offers behind it as the buffer has room for. It answers the others.
+fn write_piece<'a, W: Sink>(
+    sink: &mut W,
+    buffer: &mut [u8],
+    head: &[u8],
+    offers: &'a [(u32, u32)],
+) -> Result<&'a [(u32, u32)], ServeFault>
+    requires room { length buffer.old ≡ MOST }
+    requires short { length head.now ≤ ANSWER_HEAD }
+    requires can { W.can_write sink.old }
+    ensures some { IfOk result (λ rest. WroteSome head.now offers.now rest.now (W.state sink.old) (W.state sink.new)) }
+    ensures fewer { IfOk result (λ rest. 0 < length offers.now → length rest.now < length offers.now) }
+    ensures room { length buffer.new ≡ MOST }
+    ensures write { IfErr result (λ fault. fault ≡ Write) }
+    ensures cut { OnErr result (CutOff (head.now ++ flat_map offer_text offers.now) (W.state sink.old) (W.state sink.new)) }
+    ensures again { OnOk result (W.can_write sink.new) }
+{
+    let most = (MOST - head.len()) / 8;
+    let (piece, rest) = offers.split_at(offers.len().min(most));
+    let len = head.len() + 8 * piece.len();
+    let text = &mut buffer[..len];
+    fill_piece(text, head, piece);
+    write_whole(sink, text)?;
+    Ok(rest)
+}
+
+// Makes the bytes of a head and of the offers behind it.
+fn fill_piece(text: &mut [u8], head: &[u8], offers: &[(u32, u32)])
+    requires { length text.old ≡ length head.now + 8 * length offers.now }
+    ensures { text.new ≡ head.now ++ flat_map offer_text offers.now }
+{
+    let (front, behind) = text.split_at_mut(head.len());
+    front.copy_from_slice(head);
+    put_offers(behind, offers);
 }
 
 // Writes a fault.

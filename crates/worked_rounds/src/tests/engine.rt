@@ -236,13 +236,13 @@ fn blocks_of_session(
     Ok(memory.given())
 }
 
-// An ask under the labels of the one before takes four blocks, for the marks and the names of its scan's numbers, for its
-// offers and for the answer's text: none for what came.
+// An ask under the labels of the one before takes three blocks, for the marks and the names of its scan's numbers and for its
+// offers: none for what came, nor for the answer's text.
 #[test]
 fn an_ask_that_comes_again_is_not_stored(rt: HostRuntime) -> Result<(), Fail> {
     let once = blocks_of_session(&rt, rt.alloc(), &[&SHARD, &ASK])?;
     let twice = blocks_of_session(&rt, rt.alloc(), &[&SHARD, &ASK, &ASK])?;
-    expect_same(&rt, twice.wrapping_sub(once), 4);
+    expect_same(&rt, twice.wrapping_sub(once), 3);
     Ok(())
 }
 
@@ -336,19 +336,21 @@ fn reads_that_fail_in_mid_session(rt: HostRuntime) -> Result<(), Fail> {
     Ok(())
 }
 
-// A session ends at a write, and the sink has taken this.
+// A session over these bytes ends at a write, and the sink has taken this.
 fn expect_cut(
     rt: &(impl Abort + Threads + Sync),
     alloc: Global,
+    heard: &[&[u8]],
     mut sink: FusedSink,
     taken: &[u8],
 ) -> Result<(), Fail>
     requires { sink.setbacks < 2 ^ 64 - 1 }
 {
-    let bytes = joined(alloc, &[&SHARD, &ASK])?;
+    let bytes = joined(alloc, heard)?;
     let mut source = bytes.as_slice();
     let end = serve(rt, alloc, 0, &mut source, &mut sink);
-    expect_same(rt, (end, sink.held()), (Err(ServeFault::Write), taken));
+    expect_same(rt, end, Err(ServeFault::Write));
+    expect_same(rt, sink.held() == taken, true);
     Ok(())
 }
 
@@ -356,13 +358,14 @@ fn expect_cut(
 #[test]
 fn writes_that_fail_in_mid_session(rt: HostRuntime) -> Result<(), Fail> {
     let owed = joined(rt.alloc(), &[&HELLO, &ANSWER])?;
+    let heard: [&[u8]; 2] = [&SHARD, &ASK];
     for count in [0, 1, 7, 10, 11, 12, 24, 51] {
         assert!(rt; count < owed.len());
         let taken = &owed[..count];
         let failing = FusedSink::new(rt.alloc(), count, 7)?;
-        expect_cut(&rt, rt.alloc(), failing, taken)?;
+        expect_cut(&rt, rt.alloc(), &heard, failing, taken)?;
         let stopping = FusedSink::stopped(rt.alloc(), count, 7)?;
-        expect_cut(&rt, rt.alloc(), stopping, taken)?;
+        expect_cut(&rt, rt.alloc(), &heard, stopping, taken)?;
     }
     Ok(())
 }
@@ -413,6 +416,40 @@ fn sessions_over_many_links(rt: HostRuntime) -> Result<(), Fail> {
     expect_answers_of_many(&rt, rt.alloc())?;
     for (n, count) in [(7, 65_536), (7, 131_073), (7, 300_000)] {
         expect_answers_of_falling(&rt, rt.alloc(), n, count)?;
+    }
+    Ok(())
+}
+
+// Answers as long as the first write of 64 KiB, which has a head and 8,189 offers, as both that and the next one, which has
+// 8,192, and with one offer less and one more.
+#[test]
+fn answers_of_more_than_a_write(rt: HostRuntime) -> Result<(), Fail> {
+    for n in [8_188, 8_189, 8_190, 16_380, 16_381, 16_382, 30_000] {
+        expect_answers_of_falling(&rt, rt.alloc(), n, n)?;
+    }
+    Ok(())
+}
+
+// The hello and an answer of 20,000 offers are 160,028 bytes, of which the sink takes these many, at most 5,000 at a time.
+#[test]
+fn writes_that_fail_in_a_long_answer(rt: HostRuntime) -> Result<(), Fail> {
+    let links = falling(rt.alloc(), 20_000, 0, 20_000)?;
+    let labels = apart(rt.alloc(), 20_000)?;
+    let pairs = falling_offers(rt.alloc(), 20_000, 20_000, &labels)?;
+    let offers = Offers::of_pairs(pairs).expect(&rt, "ascending");
+    let answer = answer_text(&rt, rt.alloc(), 1, 3, offers)?;
+    let owed = joined(rt.alloc(), &[&HELLO, answer.as_slice()])?;
+    let shard = Shard {
+        number: 3,
+        links: links.as_slice(),
+    };
+    let heard = shard_text(&rt, rt.alloc(), &shard)?;
+    let ask = encode_ask(rt.alloc(), 1, 3, &labels)?;
+    let parts: [&[u8]; 2] = [heard.as_slice(), ask.as_slice()];
+    for count in [27, 28, 65_539, 65_540, 65_541, 131_076, 131_077, 160_027] {
+        assert!(rt; count < owed.len());
+        let failing = FusedSink::new(rt.alloc(), count, 5_000)?;
+        expect_cut(&rt, rt.alloc(), &parts, failing, &owed[..count])?;
     }
     Ok(())
 }
