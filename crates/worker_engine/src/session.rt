@@ -66,7 +66,7 @@ pub(crate) enum Written {
 ///
 /// It writes the hello of `worker`, of [`VERSION`](frames::VERSION), and then hears frame after frame, of each
 /// kind that this version has, and writes one reply to each ask, until the source ends before a frame. It scans by
-/// threads where [`scan_par`](crate::scan_par) would, and else by numbers of the shard's own labels, as [`Engine`] says. An ask that finds no memory for its answer is replied to by a fault
+/// threads where [`scan_par`](crate::scan_par) would, and else by labels or by numbers, as [`Engine`] says. An ask whose scan finds no memory is replied to by a fault
 /// with the code [`NO_MEMORY`](crate::NO_MEMORY), which takes none, and the session goes on.
 ///
 /// `Read` where no whole lawful frame could be read, `Write` at the first write that fails or takes nothing,
