@@ -154,12 +154,13 @@ fn lines_that_wait_for_each_other(rt: HostRuntime) -> Result<(), Fail> {
     Ok(())
 }
 
-// Line 0 waits with one of four shards until the other line was asked for the other three.
+// Line 0 waits with one of four shards until the other line was asked for the other three, and that one with the first of
+// these until line 0 was asked: else it may take all four before the thread of line 0 begins.
 #[test]
 fn a_line_that_waits_for_three_asks(rt: HostRuntime) -> Result<(), Fail> {
     let alloc = rt.alloc();
     let (zero, one) = (AtomicU64::new(0), AtomicU64::new(0));
-    let lines = two_gates(alloc, (&zero, &one), (3, 0), (0, 2))?;
+    let lines = two_gates(alloc, (&zero, &one), (3, 1), (0, 2))?;
     let counts = run_of_worked(&rt, alloc, &SMALL_NET, Cutting::Even(4), lines);
     assert_eq!(rt; counts, [2, 4, 12, 12, 0, 0]);
     Ok(())
