@@ -4,7 +4,7 @@ ghost use Rattle.limits.specs.declared.TheConstants.{MAX_SHARDS, MAX_VERTICES, M
 ghost use Rattle.link_key.specs.Link.{EndsUpTo};
 ghost use Rattle.round_core.specs.BookValue.{opened};
 ghost use Rattle.round_core.specs.Picks.{AreNoPicks};
-ghost use Rattle.round_core.specs.Solver.{vertices};
+ghost use Rattle.round_core.specs.Solver.{vertices, IsAtStart};
 ghost use Rattle.round_core.specs.declared.solver.SolveFault.TheVariants.{Memory};
 ghost use Rattle.forest_run.specs.Lanes.{IsIdle};
 ghost use Rattle.forest_run.specs.Bounds.{HasRoomForRound};
@@ -17,9 +17,13 @@ use crate::seats::count_open;
 use link_key::{Cut, Forest};
 use ports::Port;
 use round_core::{Picks, SolveFault, Solver, Turn};
-use std::alloc::Allocator;
+use std::alloc::{AllocError, Allocator};
 use std::sync::Wait;
+use std::thread;
 use std::thread::Threads;
+
+// So few vertices are worth no thread of their own.
+const FEW_VERTICES: u32 = 1 << 17;
 
 impl<
     'a,
@@ -76,11 +80,8 @@ impl<
         ensures honest_fault { IfErr result (λ fault. AreHonest P.honest self.old.lanes.now → fault ≡ Memory) }
         ensures same_lanes { self.new.lanes.ghost_name ≡ self.old.lanes.ghost_name }
     {
-        let mut solver = Solver::new(alloc, n)?;
-        let mut reused = Reused {
-            alloc,
-            picks: Picks::empty(alloc),
-        };
+        let (mut solver, picks) = begin(self.rt, alloc, n)?;
+        let mut reused = Reused { alloc, picks };
         let mut alone = 0;
         let rt = self.rt;
         for _ in rt.forever() {
@@ -125,6 +126,47 @@ impl<
         let report = report_of(cut, shards, n, &forest, counts);
         Ok((forest, report))
     }
+}
+
+// A solver at its start, and picks of which there is none.
+fn begin<R: Threads + Sync, A: Allocator + Copy + Send + Sync>(
+    rt: &R,
+    alloc: A,
+    n: u32,
+) -> Result<(Solver<A>, Picks<A>), AllocError>
+    requires { n ≤ MAX_VERTICES }
+    ensures start { IfOk result (λ r. IsAtStart n r.0) }
+    ensures none { IfOk result (λ r. AreNoPicks r.1) }
+{
+    if n < FEW_VERTICES {
+        let solver = Solver::new(alloc, n)?;
+        return Ok((solver, Picks::empty(alloc)));
+    }
+    begin_by_two(rt, alloc, n)
+}
+
+// The same with room for the picks, made by a second thread: to touch so much memory for the first time takes longer than
+// what is written there.
+fn begin_by_two<R: Threads + Sync, A: Allocator + Copy + Send + Sync>(
+    rt: &R,
+    alloc: A,
+    n: u32,
+) -> Result<(Solver<A>, Picks<A>), AllocError>
+    requires { n ≤ MAX_VERTICES }
+    ensures start { IfOk result (λ r. IsAtStart n r.0) }
+    ensures none { IfOk result (λ r. AreNoPicks r.1) }
+{
+    let (solver, picks) = thread::join(
+        rt,
+        move || -> Result<Solver<A>, AllocError>
+            requires { n ≤ MAX_VERTICES }
+            ensures { IfOk result (IsAtStart n) }
+        { Solver::new(alloc, n) },
+        move || -> Result<Picks<A>, AllocError>
+            ensures { IfOk result AreNoPicks }
+        { Picks::none(alloc, n) },
+    );
+    Ok((solver?, picks?))
 }
 
 /// A spanning forest of the cut's links, by what the lanes' ports answer and, where none is open, by the coordinator's own

@@ -171,7 +171,10 @@ same_named cut answers l = (to, back)
 pub offer_at : (links : List Link) (labels : List ℕ) (offers : List Offer) (i : ℕ) → i < length offers → list_all (is_offer links labels) offers ≡ true → IsOffered links labels (get_or offers i (0, 0)).1
 offer_at links labels offers i lt all = offered links labels (get_or offers i (0, 0)) (all_at (is_offer links labels) offers i (0, 0) lt all)
 
+-- the picks of the links that its answers name are those of what it heard
+pub picks_of_named : (p : BookValue) (best : List (Option Link)) → ArePicks p.labels (Contains (all_named p.cut p.answers)) best → ArePicks p.labels (IsNamed (hearings p)) best
+picks_of_named p best are = picks_alike p.labels (Contains (all_named p.cut p.answers)) (IsNamed (hearings p)) best (same_named p.cut p.answers) are
+
 -- all answers of a book, counted into no picks, make the picks of what was heard
 pub picks_of_book : (p : BookValue) (best best' : List (Option Link)) → length best ≡ length p.labels → AreNoPicks best → Counts p.labels (all_named p.cut p.answers) best best' → ArePicks p.labels (IsNamed (hearings p)) best'
-picks_of_book p best best' long none counts =
-    picks_alike p.labels (Contains (all_named p.cut p.answers)) (IsNamed (hearings p)) best' (same_named p.cut p.answers) (counts [] (no_picks p.labels best long none))
+picks_of_book p best best' long none counts = picks_of_named p best' (counts [] (no_picks p.labels best long none))

@@ -23,18 +23,3 @@ named_in_halves cut answers n =
 pub offers_in_halves : (links : List Link) (offers : List Offer) (n : ℕ) → named_links links (take n offers) ++ named_links links (drop n offers) ≡ named_links links offers
 offers_in_halves links offers n =
     sym (flat_map-append (λ (o : Offer). option_to_list (slice_get links o.1)) (take n offers) (drop n offers)) ∙ ap (named_links links) (take-append-drop n offers)
-
--- one answer names what its offers do
-pub named_by_one : (cut : List (List Link)) (answers : List AnswerValue) (a : AnswerValue) → length answers ≡ 1 → a ≡ get_or answers 0 a → all_named cut answers ≡ named_links (links_at cut a.shard) a.offers
-named_by_one cut answers a one at = ap (all_named cut) (sym (take_all 1 answers (omega (arith, one)))) ∙ one_more_answer cut answers 0 a (omega (arith, one)) at
-
--- one half is counted into picks and the other into none: taken together they count both halves
-pub halves_together : (labels : List ℕ) (front back whole : List Link) (old none all rest new : List (Option Link))
-    → length none ≡ length labels → AreNoPicks none → front ++ back ≡ whole
-    → Counts labels front old all → Counts labels back none rest
-    → ((more : List Link) → ArePicks labels (Contains more) rest → Counts labels more all new)
-    → Counts labels whole old new
-halves_together labels front back whole old none all rest new long are_none halves earlier later lesser = λ seen are.
-    let rest_are : ArePicks labels (Contains back) rest = later [] (no_picks labels none long are_none) in
-    let both : ArePicks labels (Contains ((seen ++ front) ++ back)) new = lesser back rest_are (seen ++ front) (earlier seen are) in
-    subst (λ (xs : List Link). ArePicks labels (Contains xs) new) (append_assoc seen front back ∙ ap (λ (xs : List Link). seen ++ xs) halves) both

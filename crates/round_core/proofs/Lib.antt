@@ -1,6 +1,5 @@
 pub mod Counts
 pub mod PickNumbers
-pub mod Lessers
 pub mod Clearing
 pub mod Books
 pub mod Halves
@@ -21,3 +20,4 @@ pub mod WholeCuts
 pub mod WholeRounds
 pub mod Worked
 pub mod LookedUp
+pub mod OwnPicks

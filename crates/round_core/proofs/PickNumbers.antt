@@ -84,7 +84,7 @@ pub key_below_no_pick : (l : Link) (k : ℕ) → IsKeyNumber l k → k < no_pick
 key_below_no_pick l k is = omega (arith, ints, is, l.ascending, l.in_limit, l.weight_fits)
 
 -- of two links the one with the lesser number is below
-below_is_less : (l m : Link) (j k : ℕ) → IsKeyNumber l j → IsKeyNumber m k → IsBelow l m → j < k
+pub below_is_less : (l m : Link) (j k : ℕ) → IsKeyNumber l j → IsKeyNumber m k → IsBelow l m → j < k
 below_is_less l m j k l_is m_is below =
     let less : int_cmp (wide_key l) (wide_key m) ≡ Less = sym (wide_compares l m) ∙ below in
     let ranks : wide_key l <ℤ wide_key m = subst (λ (o : Ordering). MatchOrdering o (wide_key l <ℤ wide_key m) (wide_key l ≡ wide_key m) (wide_key m <ℤ wide_key l)) less (int_ranks (wide_key l) (wide_key m)) in

@@ -7,4 +7,5 @@ pub mod Solver
 pub mod SolverLaws
 pub mod Examples
 pub mod LookedUp
+pub mod OwnPicks
 pub mod EndLabels

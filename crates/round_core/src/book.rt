@@ -10,7 +10,7 @@ ghost use Rattle.round_core.specs.Picks.{ArePicks, AreNoPicks};
 use crate::end_labels::EndLabels;
 use crate::picks::Picks;
 use crate::refusals::Refusal;
-use crate::tally::{count_answers, count_by_halves, halvings_of, offers_in};
+use crate::tally::{count_answers, count_by_threads};
 use frames::Answer;
 use limits::MAX_SHARDS;
 use link_key::{Cut, Labels, Link};
@@ -204,11 +204,11 @@ impl<'a, A: Allocator> RoundBook<'a, A> {
 }
 
 impl<'a, A: Allocator + Copy + Send + Sync> RoundBook<'a, A> {
-    /// The picks of the round, as `close` makes them, counted by two threads where there are processors for them.
+    /// The picks of the round, as `close` makes them, counted by up to four threads where there are 16,384 offers or more.
     ///
-    /// The second counts into picks of its own, 16 bytes a vertex that are freed at the end, and only where there are many
-    /// offers: 2^17 in all, and one for each four vertices for each thread. Where that memory is refused the caller counts
-    /// that thread's offers, as it does where no thread can be made: like `close` it never fails.
+    /// Each thread takes the offers for a part of the components, and then all offers are looked at once more: where answers
+    /// are light no offered link is below the pick of its other component. Where one is, all are counted as `close` counts
+    /// them. Like it this takes no memory, and where no thread can be made the caller's does all.
     pub fn close_par<R: Threads + Sync>(self, rt: &R) -> Picks<A>
         requires { missing self ≡ 0 }
         ensures picks { ArePicks self.entry.labels (IsNamed (hearings self.entry)) result }
@@ -221,11 +221,10 @@ impl<'a, A: Allocator + Copy + Send + Sync> RoundBook<'a, A> {
             end_labels,
             taken: _,
             answers,
-            picks,
+            mut picks,
         } = self;
-        let answers = answers.as_slice();
-        let halvings = halvings_of(rt, offers_in(answers), end_labels.len());
-        count_by_halves(rt, cut, &end_labels, answers, picks, halvings)
+        count_by_threads(rt, cut, &end_labels, answers.as_slice(), &mut picks);
+        picks
     }
 }
 

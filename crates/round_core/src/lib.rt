@@ -27,6 +27,7 @@ pub mod examples;
 pub mod hooks;
 pub mod laws;
 mod missed;
+mod own_picks;
 pub mod picks;
 pub mod refusals;
 mod roots;

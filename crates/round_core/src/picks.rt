@@ -3,14 +3,18 @@ ghost use Rattle.link_key.specs.declared.links.Link.{Link as TheLink};
 ghost use Rattle.link_key.specs.Labels.{label_of, AreLabels};
 ghost use Rattle.round_theory.specs.Labelling.{IsVertex};
 ghost use Rattle.round_core.specs.Picks.{pick_of, AreNoPicks, HaveAllPicks, ArePicks, Counts};
-ghost use Rattle.round_core.specs.PickNumbers.{IsKeyNumber, IsPickNumber, AreLesserOf, AreCleared, pick_in};
+ghost use Rattle.round_core.specs.OwnPicks.{IsPlaced, IsOfferedIn, AreOwnPicks, IsCountedIn};
+ghost use Rattle.round_core.specs.PickNumbers.{IsKeyNumber, IsPickNumber, AreCleared, pick_in};
 ghost use Rattle.round_core.specs.LookedUp.{IsLookedUp, IsCountable, CountsFound, CountsEach};
 
 use crate::end_labels::EndLabels;
-use link_key::Link;
+use crate::own_picks::take_by_parts;
+use frames::Answer;
+use link_key::{Cut, Link};
 use std::alloc::{AllocError, Allocator, Global};
 use std::marker::Model;
 use std::mem;
+use std::thread::Threads;
 
 // The number of no pick, past those of all keys.
 const NO_PICK: u128 = u128::MAX;
@@ -67,8 +71,8 @@ impl<A: Allocator + Copy> Picks<A> {
         mem::replace(self, none)
     }
 
-    // No pick for each of n labels.
-    pub(crate) fn none(alloc: A, n: u32) -> Result<Self, AllocError>
+    /// No pick for each of n labels, 16 bytes each. The only error is want of memory.
+    pub fn none(alloc: A, n: u32) -> Result<Self, AllocError>
         ensures each_vertex { IfOk result (λ picks. length picks ≡ n) }
         ensures none { IfOk result AreNoPicks }
     {
@@ -83,17 +87,6 @@ impl<A: Allocator + Copy> Picks<A> {
     {
         let Picks { mut numbers } = self;
         fill_up(&mut numbers, n as usize)?;
-        Ok(Picks { numbers })
-    }
-}
-
-impl<A: Allocator + Copy> Picks<A> {
-    // No pick for each of the labels that these have one for.
-    pub(crate) fn none_beside(&self) -> Result<Self, AllocError>
-        ensures each_vertex { IfOk result (λ picks. length picks ≡ length self.now) }
-        ensures none { IfOk result AreNoPicks }
-    {
-        let numbers = vec![in *self.numbers.allocator(); NO_PICK; self.numbers.len()]?;
         Ok(Picks { numbers })
     }
 }
@@ -132,13 +125,12 @@ impl<A: Allocator> Picks<A> {
         self.numbers.len()
     }
 
-    // Takes the lesser of its pick and the other's for each label.
-    pub(crate) fn take_lesser(&mut self, others: &Self)
-        requires each_vertex { length self.old ≡ length others.now }
+    // Leaves no label a pick.
+    pub(crate) fn clear(&mut self)
         ensures each_vertex { length self.new ≡ length self.old }
-        ensures picks { (labels : List ℕ) (more : List TheLink) → ArePicks labels (Contains more) others.now → Counts labels more self.old self.new }
+        ensures none { AreNoPicks self.new }
     {
-        lower_each(self.numbers.as_mut_slice(), others.numbers.as_slice());
+        clear_all(self.numbers.as_mut_slice());
     }
 
     // Leaves these labels without a pick. Where no other has one, none is left.
@@ -183,6 +175,18 @@ impl<A: Allocator> Picks<A> {
         }
     }
 
+    // Whether the link that was looked up is below the pick of neither of its components.
+    #[inline]
+    pub(crate) fn have_counted(&self, found: LookedUp) -> bool
+        requires within { IsCountable (length self.now) found }
+        ensures { (labels : List ℕ) (l : TheLink) → IsLookedUp labels l found → IsTrue result ↔ IsCountedIn labels self.now l }
+    {
+        let number = found.number;
+        let low = found.low as usize - 1;
+        let high = found.high as usize - 1;
+        self.numbers[low] <= number && self.numbers[high] <= number
+    }
+
     // Counts a link that was looked up for both of the components that it leaves.
     #[inline]
     fn count_found(&mut self, found: LookedUp)
@@ -195,6 +199,24 @@ impl<A: Allocator> Picks<A> {
         let high = found.high as usize - 1;
         self.numbers[low] = self.numbers[low].min(number);
         self.numbers[high] = self.numbers[high].min(number);
+    }
+}
+
+impl<A: Allocator + Sync> Picks<A> {
+    // Takes, for each component, the least link that is offered for it, where no label has a pick; by parts of the labels,
+    // each in a thread of its own where one can be made.
+    pub(crate) fn take_own<R: Threads + Sync>(
+        &mut self,
+        rt: &R,
+        cut: &Cut<A>,
+        answers: &[Answer<A>],
+    )
+        requires placed { All (IsPlaced cut.now) answers.now }
+        requires none { AreNoPicks self.old }
+        ensures each_vertex { length self.new ≡ length self.old }
+        ensures own { AreOwnPicks (IsOfferedIn cut.now answers.now) self.new }
+    {
+        take_by_parts(rt, self.numbers.as_mut_slice(), cut, answers);
     }
 }
 
@@ -246,13 +268,12 @@ fn are_no_picks(numbers: &[u128]) -> bool
     numbers.iter().all(|number| *number == NO_PICK)
 }
 
-// Lowers each number to the other at its place, where that is less.
-fn lower_each(numbers: &mut [u128], others: &[u128])
-    requires { length numbers.old ≡ length others.now }
-    ensures { AreLesserOf numbers.old others.now numbers.new }
+// Gives each label the number of no pick.
+fn clear_all(numbers: &mut [u128])
+    ensures { All (λ k. k ≡ NO_PICK) numbers.new }
 {
-    for i in 0..others.len() {
-        numbers[i] = numbers[i].min(others[i]);
+    for number in numbers.iter_mut() {
+        *number = NO_PICK;
     }
 }
 
@@ -268,7 +289,7 @@ fn clear_each(numbers: &mut [u128], labels: &[u32])
 
 // The number of a link's key. Numbers compare as keys do.
 #[inline]
-fn key_number(link: Link) -> u128
+pub(crate) fn key_number(link: Link) -> u128
     ensures { IsKeyNumber link result }
 {
     let weight = (i128::from(link.weight) + ABOVE_LEAST) as u128;

@@ -1,12 +1,17 @@
-//! The count of what a round's answers offer: in one thread, or by halves in threads, each with picks of its own.
-ghost use Rattle.std.specs.Prelude.{◌≡◌, ℕ, List, ◌+◌, ◌<◌, ◌≤◌, ◌++◌, length, take, All, Contains, true};
+//! The count of what a round's answers offer: in one thread, or by several.
+//!
+//! By several, each offered link is first taken for the component that its offer names, by parts of the components. That is
+//! all where answers are light: the link's other component has an offer of its own there, of a link that isn't greater. Whether
+//! it is so is looked at, by several threads too, which write nothing. Where it isn't, all offers are counted in one thread.
+ghost use Rattle.std.specs.Prelude.{◌≡◌, ℕ, List, ◌+◌, ◌<◌, ◌≤◌, ◌↔◌, length, take, All, Contains, true, IsTrue};
 ghost use Rattle.std.specs.List.{list_all};
-ghost use denote.Param.Send.{IsSync, IsSend, Frees};
+ghost use denote.Param.Send.{IsSync};
 ghost use Rattle.link_key.specs.Link.{EndsUpTo};
 ghost use Rattle.link_key.specs.Labels.{AreLabels};
 ghost use Rattle.round_core.specs.BookValue.{is_offer, named_links, all_named, CanCount, CanCountOffers};
-ghost use Rattle.round_core.specs.Picks.{Counts};
+ghost use Rattle.round_core.specs.Picks.{AreNoPicks, ArePicks, Counts};
 ghost use Rattle.round_core.specs.LookedUp.{AreLookedUp};
+ghost use Rattle.round_core.specs.OwnPicks.{AreCountedIn};
 
 use crate::end_labels::EndLabels;
 use crate::picks::{LookedUp, Picks, look_up};
@@ -17,15 +22,10 @@ use std::alloc::Allocator;
 use std::thread::Threads;
 
 // So few offers are worth no thread of their own.
-const FEW_OFFERS: usize = 1 << 17;
+const FEW_OFFERS: usize = 1 << 14;
 
-// A part has an offer for so many labels at least. To clear picks of its own and to take them together with others would
-// cost more than to count fewer offers.
-const LABELS_PER_OFFER: usize = 4;
-
-// Offers are halved so often at most, however many processors there are: each part after the first has picks of its own,
-// of 16 bytes a label, and to ask for these and clear them takes longer than a third and a fourth thread save.
-const MOST_HALVINGS: usize = 1;
+// Offers are halved so often at most, however many processors there are.
+const MOST_HALVINGS: usize = 2;
 
 // So many offers are looked up before any of them is counted.
 const BATCH: usize = 64;
@@ -39,57 +39,66 @@ pub(crate) fn offers_in<A: Allocator>(answers: &[Answer<A>]) -> usize {
     offers
 }
 
-// How often so many offers are to be halved: as often as there are processors for, and each part is worth picks of its own.
-pub(crate) fn halvings_of<R: Threads>(rt: &R, offers: usize, labels: usize) -> usize {
-    if offers < FEW_OFFERS {
-        return 0;
-    }
-    let most = offers.saturating_mul(LABELS_PER_OFFER) / labels.max(1);
-    let parts = current_num_threads(rt).min(most).max(1);
+// How often offers are halved: as often as there are processors for.
+fn halvings_of<R: Threads>(rt: &R) -> usize {
+    let parts = current_num_threads(rt).max(1);
     (parts.ilog2() as usize).min(MOST_HALVINGS)
 }
 
-// Whether each half of so many offers is worth picks of its own.
-fn are_worth_halving(offers: usize, labels: usize) -> bool {
-    labels / LABELS_PER_OFFER <= offers / 2
-}
-
-// Counts each link that the answers offer, for both of its components. The answers are halved so many times, and one half
-// goes to a thread of its own where one can be made, with picks of its own where there is memory for them.
-#[cycle(parts)]
-pub(crate) fn count_by_halves<R: Threads + Sync, A: Allocator + Copy + Send + Sync>(
+// Counts each link that the answers offer, for both of its components, by threads where there are many.
+pub(crate) fn count_by_threads<R: Threads + Sync, A: Allocator + Copy + Send + Sync>(
     rt: &R,
     cut: &Cut<A>,
     labels: &EndLabels,
     answers: &[Answer<A>],
-    picks: Picks<A>,
-    halvings: usize,
-) -> Picks<A>
+    picks: &mut Picks<A>,
+)
     requires can { CanCount cut.now labels.now answers.now }
-    requires each_vertex { length picks ≡ length labels.now }
-    ensures each_vertex { length result ≡ length labels.now }
-    ensures picks { Counts labels.now (all_named cut.now answers.now) picks result }
+    requires each_vertex { length picks.old ≡ length labels.now }
+    requires none { AreNoPicks picks.old }
+    ensures picks { ArePicks labels.now (Contains (all_named cut.now answers.now)) picks.new }
+{
+    if offers_in(answers) < FEW_OFFERS {
+        count_answers(cut, labels, answers, picks);
+        return;
+    }
+    picks.take_own(rt, cut, answers);
+    if are_counted_by_halves(rt, cut, labels, answers, picks, halvings_of(rt)) {
+        return;
+    }
+    picks.clear();
+    count_answers(cut, labels, answers, picks);
+}
+
+// Whether no link that the answers offer is below the pick of one of its components. The answers are halved so many times,
+// and one half goes to a thread of its own where one can be made.
+#[cycle(parts)]
+fn are_counted_by_halves<R: Threads + Sync, A: Allocator + Copy + Send + Sync>(
+    rt: &R,
+    cut: &Cut<A>,
+    labels: &EndLabels,
+    answers: &[Answer<A>],
+    picks: &Picks<A>,
+    halvings: usize,
+) -> bool
+    requires can { CanCount cut.now labels.now answers.now }
+    requires each_vertex { length picks.now ≡ length labels.now }
+    ensures { IsTrue result ↔ AreCountedIn labels.now picks.now (all_named cut.now answers.now) }
 {
     if halvings == 0 || answers.len() < 2 {
-        return count_undivided(rt, cut, labels, answers, picks, halvings);
+        return are_counted(rt, cut, labels, answers, picks, halvings);
     }
-    let Ok(others) = picks.none_beside() else {
-        return count_alone(cut, labels, answers, picks);
-    };
     let (earlier, later) = answers.split_at(middle_of(answers));
-    let front = move || -> Picks<A>
-        requires { IsSync R.row × IsSend A.row × IsSync A.row × Frees A.Allocator A.dealloc_token × (0 < halvings)
-            × CanCount cut.now labels.now earlier.now × (length picks ≡ length labels.now) }
-        ensures { (length result ≡ length labels.entry.now) × Counts labels.entry.now (all_named cut.entry.now earlier.entry.now) picks result }
-    { count_by_halves(rt, cut, labels, earlier, picks, halvings - 1) };
-    let back = move || -> Picks<A>
-        requires { IsSync R.row × IsSend A.row × IsSync A.row × Frees A.Allocator A.dealloc_token × (0 < halvings)
-            × CanCount cut.now labels.now later.now × (length others ≡ length labels.now) }
-        ensures { (length result ≡ length labels.entry.now) × Counts labels.entry.now (all_named cut.entry.now later.entry.now) others result }
-    { count_by_halves(rt, cut, labels, later, others, halvings - 1) };
-    let (mut all, rest) = join(rt, front, back);
-    all.take_lesser(&rest);
-    all
+    let front = move || -> bool
+        requires { IsSync R.row × IsSync A.row × (0 < halvings) × CanCount cut.now labels.now earlier.now × (length picks.now ≡ length labels.now) }
+        ensures { IsTrue result ↔ AreCountedIn labels.entry.now picks.entry.now (all_named cut.entry.now earlier.entry.now) }
+    { are_counted_by_halves(rt, cut, labels, earlier, picks, halvings - 1) };
+    let back = move || -> bool
+        requires { IsSync R.row × IsSync A.row × (0 < halvings) × CanCount cut.now labels.now later.now × (length picks.now ≡ length labels.now) }
+        ensures { IsTrue result ↔ AreCountedIn labels.entry.now picks.entry.now (all_named cut.entry.now later.entry.now) }
+    { are_counted_by_halves(rt, cut, labels, later, picks, halvings - 1) };
+    let (first, second) = join(rt, front, back);
+    first && second
 }
 
 // How many answers the first half has: those whose own middle comes before that of all offers, and one answer at least
@@ -111,46 +120,85 @@ fn middle_of<A: Allocator>(answers: &[Answer<A>]) -> usize
     answers.len() - 1
 }
 
-// Counts each link that the answers offer, for both of its components: one answer's by halves where there are
-// halvings left, and those of others in one thread.
-fn count_undivided<R: Threads + Sync, A: Allocator + Copy + Send + Sync>(
+// The same of answers that aren't halved: of each, the offers are, while halvings are left.
+fn are_counted<R: Threads + Sync, A: Allocator + Copy + Send + Sync>(
     rt: &R,
     cut: &Cut<A>,
     labels: &EndLabels,
     answers: &[Answer<A>],
-    picks: Picks<A>,
+    picks: &Picks<A>,
     halvings: usize,
-) -> Picks<A>
+) -> bool
     requires can { CanCount cut.now labels.now answers.now }
-    requires each_vertex { length picks ≡ length labels.now }
-    ensures each_vertex { length result ≡ length labels.now }
-    ensures picks { Counts labels.now (all_named cut.now answers.now) picks result }
+    requires each_vertex { length picks.now ≡ length labels.now }
+    ensures { IsTrue result ↔ AreCountedIn labels.now picks.now (all_named cut.now answers.now) }
 {
-    if halvings == 0 || answers.len() != 1 {
-        return count_alone(cut, labels, answers, picks);
+    for answer in answers {
+        let links = cut.shard(answer.shard).links;
+        if !offers_are_counted_by_halves(
+            rt,
+            labels,
+            links,
+            answer.offers.pairs(),
+            picks,
+            halvings,
+        ) {
+            return false;
+        }
     }
-    let answer = &answers[0];
-    let links = cut.shard(answer.shard).links;
-    count_offers_by_halves(rt, labels, links, answer.offers.pairs(), picks, halvings)
+    true
+}
+
+// The same of the offers of one shard, which are halved so many times.
+#[cycle(offers)]
+fn offers_are_counted_by_halves<R: Threads + Sync, A: Allocator + Copy + Send + Sync>(
+    rt: &R,
+    labels: &EndLabels,
+    links: &[Link],
+    pairs: &[(u32, u32)],
+    picks: &Picks<A>,
+    halvings: usize,
+) -> bool
+    requires can { CanCountOffers links.now labels.now pairs.now }
+    requires each_vertex { length picks.now ≡ length labels.now }
+    ensures { IsTrue result ↔ AreCountedIn labels.now picks.now (named_links links.now pairs.now) }
+{
+    if halvings == 0 {
+        return offers_are_counted(labels, links, pairs, picks);
+    }
+    let (earlier, later) = pairs.split_at(pairs.len() / 2);
+    let front = move || -> bool
+        requires { IsSync R.row × IsSync A.row × (0 < halvings) × CanCountOffers links.now labels.now earlier.now × (length picks.now ≡ length labels.now) }
+        ensures { IsTrue result ↔ AreCountedIn labels.entry.now picks.entry.now (named_links links.entry.now earlier.entry.now) }
+    { offers_are_counted_by_halves(rt, labels, links, earlier, picks, halvings - 1) };
+    let back = move || -> bool
+        requires { IsSync R.row × IsSync A.row × (0 < halvings) × CanCountOffers links.now labels.now later.now × (length picks.now ≡ length labels.now) }
+        ensures { IsTrue result ↔ AreCountedIn labels.entry.now picks.entry.now (named_links links.entry.now later.entry.now) }
+    { offers_are_counted_by_halves(rt, labels, links, later, picks, halvings - 1) };
+    let (early, late) = join(rt, front, back);
+    early && late
+}
+
+// The same in one thread.
+fn offers_are_counted<A: Allocator>(
+    labels: &EndLabels,
+    links: &[Link],
+    pairs: &[(u32, u32)],
+    picks: &Picks<A>,
+) -> bool
+    requires can { CanCountOffers links.now labels.now pairs.now }
+    requires each_vertex { length picks.now ≡ length labels.now }
+    ensures { IsTrue result ↔ AreCountedIn labels.now picks.now (named_links links.now pairs.now) }
+{
+    for pair in pairs {
+        if !picks.have_counted(look_up(labels, links[pair.1 as usize])) {
+            return false;
+        }
+    }
+    true
 }
 
 // Counts each link that the answers offer, for both of its components, in one thread.
-fn count_alone<A: Allocator>(
-    cut: &Cut<A>,
-    labels: &EndLabels,
-    answers: &[Answer<A>],
-    mut picks: Picks<A>,
-) -> Picks<A>
-    requires can { CanCount cut.now labels.now answers.now }
-    requires each_vertex { length picks ≡ length labels.now }
-    ensures each_vertex { length result ≡ length labels.now }
-    ensures picks { Counts labels.now (all_named cut.now answers.now) picks result }
-{
-    count_answers(cut, labels, answers, &mut picks);
-    picks
-}
-
-// The same into picks that are lent.
 pub(crate) fn count_answers<A: Allocator>(
     cut: &Cut<A>,
     labels: &EndLabels,
@@ -166,62 +214,6 @@ pub(crate) fn count_answers<A: Allocator>(
         let links = cut.shard(answer.shard).links;
         count_all(labels, links, answer.offers.pairs(), picks);
     }
-}
-
-// Counts each offered link of a shard for both of its components. The offers are halved so many times, while each half is
-// worth picks of its own, and one half goes to a thread of its own, as halves of the answers do.
-#[cycle(offers)]
-fn count_offers_by_halves<R: Threads + Sync, A: Allocator + Copy + Send + Sync>(
-    rt: &R,
-    labels: &EndLabels,
-    links: &[Link],
-    pairs: &[(u32, u32)],
-    picks: Picks<A>,
-    halvings: usize,
-) -> Picks<A>
-    requires can { CanCountOffers links.now labels.now pairs.now }
-    requires each_vertex { length picks ≡ length labels.now }
-    ensures each_vertex { length result ≡ length labels.now }
-    ensures picks { Counts labels.now (named_links links.now pairs.now) picks result }
-{
-    if halvings == 0 || !are_worth_halving(pairs.len(), labels.len()) {
-        return count_one(labels, links, pairs, picks);
-    }
-    let Ok(others) = picks.none_beside() else {
-        return count_one(labels, links, pairs, picks);
-    };
-    let (earlier, later) = pairs.split_at(pairs.len() / 2);
-    let front = move || -> Picks<A>
-        requires { IsSync R.row × IsSend A.row × IsSync A.row × Frees A.Allocator A.dealloc_token × (0 < halvings)
-            × CanCountOffers links.now labels.now earlier.now × (length picks ≡ length labels.now) }
-        ensures { (length result ≡ length labels.entry.now)
-            × Counts labels.entry.now (named_links links.entry.now earlier.entry.now) picks result }
-    { count_offers_by_halves(rt, labels, links, earlier, picks, halvings - 1) };
-    let back = move || -> Picks<A>
-        requires { IsSync R.row × IsSend A.row × IsSync A.row × Frees A.Allocator A.dealloc_token × (0 < halvings)
-            × CanCountOffers links.now labels.now later.now × (length others ≡ length labels.now) }
-        ensures { (length result ≡ length labels.entry.now)
-            × Counts labels.entry.now (named_links links.entry.now later.entry.now) others result }
-    { count_offers_by_halves(rt, labels, links, later, others, halvings - 1) };
-    let (mut all, rest) = join(rt, front, back);
-    all.take_lesser(&rest);
-    all
-}
-
-// The same in one thread.
-fn count_one<A: Allocator>(
-    labels: &EndLabels,
-    links: &[Link],
-    pairs: &[(u32, u32)],
-    mut picks: Picks<A>,
-) -> Picks<A>
-    requires can { CanCountOffers links.now labels.now pairs.now }
-    requires each_vertex { length picks ≡ length labels.now }
-    ensures each_vertex { length result ≡ length labels.now }
-    ensures picks { Counts labels.now (named_links links.now pairs.now) picks result }
-{
-    count_all(labels, links, pairs, &mut picks);
-    picks
 }
 
 // Counts each offered link of a shard for both of its components. The offers are looked up by batches: what a pick is lowered

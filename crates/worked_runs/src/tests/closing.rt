@@ -11,7 +11,8 @@ use std::alloc::Global;
 use std::process::Abort;
 use std::test::Fail;
 use std::thread::Threads;
-use worked_graphs::all_have_labels;
+use worked_graphs::{all_have_labels, have_labels};
+use worker_engine::scan;
 
 // The link of a shard from a vertex to the next. Five weights make many shards' links equal, and others tie.
 fn step(rt: &impl Abort, shard: u32, vertex: u32) -> Link {
@@ -143,7 +144,65 @@ fn expect_picks(
     Ok(())
 }
 
-// 160,000 offers, 20,000 of each shard: past what one thread counts. The order of answers changes nothing.
+// The book once it has heard the light offers of each shard.
+fn heard_light<'a>(
+    rt: &impl Abort,
+    alloc: Global,
+    mut book: RoundBook<'a>,
+) -> Result<RoundBook<'a>, Fail>
+    ensures labels { IfOk result (λ heard. heard.labels ≡ book.entry.labels) }
+    ensures whole { IfOk result (λ heard. missing heard ≡ 0) }
+{
+    let (cut, labels) = (book.cut(), book.labels());
+    for shard in 0..cut.len() {
+        let links = cut.shard(shard).links;
+        assert!(rt; have_labels(links, labels.n()) && shard < book.len());
+        let answer = Answer {
+            round: 1,
+            shard,
+            offers: scan(alloc, links, labels)?,
+        };
+        book.take(shard, answer)?;
+    }
+    assert!(rt; book.missing() == 0);
+    Ok(book)
+}
+
+// Of light offers of so many paths of n vertices the picks, closed in threads, are the least of all links.
+fn expect_least_of_all<R: Abort + Threads + Sync>(
+    rt: &R,
+    alloc: Global,
+    n: u32,
+    shards: u32,
+) -> Result<(), Fail> {
+    assert!(rt; 0 < n && n < 1 << 20 && shards <= 8);
+    let labels = Labels::apart(alloc, n)?;
+    let links = paths(rt, alloc, n, shards)?;
+    let cut = Cut::even(alloc, links.as_slice(), shards).expect(rt, "a cut");
+    let counts = vec![in alloc; n - 1; shards as usize]?;
+    let book = opened(rt, alloc, &cut, 1, &labels)?;
+    let picks = heard_light(rt, alloc, book)?.close_par(rt);
+    expect_picks(rt, alloc, &picks, n, counts.as_slice())
+}
+
+// An offer for each vertex, and of these as few as one thread counts, and more; the labels are cut into four parts, of which
+// the last is shorter or as long.
+#[test]
+fn light_offers_of_one_shard(rt: HostRuntime) -> Result<(), Fail> {
+    for n in [16_383, 16_384, 16_385, 16_387] {
+        expect_least_of_all(&rt, rt.alloc(), n, 1)?;
+    }
+    Ok(())
+}
+
+// Of 160,008 no pick of a component is above a link that is offered for another.
+#[test]
+fn light_offers_of_many_shards(rt: HostRuntime) -> Result<(), Fail> {
+    expect_least_of_all(&rt, rt.alloc(), 20_001, 8)
+}
+
+// 160,000 offers, 20,000 of each shard: past what one thread counts. The order of answers changes nothing. Each link is
+// offered for its lower end alone, so that some are below the pick of the other.
 #[test]
 fn many_offers(rt: HostRuntime) -> Result<(), Fail> {
     let counts = [20_000; 8];
@@ -165,7 +224,7 @@ fn one_answer(rt: HostRuntime) -> Result<(), Fail> {
     expect_least(&rt, rt.alloc(), 140_001, &[140_000], &[0])
 }
 
-// The longer of two has nearly all, and its offers alone are halved again.
+// The longer of two has nearly all.
 #[test]
 fn two_answers_of_unequal_length(rt: HostRuntime) -> Result<(), Fail> {
     let counts = [140_000, 3_000];

@@ -1,8 +1,8 @@
 use Rattle.std.proofs.Common.{◌+◌, ◌*◌}
 use Rattle.round_core.proofs.tally.+offers.Given as goal
 
-abbrev pub decreases-count_offers_by_halves : goal.decreases-count_offers_by_halves
-decreases-count_offers_by_halves g l = 2 * l.halvings + 1
+abbrev pub decreases-offers_are_counted_by_halves : goal.decreases-offers_are_counted_by_halves
+decreases-offers_are_counted_by_halves g l = 2 * l.halvings + 1
 
 abbrev pub decreases-front : goal.decreases-front
 decreases-front g l = 2 * l.halvings

@@ -1,16 +1,16 @@
-use Rattle.std.proofs.Common.{ℕ, List, subst}
+use Rattle.std.proofs.Common.{ℕ, List, Contains, subst}
 use Rattle.frames.specs.AnswerValue.{AnswerValue}
 use Rattle.round_theory.specs.Offers.{IsNamed}
 use Rattle.round_core.specs.BookValue.{BookValue, hearings, all_named}
-use Rattle.round_core.specs.Picks.{ArePicks, Counts}
-use Rattle.round_core.proofs.Books.{picks_of_book}
+use Rattle.round_core.specs.Picks.{ArePicks}
+use Rattle.round_core.proofs.Books.{picks_of_named}
 use Rattle.round_core.proofs.book.RoundBook.close_par.Goals as goal
 
 pub returns-clause-picks : goal.returns-clause-picks
 returns-clause-picks g c =
     let book = c.self.inside in
+    let new = c.count_by_threads.new.picks in
     let value : BookValue = record { round = book.round; cut = book.cut.now; labels = book.labels.now; taken = book.taken.items; answers = book.answers.items } in
-    let answers = subst (λ (xs : List AnswerValue). Counts book.end_labels (all_named value.cut xs) book.picks c.count_by_halves.result) c.as_slice-answers.ensures.value c.count_by_halves.ensures.picks in
-    let counts = subst (λ (ls : List ℕ). Counts ls (all_named value.cut value.answers) book.picks c.count_by_halves.result) c.self.invariant.same_labels answers in
-    let picks = picks_of_book value book.picks c.count_by_halves.result c.self.invariant.room_for_picks c.self.invariant.no_picks counts in
-    subst (λ (p : BookValue). ArePicks p.labels (IsNamed (hearings p)) c.count_by_halves.result) c.self.view_is picks
+    let answers = subst (λ (xs : List AnswerValue). ArePicks book.end_labels (Contains (all_named value.cut xs)) new) c.as_slice.ensures.value c.count_by_threads.ensures.picks in
+    let picks = subst (λ (ls : List ℕ). ArePicks ls (Contains (all_named value.cut value.answers)) new) c.self.invariant.same_labels answers in
+    subst (λ (p : BookValue). ArePicks p.labels (IsNamed (hearings p)) new) c.self.view_is (picks_of_named value new picks)
