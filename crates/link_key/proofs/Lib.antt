@@ -31,3 +31,4 @@ pub mod Filling
 pub mod Distinct
 pub mod InPlace
 mod Rising
+pub mod Halved

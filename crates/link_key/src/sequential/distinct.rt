@@ -29,8 +29,8 @@ impl<A: Allocator + Copy> Forest<A> {
         Ok(Forest::of_ascending(links))
     }
 
-    /// The same by threads where there are many links, as many threads as there are processors: they sort packed keys.
-    /// Time, memory and the error are those of [`Forest::of_distinct`].
+    /// The same by threads where there are many links: as many threads as there are processors sort packed keys, and up
+    /// to four pack the keys and unpack the links. Time, memory and the error are those of [`Forest::of_distinct`].
     pub fn of_distinct_par<R: Threads + Sync>(
         rt: &R,
         alloc: A,
