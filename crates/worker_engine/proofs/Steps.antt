@@ -21,7 +21,7 @@ use Rattle.worker_engine.specs.declared.session.ServeFault.TheVariants.{Read, Wr
 use Rattle.worker_engine.specs.declared.session.Written.{Written}
 use Rattle.worker_engine.specs.declared.session.Written.TheVariants.{AFault}
 use Rattle.worker_engine.specs.Serving.{Shelf, empty_shelf, shelf_with, shelf_after, MayReply, MayFollow, AreReplies, IsShardFrame}
-use Rattle.worker_engine.specs.Served.{answers_in, faults_in, HeardFrames, ServesToEnd, EndsAtRead, EndsAtWrite, EndsAtMemory, EndsAtLimit, EndsBy, IsSortOf, CountsReplies, AreAnswersOrFaults, HearsNext, HearsNone, StandFor, WroteFor, CutOff, CutFor, Ungreeted}
+use Rattle.worker_engine.specs.Served.{answers_in, faults_in, HeardFrames, ServesToEnd, EndsAtRead, EndsAtWrite, EndsAtMemory, EndsAtLimit, EndsBy, IsSortOf, CountsReplies, AreAnswersOrFaults, HearsNext, HearsNone, WroteFor, CutOff, Ungreeted}
 use Rattle.worker_engine.proofs.Versions.{this_version, all_heard}
 use Rattle.worker_engine.proofs.Replying.{kept_reply, replies_more, shelf_after-append}
 
@@ -65,32 +65,10 @@ pub faults-append : (fs gs : List FrameValue) → faults_in (fs ++ gs) ≡ fault
 faults-append [] gs = omega arith
 faults-append (f ∷ fs) gs = omega (arith, faults-append fs gs)
 
--- what stands for a reply may be written in its place
-stand_for_reply : (kept : Option (List Link)) (r s : ℕ) (ls : List ℕ) (reply : FrameValue) (now : List FrameValue) → MayReply kept r s ls reply → StandFor (reply ∷ []) now
-    → (v : FrameValue) × (now ≡ v ∷ []) × MayReply kept r s ls v
-stand_for_reply kept r s ls (AnswerFrame a) now may (inl same) = (AnswerFrame a, same, may)
-stand_for_reply None r s ls (AnswerFrame a) now (inl is) (inr same) = cc
-stand_for_reply None r s ls (AnswerFrame a) now (inr never) (inr same) = absurd never
-stand_for_reply (Some links) r s ls (AnswerFrame a) now (inl is) (inr same) =
-    (FaultFrame a.round a.shard 1, same, inr (ap (λ (q : ℕ). FaultFrame q a.shard 1) is.round_is ∙ ap (λ (t : ℕ). FaultFrame r t 1) is.shard_is))
-stand_for_reply (Some links) r s ls (AnswerFrame a) now (inr is) (inr same) = cc
-stand_for_reply kept r s ls (HelloFrame a b) now may same = (HelloFrame a b, same, may)
-stand_for_reply kept r s ls (ShardFrame a b) now may same = (ShardFrame a b, same, may)
-stand_for_reply kept r s ls (AskFrame a b c) now may same = (AskFrame a b c, same, may)
-stand_for_reply kept r s ls (FaultFrame a b c) now may same = (FaultFrame a b c, same, may)
-
-may_stand : (shelf : Shelf) (f : FrameValue) (replies now : List FrameValue) → MayFollow shelf f replies → StandFor replies now → MayFollow shelf f now
-may_stand shelf (AskFrame r s ls) replies now (reply, one, may) stand = stand_for_reply (shelf s) r s ls reply now may (subst (λ (t : List FrameValue). StandFor t now) one stand)
-may_stand shelf (HelloFrame a b) replies now none stand = subst (λ (t : List FrameValue). StandFor t now) none stand
-may_stand shelf (ShardFrame a b) replies now none stand = subst (λ (t : List FrameValue). StandFor t now) none stand
-may_stand shelf (AnswerFrame a) replies now none stand = subst (λ (t : List FrameValue). StandFor t now) none stand
-may_stand shelf (FaultFrame a b c) replies now none stand = subst (λ (t : List FrameValue). StandFor t now) none stand
-
--- a frame more, with what stands for the replies to it
-answered_more : (frames before replies now : List FrameValue) (shelf : Shelf) (v : FrameValue) → AreReplies empty_shelf frames before → shelf ≡ shelf_after empty_shelf frames
-    → MayFollow shelf v replies → StandFor replies now → AreReplies empty_shelf (frames ++ v ∷ []) (before ++ now)
-answered_more frames before replies now shelf v answered shelf_is may stand =
-    replies_more frames before now v answered (subst (λ (s : Shelf). MayFollow s v now) shelf_is (may_stand shelf v replies now may stand))
+-- a frame more, with the replies to it
+answered_more : (frames before now : List FrameValue) (shelf : Shelf) (v : FrameValue) → AreReplies empty_shelf frames before → shelf ≡ shelf_after empty_shelf frames
+    → MayFollow shelf v now → AreReplies empty_shelf (frames ++ v ∷ []) (before ++ now)
+answered_more frames before now shelf v answered shelf_is may = replies_more frames before now v answered (subst (λ (s : Shelf). MayFollow s v now) shelf_is may)
 
 -- what may be written for a frame is answers and faults
 kind_of_reply : (kept : Option (List Link)) (r s : ℕ) (ls : List ℕ) (reply : FrameValue) → MayReply kept r s ls reply → AreAnswersOrFaults (reply ∷ [])
@@ -159,33 +137,32 @@ module _ (worker : ℕ) (source source' source'' : SourceState) (sink sink' sink
       → served'.frames ≡ served.frames + 1 → CountsReplies written served served' → SoFar worker shelf' served' source source'' sink sink''
   so_far_more shelf shelf' served served' replies written so_far hears wrote counted replied = record {
     frames = so_far.frames ++ hears.v ∷ [];
-    replies = so_far.replies ++ wrote.now;
+    replies = so_far.replies ++ replies;
     lawful = lawful-append so_far.frames (hears.v ∷ []) so_far.lawful (hears.lawful, tt);
     shelf_is = hears.kept ∙ ap (λ (s : Shelf). shelf_with s hears.v) so_far.shelf_is ∙ sym (shelf_after-append empty_shelf so_far.frames (hears.v ∷ []));
-    answered = answered_more so_far.frames so_far.replies replies wrote.now shelf hears.v so_far.answered so_far.shelf_is hears.may wrote.stand;
+    answered = answered_more so_far.frames so_far.replies replies shelf hears.v so_far.answered so_far.shelf_is hears.may;
     frames_are = omega (arith, counted, so_far.frames_are, length-append so_far.frames (hears.v ∷ []));
-    answers_are = omega (arith, (replied wrote.now wrote.sort).0, so_far.answers_are, answers-append so_far.replies wrote.now);
-    faults_are = omega (arith, (replied wrote.now wrote.sort).1, so_far.faults_are, faults-append so_far.replies wrote.now);
+    answers_are = omega (arith, (replied replies wrote.sort).0, so_far.answers_are, answers-append so_far.replies replies);
+    faults_are = omega (arith, (replied replies wrote.sort).1, so_far.faults_are, faults-append so_far.replies replies);
     gave = gave_frame so_far.frames hears.v so_far.gave hears.gave;
-    took = subst (λ (bytes : List ℕ). Took 0 bytes sink sink'') (more_owed so_far.replies wrote.now)
-        (took_more 0 (text_of (HelloFrame VERSION worker) ++ texts_of so_far.replies) (texts_of wrote.now) sink sink' sink'' so_far.took wrote.took);
+    took = subst (λ (bytes : List ℕ). Took 0 bytes sink sink'') (more_owed so_far.replies replies)
+        (took_more 0 (text_of (HelloFrame VERSION worker) ++ texts_of so_far.replies) (texts_of replies) sink sink' sink'' so_far.took wrote.took);
   }
 
   -- and a write failed
   pub ends_at_write : (shelf shelf' : Shelf) (served : Served) (replies : List FrameValue)
-      → SoFar worker shelf served source source' sink sink' → HearsNext replies shelf shelf' source' source'' → CutFor replies sink' sink'' → EndsAtWrite worker source source'' sink sink''
-  ends_at_write shelf shelf' served replies so_far hears cut_for =
+      → SoFar worker shelf served source source' sink sink' → HearsNext replies shelf shelf' source' source'' → CutOff (texts_of replies) sink' sink'' → EndsAtWrite worker source source'' sink sink''
+  ends_at_write shelf shelf' served replies so_far hears cut =
       let first : List ℕ = text_of (HelloFrame VERSION worker) ++ texts_of so_far.replies in
-      let owed = more_owed so_far.replies cut_for.now in
-      let cut = cut_for.cut in
+      let owed = more_owed so_far.replies replies in
       record {
-        heard = heard_of worker (so_far.frames ++ hears.v ∷ []) (so_far.replies ++ cut_for.now) (lawful-append so_far.frames (hears.v ∷ []) so_far.lawful (hears.lawful, tt))
-            (answered_more so_far.frames so_far.replies replies cut_for.now shelf hears.v so_far.answered so_far.shelf_is hears.may cut_for.stand);
+        heard = heard_of worker (so_far.frames ++ hears.v ∷ []) (so_far.replies ++ replies) (lawful-append so_far.frames (hears.v ∷ []) so_far.lawful (hears.lawful, tt))
+            (answered_more so_far.frames so_far.replies replies shelf hears.v so_far.answered so_far.shelf_is hears.may);
         count = length first + cut.count;
-        short = subst (λ (n : ℕ). length first + cut.count < n) (sym (length-append first (texts_of cut_for.now)) ∙ ap length owed) (omega (arith, cut.short));
+        short = subst (λ (n : ℕ). length first + cut.count < n) (sym (length-append first (texts_of replies)) ∙ ap length owed) (omega (arith, cut.short));
         gave = gave_frame so_far.frames hears.v so_far.gave hears.gave;
-        took = subst (λ (bytes : List ℕ). Took 1 bytes sink sink'') (sym (take-append-add first (texts_of cut_for.now) cut.count) ∙ ap (take (length first + cut.count)) owed)
-            (took_more 1 first (take cut.count (texts_of cut_for.now)) sink sink' sink'' so_far.took cut.took);
+        took = subst (λ (bytes : List ℕ). Took 1 bytes sink sink'') (sym (take-append-add first (texts_of replies) cut.count) ∙ ap (take (length first + cut.count)) owed)
+            (took_more 1 first (take cut.count (texts_of replies)) sink sink' sink'' so_far.took cut.took);
       }
 
   -- or it was a shard that there was no memory to keep
@@ -244,23 +221,23 @@ ends_at_hello worker limit Memory source sink sink' gave took = record {
 
 -- ---- by what a call answers
 
--- a text was written in place of the replies
-pub wrote_for : (replies : List FrameValue) (v : FrameValue) (w : Written) (s s' : SinkState) → StandFor replies (v ∷ []) → IsSortOf w (v ∷ []) → Took 0 (text_of v) s s' → WroteFor replies w s s'
-wrote_for replies v w s s' stand sort took = record { now = v ∷ []; stand = stand; sort = sort; took = subst (λ (t : List ℕ). Took 0 t s s') (sym (texts-one v)) took }
+-- the one reply was written
+pub wrote_one : (v : FrameValue) (w : Written) (s s' : SinkState) → IsSortOf w (v ∷ []) → Took 0 (text_of v) s s' → WroteFor (v ∷ []) w s s'
+wrote_one v w s s' sort took = record { sort = sort; took = subst (λ (t : List ℕ). Took 0 t s s') (sym (texts-one v)) took }
 
-pub cut_for : (replies : List FrameValue) (v : FrameValue) (s s' : SinkState) → StandFor replies (v ∷ []) → CutOff (text_of v) s s' → CutFor replies s s'
-cut_for replies v s s' stand cut = record { now = v ∷ []; stand = stand; cut = subst (λ (t : List ℕ). CutOff t s s') (sym (texts-one v)) cut }
+pub cut_one : (v : FrameValue) (s s' : SinkState) → CutOff (text_of v) s s' → CutOff (texts_of (v ∷ [])) s s'
+cut_one v s s' cut = subst (λ (t : List ℕ). CutOff t s s') (sym (texts-one v)) cut
 
--- a fault was
-pub fault_for : (result : Result Written ServeFault) (replies : List FrameValue) (r t k : ℕ) (s s' : SinkState) → StandFor replies (FaultFrame r t k ∷ [])
-    → IfOk result (λ w. w ≡ AFault) → OnOk result (Took 0 (text_of (FaultFrame r t k)) s s') → IfOk result (λ w. WroteFor replies w s s')
-fault_for (Ok w) replies r t k s s' stand sort took = wrote_for replies (FaultFrame r t k) w s s' stand (subst (λ (x : Written). IsSortOf x (FaultFrame r t k ∷ [])) (sym sort) (refl, refl, refl)) took
-fault_for (Err e) replies r t k s s' stand sort took = tt
+-- it was a fault
+pub wrote_fault : (result : Result Written ServeFault) (r t k : ℕ) (s s' : SinkState)
+    → IfOk result (λ w. w ≡ AFault) → OnOk result (Took 0 (text_of (FaultFrame r t k)) s s') → IfOk result (λ w. WroteFor (FaultFrame r t k ∷ []) w s s')
+wrote_fault (Ok w) r t k s s' sort took = wrote_one (FaultFrame r t k) w s s' (subst (λ (x : Written). IsSortOf x (FaultFrame r t k ∷ [])) (sym sort) (refl, refl, refl)) took
+wrote_fault (Err e) r t k s s' sort took = tt
 
-pub fault_cut_for : (result : Result Written ServeFault) (replies : List FrameValue) (r t k : ℕ) (s s' : SinkState) → StandFor replies (FaultFrame r t k ∷ [])
-    → OnErr result (CutOff (text_of (FaultFrame r t k)) s s') → OnErr result (CutFor replies s s')
-fault_cut_for (Ok w) replies r t k s s' stand cut = tt
-fault_cut_for (Err e) replies r t k s s' stand cut = cut_for replies (FaultFrame r t k) s s' stand cut
+pub cut_fault : (result : Result Written ServeFault) (r t k : ℕ) (s s' : SinkState)
+    → OnErr result (CutOff (text_of (FaultFrame r t k)) s s') → OnErr result (CutOff (texts_of (FaultFrame r t k ∷ [])) s s')
+cut_fault (Ok w) r t k s s' cut = tt
+cut_fault (Err e) r t k s s' cut = cut_one (FaultFrame r t k) s s' cut
 
 -- no frame was heard
 module _ (worker limit : ℕ) (source source' source'' : SourceState) (sink sink' : SinkState) (shelf : Shelf) (served : Served) (so_far : SoFar worker shelf served source source' sink sink') where
@@ -283,7 +260,7 @@ module _ (worker limit : ℕ) (source source' source'' : SourceState) (sink sink
   stops_by fault (Err why) stops (same, inside) = subst (λ (x : ServeFault). EndsBy worker limit x source source'' sink sink') (sym same) (ends_by fault stops inside)
 
   -- a write failed behind one that was
-  pub cuts_by : (shelf' : Shelf) (replies : List FrameValue) (sink'' : SinkState) (fault : ServeFault) → HearsNext replies shelf shelf' source' source'' → fault ≡ Write → CutFor replies sink' sink''
+  pub cuts_by : (shelf' : Shelf) (replies : List FrameValue) (sink'' : SinkState) (fault : ServeFault) → HearsNext replies shelf shelf' source' source'' → fault ≡ Write → CutOff (texts_of replies) sink' sink''
       → EndsBy worker limit fault source source'' sink sink''
   cuts_by shelf' replies sink'' fault hears write cut =
       subst (λ (x : ServeFault). EndsBy worker limit x source source'' sink sink'') (sym write)

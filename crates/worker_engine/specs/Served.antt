@@ -132,17 +132,10 @@ HearsNone (Read fault) source source' = IsReadRefused fault source source'
 HearsNone Memory source source' = (v : FrameValue) × IsShardFrame v × IsLawful v × Gave 0 0 (text_of v) source source'
 HearsNone fault source source' = ⊥
 
--- what stands for replies: they themselves, or a fault for want of memory in place of an answer
-abbrev pub StandFor : List FrameValue → List FrameValue → Type 0
-StandFor (AnswerFrame a ∷ []) now = (now ≡ AnswerFrame a ∷ []) ⊎ (now ≡ FaultFrame a.round a.shard 1 ∷ [])
-StandFor replies now = now ≡ replies
-
--- what stands for the replies was written
+-- the replies were written, and are of this sort
 pub record WroteFor (replies : List FrameValue) (written : Written) (sink sink' : SinkState) : Type 0 where
-  pub now : List FrameValue
-  pub stand : StandFor replies now
-  pub sort : IsSortOf written now
-  pub took : Took 0 (texts_of now) sink sink'
+  pub sort : IsSortOf written replies
+  pub took : Took 0 (texts_of replies) sink sink'
 
 -- less than a text was written, and then a write failed
 pub record CutOff (text : List ℕ) (sink sink' : SinkState) : Type 0 where
@@ -155,12 +148,6 @@ pub record WroteSome (head : List ℕ) (offers rest : List Offer) (sink sink' : 
   pub first : List Offer
   pub split : offers ≡ first ++ rest
   pub took : Took 0 (head ++ flat_map offer_text first) sink sink'
-
--- what stands for the replies was written in part
-pub record CutFor (replies : List FrameValue) (sink sink' : SinkState) : Type 0 where
-  pub now : List FrameValue
-  pub stand : StandFor replies now
-  pub cut : CutOff (texts_of now) sink sink'
 
 -- the hello wasn't written
 abbrev pub Ungreeted : ServeFault → List ℕ → SinkState → SinkState → Type 0

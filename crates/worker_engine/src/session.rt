@@ -4,9 +4,9 @@ ghost use Rattle.std.specs.List.{flat_map};
 ghost use Rattle.byte_streams.specs.Streams.{Took};
 ghost use Rattle.frames.specs.FrameValue.{HelloFrame, AnswerFrame, FaultFrame};
 ghost use Rattle.frames.specs.FrameText.{offer_text, text_of};
-ghost use Rattle.frames.specs.FrameStream.{AreLawful};
+ghost use Rattle.frames.specs.FrameStream.{texts_of, AreLawful};
 ghost use Rattle.worker_engine.specs.Serving.{replies_in};
-ghost use Rattle.worker_engine.specs.Served.{ServesToEnd, EndsBy, CountsReplies, AreAnswersOrFaults, WroteFor, WroteSome, CutFor, CutOff, Ungreeted};
+ghost use Rattle.worker_engine.specs.Served.{ServesToEnd, EndsBy, CountsReplies, AreAnswersOrFaults, WroteFor, WroteSome, CutOff, Ungreeted};
 ghost use Rattle.worker_engine.specs.declared.session.ServeFault.TheVariants.{Read, Write};
 ghost use Rattle.frames.specs.declared.fault.FrameFault.TheVariants.{Ended};
 ghost use Rattle.worker_engine.specs.declared.session.Written.TheVariants.{AFault};
@@ -205,7 +205,7 @@ fn write_reply<A: Allocator + Copy, W: Sink>(
     requires can { W.can_write sink.old }
     ensures wrote { IfOk result (λ written. WroteFor (replies_in reply) written (W.state sink.old) (W.state sink.new)) }
     ensures write { IfErr result (λ fault. fault ≡ Write) }
-    ensures cut { OnErr result (CutFor (replies_in reply) (W.state sink.old) (W.state sink.new)) }
+    ensures cut { OnErr result (CutOff (texts_of (replies_in reply)) (W.state sink.old) (W.state sink.new)) }
     ensures again { OnOk result (W.can_write sink.new) }
 {
     let Some(reply) = reply else {
