@@ -4,6 +4,7 @@ ghost use Rattle.frames.specs.FrameValue.{value_of, ShardFrame, FaultFrame};
 ghost use Rattle.frames.specs.Lawful.{IsLawful, IsShard, IsAsk};
 ghost use Rattle.frames.specs.FrameStream.{AreLawful};
 ghost use Rattle.worker_engine.specs.Serving.{shelf_of, shelf_with, IsReply, MayWantMemory, AreReplyTo, MayFollow, IsShardFrame, replies_in};
+ghost use Rattle.link_key.specs.Labels.{Coarsens};
 ghost use Rattle.shard_scans.specs.Live.{IsAllLive};
 ghost use Rattle.worker_engine.specs.Shelves.{shelf_list, IsReplyWith, AreAllLive, AreAllUnder};
 
@@ -227,6 +228,7 @@ fn make_live<A: Allocator>(
     requires { AreAllUnder last.now shards.old.entries }
     ensures shelf { shelf_list shards.new.entries ≡ shelf_list shards.old.entries }
     ensures live { AreAllUnder labels.now shards.new.entries }
+    ensures stays { Coarsens labels.now last.now → shards.new ≡ shards.old }
 {
     if !labels.coarsens(last) {
         make_all_live(shards);

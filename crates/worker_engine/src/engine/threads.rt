@@ -3,6 +3,7 @@ ghost use Rattle.std.specs.Prelude.{◌≡◌, IsSome, IfOk, OnOk, OnErr};
 ghost use Rattle.frames.specs.FrameValue.{value_of};
 ghost use Rattle.frames.specs.Lawful.{IsLawful, IsAsk};
 ghost use Rattle.frames.specs.FrameStream.{AreLawful};
+ghost use Rattle.link_key.specs.Labels.{Coarsens};
 ghost use Rattle.worker_engine.specs.Serving.{shelf_of, shelf_with, IsReply, MayWantMemory, AreReplyTo, MayFollow, IsShardFrame, replies_in};
 ghost use Rattle.worker_engine.specs.Shelves.{shelf_list, AreAllUnder};
 
@@ -101,6 +102,7 @@ fn make_live_par<R: Threads + Sync, A: Allocator>(
     requires { AreAllUnder last.now shards.old.entries }
     ensures shelf { shelf_list shards.new.entries ≡ shelf_list shards.old.entries }
     ensures live { AreAllUnder labels.now shards.new.entries }
+    ensures stays { Coarsens labels.now last.now → shards.new ≡ shards.old }
 {
     if !coarsens_par(rt, labels, last) {
         make_all_live(shards);
