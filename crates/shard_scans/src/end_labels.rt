@@ -2,16 +2,16 @@
 //!
 //! At first each vertex has a label of its own, and a shard's first scan looks up more labels than any later one. Where all
 //! labels are their vertices' own, none of them has to be looked up.
-ghost use Rattle.std.specs.Prelude.{◌≡◌, ◌^◌, ◌<◌, length, IsTrue};
+ghost use Rattle.std.specs.Prelude.{◌≡◌, ◌^◌, ◌<◌, ◌↔◌, length, IsTrue};
 ghost use Rattle.link_key.specs.Labels.{label_of, AreLabels, AreApart};
 ghost use Rattle.round_theory.specs.Labelling.{IsVertex};
 
-// The labels of the vertices, and whether each is known to be that of its own vertex.
+// The labels of the vertices, and whether each is that of its own vertex.
 #[derive(Clone, Copy)]
 pub(crate) struct EndLabels<'a> {
     pub(crate) labels: &'a [u32],
     apart: bool,
-    ghost known: { IsTrue apart → AreApart (length labels.now) labels.now },
+    ghost known: { IsTrue apart ↔ AreApart (length labels.now) labels.now },
 }
 
 impl<'a> EndLabels<'a> {
@@ -40,7 +40,7 @@ impl<'a> EndLabels<'a> {
 // Whether each label is that of its own vertex.
 fn are_apart(labels: &[u32]) -> bool
     requires { length labels.now < 2 ^ 32 }
-    ensures { IsTrue result → AreApart (length labels.now) labels.now }
+    ensures { IsTrue result ↔ AreApart (length labels.now) labels.now }
 {
     let mut own = true;
     let mut vertex = 0;
