@@ -30,7 +30,7 @@ NoneLeavesIn links labels from to c = (q : ℕ) (m : Link) → from ≤ q → q 
 abbrev pub IsBest : List Link → List ℕ → ℕ → ℕ → ℕ → Option ℕ → Type 0
 IsBest links labels from to c best = MatchOption best (NoneLeavesIn links labels from to c) (λ place. IsBestPlace links labels from to c place)
 
--- a key of 32 bits for a weight: a greater weight has no lesser one
+-- a key of 32 bits: the weight cut off at 2^30 either way, plus its 2^33rd part rounded down; a greater weight has no lesser key
 abbrev pub short_key : ℤ → ℤ
 short_key (pos n) = pos (min n (2 ^ 30) + n / 2 ^ 33)
 short_key (negsuc n) = negsuc (min n (2 ^ 30 - 1) + n / 2 ^ 33 + 1)

@@ -64,12 +64,12 @@ impl<A: Allocator + Copy> KeptShard<A> {
     /// greater than the number of labels. Under these labels the links that aren't live have to offer nothing: so it is
     /// where all are live, and where the labels coarsen those of the offers before ([`laws`](crate::laws)).
     ///
-    /// For m live links of n vertices O(m + n) time. Where the list is made, of n / 2 live links or more, it scans by the labels
-    /// themselves, over a table of 8 bytes and a bit a vertex. Else it scans by numbers of its own for the labels that live
-    /// links have: the scanner's table takes 8 bytes and a bit for each of these, its marks a quarter of a byte a vertex. Beside
-    /// them it takes the list, 8 bytes for each offer, and 4 for the name of each number; once links are listed by numbers, 8
-    /// more for each number that they had before, until it returns. The only error is want of memory, and the shard can be
-    /// asked again after it.
+    /// For m live links of n vertices O(m + n) time. Where the list is made, of n / 2 live links or more, or has no memory, it
+    /// scans by the labels themselves, over a table of 8 bytes and a bit a vertex. Else it scans by numbers of its own for the
+    /// labels that live links have: the scanner's table takes 8 bytes and a bit for each of these, its marks a quarter of a
+    /// byte a vertex. Beside them it takes the list, 8 bytes for each offer, and 4 for the name of each number; once links are
+    /// listed by numbers, 8 more for each number that they had before, until it returns. The only error is want of memory, and
+    /// the shard can be asked again after it.
     pub fn offers(
         &mut self,
         scanner: &mut Scanner<A>,

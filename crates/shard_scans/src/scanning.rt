@@ -163,9 +163,9 @@ impl<A: Allocator + Copy> Scanner<A> {
         Ok((offers, Some(listed)))
     }
 
-    // The same offers, by live links that are listed by these labels. Where they are half as many as the labels or more, most
-    // labels stand at one of them, and a table of numbers would be hardly smaller than one of labels: by these the list is
-    // scanned as it stands. Fewer links are numbered.
+    // The same offers, by live links that are listed by these labels. Where they are half as many as the labels or more, and
+    // spread over them, most labels stand at one, and a table of numbers would be hardly smaller than one of labels: by these
+    // the list is scanned as it stands. Fewer links are numbered.
     fn scan_new_list<B: Allocator>(
         &mut self,
         links: &[Link],
@@ -505,8 +505,8 @@ pub(crate) fn keep_next<A: Allocator + Copy>(
     true
 }
 
-// A key of 32 bits for a weight: a greater weight has no lesser one. Within 2^30 of zero different weights have different
-// keys, so that they are parted with no look at the links; farther out so have those that lie 2^33 apart.
+// A key of 32 bits: the weight cut off at 2^30 either way, plus its 2^33rd part rounded down. A greater weight has no lesser
+// key. Weights within 2^30 of zero, and farther out those 2^33 apart, are parted by their keys, with no look at the links.
 #[inline]
 pub(crate) fn short_key(weight: i64) -> i32
     ensures { result ≡ short_key weight }

@@ -64,16 +64,16 @@ pub(crate) enum Written {
 
 /// A worker's session that hears at most `frames` frames.
 ///
-/// It writes the hello of `worker`, of [`VERSION`](frames::VERSION), and then hears frame after frame, of each
-/// kind that this version has, and writes one reply to each ask, until the source ends before a frame. It scans by
-/// threads where [`scan_par`](crate::scan_par) would, and else by labels or by numbers, as [`Engine`] says. An ask whose scan finds no memory is replied to by a fault
-/// with the code [`NO_MEMORY`](crate::NO_MEMORY), which takes none, and the session goes on.
+/// It writes the hello of `worker`, of [`VERSION`](frames::VERSION), and then hears frame after frame, of each kind that this
+/// version has, and writes one reply to each ask, until the source ends before a frame. It scans by threads where
+/// [`scan_par`](crate::scan_par) would, and else by labels or by numbers, as [`Engine`] says. An ask whose scan finds no memory
+/// is replied to by a fault with the code [`NO_MEMORY`](crate::NO_MEMORY), which takes none, and the session goes on.
 ///
 /// `Read` where no whole lawful frame could be read, `Write` at the first write that fails or takes nothing,
 /// `Memory` where the hello couldn't be made or a shard not be kept, `TooMany` once `frames` frames were heard,
 /// without a further read. Nothing is flushed. It holds one frame and one reply at a time beside what its
 /// [`Engine`] keeps. An answer goes out by writes of at most 65,536 bytes, made one after the other in one buffer on the
-/// stack: its text takes no memory, and the coordinator makes offers of one part while the next is made.
+/// stack: its text takes no memory, and over a line the coordinator makes offers of one part while the next is made.
 pub fn serve_upto<R: Threads + Sync, A: Allocator + Copy + Send + Sync, S: Source, W: Sink>(
     rt: &R,
     alloc: A,

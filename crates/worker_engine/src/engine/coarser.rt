@@ -8,7 +8,7 @@ use std::alloc::Allocator;
 use std::thread;
 use std::thread::Threads;
 
-// So few labels are worth no thread of their own.
+// Fewer labels than these are looked at by one thread: a second one would save little.
 const FEW_LABELS: usize = 1 << 17;
 
 // Whether labels coarsen others, as `Labels::coarsens` finds it, by halves in two threads where they are many. Where no
