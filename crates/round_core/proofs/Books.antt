@@ -21,7 +21,7 @@ use Rattle.round_theory.specs.Offers.{Hearing, Names, IsNamed}
 use Rattle.round_theory.proofs.Cutting.{any_from, flat_map_contains}
 use Rattle.round_core.specs.Picks.{ArePicks, AreNoPicks, Counts}
 use Rattle.round_core.proofs.Counts.{no_picks, picks_alike}
-use Rattle.round_core.specs.BookValue.{opened, is_leaving, is_offer, BookValue, hearing_of, hearings, named_links, all_named, IsBookValue, IsBook}
+use Rattle.round_core.specs.BookValue.{opened, is_leaving, is_offer, BookValue, hearing_of, hearings, named_links, all_named, CanCount, IsBookValue, IsBook}
 
 -- all are missing at first
 all_missing : (k : ℕ) → count_by not (replicate k false) ≡ k
@@ -170,6 +170,14 @@ same_named cut answers l = (to, back)
 -- what the offers of an answer name are links that leave a component
 pub offer_at : (links : List Link) (labels : List ℕ) (offers : List Offer) (i : ℕ) → i < length offers → list_all (is_offer links labels) offers ≡ true → IsOffered links labels (get_or offers i (0, 0)).1
 offer_at links labels offers i lt all = offered links labels (get_or offers i (0, 0)) (all_at (is_offer links labels) offers i (0, 0) lt all)
+
+-- the answers of a book can be counted under the labels that it looks up
+pub can_count : (p : BookValue) (looked_up : List ℕ) (answers : List AnswerValue) → IsBookValue p → looked_up ≡ p.labels → answers ≡ p.answers → CanCount p.cut looked_up answers
+can_count p looked_up answers is same answers_are = rw (same, answers_are) (record {
+  labelled = is.labels;
+  ends = is.ends;
+  right = λ i a lt. let right = is.right i a lt in record { round_is = refl; within = right.within; offers = right.offers };
+})
 
 -- the picks of the links that its answers name are those of what it heard
 pub picks_of_named : (p : BookValue) (best : List (Option Link)) → ArePicks p.labels (Contains (all_named p.cut p.answers)) best → ArePicks p.labels (IsNamed (hearings p)) best

@@ -1,6 +1,6 @@
--- What was offered in two halves of answers, or of the offers of one, and the picks of both halves.
-use Rattle.std.proofs.Common.{◌≡◌, ℕ, List, [], ◌++◌, length, get_or, take, drop, take_all, Contains, sym, ap, ◌∙◌, subst, append_assoc, arith}
-use Rattle.std.specs.Prelude.{slice_get, Option}
+-- What was offered in two halves of answers, or of the offers of one.
+use Rattle.std.proofs.Common.{◌≡◌, ℕ, List, ◌++◌, take, drop, sym, ap, ◌∙◌}
+use Rattle.std.specs.Prelude.{slice_get}
 use Rattle.std.specs.Option.{option_to_list}
 use Rattle.std.proofs.lemmas.Grind.{flat_map-append}
 use Rattle.std.proofs.lemmas.List.{take-append-drop}
@@ -9,9 +9,6 @@ use Rattle.link_key.specs.Cut.{links_at}
 use Rattle.link_key.specs.Offers.{Offer}
 use Rattle.frames.specs.AnswerValue.{AnswerValue}
 use Rattle.round_core.specs.BookValue.{named_links, all_named}
-use Rattle.round_core.specs.Picks.{ArePicks, AreNoPicks, Counts}
-use Rattle.round_core.proofs.Counts.{no_picks}
-use Rattle.round_core.proofs.Books.{one_more_answer}
 
 -- what the first answers name and what the rest do stand one behind the other
 pub named_in_halves : (cut : List (List Link)) (answers : List AnswerValue) (n : ℕ) → all_named cut (take n answers) ++ all_named cut (drop n answers) ≡ all_named cut answers

@@ -1,6 +1,6 @@
 -- Picks that are found by the components for which links are offered.
-use Rattle.std.proofs.Common.{◌≡◌, ◌≢◌, ℕ, ◌+◌, ◌-◌, ◌<◌, ◌≤◌, ◌⊎◌, ◌↔◌, ◌^◌, min, pos, true, false, List, [], ◌∷◌, ◌++◌, length, map, get_or, set, Contains, Some, None, refl, sym, ap, ◌∙◌, subst, inl, inr, eq-eqb, ne_eqb, arith}
-use Rattle.std.specs.Prelude.{Option, All, Any, IsSomeAnd, slice_get, ◌+ℤ◌}
+use Rattle.std.proofs.Common.{◌≡◌, ℕ, ◌+◌, ◌-◌, ◌<◌, ◌≤◌, ◌⊎◌, ◌↔◌, ◌^◌, min, pos, true, false, List, [], ◌∷◌, ◌++◌, length, map, get_or, set, Contains, Some, None, refl, sym, ap, ◌∙◌, subst, inl, inr, eq-eqb, ne_eqb, arith}
+use Rattle.std.specs.Prelude.{Option, All, IsSomeAnd, slice_get, ◌+ℤ◌}
 use Rattle.std.proofs.lemmas.Int.{ints}
 use Rattle.std.specs.List.{list_all}
 use Rattle.std.specs.Option.{option_to_list}
@@ -10,7 +10,7 @@ use Rattle.std.proofs.lemmas.List.{length-map, get_or-map, get_or_default, get_o
 use Rattle.std.proofs.lemmas.List.Elements.{All-contains_itself, Contains-append_left, Contains-append_right, Contains-push_cases}
 use Rattle.link_key.specs.declared.links.Link.{Link}
 use Rattle.link_key.specs.Link.{IsBelow, EndsUpTo}
-use Rattle.link_key.specs.Labels.{label_of, AreLabels}
+use Rattle.link_key.specs.Labels.{label_of}
 use Rattle.link_key.specs.Offers.{Offer}
 use Rattle.link_key.specs.Cut.{links_at}
 use Rattle.link_key.specs.WideKey.{wide_key}
@@ -25,7 +25,7 @@ use Rattle.round_theory.proofs.Steps.{append_either}
 use Rattle.round_core.proofs.Books.{all_at, shard_ends, offer_at}
 use Rattle.round_core.specs.Picks.{pick_of, IsPickOf, ArePicks}
 use Rattle.round_core.specs.PickNumbers.{IsKeyNumber, no_pick, IsPickNumber, pick_in}
-use Rattle.round_core.specs.BookValue.{is_leaving, is_offer, named_links, all_named, IsRight, CanCount, CanCountOffers}
+use Rattle.round_core.specs.BookValue.{is_leaving, is_offer, named_links, all_named, IsRight, CanCount}
 use Rattle.round_core.proofs.PickNumbers.{pick_at, no_pick_is_none, key_is_pick, key_below_no_pick, below_is_less}
 use Rattle.round_core.specs.LookedUp.{IsLookedUp}
 use Rattle.round_core.specs.declared.picks.LookedUp.{LookedUp}

@@ -1,6 +1,6 @@
 -- Picks as numbers that compare as the keys of the picked links do: the weight, counted from the least one on, the lower
 -- end and the higher end, one behind the other.
-use Rattle.std.specs.Prelude.{◌≡◌, ℕ, ◌-◌, ◌/◌, ◌%◌, ◌^◌, ◌<◌, ◌≤◌, ◌⊎◌, pos, ◌+ℤ◌, ◌-ℤ◌, min}
+use Rattle.std.specs.Prelude.{◌≡◌, ℕ, ◌-◌, ◌/◌, ◌%◌, ◌^◌, ◌<◌, ◌≤◌, ◌⊎◌, pos, ◌+ℤ◌, ◌-ℤ◌}
 use Rattle.std.specs.Prelude.{List, length, slice_index, Option, Some, None, FitsSigned}
 use Rattle.std.specs.Int.{w64}
 use Rattle.std.proofs.Common.{inl, inr}
@@ -22,10 +22,6 @@ no_pick = 2 ^ 128 - 1
 -- the number of a pick: that of a link's key, or that of no pick
 abbrev pub IsPickNumber : ℕ → Type 0
 IsPickNumber k = (k ≡ no_pick) ⊎ ((l : Link) × IsKeyNumber l k)
-
--- each number is the lesser of the two at its place
-abbrev pub AreLesserOf : List ℕ → List ℕ → List ℕ → Type 0
-AreLesserOf xs ys zs = (i : ℕ) → i < length xs → slice_index zs i ≡ min (slice_index xs i) (slice_index ys i)
 
 -- the labels have the number of no pick, and the others what they had
 pub record AreCleared (labels old new : List ℕ) : Type 0 where

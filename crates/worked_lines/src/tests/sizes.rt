@@ -1,4 +1,5 @@
-// A run past the size of every inner piece, of 40,000 vertices and links and 15 merging rounds, and one of 9,000 links between few vertices.
+// A run past the size of every inner piece, of 40,000 vertices and links and 15 merging rounds, one of 9,000 links between few
+// vertices, and runs of so many vertices that two threads begin them.
 use super::runs::{Solved, run_of};
 use crate::in_memory::engines;
 use forest_run::Cutting;
@@ -91,5 +92,26 @@ fn many_links_of_few_vertices_without_a_worker(rt: HostRuntime) -> Result<(), Fa
     };
     let counts = run_of(&rt, alloc, &solved, Cutting::Even(1), lines);
     assert_eq!(rt; counts, [6, 1, 0, 0, 7, 0]);
+    Ok(())
+}
+
+// Two links between the first vertex and the last two: of as many vertices as two threads begin a run with, one fewer and
+// one more.
+#[test]
+fn as_many_vertices_as_two_threads_begin_with(rt: HostRuntime) -> Result<(), Fail> {
+    let alloc = rt.alloc();
+    for n in [131_071u32, 131_072, 131_073] {
+        let before = n - 1;
+        let file = format!(in alloc; "p sp {n} 2\na 1 {n} 5\na {n} {before} 4\n")?;
+        let text = format!(in alloc; "p sp {n} 2\na {before} {n} 4\na 1 {n} 5\n")?;
+        let solved = Solved {
+            file: file.as_bytes(),
+            text: text.as_bytes(),
+            size: (n, 2, 9),
+        };
+        let lines = engines(alloc, 1)?;
+        let counts = run_of(&rt, alloc, &solved, Cutting::Even(1), lines);
+        assert_eq!(rt; counts, [1, 1, 2, 2, 0, 0]);
+    }
     Ok(())
 }

@@ -288,13 +288,13 @@ fn picks_let_go(rt: &(impl Abort + Threads + Sync), alloc: Global) -> Result<Pic
     Ok(picks)
 }
 
-// A book over such picks has the picks of its own answer alone, which offers one link.
+// A book over picks of which there is none has the picks of its own answer alone, which offers one link.
 fn expect_least_over(
-    rt: &(impl Abort + Threads + Sync),
+    rt: &impl Abort,
     alloc: Global,
+    picks: Picks,
     n: u32,
 ) -> Result<(), Fail> {
-    let picks = picks_let_go(rt, alloc)?;
     assert!(rt; picks.is_empty() && n < 1 << 20);
     let links = paths(rt, alloc, n, 1)?;
     let cut = Cut::even(alloc, links.as_slice(), 1).expect(rt, "a cut");
@@ -310,7 +310,19 @@ fn expect_least_over(
 // With as many labels as the picks have, with fewer, and with more.
 #[test]
 fn a_book_over_the_picks_of_another(rt: HostRuntime) -> Result<(), Fail> {
-    expect_least_over(&rt, rt.alloc(), 50)?;
-    expect_least_over(&rt, rt.alloc(), 30)?;
-    expect_least_over(&rt, rt.alloc(), 80)
+    for n in [50, 30, 80] {
+        let picks = picks_let_go(&rt, rt.alloc())?;
+        expect_least_over(&rt, rt.alloc(), picks, n)?;
+    }
+    Ok(())
+}
+
+// So it is over picks that were none from the beginning.
+#[test]
+fn a_book_over_no_picks(rt: HostRuntime) -> Result<(), Fail> {
+    for n in [50, 30, 80] {
+        let picks = Picks::none(rt.alloc(), 50)?;
+        expect_least_over(&rt, rt.alloc(), picks, n)?;
+    }
+    Ok(())
 }

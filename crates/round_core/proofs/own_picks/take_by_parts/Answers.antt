@@ -1,5 +1,4 @@
-use Rattle.std.proofs.Common.{◌≡◌, ◌⊎◌, ℕ, ◌+◌, get_or, sym, ap, ◌∙◌, subst, inl, inr, zero-add}
-use Rattle.link_key.specs.declared.links.Link.{Link}
+use Rattle.std.proofs.Common.{◌+◌, sym, ◌∙◌, subst, inl, inr, zero-add}
 use Rattle.round_core.specs.PickNumbers.{IsKeyNumber}
 use Rattle.round_core.specs.OwnPicks.{IsOfferedIn}
 use Rattle.round_core.proofs.own_picks.take_by_parts.Goals as goal

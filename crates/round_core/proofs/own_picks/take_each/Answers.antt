@@ -1,6 +1,5 @@
-use Rattle.std.proofs.Common.{◌≡◌, ℕ, ◌+◌, ◌-◌, ◌<◌, length, get_or, set, min, refl, sym, ◌∙◌, subst, arith}
+use Rattle.std.proofs.Common.{◌≡◌, ℕ, ◌+◌, ◌-◌, get_or, set, refl, sym, ◌∙◌, subst, arith}
 use Rattle.std.proofs.lemmas.List.{length-set}
-use Rattle.link_key.specs.declared.links.Link.{Link}
 use Rattle.round_core.specs.OwnPicks.{IsOfferedBy, AreTakenFrom}
 use Rattle.round_core.proofs.OwnPicks.{offers_at, taken_more}
 use Rattle.round_core.proofs.own_picks.take_each.Goals as goal

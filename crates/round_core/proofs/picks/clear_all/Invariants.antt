@@ -1,4 +1,4 @@
-use Rattle.std.proofs.Common.{◌≡◌, ℕ, ◌<◌, length, get_or}
+use Rattle.std.proofs.Common.{◌≡◌, ℕ, ◌<◌, get_or}
 use Rattle.round_core.specs.PickNumbers.{no_pick}
 use Rattle.round_core.proofs.picks.clear_all.Given as goal
 

@@ -1,4 +1,4 @@
-use Rattle.std.proofs.Common.{◌≡◌, ◌-◌, ◌<◌, ◌≤◌, length, map, sym, ap, ◌∙◌, leb-true, le-leb, subst, arith}
+use Rattle.std.proofs.Common.{◌≡◌, ◌-◌, ◌<◌, length, sym, ap, ◌∙◌, leb-true, le-leb, subst, arith}
 use Rattle.std.proofs.lemmas.List.{length-map}
 use Rattle.round_core.specs.PickNumbers.{pick_in}
 use Rattle.round_core.specs.OwnPicks.{IsBounded}
