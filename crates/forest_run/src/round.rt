@@ -80,7 +80,7 @@ impl<
     // The solver's next round, under its labels, over a book of its own: the picks of the answers, and how many shards
     // the coordinator scanned itself. The only error is want of memory; then each lane is as its asks left it.
     //
-    // It takes a book, which is freed with the round, what `run_round` takes, and what closing a book in threads takes.
+    // It takes a book, which is freed with the round, and what `run_round` takes.
     pub(crate) fn picks_of_round<'c>(
         &mut self,
         reused: &mut Reused<A>,

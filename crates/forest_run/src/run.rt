@@ -22,7 +22,7 @@ use std::sync::Wait;
 use std::thread;
 use std::thread::Threads;
 
-// So few vertices are worth no thread of their own.
+// Of fewer vertices than these one thread makes all.
 const FEW_VERTICES: u32 = 1 << 17;
 
 impl<
@@ -155,6 +155,7 @@ fn begin_by_two<R: Threads + Sync, A: Allocator + Copy + Send + Sync>(
     requires { n ≤ MAX_VERTICES }
     ensures start { IfOk result (λ r. IsAtStart n r.0) }
     ensures none { IfOk result (λ r. AreNoPicks r.1) }
+    ensures room { IfOk result (λ r. length r.1 ≡ n) }
 {
     let (solver, picks) = thread::join(
         rt,
@@ -163,7 +164,7 @@ fn begin_by_two<R: Threads + Sync, A: Allocator + Copy + Send + Sync>(
             ensures { IfOk result (IsAtStart n) }
         { Solver::new(alloc, n) },
         move || -> Result<Picks<A>, AllocError>
-            ensures { IfOk result AreNoPicks }
+            ensures { IfOk result (λ picks. AreNoPicks picks × (length picks ≡ n)) }
         { Picks::none(alloc, n) },
     );
     Ok((solver?, picks?))

@@ -1,5 +1,5 @@
--- Picks that are found by the components for which links are offered: each offered link is taken for that component alone, and
--- then it is looked at whether it is below the pick of either of its components. Of light offers none is.
+-- Picks that are found by the components for which links are offered: a pick is one of these links, and where no offered link is
+-- below the pick of either of its components the picks are the least. Of light offers, each taken where it is the least, none is.
 use Rattle.std.specs.Prelude.{◌≡◌, ℕ, ◌+◌, ◌<◌, ◌⊎◌, List, length, slice_index, slice_get, All, Any, Contains, Option, Some, IsSomeAnd}
 use Rattle.link_key.specs.declared.links.Link.{Link}
 use Rattle.link_key.specs.Link.{IsBelow}

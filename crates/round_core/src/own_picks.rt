@@ -1,4 +1,5 @@
-//! The least link that is offered for each component, by parts of the components: no two threads write one pick.
+//! A link that is offered for each component, the least, by parts of the components: no two threads write one pick. Contracts
+//! say that it is offered; that none is less is looked at behind it (`tally`), and nothing but the time stands on it here.
 ghost use Rattle.std.specs.Prelude.{All};
 ghost use Rattle.round_core.specs.OwnPicks.{HavePlaces, IsPlaced, IsOfferedBy, IsOfferedIn, AreTakenFrom};
 

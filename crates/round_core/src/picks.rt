@@ -203,7 +203,7 @@ impl<A: Allocator> Picks<A> {
 }
 
 impl<A: Allocator + Sync> Picks<A> {
-    // Takes, for each component, the least link that is offered for it, where no label has a pick; by parts of the labels,
+    // Takes, for each component, a link that is offered for it, the least, where no label has a pick; by parts of the labels,
     // each in a thread of its own where one can be made.
     pub(crate) fn take_own<R: Threads + Sync>(
         &mut self,

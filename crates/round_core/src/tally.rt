@@ -2,7 +2,8 @@
 //!
 //! By several, each offered link is first taken for the component that its offer names, by parts of the components. That is
 //! all where answers are light: the link's other component has an offer of its own there, of a link that isn't greater. Whether
-//! it is so is looked at, by several threads too, which write nothing. Where it isn't, all offers are counted in one thread.
+//! it is so is looked at, by several threads too, which write nothing. Where it isn't, all offers are counted in one thread. So
+//! nothing but the time stands on whether the least was taken: what was taken has to be offered, and the look finds the rest.
 ghost use Rattle.std.specs.Prelude.{◌≡◌, ℕ, List, ◌+◌, ◌<◌, ◌≤◌, ◌↔◌, length, take, All, Contains, true, IsTrue};
 ghost use Rattle.std.specs.List.{list_all};
 ghost use denote.Param.Send.{IsSync};
@@ -17,15 +18,15 @@ use crate::end_labels::EndLabels;
 use crate::picks::{LookedUp, Picks, look_up};
 use frames::Answer;
 use link_key::{Cut, Link};
-use rayon::{current_num_threads, join};
+use rayon::join;
 use std::alloc::Allocator;
 use std::thread::Threads;
 
-// So few offers are worth no thread of their own.
+// Fewer offers than these are counted in one thread.
 const FEW_OFFERS: usize = 1 << 14;
 
-// Offers are halved so often at most, however many processors there are.
-const MOST_HALVINGS: usize = 2;
+// How often offers are halved for threads that look at them: into four parts.
+const HALVINGS: usize = 2;
 
 // So many offers are looked up before any of them is counted.
 const BATCH: usize = 64;
@@ -37,12 +38,6 @@ pub(crate) fn offers_in<A: Allocator>(answers: &[Answer<A>]) -> usize {
         offers = offers.saturating_add(answer.offers.pairs().len());
     }
     offers
-}
-
-// How often offers are halved: as often as there are processors for.
-fn halvings_of<R: Threads>(rt: &R) -> usize {
-    let parts = current_num_threads(rt).max(1);
-    (parts.ilog2() as usize).min(MOST_HALVINGS)
 }
 
 // Counts each link that the answers offer, for both of its components, by threads where there are many.
@@ -63,7 +58,7 @@ pub(crate) fn count_by_threads<R: Threads + Sync, A: Allocator + Copy + Send + S
         return;
     }
     picks.take_own(rt, cut, answers);
-    if are_counted_by_halves(rt, cut, labels, answers, picks, halvings_of(rt)) {
+    if are_counted_by_halves(rt, cut, labels, answers, picks, HALVINGS) {
         return;
     }
     picks.clear();
@@ -168,11 +163,13 @@ fn offers_are_counted_by_halves<R: Threads + Sync, A: Allocator + Copy + Send + 
     }
     let (earlier, later) = pairs.split_at(pairs.len() / 2);
     let front = move || -> bool
-        requires { IsSync R.row × IsSync A.row × (0 < halvings) × CanCountOffers links.now labels.now earlier.now × (length picks.now ≡ length labels.now) }
+        requires { IsSync R.row × IsSync A.row × (0 < halvings)
+            × CanCountOffers links.now labels.now earlier.now × (length picks.now ≡ length labels.now) }
         ensures { IsTrue result ↔ AreCountedIn labels.entry.now picks.entry.now (named_links links.entry.now earlier.entry.now) }
     { offers_are_counted_by_halves(rt, labels, links, earlier, picks, halvings - 1) };
     let back = move || -> bool
-        requires { IsSync R.row × IsSync A.row × (0 < halvings) × CanCountOffers links.now labels.now later.now × (length picks.now ≡ length labels.now) }
+        requires { IsSync R.row × IsSync A.row × (0 < halvings)
+            × CanCountOffers links.now labels.now later.now × (length picks.now ≡ length labels.now) }
         ensures { IsTrue result ↔ AreCountedIn labels.entry.now picks.entry.now (named_links links.entry.now later.entry.now) }
     { offers_are_counted_by_halves(rt, labels, links, later, picks, halvings - 1) };
     let (early, late) = join(rt, front, back);
