@@ -1,9 +1,9 @@
 /* Preloaded before a program: refuses chosen allocations of the C library's heap.
  *
  * REFUSE_FIRST is the number of the first allocation that is refused, from 1, and REFUSE_LAST that of the last (none:
- * all from the first on). With REFUSE_ABOVE each of more bytes than so many is refused too. For each that is refused a
- * byte goes to the descriptor REFUSED, so that whoever started the program sees whether one was. It takes no memory
- * itself. */
+ * all from the first on). With COUNT_FROM only those of so many bytes or more have a number. With REFUSE_ABOVE each of
+ * more bytes than so many is refused too. For each that is refused a byte goes to the descriptor REFUSED, so that
+ * whoever started the program sees whether one was. It takes no memory itself. */
 #include <errno.h>
 #include <stdatomic.h>
 #include <stdlib.h>
@@ -14,7 +14,7 @@ void *__libc_calloc(size_t count, size_t size);
 void *__libc_realloc(void *block, size_t size);
 void *__libc_memalign(size_t align, size_t size);
 
-static unsigned long first, last, above;
+static unsigned long first, last, above, counted;
 static atomic_ulong asked;
 static int told = -1;
 
@@ -27,17 +27,21 @@ __attribute__((constructor)) static void begin(void) {
     told = (int)number("REFUSED", (unsigned long)-1);
     last = number("REFUSE_LAST", (unsigned long)-1);
     above = number("REFUSE_ABOVE", (unsigned long)-1);
+    counted = number("COUNT_FROM", 0);
     first = number("REFUSE_FIRST", 0);
 }
 
-/* whether the next allocation is one of those numbers */
-static int is_next_chosen(void) {
+/* whether the next allocation, of so many bytes, is one of those numbers */
+static int is_next_chosen(size_t size) {
+    if (size < counted) {
+        return 0;
+    }
     unsigned long at = atomic_fetch_add(&asked, 1) + 1;
     return first && at >= first && at <= last;
 }
 
 static int refuses(size_t size) {
-    if (!is_next_chosen() && size <= above) {
+    if (!is_next_chosen(size) && size <= above) {
         return 0;
     }
     if (told >= 0 && write(told, "x", 1) < 0) {

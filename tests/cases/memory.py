@@ -2,12 +2,13 @@
 import resource
 
 from cases.running import NO_MEMORY, SMALL_FOREST, SMALL_NET, SMALL_REPORT, Program, Report, case, drawn_graph, expect, ran, told_by, written
-from cases.workers import over
+from cases.workers import healthy_report, over
 
 
-def refused(room, words, source, first, last):
-    """What the program did with the allocations from the first to the last refused, and how many were."""
-    environment = {"REFUSE_FIRST": str(first), **({"REFUSE_LAST": str(last)} if last else {})}
+def refused(room, words, source, first, last, size=0):
+    """What the program did with the allocations from the first to the last refused, and how many were. Those of fewer
+    bytes than the size aren't counted."""
+    environment = {"REFUSE_FIRST": str(first), "COUNT_FROM": str(size), **({"REFUSE_LAST": str(last)} if last else {})}
     found, told = told_by(room, [Program.path, *words], source, environment, library="refusing")
     return found, len(told)
 
@@ -30,19 +31,20 @@ def each_refused(room, words, source, output, errors, status=0):
             raise AssertionError(f"only {first - 1} allocations were refused: is the library preloaded?")
 
 
-def each_refused_over_workers(room, source, output, workers, shards):
-    """The same over workers: one that finds no memory is left out, or its line closed, and then the run goes on."""
+def each_refused_over_workers(room, source, output, workers, shards, size=0, fewest=50):
+    """The same over workers: one that finds no memory is left out, or its line closed, and then the run goes on. Of
+    allocations of the size or more there are at least the fewest."""
     words = [*over(workers, shards), "--report"]
     for is_alone in (False, True):
         first = 1
         while True:
-            found, count = refused(room, words, source, first, first if is_alone else None)
+            found, count = refused(room, words, source, first, first if is_alone else None, size)
             expect_right_or_no_memory(found, output, workers, shards)
             if not count:
-                expect(found[:2] + (b"",), 0, output, b"")
+                healthy_report(found, output, workers, shards)
                 break
             first += 1
-        if first < 50:
+        if first <= fewest:
             raise AssertionError(f"only {first - 1} allocations were refused: is the library preloaded?")
 
 
@@ -83,6 +85,14 @@ def each_allocation_of_a_run_over_workers_refused(room):
     each_refused_over_workers(room, SMALL_NET, SMALL_FOREST, 0, 2)
     # (with weights of 64 bits)
     each_refused_over_workers(room, *drawn_graph(9, 6, 9, 2**40), 2, 2)
+
+
+@case
+def each_large_allocation_of_a_run_by_threads_refused(room):
+    # (so many vertices that two threads begin, and so many links of the forest that threads pack their keys)
+    file, text = drawn_graph(11, 2**17 + 1, 90_000)
+    expect((text.count(b"\na ") > 2**16, b"", b""), True, b"", b"")
+    each_refused_over_workers(room, file, text, 2, 2, 2**19, 10)
 
 
 @case
