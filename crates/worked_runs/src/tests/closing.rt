@@ -289,12 +289,7 @@ fn picks_let_go(rt: &(impl Abort + Threads + Sync), alloc: Global) -> Result<Pic
 }
 
 // A book over picks of which there is none has the picks of its own answer alone, which offers one link.
-fn expect_least_over(
-    rt: &impl Abort,
-    alloc: Global,
-    picks: Picks,
-    n: u32,
-) -> Result<(), Fail> {
+fn expect_least_over(rt: &impl Abort, alloc: Global, picks: Picks, n: u32) -> Result<(), Fail> {
     assert!(rt; picks.is_empty() && n < 1 << 20);
     let links = paths(rt, alloc, n, 1)?;
     let cut = Cut::even(alloc, links.as_slice(), 1).expect(rt, "a cut");
