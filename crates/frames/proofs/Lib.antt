@@ -11,5 +11,6 @@ pub mod FrameStreams
 pub mod Refusing
 pub mod Pieces
 pub mod NextFrames
+pub mod CoarserLabels
 pub mod ShardPieces
 pub mod AnswerPieces

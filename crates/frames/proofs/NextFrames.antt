@@ -1,5 +1,5 @@
 -- A frame behind an ask, from its head and its body.
-use Rattle.std.proofs.Common.{◌≡◌, ℕ, ◌+◌, ◌*◌, ◌<◌, ◌≤◌, ◌^◌, List, ◌∷◌, ◌++◌, length, take, drop, get_or, All, Option, Vec, refl, sym, ap, subst, ◌∙◌, inl, inr, arith}
+use Rattle.std.proofs.Common.{◌≡◌, ℕ, ◌+◌, ◌*◌, ◌<◌, ◌≤◌, ◌^◌, List, ◌∷◌, ◌++◌, length, take, drop, get_or, All, refl, sym, ap, subst, ◌∙◌, inl, inr, arith}
 use Rattle.std.specs.Prelude.{Result, Ok, Err, OnOk, is_ok, if◌then◌else◌}
 use Rattle.std.specs.List.{flat_map}
 use Rattle.std.proofs.Math.Seq.{take-add}
@@ -15,7 +15,7 @@ use Rattle.frames.specs.FrameText.{u32_text, text_of}
 use Rattle.frames.specs.Lawful.{IsU32, IsLawful}
 use Rattle.frames.specs.Refusals.{IsPossible}
 use Rattle.frames.specs.ReadFault.{IsReadRefused, IsCutShort}
-use Rattle.frames.specs.NextFrame.{next_value, numbers_of_ask, BodyCame, IsBodyRefused, IsStopped}
+use Rattle.frames.specs.NextFrame.{next_value, IsAskUnder, BodyCame, IsBodyRefused, IsStopped}
 use Rattle.frames.specs.declared.next_frame.NextFrame.{NextFrame}
 use Rattle.frames.specs.declared.fault.FrameFault.{FrameFault}
 use Rattle.frames.specs.declared.fault.FrameFault.TheVariants.{BadField, Memory}
@@ -40,11 +40,13 @@ refused_behind fault kind len s t u wide possible first (inr whole) =
 -- ---- the numbers of an ask, a piece at a time
 
 -- numbers and the next ones, the same that stand there
-pub same_more : (last piece : List ℕ) (came k n : ℕ) → n ≡ k → flat_map u32_text (take n (drop came last)) ≡ piece
-    → flat_map u32_text (take (came + k) last) ≡ flat_map u32_text (take came last) ++ piece
-same_more last piece came k n is same =
-    ap (flat_map u32_text) (take-add came k last) ∙ flat_map-append u32_text (take came last) (take k (drop came last))
-    ∙ ap (λ (t : List ℕ). flat_map u32_text (take came last) ++ t) (ap (λ (m : ℕ). flat_map u32_text (take m (drop came last))) (sym is) ∙ same)
+pub same_more : (last : List ℕ) (came k : ℕ) → take (came + k) last ≡ take came last ++ take k (drop came last)
+same_more last came k = take-add came k last
+
+-- the text of numbers and more of them
+pub more_text : (before more after piece : List ℕ) → after ≡ before ++ more → flat_map u32_text more ≡ piece → flat_map u32_text after ≡ flat_map u32_text before ++ piece
+more_text before more after piece is spelled =
+    ap (flat_map u32_text) is ∙ flat_map-append u32_text before more ∙ ap (λ (t : List ℕ). flat_map u32_text before ++ t) spelled
 
 -- numbers of four bytes
 pub all_fit : (numbers : List ℕ) → ((i : ℕ) → get_or numbers i 0 < 2 ^ 32) → All IsU32 numbers
@@ -133,13 +135,9 @@ module _ (fields rest rest' none : List ℕ) (r s c n : ℕ) (twelve : length fi
         (list_refused 3 (12 + 4 * n) (4 * n) fields long x y z came BadField text (omega (arith, bytes_of ls, count)) behind
         (ask_unlabelled r s c (fields ++ text) (u32_text s ++ (u32_text c ++ text)) (u32_text c ++ text) text ls wide_r wide_s wide_c (ask_body text) refl refl refl fit never))
 
-    module _ {A : Type 0} (last : List ℕ) (are : AreLabels last) (numbers : Option (Vec ℕ A)) (x y z : SourceState) (count : length (numbers_of_ask last numbers) ≡ n) (came : Gave 0 0 fields x y)
-        (behind : Gave 0 0 (flat_map u32_text (numbers_of_ask last numbers)) y z) where
-      pub ask_read : (next : NextFrame A)
-          → ((before : List ℕ) → AreLabels before → (next_value before next ≡ AskFrame r s (numbers_of_ask before numbers)) × AreLabels (numbers_of_ask before numbers))
-          → BodyCame (next_value last next) 3 (12 + 4 * n) x z
-      ask_read next is = let (same, labels) = is last are in ask_came (next_value last next) (numbers_of_ask last numbers) x y z same labels count came behind
+    module _ (ls : List ℕ) (x y z : SourceState) (count : length ls ≡ n) (came : Gave 0 0 fields x y) (behind : Gave 0 0 (flat_map u32_text ls) y z) where
+      pub ask_read : {A : Type 0} (last : List ℕ) (next : NextFrame A) → IsAskUnder last r s ls next → BodyCame (next_value last next) 3 (12 + 4 * n) x z
+      ask_read last next is = ask_came (next_value last next) ls x y z is.value is.labels count came behind
 
-      pub no_ask_read : (fault : FrameFault) → All IsU32 (numbers_of_ask last numbers) → (fault ≡ BadField) × ((before : List ℕ) → ¬ AreLabels (numbers_of_ask before numbers))
-          → IsBodyRefused fault 3 (12 + 4 * n) x z
-      no_ask_read fault fit (is, never) = no_ask_came fault (numbers_of_ask last numbers) x y z is fit (never last) count came behind
+      pub no_ask_read : (fault : FrameFault) → All IsU32 ls → (fault ≡ BadField) × ¬ AreLabels ls → IsBodyRefused fault 3 (12 + 4 * n) x z
+      no_ask_read fault fit (is, never) = no_ask_came fault ls x y z is fit never count came behind

@@ -2,7 +2,7 @@
 use Rattle.std.specs.Prelude.{◌≡◌, ℕ, ◌+◌, ◌/◌, ◌<◌, ◌≤◌, ◌⊎◌, List, ◌++◌, length, take, All, Option, Some, None, Vec}
 use Rattle.std.specs.List.{flat_map}
 use Rattle.byte_streams.specs.Streams.{SourceState, Gave}
-use Rattle.link_key.specs.Labels.{AreLabels}
+use Rattle.link_key.specs.Labels.{label_of, IsLabelled, AreLabels, Coarsens}
 use Rattle.frames.specs.FrameValue.{FrameValue, AskFrame, value_of}
 use Rattle.frames.specs.FrameText.{u32_text}
 use Rattle.frames.specs.Lawful.{IsU32}
@@ -11,29 +11,41 @@ use Rattle.frames.specs.ReadFault.{failures_of, ends_of, CutsShort, IsCutShort}
 use Rattle.frames.specs.declared.fault.FrameFault.{FrameFault}
 use Rattle.frames.specs.declared.fault.FrameFault.TheVariants.{Memory}
 use Rattle.frames.specs.declared.next_frame.NextFrame.{NextFrame}
-use Rattle.frames.specs.declared.next_frame.NextFrame.TheVariants.{AskAgain, Other}
+use Rattle.frames.specs.declared.next_frame.NextFrame.TheVariants.{AskAgain, AskCoarser, Other}
 
 -- what the next frame says, behind an ask under these labels
 abbrev pub next_value : {A : Type 0} → List ℕ → NextFrame A → FrameValue
 next_value last (AskAgain round shard) = AskFrame round shard last
+next_value last (AskCoarser round shard labels) = AskFrame round shard labels
 next_value last (Other frame) = value_of frame
+
+-- an ask is said to have labels that coarsen those of the last one just where it has, and not the same
+abbrev pub SaysCoarser : {A : Type 0} → List ℕ → NextFrame A → Type 0
+SaysCoarser last (AskAgain round shard) = Unit {0}
+SaysCoarser last (AskCoarser round shard labels) = Coarsens labels last
+SaysCoarser last (Other frame) = (r s : ℕ) (labels : List ℕ) → value_of frame ≡ AskFrame r s labels → ¬ Coarsens labels last
+
+-- the first so many numbers are labels of their vertices, and coarsen those that these had in the last ask
+pub record AreCoarserUpTo (last numbers : List ℕ) (to : ℕ) : Type 0 where
+  pub labelled : (v : ℕ) → 1 ≤ v → v ≤ to → IsLabelled numbers v
+  pub coarser : (v : ℕ) → 1 ≤ v → v ≤ to → label_of numbers v ≡ label_of numbers (label_of last v)
 
 -- the numbers of an ask: the same as these, or others that came
 abbrev pub numbers_of_ask : {A : Type 0} → List ℕ → Option (Vec ℕ A) → List ℕ
 numbers_of_ask same None = same
 numbers_of_ask same (Some numbers) = numbers.items
 
--- behind the labels of the last ask, the next frame asks for the shard under these numbers, and they are labels
-abbrev pub IsAskUnder : {A : Type 0} → ℕ → ℕ → Option (Vec ℕ A) → NextFrame A → Type 0
-IsAskUnder round shard numbers next =
-    (last : List ℕ) → AreLabels last
-    → (next_value last next ≡ AskFrame round shard (numbers_of_ask last numbers)) × AreLabels (numbers_of_ask last numbers)
+-- the next frame asks for the shard under these numbers, behind the labels of the last ask, and they are labels
+pub record IsAskUnder {A : Type 0} (last : List ℕ) (round shard : ℕ) (numbers : List ℕ) (next : NextFrame A) : Type 0 where
+  pub value : next_value last next ≡ AskFrame round shard numbers
+  pub labels : AreLabels numbers
+  pub coarser : SaysCoarser last next
 
 -- behind the numbers that came so far, those of these bytes were heard
-abbrev pub HearsMore : {A : Type 0} → List ℕ → ℕ → List ℕ → Option (Vec ℕ A) → Option (Vec ℕ A) → Type 0
-HearsMore last came piece before after =
-    flat_map u32_text (numbers_of_ask (take (came + length piece / 4) last) after)
-    ≡ flat_map u32_text (numbers_of_ask (take came last) before) ++ piece
+pub record HearsMore {A : Type 0} (last : List ℕ) (came : ℕ) (piece : List ℕ) (before after : Option (Vec ℕ A)) : Type 0 where
+  pub more : List ℕ
+  pub is : numbers_of_ask (take (came + length piece / 4) last) after ≡ numbers_of_ask (take came last) before ++ more
+  pub spelled : flat_map u32_text more ≡ piece
 
 -- where the numbers that came so far have 32 bits, they have so behind so many more
 abbrev pub StayU32 : {A : Type 0} → List ℕ → ℕ → ℕ → Option (Vec ℕ A) → Option (Vec ℕ A) → Type 0

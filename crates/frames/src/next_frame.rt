@@ -2,17 +2,18 @@
 //!
 //! A run asks for each of its shards under the same labels. So the bytes of an ask of as many labels are compared with
 //! those of the last ones as they come, a piece at a time in one buffer: while they are the same, nothing is stored, and
-//! whether they are labels isn't judged again.
-ghost use Rattle.std.specs.Prelude.{◌≡◌, ℕ, ◌+◌, ◌*◌, ◌/◌, ◌%◌, ◌^◌, ◌<◌, ◌≤◌, List, ◌++◌, length, map, All, IfOk, IfErr, OnOk};
+//! whether they are labels isn't judged again. In the next round they coarsen the last ones. So others are stored and seen to
+//! be such labels in one pass too: a look-up for each while it is in the processor's cache, and the rest is on its way.
+ghost use Rattle.std.specs.Prelude.{◌≡◌, ℕ, ◌+◌, ◌*◌, ◌/◌, ◌%◌, ◌<◌, ◌≤◌, ◌↔◌, List, ◌++◌, length, map, All, IfOk, IfErr, OnOk, IfSome, IfNone, IsTrue};
 ghost use Rattle.std.specs.Int.{w32, from_be_bytes};
 ghost use Rattle.std.specs.List.{flat_map};
 ghost use Rattle.byte_streams.specs.Streams.{Gave};
-ghost use Rattle.link_key.specs.Labels.{AreLabels};
+ghost use Rattle.link_key.specs.Labels.{label_of, IsLabelled, AreLabels};
 ghost use Rattle.frames.specs.FrameText.{u32_text, text_of};
 ghost use Rattle.frames.specs.Lawful.{IsU32, IsLawful};
 ghost use Rattle.frames.specs.Refusals.{IsPossible};
 ghost use Rattle.frames.specs.ReadFault.{IsReadRefused};
-ghost use Rattle.frames.specs.NextFrame.{next_value, numbers_of_ask, IsAskUnder, HearsMore, StayU32, BodyCame, IsBodyRefused, IsStopped};
+ghost use Rattle.frames.specs.NextFrame.{next_value, SaysCoarser, AreCoarserUpTo, numbers_of_ask, IsAskUnder, HearsMore, StayU32, BodyCame, IsBodyRefused, IsStopped};
 ghost use Rattle.frames.specs.declared.fault.FrameFault.TheVariants.{BadField};
 
 use crate::bodies::{read_body, read_bytes};
@@ -30,11 +31,21 @@ use std::alloc::{AllocError, Allocator, Global};
 // How many labels are compared at a time, on the stack: with fewer a worker is woken more often while they come.
 const PIECE: usize = 16_384;
 
-/// What comes behind an ask: another one under its labels, or any frame as a whole.
+/// What comes behind an ask: another one under its labels, one under labels that coarsen them, or any frame as a whole.
 #[derive(Drop)]
 pub enum NextFrame<A: Allocator = Global> {
     /// An ask under the labels of the one before.
-    AskAgain { round: u32, shard: u32 },
+    AskAgain {
+        round: u32,
+        shard: u32,
+    },
+
+    /// An ask under other labels, which coarsen those of the one before.
+    AskCoarser {
+        round: u32,
+        shard: u32,
+        labels: Labels<A>,
+    },
 
     /// Any frame, with all that it says.
     Other(Frame<A>),
@@ -43,8 +54,9 @@ pub enum NextFrame<A: Allocator = Global> {
 /// The next frame of a stream, as [`read_frame`](crate::read_frame) has it, behind an ask under these labels.
 ///
 /// Another ask under them takes no memory, and one look at its bytes. Where its labels are as many and others, they are
-/// given room for all of them at the first piece of 16,384 that differs; `Memory` where that was refused. Every other
-/// frame is read as `read_frame` reads it, with its room.
+/// given room for all of them at the first piece of 16,384 that differs; `Memory` where that was refused. Each piece is judged
+/// as it comes, by one look-up a label while they coarsen the last ones; where they don't, all are judged once more. Every
+/// other frame is read as `read_frame` reads it, with its room.
 pub fn read_next<A: Allocator + Copy, S: Source>(
     alloc: A,
     source: &mut S,
@@ -57,6 +69,7 @@ pub fn read_next<A: Allocator + Copy, S: Source>(
     ensures lawful { IfOk result (λ next. IsLawful (next_value last.now next)) }
     ensures text { IfOk result
         (λ next. Gave 0 0 (text_of (next_value last.now next)) (S.state source.old) (S.state source.new)) }
+    ensures coarser { IfOk result (SaysCoarser last.now) }
 
     // What came was refused; a failure and an end are told apart, and each is counted once.
     ensures refused { IfErr result
@@ -80,6 +93,7 @@ fn read_behind<A: Allocator + Copy, S: Source>(
     requires can { S.can_read source.old }
     requires possible { IsPossible head.kind head.length }
     ensures came { IfOk result (λ next. BodyCame (next_value last.now next) head.kind head.length (S.state source.old) (S.state source.new)) }
+    ensures coarser { IfOk result (SaysCoarser last.now) }
     ensures refused { IfErr result (λ fault. IsBodyRefused fault head.kind head.length (S.state source.old) (S.state source.new)) }
     ensures lasts { (fact : S.Fact) → S.lasts source.old fact → S.lasts source.new fact }
     ensures again { OnOk result (S.can_read source.new) }
@@ -101,6 +115,7 @@ fn read_ask<A: Allocator + Copy, S: Source>(
     requires labels { AreLabels last.now }
     requires can { S.can_read source.old }
     ensures came { IfOk result (λ next. BodyCame (next_value last.now next) 3 (12 + 4 * length last.now) (S.state source.old) (S.state source.new)) }
+    ensures coarser { IfOk result (SaysCoarser last.now) }
     ensures refused { IfErr result (λ fault. IsBodyRefused fault 3 (12 + 4 * length last.now) (S.state source.old) (S.state source.new)) }
     ensures lasts { (fact : S.Fact) → S.lasts source.old fact → S.lasts source.new fact }
     ensures again { OnOk result (S.can_read source.new) }
@@ -114,22 +129,44 @@ fn read_ask<A: Allocator + Copy, S: Source>(
         read_body(alloc, source, 4 * last.len() as u32)?;
         return Err(FrameFault::BadField);
     }
-    let numbers = read_numbers(alloc, source, last)?;
-    ask_of(round, shard, numbers)
+    let heard = read_numbers(alloc, source, last)?;
+    ask_of(round, shard, last, heard)
 }
 
-// The ask for these numbers, or for those of the one before; `BadField` where they are no labels.
+// What came of the numbers of an ask: none where they are the labels of the last one; and whether they coarsen these.
+#[derive(Drop)]
+struct Heard<A: Allocator> {
+    numbers: Option<Vec<u32, A>>,
+    are_coarser: bool,
+}
+
+// The ask for the numbers that came behind these labels; `BadField` where they are no labels.
 fn ask_of<A: Allocator>(
     round: u32,
     shard: u32,
-    numbers: Option<Vec<u32, A>>,
+    last: &[u32],
+    heard: Heard<A>,
 ) -> Result<NextFrame<A>, FrameFault>
-    ensures ask { IfOk result (IsAskUnder round shard numbers) }
-    ensures refused { IfErr result (λ fault. (fault ≡ BadField) × ((last : List ℕ) → ¬ AreLabels (numbers_of_ask last numbers))) }
+    requires last { AreLabels last.now }
+    requires counted { length (numbers_of_ask last.now heard.numbers) ≡ length last.now }
+    requires coarser { IsTrue heard.are_coarser ↔ AreCoarserUpTo last.now (numbers_of_ask last.now heard.numbers) (length last.now) }
+    ensures ask { IfOk result (IsAskUnder last.now round shard (numbers_of_ask last.now heard.numbers)) }
+    ensures refused { IfErr result (λ fault. (fault ≡ BadField) × ¬ AreLabels (numbers_of_ask last.now heard.numbers)) }
 {
+    let Heard {
+        numbers,
+        are_coarser,
+    } = heard;
     let Some(numbers) = numbers else {
         return Ok(NextFrame::AskAgain { round, shard });
     };
+    if are_coarser {
+        return Ok(NextFrame::AskCoarser {
+            round,
+            shard,
+            labels: Labels::of_known(numbers),
+        });
+    }
     match Labels::of_list(numbers) {
         Some(labels) => Ok(NextFrame::Other(Frame::Ask {
             round,
@@ -145,13 +182,15 @@ fn read_numbers<A: Allocator + Copy, S: Source>(
     alloc: A,
     source: &mut S,
     last: &[u32],
-) -> Result<Option<Vec<u32, A>>, FrameFault>
-    requires few { length last.now < 2 ^ 30 }
+) -> Result<Heard<A>, FrameFault>
+    requires labels { AreLabels last.now }
     requires can { S.can_read source.old }
-    ensures counted { IfOk result (λ numbers. length (numbers_of_ask last.now numbers) ≡ length last.now) }
+    ensures counted { IfOk result (λ heard. length (numbers_of_ask last.now heard.numbers) ≡ length last.now) }
+    ensures coarser { IfOk result
+        (λ heard. IsTrue heard.are_coarser ↔ AreCoarserUpTo last.now (numbers_of_ask last.now heard.numbers) (length last.now)) }
     ensures came { IfOk result
-        (λ numbers. Gave 0 0 (flat_map u32_text (numbers_of_ask last.now numbers)) (S.state source.old) (S.state source.new)) }
-    ensures fit { IfOk result (λ numbers. All IsU32 last.now → All IsU32 (numbers_of_ask last.now numbers)) }
+        (λ heard. Gave 0 0 (flat_map u32_text (numbers_of_ask last.now heard.numbers)) (S.state source.old) (S.state source.new)) }
+    ensures fit { IfOk result (λ heard. All IsU32 last.now → All IsU32 (numbers_of_ask last.now heard.numbers)) }
     ensures stopped { IfErr result
         (λ fault. IsStopped fault (4 * length last.now) (S.state source.old) (S.state source.new)) }
     ensures lasts { (fact : S.Fact) → S.lasts source.old fact → S.lasts source.new fact }
@@ -159,15 +198,72 @@ fn read_numbers<A: Allocator + Copy, S: Source>(
 {
     let mut buffer = [0; 4 * PIECE];
     let mut numbers = None;
+    let mut are_coarser = true;
     let mut came = 0;
     while came < last.len() {
         let count = (last.len() - came).min(PIECE);
         let piece = &mut buffer[..4 * count];
         read_bytes(source, piece)?;
         hear_piece(alloc, &mut numbers, last, came, piece)?;
+        are_coarser = are_coarser && stay_coarser(&numbers, last, came);
         came += count;
     }
-    Ok(numbers)
+    Ok(Heard {
+        numbers,
+        are_coarser,
+    })
+}
+
+// Whether the numbers behind the first so many, which are labels that coarsen the last ones, are so too. It looks while they
+// are in the processor's cache; those that are the same are so.
+fn stay_coarser<A: Allocator>(numbers: &Option<Vec<u32, A>>, last: &[u32], from: usize) -> bool
+    requires last { AreLabels last.now }
+    requires within { IfSome numbers.now (λ list. (from ≤ length list.items) × (length list.items ≤ length last.now)) }
+    requires so_far { IfSome numbers.now (λ list. AreCoarserUpTo last.now list.items from) }
+    ensures others { IfSome numbers.now (λ list. IsTrue result ↔ AreCoarserUpTo last.now list.items (length list.items)) }
+    ensures same { IfNone numbers.now (IsTrue result) }
+{
+    match numbers {
+        Some(list) => are_coarser_behind(list.as_slice(), last, from),
+        None => true,
+    }
+}
+
+// The same of numbers that aren't the same.
+fn are_coarser_behind(numbers: &[u32], last: &[u32], from: usize) -> bool
+    requires last { AreLabels last.now }
+    requires front { from ≤ length numbers.now }
+    requires within { length numbers.now ≤ length last.now }
+    requires so_far { AreCoarserUpTo last.now numbers.now from }
+    ensures { IsTrue result ↔ AreCoarserUpTo last.now numbers.now (length numbers.now) }
+{
+    for v in from + 1..numbers.len() + 1 {
+        if !is_coarser(numbers, last, v) {
+            return false;
+        }
+    }
+    true
+}
+
+// Whether vertex v is labelled, by the label of the vertex that labelled it before, where those below it are. Its own new label
+// is looked at only where it labelled itself: else the vertex that it goes by is below it, and so is that one's.
+#[inline]
+fn is_coarser(numbers: &[u32], last: &[u32], v: usize) -> bool
+    requires last { AreLabels last.now }
+    requires within { length numbers.now ≤ length last.now }
+    requires from_one { 1 ≤ v }
+    requires to_n { v ≤ length numbers.now }
+    requires below { (u : ℕ) → 1 ≤ u → u < v → IsLabelled numbers.now u }
+    ensures { IsTrue result ↔ (IsLabelled numbers.now v × (label_of numbers.now v ≡ label_of numbers.now (label_of last.now v))) }
+{
+    let label = numbers[v - 1];
+    let finer = last[v - 1] as usize;
+    let place = if finer == v {
+        label.wrapping_sub(1) as usize
+    } else {
+        finer - 1
+    };
+    place < v && numbers[place] == label
 }
 
 // Hears the bytes of the next numbers, behind those that came before. At the first that differ from the ones that stand

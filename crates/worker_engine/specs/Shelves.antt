@@ -1,11 +1,10 @@
 -- What a worker keeps, and which of its links are live.
-use Rattle.std.specs.Prelude.{◌≡◌, ℕ, ◌<◌, ◌≤◌, List, length, map, Option, Some, IfSome}
+use Rattle.std.specs.Prelude.{◌≡◌, ℕ, ◌≤◌, List, length, map, Option, Some, IfSome}
 use Rattle.std.specs.Ordering.{nat_cmp}
 use Rattle.std.specs.BTreeMap.{is_at}
 use Rattle.std.specs.Map.{lookup}
 use Rattle.limits.specs.declared.TheConstants.{MAX_SHARD_LINKS}
 use Rattle.link_key.specs.declared.links.Link.{Link}
-use Rattle.link_key.specs.Labels.{label_of}
 use Rattle.link_key.specs.Offers.{Offer}
 use Rattle.frames.specs.FrameValue.{FrameValue}
 use Rattle.frames.specs.Lawful.{IsLawful, IsAsk}
@@ -28,7 +27,3 @@ AreAllLive shards = (s : ℕ) → IfSome (lookup (is_at (nat_cmp s)) shards) IsA
 abbrev pub IsReplyWith : ℕ → ℕ → Option (List Offer) → FrameValue → Type 0
 IsReplyWith round shard offers v = (links : List Link) (labels : List ℕ) → length links ≤ MAX_SHARD_LINKS → IsAsk round shard labels
     → AreOffersOf links labels offers → IsReply (Some links) round shard labels v × IsLawful v
-
--- each vertex behind the first `from`, up to `to`, has the label of the vertex that labels it in the finer labels
-abbrev pub AreCoarserIn : List ℕ → List ℕ → ℕ → ℕ → Type 0
-AreCoarserIn labels finer from to = (v : ℕ) → from < v → v ≤ to → label_of labels v ≡ label_of labels (label_of finer v)

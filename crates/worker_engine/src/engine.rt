@@ -8,7 +8,6 @@ ghost use Rattle.link_key.specs.Labels.{Coarsens};
 ghost use Rattle.shard_scans.specs.Live.{IsAllLive};
 ghost use Rattle.worker_engine.specs.Shelves.{shelf_list, IsReplyWith, AreAllLive, AreAllUnder};
 
-mod coarser;
 mod hearing;
 mod threads;
 

@@ -14,7 +14,8 @@ use std::thread::Threads;
 
 impl<A: Allocator + Copy + Send + Sync> Engine<A> {
     // Hears the next frame of a stream as `hear_or_fault_par` hears it. An ask under the labels of the last one is replied
-    // to by those that are kept, without a copy or a look at them.
+    // to by those that are kept, without a copy or a look at them, and one under labels that coarsen them, as they were seen to
+    // while they came, leaves the lists of live links as they are.
     pub(crate) fn hear_next<R: Threads + Sync, S: Source>(
         &mut self,
         rt: &R,
@@ -31,6 +32,24 @@ impl<A: Allocator + Copy + Send + Sync> Engine<A> {
         match read_next(alloc, source, self.labels.as_slice()) {
             Ok(NextFrame::AskAgain { round, shard }) => {
                 let ask = Ask { round, shard };
+                let reply = reply_under_par(
+                    rt,
+                    &mut self.shards,
+                    &mut self.scanner,
+                    &self.labels,
+                    ask,
+                );
+                Ok(Some(ask.reply_or_fault(reply)))
+            }
+            Ok(
+                NextFrame::AskCoarser {
+                    round,
+                    shard,
+                    labels,
+                },
+            ) => {
+                let ask = Ask { round, shard };
+                self.labels = labels;
                 let reply = reply_under_par(
                     rt,
                     &mut self.shards,

@@ -3,12 +3,10 @@ ghost use Rattle.std.specs.Prelude.{◌≡◌, IsSome, IfOk, OnOk, OnErr};
 ghost use Rattle.frames.specs.FrameValue.{value_of};
 ghost use Rattle.frames.specs.Lawful.{IsLawful, IsAsk};
 ghost use Rattle.frames.specs.FrameStream.{AreLawful};
-ghost use Rattle.link_key.specs.Labels.{Coarsens};
 ghost use Rattle.worker_engine.specs.Serving.{shelf_of, shelf_with, IsReply, MayWantMemory, AreReplyTo, MayFollow, IsShardFrame, replies_in};
 ghost use Rattle.worker_engine.specs.Shelves.{shelf_list, AreAllUnder};
 
-use super::coarser::coarsens_par;
-use super::{Ask, Engine, NOT_KEPT, make_all_live};
+use super::{Ask, Engine, NOT_KEPT, make_live};
 use frames::Frame;
 use link_key::Labels;
 use shard_scans::{KeptShard, Scanner};
@@ -86,26 +84,9 @@ impl<A: Allocator + Copy + Send + Sync> Engine<A> {
         ensures unchanged { self.new ≡ self.old }
         ensures is_kept { OnErr result (IsSome (shelf_of self.old ask.shard)) }
     {
-        make_live_par(rt, &mut self.shards, &labels, &self.labels);
+        make_live(&mut self.shards, &labels, &self.labels);
         self.labels = labels;
         reply_under_par(rt, &mut self.shards, &mut self.scanner, &self.labels, ask)
-    }
-}
-
-// Makes all links of all shards live, as `make_live` does, but that threads look at many labels.
-fn make_live_par<R: Threads + Sync, A: Allocator>(
-    rt: &R,
-    shards: &mut BTreeMap<u32, KeptShard<A>, A>,
-    labels: &Labels<A>,
-    last: &Labels<A>,
-)
-    requires { AreAllUnder last.now shards.old.entries }
-    ensures shelf { shelf_list shards.new.entries ≡ shelf_list shards.old.entries }
-    ensures live { AreAllUnder labels.now shards.new.entries }
-    ensures stays { Coarsens labels.now last.now → shards.new ≡ shards.old }
-{
-    if !coarsens_par(rt, labels, last) {
-        make_all_live(shards);
     }
 }
 

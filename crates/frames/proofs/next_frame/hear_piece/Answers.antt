@@ -1,4 +1,6 @@
-use Rattle.std.proofs.Common.{◌≡◌, ◌+◌, ◌-◌, ◌/◌, length, take, sym, subst, All, arith, rules}
+use Rattle.std.proofs.Common.{◌≡◌, ℕ, ◌+◌, ◌-◌, ◌/◌, length, take, drop, sym, subst, All, arith, rules}
+use Rattle.std.specs.List.{flat_map}
+use Rattle.frames.specs.FrameText.{u32_text}
 use Rattle.frames.specs.Lawful.{IsU32}
 use Rattle.frames.proofs.NextFrames.{same_more, first_fit, other_fit, pushed_fit}
 use Rattle.frames.proofs.next_frame.hear_piece.Goals as goal
@@ -6,7 +8,12 @@ use Rattle.frames.proofs.next_frame.hear_piece.Goals as goal
 pub returns-then-spells-clause-heard : goal.returns-then-spells-clause-heard
 returns-then-spells-clause-heard g c =
     let k = length c.args.piece.now / 4 in
-    rw c.in-None.is (same_more c.args.last.now c.args.piece.now c.args.came k (c.args.came + k - c.args.came) (omega arith) (c.spells.ensures c.if-spells.true))
+    let slice : c.args.came + k - c.args.came ≡ k = omega arith in
+    rw c.in-None.is (record {
+      more = take k (drop c.args.came c.args.last.now);
+      is = same_more c.args.last.now c.args.came k;
+      spelled = subst (λ (n : ℕ). flat_map u32_text (take n (drop c.args.came c.args.last.now)) ≡ c.args.piece.now) slice (c.spells.ensures c.if-spells.true);
+    })
 
 pub returns-then-spells-clause-fit : goal.returns-then-spells-clause-fit
 returns-then-spells-clause-fit g c =

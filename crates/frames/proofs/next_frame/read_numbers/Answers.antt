@@ -1,4 +1,4 @@
-use Rattle.std.proofs.Common.{◌≡◌, ◌≤◌, ◌+◌, ◌*◌, ◌/◌, ◌++◌, List, ℕ, length, take, drop, sym, ap, subst, All, arith, rules}
+use Rattle.std.proofs.Common.{◌≡◌, ◌∙◌, false, ◌≤◌, ◌+◌, ◌*◌, ◌/◌, ◌++◌, List, ℕ, length, take, drop, sym, ap, subst, All, arith, rules}
 use Rattle.std.specs.List.{flat_map}
 use Rattle.std.proofs.lemmas.List.{length-append, length-drop}
 use Rattle.std.proofs.lemmas.Result.{err_from_is_err_and}
@@ -6,8 +6,11 @@ use Rattle.byte_streams.specs.Streams.{Gave}
 use Rattle.byte_streams.proofs.Streaming.{gave_more}
 use Rattle.frames.specs.FrameText.{u32_text}
 use Rattle.frames.specs.Lawful.{IsU32}
-use Rattle.frames.specs.NextFrame.{numbers_of_ask}
-use Rattle.frames.proofs.NextFrames.{bytes_of, stopped_in, stopped_at}
+use Rattle.std.specs.Prelude.{◌↔◌, IsTrue}
+use Rattle.frames.specs.NextFrame.{AreCoarserUpTo, numbers_of_ask}
+use Rattle.frames.proofs.CoarserLabels.{others_within, others_so_far, stayed, not_again, all_of_ask}
+use Rattle.frames.proofs.NextFrames.{bytes_of, more_text, stopped_in, stopped_at}
+use Rattle.frames.proofs.next_frame.read_numbers.Goals.{then-are_coarser, else-are_coarser}
 use Rattle.frames.proofs.next_frame.read_numbers.Goals as goal
 
 pub returns-in_err-read_bytes-clause-stopped : goal.returns-in_err-read_bytes-clause-stopped
@@ -37,14 +40,62 @@ loop-came-preserved g c =
     let within : to ≤ length c.args.last.now = search rules in
     let most : c.min-count.result ≤ 16384 = search rules in
     let items : length c.read_bytes.new.bytes / 4 ≡ c.min-count.result = omega (arith, count) in
-    let heard : flat_map u32_text after ≡ flat_map u32_text before ++ c.read_bytes.new.bytes =
-    subst (λ (k : ℕ). flat_map u32_text (numbers_of_ask (take (c.loop-came.came + k) c.args.last.now) c.hear_piece.new.numbers) ≡ flat_map u32_text before ++ c.read_bytes.new.bytes) items c.in_ok-hear_piece.ensures.heard in
+    let more = c.in_ok-hear_piece.ensures.heard in
+    let is : after ≡ before ++ more.more = subst (λ (k : ℕ). numbers_of_ask (take (c.loop-came.came + k) c.args.last.now) c.hear_piece.new.numbers ≡ before ++ more.more) items more.is in
+    let long : length after ≡ to = omega (arith, ap length is, length-append before more.more, ap length more.spelled, bytes_of more.more, count, c.loop-came.invariant.counted) in
+    let heard : flat_map u32_text after ≡ flat_map u32_text before ++ c.read_bytes.new.bytes = more_text before more.more after c.read_bytes.new.bytes is more.spelled in
     record {
       within = within;
       room = omega (arith, length-append c.read_bytes.new.bytes (drop (4 * c.min-count.result) c.loop-came.buffer), length-drop (4 * c.min-count.result) c.loop-came.buffer, count, most, c.loop-came.invariant.room);
       counted = omega (arith, ap length heard, length-append (flat_map u32_text before) c.read_bytes.new.bytes, bytes_of before, bytes_of after, count, c.loop-came.invariant.counted);
+      coarser = elim c.if-are_coarser.branch [
+        | then-are_coarser w ↦
+            rw w.are_coarser-is
+            (stayed c.args.last.now c.requires.labels c.loop-came.numbers c.hear_piece.new.numbers c.loop-came.came c.min-count.result more.more within c.loop-came.invariant.counted long is
+            w.stay_coarser-are_coarser.result w.stay_coarser-are_coarser.ensures.others w.stay_coarser-are_coarser.ensures.same)
+        | else-are_coarser w ↦
+            let off : c.if-are_coarser.are_coarser ≡ false = w.are_coarser-is ∙ w.if-are_coarser.false in
+            let never : AreCoarserUpTo c.args.last.now before c.loop-came.came → ⊥ = λ all. (let t : IsTrue c.loop-came.are_coarser = c.loop-came.invariant.coarser.1 all in cc) in (
+              λ t. absurd (let f : IsTrue c.if-are_coarser.are_coarser = t in cc),
+              λ all. absurd (not_again c.args.last.now c.requires.labels c.loop-came.numbers c.hear_piece.new.numbers c.loop-came.came c.min-count.result more.more within c.loop-came.invariant.counted long is never all),
+            )
+      ];
       gave = subst (λ (t : List ℕ). Gave 0 0 t (g.S.Source.state c.args.source.now) (g.S.Source.state c.read_bytes.new.source)) (sym heard) (gave_more 0 0 (flat_map u32_text before) c.read_bytes.new.bytes _ _ _ c.loop-came.invariant.gave c.in_ok-read_bytes.ensures.came);
       fit = λ all. subst (λ (k : ℕ). All IsU32 (numbers_of_ask (take (c.loop-came.came + k) c.args.last.now) c.hear_piece.new.numbers)) items (c.in_ok-hear_piece.ensures.fit (c.loop-came.invariant.fit all));
       lasts = λ fact held. c.in_ok-read_bytes.ensures.lasts fact (c.loop-came.invariant.lasts fact held);
       can = c.in_ok-read_bytes.ensures.again;
     }
+
+pub stay_coarser-are_coarser-requires-clause-within : goal.stay_coarser-are_coarser-requires-clause-within
+stay_coarser-are_coarser-requires-clause-within g c =
+    let before = numbers_of_ask (take c.loop-came.came c.args.last.now) c.loop-came.numbers in
+    let to = c.loop-came.came + c.min-count.result in
+    let after = numbers_of_ask (take to c.args.last.now) c.hear_piece.new.numbers in
+    let count : length c.read_bytes.new.bytes ≡ 4 * c.min-count.result = search rules in
+    let within : to ≤ length c.args.last.now = search rules in
+    let items : length c.read_bytes.new.bytes / 4 ≡ c.min-count.result = omega (arith, count) in
+    let more = c.in_ok-hear_piece.ensures.heard in
+    let is : after ≡ before ++ more.more = subst (λ (k : ℕ). numbers_of_ask (take (c.loop-came.came + k) c.args.last.now) c.hear_piece.new.numbers ≡ before ++ more.more) items more.is in
+    let long : length after ≡ to = omega (arith, ap length is, length-append before more.more, ap length more.spelled, bytes_of more.more, count, c.loop-came.invariant.counted) in
+    others_within c.args.last.now c.requires.labels c.loop-came.numbers c.hear_piece.new.numbers c.loop-came.came c.min-count.result more.more within c.loop-came.invariant.counted long is
+
+pub stay_coarser-are_coarser-requires-clause-so_far : goal.stay_coarser-are_coarser-requires-clause-so_far
+stay_coarser-are_coarser-requires-clause-so_far g c =
+    let before = numbers_of_ask (take c.loop-came.came c.args.last.now) c.loop-came.numbers in
+    let to = c.loop-came.came + c.min-count.result in
+    let after = numbers_of_ask (take to c.args.last.now) c.hear_piece.new.numbers in
+    let count : length c.read_bytes.new.bytes ≡ 4 * c.min-count.result = search rules in
+    let within : to ≤ length c.args.last.now = search rules in
+    let items : length c.read_bytes.new.bytes / 4 ≡ c.min-count.result = omega (arith, count) in
+    let more = c.in_ok-hear_piece.ensures.heard in
+    let is : after ≡ before ++ more.more = subst (λ (k : ℕ). numbers_of_ask (take (c.loop-came.came + k) c.args.last.now) c.hear_piece.new.numbers ≡ before ++ more.more) items more.is in
+    let long : length after ≡ to = omega (arith, ap length is, length-append before more.more, ap length more.spelled, bytes_of more.more, count, c.loop-came.invariant.counted) in
+    others_so_far c.args.last.now c.requires.labels c.loop-came.numbers c.hear_piece.new.numbers c.loop-came.came c.min-count.result more.more within c.loop-came.invariant.counted long is
+    (c.loop-came.invariant.coarser.0 c.if-are_coarser.true)
+
+pub returns-clause-coarser : goal.returns-clause-coarser
+returns-clause-coarser g c =
+    let same = all_of_ask c.args.last.now c.loop-came.came c.loop-came.numbers (omega arith) in
+    let at : c.loop-came.came ≡ length c.args.last.now = omega arith in
+    subst (λ (ns : List ℕ). IsTrue c.loop-came.are_coarser ↔ AreCoarserUpTo c.args.last.now ns (length c.args.last.now)) same
+    (subst (λ (n : ℕ). IsTrue c.loop-came.are_coarser ↔ AreCoarserUpTo c.args.last.now (numbers_of_ask (take c.loop-came.came c.args.last.now) c.loop-came.numbers) n) at c.loop-came.invariant.coarser)

@@ -1,0 +1,170 @@
+-- Labels of an ask that coarsen those of the last one, a piece at a time.
+use Rattle.std.proofs.Common.{◌≡◌, ℕ, ◌+◌, ◌*◌, ◌-◌, ◌<◌, ◌≤◌, List, ◌++◌, length, take, drop, Bool, Option, Some, None, Vec, refl, sym, ap, subst, ◌∙◌, arith}
+use Rattle.std.specs.Prelude.{◌↔◌, IsTrue, IfSome, IfNone}
+use Rattle.std.specs.List.{flat_map}
+use Rattle.std.proofs.Math.ListN.{get_or-append}
+use Rattle.std.proofs.lemmas.List.{length-append, length-take-le, take-append-drop, take_all}
+use Rattle.limits.specs.declared.TheConstants.{MAX_VERTICES}
+use Rattle.link_key.specs.Labels.{label_of, IsLabelled, AreLabels, Coarsens}
+use Rattle.byte_streams.specs.Streams.{SourceState}
+use Rattle.frames.specs.FrameValue.{FrameValue, AskFrame}
+use Rattle.frames.specs.FrameText.{u32_text, kind_of, body_of}
+use Rattle.frames.specs.NextFrame.{AreCoarserUpTo, numbers_of_ask, BodyCame}
+use Rattle.frames.proofs.Texts.{u32_length, items_length}
+
+-- the label of one of the first vertices, whatever stands behind them
+label_front : (front more : List ℕ) (v : ℕ) → 1 ≤ v → v ≤ length front → label_of (front ++ more) v ≡ label_of front v
+label_front front more v one to = get_or-append front more 0 (v - 1) (omega arith)
+
+labelled_front : (front more : List ℕ) (v : ℕ) → 1 ≤ v → v ≤ length front → IsLabelled front v → IsLabelled (front ++ more) v
+labelled_front front more v one to is =
+    let here = label_front front more v one to in
+    let there = label_front front more (label_of front v) is.from_one (omega (arith, is.at_most_itself)) in
+    record {
+      from_one = omega (arith, here, is.from_one);
+      at_most_itself = omega (arith, here, is.at_most_itself);
+      own = ap (λ (c : ℕ). label_of (front ++ more) c) here ∙ there ∙ is.own ∙ sym here;
+    }
+
+labelled_back : (front more : List ℕ) (v : ℕ) → 1 ≤ v → v ≤ length front → IsLabelled (front ++ more) v → IsLabelled front v
+labelled_back front more v one to is =
+    let here = label_front front more v one to in
+    let low : 1 ≤ label_of front v = omega (arith, here, is.from_one) in
+    let high : label_of front v ≤ v = omega (arith, here, is.at_most_itself) in
+    let there = label_front front more (label_of front v) low (omega (arith, high)) in
+    record {
+      from_one = low;
+      at_most_itself = high;
+      own = sym there ∙ ap (λ (c : ℕ). label_of (front ++ more) c) (sym here) ∙ is.own ∙ here;
+    }
+
+module _ (last : List ℕ) (are : AreLabels last) where
+  -- the same labels coarsen themselves
+  pub same_coarser : (to : ℕ) → to ≤ length last → AreCoarserUpTo last last to
+  same_coarser to within = record {
+    labelled = λ v one most. are.labelled v one (omega arith);
+    coarser = λ v one most. sym (are.labelled v one (omega arith)).own;
+  }
+
+  -- numbers with more behind them
+  pub coarser_on : (front more : List ℕ) → length front ≤ length last → AreCoarserUpTo last front (length front) → AreCoarserUpTo last (front ++ more) (length front)
+  coarser_on front more within is = record {
+    labelled = λ v one most. labelled_front front more v one most (is.labelled v one most);
+    coarser = λ v one most.
+        let finer = are.labelled v one (omega arith) in
+        label_front front more v one most ∙ is.coarser v one most ∙ sym (label_front front more (label_of last v) finer.from_one (omega (arith, finer.at_most_itself)));
+  }
+
+  pub coarser_off : (front more : List ℕ) → length front ≤ length last → AreCoarserUpTo last (front ++ more) (length front) → AreCoarserUpTo last front (length front)
+  coarser_off front more within is = record {
+    labelled = λ v one most. labelled_back front more v one most (is.labelled v one most);
+    coarser = λ v one most.
+        let finer = are.labelled v one (omega arith) in
+        sym (label_front front more v one most) ∙ is.coarser v one most ∙ label_front front more (label_of last v) finer.from_one (omega (arith, finer.at_most_itself));
+  }
+
+  -- all of them
+  pub labels_of_coarser : (numbers : List ℕ) → length numbers ≡ length last → AreCoarserUpTo last numbers (length last) → AreLabels numbers
+  labels_of_coarser numbers each is = record {
+    few_vertices = omega (arith, each, are.few_vertices);
+    labelled = λ v one most. is.labelled v one (omega (arith, each, most));
+  }
+
+  pub coarsens_of : (numbers : List ℕ) → length numbers ≡ length last → AreCoarserUpTo last numbers (length last) → Coarsens numbers last
+  coarsens_of numbers each is = record {
+    vertices = each;
+    together = λ u v one most one' most' same. is.coarser u one most ∙ ap (λ (c : ℕ). label_of numbers c) same ∙ sym (is.coarser v one' most');
+  }
+
+  pub coarser_of : (numbers : List ℕ) → AreLabels numbers → Coarsens numbers last → AreCoarserUpTo last numbers (length last)
+  coarser_of numbers labels coarsens = record {
+    labelled = λ v one most. labels.labelled v one (omega (arith, coarsens.vertices, most));
+    coarser = λ v one most.
+        let finer = are.labelled v one most in
+        coarsens.together v (label_of last v) one most finer.from_one (omega (arith, finer.at_most_itself, most)) (sym finer.own);
+  }
+
+  -- labels that were seen not to
+  pub others_dont : (numbers : List ℕ) → AreLabels numbers → (AreCoarserUpTo last numbers (length last) → ⊥) → (rd sh r s : ℕ) (labels : List ℕ)
+      → AskFrame rd sh numbers ≡ AskFrame r s labels → ¬ Coarsens labels last
+  others_dont numbers of never rd sh r s labels is coarsens =
+      let same : numbers ≡ labels = cc in
+      never (coarser_of numbers of (subst (λ (ns : List ℕ). Coarsens ns last) (sym same) coarsens))
+
+  -- the first of the same labels
+  same_front : (to : ℕ) → to ≤ length last → AreCoarserUpTo last (take to last) to
+  same_front to within =
+      let long : length (take to last) ≡ to = length-take-le to last within in
+      subst (λ (n : ℕ). AreCoarserUpTo last (take to last) n) long
+      (coarser_off (take to last) (drop to last) (omega (arith, long, within))
+      (subst (λ (ns : List ℕ). AreCoarserUpTo last ns (length (take to last))) (sym (take-append-drop to last)) (same_coarser (length (take to last)) (omega (arith, long, within)))))
+
+  -- the numbers that came so far, and so many more
+  module _ {A : Type 0} (before after : Option (Vec ℕ A)) (came k : ℕ) (more : List ℕ) (within : came + k ≤ length last)
+      (counted : length (numbers_of_ask (take came last) before) ≡ came) (long : length (numbers_of_ask (take (came + k) last) after) ≡ came + k)
+      (is : numbers_of_ask (take (came + k) last) after ≡ numbers_of_ask (take came last) before ++ more) where
+    pub others_within : IfSome after (λ list. (came ≤ length list.items) × (length list.items ≤ length last))
+    others_within = go after long
+      where
+        go : (o : Option (Vec ℕ A)) → length (numbers_of_ask (take (came + k) last) o) ≡ came + k → IfSome o (λ list. (came ≤ length list.items) × (length list.items ≤ length last))
+        go None all = tt
+        go (Some list) all = (omega (arith, all), omega (arith, all, within))
+
+    pub others_so_far : AreCoarserUpTo last (numbers_of_ask (take came last) before) came → IfSome after (λ list. AreCoarserUpTo last list.items came)
+    others_so_far so = go after (subst (λ (ns : List ℕ). AreCoarserUpTo last ns came) (sym is) (on so))
+      where
+        on : AreCoarserUpTo last (numbers_of_ask (take came last) before) came → AreCoarserUpTo last (numbers_of_ask (take came last) before ++ more) came
+        on so =
+            subst (λ (n : ℕ). AreCoarserUpTo last (numbers_of_ask (take came last) before ++ more) n) counted
+            (coarser_on (numbers_of_ask (take came last) before) more (omega (arith, counted, within))
+            (subst (λ (n : ℕ). AreCoarserUpTo last (numbers_of_ask (take came last) before) n) (sym counted) so))
+
+        go : (o : Option (Vec ℕ A)) → AreCoarserUpTo last (numbers_of_ask (take (came + k) last) o) came → IfSome o (λ list. AreCoarserUpTo last list.items came)
+        go None all = tt
+        go (Some list) all = all
+
+    pub stayed : (b : Bool) → IfSome after (λ list. IsTrue b ↔ AreCoarserUpTo last list.items (length list.items)) → IfNone after (IsTrue b)
+        → IsTrue b ↔ AreCoarserUpTo last (numbers_of_ask (take (came + k) last) after) (came + k)
+    stayed b = go after long
+      where
+        go : (o : Option (Vec ℕ A)) → length (numbers_of_ask (take (came + k) last) o) ≡ came + k
+            → IfSome o (λ list. IsTrue b ↔ AreCoarserUpTo last list.items (length list.items)) → IfNone o (IsTrue b)
+            → IsTrue b ↔ AreCoarserUpTo last (numbers_of_ask (take (came + k) last) o) (came + k)
+        go None all others same = (λ t. same_front (came + k) within, λ are. same)
+        go (Some list) all others same = subst (λ (n : ℕ). IsTrue b ↔ AreCoarserUpTo last list.items n) all others
+
+    pub not_again : (AreCoarserUpTo last (numbers_of_ask (take came last) before) came → ⊥) → AreCoarserUpTo last (numbers_of_ask (take (came + k) last) after) (came + k) → ⊥
+    not_again never all =
+        never (subst (λ (n : ℕ). AreCoarserUpTo last (numbers_of_ask (take came last) before) n) counted
+        (coarser_off (numbers_of_ask (take came last) before) more (omega (arith, counted, within))
+        (up_to (numbers_of_ask (take came last) before ++ more) (came + k) (length (numbers_of_ask (take came last) before)) (omega (arith, counted))
+        (subst (λ (ns : List ℕ). AreCoarserUpTo last ns (came + k)) is all))))
+      where
+        up_to : (ns : List ℕ) (n m : ℕ) → m ≤ n → AreCoarserUpTo last ns n → AreCoarserUpTo last ns m
+        up_to ns n m le are = record { labelled = λ v one most. are.labelled v one (omega arith); coarser = λ v one most. are.coarser v one (omega arith) }
+
+-- the numbers of an ask, once all came
+pub all_of_ask : {A : Type 0} (last : List ℕ) (came : ℕ) (numbers : Option (Vec ℕ A)) → length last ≤ came → numbers_of_ask (take came last) numbers ≡ numbers_of_ask last numbers
+all_of_ask last came None all = take_all came last all
+all_of_ask last came (Some numbers) all = refl
+
+-- a frame of another length asks for as many other labels
+pub other_length : (v : FrameValue) (kind len : ℕ) (s t : SourceState) (last : List ℕ) → BodyCame v kind len s t → (kind ≡ 3 → len ≡ 12 + 4 * length last → ⊥)
+    → (r sh : ℕ) (labels : List ℕ) → v ≡ AskFrame r sh labels → ¬ Coarsens labels last
+other_length v kind len s t last came never r sh labels is coarsens =
+    let kind-is : 3 ≡ kind = ap kind_of (sym is) ∙ came.is.kind in
+    let body-is : body_of (AskFrame r sh labels) ≡ came.body = ap body_of (sym is) ∙ came.is.body in
+    never (sym kind-is)
+    (omega (
+      arith,
+      came.counted,
+      ap length body-is,
+      coarsens.vertices,
+      u32_length r,
+      u32_length sh,
+      u32_length (length labels),
+      items_length u32_text 4 u32_length labels,
+      length-append (u32_text r) (u32_text sh ++ (u32_text (length labels) ++ flat_map u32_text labels)),
+      length-append (u32_text sh) (u32_text (length labels) ++ flat_map u32_text labels),
+      length-append (u32_text (length labels)) (flat_map u32_text labels),
+    ))
