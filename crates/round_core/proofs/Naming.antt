@@ -14,7 +14,7 @@ use Rattle.link_key.specs.Rounds.{renamed}
 use Rattle.link_key.proofs.Stages.{kept_in, kept_if}
 use Rattle.round_theory.specs.Labelling.{IsVertex, JoinsOver, IsRelabelling, IsLeastJoinedOver}
 use Rattle.round_core.specs.Picks.{Picked}
-use Rattle.round_core.specs.Roots.{IsRoot, AreRoots, ArePointers, AreParents, AreSettled, IsLeastUnder}
+use Rattle.round_core.specs.Roots.{IsRoot, AreRoots, ArePointers, AreParents, AreSettled, IsLeastUnder, AreNames}
 use Rattle.round_core.proofs.HookWalks.{over_same, over_then, over_back, over_equal}
 use Rattle.round_core.proofs.Leading.{end_root}
 
@@ -193,25 +193,15 @@ relabelled_by_names labels roots parents names new picks are are_roots are_paren
         let down : JoinsOver labels (Picked picks) (get_or parents c 0) u = subst (λ p. JoinsOver labels (Picked picks) p u) name.same (over_back labels (Picked picks) u (get_or parents u 0) (are_parents.joined u name.root)) in
         over_then labels (Picked picks) (Picked picks) (λ l l_in. l_in) v c u self (over_then labels (Picked picks) (Picked picks) (λ l l_in. l_in) c (get_or parents c 0) u up down)
 
--- so it is where the roots and their parents were handed on in between
-relabelled_behind : (labels roots roots' parents parents' names : List ℕ) (picks : List (Option Link)) → AreLabels labels → AreRoots labels roots → AreParents labels roots picks parents → AreSettled roots parents → roots ≡ roots' → parents ≡ parents'
-    → ((c : ℕ) → Contains roots' c → IsLeastUnder roots' parents' c (get_or names c 0)) → IsRelabelling (length labels) labels (Picked picks) (map (λ c. get_or names c 0) labels)
-relabelled_behind labels roots roots' parents parents' names picks are are_roots are_parents settled same_roots same_parents named =
-    relabelled_by_names labels roots parents names (map (λ c. get_or names c 0) labels) picks are are_roots are_parents settled
-    (subst (λ rs. (c : ℕ) → Contains rs c → IsLeastUnder rs parents c (get_or names c 0)) (sym same_roots)
-    (subst (λ ps. (c : ℕ) → Contains roots' c → IsLeastUnder roots' ps c (get_or names c 0)) (sym same_parents) named)) refl
-
--- the same where `old` is a slice of the labels, and the parents, and then the names, are written over a vector of numbers
-pub relabelled_over : {Z : Type 0} (labels old roots roots' : List ℕ) (numbers : Vec ℕ Z) (parents parents' names given : List ℕ) (picks : List (Option Link))
-    → old ≡ labels → AreLabels labels → AreRoots labels roots → AreParents old roots picks parents → AreSettled roots parents → roots ≡ roots'
-    → length parents ≡ numbers.len → parents' ≡ (with_items numbers parents).items
-    → length names ≡ (with_items numbers parents).len → given ≡ (with_items (with_items numbers parents) names).items
-    → ((c : ℕ) → Contains roots' c → IsLeastUnder roots' parents' c (get_or names c 0)) → IsRelabelling (length old) old (Picked picks) (renamed given old)
-relabelled_over labels old roots roots' numbers parents parents' names given picks same are are_roots are_parents settled same_roots long parents_are long_names given_are named =
-    let written : parents' ≡ parents = parents_are ∙ with_items_is numbers parents long in
-    let names_are : given ≡ names = given_are ∙ with_items_is (with_items numbers parents) names long_names in
-    let first = relabelled_behind old roots roots' parents parents' names picks (subst AreLabels (sym same) are) (subst (λ ls. AreRoots ls roots) (sym same) are_roots)
-    are_parents settled same_roots (sym written) named in
+-- the same where `old` is a slice of the labels, and the names are written over a vector of numbers
+pub relabelled_named : {Z : Type 0} (labels old roots roots' : List ℕ) (numbers : Vec ℕ Z) (names given : List ℕ) (picks : List (Option Link))
+    → old ≡ labels → AreLabels labels → AreRoots labels roots → roots' ≡ roots → AreNames old roots' picks names
+    → length names ≡ numbers.len → given ≡ (with_items numbers names).items → IsRelabelling (length old) old (Picked picks) (renamed given old)
+relabelled_named labels old roots roots' numbers names given picks same are are_roots same_roots are_names long given_are =
+    let names_are : given ≡ names = given_are ∙ with_items_is numbers names long in
+    let named = subst (λ (rs : List ℕ). AreNames old rs picks names) same_roots are_names in
+    let first = relabelled_by_names old roots named.parents names (map (λ c. get_or names c 0) old) picks (subst AreLabels (sym same) are)
+    (subst (λ (ls : List ℕ). AreRoots ls roots) (sym same) are_roots) named.are named.settled named.named refl in
     subst (λ (xs : List ℕ). IsRelabelling (length old) old (Picked picks) (map (λ c. get_or xs c 0) old)) (sym names_are) first
 
 -- the roots that label themselves under the new labels too are the roots of those

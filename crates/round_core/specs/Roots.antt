@@ -1,9 +1,9 @@
 -- The labels that name components, as they stay from round to round, and where picks lead each of them.
 use Rattle.std.specs.Prelude.{◌≡◌, ◌≢◌, ℕ, ◌+◌, ◌-◌, ◌<◌, ◌≤◌, ◌^◌, ◌⊎◌, ◌↔◌, min, Bool, true, List, ◌++◌, length, slice_index, slice_index_or, slice_set, AllPairs, Contains, Option, Some, None}
 use Rattle.link_key.specs.declared.links.Link.{Link}
-use Rattle.link_key.specs.Labels.{label_of}
+use Rattle.link_key.specs.Labels.{label_of, AreLabels}
 use Rattle.round_theory.specs.Labelling.{IsVertex, JoinsOver}
-use Rattle.round_core.specs.Picks.{pick_of, Picked}
+use Rattle.round_core.specs.Picks.{pick_of, Picked, ArePicksOfHearings}
 use Rattle.round_core.specs.declared.roots.Lead.{Lead}
 use Rattle.round_core.specs.Solver.{IsFirstPickedAt, IsPickedBefore, ArePickedOnce}
 
@@ -134,3 +134,18 @@ pub record IsLeastUnder (roots parents : List ℕ) (c u : ℕ) : Type 0 where
   pub root : Contains roots u
   pub same : slice_index parents u ≡ slice_index parents c
   pub least : (w : ℕ) → Contains roots w → slice_index parents w ≡ slice_index parents c → u ≤ w
+
+-- the roots of labels, the picks of a book with these, and where they lead each root
+pub record CanStep (labels roots : List ℕ) (picks : List (Option Link)) (leads : List Lead) : Type 0 where
+  pub labelled : AreLabels labels
+  pub picked : ArePicksOfHearings labels picks
+  pub are_roots : AreRoots labels roots
+  pub each : length leads ≡ length roots
+  pub led : AreLeads labels picks roots leads
+
+-- the name of each root is the least of those that the picks join, by parents that they have in common
+pub record AreNames (labels roots : List ℕ) (picks : List (Option Link)) (names : List ℕ) : Type 0 where
+  pub parents : List ℕ
+  pub are : AreParents labels roots picks parents
+  pub settled : AreSettled roots parents
+  pub named : (c : ℕ) → Contains roots c → IsLeastUnder roots parents c (slice_index names c)

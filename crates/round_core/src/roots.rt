@@ -4,7 +4,7 @@ ghost use Rattle.link_key.specs.Labels.{label_of, AreLabels, AreApart};
 ghost use Rattle.round_theory.specs.Labelling.{IsVertex, IsRelabelling};
 ghost use Rattle.round_theory.specs.Offers.{Leaves};
 ghost use Rattle.round_core.specs.Picks.{pick_of, Picked, AreNoPicks, HaveAllPicks, ArePicksOfHearings};
-ghost use Rattle.round_core.specs.Roots.{IsRoot, AreRoots, HasEndLabels, IsLed, IsLedBy, IsTaker, AreLeads, ArePartLeads, AreTakers, Follows, TakesBatch, TakesPicked, StandsBefore, ArePointers, AreParents, IsSettled, AreSettled, AreNear, IsLeastUnder, jumped};
+ghost use Rattle.round_core.specs.Roots.{IsRoot, AreRoots, HasEndLabels, IsLed, IsLedBy, IsTaker, AreLeads, ArePartLeads, AreTakers, Follows, TakesBatch, TakesPicked, StandsBefore, ArePointers, AreParents, IsSettled, AreSettled, AreNear, IsLeastUnder, CanStep, AreNames, jumped};
 
 use crate::picks::Picks;
 use limits::MAX_VERTICES;
@@ -12,7 +12,7 @@ use link_key::{Labels, Link};
 use std::alloc::{AllocError, Allocator, Global};
 use std::marker::Model;
 use std::thread;
-use std::thread::Threads;
+use std::thread::{Threads, join_mut};
 
 // How often all roots jump at most: each time doubles at least how far the rank of a parent is below that of its root,
 // and a rank, the key of a pick, has 128 bits.
@@ -88,9 +88,14 @@ impl<A: Allocator + Copy> Roots<A> {
         make_room(alloc, &mut self.parents, old.len())?;
         make_room(alloc, &mut self.least, old.len())?;
         let leads = leads_of(alloc, old, &self.roots, picks)?;
-        take_all(&self.roots, &leads, picks, taken)?;
-        join_roots(old, &self.roots, picks, &leads, &mut self.parents);
-        name_roots(&self.roots, &mut self.parents, &mut self.least);
+        let led = Led {
+            labels: old,
+            roots: &self.roots,
+            picks,
+            leads: &leads,
+        };
+        take_all(led.roots, led.leads, picks, taken)?;
+        name_joined(led, &mut self.parents, &mut self.least);
         let new = labels_by(alloc, old, &self.parents)?;
         Ok(Labels::of_known(new))
     }
@@ -122,9 +127,13 @@ impl<A: Allocator + Copy + Send + Sync> Roots<A> {
         make_room(alloc, &mut self.parents, old.len())?;
         make_room(alloc, &mut self.least, old.len())?;
         let leads = leads_by_parts(rt, alloc, old, &self.roots, picks)?;
-        take_all(&self.roots, &leads, picks, taken)?;
-        join_roots(old, &self.roots, picks, &leads, &mut self.parents);
-        name_roots(&self.roots, &mut self.parents, &mut self.least);
+        let led = Led {
+            labels: old,
+            roots: &self.roots,
+            picks,
+            leads: &leads,
+        };
+        take_and_name(rt, led, taken, &mut self.parents, &mut self.least)?;
         picks.clear_each(&self.roots);
         labels.rename_par(rt, &self.parents);
         Ok(())
@@ -299,6 +308,75 @@ fn lead_each<A: Allocator>(labels: &[u32], roots: &[u32], picks: &Picks<A>, lead
     for i in 0..roots.len() {
         leads[i] = lead_of(labels, picks, roots[i]);
     }
+}
+
+// What a step goes by: the labels, the roots of their components, what these pick, and where that leads each of them.
+#[derive(Clone, Copy)]
+struct Led<'a, A: Allocator> {
+    labels: &'a [u32],
+    roots: &'a [u32],
+    picks: &'a Picks<A>,
+    leads: &'a [Lead],
+}
+
+// Takes the picks of the roots, behind what was taken before, and names the component that each root comes to. Neither needs
+// what the other writes, so where there are many roots a second thread takes the links, if one can be made. After an error
+// some links may stand behind those taken before, and roots may be named.
+fn take_and_name<R: Threads + Sync, A: Allocator + Copy + Send + Sync>(
+    rt: &R,
+    led: Led<A>,
+    taken: &mut Vec<Link, A>,
+    parents: &mut [u32],
+    least: &mut [u32],
+) -> Result<(), AllocError>
+    requires can { CanStep led.labels.now led.roots.now led.picks.now led.leads.now }
+    requires parents { length led.labels.now < length parents.old }
+    requires least { length led.labels.now < length least.old }
+    ensures given { OnOk result (TakesBatch led.entry.picks.now led.entry.roots.now taken.old.items taken.new.items) }
+    ensures before { StandsBefore taken.old.items taken.new.items }
+    ensures named { OnOk result (AreNames led.entry.labels.now led.entry.roots.now led.entry.picks.now parents.new) }
+{
+    let Led {
+        labels,
+        roots,
+        picks,
+        leads,
+    } = led;
+    if roots.len() < FEW_ROOTS {
+        take_all(roots, leads, picks, taken)?;
+        name_joined(led, parents, least);
+        return Ok(());
+    }
+    let mut takes = || -> Result<(), AllocError>
+        requires { All (IsVertex (length picks.now)) roots.now × (length leads.now ≡ length roots.now) × AreTakers picks.now roots.now leads.now }
+        ensures { OnOk result (TakesBatch picks.entry.now roots.entry.now taken.entry.now.items taken.exit.now.items)
+            × StandsBefore taken.entry.now.items taken.exit.now.items }
+    { take_all(roots, leads, picks, taken) };
+    let mut names = ||
+        requires { CanStep labels.now roots.now picks.now leads.now × (length labels.now < length parents.now) × (length labels.now < length least.now) }
+        ensures { AreNames labels.entry.now roots.entry.now picks.entry.now parents.exit.now }
+    {
+        let led = Led {
+            labels,
+            roots,
+            picks,
+            leads,
+        };
+        name_joined(led, parents, least)
+    };
+    let (took, _) = join_mut(rt, &mut takes, &mut names);
+    took
+}
+
+// Writes for each root the name of the component that it comes to: the least root of those that the picks join.
+fn name_joined<A: Allocator + Copy>(led: Led<A>, parents: &mut [u32], least: &mut [u32])
+    requires can { CanStep led.labels.now led.roots.now led.picks.now led.leads.now }
+    requires parents { length led.labels.now < length parents.old }
+    requires least { length led.labels.now < length least.old }
+    ensures { AreNames led.entry.labels.now led.entry.roots.now led.entry.picks.now parents.new }
+{
+    join_roots(led.labels, led.roots, led.picks, led.leads, parents);
+    name_roots(led.roots, parents, least);
 }
 
 // Gives all roots that the picks join one parent, which is one of them.

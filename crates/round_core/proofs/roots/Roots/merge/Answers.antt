@@ -1,5 +1,4 @@
 use Rattle.std.proofs.Common.{arith, ◌≡◌, ◌<◌, List, ℕ, length, refl, sym, ap, ◌∙◌, subst}
-use Rattle.std.specs.Vec.{with_items}
 use Rattle.std.proofs.lemmas.List.{with_items_is}
 use Rattle.link_key.specs.Labels.{AreLabels}
 use Rattle.link_key.specs.Rounds.{renamed}
@@ -8,50 +7,8 @@ use Rattle.round_theory.proofs.Steps.{relabelling_is_labels}
 use Rattle.round_core.specs.Picks.{Picked}
 use Rattle.round_core.specs.Roots.{AreRoots, AreTakers, TakesPicked}
 use Rattle.round_core.proofs.Giving.{picked_behind, roots_all}
-use Rattle.round_core.proofs.Naming.{labels_within, roots_within, roots_below, relabelled_over}
+use Rattle.round_core.proofs.Naming.{labels_within, roots_within, roots_below, relabelled_named}
 use Rattle.round_core.proofs.roots.Roots.merge.Goals as goal
-
-pub join_roots-requires-clause-within : goal.join_roots-requires-clause-within
-join_roots-requires-clause-within g c =
-    let are_roots : AreRoots c.args.labels.now c.deref-4.result.now = rw (c.deref-4.ensures.value, c.self.view_is) c.requires.roots in
-    let room : length c.as_slice-old.result.now < length c.make_room.new.numbers.items = c.in_ok-make_room.ensures in
-    roots_below c.args.labels.now c.deref-4.result.now (length c.as_slice-old.result.now) (length c.deref_mut.result.now) (ap length c.as_slice-old.ensures.labels) (omega (arith, room, ap length c.deref_mut.ensures.value)) are_roots
-
-pub name_roots-requires-clause-room : goal.name_roots-requires-clause-room
-name_roots-requires-clause-room g c =
-    let are_roots : AreRoots c.args.labels.now c.deref-6.result.now = rw (c.deref-6.ensures.value, c.self.view_is) c.requires.roots in
-    let room : length c.as_slice-old.result.now < length c.make_room-2.new.numbers.items = c.in_ok-make_room-2.ensures in
-    roots_below c.args.labels.now c.deref-6.result.now (length c.as_slice-old.result.now) (length c.deref_mut-3.result.now) (ap length c.as_slice-old.ensures.labels) (omega (arith, room, ap length c.deref_mut-3.ensures.value)) are_roots
-
-pub labels_by-requires : goal.labels_by-requires
-labels_by-requires g c =
-    let old : List ℕ = c.as_slice-old.result.now in
-    let are : AreLabels old = rw c.as_slice-old.ensures.labels c.as_slice-old.ensures.are_labels in
-    let are_roots : AreRoots old c.self.inside.roots.items = rw (c.as_slice-old.ensures.labels, c.self.view_is) c.requires.roots in
-    let room : length old < length c.make_room.new.numbers.items = c.in_ok-make_room.ensures in
-    let joined : c.deref_mut-2.result.now ≡ c.join_roots.new.parents = c.deref_mut-2.ensures.value ∙ with_items_is c.make_room.new.numbers c.join_roots.new.parents (c.join_roots.auto.parents ∙ c.deref_mut.ensures.len) in
-    let named : c.deref-7.result.now ≡ c.name_roots.new.parents = c.deref-7.ensures.value ∙ with_items_is (with_items c.make_room.new.numbers c.join_roots.new.parents) c.name_roots.new.parents (c.name_roots.auto.parents ∙ c.deref_mut-2.ensures.len) in
-    let long : length c.deref-7.result.now ≡ length c.make_room.new.numbers.items =
-    ap length named ∙ c.name_roots.auto.parents ∙ ap length joined ∙ c.join_roots.auto.parents ∙ ap length c.deref_mut.ensures.value in
-    labels_within old c.self.inside.roots.items (length c.deref-7.result.now) are are_roots (roots_below old c.self.inside.roots.items (length old) (length c.deref-7.result.now) refl (omega (arith, room, long)) are_roots)
-
-pub of_known-requires : goal.of_known-requires
-of_known-requires g c =
-    let is = relabelled_over c.args.labels.now c.as_slice-old.result.now c.deref-4.result.now c.deref-6.result.now c.make_room.new.numbers c.join_roots.new.parents c.deref_mut-2.result.now
-    c.name_roots.new.parents c.deref-7.result.now c.args.picks.now c.as_slice-old.ensures.labels c.as_slice-old.ensures.are_labels (rw (c.deref-4.ensures.value, c.self.view_is) c.requires.roots)
-    c.join_roots.ensures.parents c.join_roots.ensures.settled (c.deref-4.ensures.value ∙ sym c.deref-6.ensures.value) (c.join_roots.auto.parents ∙ c.deref_mut.ensures.len) c.deref_mut-2.ensures.value
-    (c.name_roots.auto.parents ∙ c.deref_mut-2.ensures.len) c.deref-7.ensures.value c.name_roots.ensures in
-    let are : AreLabels c.as_slice-old.result.now = rw c.as_slice-old.ensures.labels c.as_slice-old.ensures.are_labels in
-    rw c.in_ok-new.ensures (relabelling_is_labels (length c.as_slice-old.result.now) (Picked c.args.picks.now) c.as_slice-old.result.now (renamed c.deref-7.result.now c.as_slice-old.result.now) are.few_vertices is)
-
-pub returns-clause-relabelled : goal.returns-clause-relabelled
-returns-clause-relabelled g c =
-    let is = relabelled_over c.args.labels.now c.as_slice-old.result.now c.deref-4.result.now c.deref-6.result.now c.make_room.new.numbers c.join_roots.new.parents c.deref_mut-2.result.now
-    c.name_roots.new.parents c.deref-7.result.now c.args.picks.now c.as_slice-old.ensures.labels c.as_slice-old.ensures.are_labels (rw (c.deref-4.ensures.value, c.self.view_is) c.requires.roots)
-    c.join_roots.ensures.parents c.join_roots.ensures.settled (c.deref-4.ensures.value ∙ sym c.deref-6.ensures.value) (c.join_roots.auto.parents ∙ c.deref_mut.ensures.len) c.deref_mut-2.ensures.value
-    (c.name_roots.auto.parents ∙ c.deref_mut-2.ensures.len) c.deref-7.ensures.value c.name_roots.ensures in
-    subst (λ (xs : List ℕ). IsRelabelling (length xs) xs (Picked c.args.picks.now) c.of_known.result) c.as_slice-old.ensures.labels
-    (subst (IsRelabelling (length c.as_slice-old.result.now) c.as_slice-old.result.now (Picked c.args.picks.now)) (sym (c.of_known.ensures ∙ c.in_ok-new.ensures)) is)
 
 pub leads_of-requires-clause-roots : goal.leads_of-requires-clause-roots
 leads_of-requires-clause-roots g c =
@@ -67,6 +24,33 @@ pub take_all-requires-clause-takes : goal.take_all-requires-clause-takes
 take_all-requires-clause-takes g c =
     let takes : AreTakers c.args.picks.now c.self.inside.roots.items c.in_ok-leads.leads.items = rw c.deref.ensures.value at (c.in_ok-leads.ensures.leads.takes) in
     rw (c.deref-2.ensures.value, c.deref-3.ensures.value) takes
+
+pub labels_by-requires : goal.labels_by-requires
+labels_by-requires g c =
+    let old : List ℕ = c.as_slice-old.result.now in
+    let are : AreLabels old = rw c.as_slice-old.ensures.labels c.as_slice-old.ensures.are_labels in
+    let are_roots : AreRoots old c.self.inside.roots.items = rw (c.as_slice-old.ensures.labels, c.self.view_is) c.requires.roots in
+    let room : length old < length c.make_room.new.numbers.items = c.in_ok-make_room.ensures in
+    let named : c.deref-4.result.now ≡ c.name_joined.new.parents =
+    c.deref-4.ensures.value ∙ with_items_is c.make_room.new.numbers c.name_joined.new.parents (c.name_joined.auto.parents ∙ c.deref_mut.ensures.len) in
+    let long : length c.deref-4.result.now ≡ length c.make_room.new.numbers.items = ap length named ∙ c.name_joined.auto.parents ∙ ap length c.deref_mut.ensures.value in
+    labels_within old c.self.inside.roots.items (length c.deref-4.result.now) are are_roots (roots_below old c.self.inside.roots.items (length old) (length c.deref-4.result.now) refl (omega (arith, room, long)) are_roots)
+
+pub of_known-requires : goal.of_known-requires
+of_known-requires g c =
+    let is = relabelled_named c.args.labels.now c.as_slice-old.result.now c.self.inside.roots.items c.deref-2.result.now c.make_room.new.numbers c.name_joined.new.parents c.deref-4.result.now
+    c.args.picks.now c.as_slice-old.ensures.labels c.as_slice-old.ensures.are_labels (rw c.self.view_is c.requires.roots) c.deref-2.ensures.value c.name_joined.ensures
+    (c.name_joined.auto.parents ∙ c.deref_mut.ensures.len) c.deref-4.ensures.value in
+    let are : AreLabels c.as_slice-old.result.now = rw c.as_slice-old.ensures.labels c.as_slice-old.ensures.are_labels in
+    rw c.in_ok-new.ensures (relabelling_is_labels (length c.as_slice-old.result.now) (Picked c.args.picks.now) c.as_slice-old.result.now (renamed c.deref-4.result.now c.as_slice-old.result.now) are.few_vertices is)
+
+pub returns-clause-relabelled : goal.returns-clause-relabelled
+returns-clause-relabelled g c =
+    let is = relabelled_named c.args.labels.now c.as_slice-old.result.now c.self.inside.roots.items c.deref-2.result.now c.make_room.new.numbers c.name_joined.new.parents c.deref-4.result.now
+    c.args.picks.now c.as_slice-old.ensures.labels c.as_slice-old.ensures.are_labels (rw c.self.view_is c.requires.roots) c.deref-2.ensures.value c.name_joined.ensures
+    (c.name_joined.auto.parents ∙ c.deref_mut.ensures.len) c.deref-4.ensures.value in
+    subst (λ (xs : List ℕ). IsRelabelling (length xs) xs (Picked c.args.picks.now) c.of_known.result) c.as_slice-old.ensures.labels
+    (subst (IsRelabelling (length c.as_slice-old.result.now) c.as_slice-old.result.now (Picked c.args.picks.now)) (sym (c.of_known.ensures ∙ c.in_ok-new.ensures)) is)
 
 pub returns-clause-once : goal.returns-clause-once
 returns-clause-once g c =
