@@ -31,6 +31,14 @@ pub(crate) fn next_bytes(
             assert!(rt; *shard < 4096);
             Ok(encode_ask(alloc, *round, *shard, last)?)
         }
+        NextFrame::AskCoarser {
+            round,
+            shard,
+            labels,
+        } => {
+            assert!(rt; *shard < 4096);
+            Ok(encode_ask(alloc, *round, *shard, labels)?)
+        }
         NextFrame::Other(frame) => {
             assert!(rt; frame.is_lawful());
             Ok(encode(alloc, frame)?)
@@ -80,27 +88,32 @@ fn expect_as_alone(
     Ok(())
 }
 
-// An ask under these labels, behind those: another ask under them, if they are the same. So many blocks are given.
+// What an ask is said to be behind another one: one under the same labels, under labels that coarsen them, or under others.
+#[derive(Clone, Copy, PartialEq, Eq, Debug)]
+enum Said {
+    Again,
+    Coarser,
+    Other,
+}
+
+// An ask under these labels, behind those, is said to be this. It takes one block, but for the same labels none.
 fn expect_ask(
     rt: &impl Abort,
     alloc: Global,
     labels: &Labels,
     last: &Labels,
-    blocks: u64,
+    said: Said,
 ) -> Result<(), Fail> {
     let bytes = ask(alloc, labels)?;
     let memory = Refusing::new(alloc, Refusals::none());
     let mut source = bytes.as_slice();
-    match read_next(&memory, &mut source, last.as_slice())? {
-        NextFrame::AskAgain { round, shard } => {
-            expect_same(rt, (round, shard, blocks), (5, 7, 0));
-        }
-        NextFrame::Other(frame) => {
-            assert!(rt; frame.is_lawful());
-            assert!(rt; encode(alloc, &frame)?.as_slice() == bytes.as_slice());
-        }
-    }
-    assert!(rt; source.is_empty());
+    let found = match read_next(&memory, &mut source, last.as_slice())? {
+        NextFrame::AskAgain { .. } => Said::Again,
+        NextFrame::AskCoarser { .. } => Said::Coarser,
+        NextFrame::Other(_) => Said::Other,
+    };
+    let blocks = if said == Said::Again { 0 } else { 1 };
+    expect_same(rt, (found, source.len()), (said, 0));
     expect_same(rt, (memory.given(), memory.live()), (blocks, 0));
     expect_as_alone(rt, alloc, bytes.as_slice(), usize::MAX, last)
 }
@@ -109,19 +122,31 @@ fn expect_ask(
 fn labels_that_come_again_take_no_memory(rt: HostRuntime) -> Result<(), Fail> {
     for vertex in [0, 2, 40_000, 80_001] {
         let labels = labels_but(&rt, rt.alloc(), vertex)?;
-        expect_ask(&rt, rt.alloc(), &labels, &labels, 0)?;
+        expect_ask(&rt, rt.alloc(), &labels, &labels, Said::Again)?;
     }
     Ok(())
 }
 
-// Labels that differ in one place are given one block, of their whole size, wherever that place is.
+// Labels that differ in one place are given one block, of their whole size, wherever that place is. Where two vertices are
+// joined that were apart they coarsen, and not the other way round.
 #[test]
 fn labels_that_differ_in_one_place(rt: HostRuntime) -> Result<(), Fail> {
     let last = labels_but(&rt, rt.alloc(), 0)?;
     for vertex in PLACES {
         let labels = labels_but(&rt, rt.alloc(), vertex)?;
-        expect_ask(&rt, rt.alloc(), &labels, &last, 1)?;
-        expect_ask(&rt, rt.alloc(), &last, &labels, 1)?;
+        expect_ask(&rt, rt.alloc(), &labels, &last, Said::Coarser)?;
+        expect_ask(&rt, rt.alloc(), &last, &labels, Said::Other)?;
+    }
+    Ok(())
+}
+
+// Labels that join two vertices and part two others don't coarsen, whichever piece each of them stands in.
+#[test]
+fn labels_that_part_what_was_joined(rt: HostRuntime) -> Result<(), Fail> {
+    for (joined, parted) in [(2, 80_001), (80_001, 2), (16_384, 16_385), (65_537, 16_384)] {
+        let labels = labels_but(&rt, rt.alloc(), joined)?;
+        let last = labels_but(&rt, rt.alloc(), parted)?;
+        expect_ask(&rt, rt.alloc(), &labels, &last, Said::Other)?;
     }
     Ok(())
 }

@@ -48,16 +48,16 @@ impl<A: Allocator + Copy + Send + Sync> Engine<A> {
                     labels,
                 },
             ) => {
-                let ask = Ask { round, shard };
                 self.labels = labels;
+                let asked = Ask { round, shard };
                 let reply = reply_under_par(
                     rt,
                     &mut self.shards,
                     &mut self.scanner,
                     &self.labels,
-                    ask,
+                    asked,
                 );
-                Ok(Some(ask.reply_or_fault(reply)))
+                Ok(Some(asked.reply_or_fault(reply)))
             }
             Ok(NextFrame::Other(frame)) => match self.hear_or_fault_par(rt, frame) {
                 Ok(reply) => Ok(reply),
