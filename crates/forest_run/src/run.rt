@@ -145,6 +145,16 @@ fn begin<R: Threads + Sync, A: Allocator + Copy + Send + Sync>(
     begin_by_two(rt, alloc, n)
 }
 
+// A solver at its start, whose labels keep their bytes where there is memory for them.
+fn spelled_solver<A: Allocator + Copy>(alloc: A, n: u32) -> Result<Solver<A>, AllocError>
+    requires { n ≤ MAX_VERTICES }
+    ensures { IfOk result (IsAtStart n) }
+{
+    let mut solver = Solver::new(alloc, n)?;
+    let _ = solver.spell_labels();
+    Ok(solver)
+}
+
 // The same with room for the picks, made by a second thread: to touch so much memory for the first time takes longer than
 // what is written there.
 fn begin_by_two<R: Threads + Sync, A: Allocator + Copy + Send + Sync>(
@@ -162,7 +172,7 @@ fn begin_by_two<R: Threads + Sync, A: Allocator + Copy + Send + Sync>(
         move || -> Result<Solver<A>, AllocError>
             requires { n ≤ MAX_VERTICES }
             ensures { IfOk result (IsAtStart n) }
-        { Solver::new(alloc, n) },
+        { spelled_solver(alloc, n) },
         move || -> Result<Picks<A>, AllocError>
             ensures { IfOk result (λ picks. AreNoPicks picks × (length picks ≡ n)) }
         { Picks::none(alloc, n) },

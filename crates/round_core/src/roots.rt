@@ -124,9 +124,14 @@ impl<A: Allocator + Copy + Send + Sync> Roots<A> {
     {
         let alloc = *taken.allocator();
         let old = labels.as_slice();
-        make_room(alloc, &mut self.parents, old.len())?;
-        make_room(alloc, &mut self.least, old.len())?;
-        let leads = leads_by_parts(rt, alloc, old, &self.roots, picks)?;
+        let leads = lead_and_make_room(
+            rt,
+            old,
+            &self.roots,
+            picks,
+            &mut self.parents,
+            &mut self.least,
+        )?;
         let led = Led {
             labels: old,
             roots: &self.roots,
@@ -211,6 +216,59 @@ fn make_room<A: Allocator + Copy>(
         *numbers = vec![in alloc; 0; n + 1]?;
     }
     Ok(())
+}
+
+// Where its pick leads each root, and room for the parents and the least roots, made by a second thread where there is none
+// yet and labels are many: what takes time is to touch so much memory for the first time.
+fn lead_and_make_room<R: Threads + Sync, A: Allocator + Copy + Send + Sync>(
+    rt: &R,
+    labels: &[u32],
+    roots: &[u32],
+    picks: &Picks<A>,
+    parents: &mut Vec<u32, A>,
+    least: &mut Vec<u32, A>,
+) -> Result<Vec<Lead, A>, AllocError>
+    requires labels { AreLabels labels.now }
+    requires picks { ArePicksOfHearings labels.now picks.now }
+    requires roots { All (IsRoot labels.now) roots.now }
+    ensures each { IfOk result (λ leads. length leads.items ≡ length roots.now) }
+    ensures leads { IfOk result (λ leads. AreLeads labels.now picks.now roots.now leads.items) }
+    ensures parents { OnOk result (length labels.now < length parents.new.items) }
+    ensures least { OnOk result (length labels.now < length least.new.items) }
+{
+    let alloc = *parents.allocator();
+    let n = labels.len();
+    if n < FEW_ROOTS || n < parents.len() {
+        make_rooms(alloc, parents, least, n)?;
+        return leads_by_parts(rt, alloc, labels, roots, picks);
+    }
+    let mut room = || -> Result<(), AllocError>
+        requires { n ≤ MAX_VERTICES }
+        ensures { OnOk result ((n < length parents.exit.now.items) × (n < length least.exit.now.items)) }
+    { make_rooms(alloc, parents, least, n) };
+    let mut lead = || -> Result<Vec<Lead, A>, AllocError>
+        requires { AreLabels labels.now × ArePicksOfHearings labels.now picks.now × All (IsRoot labels.now) roots.now }
+        ensures { IfOk result (λ leads. (length leads.items ≡ length roots.entry.now)
+            × AreLeads labels.entry.now picks.entry.now roots.entry.now leads.items) }
+    { leads_by_parts(rt, alloc, labels, roots, picks) };
+    let (made, leads) = join_mut(rt, &mut room, &mut lead);
+    made?;
+    leads
+}
+
+// Makes room for a number of each of the labels 1 to n in both lists, where there is none yet.
+fn make_rooms<A: Allocator + Copy>(
+    alloc: A,
+    parents: &mut Vec<u32, A>,
+    least: &mut Vec<u32, A>,
+    n: usize,
+) -> Result<(), AllocError>
+    requires { n ≤ MAX_VERTICES }
+    ensures parents { OnOk result (n < length parents.new.items) }
+    ensures least { OnOk result (n < length least.new.items) }
+{
+    make_room(alloc, parents, n)?;
+    make_room(alloc, least, n)
 }
 
 // Where its pick leads each root.

@@ -108,11 +108,14 @@ fn expect_same_steps<R: Abort + Threads + Sync>(rt: &R, alloc: Global, n: u32) -
     Ok(())
 }
 
-// Too few vertices for threads, and so many that each part has a thread: of the roots, and of the labels too.
+// Too few vertices for threads; as many roots as one thread takes the links of, and one more; and so many that each part has
+// a thread: of the roots, and of the labels too.
 #[test]
 fn steps_by_threads(rt: HostRuntime) -> Result<(), Fail> {
-    expect_same_steps(&rt, rt.alloc(), 40)?;
-    expect_same_steps(&rt, rt.alloc(), 140_001)
+    for n in [40, 16_383, 16_384, 140_001] {
+        expect_same_steps(&rt, rt.alloc(), n)?;
+    }
+    Ok(())
 }
 
 // From vertices that are apart these steps are taken over the cut. The solver behind them.

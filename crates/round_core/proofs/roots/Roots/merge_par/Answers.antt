@@ -10,8 +10,8 @@ use Rattle.round_core.proofs.Giving.{picked_behind, roots_all}
 use Rattle.round_core.proofs.Naming.{labels_within, roots_within, roots_below, relabelled_named}
 use Rattle.round_core.proofs.roots.Roots.merge_par.Goals as goal
 
-pub leads_by_parts-requires-clause-roots : goal.leads_by_parts-requires-clause-roots
-leads_by_parts-requires-clause-roots g c κs within =
+pub lead_and_make_room-requires-clause-roots : goal.lead_and_make_room-requires-clause-roots
+lead_and_make_room-requires-clause-roots g c κs within =
     let are : AreRoots c.as_slice-old.result.now c.deref.result.now = rw (c.as_slice-old.ensures.labels, c.deref.ensures.value, c.self.view_is) c.requires.roots in
     roots_all c.as_slice-old.result.now c.deref.result.now are
 
@@ -25,16 +25,16 @@ rename_par-requires-clause-within g c κs within =
     let labels : List ℕ = c.args.labels.now in
     let count : length c.as_slice-old.result.now ≡ length labels = ap length c.as_slice-old.ensures.labels in
     let are_roots : AreRoots labels c.self.inside.roots.items = rw c.self.view_is c.requires.roots in
-    let room : length c.as_slice-old.result.now < length c.make_room.new.numbers.items = c.in_ok-make_room.ensures in
+    let room : length c.as_slice-old.result.now < length c.lead_and_make_room.new.parents.items = c.in_ok-leads.ensures.parents in
     let named : c.deref-5.result.now ≡ c.take_and_name.new.parents =
-    c.deref-5.ensures.value ∙ with_items_is c.make_room.new.numbers c.take_and_name.new.parents (c.take_and_name.auto.parents ∙ c.deref_mut.ensures.len) in
-    let long : length c.deref-5.result.now ≡ length c.make_room.new.numbers.items = ap length named ∙ c.take_and_name.auto.parents ∙ ap length c.deref_mut.ensures.value in
+    c.deref-5.ensures.value ∙ with_items_is c.lead_and_make_room.new.parents c.take_and_name.new.parents (c.take_and_name.auto.parents ∙ c.deref_mut.ensures.len) in
+    let long : length c.deref-5.result.now ≡ length c.lead_and_make_room.new.parents.items = ap length named ∙ c.take_and_name.auto.parents ∙ ap length c.deref_mut.ensures.value in
     labels_within labels c.self.inside.roots.items (length c.deref-5.result.now) c.as_slice-old.ensures.are_labels are_roots
     (roots_below labels c.self.inside.roots.items (length labels) (length c.deref-5.result.now) refl (omega (arith, room, long, count)) are_roots)
 
 pub rename_par-requires-clause-labels : goal.rename_par-requires-clause-labels
 rename_par-requires-clause-labels g c κs within =
-    let is = relabelled_named c.args.labels.now c.as_slice-old.result.now c.self.inside.roots.items c.deref-2.result.now c.make_room.new.numbers c.take_and_name.new.parents c.deref-5.result.now
+    let is = relabelled_named c.args.labels.now c.as_slice-old.result.now c.self.inside.roots.items c.deref-2.result.now c.lead_and_make_room.new.parents c.take_and_name.new.parents c.deref-5.result.now
     c.args.picks.now c.as_slice-old.ensures.labels c.as_slice-old.ensures.are_labels (rw c.self.view_is c.requires.roots) c.deref-2.ensures.value c.in_ok-take_and_name.ensures.named
     (c.take_and_name.auto.parents ∙ c.deref_mut.ensures.len) c.deref-5.ensures.value in
     relabelling_is_labels (length c.args.labels.now) (Picked c.args.picks.now) c.args.labels.now (renamed c.deref-5.result.now c.args.labels.now) c.as_slice-old.ensures.are_labels.few_vertices
@@ -42,7 +42,7 @@ rename_par-requires-clause-labels g c κs within =
 
 pub returns-clause-relabelled : goal.returns-clause-relabelled
 returns-clause-relabelled g c =
-    let is = relabelled_named c.args.labels.now c.as_slice-old.result.now c.self.inside.roots.items c.deref-2.result.now c.make_room.new.numbers c.take_and_name.new.parents c.deref-5.result.now
+    let is = relabelled_named c.args.labels.now c.as_slice-old.result.now c.self.inside.roots.items c.deref-2.result.now c.lead_and_make_room.new.parents c.take_and_name.new.parents c.deref-5.result.now
     c.args.picks.now c.as_slice-old.ensures.labels c.as_slice-old.ensures.are_labels (rw c.self.view_is c.requires.roots) c.deref-2.ensures.value c.in_ok-take_and_name.ensures.named
     (c.take_and_name.auto.parents ∙ c.deref_mut.ensures.len) c.deref-5.ensures.value in
     let over = subst (λ (xs : List ℕ). IsRelabelling (length xs) xs (Picked c.args.picks.now) (renamed c.deref-5.result.now xs)) c.as_slice-old.ensures.labels is in
