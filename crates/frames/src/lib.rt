@@ -17,8 +17,9 @@
 //! - The encoders give exactly a lawful frame's one text, the same in both versions; no frame's text
 //!   begins another's, so a stream of frames reads in one way (`laws`).
 //! - [`read_frame`] that answers a frame took exactly its text, and answers else the first refusal that fits; so do
-//!   [`decode_head`] and [`decode_body`] for its parts, and [`read_next`] behind an ask. (That it answers another ask
-//!   under its labels as that alone, and stores none, is only tested.)
+//!   [`decode_head`] and [`decode_body`] for its parts, and [`read_next`] behind an ask, which says too whether other
+//!   labels coarsen those of the one before. (That it answers another ask under the same as that alone, and stores none, is
+//!   only tested.)
 //!
 //! Where to start a change: the grammar stands in `specs/FrameText`, what is lawful in `specs/Lawful`, and
 //! the refusals with their order in `specs/Refusals`. `fields` and `items` have one function a field and list,
