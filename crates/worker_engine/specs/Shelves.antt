@@ -1,5 +1,5 @@
 -- What a worker keeps, and which of its links are live.
-use Rattle.std.specs.Prelude.{◌≡◌, ℕ, ◌≤◌, List, length, map, Option, Some, IfSome}
+use Rattle.std.specs.Prelude.{ℕ, ◌≤◌, List, length, map, Option, Some, IfSome}
 use Rattle.std.specs.Ordering.{nat_cmp}
 use Rattle.std.specs.BTreeMap.{is_at}
 use Rattle.std.specs.Map.{lookup}

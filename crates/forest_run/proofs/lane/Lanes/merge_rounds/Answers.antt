@@ -1,4 +1,4 @@
-use Rattle.std.proofs.Common.{length, ap, arith, refl, ◌∙◌}
+use Rattle.std.proofs.Common.{arith, refl, ◌∙◌}
 use Rattle.std.proofs.lemmas.Result.{err_from_is_err_and}
 use Rattle.forest_run.proofs.Ending.{asked_none, so_far_none, wide_more, alone_few, turned_more, turned_last, turn_fault, turn_honest, asked_then}
 use Rattle.forest_run.proofs.lane.Lanes.merge_rounds.Goals as goal
