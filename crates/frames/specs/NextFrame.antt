@@ -19,7 +19,7 @@ next_value last (AskAgain round shard) = AskFrame round shard last
 next_value last (AskCoarser round shard labels) = AskFrame round shard labels
 next_value last (Other frame) = value_of frame
 
--- an ask is said to have labels that coarsen those of the last one just where it has, and not the same
+-- labels are said to coarsen those of the last ask only where they do, and an ask that comes as a whole frame has labels that don't
 abbrev pub SaysCoarser : {A : Type 0} → List ℕ → NextFrame A → Type 0
 SaysCoarser last (AskAgain round shard) = Unit {0}
 SaysCoarser last (AskCoarser round shard labels) = Coarsens labels last

@@ -40,7 +40,7 @@ pub enum NextFrame<A: Allocator = Global> {
         shard: u32,
     },
 
-    /// An ask under other labels, which coarsen those of the one before.
+    /// An ask under labels that coarsen those of the one before, and were stored.
     AskCoarser {
         round: u32,
         shard: u32,
@@ -245,8 +245,8 @@ fn are_coarser_behind(numbers: &[u32], last: &[u32], from: usize) -> bool
     true
 }
 
-// Whether vertex v is labelled, by the label of the vertex that labelled it before, where those below it are. Its own new label
-// is looked at only where it labelled itself: else the vertex that it goes by is below it, and so is that one's.
+// Whether vertex v is labelled, by the label of the vertex that labelled it before, where those below it are. Where it labelled
+// itself, its new label has to be its own; else it has to be that of the vertex that labelled it, which is below and judged.
 #[inline]
 fn is_coarser(numbers: &[u32], last: &[u32], v: usize) -> bool
     requires last { AreLabels last.now }

@@ -180,7 +180,7 @@ impl<A: Allocator + Copy> Solver<A> {
 }
 
 impl<A: Allocator + Copy + Send + Sync> Solver<A> {
-    /// The same as [`step`](Solver::step) by up to four threads, where there are many vertices, and in the room that there
+    /// The same as [`step`](Solver::step) by up to five threads, where there are many vertices, and in the room that there
     /// is: the new labels are written over the old ones, with their bytes where these are kept, and each pick is let go of, so
     /// that a book can be opened over the picks ([`RoundBook::open_over`](crate::RoundBook::open_over)) without clearing them.
     ///

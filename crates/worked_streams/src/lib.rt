@@ -6,7 +6,7 @@
 //!   given_streams                frames of a source of which only what it gave is known
 //!   frames_codec                 frames and their bytes, each refusal, and its text
 //!   memory_of_frames             which blocks of memory frames take, and which live after one is read
-//!   next_frames                  a frame behind an ask, whose labels come again or differ in one place
+//!   next_frames                  a frame behind an ask, whose labels come again, coarsen those before or part some
 //!   refused_in_turn              work whose allocations are refused in turn, with a flaw and without one
 //!   same                         what is found beside what is expected
 //!   shard_pieces                 shards that go out and come by pieces, and flaws in each piece

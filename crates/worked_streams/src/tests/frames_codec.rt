@@ -249,7 +249,7 @@ fn ask_with_each_vertex_apart(rt: HostRuntime) -> Result<(), Fail> {
     Ok(())
 }
 
-fn labels_of(rt: &impl Abort, alloc: Global, list: &[u32]) -> Result<Labels, Fail> {
+pub(crate) fn labels_of(rt: &impl Abort, alloc: Global, list: &[u32]) -> Result<Labels, Fail> {
     Ok(Labels::of_list(Vec::from_slice(alloc, list)?).expect(rt, "labels"))
 }
 

@@ -1,8 +1,9 @@
 // The next frame behind an ask, beside what is read of the same bytes alone: labels that come again, that differ in one
-// place, that are none, and streams that end or fail inside a piece. 16,384 labels are compared at a time, so the 80,001
+// place, that coarsen or part what was joined, that are none, and streams that end or fail inside a piece. 16,384 labels are compared at a time, so the 80,001
 // labels here come in five pieces.
 ghost use Rattle.std.specs.Prelude.{◌≤◌};
 
+use super::frames_codec::labels_of;
 use super::same::expect_same;
 use byte_streams::FusedSource;
 use frames::{FrameFault, NextFrame, encode, encode_ask, read_frame, read_next};
@@ -147,6 +148,23 @@ fn labels_that_part_what_was_joined(rt: HostRuntime) -> Result<(), Fail> {
         let labels = labels_but(&rt, rt.alloc(), joined)?;
         let last = labels_but(&rt, rt.alloc(), parted)?;
         expect_ask(&rt, rt.alloc(), &labels, &last, Said::Other)?;
+    }
+    Ok(())
+}
+
+// Behind two pairs that were joined: all four, the same pairs, one of them alone, and a pair that is parted and joined anew.
+#[test]
+fn labels_behind_joined_vertices(rt: HostRuntime) -> Result<(), Fail> {
+    let last = labels_of(&rt, rt.alloc(), &[1, 1, 3, 3])?;
+    let rows: [(&[u32], Said); 4] = [
+        (&[1, 1, 1, 1], Said::Coarser),
+        (&[1, 1, 3, 3], Said::Again),
+        (&[1, 1, 3, 4], Said::Other),
+        (&[1, 1, 3, 1], Said::Other),
+    ];
+    for (list, said) in rows {
+        let labels = labels_of(&rt, rt.alloc(), list)?;
+        expect_ask(&rt, rt.alloc(), &labels, &last, said)?;
     }
     Ok(())
 }
