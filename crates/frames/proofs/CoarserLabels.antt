@@ -1,6 +1,6 @@
 -- Labels of an ask that coarsen those of the last one, a piece at a time.
 use Rattle.std.proofs.Common.{◌≡◌, ℕ, ◌+◌, ◌*◌, ◌-◌, ◌≤◌, List, ◌++◌, length, take, drop, Bool, Option, Some, None, Vec, refl, sym, ap, subst, ◌∙◌, arith}
-use Rattle.std.specs.Prelude.{◌↔◌, IsTrue, IfSome, IfNone}
+use Rattle.std.specs.Prelude.{◌≢◌, ◌↔◌, IsTrue, IfSome, IfNone}
 use Rattle.std.specs.List.{flat_map}
 use Rattle.std.proofs.Math.ListN.{get_or-append}
 use Rattle.std.proofs.lemmas.List.{length-append, length-take-le, take-append-drop, take_all}
@@ -8,7 +8,7 @@ use Rattle.link_key.specs.Labels.{label_of, IsLabelled, AreLabels, Coarsens}
 use Rattle.byte_streams.specs.Streams.{SourceState}
 use Rattle.frames.specs.FrameValue.{FrameValue, AskFrame}
 use Rattle.frames.specs.FrameText.{u32_text, kind_of, body_of}
-use Rattle.frames.specs.NextFrame.{AreCoarserUpTo, numbers_of_ask, BodyCame}
+use Rattle.frames.specs.NextFrame.{AreCoarserUpTo, AreOthers, numbers_of_ask, BodyCame}
 use Rattle.frames.proofs.Texts.{u32_length, items_length}
 
 -- the label of one of the first vertices, whatever stands behind them
@@ -146,6 +146,11 @@ module _ (last : List ℕ) (are : AreLabels last) where
 pub all_of_ask : {A : Type 0} (last : List ℕ) (came : ℕ) (numbers : Option (Vec ℕ A)) → length last ≤ came → numbers_of_ask (take came last) numbers ≡ numbers_of_ask last numbers
 all_of_ask last came None all = take_all came last all
 all_of_ask last came (Some numbers) all = refl
+
+-- and are others than the last ones
+pub all_others : {A : Type 0} (last : List ℕ) (came : ℕ) (numbers : Option (Vec ℕ A)) → length last ≤ came → AreOthers last came numbers → IfSome numbers (λ list. list.items ≢ last)
+all_others last came None all others = tt
+all_others last came (Some list) all others = λ same. others (same ∙ sym (take_all came last all))
 
 -- a frame of another length asks for as many other labels
 pub other_length : (v : FrameValue) (kind len : ℕ) (s t : SourceState) (last : List ℕ) → BodyCame v kind len s t → (kind ≡ 3 → len ≡ 12 + 4 * length last → ⊥)

@@ -15,7 +15,7 @@ use Rattle.link_key.specs.declared.links.Link.{Link}
 use Rattle.frames.specs.FrameText.{u32_text, i32_text, i64_text, is_narrow, are_narrow, offer_text}
 use Rattle.frames.specs.Lawful.{IsU32}
 use Rattle.frames.specs.Refusals.{AreNoLinks, IsNoLink}
-use Rattle.frames.proofs.Texts.{IsBytes, IsBytes-drop, IsBytes-take, u32_length, u32_back, i64_length, parts_same, FitsOffer, offer_length}
+use Rattle.frames.proofs.Texts.{IsBytes, IsBytes-drop, IsBytes-take, u32_length, u32_back, u32_prefix, i64_length, items_same, parts_same, FitsOffer, offer_length}
 use Rattle.frames.proofs.OneText.{two_prefix}
 use Rattle.link_key.specs.Offers.{Offer}
 
@@ -54,6 +54,17 @@ numbers_are bytes numbers whole fits are = (
   ap (flat_map u32_text) are ∙ numbers_back (length bytes / 4) bytes (omega arith) fits,
   subst (All IsU32) (sym are) (All-from_recursion IsU32 _ (numbers_fit (length bytes / 4) bytes fits)),
 )
+
+each_fits : (numbers : List ℕ) → ((i : ℕ) → get_or numbers i 0 < 2 ^ 32) → AllByRecursion IsU32 numbers
+each_fits [] fit = tt
+each_fits (n ∷ numbers) fit = (fit 0, each_fits numbers (λ i. fit (suc i)))
+
+-- numbers are found in their bytes
+pub numbers_found : (bytes numbers : List ℕ) → length bytes % 4 ≡ 0 → IsBytes bytes → ((i : ℕ) → get_or numbers i 0 < 2 ^ 32) → flat_map u32_text numbers ≡ bytes
+    → numbers ≡ map (from_be_bytes w32) (first_chunks 4 (length bytes / 4) bytes)
+numbers_found bytes numbers whole fits fit spelled =
+    items_same u32_text 4 IsU32 (omega arith) u32_length u32_prefix numbers _ (each_fits numbers fit) (numbers_fit (length bytes / 4) bytes fits)
+    (spelled ∙ sym (numbers_back (length bytes / 4) bytes (omega arith) fits))
 
 -- ---- links, written
 

@@ -1,5 +1,5 @@
 -- A frame behind an ask, whose labels may come again.
-use Rattle.std.specs.Prelude.{◌≡◌, ℕ, ◌+◌, ◌/◌, ◌<◌, ◌≤◌, ◌⊎◌, List, ◌++◌, length, take, All, Option, Some, None, Vec}
+use Rattle.std.specs.Prelude.{◌≡◌, ◌≢◌, ℕ, ◌+◌, ◌/◌, ◌<◌, ◌≤◌, ◌⊎◌, List, ◌++◌, length, take, All, Option, Some, None, IfSome, Vec}
 use Rattle.std.specs.List.{flat_map}
 use Rattle.byte_streams.specs.Streams.{SourceState, Gave}
 use Rattle.link_key.specs.Labels.{label_of, IsLabelled, AreLabels, Coarsens}
@@ -19,10 +19,10 @@ next_value last (AskAgain round shard) = AskFrame round shard last
 next_value last (AskCoarser round shard labels) = AskFrame round shard labels
 next_value last (Other frame) = value_of frame
 
--- labels are said to coarsen those of the last ask only where they do, and an ask that comes as a whole frame has labels that don't
+-- labels are said to coarsen those of the last ask only where they do and are others, and an ask that comes as a whole frame has labels that don't
 abbrev pub SaysCoarser : {A : Type 0} → List ℕ → NextFrame A → Type 0
 SaysCoarser last (AskAgain round shard) = Unit {0}
-SaysCoarser last (AskCoarser round shard labels) = Coarsens labels last
+SaysCoarser last (AskCoarser round shard labels) = Coarsens labels last × (labels ≢ last)
 SaysCoarser last (Other frame) = (r s : ℕ) (labels : List ℕ) → value_of frame ≡ AskFrame r s labels → ¬ Coarsens labels last
 
 -- the first so many numbers are labels of their vertices, and coarsen those that these had in the last ask
@@ -40,6 +40,10 @@ pub record IsAskUnder {A : Type 0} (last : List ℕ) (round shard : ℕ) (number
   pub value : next_value last next ≡ AskFrame round shard numbers
   pub labels : AreLabels numbers
   pub coarser : SaysCoarser last next
+
+-- numbers that were stored aren't the same as so many of the last ones
+abbrev pub AreOthers : {A : Type 0} → List ℕ → ℕ → Option (Vec ℕ A) → Type 0
+AreOthers last came numbers = IfSome numbers (λ list. list.items ≢ take came last)
 
 -- behind the numbers that came so far, those of these bytes were heard
 pub record HearsMore {A : Type 0} (last : List ℕ) (came : ℕ) (piece : List ℕ) (before after : Option (Vec ℕ A)) : Type 0 where

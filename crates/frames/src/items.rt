@@ -199,9 +199,9 @@ fn numbers_in<A: Allocator>(alloc: A, cells: &[[u8; 4]]) -> Result<Vec<u32, A>, 
         .collect(alloc)
 }
 
-// True only where these are the bytes of the numbers. It looks at all of them, so that they are compared many at a time.
+// Whether these are the bytes of the numbers. It looks at all of them, so that they are compared many at a time.
 pub(crate) fn spells(bytes: &[u8], numbers: &[u32]) -> bool
-    ensures { IsTrue result → flat_map u32_text numbers.now ≡ bytes.now }
+    ensures { IsTrue result ↔ (flat_map u32_text numbers.now ≡ bytes.now) }
 {
     if bytes.len() % 4 != 0 {
         return false;
@@ -212,7 +212,7 @@ pub(crate) fn spells(bytes: &[u8], numbers: &[u32]) -> bool
 
 fn are_cells_of(cells: &[[u8; 4]], numbers: &[u32]) -> bool
     requires { length cells.now ≡ length numbers.now }
-    ensures { IsTrue result → numbers.now ≡ map (from_be_bytes w32) cells.now }
+    ensures { IsTrue result ↔ (numbers.now ≡ map (from_be_bytes w32) cells.now) }
 {
     let mut same = true;
     for i in 0..cells.len() {

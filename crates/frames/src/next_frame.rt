@@ -4,7 +4,7 @@
 //! those of the last ones as they come, a piece at a time in one buffer: while they are the same, nothing is stored, and
 //! whether they are labels isn't judged again. In the next round they coarsen the last ones. So others are stored and seen to
 //! be such labels in one pass too: a look-up for each while it is in the processor's cache, and the rest is on its way.
-ghost use Rattle.std.specs.Prelude.{◌≡◌, ℕ, ◌+◌, ◌*◌, ◌/◌, ◌%◌, ◌<◌, ◌≤◌, ◌↔◌, List, ◌++◌, length, map, All, IfOk, IfErr, OnOk, IfSome, IfNone, IsTrue};
+ghost use Rattle.std.specs.Prelude.{◌≡◌, ◌≢◌, ℕ, ◌+◌, ◌*◌, ◌/◌, ◌%◌, ◌<◌, ◌≤◌, ◌↔◌, List, ◌++◌, length, map, take, All, IfOk, IfErr, OnOk, IfSome, IfNone, IsTrue};
 ghost use Rattle.std.specs.Int.{w32, from_be_bytes};
 ghost use Rattle.std.specs.List.{flat_map};
 ghost use Rattle.byte_streams.specs.Streams.{Gave};
@@ -13,7 +13,7 @@ ghost use Rattle.frames.specs.FrameText.{u32_text, text_of};
 ghost use Rattle.frames.specs.Lawful.{IsU32, IsLawful};
 ghost use Rattle.frames.specs.Refusals.{IsPossible};
 ghost use Rattle.frames.specs.ReadFault.{IsReadRefused};
-ghost use Rattle.frames.specs.NextFrame.{next_value, SaysCoarser, AreCoarserUpTo, numbers_of_ask, IsAskUnder, HearsMore, StayU32, BodyCame, IsBodyRefused, IsStopped};
+ghost use Rattle.frames.specs.NextFrame.{next_value, SaysCoarser, AreCoarserUpTo, AreOthers, numbers_of_ask, IsAskUnder, HearsMore, StayU32, BodyCame, IsBodyRefused, IsStopped};
 ghost use Rattle.frames.specs.declared.fault.FrameFault.TheVariants.{BadField};
 
 use crate::bodies::{read_body, read_bytes};
@@ -40,7 +40,7 @@ pub enum NextFrame<A: Allocator = Global> {
         shard: u32,
     },
 
-    /// An ask under labels that coarsen those of the one before, and were stored.
+    /// An ask under other labels, which coarsen those of the one before and were stored.
     AskCoarser {
         round: u32,
         shard: u32,
@@ -149,6 +149,7 @@ fn ask_of<A: Allocator>(
 ) -> Result<NextFrame<A>, FrameFault>
     requires last { AreLabels last.now }
     requires counted { length (numbers_of_ask last.now heard.numbers) ≡ length last.now }
+    requires others { IfSome heard.numbers (λ list. list.items ≢ last.now) }
     requires coarser { IsTrue heard.are_coarser ↔ AreCoarserUpTo last.now (numbers_of_ask last.now heard.numbers) (length last.now) }
     ensures ask { IfOk result (IsAskUnder last.now round shard (numbers_of_ask last.now heard.numbers)) }
     ensures refused { IfErr result (λ fault. (fault ≡ BadField) × ¬ AreLabels (numbers_of_ask last.now heard.numbers)) }
@@ -186,6 +187,7 @@ fn read_numbers<A: Allocator + Copy, S: Source>(
     requires labels { AreLabels last.now }
     requires can { S.can_read source.old }
     ensures counted { IfOk result (λ heard. length (numbers_of_ask last.now heard.numbers) ≡ length last.now) }
+    ensures others { IfOk result (λ heard. IfSome heard.numbers (λ list. list.items ≢ last.now)) }
     ensures coarser { IfOk result
         (λ heard. IsTrue heard.are_coarser ↔ AreCoarserUpTo last.now (numbers_of_ask last.now heard.numbers) (length last.now)) }
     ensures came { IfOk result
@@ -278,7 +280,10 @@ fn hear_piece<A: Allocator>(
     requires whole { length piece.now % 4 ≡ 0 }
     requires fits { length piece.now ≤ 4 * PIECE }
     requires within { came + length piece.now / 4 ≤ length last.now }
+    requires counted { length (numbers_of_ask (take came last.now) numbers.old) ≡ came }
+    requires others { AreOthers last.now came numbers.old }
     ensures heard { OnOk result (HearsMore last.now came piece.now numbers.old numbers.new) }
+    ensures others { OnOk result (AreOthers last.now (came + length piece.now / 4) numbers.new) }
     ensures fit { OnOk result (StayU32 last.now came (length piece.now / 4) numbers.old numbers.new) }
 {
     match numbers {

@@ -16,7 +16,7 @@ returns-then-spells g c =
     let new = c.put_front.new.text in
     let all = c.deref.result.now in
     let bytes : drop 17 old ≡ flat_map u32_text labels =
-    sym (ap (flat_map u32_text) (sym c.as_slice.ensures.labels) ∙ c.spells.ensures c.if-spells.true ∙ take_all (length all - 17) (drop 17 all) (omega (arith, length-drop 17 all)) ∙ ap (drop 17) c.deref.ensures.value) in
+    sym (ap (flat_map u32_text) (sym c.as_slice.ensures.labels) ∙ c.spells.ensures.0 c.if-spells.true ∙ take_all (length all - 17) (drop 17 all) (omega (arith, length-drop 17 all)) ∙ ap (drop 17) c.deref.ensures.value) in
     let long : length head ≡ 17 = search rules in
     let whole : new ≡ head ++ drop (length head) old = c.put_front.ensures ∙ ap (λ (t : List ℕ). head ++ drop (length head) t) c.as_mut_slice.ensures.value in
     over_written new head old c.args.text.now.len whole (search rules) (search rules)

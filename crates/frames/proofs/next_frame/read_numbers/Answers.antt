@@ -7,8 +7,8 @@ use Rattle.byte_streams.proofs.Streaming.{gave_more}
 use Rattle.frames.specs.FrameText.{u32_text}
 use Rattle.frames.specs.Lawful.{IsU32}
 use Rattle.std.specs.Prelude.{◌↔◌, IsTrue}
-use Rattle.frames.specs.NextFrame.{AreCoarserUpTo, numbers_of_ask}
-use Rattle.frames.proofs.CoarserLabels.{others_within, others_so_far, stayed, not_again, all_of_ask}
+use Rattle.frames.specs.NextFrame.{AreCoarserUpTo, AreOthers, numbers_of_ask}
+use Rattle.frames.proofs.CoarserLabels.{others_within, others_so_far, stayed, not_again, all_of_ask, all_others}
 use Rattle.frames.proofs.NextFrames.{bytes_of, more_text, stopped_in, stopped_at}
 use Rattle.frames.proofs.next_frame.read_numbers.Goals.{then-are_coarser, else-are_coarser}
 use Rattle.frames.proofs.next_frame.read_numbers.Goals as goal
@@ -48,6 +48,7 @@ loop-came-preserved g c =
       within = within;
       room = omega (arith, length-append c.read_bytes.new.bytes (drop (4 * c.min-count.result) c.loop-came.buffer), length-drop (4 * c.min-count.result) c.loop-came.buffer, count, most, c.loop-came.invariant.room);
       counted = omega (arith, ap length heard, length-append (flat_map u32_text before) c.read_bytes.new.bytes, bytes_of before, bytes_of after, count, c.loop-came.invariant.counted);
+      others = subst (λ (k : ℕ). AreOthers c.args.last.now (c.loop-came.came + k) c.hear_piece.new.numbers) items c.in_ok-hear_piece.ensures.others;
       coarser = elim c.if-are_coarser.branch [
         | then-are_coarser w ↦
             rw w.are_coarser-is
@@ -99,3 +100,6 @@ returns-clause-coarser g c =
     let at : c.loop-came.came ≡ length c.args.last.now = omega arith in
     subst (λ (ns : List ℕ). IsTrue c.loop-came.are_coarser ↔ AreCoarserUpTo c.args.last.now ns (length c.args.last.now)) same
     (subst (λ (n : ℕ). IsTrue c.loop-came.are_coarser ↔ AreCoarserUpTo c.args.last.now (numbers_of_ask (take c.loop-came.came c.args.last.now) c.loop-came.numbers) n) at c.loop-came.invariant.coarser)
+
+pub returns-clause-others : goal.returns-clause-others
+returns-clause-others g c = all_others c.args.last.now c.loop-came.came c.loop-came.numbers (omega arith) c.loop-came.invariant.others

@@ -9,5 +9,5 @@ pub reply_under_par-reply-requires-in-Ok-AskCoarser-clause-live : goal.reply_und
 reply_under_par-reply-requires-in-Ok-AskCoarser-clause-live g c =
     let labels = c.in-Ok-AskCoarser.labels in
     let said = subst (λ (n : NextFrame g.row.A.Denot). SaysCoarser c.as_slice.result.now n) c.in-Ok-AskCoarser.field-0-is c.in-Ok-AskCoarser.ensures.coarser in
-    let coarsens = subst (λ (last : List ℕ). Coarsens labels last) c.as_slice.ensures.labels said in
+    let coarsens = subst (λ (last : List ℕ). Coarsens labels last) c.as_slice.ensures.labels said.0 in
     λ lives outlive. under_coarser labels c.self.inside.labels c.self.inside.shards.entries coarsens c.self.invariant
