@@ -53,6 +53,17 @@ const ASK: [u8; 29] = [
     3, 0, 0, 0, 24, 0, 0, 0, 1, 0, 0, 0, 0, 0, 0, 0, 3, 0, 0, 0, 1, 0, 0, 0, 2, 0, 0, 0, 3,
 ];
 
+// One vertex more, which no link has, and then the same as one component with the first.
+const ASK_OF_FOUR: [u8; 33] = [
+    3, 0, 0, 0, 28, 0, 0, 0, 1, 0, 0, 0, 0, 0, 0, 0, 4, 0, 0, 0, 1, 0, 0, 0, 2, 0, 0, 0, 3, 0, 0,
+    0, 4,
+];
+
+const COARSER_ASK: [u8; 33] = [
+    3, 0, 0, 0, 28, 0, 0, 0, 2, 0, 0, 0, 0, 0, 0, 0, 4, 0, 0, 0, 1, 0, 0, 0, 2, 0, 0, 0, 3, 0, 0,
+    0, 1,
+];
+
 const SHORT_ASK: [u8; 25] = [
     3, 0, 0, 0, 20, 0, 0, 0, 1, 0, 0, 0, 0, 0, 0, 0, 2, 0, 0, 0, 1, 0, 0, 0, 2,
 ];
@@ -243,6 +254,17 @@ fn an_ask_that_comes_again_is_not_stored(rt: HostRuntime) -> Result<(), Fail> {
     let once = blocks_of_session(&rt, rt.alloc(), &[&SHARD, &ASK])?;
     let twice = blocks_of_session(&rt, rt.alloc(), &[&SHARD, &ASK, &ASK])?;
     expect_same(&rt, twice.wrapping_sub(once), 3);
+    Ok(())
+}
+
+// An ask under labels that coarsen those of the one before takes four blocks: for these labels, for marks, for names and for
+// the offers. The list of the shard's live links stays: were all live again, it would take a block for another list, and none
+// for marks and names.
+#[test]
+fn an_ask_under_coarser_labels_keeps_the_lists(rt: HostRuntime) -> Result<(), Fail> {
+    let once = blocks_of_session(&rt, rt.alloc(), &[&SHARD, &ASK_OF_FOUR])?;
+    let twice = blocks_of_session(&rt, rt.alloc(), &[&SHARD, &ASK_OF_FOUR, &COARSER_ASK])?;
+    expect_same(&rt, twice.wrapping_sub(once), 4);
     Ok(())
 }
 
