@@ -19,7 +19,7 @@ next_value last (AskAgain round shard) = AskFrame round shard last
 next_value last (AskCoarser round shard labels) = AskFrame round shard labels
 next_value last (Other frame) = value_of frame
 
--- labels are said to coarsen those of the last ask only where they do and are others, and an ask that comes as a whole frame has labels that don't
+-- other labels are said to coarsen those of the last ask only where they do, and an ask that comes as a whole frame has labels that don't: so the same come as such
 abbrev pub SaysCoarser : {A : Type 0} → List ℕ → NextFrame A → Type 0
 SaysCoarser last (AskAgain round shard) = Unit {0}
 SaysCoarser last (AskCoarser round shard labels) = Coarsens labels last × (labels ≢ last)
