@@ -1,5 +1,5 @@
 -- Labels of an ask that coarsen those of the last one, a piece at a time.
-use Rattle.std.proofs.Common.{◌≡◌, ℕ, ◌+◌, ◌*◌, ◌-◌, ◌≤◌, List, ◌++◌, length, take, drop, Bool, Option, Some, None, Vec, refl, sym, ap, subst, ◌∙◌, arith}
+use Rattle.std.proofs.Common.{◌≡◌, ℕ, ◌+◌, ◌*◌, ◌-◌, ◌/◌, ◌≤◌, List, ◌++◌, length, take, drop, Bool, Option, Some, None, Vec, refl, sym, ap, subst, ◌∙◌, arith}
 use Rattle.std.specs.Prelude.{◌≢◌, ◌↔◌, IsTrue, IfSome, IfNone}
 use Rattle.std.specs.List.{flat_map}
 use Rattle.std.proofs.Math.ListN.{get_or-append}
@@ -8,8 +8,9 @@ use Rattle.link_key.specs.Labels.{label_of, IsLabelled, AreLabels, Coarsens}
 use Rattle.byte_streams.specs.Streams.{SourceState}
 use Rattle.frames.specs.FrameValue.{FrameValue, AskFrame}
 use Rattle.frames.specs.FrameText.{u32_text, kind_of, body_of}
-use Rattle.frames.specs.NextFrame.{AreCoarserUpTo, AreOthers, numbers_of_ask, BodyCame}
+use Rattle.frames.specs.NextFrame.{AreCoarserUpTo, AreOthers, HearsMore, numbers_of_ask, BodyCame}
 use Rattle.frames.proofs.Texts.{u32_length, items_length}
+use Rattle.frames.proofs.NextFrames.{bytes_of}
 
 -- the label of one of the first vertices, whatever stands behind them
 label_front : (front more : List ℕ) (v : ℕ) → 1 ≤ v → v ≤ length front → label_of (front ++ more) v ≡ label_of front v
@@ -35,6 +36,26 @@ labelled_back front more v one to is =
       from_one = low;
       at_most_itself = high;
       own = sym there ∙ ap (λ (c : ℕ). label_of (front ++ more) c) (sym here) ∙ is.own ∙ here;
+    }
+
+-- behind so many numbers that came, so many more
+pub record CameMore {A : Type 0} (last : List ℕ) (came k : ℕ) (before after : Option (Vec ℕ A)) (more : List ℕ) : Type 0 where
+  pub within : came + k ≤ length last
+  pub counted : length (numbers_of_ask (take came last) before) ≡ came
+  pub long : length (numbers_of_ask (take (came + k) last) after) ≡ came + k
+  pub is : numbers_of_ask (take (came + k) last) after ≡ numbers_of_ask (take came last) before ++ more
+
+-- those of the bytes that were heard
+pub came_more : {A : Type 0} (last : List ℕ) (came k : ℕ) (piece : List ℕ) (before after : Option (Vec ℕ A)) → length piece ≡ 4 * k → came + k ≤ length last
+    → length (numbers_of_ask (take came last) before) ≡ came → (heard : HearsMore last came piece before after) → CameMore last came k before after heard.more
+came_more last came k piece before after count within counted heard =
+    let items : length piece / 4 ≡ k = omega (arith, count) in
+    let is = subst (λ (n : ℕ). numbers_of_ask (take (came + n) last) after ≡ numbers_of_ask (take came last) before ++ heard.more) items heard.is in
+    record {
+      within = within;
+      counted = counted;
+      long = omega (arith, ap length is, length-append (numbers_of_ask (take came last) before) heard.more, ap length heard.spelled, bytes_of heard.more, count, counted);
+      is = is;
     }
 
 module _ (last : List ℕ) (are : AreLabels last) where
@@ -99,24 +120,22 @@ module _ (last : List ℕ) (are : AreLabels last) where
       (subst (λ (ns : List ℕ). AreCoarserUpTo last ns (length (take to last))) (sym (take-append-drop to last)) (same_coarser (length (take to last)) (omega (arith, long, within)))))
 
   -- the numbers that came so far, and so many more
-  module _ {A : Type 0} (before after : Option (Vec ℕ A)) (came k : ℕ) (more : List ℕ) (within : came + k ≤ length last)
-      (counted : length (numbers_of_ask (take came last) before) ≡ came) (long : length (numbers_of_ask (take (came + k) last) after) ≡ came + k)
-      (is : numbers_of_ask (take (came + k) last) after ≡ numbers_of_ask (take came last) before ++ more) where
+  module _ {A : Type 0} (before after : Option (Vec ℕ A)) (came k : ℕ) (more : List ℕ) (heard : CameMore last came k before after more) where
     pub others_within : IfSome after (λ list. (came ≤ length list.items) × (length list.items ≤ length last))
-    others_within = go after long
+    others_within = go after heard.long
       where
         go : (o : Option (Vec ℕ A)) → length (numbers_of_ask (take (came + k) last) o) ≡ came + k → IfSome o (λ list. (came ≤ length list.items) × (length list.items ≤ length last))
         go None all = tt
-        go (Some list) all = (omega (arith, all), omega (arith, all, within))
+        go (Some list) all = (omega (arith, all), omega (arith, all, heard.within))
 
     pub others_so_far : AreCoarserUpTo last (numbers_of_ask (take came last) before) came → IfSome after (λ list. AreCoarserUpTo last list.items came)
-    others_so_far so = go after (subst (λ (ns : List ℕ). AreCoarserUpTo last ns came) (sym is) (on so))
+    others_so_far so = go after (subst (λ (ns : List ℕ). AreCoarserUpTo last ns came) (sym heard.is) (on so))
       where
         on : AreCoarserUpTo last (numbers_of_ask (take came last) before) came → AreCoarserUpTo last (numbers_of_ask (take came last) before ++ more) came
         on so =
-            subst (λ (n : ℕ). AreCoarserUpTo last (numbers_of_ask (take came last) before ++ more) n) counted
-            (coarser_on (numbers_of_ask (take came last) before) more (omega (arith, counted, within))
-            (subst (λ (n : ℕ). AreCoarserUpTo last (numbers_of_ask (take came last) before) n) (sym counted) so))
+            subst (λ (n : ℕ). AreCoarserUpTo last (numbers_of_ask (take came last) before ++ more) n) heard.counted
+            (coarser_on (numbers_of_ask (take came last) before) more (omega (arith, heard.counted, heard.within))
+            (subst (λ (n : ℕ). AreCoarserUpTo last (numbers_of_ask (take came last) before) n) (sym heard.counted) so))
 
         go : (o : Option (Vec ℕ A)) → AreCoarserUpTo last (numbers_of_ask (take (came + k) last) o) came → IfSome o (λ list. AreCoarserUpTo last list.items came)
         go None all = tt
@@ -124,20 +143,20 @@ module _ (last : List ℕ) (are : AreLabels last) where
 
     pub stayed : (b : Bool) → IfSome after (λ list. IsTrue b ↔ AreCoarserUpTo last list.items (length list.items)) → IfNone after (IsTrue b)
         → IsTrue b ↔ AreCoarserUpTo last (numbers_of_ask (take (came + k) last) after) (came + k)
-    stayed b = go after long
+    stayed b = go after heard.long
       where
         go : (o : Option (Vec ℕ A)) → length (numbers_of_ask (take (came + k) last) o) ≡ came + k
             → IfSome o (λ list. IsTrue b ↔ AreCoarserUpTo last list.items (length list.items)) → IfNone o (IsTrue b)
             → IsTrue b ↔ AreCoarserUpTo last (numbers_of_ask (take (came + k) last) o) (came + k)
-        go None all others same = (λ t. same_front (came + k) within, λ are. same)
+        go None all others same = (λ t. same_front (came + k) heard.within, λ are. same)
         go (Some list) all others same = subst (λ (n : ℕ). IsTrue b ↔ AreCoarserUpTo last list.items n) all others
 
     pub not_again : (AreCoarserUpTo last (numbers_of_ask (take came last) before) came → ⊥) → AreCoarserUpTo last (numbers_of_ask (take (came + k) last) after) (came + k) → ⊥
     not_again never all =
-        never (subst (λ (n : ℕ). AreCoarserUpTo last (numbers_of_ask (take came last) before) n) counted
-        (coarser_off (numbers_of_ask (take came last) before) more (omega (arith, counted, within))
-        (up_to (numbers_of_ask (take came last) before ++ more) (came + k) (length (numbers_of_ask (take came last) before)) (omega (arith, counted))
-        (subst (λ (ns : List ℕ). AreCoarserUpTo last ns (came + k)) is all))))
+        never (subst (λ (n : ℕ). AreCoarserUpTo last (numbers_of_ask (take came last) before) n) heard.counted
+        (coarser_off (numbers_of_ask (take came last) before) more (omega (arith, heard.counted, heard.within))
+        (up_to (numbers_of_ask (take came last) before ++ more) (came + k) (length (numbers_of_ask (take came last) before)) (omega (arith, heard.counted))
+        (subst (λ (ns : List ℕ). AreCoarserUpTo last ns (came + k)) heard.is all))))
       where
         up_to : (ns : List ℕ) (n m : ℕ) → m ≤ n → AreCoarserUpTo last ns n → AreCoarserUpTo last ns m
         up_to ns n m le are = record { labelled = λ v one most. are.labelled v one (omega arith); coarser = λ v one most. are.coarser v one (omega arith) }
