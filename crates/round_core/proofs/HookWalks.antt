@@ -35,7 +35,7 @@ over_equal labels S f equal =
     over_least labels S (λ u v. f (label_of labels u) ≡ f (label_of labels v)) (λ u v same. ap f same) (λ u v w e e'. e ∙ e') equal (λ l is_in. sym (equal l is_in))
 
 -- a walk may begin at any vertex of the label
-over_from : (labels : List ℕ) (S : LinkSet) (u v w : ℕ) → label_of labels u ≡ label_of labels v → JoinsOver labels S v w → JoinsOver labels S u w
+pub over_from : (labels : List ℕ) (S : LinkSet) (u v w : ℕ) → label_of labels u ≡ label_of labels v → JoinsOver labels S v w → JoinsOver labels S u w
 over_from labels S u v w same ([], all, is) = ([], tt, same ∙ is)
 over_from labels S u v w same (l ∷ walk, all, inl (at, leads)) = (l ∷ walk, all, inl (same ∙ at, leads))
 over_from labels S u v w same (l ∷ walk, all, inr (at, leads)) = (l ∷ walk, all, inr (same ∙ at, leads))

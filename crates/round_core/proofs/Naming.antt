@@ -15,7 +15,7 @@ use Rattle.link_key.proofs.Stages.{kept_in, kept_if}
 use Rattle.round_theory.specs.Labelling.{IsVertex, JoinsOver, IsRelabelling, IsLeastJoinedOver}
 use Rattle.round_core.specs.Picks.{Picked}
 use Rattle.round_core.specs.Roots.{IsRoot, AreRoots, ArePointers, AreParents, AreSettled, IsLeastUnder, AreNames}
-use Rattle.round_core.proofs.HookWalks.{over_same, over_then, over_back, over_equal}
+use Rattle.round_core.proofs.HookWalks.{over_same, over_from, over_then, over_back, over_equal}
 use Rattle.round_core.proofs.Leading.{end_root}
 
 -- what holds of the roots at all places holds of all roots
@@ -155,54 +155,50 @@ pub named_all : (roots least old new : List ℕ) (k : ℕ) → length roots ≤ 
 named_all roots least old new k past are c (j, within, here) =
     subst (λ b. get_or new b 0 ≡ get_or least (get_or old b 0) 0) (get_or_default roots j 0 c within ∙ here) (are.named j (omega (arith, past, within)) within)
 
--- The labels by the least roots. What the old labels and the picks join has one parent, since all parents are settled; and
--- a vertex is never less than its label, so that the least root under a parent is the least vertex too.
-pub relabelled_by_names : (labels roots parents names new : List ℕ) (picks : List (Option Link)) → AreLabels labels → AreRoots labels roots → AreParents labels roots picks parents → AreSettled roots parents
-    → ((c : ℕ) → Contains roots c → IsLeastUnder roots parents c (get_or names c 0)) → new ≡ map (λ c. get_or names c 0) labels → IsRelabelling (length labels) labels (Picked picks) new
-relabelled_by_names labels roots parents names new picks are are_roots are_parents settled named new_is = record {
+-- What the labels and the picks join to a root has one parent, since all parents are settled; and a vertex is never less than its
+-- label, so that the least root under that parent is the least vertex too.
+pub least_joined : (labels roots parents : List ℕ) (picks : List (Option Link)) → AreLabels labels → AreRoots labels roots → AreParents labels roots picks parents → AreSettled roots parents
+    → (c u : ℕ) → IsRoot labels c → IsLeastUnder roots parents c u → IsLeastJoinedOver (length labels) labels (Picked picks) c u
+least_joined labels roots parents picks are are_roots are_parents settled c u root name = record {
+  vertex = ((are_roots.exact u).0 name.root).0;
+  joined = over_then labels (Picked picks) (Picked picks) (λ l l_in. l_in) c (get_or parents c 0) u (are_parents.joined c ((are_roots.exact c).1 root)) down;
+  least = λ w vertex over.
+      let le : u ≤ label_of labels w = name.least (label_of labels w) ((are_roots.exact (label_of labels w)).1 (end_root labels are w vertex)) (sym (one_parent w over)) in
+      let at : label_of labels w ≤ w = (are.labelled w vertex.0 vertex.1).at_most_itself in
+      omega (arith, le, at);
+}
+  where
+    down : JoinsOver labels (Picked picks) (get_or parents c 0) u
+    down = subst (λ p. JoinsOver labels (Picked picks) p u) name.same (over_back labels (Picked picks) u (get_or parents u 0) (are_parents.joined u name.root))
+
+    one_parent : (w : ℕ) → JoinsOver labels (Picked picks) c w → get_or parents c 0 ≡ get_or parents (label_of labels w) 0
+    one_parent w over = ap (λ b. get_or parents b 0) (sym root.1)
+        ∙ over_equal labels (Picked picks) (λ b. get_or parents b 0) (are_parents.together (λ b. get_or parents b 0) (λ b b_in. sym (settled b b_in))) c w over
+
+-- The labels by these names: what is joined to a vertex is joined to its label.
+pub relabelled_by_names : (labels names new : List ℕ) (picks : List (Option Link)) → AreLabels labels → AreNames labels picks names → new ≡ map (λ c. get_or names c 0) labels
+    → IsRelabelling (length labels) labels (Picked picks) new
+relabelled_by_names labels names new picks are named new_is = record {
   each_vertex = ap length new_is ∙ length-map labels (λ c. get_or names c 0);
   least = λ v vertex.
       let root = end_root labels are v vertex in
-      let c_in = (are_roots.exact (label_of labels v)).1 root in
-      let name = named (label_of labels v) c_in in
+      let name = named (label_of labels v) root in
       subst (IsLeastJoinedOver (length labels) labels (Picked picks) v) (sym (new_at v vertex)) (record {
-        vertex = ((are_roots.exact (get_or names (label_of labels v) 0)).0 name.root).0;
-        joined = to_name v vertex root c_in name;
-        least = λ w w_vertex over. below w w_vertex name (sym (one_parent v w over));
+        vertex = name.vertex;
+        joined = over_from labels (Picked picks) v (label_of labels v) (get_or names (label_of labels v) 0) (sym root.1) name.joined;
+        least = λ w w_vertex over. name.least w w_vertex (over_from labels (Picked picks) (label_of labels v) v w root.1 over);
       });
 }
   where
     new_at : (v : ℕ) → IsVertex (length labels) v → label_of new v ≡ get_or names (label_of labels v) 0
     new_at v vertex = ap (λ xs. label_of xs v) new_is ∙ get_or-map (λ c. get_or names c 0) labels (v - 1) 0 0 (omega (arith, vertex.0, vertex.1))
 
-    one_parent : (v w : ℕ) → JoinsOver labels (Picked picks) v w → get_or parents (label_of labels v) 0 ≡ get_or parents (label_of labels w) 0
-    one_parent = over_equal labels (Picked picks) (λ c. get_or parents c 0) (are_parents.together (λ c. get_or parents c 0) (λ c c_in. sym (settled c c_in)))
-
-    below : (w : ℕ) → IsVertex (length labels) w → {c u : ℕ} → IsLeastUnder roots parents c u → get_or parents (label_of labels w) 0 ≡ get_or parents c 0 → u ≤ w
-    below w w_vertex {c} {u} name same =
-        let root = end_root labels are w w_vertex in
-        let le : u ≤ label_of labels w = name.least (label_of labels w) ((are_roots.exact (label_of labels w)).1 root) same in
-        let at : label_of labels w ≤ w = (are.labelled w w_vertex.0 w_vertex.1).at_most_itself in
-        omega (arith, le, at)
-
-    to_name : (v : ℕ) → IsVertex (length labels) v → IsRoot labels (label_of labels v) → Contains roots (label_of labels v) → {u : ℕ} → IsLeastUnder roots parents (label_of labels v) u → JoinsOver labels (Picked picks) v u
-    to_name v vertex root c_in {u} name =
-        let c : ℕ = label_of labels v in
-        let self : JoinsOver labels (Picked picks) v c = over_same labels (Picked picks) v c (sym root.1) in
-        let up : JoinsOver labels (Picked picks) c (get_or parents c 0) = are_parents.joined c c_in in
-        let down : JoinsOver labels (Picked picks) (get_or parents c 0) u = subst (λ p. JoinsOver labels (Picked picks) p u) name.same (over_back labels (Picked picks) u (get_or parents u 0) (are_parents.joined u name.root)) in
-        over_then labels (Picked picks) (Picked picks) (λ l l_in. l_in) v c u self (over_then labels (Picked picks) (Picked picks) (λ l l_in. l_in) c (get_or parents c 0) u up down)
-
 -- the same where `old` is a slice of the labels, and the names are written over a vector of numbers
-pub relabelled_named : {Z : Type 0} (labels old roots roots' : List ℕ) (numbers : Vec ℕ Z) (names given : List ℕ) (picks : List (Option Link))
-    → old ≡ labels → AreLabels labels → AreRoots labels roots → roots' ≡ roots → AreNames old roots' picks names
+pub relabelled_named : {Z : Type 0} (labels old : List ℕ) (numbers : Vec ℕ Z) (names given : List ℕ) (picks : List (Option Link)) → old ≡ labels → AreLabels labels → AreNames old picks names
     → length names ≡ numbers.len → given ≡ (with_items numbers names).items → IsRelabelling (length old) old (Picked picks) (renamed given old)
-relabelled_named labels old roots roots' numbers names given picks same are are_roots same_roots are_names long given_are =
-    let names_are : given ≡ names = given_are ∙ with_items_is numbers names long in
-    let named = subst (λ (rs : List ℕ). AreNames old rs picks names) same_roots are_names in
-    let first = relabelled_by_names old roots named.parents names (map (λ c. get_or names c 0) old) picks (subst AreLabels (sym same) are)
-    (subst (λ (ls : List ℕ). AreRoots ls roots) (sym same) are_roots) named.are named.settled named.named refl in
-    subst (λ (xs : List ℕ). IsRelabelling (length old) old (Picked picks) (map (λ c. get_or xs c 0) old)) (sym names_are) first
+relabelled_named labels old numbers names given picks same are named long given_are =
+    let first = relabelled_by_names old names (map (λ c. get_or names c 0) old) picks (subst AreLabels (sym same) are) named refl in
+    subst (λ (xs : List ℕ). IsRelabelling (length old) old (Picked picks) (map (λ c. get_or xs c 0) old)) (sym (given_are ∙ with_items_is numbers names long)) first
 
 -- the roots that label themselves under the new labels too are the roots of those
 pub kept_roots : (labels roots new : List ℕ) (picks : List (Option Link)) → AreLabels labels → AreLabels new → AreRoots labels roots → IsRelabelling (length labels) labels (Picked picks) new

@@ -2,7 +2,7 @@
 use Rattle.std.specs.Prelude.{◌≡◌, ◌≢◌, ℕ, ◌+◌, ◌-◌, ◌<◌, ◌≤◌, ◌^◌, ◌⊎◌, ◌↔◌, min, Bool, true, List, ◌++◌, length, slice_index, slice_index_or, slice_set, AllPairs, Contains, Option, Some, None}
 use Rattle.link_key.specs.declared.links.Link.{Link}
 use Rattle.link_key.specs.Labels.{label_of, AreLabels}
-use Rattle.round_theory.specs.Labelling.{IsVertex, JoinsOver}
+use Rattle.round_theory.specs.Labelling.{IsVertex, JoinsOver, IsLeastJoinedOver}
 use Rattle.round_core.specs.Picks.{pick_of, Picked, ArePicksOfHearings}
 use Rattle.round_core.specs.declared.roots.Lead.{Lead}
 use Rattle.round_core.specs.Solver.{IsFirstPickedAt, IsPickedBefore, ArePickedOnce}
@@ -143,9 +143,6 @@ pub record CanStep (labels roots : List ℕ) (picks : List (Option Link)) (leads
   pub each : length leads ≡ length roots
   pub led : AreLeads labels picks roots leads
 
--- the name of each root is the least of those that the picks join, by parents that they have in common
-pub record AreNames (labels roots : List ℕ) (picks : List (Option Link)) (names : List ℕ) : Type 0 where
-  pub parents : List ℕ
-  pub are : AreParents labels roots picks parents
-  pub settled : AreSettled roots parents
-  pub named : (c : ℕ) → Contains roots c → IsLeastUnder roots parents c (slice_index names c)
+-- the name of each root is the least vertex that the components of the labels and the picks join it to
+abbrev pub AreNames : List ℕ → List (Option Link) → List ℕ → Type 0
+AreNames labels picks names = (c : ℕ) → IsRoot labels c → IsLeastJoinedOver (length labels) labels (Picked picks) c (slice_index names c)

@@ -392,7 +392,7 @@ fn take_and_name<R: Threads + Sync, A: Allocator + Copy + Send + Sync>(
     requires least { length led.labels.now < length least.old }
     ensures given { OnOk result (TakesBatch led.entry.picks.now led.entry.roots.now taken.old.items taken.new.items) }
     ensures before { StandsBefore taken.old.items taken.new.items }
-    ensures named { OnOk result (AreNames led.entry.labels.now led.entry.roots.now led.entry.picks.now parents.new) }
+    ensures named { OnOk result (AreNames led.entry.labels.now led.entry.picks.now parents.new) }
 {
     let Led {
         labels,
@@ -412,7 +412,7 @@ fn take_and_name<R: Threads + Sync, A: Allocator + Copy + Send + Sync>(
     { take_all(roots, leads, picks, taken) };
     let mut names = ||
         requires { CanStep labels.now roots.now picks.now leads.now × (length labels.now < length parents.now) × (length labels.now < length least.now) }
-        ensures { AreNames labels.entry.now roots.entry.now picks.entry.now parents.exit.now }
+        ensures { AreNames labels.entry.now picks.entry.now parents.exit.now }
     {
         let led = Led {
             labels,
@@ -426,12 +426,12 @@ fn take_and_name<R: Threads + Sync, A: Allocator + Copy + Send + Sync>(
     took
 }
 
-// Writes for each root the name of the component that it comes to: the least root of those that the picks join.
+// Writes for each root the name of the component that it comes to: the least vertex that the components and the picks join it to.
 fn name_joined<A: Allocator + Copy>(led: Led<A>, parents: &mut [u32], least: &mut [u32])
     requires can { CanStep led.labels.now led.roots.now led.picks.now led.leads.now }
     requires parents { length led.labels.now < length parents.old }
     requires least { length led.labels.now < length least.old }
-    ensures { AreNames led.entry.labels.now led.entry.roots.now led.entry.picks.now parents.new }
+    ensures { AreNames led.entry.labels.now led.entry.picks.now parents.new }
 {
     join_roots(led.labels, led.roots, led.picks, led.leads, parents);
     name_roots(led.roots, parents, least);

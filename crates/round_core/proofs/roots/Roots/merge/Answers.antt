@@ -38,16 +38,16 @@ labels_by-requires g c =
 
 pub of_known-requires : goal.of_known-requires
 of_known-requires g c =
-    let is = relabelled_named c.args.labels.now c.as_slice-old.result.now c.self.inside.roots.items c.deref-2.result.now c.make_room.new.numbers c.name_joined.new.parents c.deref-4.result.now
-    c.args.picks.now c.as_slice-old.ensures.labels c.as_slice-old.ensures.are_labels (rw c.self.view_is c.requires.roots) c.deref-2.ensures.value c.name_joined.ensures
+    let is = relabelled_named c.args.labels.now c.as_slice-old.result.now c.make_room.new.numbers c.name_joined.new.parents c.deref-4.result.now
+    c.args.picks.now c.as_slice-old.ensures.labels c.as_slice-old.ensures.are_labels c.name_joined.ensures
     (c.name_joined.auto.parents ∙ c.deref_mut.ensures.len) c.deref-4.ensures.value in
     let are : AreLabels c.as_slice-old.result.now = rw c.as_slice-old.ensures.labels c.as_slice-old.ensures.are_labels in
     rw c.in_ok-new.ensures (relabelling_is_labels (length c.as_slice-old.result.now) (Picked c.args.picks.now) c.as_slice-old.result.now (renamed c.deref-4.result.now c.as_slice-old.result.now) are.few_vertices is)
 
 pub returns-clause-relabelled : goal.returns-clause-relabelled
 returns-clause-relabelled g c =
-    let is = relabelled_named c.args.labels.now c.as_slice-old.result.now c.self.inside.roots.items c.deref-2.result.now c.make_room.new.numbers c.name_joined.new.parents c.deref-4.result.now
-    c.args.picks.now c.as_slice-old.ensures.labels c.as_slice-old.ensures.are_labels (rw c.self.view_is c.requires.roots) c.deref-2.ensures.value c.name_joined.ensures
+    let is = relabelled_named c.args.labels.now c.as_slice-old.result.now c.make_room.new.numbers c.name_joined.new.parents c.deref-4.result.now
+    c.args.picks.now c.as_slice-old.ensures.labels c.as_slice-old.ensures.are_labels c.name_joined.ensures
     (c.name_joined.auto.parents ∙ c.deref_mut.ensures.len) c.deref-4.ensures.value in
     subst (λ (xs : List ℕ). IsRelabelling (length xs) xs (Picked c.args.picks.now) c.of_known.result) c.as_slice-old.ensures.labels
     (subst (IsRelabelling (length c.as_slice-old.result.now) c.as_slice-old.result.now (Picked c.args.picks.now)) (sym (c.of_known.ensures ∙ c.in_ok-new.ensures)) is)

@@ -34,16 +34,16 @@ rename_par-requires-clause-within g c κs within =
 
 pub rename_par-requires-clause-labels : goal.rename_par-requires-clause-labels
 rename_par-requires-clause-labels g c κs within =
-    let is = relabelled_named c.args.labels.now c.as_slice-old.result.now c.self.inside.roots.items c.deref-2.result.now c.lead_and_make_room.new.parents c.take_and_name.new.parents c.deref-5.result.now
-    c.args.picks.now c.as_slice-old.ensures.labels c.as_slice-old.ensures.are_labels (rw c.self.view_is c.requires.roots) c.deref-2.ensures.value c.in_ok-take_and_name.ensures.named
+    let is = relabelled_named c.args.labels.now c.as_slice-old.result.now c.lead_and_make_room.new.parents c.take_and_name.new.parents c.deref-5.result.now
+    c.args.picks.now c.as_slice-old.ensures.labels c.as_slice-old.ensures.are_labels c.in_ok-take_and_name.ensures.named
     (c.take_and_name.auto.parents ∙ c.deref_mut.ensures.len) c.deref-5.ensures.value in
     relabelling_is_labels (length c.args.labels.now) (Picked c.args.picks.now) c.args.labels.now (renamed c.deref-5.result.now c.args.labels.now) c.as_slice-old.ensures.are_labels.few_vertices
     (subst (λ (xs : List ℕ). IsRelabelling (length xs) xs (Picked c.args.picks.now) (renamed c.deref-5.result.now xs)) c.as_slice-old.ensures.labels is)
 
 pub returns-clause-relabelled : goal.returns-clause-relabelled
 returns-clause-relabelled g c =
-    let is = relabelled_named c.args.labels.now c.as_slice-old.result.now c.self.inside.roots.items c.deref-2.result.now c.lead_and_make_room.new.parents c.take_and_name.new.parents c.deref-5.result.now
-    c.args.picks.now c.as_slice-old.ensures.labels c.as_slice-old.ensures.are_labels (rw c.self.view_is c.requires.roots) c.deref-2.ensures.value c.in_ok-take_and_name.ensures.named
+    let is = relabelled_named c.args.labels.now c.as_slice-old.result.now c.lead_and_make_room.new.parents c.take_and_name.new.parents c.deref-5.result.now
+    c.args.picks.now c.as_slice-old.ensures.labels c.as_slice-old.ensures.are_labels c.in_ok-take_and_name.ensures.named
     (c.take_and_name.auto.parents ∙ c.deref_mut.ensures.len) c.deref-5.ensures.value in
     let over = subst (λ (xs : List ℕ). IsRelabelling (length xs) xs (Picked c.args.picks.now) (renamed c.deref-5.result.now xs)) c.as_slice-old.ensures.labels is in
     subst (IsRelabelling (length c.args.labels.now) c.args.labels.now (Picked c.args.picks.now)) (sym c.rename_par.ensures) over
