@@ -1,5 +1,5 @@
 -- The labels that name components, as they stay from round to round, and where picks lead each of them.
-use Rattle.std.specs.Prelude.{◌≡◌, ◌≢◌, ℕ, ◌+◌, ◌-◌, ◌<◌, ◌≤◌, ◌^◌, ◌⊎◌, ◌↔◌, min, Bool, true, List, ◌++◌, length, slice_index, slice_index_or, slice_set, AllPairs, Contains, Option, Some, None}
+use Rattle.std.specs.Prelude.{◌≡◌, ◌≢◌, ℕ, ◌+◌, ◌-◌, ◌<◌, ◌≤◌, ◌^◌, ◌⊎◌, ◌↔◌, min, Bool, true, List, ◌++◌, length, slice_index, slice_index_or, slice_set, All, AllPairs, Contains, Option, Some, None}
 use Rattle.link_key.specs.declared.links.Link.{Link}
 use Rattle.link_key.specs.Labels.{label_of, AreLabels}
 use Rattle.round_theory.specs.Labelling.{IsVertex, JoinsOver, IsLeastJoinedOver}
@@ -134,6 +134,12 @@ pub record IsLeastUnder (roots parents : List ℕ) (c u : ℕ) : Type 0 where
   pub root : Contains roots u
   pub same : slice_index parents u ≡ slice_index parents c
   pub least : (w : ℕ) → Contains roots w → slice_index parents w ≡ slice_index parents c → u ≤ w
+
+-- roots of labels, and the picks of a book with these
+pub record CanLead (labels roots : List ℕ) (picks : List (Option Link)) : Type 0 where
+  pub labelled : AreLabels labels
+  pub picked : ArePicksOfHearings labels picks
+  pub each_root : All (IsRoot labels) roots
 
 -- the roots of labels, the picks of a book with these, and where they lead each root
 pub record CanStep (labels roots : List ℕ) (picks : List (Option Link)) (leads : List Lead) : Type 0 where

@@ -4,7 +4,7 @@ ghost use Rattle.link_key.specs.Labels.{label_of, AreLabels, AreApart};
 ghost use Rattle.round_theory.specs.Labelling.{IsVertex, IsRelabelling};
 ghost use Rattle.round_theory.specs.Offers.{Leaves};
 ghost use Rattle.round_core.specs.Picks.{pick_of, Picked, AreNoPicks, HaveAllPicks, ArePicksOfHearings};
-ghost use Rattle.round_core.specs.Roots.{IsRoot, AreRoots, HasEndLabels, IsLed, IsLedBy, IsTaker, AreLeads, ArePartLeads, AreTakers, Follows, TakesBatch, TakesPicked, StandsBefore, ArePointers, AreParents, IsSettled, AreSettled, AreNear, IsLeastUnder, CanStep, AreNames, jumped};
+ghost use Rattle.round_core.specs.Roots.{IsRoot, AreRoots, HasEndLabels, IsLed, IsLedBy, IsTaker, AreLeads, ArePartLeads, AreTakers, Follows, TakesBatch, TakesPicked, StandsBefore, ArePointers, AreParents, IsSettled, AreSettled, AreNear, IsLeastUnder, CanLead, CanStep, AreNames, jumped};
 
 use crate::picks::Picks;
 use limits::MAX_VERTICES;
@@ -87,7 +87,12 @@ impl<A: Allocator + Copy> Roots<A> {
         let old = labels.as_slice();
         make_room(alloc, &mut self.parents, old.len())?;
         make_room(alloc, &mut self.least, old.len())?;
-        let leads = leads_of(alloc, old, &self.roots, picks)?;
+        let picking = Picking {
+            labels: old,
+            roots: &self.roots,
+            picks,
+        };
+        let leads = leads_of(alloc, picking)?;
         let led = Led {
             labels: old,
             roots: &self.roots,
@@ -124,14 +129,12 @@ impl<A: Allocator + Copy + Send + Sync> Roots<A> {
     {
         let alloc = *taken.allocator();
         let old = labels.as_slice();
-        let leads = lead_and_make_room(
-            rt,
-            old,
-            &self.roots,
+        let picking = Picking {
+            labels: old,
+            roots: &self.roots,
             picks,
-            &mut self.parents,
-            &mut self.least,
-        )?;
+        };
+        let leads = lead_and_make_room(rt, picking, &mut self.parents, &mut self.least)?;
         let led = Led {
             labels: old,
             roots: &self.roots,
@@ -218,39 +221,55 @@ fn make_room<A: Allocator + Copy>(
     Ok(())
 }
 
+// What a step begins with: the labels, the roots of their components, and what these pick, each with a lifetime of its own.
+#[derive(Clone, Copy)]
+struct Picking<'l, 'r, 'p, A: Allocator> {
+    labels: &'l [u32],
+    roots: &'r [u32],
+    picks: &'p Picks<A>,
+}
+
 // Where its pick leads each root, and room for the parents and the least roots, made by a second thread where there is none
 // yet and labels are many: what takes time is to touch so much memory for the first time.
 fn lead_and_make_room<R: Threads + Sync, A: Allocator + Copy + Send + Sync>(
     rt: &R,
-    labels: &[u32],
-    roots: &[u32],
-    picks: &Picks<A>,
+    picking: Picking<A>,
     parents: &mut Vec<u32, A>,
     least: &mut Vec<u32, A>,
 ) -> Result<Vec<Lead, A>, AllocError>
-    requires labels { AreLabels labels.now }
-    requires picks { ArePicksOfHearings labels.now picks.now }
-    requires roots { All (IsRoot labels.now) roots.now }
-    ensures each { IfOk result (λ leads. length leads.items ≡ length roots.now) }
-    ensures leads { IfOk result (λ leads. AreLeads labels.now picks.now roots.now leads.items) }
-    ensures parents { OnOk result (length labels.now < length parents.new.items) }
-    ensures least { OnOk result (length labels.now < length least.new.items) }
+    requires can { CanLead picking.labels.now picking.roots.now picking.picks.now }
+    ensures each { IfOk result (λ leads. length leads.items ≡ length picking.entry.roots.now) }
+    ensures leads { IfOk result (λ leads. AreLeads picking.entry.labels.now picking.entry.picks.now picking.entry.roots.now leads.items) }
+    ensures parents { OnOk result (length picking.entry.labels.now < length parents.new.items) }
+    ensures least { OnOk result (length picking.entry.labels.now < length least.new.items) }
 {
+    let Picking {
+        labels,
+        roots,
+        picks,
+    } = picking;
     let alloc = *parents.allocator();
     let n = labels.len();
     if n < FEW_ROOTS || n < parents.len() {
         make_rooms(alloc, parents, least, n)?;
-        return leads_by_parts(rt, alloc, labels, roots, picks);
+        return leads_by_parts(rt, alloc, picking);
     }
     let mut room = || -> Result<(), AllocError>
         requires { n ≤ MAX_VERTICES }
         ensures { OnOk result ((n < length parents.exit.now.items) × (n < length least.exit.now.items)) }
     { make_rooms(alloc, parents, least, n) };
     let mut lead = || -> Result<Vec<Lead, A>, AllocError>
-        requires { AreLabels labels.now × ArePicksOfHearings labels.now picks.now × All (IsRoot labels.now) roots.now }
+        requires { CanLead labels.now roots.now picks.now }
         ensures { IfOk result (λ leads. (length leads.items ≡ length roots.entry.now)
             × AreLeads labels.entry.now picks.entry.now roots.entry.now leads.items) }
-    { leads_by_parts(rt, alloc, labels, roots, picks) };
+    {
+        let picking = Picking {
+            labels,
+            roots,
+            picks,
+        };
+        leads_by_parts(rt, alloc, picking)
+    };
     let (made, leads) = join_mut(rt, &mut room, &mut lead);
     made?;
     leads
@@ -272,20 +291,13 @@ fn make_rooms<A: Allocator + Copy>(
 }
 
 // Where its pick leads each root.
-fn leads_of<A: Allocator + Copy>(
-    alloc: A,
-    labels: &[u32],
-    roots: &[u32],
-    picks: &Picks<A>,
-) -> Result<Vec<Lead, A>, AllocError>
-    requires labels { AreLabels labels.now }
-    requires picks { ArePicksOfHearings labels.now picks.now }
-    requires roots { All (IsRoot labels.now) roots.now }
-    ensures each { IfOk result (λ leads. length leads.items ≡ length roots.now) }
-    ensures leads { IfOk result (λ leads. AreLeads labels.now picks.now roots.now leads.items) }
+fn leads_of<A: Allocator + Copy>(alloc: A, picking: Picking<A>) -> Result<Vec<Lead, A>, AllocError>
+    requires { CanLead picking.labels.now picking.roots.now picking.picks.now }
+    ensures each { IfOk result (λ leads. length leads.items ≡ length picking.entry.roots.now) }
+    ensures leads { IfOk result (λ leads. AreLeads picking.entry.labels.now picking.entry.picks.now picking.entry.roots.now leads.items) }
 {
-    let mut leads = vec![in alloc; Lead::BLANK; roots.len()]?;
-    lead_each(labels, roots, picks, &mut leads);
+    let mut leads = vec![in alloc; Lead::BLANK; picking.roots.len()]?;
+    lead_each(picking.labels, picking.roots, picking.picks, &mut leads);
     Ok(leads)
 }
 
@@ -294,44 +306,40 @@ fn leads_of<A: Allocator + Copy>(
 fn leads_by_parts<R: Threads + Sync, A: Allocator + Copy + Sync>(
     rt: &R,
     alloc: A,
-    labels: &[u32],
-    roots: &[u32],
-    picks: &Picks<A>,
+    picking: Picking<A>,
 ) -> Result<Vec<Lead, A>, AllocError>
-    requires labels { AreLabels labels.now }
-    requires picks { ArePicksOfHearings labels.now picks.now }
-    requires roots { All (IsRoot labels.now) roots.now }
-    ensures each { IfOk result (λ leads. length leads.items ≡ length roots.now) }
-    ensures leads { IfOk result (λ leads. AreLeads labels.now picks.now roots.now leads.items) }
+    requires { CanLead picking.labels.now picking.roots.now picking.picks.now }
+    ensures each { IfOk result (λ leads. length leads.items ≡ length picking.entry.roots.now) }
+    ensures leads { IfOk result (λ leads. AreLeads picking.entry.labels.now picking.entry.picks.now picking.entry.roots.now leads.items) }
 {
-    let mut leads = vec![in alloc; Lead::BLANK; roots.len()]?;
-    lead_parts(rt, labels, roots, picks, &mut leads);
+    let mut leads = vec![in alloc; Lead::BLANK; picking.roots.len()]?;
+    lead_parts(rt, picking, &mut leads);
     Ok(leads)
 }
 
 // The same into room for as many leads.
 fn lead_parts<R: Threads + Sync, A: Allocator + Sync>(
     rt: &R,
-    labels: &[u32],
-    roots: &[u32],
-    picks: &Picks<A>,
+    picking: Picking<A>,
     leads: &mut [Lead],
 )
-    requires labels { AreLabels labels.now }
-    requires picks { ArePicksOfHearings labels.now picks.now }
-    requires roots { All (IsRoot labels.now) roots.now }
-    requires room { length leads.old ≡ length roots.now }
+    requires can { CanLead picking.labels.now picking.roots.now picking.picks.now }
+    requires room { length leads.old ≡ length picking.roots.now }
     ensures room { length leads.new ≡ length leads.old }
-    ensures leads { AreLeads labels.now picks.now roots.now leads.new }
+    ensures leads { AreLeads picking.entry.labels.now picking.entry.picks.now picking.entry.roots.now leads.new }
 {
+    let Picking {
+        labels,
+        roots,
+        picks,
+    } = picking;
     let size = roots.len().div_ceil(PARTS).max(FEW_ROOTS);
     thread::for_each_chunk_mut(
         rt,
         leads,
         size,
         &|start: usize, part: &mut [Lead]|
-            requires { AreLabels labels.now × ArePicksOfHearings labels.now picks.now × All (IsRoot labels.now) roots.now
-                × (start + length part.now ≤ length roots.now) }
+            requires { CanLead labels.now roots.now picks.now × (start + length part.now ≤ length roots.now) }
             ensures { ArePartLeads labels.entry.now picks.entry.now roots.entry.now start (length part.entry.now) part.exit.now }
         { lead_part(labels, roots, start, picks, part) },
     );
@@ -345,9 +353,7 @@ fn lead_part<A: Allocator>(
     picks: &Picks<A>,
     leads: &mut [Lead],
 )
-    requires labels { AreLabels labels.now }
-    requires picks { ArePicksOfHearings labels.now picks.now }
-    requires roots { All (IsRoot labels.now) roots.now }
+    requires can { CanLead labels.now roots.now picks.now }
     requires room { start + length leads.old ≤ length roots.now }
     ensures { ArePartLeads labels.now picks.now roots.now start (length leads.old) leads.new }
 {
@@ -356,9 +362,7 @@ fn lead_part<A: Allocator>(
 
 // Looks up where its pick leads each root.
 fn lead_each<A: Allocator>(labels: &[u32], roots: &[u32], picks: &Picks<A>, leads: &mut [Lead])
-    requires labels { AreLabels labels.now }
-    requires picks { ArePicksOfHearings labels.now picks.now }
-    requires roots { All (IsRoot labels.now) roots.now }
+    requires can { CanLead labels.now roots.now picks.now }
     requires room { length leads.old ≡ length roots.now }
     ensures room { length leads.new ≡ length leads.old }
     ensures leads { AreLeads labels.now picks.now roots.now leads.new }
@@ -406,12 +410,16 @@ fn take_and_name<R: Threads + Sync, A: Allocator + Copy + Send + Sync>(
         return Ok(());
     }
     let mut takes = || -> Result<(), AllocError>
-        requires { All (IsVertex (length picks.now)) roots.now × (length leads.now ≡ length roots.now) × AreTakers picks.now roots.now leads.now }
+        requires roots { All (IsVertex (length picks.now)) roots.now }
+        requires room { length leads.now ≡ length roots.now }
+        requires takes { AreTakers picks.now roots.now leads.now }
         ensures { OnOk result (TakesBatch picks.entry.now roots.entry.now taken.entry.now.items taken.exit.now.items)
             × StandsBefore taken.entry.now.items taken.exit.now.items }
     { take_all(roots, leads, picks, taken) };
     let mut names = ||
-        requires { CanStep labels.now roots.now picks.now leads.now × (length labels.now < length parents.now) × (length labels.now < length least.now) }
+        requires can { CanStep labels.now roots.now picks.now leads.now }
+        requires parents { length labels.now < length parents.now }
+        requires least { length labels.now < length least.now }
         ensures { AreNames labels.entry.now picks.entry.now parents.exit.now }
     {
         let led = Led {

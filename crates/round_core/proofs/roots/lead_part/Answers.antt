@@ -4,11 +4,16 @@ use Rattle.round_core.specs.Roots.{IsLed, IsRoot, IsTaker}
 use Rattle.round_core.proofs.Giving.{part_all}
 use Rattle.round_core.proofs.roots.lead_part.Goals as goal
 
-pub lead_each-requires-clause-roots : goal.lead_each-requires-clause-roots
-lead_each-requires-clause-roots g c =
+pub lead_each-requires-clause-can : goal.lead_each-requires-clause-can
+lead_each-requires-clause-can g c =
     let roots = c.args.roots.now in
     let next : ℕ = c.args.start + length c.args.leads.now in
-    part_all roots (take (next - c.args.start) (drop c.args.start roots)) c.args.start next (omega (arith, c.requires.room)) refl (IsRoot c.args.labels.now) c.requires.roots
+    let can = c.requires.can in
+    record {
+      labelled = can.labelled;
+      picked = can.picked;
+      each_root = part_all roots (take (next - c.args.start) (drop c.args.start roots)) c.args.start next (omega (arith, c.requires.room)) refl (IsRoot c.args.labels.now) can.each_root;
+    }
 
 pub returns : goal.returns
 returns g c =

@@ -4,9 +4,9 @@ use Rattle.round_core.proofs.roots.lead_parts.Goals as goal
 
 pub returns-clause-leads : goal.returns-clause-leads
 returns-clause-leads g c =
-    let labels = c.args.labels.now in
-    let picks = c.args.picks.now in
-    let roots = c.args.roots.now in
+    let labels = c.args.picking.labels.now in
+    let picks = c.args.picking.picks.now in
+    let roots = c.args.picking.roots.now in
     record {
       led = λ i lead lt at.
           let here = (c.for_each_chunk_mut.ensures.by_index i lead (omega (arith, lt, c.requires.room))).1 in

@@ -9,4 +9,4 @@ take_all-requires-clause-roots g c =
 pub join_mut-took-requires-after_bounds : goal.join_mut-took-requires-after_bounds
 join_mut-took-requires-after_bounds g c = λ lives outlive.
     let within = roots_within c.args.led.labels.now c.args.led.roots.now (length c.args.led.picks.now) c.requires.can.picked.1.each_vertex c.requires.can.are_roots in
-    ((within, c.requires.can.each, c.requires.can.led.takes), (c.requires.can, c.requires.parents, c.requires.least))
+    ((within, (c.requires.can.each, c.requires.can.led.takes)), (c.requires.can, (c.requires.parents, c.requires.least)))

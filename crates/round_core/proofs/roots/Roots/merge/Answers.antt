@@ -10,10 +10,14 @@ use Rattle.round_core.proofs.Giving.{picked_behind, roots_all}
 use Rattle.round_core.proofs.Naming.{labels_within, roots_within, roots_below, relabelled_named}
 use Rattle.round_core.proofs.roots.Roots.merge.Goals as goal
 
-pub leads_of-requires-clause-roots : goal.leads_of-requires-clause-roots
-leads_of-requires-clause-roots g c =
+pub leads_of-requires : goal.leads_of-requires
+leads_of-requires g c =
     let are : AreRoots c.as_slice-old.result.now c.deref.result.now = rw (c.as_slice-old.ensures.labels, c.deref.ensures.value, c.self.view_is) c.requires.roots in
-    roots_all c.as_slice-old.result.now c.deref.result.now are
+    record {
+      labelled = rw c.as_slice-old.ensures.labels c.as_slice-old.ensures.are_labels;
+      picked = rw c.as_slice-old.ensures.labels c.requires.picks;
+      each_root = roots_all c.as_slice-old.result.now c.deref.result.now are;
+    }
 
 pub take_all-requires-clause-roots : goal.take_all-requires-clause-roots
 take_all-requires-clause-roots g c =

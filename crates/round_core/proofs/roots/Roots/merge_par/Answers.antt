@@ -10,10 +10,14 @@ use Rattle.round_core.proofs.Giving.{picked_behind, roots_all}
 use Rattle.round_core.proofs.Naming.{labels_within, roots_within, roots_below, relabelled_named}
 use Rattle.round_core.proofs.roots.Roots.merge_par.Goals as goal
 
-pub lead_and_make_room-requires-clause-roots : goal.lead_and_make_room-requires-clause-roots
-lead_and_make_room-requires-clause-roots g c κs within =
+pub lead_and_make_room-requires-clause-can : goal.lead_and_make_room-requires-clause-can
+lead_and_make_room-requires-clause-can g c κs within =
     let are : AreRoots c.as_slice-old.result.now c.deref.result.now = rw (c.as_slice-old.ensures.labels, c.deref.ensures.value, c.self.view_is) c.requires.roots in
-    roots_all c.as_slice-old.result.now c.deref.result.now are
+    record {
+      labelled = rw c.as_slice-old.ensures.labels c.as_slice-old.ensures.are_labels;
+      picked = rw c.as_slice-old.ensures.labels c.requires.picks;
+      each_root = roots_all c.as_slice-old.result.now c.deref.result.now are;
+    }
 
 pub clear_each-requires : goal.clear_each-requires
 clear_each-requires g c =
