@@ -13,7 +13,7 @@ use Rattle.round_theory.specs.Offers.{Hearing, IsNamed}
 use Rattle.round_theory.proofs.Labels.{labelling_is_labels}
 use Rattle.round_core.specs.Picks.{pick_of, ArePicks, ArePicksOfHearings, AreNoPicks}
 use Rattle.round_core.specs.declared.roots.Lead.{Lead}
-use Rattle.round_core.specs.Roots.{IsRoot, AreRoots, IsLed, IsLedBy, IsTaker, AreLeads, Follows, StandsAt, StandsBefore, TakesBatch, TakesPicked, IsGiven, AreGiven}
+use Rattle.round_core.specs.Roots.{IsRoot, AreRoots, IsLed, IsLedBy, IsTaker, AreLeads, Follows, StandsAt, StandsBefore, TakesBatch, TakesPicked, IsGiven, AreGiven, CanLead}
 use Rattle.round_core.specs.Solver.{Progress, vertices, IsProgress, IsFirstPickedAt, IsPickedBefore, ArePickedOnce}
 use Rattle.round_core.proofs.Leading.{root_at}
 use Rattle.round_core.proofs.Picking.{place_of, picked_there, first_place}
@@ -231,8 +231,9 @@ picked_behind picks heard labels roots before after are_labels are_picks are_roo
       (takes.given labels roots 0 [] are_roots (λ i lt. let place : i ≡ 0 + i = omega arith in (omega (arith, lt), ap (λ j. get_or roots j 0) place)) (given_none picks roots));
 }
 
-pub roots_all : (labels roots : List ℕ) → AreRoots labels roots → All (IsRoot labels) roots
-roots_all labels roots are k d lt = (are.exact (get_or roots k d)).0 (Contains-get_or roots k d lt)
+-- the roots of a slice of the labels can be led
+pub can_lead : (labels old roots : List ℕ) (picks : List (Option Link)) → old ≡ labels → AreLabels labels → ArePicksOfHearings labels picks → AreRoots old roots → CanLead old roots picks
+can_lead labels old roots picks same are picked roots_are = record { labelled = rw same are; picked = rw same picked; each_root = λ k d lt. (roots_are.exact (get_or roots k d)).0 (Contains-get_or roots k d lt) }
 
 -- nothing was taken yet
 pub nothing_added : (links : List Link) → StandsBefore links links

@@ -8,12 +8,8 @@ pub lead_each-requires-clause-can : goal.lead_each-requires-clause-can
 lead_each-requires-clause-can g c =
     let roots = c.args.roots.now in
     let next : ℕ = c.args.start + length c.args.leads.now in
-    let can = c.requires.can in
-    record {
-      labelled = can.labelled;
-      picked = can.picked;
-      each_root = part_all roots (take (next - c.args.start) (drop c.args.start roots)) c.args.start next (omega (arith, c.requires.room)) refl (IsRoot c.args.labels.now) can.each_root;
-    }
+    let all = part_all roots (take (next - c.args.start) (drop c.args.start roots)) c.args.start next (omega (arith, c.requires.room)) refl (IsRoot c.args.labels.now) c.requires.can.each_root in
+    record { labelled = c.requires.can.labelled; picked = c.requires.can.picked; each_root = all }
 
 pub returns : goal.returns
 returns g c =

@@ -6,18 +6,14 @@ use Rattle.round_theory.specs.Labelling.{IsRelabelling}
 use Rattle.round_theory.proofs.Steps.{relabelling_is_labels}
 use Rattle.round_core.specs.Picks.{Picked}
 use Rattle.round_core.specs.Roots.{AreRoots, AreTakers, TakesPicked}
-use Rattle.round_core.proofs.Giving.{picked_behind, roots_all}
+use Rattle.round_core.proofs.Giving.{picked_behind, can_lead}
 use Rattle.round_core.proofs.Naming.{labels_within, roots_within, roots_below, relabelled_named}
 use Rattle.round_core.proofs.roots.Roots.merge.Goals as goal
 
 pub leads_of-requires : goal.leads_of-requires
 leads_of-requires g c =
     let are : AreRoots c.as_slice-old.result.now c.deref.result.now = rw (c.as_slice-old.ensures.labels, c.deref.ensures.value, c.self.view_is) c.requires.roots in
-    record {
-      labelled = rw c.as_slice-old.ensures.labels c.as_slice-old.ensures.are_labels;
-      picked = rw c.as_slice-old.ensures.labels c.requires.picks;
-      each_root = roots_all c.as_slice-old.result.now c.deref.result.now are;
-    }
+    can_lead c.args.labels.now c.as_slice-old.result.now c.deref.result.now c.args.picks.now c.as_slice-old.ensures.labels c.as_slice-old.ensures.are_labels c.requires.picks are
 
 pub take_all-requires-clause-roots : goal.take_all-requires-clause-roots
 take_all-requires-clause-roots g c =
