@@ -86,7 +86,8 @@ fn count_leaving<A: Allocator>(picks: &mut Picks<A>, labels: &EndLabels, links: 
     requires ends { EndsUpTo (length labels.now) links.now }
     requires each_vertex { length picks.old ≡ length labels.now }
     ensures each_vertex { length picks.new ≡ length picks.old }
-    ensures picks { (seen : List TheLink) → ArePicks labels.now (Contains seen) picks.old → ArePicks labels.now (Contains (seen ++ links.now)) picks.new }
+    ensures picks { (seen : List TheLink)
+        → ArePicks labels.now (Contains seen) picks.old → ArePicks labels.now (Contains (seen ++ links.now)) picks.new }
 {
     for link in links {
         let low = labels.of(link.low);
