@@ -2,13 +2,12 @@
 ghost use Rattle.std.specs.Prelude.{◌≡◌, ◌<◌};
 ghost use Rattle.claim_board.specs.State.{AreSeats};
 
-use super::same::expect_same;
+use super::same::{expect_same, expect_text};
 use claim_board::{Board, BoardFault, Claim, Owners, Seat};
 use limits::{MAX_SHARDS, MAX_WORKERS};
-use std::alloc::{AllocError, Global};
+use std::alloc::Global;
 use std::process::Abort;
 use std::sync::atomic::{AtomicU64, Ordering};
-use std::test::Fail;
 use std::thread;
 use std::thread::Threads;
 
@@ -38,14 +37,14 @@ fn give_back(board: &Board<Global>, seats: &mut Vec<Seat>, number: usize, shard:
 }
 
 #[test]
-fn a_shard_goes_from_seat_to_seat(rt: HostRuntime) -> Result<(), Fail> {
-    let (board, mut seats) = Board::open(rt.alloc(), 2, 2)?;
+fn a_shard_goes_from_seat_to_seat(rt: HostRuntime) {
+    let (board, mut seats) = Board::open(rt.alloc(), 2, 2).expect(&rt, "memory");
     let first = claim(&board, &mut seats, 0, 0);
     let other = claim(&board, &mut seats, 1, 0);
     let again = claim(&board, &mut seats, 0, 0);
     let gave = give_back(&board, &mut seats, 0, 0);
     let last = claim(&board, &mut seats, 1, 0);
-    let owners = board.close(seats)?;
+    let owners = board.close(seats).expect(&rt, "memory");
     expect_same(
         &rt,
         [first, other, again, last],
@@ -53,7 +52,6 @@ fn a_shard_goes_from_seat_to_seat(rt: HostRuntime) -> Result<(), Fail> {
     );
     let found = (gave, owners.of(0), owners.of(1), owners.of(2));
     expect_same(&rt, found, (true, Some(1), None, None));
-    Ok(())
 }
 
 // Claims every shard in ascending order, and answers how many it won.
@@ -93,14 +91,13 @@ fn claim_all_at_once<R: Threads + Sync>(rt: &R, board: &Board<Global>, seats: &m
 }
 
 #[test]
-fn two_threads_share_all_shards(rt: HostRuntime) -> Result<(), Fail> {
-    let (board, mut seats) = Board::open(rt.alloc(), MAX_SHARDS as u32, 2)?;
+fn two_threads_share_all_shards(rt: HostRuntime) {
+    let (board, mut seats) = Board::open(rt.alloc(), MAX_SHARDS as u32, 2).expect(&rt, "memory");
     let wins = claim_all_at_once(&rt, &board, &mut seats);
-    let holders = holders(rt.alloc(), seats.as_slice())?;
-    let owners = board.close(seats)?;
+    let holders = holders(&rt, rt.alloc(), seats.as_slice());
+    let owners = board.close(seats).expect(&rt, "memory");
     let are_held = are_held(&owners, holders.as_slice());
     expect_same(&rt, (wins, are_held), (4096, true));
-    Ok(())
 }
 
 // Whether each shard has an owner, who is the holder of its place.
@@ -114,8 +111,8 @@ fn are_held(owners: &Owners<Global>, holders: &[Option<u32>]) -> bool {
 }
 
 // The seat that holds a shard, of each shard.
-fn holders(alloc: Global, seats: &[Seat]) -> Result<Vec<Option<u32>>, AllocError> {
-    let mut holders = Vec::with_capacity(alloc, MAX_SHARDS)?;
+fn holders(rt: &impl Abort, alloc: Global, seats: &[Seat]) -> Vec<Option<u32>> {
+    let mut holders = Vec::with_capacity(alloc, MAX_SHARDS).expect(rt, "memory");
     for shard in 0..MAX_SHARDS as u32 {
         let mut holder = None;
         for seat in seats {
@@ -123,9 +120,9 @@ fn holders(alloc: Global, seats: &[Seat]) -> Result<Vec<Option<u32>>, AllocError
                 holder = Some(seat.number());
             }
         }
-        holders.push(holder)?;
+        holders.push(holder).expect(rt, "memory");
     }
-    Ok(holders)
+    holders
 }
 
 // An odd shard is given back. Whether it was, or is even.
@@ -162,19 +159,18 @@ fn take_turns(board: &Board<Global>, seats: &mut Vec<Seat>, shards: u32, count: 
 }
 
 // A board of this size has its seats in order, and closes with the owners that claims left.
-fn expect_board(rt: &impl Abort, alloc: Global, shards: u32, count: u32) -> Result<(), Fail> {
+fn expect_board(rt: &impl Abort, alloc: Global, shards: u32, count: u32) {
     assert!(rt; 1 <= shards && shards <= MAX_SHARDS as u32 && 1 <= count && count <= MAX_WORKERS);
-    let (board, mut seats) = Board::open(alloc, shards, count)?;
+    let (board, mut seats) = Board::open(alloc, shards, count).expect(rt, "memory");
     let new = are_new(seats.as_slice(), count);
     let went = take_turns(&board, &mut seats, shards, count);
-    let owners = board.close(seats)?;
+    let owners = board.close(seats).expect(rt, "memory");
     let owned = are_owned(&owners, shards, count);
     expect_same(
         rt,
         (shards, count, new, went, owned),
         (shards, count, true, true, true),
     );
-    Ok(())
 }
 
 // Whether they are so many, in the order of their numbers, and none holds a shard.
@@ -208,27 +204,24 @@ fn are_owned(owners: &Owners<Global>, shards: u32, count: u32) -> bool
 // Boards of few shards and of as many as there may be, to the last shard of a word of 64 bits and past it; and every
 // number of seats.
 #[test]
-fn boards_of_each_size(rt: HostRuntime) -> Result<(), Fail> {
+fn boards_of_each_size(rt: HostRuntime) {
     for shards in [1, 2, 63, 64, 65, 4095, 4096] {
         for count in [1, 64] {
-            expect_board(&rt, rt.alloc(), shards, count)?;
+            expect_board(&rt, rt.alloc(), shards, count);
         }
     }
     for count in 1..65 {
-        expect_board(&rt, rt.alloc(), 65, count)?;
+        expect_board(&rt, rt.alloc(), 65, count);
     }
-    Ok(())
 }
 
 #[test]
-fn texts_of_its_faults(rt: HostRuntime) -> Result<(), Fail> {
+fn texts_of_its_faults(rt: HostRuntime) {
     let texts = [
         (BoardFault::Memory, "no memory for the board"),
         (BoardFault::NoTable, "the board's table was refused"),
     ];
     for (fault, text) in texts {
-        let told = format!(in rt.alloc(); "{fault}")?;
-        expect_same(&rt, told.as_str(), text);
+        expect_text(&rt, rt.alloc(), &fault, text);
     }
-    Ok(())
 }

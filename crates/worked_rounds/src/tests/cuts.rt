@@ -1,57 +1,47 @@
 //! Lists of links cut into shards.
-ghost use Rattle.std.specs.Prelude.{◌≤◌, ◌^◌, length, IfOk};
+ghost use Rattle.std.specs.Prelude.{◌≤◌, ◌^◌, length};
 
 use super::same::expect_same;
 use link_key::{Cut, CutFault, Link, check_even, check_places};
-use std::alloc::{AllocError, Global};
+use std::alloc::Global;
 use std::process::Abort;
-use std::test::Fail;
 
 // The path of so many links, each of weight 1.
-fn path(rt: &impl Abort, alloc: Global, links: u32) -> Result<Vec<Link>, AllocError>
-    ensures few { IfOk result (λ path. length path.items ≤ 2 ^ 30) }
+fn path(rt: &impl Abort, alloc: Global, links: u32) -> Vec<Link>
+    ensures few { length result.items ≤ 2 ^ 30 }
 {
     assert!(rt; links < 1 << 20);
     let mut path = Vec::new(alloc);
     for v in 1..links + 1 {
         if let Some(link) = Link::of_arc(v, v + 1, 1) {
-            path.push(link)?;
+            path.push(link).expect(rt, "memory");
         }
     }
     assert!(rt; path.len() <= 1 << 30);
-    Ok(path)
+    path
 }
 
 // The sizes of a cut's shards; each shard has its number, and joined together they are the links.
-fn sizes(
-    rt: &impl Abort,
-    alloc: Global,
-    cut: &Cut,
-    links: &[Link],
-) -> Result<Vec<usize>, AllocError> {
-    expect_joined(rt, alloc, cut, links)?;
+fn sizes(rt: &impl Abort, alloc: Global, cut: &Cut, links: &[Link]) -> Vec<usize> {
+    expect_joined(rt, alloc, cut, links);
     let mut sizes = Vec::new(alloc);
     for number in 0..cut.len() {
-        sizes.push(cut.shard(number).links.len())?;
+        sizes
+            .push(cut.shard(number).links.len())
+            .expect(rt, "memory");
     }
-    Ok(sizes)
+    sizes
 }
 
-fn expect_joined(
-    rt: &impl Abort,
-    alloc: Global,
-    cut: &Cut,
-    links: &[Link],
-) -> Result<(), AllocError> {
+fn expect_joined(rt: &impl Abort, alloc: Global, cut: &Cut, links: &[Link]) {
     let mut joined = Vec::new(alloc);
     for number in 0..cut.len() {
         let shard = cut.shard(number);
         expect_same(rt, shard.number, number);
-        joined.extend_from_slice(shard.links)?;
+        joined.extend_from_slice(shard.links).expect(rt, "memory");
     }
     expect_same(rt, joined.as_slice(), links);
     expect_same(rt, cut.links(), links);
-    Ok(())
 }
 
 // The cut has shards of these sizes.
@@ -61,17 +51,16 @@ fn expect_sizes(
     cut: Result<Cut, CutFault>,
     links: &[Link],
     wanted: &[usize],
-) -> Result<(), Fail> {
+) {
     let cut = cut.expect(rt, "a cut");
-    let sizes_of_cut = sizes(rt, alloc, &cut, links)?;
+    let sizes_of_cut = sizes(rt, alloc, &cut, links);
     expect_same(rt, sizes_of_cut.as_slice(), wanted);
-    Ok(())
 }
 
 #[test]
-fn even_shards(rt: HostRuntime) -> Result<(), Fail> {
+fn even_shards(rt: HostRuntime) {
     let alloc = rt.alloc();
-    let links = path(&rt, alloc, 8)?;
+    let links = path(&rt, alloc, 8);
     let links = links.as_slice();
     let cuts: [(u32, &[usize]); 4] = [
         (1, &[8]),
@@ -80,15 +69,15 @@ fn even_shards(rt: HostRuntime) -> Result<(), Fail> {
         (9, &[0, 1, 1, 1, 1, 1, 1, 1, 1]),
     ];
     for (count, wanted) in cuts {
-        expect_sizes(&rt, alloc, Cut::even(alloc, links, count), links, wanted)?;
+        expect_sizes(&rt, alloc, Cut::even(alloc, links, count), links, wanted);
     }
     expect_sizes(&rt, alloc, Cut::even(alloc, &[], 4), &[], &[0, 0, 0, 0])
 }
 
 #[test]
-fn shards_at_places(rt: HostRuntime) -> Result<(), Fail> {
+fn shards_at_places(rt: HostRuntime) {
     let alloc = rt.alloc();
-    let links = path(&rt, alloc, 8)?;
+    let links = path(&rt, alloc, 8);
     let links = links.as_slice();
     let cuts: [(&[usize], &[usize]); 4] = [
         (&[], &[8]),
@@ -97,15 +86,14 @@ fn shards_at_places(rt: HostRuntime) -> Result<(), Fail> {
         (&[2, 2, 8], &[2, 0, 6, 0]),
     ];
     for (places, wanted) in cuts {
-        expect_sizes(&rt, alloc, Cut::at(alloc, links, places), links, wanted)?;
+        expect_sizes(&rt, alloc, Cut::at(alloc, links, places), links, wanted);
     }
-    Ok(())
 }
 
 #[test]
-fn refused_cuts(rt: HostRuntime) -> Result<(), Fail> {
+fn refused_cuts(rt: HostRuntime) {
     let alloc = rt.alloc();
-    let links = path(&rt, alloc, 8)?;
+    let links = path(&rt, alloc, 8);
     let links = links.as_slice();
     let cuts = [
         Cut::at(alloc, links, &[3, 2]).err(),
@@ -131,7 +119,6 @@ fn refused_cuts(rt: HostRuntime) -> Result<(), Fail> {
         Ok(()),
     ];
     expect_same(&rt, checks, expected);
-    Ok(())
 }
 
 fn are_two_or_three(sizes: &[usize]) -> bool {
@@ -143,56 +130,51 @@ fn are_two_or_three(sizes: &[usize]) -> bool {
 }
 
 #[test]
-fn as_many_shards_as_there_may_be(rt: HostRuntime) -> Result<(), Fail> {
+fn as_many_shards_as_there_may_be(rt: HostRuntime) {
     let alloc = rt.alloc();
-    let links = path(&rt, alloc, 10000)?;
+    let links = path(&rt, alloc, 10000);
     for count in [4095, 4096] {
-        expect_twos_and_threes(&rt, alloc, links.as_slice(), count)?;
+        expect_twos_and_threes(&rt, alloc, links.as_slice(), count);
     }
-    Ok(())
 }
 
 // An even cut has so many shards, each of two links or three.
-fn expect_twos_and_threes(
-    rt: &impl Abort,
-    alloc: Global,
-    links: &[Link],
-    count: u32,
-) -> Result<(), Fail>
+fn expect_twos_and_threes(rt: &impl Abort, alloc: Global, links: &[Link], count: u32)
     requires { length links.now ≤ 2 ^ 30 }
 {
     let cut = Cut::even(alloc, links, count).expect(rt, "a cut");
-    let sizes = sizes(rt, alloc, &cut, links)?;
+    let sizes = sizes(rt, alloc, &cut, links);
     let found = (sizes.len(), are_two_or_three(sizes.as_slice()));
     expect_same(rt, found, (count as usize, true));
-    Ok(())
 }
 
 // The place numbered from 1 on is twice its number, and one more where that is odd.
-fn ascending_places(alloc: Global) -> Result<Vec<usize>, AllocError> {
+fn ascending_places(rt: &impl Abort, alloc: Global) -> Vec<usize> {
     let mut places = Vec::new(alloc);
     for number in 1..4096usize {
-        places.push(2 * number + number % 2)?;
+        places.push(2 * number + number % 2).expect(rt, "memory");
     }
-    Ok(places)
+    places
 }
 
 // How many of 10,000 links lie before each of these places, and behind the last.
-fn sizes_between(alloc: Global) -> Result<Vec<usize>, AllocError> {
+fn sizes_between(rt: &impl Abort, alloc: Global) -> Vec<usize> {
     let mut sizes = Vec::new(alloc);
     for number in 1..4096usize {
-        sizes.push(if number % 2 == 1 { 3 } else { 1 })?;
+        sizes
+            .push(if number % 2 == 1 { 3 } else { 1 })
+            .expect(rt, "memory");
     }
-    sizes.push(1809)?;
-    Ok(sizes)
+    sizes.push(1809).expect(rt, "memory");
+    sizes
 }
 
 #[test]
-fn as_many_places_as_there_may_be(rt: HostRuntime) -> Result<(), Fail> {
+fn as_many_places_as_there_may_be(rt: HostRuntime) {
     let alloc = rt.alloc();
-    let links = path(&rt, alloc, 10000)?;
-    let places = ascending_places(alloc)?;
-    let wanted = sizes_between(alloc)?;
+    let links = path(&rt, alloc, 10000);
+    let places = ascending_places(&rt, alloc);
+    let wanted = sizes_between(&rt, alloc);
     let links = links.as_slice();
     let cut = Cut::at(alloc, links, places.as_slice());
     expect_sizes(&rt, alloc, cut, links, wanted.as_slice())

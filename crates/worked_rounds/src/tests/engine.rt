@@ -9,9 +9,8 @@ use frames::{
     Answer, Frame, FrameFault, encode, encode_ask, encode_shard, fault_bytes, read_frame,
 };
 use link_key::{Labels, Link, Offers, Shard};
-use std::alloc::{AllocError, Global};
+use std::alloc::Global;
 use std::process::Abort;
-use std::test::Fail;
 use std::thread::Threads;
 use test_memory::{Refusals, Refusing};
 use worked_graphs::have_labels;
@@ -105,29 +104,29 @@ fn served(frames: u64, answers: u64, faults: u64) -> Result<Served, ServeFault> 
 }
 
 // The bytes of some parts, one behind the other.
-fn joined(alloc: Global, parts: &[&[u8]]) -> Result<Vec<u8>, AllocError> {
+fn joined(rt: &impl Abort, alloc: Global, parts: &[&[u8]]) -> Vec<u8> {
     let mut bytes = Vec::new(alloc);
     for part in parts {
-        bytes.extend_from_slice(part)?;
+        bytes.extend_from_slice(part).expect(rt, "memory");
     }
-    Ok(bytes)
+    bytes
 }
 
 // How a session of worker 0 over these bytes ends, and what it has written; with a limit of frames, if there is one.
 fn session(
-    rt: &(impl Threads + Sync),
+    rt: &(impl Abort + Threads + Sync),
     alloc: Global,
     heard: &[&[u8]],
     limit: Option<u64>,
-) -> Result<(Result<Served, ServeFault>, Vec<u8>), AllocError> {
-    let bytes = joined(alloc, heard)?;
+) -> (Result<Served, ServeFault>, Vec<u8>) {
+    let bytes = joined(rt, alloc, heard);
     let mut source = bytes.as_slice();
     let mut sink = Vec::new(alloc);
     let end = match limit {
         Some(limit) => serve_upto(rt, alloc, 0, &mut source, &mut sink, limit),
         None => serve(rt, alloc, 0, &mut source, &mut sink),
     };
-    Ok((end, sink))
+    (end, sink)
 }
 
 /// How a session ends, and the parts of what it has written.
@@ -144,22 +143,21 @@ fn expect_session(
     heard: &[&[u8]],
     limit: Option<u64>,
     expected: Ended,
-) -> Result<(), Fail> {
-    let (end, sink) = session(rt, alloc, heard, limit)?;
-    let written = joined(alloc, expected.written)?;
+) {
+    let (end, sink) = session(rt, alloc, heard, limit);
+    let written = joined(rt, alloc, expected.written);
     expect_same(
         rt,
         (end, sink.as_slice()),
         (expected.end, written.as_slice()),
     );
-    Ok(())
 }
 
 // Sessions over whole streams, one that ends inside an ask, and ones that end at a shard that is unlawful: an ask of a
 // shard that is held, or isn't, or of too few labels; a hello, to which nothing is replied; a shard that is sent again, and
 // stands in place of the first; no links and no labels; weights past 32 bits, and no links as if one were.
 #[test]
-fn sessions_over_the_triangle(rt: HostRuntime) -> Result<(), Fail> {
+fn sessions_over_the_triangle(rt: HostRuntime) {
     let torn = Err(ServeFault::Read(FrameFault::Torn));
     let bad_field = Err(ServeFault::Read(FrameFault::BadField));
     let sessions: [(&[&[u8]], Result<Served, ServeFault>, &[&[u8]]); 10] = [
@@ -199,13 +197,12 @@ fn sessions_over_the_triangle(rt: HostRuntime) -> Result<(), Fail> {
         ),
     ];
     for (heard, end, written) in sessions {
-        expect_session(&rt, rt.alloc(), heard, None, Ended { end, written })?;
+        expect_session(&rt, rt.alloc(), heard, None, Ended { end, written });
     }
-    Ok(())
 }
 
 #[test]
-fn a_session_with_a_limit(rt: HostRuntime) -> Result<(), Fail> {
+fn a_session_with_a_limit(rt: HostRuntime) {
     let heard: [&[u8]; 2] = [&SHARD, &ASK];
     let too_many = Err(ServeFault::TooMany);
     let limits: [(u64, Result<Served, ServeFault>, &[&[u8]]); 4] = [
@@ -215,46 +212,39 @@ fn a_session_with_a_limit(rt: HostRuntime) -> Result<(), Fail> {
         (3, served(2, 1, 0), &[&HELLO, &ANSWER]),
     ];
     for (limit, end, written) in limits {
-        expect_session(&rt, rt.alloc(), &heard, Some(limit), Ended { end, written })?;
+        expect_session(&rt, rt.alloc(), &heard, Some(limit), Ended { end, written });
     }
-    Ok(())
 }
 
 #[test]
-fn an_ask_torn_at_each_byte(rt: HostRuntime) -> Result<(), Fail> {
+fn an_ask_torn_at_each_byte(rt: HostRuntime) {
     let torn = Ended {
         end: Err(ServeFault::Read(FrameFault::Torn)),
         written: &[&HELLO, &ANSWER],
     };
     for count in 1..29 {
         let heard: [&[u8]; 3] = [&SHARD, &ASK, &ASK[..count]];
-        expect_session(&rt, rt.alloc(), &heard, None, torn)?;
+        expect_session(&rt, rt.alloc(), &heard, None, torn);
     }
-    Ok(())
 }
 
 // How many blocks a session over these bytes takes, which ends well.
-fn blocks_of_session(
-    rt: &(impl Threads + Sync),
-    alloc: Global,
-    heard: &[&[u8]],
-) -> Result<u64, Fail> {
-    let bytes = joined(alloc, heard)?;
+fn blocks_of_session(rt: &(impl Abort + Threads + Sync), alloc: Global, heard: &[&[u8]]) -> u64 {
+    let bytes = joined(rt, alloc, heard);
     let memory = Refusing::new(alloc, Refusals::none());
     let mut source = bytes.as_slice();
     let mut sink = Vec::new(alloc);
-    serve(rt, &memory, 0, &mut source, &mut sink)?;
-    Ok(memory.given())
+    serve(rt, &memory, 0, &mut source, &mut sink).expect(rt, "a session");
+    memory.given()
 }
 
 // An ask under the labels of the one before takes three blocks, for the marks and the names of its scan's numbers and for its
 // offers: none for what came, nor for the answer's text.
 #[test]
-fn an_ask_that_comes_again_is_not_stored(rt: HostRuntime) -> Result<(), Fail> {
-    let once = blocks_of_session(&rt, rt.alloc(), &[&SHARD, &ASK])?;
-    let twice = blocks_of_session(&rt, rt.alloc(), &[&SHARD, &ASK, &ASK])?;
+fn an_ask_that_comes_again_is_not_stored(rt: HostRuntime) {
+    let once = blocks_of_session(&rt, rt.alloc(), &[&SHARD, &ASK]);
+    let twice = blocks_of_session(&rt, rt.alloc(), &[&SHARD, &ASK, &ASK]);
     expect_same(&rt, twice.wrapping_sub(once), 3);
-    Ok(())
 }
 
 // An ask under labels that coarsen those of the one before takes four blocks: for these labels, for marks, for names and for
@@ -274,19 +264,19 @@ fn replied(
     alloc: Global,
     worker: &mut Worker,
     heard: &[u8],
-) -> Result<Option<Vec<u8>>, Fail> {
+) -> Option<Vec<u8>> {
     let mut source = heard;
-    let frame = read_frame(alloc, &mut source)?;
-    match worker.reply(rt, frame)? {
-        Some(reply) => Ok(Some(lawful_text(rt, alloc, &reply)?)),
-        None => Ok(None),
+    let frame = read_frame(alloc, &mut source).expect(rt, "a frame");
+    match worker.reply(rt, frame) {
+        Some(reply) => Some(lawful_text(rt, alloc, &reply)),
+        None => None,
     }
 }
 
 // The text of a frame, which is lawful.
-fn lawful_text(rt: &impl Abort, alloc: Global, frame: &Frame) -> Result<Vec<u8>, Fail> {
+fn lawful_text(rt: &impl Abort, alloc: Global, frame: &Frame) -> Vec<u8> {
     assert!(rt; frame.is_lawful());
-    Ok(encode(alloc, frame)?)
+    encode(alloc, frame).expect(rt, "memory")
 }
 
 // What a worker hears, and what it replies.
@@ -302,52 +292,46 @@ const HEARD: [(&[u8], Option<&[u8]>); 8] = [
 ];
 
 #[test]
-fn an_engine_hears_each_kind_of_frame(rt: HostRuntime) -> Result<(), Fail> {
+fn an_engine_hears_each_kind_of_frame(rt: HostRuntime) {
     for by in [By::OneThread, By::Threads, By::OrFault] {
         let mut worker = Worker::new(rt.alloc(), by);
-        expect_replies(&rt, rt.alloc(), &mut worker)?;
+        expect_replies(&rt, rt.alloc(), &mut worker);
     }
-    Ok(())
 }
 
 // The worker hears these frames, one after the other, and replies so.
-fn expect_replies(
-    rt: &(impl Abort + Threads + Sync),
-    alloc: Global,
-    worker: &mut Worker,
-) -> Result<(), Fail> {
+fn expect_replies(rt: &(impl Abort + Threads + Sync), alloc: Global, worker: &mut Worker) {
     for (heard, reply) in HEARD {
-        let replied = replied(rt, alloc, worker, heard)?;
+        let replied = replied(rt, alloc, worker, heard);
         let found = match &replied {
             Some(bytes) => Some(bytes.as_slice()),
             None => None,
         };
         expect_same(rt, found, reply);
     }
-    Ok(())
 }
 
 // How a session ends, and what it has written, whose source gives the shard and the ask and so many bytes of the next
 // ask, and then fails.
 fn cut_session(
-    rt: &(impl Threads + Sync),
+    rt: &(impl Abort + Threads + Sync),
     alloc: Global,
     count: usize,
-) -> Result<(Result<Served, ServeFault>, Vec<u8>), AllocError>
+) -> (Result<Served, ServeFault>, Vec<u8>)
     requires { count < 29 }
 {
-    let bytes = joined(alloc, &[&SHARD, &ASK, &ASK])?;
+    let bytes = joined(rt, alloc, &[&SHARD, &ASK, &ASK]);
     let mut source = FusedSource::new(bytes, 78 + count, 5);
     let mut sink = Vec::new(alloc);
     let end = serve(rt, alloc, 0, &mut source, &mut sink);
-    Ok((end, sink))
+    (end, sink)
 }
 
 #[test]
-fn reads_that_fail_in_mid_session(rt: HostRuntime) -> Result<(), Fail> {
-    let owed = joined(rt.alloc(), &[&HELLO, &ANSWER])?;
+fn reads_that_fail_in_mid_session(rt: HostRuntime) {
+    let owed = joined(&rt, rt.alloc(), &[&HELLO, &ANSWER]);
     for count in 0..29 {
-        let (end, sink) = cut_session(&rt, rt.alloc(), count)?;
+        let (end, sink) = cut_session(&rt, rt.alloc(), count);
         let expected = Err(ServeFault::Read(FrameFault::Device));
         expect_same(
             &rt,
@@ -355,7 +339,6 @@ fn reads_that_fail_in_mid_session(rt: HostRuntime) -> Result<(), Fail> {
             (count, expected, owed.as_slice()),
         );
     }
-    Ok(())
 }
 
 // A session over these bytes ends at a write, and the sink has taken this.
@@ -365,31 +348,29 @@ fn expect_cut(
     heard: &[&[u8]],
     mut sink: FusedSink,
     taken: &[u8],
-) -> Result<(), Fail>
+)
     requires { sink.setbacks < 2 ^ 64 - 1 }
 {
-    let bytes = joined(alloc, heard)?;
+    let bytes = joined(rt, alloc, heard);
     let mut source = bytes.as_slice();
     let end = serve(rt, alloc, 0, &mut source, &mut sink);
     expect_same(rt, end, Err(ServeFault::Write));
     expect_same(rt, sink.held() == taken, true);
-    Ok(())
 }
 
 // The hello and the answer are 52 bytes, of which the sink takes these many.
 #[test]
-fn writes_that_fail_in_mid_session(rt: HostRuntime) -> Result<(), Fail> {
-    let owed = joined(rt.alloc(), &[&HELLO, &ANSWER])?;
+fn writes_that_fail_in_mid_session(rt: HostRuntime) {
+    let owed = joined(&rt, rt.alloc(), &[&HELLO, &ANSWER]);
     let heard: [&[u8]; 2] = [&SHARD, &ASK];
     for count in [0, 1, 7, 10, 11, 12, 24, 51] {
         assert!(rt; count < owed.len());
         let taken = &owed[..count];
-        let failing = FusedSink::new(rt.alloc(), count, 7)?;
-        expect_cut(&rt, rt.alloc(), &heard, failing, taken)?;
-        let stopping = FusedSink::stopped(rt.alloc(), count, 7)?;
-        expect_cut(&rt, rt.alloc(), &heard, stopping, taken)?;
+        let failing = FusedSink::new(rt.alloc(), count, 7).expect(&rt, "memory");
+        expect_cut(&rt, rt.alloc(), &heard, failing, taken);
+        let stopping = FusedSink::stopped(rt.alloc(), count, 7).expect(&rt, "memory");
+        expect_cut(&rt, rt.alloc(), &heard, stopping, taken);
     }
-    Ok(())
 }
 
 // A session that is sent a shard of these links and asked for it twice under these labels answers with these offers.
@@ -399,11 +380,11 @@ fn expect_answers(
     links: &[Link],
     labels: &Labels,
     expected: Vec<(u32, u32)>,
-) -> Result<(), Fail> {
-    let heard = shard_text(rt, alloc, &Shard { number: 3, links })?;
-    let ask = encode_ask(alloc, 1, 3, labels)?;
+) {
+    let heard = shard_text(rt, alloc, &Shard { number: 3, links });
+    let ask = encode_ask(alloc, 1, 3, labels).expect(rt, "memory");
     let offers = Offers::of_pairs(expected).expect(rt, "ascending");
-    let text = answer_text(rt, alloc, 1, 3, offers)?;
+    let text = answer_text(rt, alloc, 1, 3, offers);
     let parts: [&[u8]; 3] = [heard.as_slice(), ask.as_slice(), ask.as_slice()];
     let expected = Ended {
         end: served(3, 2, 0),
@@ -413,10 +394,10 @@ fn expect_answers(
 }
 
 // A session over many links does so.
-fn expect_answers_of_many(rt: &(impl Abort + Threads + Sync), alloc: Global) -> Result<(), Fail> {
-    let links = many_links(alloc)?;
-    let labels = many_labels(alloc)?;
-    let expected = plain_offers(alloc, 0, links.as_slice(), &labels)?;
+fn expect_answers_of_many(rt: &(impl Abort + Threads + Sync), alloc: Global) {
+    let links = many_links(rt, alloc);
+    let labels = many_labels(rt, alloc);
+    let expected = plain_offers(rt, alloc, 0, links.as_slice(), &labels);
     expect_answers(rt, alloc, links.as_slice(), &labels, expected)
 }
 
@@ -426,80 +407,72 @@ fn expect_answers_of_falling(
     alloc: Global,
     n: u32,
     count: u32,
-) -> Result<(), Fail> {
-    let links = falling(alloc, n, 0, count)?;
-    let labels = apart(alloc, n)?;
-    let expected = falling_offers(alloc, n, count, &labels)?;
+) {
+    let links = falling(rt, alloc, n, 0, count);
+    let labels = apart(rt, alloc, n);
+    let expected = falling_offers(rt, alloc, n, count, &labels);
     expect_answers(rt, alloc, links.as_slice(), &labels, expected)
 }
 
 #[test]
-fn sessions_over_many_links(rt: HostRuntime) -> Result<(), Fail> {
-    expect_answers_of_many(&rt, rt.alloc())?;
+fn sessions_over_many_links(rt: HostRuntime) {
+    expect_answers_of_many(&rt, rt.alloc());
     for (n, count) in [(7, 65_536), (7, 131_073), (7, 300_000)] {
-        expect_answers_of_falling(&rt, rt.alloc(), n, count)?;
+        expect_answers_of_falling(&rt, rt.alloc(), n, count);
     }
-    Ok(())
 }
 
 // Answers as long as the first write of 64 KiB, which has a head and 8,189 offers, as both that and the next one, which has
 // 8,192, and with one offer less and one more.
 #[test]
-fn answers_of_more_than_a_write(rt: HostRuntime) -> Result<(), Fail> {
+fn answers_of_more_than_a_write(rt: HostRuntime) {
     for n in [8_188, 8_189, 8_190, 16_380, 16_381, 16_382, 30_000] {
-        expect_answers_of_falling(&rt, rt.alloc(), n, n)?;
+        expect_answers_of_falling(&rt, rt.alloc(), n, n);
     }
-    Ok(())
 }
 
 // The hello and an answer of 20,000 offers are 160,028 bytes, of which the sink takes these many, at most 5,000 at a time.
 #[test]
-fn writes_that_fail_in_a_long_answer(rt: HostRuntime) -> Result<(), Fail> {
-    let links = falling(rt.alloc(), 20_000, 0, 20_000)?;
-    let labels = apart(rt.alloc(), 20_000)?;
-    let pairs = falling_offers(rt.alloc(), 20_000, 20_000, &labels)?;
+fn writes_that_fail_in_a_long_answer(rt: HostRuntime) {
+    let links = falling(&rt, rt.alloc(), 20_000, 0, 20_000);
+    let labels = apart(&rt, rt.alloc(), 20_000);
+    let pairs = falling_offers(&rt, rt.alloc(), 20_000, 20_000, &labels);
     let offers = Offers::of_pairs(pairs).expect(&rt, "ascending");
-    let answer = answer_text(&rt, rt.alloc(), 1, 3, offers)?;
-    let owed = joined(rt.alloc(), &[&HELLO, answer.as_slice()])?;
+    let answer = answer_text(&rt, rt.alloc(), 1, 3, offers);
+    let owed = joined(&rt, rt.alloc(), &[&HELLO, answer.as_slice()]);
     let shard = Shard {
         number: 3,
         links: links.as_slice(),
     };
-    let heard = shard_text(&rt, rt.alloc(), &shard)?;
-    let ask = encode_ask(rt.alloc(), 1, 3, &labels)?;
+    let heard = shard_text(&rt, rt.alloc(), &shard);
+    let ask = encode_ask(rt.alloc(), 1, 3, &labels).expect(&rt, "memory");
     let parts: [&[u8]; 2] = [heard.as_slice(), ask.as_slice()];
     for count in [27, 28, 65_539, 65_540, 65_541, 131_076, 131_077, 160_027] {
         assert!(rt; count < owed.len());
-        let failing = FusedSink::new(rt.alloc(), count, 5_000)?;
-        expect_cut(&rt, rt.alloc(), &parts, failing, &owed[..count])?;
+        let failing = FusedSink::new(rt.alloc(), count, 5_000).expect(&rt, "memory");
+        expect_cut(&rt, rt.alloc(), &parts, failing, &owed[..count]);
     }
-    Ok(())
 }
 
 // Each of 20,001 vertices has its own label, but this one, which has that of the vertex before; vertex 0 is none.
-fn labels_but(alloc: Global, vertex: u32) -> Result<Labels, Fail> {
-    let mut list = Vec::with_capacity(alloc, 20_001)?;
+fn labels_but(rt: &impl Abort, alloc: Global, vertex: u32) -> Labels {
+    let mut list = Vec::with_capacity(alloc, 20_001).expect(rt, "memory");
     for before in 0..20_001u32 {
         let own = before + 1;
-        list.push(if own == vertex { before } else { own })?;
+        list.push(if own == vertex { before } else { own })
+            .expect(rt, "memory");
     }
-    Ok(Labels::of_list(list).ok_or("labels")?)
+    Labels::of_list(list).expect(rt, "labels")
 }
 
 // The text of a shard.
-fn shard_text(rt: &impl Abort, alloc: Global, shard: &Shard) -> Result<Vec<u8>, Fail> {
+fn shard_text(rt: &impl Abort, alloc: Global, shard: &Shard) -> Vec<u8> {
     assert!(rt; shard.number < 4096 && shard.links.len() <= 1 << 24);
-    Ok(encode_shard(alloc, shard)?)
+    encode_shard(alloc, shard).expect(rt, "memory")
 }
 
 // The text of an answer of a round for a shard, with these offers.
-fn answer_text(
-    rt: &impl Abort,
-    alloc: Global,
-    round: u32,
-    shard: u32,
-    offers: Offers,
-) -> Result<Vec<u8>, Fail> {
+fn answer_text(rt: &impl Abort, alloc: Global, round: u32, shard: u32, offers: Offers) -> Vec<u8> {
     let answer = Frame::Answer(Answer {
         round,
         shard,
@@ -515,12 +488,12 @@ fn asked_and_answered(
     round: u32,
     shard: &Shard,
     labels: &Labels,
-) -> Result<(Vec<u8>, Vec<u8>), Fail> {
+) -> (Vec<u8>, Vec<u8>) {
     let Shard { number, links } = *shard;
     assert!(rt; number < 4096 && links.len() <= 1 << 24 && have_labels(links, labels.n()));
-    let ask = encode_ask(alloc, round, number, labels)?;
-    let offers = scan(alloc, links, labels)?;
-    Ok((ask, answer_text(rt, alloc, round, number, offers)?))
+    let ask = encode_ask(alloc, round, number, labels).expect(rt, "memory");
+    let offers = scan(alloc, links, labels).expect(rt, "memory");
+    (ask, answer_text(rt, alloc, round, number, offers))
 }
 
 /// What a session hears, and what it writes.
@@ -532,50 +505,48 @@ struct Texts {
 
 impl Texts {
     // A shard that isn't held is asked for, and then this one.
-    fn ask(
-        &mut self,
-        rt: &impl Abort,
-        alloc: Global,
-        vertex: u32,
-        shard: &Shard,
-    ) -> Result<(), Fail> {
-        let labels = labels_but(alloc, vertex)?;
-        let not_held = encode_ask(alloc, vertex, 9, &labels)?;
-        self.heard.extend_from_slice(not_held.as_slice())?;
-        self.written.extend_from_slice(&fault_bytes(vertex, 9, 2))?;
-        let (ask, answer) = asked_and_answered(rt, alloc, vertex, shard, &labels)?;
-        self.heard.extend_from_slice(ask.as_slice())?;
-        self.written.extend_from_slice(answer.as_slice())?;
-        Ok(())
+    fn ask(&mut self, rt: &impl Abort, alloc: Global, vertex: u32, shard: &Shard) {
+        let labels = labels_but(rt, alloc, vertex);
+        let not_held = encode_ask(alloc, vertex, 9, &labels).expect(rt, "memory");
+        self.heard
+            .extend_from_slice(not_held.as_slice())
+            .expect(rt, "memory");
+        self.written
+            .extend_from_slice(&fault_bytes(vertex, 9, 2))
+            .expect(rt, "memory");
+        let (ask, answer) = asked_and_answered(rt, alloc, vertex, shard, &labels);
+        self.heard
+            .extend_from_slice(ask.as_slice())
+            .expect(rt, "memory");
+        self.written
+            .extend_from_slice(answer.as_slice())
+            .expect(rt, "memory");
     }
 
     // The shards are sent, and asked for under labels that change.
-    fn ask_each(&mut self, rt: &impl Abort, alloc: Global, shards: &[Shard]) -> Result<(), Fail> {
+    fn ask_each(&mut self, rt: &impl Abort, alloc: Global, shards: &[Shard]) {
         for shard in shards {
-            let text = shard_text(rt, alloc, shard)?;
-            self.heard.extend_from_slice(text.as_slice())?;
+            let text = shard_text(rt, alloc, shard);
+            self.heard
+                .extend_from_slice(text.as_slice())
+                .expect(rt, "memory");
         }
         let vertices: [u32; 10] = [0, 0, 20_001, 20_001, 10_000, 0, 2, 2, 0, 20_001];
         for vertex in vertices {
             for shard in shards {
-                self.ask(rt, alloc, vertex, shard)?;
+                self.ask(rt, alloc, vertex, shard);
             }
         }
-        Ok(())
     }
 }
 
 // Such a session ends so.
-fn expect_asks(
-    rt: &(impl Abort + Threads + Sync),
-    alloc: Global,
-    shards: &[Shard],
-) -> Result<(), Fail> {
+fn expect_asks(rt: &(impl Abort + Threads + Sync), alloc: Global, shards: &[Shard]) {
     let mut texts = Texts {
         heard: Vec::new(alloc),
-        written: Vec::from_slice(alloc, &HELLO)?,
+        written: Vec::from_slice(alloc, &HELLO).expect(rt, "memory"),
     };
-    texts.ask_each(rt, alloc, shards)?;
+    texts.ask_each(rt, alloc, shards);
     let expected = Ended {
         end: served(42, 20, 20),
         written: &[texts.written.as_slice()],
@@ -587,9 +558,9 @@ fn expect_asks(
 // piece alone, that coarsen those before and that don't. Each answer is that of a scan of its own; so is each behind asks
 // of a shard that isn't held.
 #[test]
-fn asks_under_labels_that_change(rt: HostRuntime) -> Result<(), Fail> {
-    let first = falling(rt.alloc(), 20_001, 0, 20_000)?;
-    let second = falling(rt.alloc(), 20_001, 7, 31_000)?;
+fn asks_under_labels_that_change(rt: HostRuntime) {
+    let first = falling(&rt, rt.alloc(), 20_001, 0, 20_000);
+    let second = falling(&rt, rt.alloc(), 20_001, 7, 31_000);
     let shards = [
         Shard {
             number: 3,

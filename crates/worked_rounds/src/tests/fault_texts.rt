@@ -1,11 +1,10 @@
 // The texts of the faults of a worker's session.
-use super::same::expect_same;
+use super::same::expect_text;
 use frames::FrameFault;
-use std::test::Fail;
 use worker_engine::ServeFault;
 
 #[test]
-fn texts_of_faults(rt: HostRuntime) -> Result<(), Fail> {
+fn texts_of_faults(rt: HostRuntime) {
     let texts = [
         (
             ServeFault::Read(FrameFault::BadKind),
@@ -17,8 +16,6 @@ fn texts_of_faults(rt: HostRuntime) -> Result<(), Fail> {
         (ServeFault::TooMany, "too many frames"),
     ];
     for (fault, text) in texts {
-        let shown = format!(in rt.alloc(); "{fault}")?;
-        expect_same(&rt, shown.as_str(), text);
+        expect_text(&rt, rt.alloc(), &fault, text);
     }
-    Ok(())
 }

@@ -1,14 +1,12 @@
 // A shard that is kept, and asked for its offers as components grow, and once all its links are live again.
-ghost use Rattle.std.specs.Prelude.{IfOk};
 ghost use Rattle.shard_scans.specs.Live.{IsAllLive};
 
-use super::scans::{expect_offers, neighbours};
+use super::scans::{expect_offers, links_between, neighbours};
 use link_key::Labels;
 use shard_scans::{KeptShard, Scanner, laws};
 use std::alloc::Global;
 use std::process::Abort;
-use std::test::Fail;
-use worked_graphs::{Row, links_of};
+use worked_graphs::Row;
 
 // The least link at 1 and at 2 is the first, at 3 and at 4 the second; between these pairs the fourth is.
 const ARCS: [Row; 5] = [(1, 2, 7), (3, 4, 2), (2, 3, 9), (1, 4, 8), (2, 4, 8)];
@@ -25,47 +23,62 @@ const ENDS: [(u32, u32); 3] = [(1, 0), (2, 0), (3, 2)];
 const JOINED: [(u32, u32); 2] = [(1, 2), (3, 2)];
 
 // A kept shard of these arcs.
-fn kept_arcs(rt: &impl Abort, alloc: Global, n: u32, arcs: &[Row]) -> Result<KeptShard, Fail>
-    ensures { IfOk result IsAllLive }
+fn kept_arcs(rt: &impl Abort, alloc: Global, n: u32, arcs: &[Row]) -> KeptShard
+    ensures { IsAllLive result }
 {
-    let links = links_of(alloc, n, arcs)?.ok_or("arcs")?;
+    let links = links_between(rt, alloc, n, arcs);
     assert!(rt; links.len() <= 1 << 24);
-    Ok(KeptShard::new(links))
+    KeptShard::new(links)
 }
 
 // The first two links are laid aside where pairs are components, and offered again once all are live.
 #[test]
-fn kept_shard_lays_aside(rt: HostRuntime) -> Result<(), Fail> {
+fn kept_shard_lays_aside(rt: HostRuntime) {
     let alloc = rt.alloc();
     let mut scanner = Scanner::new(alloc);
-    let mut kept = kept_arcs(&rt, alloc, 4, &ARCS)?;
-    let each = Labels::apart(alloc, 4)?;
-    let pairs = neighbours(alloc, 4, 2)?;
-    let offers = kept.offers(&mut scanner, &each)?.ok_or("labels")?;
+    let mut kept = kept_arcs(&rt, alloc, 4, &ARCS);
+    let each = Labels::apart(alloc, 4).expect(&rt, "memory");
+    let pairs = neighbours(&rt, alloc, 4, 2);
+    let offers = kept
+        .offers(&mut scanner, &each)
+        .expect(&rt, "memory")
+        .expect(&rt, "labels");
     expect_offers(&rt, &offers, &EACH);
     laws::live_under_coarser();
     assert!(rt; pairs.coarsens(&each));
-    let offers = kept.offers_par(&rt, &mut scanner, &pairs)?.ok_or("labels")?;
+    let offers = kept
+        .offers_par(&rt, &mut scanner, &pairs)
+        .expect(&rt, "memory")
+        .expect(&rt, "labels");
     expect_offers(&rt, &offers, &PAIRS);
     kept.make_all_live();
-    let offers = kept.offers(&mut scanner, &each)?.ok_or("labels")?;
+    let offers = kept
+        .offers(&mut scanner, &each)
+        .expect(&rt, "memory")
+        .expect(&rt, "labels");
     expect_offers(&rt, &offers, &EACH);
-    Ok(())
 }
 
 // A shard with both directions of each link is listed at its first scan, and the list offers what the shard would.
 #[test]
-fn kept_shard_of_both_directions(rt: HostRuntime) -> Result<(), Fail> {
+fn kept_shard_of_both_directions(rt: HostRuntime) {
     let alloc = rt.alloc();
     let mut scanner = Scanner::new(alloc);
-    let mut kept = kept_arcs(&rt, alloc, 3, &DIRECTIONS)?;
-    let each = Labels::apart(alloc, 3)?;
-    let joined = Labels::of_list([1, 1, 3].to_vec(alloc)?).ok_or("labels")?;
-    let offers = kept.offers(&mut scanner, &each)?.ok_or("labels")?;
+    let mut kept = kept_arcs(&rt, alloc, 3, &DIRECTIONS);
+    let each = Labels::apart(alloc, 3).expect(&rt, "memory");
+    let joined = Labels::of_list([1, 1, 3].to_vec(alloc).expect(&rt, "memory")).expect(
+        &rt, "labels",
+    );
+    let offers = kept
+        .offers(&mut scanner, &each)
+        .expect(&rt, "memory")
+        .expect(&rt, "labels");
     expect_offers(&rt, &offers, &ENDS);
     laws::live_under_coarser();
     assert!(rt; joined.coarsens(&each));
-    let offers = kept.offers(&mut scanner, &joined)?.ok_or("labels")?;
+    let offers = kept
+        .offers(&mut scanner, &joined)
+        .expect(&rt, "memory")
+        .expect(&rt, "labels");
     expect_offers(&rt, &offers, &JOINED);
-    Ok(())
 }

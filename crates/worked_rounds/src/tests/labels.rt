@@ -3,11 +3,13 @@ ghost use Rattle.std.specs.Prelude.{◌<◌};
 
 use super::same::expect_same;
 use link_key::Labels;
-use std::alloc::Global;
-use std::test::Fail;
+use std::alloc::{Allocator, Global};
+use std::process::Abort;
 
-fn labels_of(alloc: Global, list: &[u32]) -> Result<Labels, Fail> {
-    Ok(Labels::of_list(Vec::from_slice(alloc, list)?).ok_or("labels")?)
+// The labels of this list.
+pub(crate) fn labels_of<A: Allocator>(rt: &impl Abort, alloc: A, list: &[u32]) -> Labels<A> {
+    let list = Vec::from_slice(alloc, list).expect(rt, "memory");
+    Labels::of_list(list).expect(rt, "labels")
 }
 
 // Whether each of these coarsens the labels.
@@ -22,11 +24,11 @@ fn coarsen(all: [&Labels; 4], labels: &Labels) -> [bool; 4] {
 }
 
 #[test]
-fn labels_of_three_vertices(rt: HostRuntime) -> Result<(), Fail> {
-    let apart = labels_of(rt.alloc(), &[1, 2, 3])?;
-    let first_two = labels_of(rt.alloc(), &[1, 1, 3])?;
-    let first_and_last = labels_of(rt.alloc(), &[1, 2, 1])?;
-    let one = labels_of(rt.alloc(), &[1, 1, 1])?;
+fn labels_of_three_vertices(rt: HostRuntime) {
+    let apart = labels_of(&rt, rt.alloc(), &[1, 2, 3]);
+    let first_two = labels_of(&rt, rt.alloc(), &[1, 1, 3]);
+    let first_and_last = labels_of(&rt, rt.alloc(), &[1, 2, 1]);
+    let one = labels_of(&rt, rt.alloc(), &[1, 1, 1]);
     let all = [&apart, &first_two, &first_and_last, &one];
     let found = [
         coarsen(all, &apart),
@@ -41,14 +43,13 @@ fn labels_of_three_vertices(rt: HostRuntime) -> Result<(), Fail> {
         [false, false, false, true],
     ];
     expect_same(&rt, found, expected);
-    Ok(())
 }
 
 #[test]
-fn labels_of_other_vertices(rt: HostRuntime) -> Result<(), Fail> {
-    let none = labels_of(rt.alloc(), &[])?;
-    let three = labels_of(rt.alloc(), &[1, 1, 1])?;
-    let four = labels_of(rt.alloc(), &[1, 1, 1, 1])?;
+fn labels_of_other_vertices(rt: HostRuntime) {
+    let none = labels_of(&rt, rt.alloc(), &[]);
+    let three = labels_of(&rt, rt.alloc(), &[1, 1, 1]);
+    let four = labels_of(&rt, rt.alloc(), &[1, 1, 1, 1]);
     let found = [
         none.coarsens(&none),
         none.coarsens(&three),
@@ -57,14 +58,13 @@ fn labels_of_other_vertices(rt: HostRuntime) -> Result<(), Fail> {
         three.coarsens(&four),
     ];
     expect_same(&rt, found, [true, false, false, false, false]);
-    Ok(())
 }
 
 const MANY: u32 = 12_345;
 
 // Components of so many neighbours each, named by the first. One vertex that isn't the first of its component may be
 // a component by itself.
-fn neighbours(alloc: Global, size: u32, alone: Option<u32>) -> Result<Labels, Fail>
+fn neighbours(rt: &impl Abort, alloc: Global, size: u32, alone: Option<u32>) -> Labels
     requires { 0 < size }
 {
     let mut list = Vec::new(alloc);
@@ -74,16 +74,16 @@ fn neighbours(alloc: Global, size: u32, alone: Option<u32>) -> Result<Labels, Fa
         } else {
             i.wrapping_sub(i % size)
         };
-        list.push(first.wrapping_add(1))?;
+        list.push(first.wrapping_add(1)).expect(rt, "memory");
     }
-    Ok(Labels::of_list(list).ok_or("labels")?)
+    Labels::of_list(list).expect(rt, "labels")
 }
 
 #[test]
-fn labels_of_many_vertices(rt: HostRuntime) -> Result<(), Fail> {
-    let tens = neighbours(rt.alloc(), 10, None)?;
-    let fifties = neighbours(rt.alloc(), 50, None)?;
-    let sixties = neighbours(rt.alloc(), 60, None)?;
+fn labels_of_many_vertices(rt: HostRuntime) {
+    let tens = neighbours(&rt, rt.alloc(), 10, None);
+    let fifties = neighbours(&rt, rt.alloc(), 50, None);
+    let sixties = neighbours(&rt, rt.alloc(), 60, None);
     let found = [
         tens.coarsens(&tens),
         fifties.coarsens(&tens),
@@ -94,23 +94,23 @@ fn labels_of_many_vertices(rt: HostRuntime) -> Result<(), Fail> {
     ];
     expect_same(&rt, found, [true, true, true, false, false, false]);
     for alone in [9, 255, 256, 257, 6_129, 12_287, 12_289, 12_344] {
-        let found = beside_alone(rt.alloc(), &tens, &fifties, alone)?;
+        let found = beside_alone(&rt, rt.alloc(), &tens, &fifties, alone);
         expect_same(&rt, (alone, found), (alone, [true, false, false]));
     }
-    Ok(())
 }
 
 // Whether fifties coarsen fifties of which one vertex is alone, and whether these coarsen fifties, and tens.
 fn beside_alone(
+    rt: &impl Abort,
     alloc: Global,
     tens: &Labels,
     fifties: &Labels,
     alone: u32,
-) -> Result<[bool; 3], Fail> {
-    let less = neighbours(alloc, 50, Some(alone))?;
-    Ok([
+) -> [bool; 3] {
+    let less = neighbours(rt, alloc, 50, Some(alone));
+    [
         fifties.coarsens(&less),
         less.coarsens(fifties),
         less.coarsens(tens),
-    ])
+    ]
 }

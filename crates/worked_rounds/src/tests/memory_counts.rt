@@ -1,7 +1,7 @@
 // The allocator that counts its blocks and refuses chosen allocations.
 use super::same::expect_same;
 use std::alloc::Allocator;
-use std::test::Fail;
+use std::process::Abort;
 use test_memory::{Refusals, Refusing};
 
 // How many blocks were asked for, were given, were given back, and live.
@@ -20,10 +20,10 @@ pub(crate) fn refuses<A: Allocator>(memory: &Refusing<A>) -> bool {
 }
 
 #[test]
-fn counts_blocks(rt: HostRuntime) -> Result<(), Fail> {
+fn counts_blocks(rt: HostRuntime) {
     let memory = Refusing::new(rt.alloc(), Refusals::none());
-    let first = Box::new(&memory, 7u8)?;
-    let second = Box::new(&memory, 8u8)?;
+    let first = Box::new(&memory, 7u8).expect(&rt, "memory");
+    let second = Box::new(&memory, 8u8).expect(&rt, "memory");
     let both = counts(&memory);
     drop(first);
     let one = counts(&memory);
@@ -34,15 +34,14 @@ fn counts_blocks(rt: HostRuntime) -> Result<(), Fail> {
         [both, one, none],
         [[2, 2, 0, 2], [2, 2, 1, 1], [2, 2, 2, 0]],
     );
-    Ok(())
 }
 
 #[test]
-fn refuses_one(rt: HostRuntime) -> Result<(), Fail> {
+fn refuses_one(rt: HostRuntime) {
     let memory = Refusing::new(rt.alloc(), Refusals::only(2));
-    let first = Box::new(&memory, 7u8)?;
+    let first = Box::new(&memory, 7u8).expect(&rt, "memory");
     let refused = refuses(&memory);
-    let third = Box::new(&memory, 9u8)?;
+    let third = Box::new(&memory, 9u8).expect(&rt, "memory");
     let refusals = Refusals { first: 2, last: 2 };
     let found = (
         memory.refusals(),
@@ -51,13 +50,12 @@ fn refuses_one(rt: HostRuntime) -> Result<(), Fail> {
         (*first, *third),
     );
     expect_same(&rt, found, (refusals, true, [3, 2, 0, 2], (7, 9)));
-    Ok(())
 }
 
 #[test]
-fn refuses_from_a_number_on(rt: HostRuntime) -> Result<(), Fail> {
+fn refuses_from_a_number_on(rt: HostRuntime) {
     let memory = Refusing::new(rt.alloc(), Refusals::since(2));
-    let first = Box::new(&memory, 7u8)?;
+    let first = Box::new(&memory, 7u8).expect(&rt, "memory");
     let refused = (refuses(&memory), refuses(&memory));
     drop(first);
     expect_same(
@@ -65,33 +63,40 @@ fn refuses_from_a_number_on(rt: HostRuntime) -> Result<(), Fail> {
         (refused, counts(&memory)),
         ((true, true), [3, 1, 1, 0]),
     );
-    Ok(())
 }
 
 // A `Vec` asks for a block each time that it grows, and keeps its items where a growth is refused.
 #[test]
-fn a_growth_is_refused(rt: HostRuntime) -> Result<(), Fail> {
+fn a_growth_is_refused(rt: HostRuntime) {
     let memory = Refusing::new(rt.alloc(), Refusals::since(2));
-    let mut numbers = Vec::with_capacity(&memory, 1)?;
-    numbers.push(1u32)?;
+    let mut numbers = Vec::with_capacity(&memory, 1).expect(&rt, "memory");
+    numbers.push(1u32).expect(&rt, "memory");
     let refused = numbers.push(2u32).is_err();
     expect_same(&rt, (refused, numbers.as_slice()), (true, [1].as_slice()));
     drop(numbers);
     expect_same(&rt, counts(&memory), [2, 1, 1, 0]);
-    Ok(())
+}
+
+// The numbers below 10,000.
+fn ten_thousand<A: Allocator>(rt: &impl Abort, alloc: A) -> Vec<u32, A> {
+    let mut numbers = Vec::new(alloc);
+    for number in 0..10_000u32 {
+        numbers.push(number).expect(rt, "memory");
+    }
+    numbers
+}
+
+fn are_ten_thousand(numbers: &[u32]) -> bool {
+    numbers.iter().copied().eq(0..10_000)
 }
 
 // A growth past any small size is handed on to the allocator behind it.
 #[test]
-fn ten_thousand_numbers_are_kept(rt: HostRuntime) -> Result<(), Fail> {
+fn ten_thousand_numbers_are_kept(rt: HostRuntime) {
     let memory = Refusing::new(rt.alloc(), Refusals::none());
-    let mut numbers = Vec::new(&memory);
-    for number in 0..10_000u32 {
-        numbers.push(number)?;
-    }
-    let kept = numbers.iter().copied().eq(0..10_000);
+    let numbers = ten_thousand(&rt, &memory);
+    let kept = are_ten_thousand(numbers.as_slice());
     let live = memory.live();
     drop(numbers);
     expect_same(&rt, (kept, live, memory.live()), (true, 1, 0));
-    Ok(())
 }

@@ -1,8 +1,8 @@
 // Lists of `link_key` that are handed in by value.
 use super::same::expect_same;
 use link_key::{Forest, Labels, Link, Offers};
-use std::alloc::{AllocError, Global};
-use std::test::Fail;
+use std::alloc::Global;
+use std::process::Abort;
 use test_memory::{Refusals, Refusing};
 
 // How many blocks were given in all, and how many live.
@@ -28,55 +28,52 @@ fn outcome<T: Drop>(memory: &Refusing<Global>, before: Blocks, made: Option<T>) 
     (before, is_made, behind, blocks(memory))
 }
 
-fn of_labels(alloc: Global, list: &[u32]) -> Result<Outcome, AllocError> {
+fn of_labels(rt: &impl Abort, alloc: Global, list: &[u32]) -> Outcome {
     let memory = Refusing::new(alloc, Refusals::none());
-    let list = list.to_vec(&memory)?;
+    let list = list.to_vec(&memory).expect(rt, "memory");
     let before = blocks(&memory);
-    Ok(outcome(&memory, before, Labels::of_list(list)))
+    outcome(&memory, before, Labels::of_list(list))
 }
 
-fn of_offers(alloc: Global, list: &[(u32, u32)]) -> Result<Outcome, AllocError> {
+fn of_offers(rt: &impl Abort, alloc: Global, list: &[(u32, u32)]) -> Outcome {
     let memory = Refusing::new(alloc, Refusals::none());
-    let list = list.to_vec(&memory)?;
+    let list = list.to_vec(&memory).expect(rt, "memory");
     let before = blocks(&memory);
-    Ok(outcome(&memory, before, Offers::of_pairs(list)))
+    outcome(&memory, before, Offers::of_pairs(list))
 }
 
-fn of_forest(alloc: Global, list: &[Link]) -> Result<Outcome, AllocError> {
+fn of_forest(rt: &impl Abort, alloc: Global, list: &[Link]) -> Outcome {
     let memory = Refusing::new(alloc, Refusals::none());
-    let list = list.to_vec(&memory)?;
+    let list = list.to_vec(&memory).expect(rt, "memory");
     let before = blocks(&memory);
-    Ok(outcome(&memory, before, Forest::of_list(list)))
+    outcome(&memory, before, Forest::of_list(list))
 }
 
 #[test]
-fn labels_keep_their_list_or_drop_it(rt: HostRuntime) -> Result<(), Fail> {
+fn labels_keep_their_list_or_drop_it(rt: HostRuntime) {
     let outcomes = [
-        of_labels(rt.alloc(), &[1, 1, 2])?,
-        of_labels(rt.alloc(), &[1, 1, 1])?,
+        of_labels(&rt, rt.alloc(), &[1, 1, 2]),
+        of_labels(&rt, rt.alloc(), &[1, 1, 1]),
     ];
     expect_same(&rt, outcomes, [DROPPED, KEPT]);
-    Ok(())
 }
 
 #[test]
-fn offers_keep_their_list_or_drop_it(rt: HostRuntime) -> Result<(), Fail> {
+fn offers_keep_their_list_or_drop_it(rt: HostRuntime) {
     let outcomes = [
-        of_offers(rt.alloc(), &[(1, 0), (1, 2)])?,
-        of_offers(rt.alloc(), &[(1, 0), (2, 2)])?,
+        of_offers(&rt, rt.alloc(), &[(1, 0), (1, 2)]),
+        of_offers(&rt, rt.alloc(), &[(1, 0), (2, 2)]),
     ];
     expect_same(&rt, outcomes, [DROPPED, KEPT]);
-    Ok(())
 }
 
 #[test]
-fn a_forest_keeps_its_list_or_drops_it(rt: HostRuntime) -> Result<(), Fail> {
+fn a_forest_keeps_its_list_or_drops_it(rt: HostRuntime) {
     let light = Link::of_arc(1, 2, 5).expect(&rt, "a link");
     let heavy = Link::of_arc(2, 3, 7).expect(&rt, "a link");
     let outcomes = [
-        of_forest(rt.alloc(), &[light, light])?,
-        of_forest(rt.alloc(), &[light, heavy])?,
+        of_forest(&rt, rt.alloc(), &[light, light]),
+        of_forest(&rt, rt.alloc(), &[light, heavy]),
     ];
     expect_same(&rt, outcomes, [DROPPED, KEPT]);
-    Ok(())
 }

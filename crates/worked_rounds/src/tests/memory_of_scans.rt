@@ -1,11 +1,11 @@
 // Which blocks of memory scans and engines take, which no contract counts.
+use super::labels::labels_of;
 use super::same::expect_same;
 use super::scans::{By, Worker, expect_offers};
 use super::sizes::{apart, falling};
 use link_key::{Labels, Link, Offers};
 use std::alloc::{Allocator, Global};
 use std::process::Abort;
-use std::test::Fail;
 use std::thread::{Threads, available_parallelism};
 use test_memory::{Refusals, Refusing};
 use worked_graphs::{Row, have_labels, links_of};
@@ -37,9 +37,9 @@ fn blocks(
     alloc: Global,
     n: u32,
     count: u32,
-) -> Result<(u64, u64, u64), Fail> {
-    let links = falling(alloc, n, 0, count)?;
-    let labels = apart(alloc, n)?;
+) -> (u64, u64, u64) {
+    let links = falling(rt, alloc, n, 0, count);
+    let labels = apart(rt, alloc, n);
     blocks_of_scans(rt, alloc, links.as_slice(), &labels)
 }
 
@@ -48,28 +48,27 @@ fn blocks_of_scans(
     alloc: Global,
     links: &[Link],
     labels: &Labels,
-) -> Result<(u64, u64, u64), Fail> {
+) -> (u64, u64, u64) {
     assert!(rt; links.len() <= 1 << 24 && have_labels(links, labels.n()));
     let memory = Refusing::new(alloc, Refusals::none());
-    drop(scan(&memory, links, labels)?);
+    drop(scan(&memory, links, labels).expect(rt, "memory"));
     let by_one = memory.given();
-    drop(scan_par(rt, &memory, links, labels)?);
+    drop(scan_par(rt, &memory, links, labels).expect(rt, "memory"));
     let by_threads = memory.given().wrapping_sub(by_one);
-    Ok((by_one, by_threads, memory.live()))
+    (by_one, by_threads, memory.live())
 }
 
 // A table is three blocks. Links are scanned by threads wherever there are processors for it, and a part has at least as
 // many links as there are vertices, so that its table costs no more than its links.
 #[test]
-fn a_table_for_each_part(rt: HostRuntime) -> Result<(), Fail> {
+fn a_table_for_each_part(rt: HostRuntime) {
     let alloc = rt.alloc();
     for (n, count, most) in PARTS {
-        let (by_one, by_threads, live) = blocks(&rt, alloc, n, count)?;
+        let (by_one, by_threads, live) = blocks(&rt, alloc, n, count);
         let more = parts(&rt, most).wrapping_sub(1).wrapping_mul(3);
         let blocks = by_one.wrapping_add(more);
         expect_same(&rt, (n, count, by_threads, live), (n, count, blocks, 0));
     }
-    Ok(())
 }
 
 /// Memory that counts its blocks, of which some may be refused.
@@ -81,16 +80,15 @@ fn scan_none<A: Allocator + Copy>(
     alloc: Global,
     scanner: &mut Scanner<A>,
     n: u32,
-) -> Result<(), Fail> {
-    let labels = apart(alloc, n)?;
-    expect_offers(rt, &scanner.scan(&[], &labels)?, &[]);
-    Ok(())
+) {
+    let labels = apart(rt, alloc, n);
+    expect_offers(rt, &scanner.scan(&[], &labels).expect(rt, "memory"), &[]);
 }
 
 // A scanner asks for its table once, and again only where there are more labels. The block of notes of the parts that
 // 7 labels take has room for those of 100.
 #[test]
-fn the_table_of_a_scan_is_used_again(rt: HostRuntime) -> Result<(), Fail> {
+fn the_table_of_a_scan_is_used_again(rt: HostRuntime) {
     let memory = Refusing::new(rt.alloc(), Refusals::none());
     let mut scanner = Scanner::new(&memory);
     expect_tables(&rt, rt.alloc(), &memory, &mut scanner)
@@ -101,7 +99,7 @@ fn expect_tables<'a>(
     alloc: Global,
     memory: &'a Memory,
     scanner: &mut Scanner<&'a Memory>,
-) -> Result<(), Fail> {
+) {
     for (n, given) in [
         (7, 3),
         (7, 3),
@@ -112,10 +110,9 @@ fn expect_tables<'a>(
         (50, 5),
         (1000, 8),
     ] {
-        scan_none(rt, alloc, scanner, n)?;
+        scan_none(rt, alloc, scanner, n);
         expect_same(rt, (n, memory.given()), (n, given));
     }
-    Ok(())
 }
 
 // How many blocks a worker takes to keep so many links.
@@ -124,16 +121,16 @@ fn blocks_to_keep<'a>(
     memory: &'a Memory,
     worker: &mut Worker<&'a Memory>,
     number: u32,
-) -> Result<u64, Fail> {
-    let links = falling(memory, 3, 0, 2000)?;
+) -> u64 {
+    let links = falling(rt, memory, 3, 0, 2000);
     let before = memory.given();
-    worker.keep(rt, number, links)?;
-    Ok(memory.given().wrapping_sub(before))
+    worker.keep(rt, number, links);
+    memory.given().wrapping_sub(before)
 }
 
 // A shard's list is kept without a copy: it takes no memory, but for a part of a map for the first one.
 #[test]
-fn a_shard_is_kept_without_a_copy(rt: HostRuntime) -> Result<(), Fail> {
+fn a_shard_is_kept_without_a_copy(rt: HostRuntime) {
     let memory = Refusing::new(rt.alloc(), Refusals::none());
     let mut worker = Worker::new(&memory, By::OneThread);
     expect_blocks_to_keep(&rt, &memory, &mut worker)
@@ -143,12 +140,11 @@ fn expect_blocks_to_keep<'a>(
     rt: &(impl Abort + Threads + Sync),
     memory: &'a Memory,
     worker: &mut Worker<&'a Memory>,
-) -> Result<(), Fail> {
+) {
     for (number, blocks) in [(0, 1), (1, 0), (2, 0)] {
-        let taken = blocks_to_keep(rt, memory, worker, number)?;
+        let taken = blocks_to_keep(rt, memory, worker, number);
         expect_same(rt, (number, taken), (number, blocks));
     }
-    Ok(())
 }
 
 // The offers of a worker's answer under these labels, and how many blocks it asks for meanwhile.
@@ -157,11 +153,11 @@ fn answered<'a>(
     memory: &'a Memory,
     worker: &mut Worker<&'a Memory>,
     list: &[u32],
-) -> Result<(Offers<&'a Memory>, u64), Fail> {
-    let labels = Labels::of_list(list.to_vec(memory)?).expect(rt, "labels");
+) -> (Offers<&'a Memory>, u64) {
+    let labels = labels_of(rt, memory, list);
     let before = memory.asked();
-    let offers = worker.answered(rt, 0, labels)?;
-    Ok((offers, memory.asked().wrapping_sub(before)))
+    let offers = worker.answered(rt, 0, labels);
+    (offers, memory.asked().wrapping_sub(before))
 }
 
 /// The label of the second of two vertices at an ask, and how many blocks the ask takes.
@@ -169,12 +165,7 @@ type Ask = (u32, u64);
 
 // A worker is asked for links between two vertices, under the labels of each by itself, twice under those of one
 // component, and under the first again.
-fn expect_asks(
-    rt: &(impl Abort + Threads + Sync),
-    memory: &Memory,
-    by: By,
-    asks: &[Ask],
-) -> Result<(), Fail> {
+fn expect_asks(rt: &(impl Abort + Threads + Sync), memory: &Memory, by: By, asks: &[Ask]) {
     let mut worker = Worker::new(memory, by);
     expect_asks_of(rt, memory, &mut worker, asks)
 }
@@ -184,13 +175,12 @@ fn expect_asks_of<'a>(
     memory: &'a Memory,
     worker: &mut Worker<&'a Memory>,
     asks: &[Ask],
-) -> Result<(), Fail> {
-    worker.keep(rt, 0, falling(memory, 2, 0, 131_072)?)?;
+) {
+    worker.keep(rt, 0, falling(rt, memory, 2, 0, 131_072));
     for (second, blocks) in asks {
-        let taken = blocks_of_ask(rt, memory, worker, *second)?;
+        let taken = blocks_of_ask(rt, memory, worker, *second);
         expect_same(rt, taken, *blocks);
     }
-    Ok(())
 }
 
 // How many blocks a worker asks for to answer, where the second of two vertices has this label.
@@ -199,9 +189,9 @@ fn blocks_of_ask<'a>(
     memory: &'a Memory,
     worker: &mut Worker<&'a Memory>,
     second: u32,
-) -> Result<u64, Fail> {
-    let (_offers, taken) = answered(rt, memory, worker, &[1, second])?;
-    Ok(taken)
+) -> u64 {
+    let (_offers, taken) = answered(rt, memory, worker, &[1, second]);
+    taken
 }
 
 const BY_ONE: [Ask; 4] = [(2, 5), (1, 1), (1, 0), (2, 2)];
@@ -213,9 +203,9 @@ const BY_HALVES: [Ask; 4] = [(2, 7), (1, 6), (1, 1), (2, 7)];
 // threads, which scan by labels too, each part makes a table. Under the labels of one component all links are laid aside at
 // the first ask of a list, so that no number has a name: there is one block for the marks, which is used again.
 #[test]
-fn links_laid_aside_are_scanned_no_more(rt: HostRuntime) -> Result<(), Fail> {
+fn links_laid_aside_are_scanned_no_more(rt: HostRuntime) {
     let memory = Refusing::new(rt.alloc(), Refusals::none());
-    expect_asks(&rt, &memory, By::OneThread, &BY_ONE)?;
+    expect_asks(&rt, &memory, By::OneThread, &BY_ONE);
     let by_threads = if parts(&rt, 2) == 2 {
         BY_HALVES
     } else {
@@ -230,14 +220,15 @@ const DIRECTIONS: [Row; 2] = [(1, 2, 3), (2, 1, 3)];
 // A list of the first of them is made before the first scan, in a block for both that is given back for a smaller one: before
 // three blocks of the table and one of the offers.
 #[test]
-fn links_of_both_directions_are_listed_at_once(rt: HostRuntime) -> Result<(), Fail> {
+fn links_of_both_directions_are_listed_at_once(rt: HostRuntime) {
     let memory = Refusing::new(rt.alloc(), Refusals::none());
-    let links = links_of(&memory, 2, &DIRECTIONS)?.ok_or("arcs")?;
+    let links = links_of(&memory, 2, &DIRECTIONS)
+        .expect(&rt, "memory")
+        .expect(&rt, "arcs");
     let mut worker = Worker::new(&memory, By::OneThread);
-    worker.keep(&rt, 0, links)?;
-    let taken = blocks_of_ask(&rt, &memory, &mut worker, 2)?;
+    worker.keep(&rt, 0, links);
+    let taken = blocks_of_ask(&rt, &memory, &mut worker, 2);
     expect_same(&rt, taken, 6);
-    Ok(())
 }
 
 /// The labels of three vertices at an ask, and how many blocks the ask asks for.
@@ -254,7 +245,7 @@ fn expect_coarser_asks(
     memory: &Memory,
     by: By,
     asked: &Asked,
-) -> Result<u64, Fail> {
+) -> u64 {
     let mut worker = Worker::new(memory, by);
     expect_coarser_asks_of(rt, alloc, memory, &mut worker, asked)
 }
@@ -265,17 +256,17 @@ fn expect_coarser_asks_of<'a>(
     memory: &'a Memory,
     worker: &mut Worker<&'a Memory>,
     asked: &Asked,
-) -> Result<u64, Fail> {
+) -> u64 {
     let (count, asks) = asked;
     let count = *count;
-    worker.keep(rt, 0, falling(memory, 3, 0, count)?)?;
+    worker.keep(rt, 0, falling(rt, memory, 3, 0, count));
     let before = memory.asked();
     for (list, blocks) in asks {
-        let (offers, taken) = answered(rt, memory, worker, list)?;
+        let (offers, taken) = answered(rt, memory, worker, list);
         expect_same(rt, (count, taken), (count, *blocks));
-        expect_scanned(rt, alloc, &offers, count, list)?;
+        expect_scanned(rt, alloc, &offers, count, list);
     }
-    Ok(before)
+    before
 }
 
 // The offers are those of a scan of the worker's links, of which there are so many, under these labels.
@@ -285,14 +276,13 @@ fn expect_scanned<A: Allocator>(
     offers: &Offers<A>,
     count: u32,
     list: &[u32],
-) -> Result<(), Fail> {
-    let links = falling(alloc, 3, 0, count)?;
+) {
+    let links = falling(rt, alloc, 3, 0, count);
     let links = links.as_slice();
-    let labels = Labels::of_list(list.to_vec(alloc)?).expect(rt, "labels");
+    let labels = labels_of(rt, alloc, list);
     assert!(rt; links.len() <= 1 << 24 && have_labels(links, labels.n()));
-    let expected = scan(alloc, links, &labels)?;
+    let expected = scan(alloc, links, &labels).expect(rt, "memory");
     expect_offers(rt, offers, expected.pairs());
-    Ok(())
 }
 
 // Less than half as many links as vertices, more than that, and many more.
@@ -330,23 +320,17 @@ const LISTED: [Asked; 3] = [
 // numbered then, else at the next ask: in one block for the marks, three of the table, which are used again, and one for the names, and at
 // each later ask in one more for what becomes of the names. Each answer that offers something takes one.
 #[test]
-fn live_links_are_listed_once(rt: HostRuntime) -> Result<(), Fail> {
+fn live_links_are_listed_once(rt: HostRuntime) {
     for by in [By::OneThread, By::Threads] {
         for asked in &LISTED {
             let memory = Refusing::new(rt.alloc(), Refusals::none());
-            let _before = expect_coarser_asks(&rt, rt.alloc(), &memory, by, asked)?;
+            let _before = expect_coarser_asks(&rt, rt.alloc(), &memory, by, asked);
         }
     }
-    Ok(())
 }
 
 // How many blocks were asked for before the first ask of a worker that is asked so.
-fn blocks_before(
-    rt: &(impl Abort + Threads + Sync),
-    alloc: Global,
-    by: By,
-    asked: &Asked,
-) -> Result<u64, Fail> {
+fn blocks_before(rt: &(impl Abort + Threads + Sync), alloc: Global, by: By, asked: &Asked) -> u64 {
     let memory = Refusing::new(alloc, Refusals::none());
     expect_coarser_asks(rt, alloc, &memory, by, asked)
 }
@@ -375,16 +359,15 @@ const NOT_LISTED_FIRST: [Asked; 2] = [
 // The block of the list is the first ask's first one, behind the one for its labels. Where it is refused all links are scanned
 // by labels, and the next ask asks for it again: then some links are laid aside, and the block is given back for a smaller one.
 #[test]
-fn live_links_are_listed_at_the_next_ask(rt: HostRuntime) -> Result<(), Fail> {
+fn live_links_are_listed_at_the_next_ask(rt: HostRuntime) {
     for by in [By::OneThread, By::Threads] {
         for (at_once, later) in [
             (&LISTED[1], &NOT_LISTED_FIRST[0]),
             (&LISTED[2], &NOT_LISTED_FIRST[1]),
         ] {
-            let before = blocks_before(&rt, rt.alloc(), by, at_once)?;
+            let before = blocks_before(&rt, rt.alloc(), by, at_once);
             let memory = Refusing::new(rt.alloc(), Refusals::only(before.wrapping_add(2)));
-            let _before = expect_coarser_asks(&rt, rt.alloc(), &memory, by, later)?;
+            let _before = expect_coarser_asks(&rt, rt.alloc(), &memory, by, later);
         }
     }
-    Ok(())
 }

@@ -2,7 +2,6 @@
 use super::memory_counts::{counts, refuses};
 use super::same::expect_same;
 use std::alloc::{AllocError, Global};
-use std::test::Fail;
 use test_memory::{Found, Refusals, Refusing, refuse_each};
 
 /// Work over memory that may be refused.
@@ -61,10 +60,10 @@ fn each_allocation_is_refused_in_turn(rt: HostRuntime) {
 
 // A block that is given back reaches the allocator behind, and a refused allocation asks nothing of it.
 #[test]
-fn blocks_come_from_the_allocator_behind_and_go_back_to_it(rt: HostRuntime) -> Result<(), Fail> {
+fn blocks_come_from_the_allocator_behind_and_go_back_to_it(rt: HostRuntime) {
     let behind = Refusing::new(rt.alloc(), Refusals::none());
     let memory = Refusing::new(&behind, Refusals::only(2));
-    let first = Box::new(&memory, 7u8)?;
+    let first = Box::new(&memory, 7u8).expect(&rt, "memory");
     let before = counts(&behind);
     let refused = refuses(&memory);
     let meanwhile = counts(&behind);
@@ -79,7 +78,6 @@ fn blocks_come_from_the_allocator_behind_and_go_back_to_it(rt: HostRuntime) -> R
         [counts(&behind), counts(&memory)],
         [[1, 1, 1, 0], [2, 1, 1, 0]],
     );
-    Ok(())
 }
 
 // A refusal of the allocator behind is one of the allocator before it, which counts no block of it.

@@ -1,17 +1,17 @@
 // A worker's scan, by one thread and by threads, beside a plain program: lists with repeats and with weights that many
 // links share, and links that an engine lays aside as components grow.
-ghost use Rattle.std.specs.Prelude.{◌<◌, IfOk};
+ghost use Rattle.std.specs.Prelude.{◌<◌};
 ghost use Rattle.frames.specs.FrameValue.{value_of};
 ghost use Rattle.frames.specs.Lawful.{IsLawful};
 ghost use Rattle.frames.specs.FrameStream.{AreLawful};
 ghost use Rattle.worker_engine.specs.Serving.{replies_in};
 
+use super::labels::labels_of;
 use super::same::expect_same;
 use frames::{Frame, Links};
 use link_key::{Labels, Link, Offers};
 use std::alloc::{AllocError, Allocator, Global};
 use std::process::Abort;
-use std::test::Fail;
 use std::thread::Threads;
 use worked_graphs::{Row, have_labels, links_of};
 use worker_engine::{Engine, Scanner, scan, scan_par};
@@ -24,13 +24,13 @@ pub(crate) fn scanned(
     scanner: &mut Scanner,
     links: &[Link],
     labels: &Labels,
-) -> Result<Offers, Fail> {
+) -> Offers {
     assert!(rt; links.len() <= 1 << 24 && have_labels(links, labels.n()));
-    let offers = scan(alloc, links, labels)?;
-    expect_offers(rt, &scan_par(rt, alloc, links, labels)?, offers.pairs());
-    expect_offers(rt, &scanner.scan(links, labels)?, offers.pairs());
-    expect_offers(rt, &scanner.scan_par(rt, links, labels)?, offers.pairs());
-    Ok(offers)
+    let offers = scan(alloc, links, labels).expect(rt, "memory");
+    expect_given(rt, scan_par(rt, alloc, links, labels), offers.pairs());
+    expect_given(rt, scanner.scan(links, labels), offers.pairs());
+    expect_given(rt, scanner.scan_par(rt, links, labels), offers.pairs());
+    offers
 }
 
 /// How an engine hears: it scans by one thread or by threads, or it has a fault for an ask that finds no memory.
@@ -61,15 +61,16 @@ impl<A: Allocator + Copy + Send + Sync> Worker<A> {
         &mut self,
         rt: &(impl Abort + Threads + Sync),
         frame: Frame<A>,
-    ) -> Result<Option<Frame<A>>, AllocError>
-        ensures { IfOk result (λ reply. AreLawful (replies_in reply)) }
+    ) -> Option<Frame<A>>
+        ensures { AreLawful (replies_in result) }
     {
         assert!(rt; frame.is_lawful());
-        match self.by {
+        let heard = match self.by {
             By::OneThread => self.engine.hear(frame),
             By::Threads => self.engine.hear_par(rt, frame),
             By::OrFault => self.engine.hear_or_fault(frame),
-        }
+        };
+        heard.expect(rt, "memory")
     }
 
     // It hears a shard with these links, and replies nothing.
@@ -78,14 +79,13 @@ impl<A: Allocator + Copy + Send + Sync> Worker<A> {
         rt: &(impl Abort + Threads + Sync),
         number: u32,
         links: Vec<Link, A>,
-    ) -> Result<(), Fail> {
+    ) {
         let shard = Frame::Shard {
             number,
             links: Links::of_list(links),
         };
-        let reply = self.reply(rt, shard)?;
+        let reply = self.reply(rt, shard);
         expect_same(rt, reply.is_none(), true);
-        Ok(())
     }
 
     // The offers that it answers to an ask of this shard under these labels.
@@ -94,14 +94,14 @@ impl<A: Allocator + Copy + Send + Sync> Worker<A> {
         rt: &(impl Abort + Threads + Sync),
         shard: u32,
         labels: Labels<A>,
-    ) -> Result<Offers<A>, Fail> {
+    ) -> Offers<A> {
         let ask = Frame::Ask {
             round: 1,
             shard,
             labels,
         };
-        match self.reply(rt, ask)?.expect(rt, "a reply") {
-            Frame::Answer(answer) => Ok(answer.offers),
+        match self.reply(rt, ask).expect(rt, "a reply") {
+            Frame::Answer(answer) => answer.offers,
             _ => panic!(rt; "no answer"),
         }
     }
@@ -113,10 +113,9 @@ impl<A: Allocator + Copy + Send + Sync> Worker<A> {
         shard: u32,
         labels: Labels<A>,
         expected: &[(u32, u32)],
-    ) -> Result<(), Fail> {
-        let offers = self.answered(rt, shard, labels)?;
+    ) {
+        let offers = self.answered(rt, shard, labels);
         expect_offers(rt, &offers, expected);
-        Ok(())
     }
 }
 
@@ -129,38 +128,50 @@ pub(crate) fn expect_offers<A: Allocator>(
     expect_same(rt, offers.pairs(), expected);
 }
 
+// A scan finds memory, and gives these offers.
+fn expect_given(rt: &impl Abort, given: Result<Offers, AllocError>, expected: &[(u32, u32)]) {
+    expect_offers(rt, &given.expect(rt, "memory"), expected);
+}
+
+// The links of arcs whose ends are vertices from 1 to n.
+pub(crate) fn links_between(rt: &impl Abort, alloc: Global, n: u32, arcs: &[Row]) -> Vec<Link> {
+    let links = links_of(alloc, n, arcs).expect(rt, "memory");
+    links.expect(rt, "arcs")
+}
+
 // The offers by a plain program: the links in ascending order, those that are equal by their places, of which the
 // first that leaves a component is offered for it. So many links stand before them.
 pub(crate) fn plain_offers(
+    rt: &impl Abort,
     alloc: Global,
     from: u32,
     links: &[Link],
     labels: &Labels,
-) -> Result<Vec<(u32, u32)>, Fail> {
-    let sorted = ascending(alloc, from, links)?;
+) -> Vec<(u32, u32)> {
+    let sorted = ascending(rt, alloc, from, links);
     let labels = labels.as_slice();
-    let mut firsts = Vec::from_elem(alloc, None, labels.len())?;
+    let mut firsts = Vec::from_elem(alloc, None, labels.len()).expect(rt, "memory");
     for (link, place) in &sorted {
-        let low = label_of(labels, link.low).ok_or("a label")?;
-        let high = label_of(labels, link.high).ok_or("a label")?;
+        let low = label_of(labels, link.low).expect(rt, "a label");
+        let high = label_of(labels, link.high).expect(rt, "a label");
         if low != high {
-            offer(firsts.as_mut_slice(), low, *place).ok_or("a component")?;
-            offer(firsts.as_mut_slice(), high, *place).ok_or("a component")?;
+            offer(firsts.as_mut_slice(), low, *place).expect(rt, "a component");
+            offer(firsts.as_mut_slice(), high, *place).expect(rt, "a component");
         }
     }
-    Ok(numbered(alloc, firsts.as_slice())?)
+    numbered(rt, alloc, firsts.as_slice())
 }
 
 // Links with their places, of which so many stand before them, in ascending order.
-fn ascending(alloc: Global, from: u32, links: &[Link]) -> Result<Vec<(Link, u32)>, AllocError> {
+fn ascending(rt: &impl Abort, alloc: Global, from: u32, links: &[Link]) -> Vec<(Link, u32)> {
     let mut sorted = Vec::new(alloc);
     let mut place = from;
     for link in links {
-        sorted.push((*link, place))?;
+        sorted.push((*link, place)).expect(rt, "memory");
         place = place.wrapping_add(1);
     }
     sorted.as_mut_slice().sort_unstable();
-    Ok(sorted)
+    sorted
 }
 
 // The label of a vertex, if it has one.
@@ -176,52 +187,54 @@ fn offer(firsts: &mut [Option<u32>], label: u32, place: u32) -> Option<()> {
 }
 
 // The places that there are, each behind the number of its component, from 1 on.
-fn numbered(alloc: Global, firsts: &[Option<u32>]) -> Result<Vec<(u32, u32)>, AllocError> {
+fn numbered(rt: &impl Abort, alloc: Global, firsts: &[Option<u32>]) -> Vec<(u32, u32)> {
     let mut pairs = Vec::new(alloc);
     let mut component: u32 = 0;
     for first in firsts {
         component = component.wrapping_add(1);
         if let Some(place) = *first {
-            pairs.push((component, place))?;
+            pairs.push((component, place)).expect(rt, "memory");
         }
     }
-    Ok(pairs)
+    pairs
 }
 
 // Components of so many of n neighbours each, named by the first.
-pub(crate) fn neighbours(alloc: Global, n: u32, size: u32) -> Result<Labels, Fail>
+pub(crate) fn neighbours(rt: &impl Abort, alloc: Global, n: u32, size: u32) -> Labels
     requires { 0 < size }
 {
     let mut list = Vec::new(alloc);
     for i in 0..n {
-        list.push(i.wrapping_sub(i % size).wrapping_add(1))?;
+        list.push(i.wrapping_sub(i % size).wrapping_add(1))
+            .expect(rt, "memory");
     }
-    Ok(Labels::of_list(list).ok_or("labels")?)
+    Labels::of_list(list).expect(rt, "labels")
 }
 
 const MANY: u32 = 10_000;
 
 // Links between 10,000 vertices. The last 3,000 are repeats of the first, and each weight is that of hundreds.
-pub(crate) fn many_links(alloc: Global) -> Result<Vec<Link>, Fail> {
+pub(crate) fn many_links(rt: &impl Abort, alloc: Global) -> Vec<Link> {
     let mut arcs = Vec::new(alloc);
     for i in 0..MANY {
         let j = i % 7000;
         let tail = j.wrapping_mul(7919) % MANY + 1;
         let head = j.wrapping_mul(j) % 9973 + 1;
         let weight = j.wrapping_mul(31) % 17;
-        arcs.push((tail, head, i64::from(weight) - 8))?;
+        arcs.push((tail, head, i64::from(weight) - 8))
+            .expect(rt, "memory");
     }
-    Ok(links_of(alloc, MANY, arcs.as_slice())?.ok_or("arcs")?)
+    links_between(rt, alloc, MANY, arcs.as_slice())
 }
 
 // The vertices up to 5,000 make components of fifty, and each greater one is a component by itself.
-pub(crate) fn many_labels(alloc: Global) -> Result<Labels, Fail> {
+pub(crate) fn many_labels(rt: &impl Abort, alloc: Global) -> Labels {
     let mut list = Vec::new(alloc);
     for i in 0..MANY {
         let first = if i < 5000 { i.wrapping_sub(i % 50) } else { i };
-        list.push(first.wrapping_add(1))?;
+        list.push(first.wrapping_add(1)).expect(rt, "memory");
     }
-    Ok(Labels::of_list(list).ok_or("labels")?)
+    Labels::of_list(list).expect(rt, "labels")
 }
 
 // So many that they are scanned by threads, between 1,007 vertices, each near the next. Each link is repeated some forty
@@ -232,14 +245,15 @@ const PAST_32_BITS: i64 = 1 << 32;
 
 const NEAR: u32 = 1010;
 
-fn near_links(alloc: Global) -> Result<Vec<Link>, Fail> {
+fn near_links(rt: &impl Abort, alloc: Global) -> Vec<Link> {
     let mut arcs = Vec::new(alloc);
     for i in 0..NEAR_LINKS {
         let low = i % 1000 + 1;
         let weight = i64::from(i.wrapping_mul(7919) % 101);
-        arcs.push((low, low + i % 7 + 1, weight.wrapping_mul(PAST_32_BITS)))?;
+        arcs.push((low, low + i % 7 + 1, weight.wrapping_mul(PAST_32_BITS)))
+            .expect(rt, "memory");
     }
-    Ok(links_of(alloc, NEAR, arcs.as_slice())?.ok_or("arcs")?)
+    links_between(rt, alloc, NEAR, arcs.as_slice())
 }
 
 // What another program found of the offers: how many there are, the first three, the one at a place, and the last three.
@@ -285,12 +299,11 @@ fn expect_offers_of_three(
     scanner: &mut Scanner,
     arcs: &[Row],
     expected: &[(u32, u32)],
-) -> Result<(), Fail> {
-    let labels = Labels::apart(alloc, 3)?;
-    let links = links_of(alloc, 3, arcs)?.ok_or("arcs")?;
-    let offers = scanned(rt, alloc, scanner, links.as_slice(), &labels)?;
+) {
+    let labels = Labels::apart(alloc, 3).expect(rt, "memory");
+    let links = links_between(rt, alloc, 3, arcs);
+    let offers = scanned(rt, alloc, scanner, links.as_slice(), &labels);
     expect_offers(rt, &offers, expected);
-    Ok(())
 }
 
 const TRIANGLE: [Row; 3] = [(1, 2, 5), (2, 3, 5), (1, 3, 5)];
@@ -302,47 +315,38 @@ fn expect_known_offers(
     scanner: &mut Scanner,
     list: (&[Link], &Labels),
     known: &Known,
-) -> Result<(), Fail> {
+) {
     let (links, labels) = list;
-    expect_offers_of_three(rt, alloc, scanner, &TRIANGLE, &[(1, 0), (2, 0), (3, 2)])?;
-    let offers = scanned(rt, alloc, scanner, links, labels)?;
+    expect_offers_of_three(rt, alloc, scanner, &TRIANGLE, &[(1, 0), (2, 0), (3, 2)]);
+    let offers = scanned(rt, alloc, scanner, links, labels);
     expect_known(rt, offers.pairs(), known);
-    let expected = plain_offers(alloc, 0, links, labels)?;
+    let expected = plain_offers(rt, alloc, 0, links, labels);
     expect_offers(rt, &offers, expected.as_slice());
-    Ok(())
 }
 
-fn expect_offers_of_many(
-    rt: &(impl Abort + Threads + Sync),
-    alloc: Global,
-    scanner: &mut Scanner,
-) -> Result<(), Fail> {
-    let links = many_links(alloc)?;
-    let labels = many_labels(alloc)?;
+fn expect_offers_of_many(rt: &(impl Abort + Threads + Sync), alloc: Global, scanner: &mut Scanner) {
+    let links = many_links(rt, alloc);
+    let labels = many_labels(rt, alloc);
     expect_known_offers(rt, alloc, scanner, (links.as_slice(), &labels), &OF_MANY)
 }
 
-fn expect_offers_of_near(
-    rt: &(impl Abort + Threads + Sync),
-    alloc: Global,
-    scanner: &mut Scanner,
-) -> Result<(), Fail> {
-    let links = near_links(alloc)?;
-    let labels = Labels::apart(alloc, NEAR)?;
+fn expect_offers_of_near(rt: &(impl Abort + Threads + Sync), alloc: Global, scanner: &mut Scanner) {
+    let links = near_links(rt, alloc);
+    let labels = Labels::apart(alloc, NEAR).expect(rt, "memory");
     expect_known_offers(rt, alloc, scanner, (links.as_slice(), &labels), &OF_NEAR)
 }
 
 // One scanner for lists of any length, some of them scanned by threads.
 #[test]
-fn scans_one_after_the_other(rt: HostRuntime) -> Result<(), Fail> {
+fn scans_one_after_the_other(rt: HostRuntime) {
     let mut scanner = Scanner::new(rt.alloc());
-    expect_offers_of_many(&rt, rt.alloc(), &mut scanner)?;
+    expect_offers_of_many(&rt, rt.alloc(), &mut scanner);
     expect_offers_of_near(&rt, rt.alloc(), &mut scanner)
 }
 
 // Weights whose lower 32 bits are the same, and weights at both limits of 64 bits and beside them: by keys alone.
 #[test]
-fn weights_past_32_bits(rt: HostRuntime) -> Result<(), Fail> {
+fn weights_past_32_bits(rt: HostRuntime) {
     let alloc = rt.alloc();
     let graphs: [(&[Row], &[(u32, u32)]); 5] = [
         (
@@ -368,9 +372,8 @@ fn weights_past_32_bits(rt: HostRuntime) -> Result<(), Fail> {
     ];
     let mut scanner = Scanner::new(alloc);
     for (arcs, expected) in graphs {
-        expect_offers_of_three(&rt, alloc, &mut scanner, arcs, expected)?;
+        expect_offers_of_three(&rt, alloc, &mut scanner, arcs, expected);
     }
-    Ok(())
 }
 
 // Of weights farther than 2^30 from zero many have one short key. Here all three have one, or lie where keys begin to.
@@ -379,7 +382,7 @@ const FAR: i64 = 1 << 30;
 const FARTHER: i64 = 1 << 33;
 
 #[test]
-fn weights_of_one_short_key(rt: HostRuntime) -> Result<(), Fail> {
+fn weights_of_one_short_key(rt: HostRuntime) {
     let alloc = rt.alloc();
     let graphs: [([i64; 3], [(u32, u32); 3]); 9] = [
         ([FAR + 2, FAR + 1, FAR + 3], [(1, 0), (2, 1), (3, 1)]),
@@ -404,9 +407,8 @@ fn weights_of_one_short_key(rt: HostRuntime) -> Result<(), Fail> {
     let mut scanner = Scanner::new(alloc);
     for (weights, expected) in graphs {
         let arcs = [(1, 2, weights[0]), (2, 3, weights[1]), (1, 3, weights[2])];
-        expect_offers_of_three(&rt, alloc, &mut scanner, &arcs, &expected)?;
+        expect_offers_of_three(&rt, alloc, &mut scanner, &arcs, &expected);
     }
-    Ok(())
 }
 
 // How many neighbours make a component, and how many of two shards are asked for.
@@ -424,9 +426,9 @@ const COMPONENTS: [(u32, u32); 9] = [
 
 // Two shards of many links, asked in turn as components grow, and then under labels that don't coarsen the last.
 #[test]
-fn many_links_laid_aside(rt: HostRuntime) -> Result<(), Fail> {
+fn many_links_laid_aside(rt: HostRuntime) {
     let alloc = rt.alloc();
-    let links = many_links(alloc)?;
+    let links = many_links(&rt, alloc);
     let mut worker = Worker::new(alloc, By::OneThread);
     expect_laid_aside(&rt, alloc, &mut worker, links.as_slice())
 }
@@ -436,16 +438,15 @@ fn expect_laid_aside(
     alloc: Global,
     worker: &mut Worker,
     links: &[Link],
-) -> Result<(), Fail> {
+) {
     for number in 0..2 {
-        worker.keep(rt, number, links.to_vec(alloc)?)?;
+        worker.keep(rt, number, links.to_vec(alloc).expect(rt, "memory"));
     }
     for (size, shards) in COMPONENTS {
         for shard in 0..shards {
-            expect_plain(rt, alloc, worker, (shard, links), size)?;
+            expect_plain(rt, alloc, worker, (shard, links), size);
         }
     }
-    Ok(())
 }
 
 // The worker answers an ask of a shard of many vertices with the offers of its links by the plain program, where
@@ -456,19 +457,19 @@ fn expect_plain(
     worker: &mut Worker,
     shard: (u32, &[Link]),
     size: u32,
-) -> Result<(), Fail>
+)
     requires { 0 < size }
 {
-    let labels = neighbours(alloc, MANY, size)?;
-    let expected = plain_offers(alloc, 0, shard.1, &labels)?;
+    let labels = neighbours(rt, alloc, MANY, size);
+    let expected = plain_offers(rt, alloc, 0, shard.1, &labels);
     worker.expect_answer(rt, shard.0, labels, expected.as_slice())
 }
 
 // As components grow, fewer and fewer of the links are live: first so many that they are scanned by threads, then few.
 #[test]
-fn many_live_links_by_threads(rt: HostRuntime) -> Result<(), Fail> {
+fn many_live_links_by_threads(rt: HostRuntime) {
     let alloc = rt.alloc();
-    let links = near_links(alloc)?;
+    let links = near_links(&rt, alloc);
     let mut near = Near {
         worker: Worker::new(alloc, By::Threads),
         scanner: Scanner::new(alloc),
@@ -490,12 +491,12 @@ impl Near {
         rt: &(impl Abort + Threads + Sync),
         alloc: Global,
         links: &[Link],
-    ) -> Result<(), Fail> {
-        self.worker.keep(rt, 0, links.to_vec(alloc)?)?;
+    ) {
+        self.worker
+            .keep(rt, 0, links.to_vec(alloc).expect(rt, "memory"));
         for size in [1, 2, 4, 8, 8, 16, 1010, 4] {
-            self.expect_scanned(rt, alloc, links, size)?;
+            self.expect_scanned(rt, alloc, links, size);
         }
-        Ok(())
     }
 
     // The worker answers as the scanner scans the links, where components have so many neighbours each.
@@ -505,11 +506,11 @@ impl Near {
         alloc: Global,
         links: &[Link],
         size: u32,
-    ) -> Result<(), Fail>
+    )
         requires { 0 < size }
     {
-        let labels = neighbours(alloc, NEAR, size)?;
-        let expected = scanned(rt, alloc, &mut self.scanner, links, &labels)?;
+        let labels = neighbours(rt, alloc, NEAR, size);
+        let expected = scanned(rt, alloc, &mut self.scanner, links, &labels);
         self.worker.expect_answer(rt, 0, labels, expected.pairs())
     }
 }
@@ -517,19 +518,18 @@ impl Near {
 // Lists of about half as many links as there are vertices, and of twice as many as these. Fewer are numbered at the first ask,
 // and others at the second.
 #[test]
-fn half_as_many_links_as_vertices(rt: HostRuntime) -> Result<(), Fail> {
-    let links = near_links(rt.alloc())?;
+fn half_as_many_links_as_vertices(rt: HostRuntime) {
+    let links = near_links(&rt, rt.alloc());
     for by in [By::OneThread, By::Threads, By::OrFault] {
         for count in [NEAR / 2 - 1, NEAR / 2, NEAR / 2 + 1, 2 * NEAR] {
-            let few = links.as_slice().get(..count as usize).ok_or("links")?;
+            let few = links.as_slice().get(..count as usize).expect(&rt, "links");
             let mut near = Near {
                 worker: Worker::new(rt.alloc(), by),
                 scanner: Scanner::new(rt.alloc()),
             };
-            near.expect_fewer_and_fewer(&rt, rt.alloc(), few)?;
+            near.expect_fewer_and_fewer(&rt, rt.alloc(), few);
         }
     }
-    Ok(())
 }
 
 // The worker answers an ask of its only shard under these labels with these offers.
@@ -539,26 +539,23 @@ fn expect_under(
     worker: &mut Worker,
     list: &[u32],
     expected: &[(u32, u32)],
-) -> Result<(), Fail> {
-    let labels = Labels::of_list(Vec::from_slice(alloc, list)?).ok_or("labels")?;
+) {
+    let labels = Labels::of_list(Vec::from_slice(alloc, list).expect(rt, "memory")).expect(
+        rt, "labels",
+    );
     worker.expect_answer(rt, 0, labels, expected)
 }
 
 #[test]
-fn links_laid_aside_are_live_again(rt: HostRuntime) -> Result<(), Fail> {
+fn links_laid_aside_are_live_again(rt: HostRuntime) {
     for by in [By::OneThread, By::Threads] {
         let mut worker = Worker::new(rt.alloc(), by);
-        expect_live_again(&rt, rt.alloc(), &mut worker)?;
+        expect_live_again(&rt, rt.alloc(), &mut worker);
     }
-    Ok(())
 }
 
 // The worker is sent a triangle, and asked for it as components grow, and then under labels that don't coarsen the last.
-fn expect_live_again(
-    rt: &(impl Abort + Threads + Sync),
-    alloc: Global,
-    worker: &mut Worker,
-) -> Result<(), Fail> {
+fn expect_live_again(rt: &(impl Abort + Threads + Sync), alloc: Global, worker: &mut Worker) {
     let all: &[(u32, u32)] = &[(1, 0), (2, 0), (3, 2)];
     let asked: [(&[u32], &[(u32, u32)]); 5] = [
         (&[1, 2, 3], all),
@@ -567,8 +564,8 @@ fn expect_live_again(
         (&[1, 2, 3], all),
         (&[1, 2, 3, 4], all),
     ];
-    let triangle = links_of(alloc, 3, &TRIANGLE)?.ok_or("arcs")?;
-    worker.keep(rt, 0, triangle)?;
+    let triangle = links_between(rt, alloc, 3, &TRIANGLE);
+    worker.keep(rt, 0, triangle);
     expect_each(rt, alloc, worker, &asked)
 }
 
@@ -578,11 +575,10 @@ fn expect_each(
     alloc: Global,
     worker: &mut Worker,
     asked: &[(&[u32], &[(u32, u32)])],
-) -> Result<(), Fail> {
+) {
     for (list, expected) in asked {
-        expect_under(rt, alloc, worker, list, expected)?;
+        expect_under(rt, alloc, worker, list, expected);
     }
-    Ok(())
 }
 
 // Links in both directions, and links between the same two vertices of several weights: a lesser one behind a greater,
@@ -632,45 +628,36 @@ fn expect_scan(
     scanner: &mut Scanner,
     links: &[Link],
     under: (&[u32], &[(u32, u32)]),
-) -> Result<(), Fail> {
+) {
     let (list, expected) = under;
-    let labels = Labels::of_list(Vec::from_slice(alloc, list)?).ok_or("labels")?;
-    let offers = scanned(rt, alloc, scanner, links, &labels)?;
+    let labels = Labels::of_list(Vec::from_slice(alloc, list).expect(rt, "memory")).expect(
+        rt, "labels",
+    );
+    let offers = scanned(rt, alloc, scanner, links, &labels);
     expect_offers(rt, &offers, expected);
-    Ok(())
 }
 
 // Scans of the whole list give the offers of each row.
-fn expect_scans(
-    rt: &(impl Abort + Threads + Sync),
-    alloc: Global,
-    links: &[Link],
-) -> Result<(), Fail> {
+fn expect_scans(rt: &(impl Abort + Threads + Sync), alloc: Global, links: &[Link]) {
     let mut scanner = Scanner::new(alloc);
     for under in UNDER {
-        expect_scan(rt, alloc, &mut scanner, links, under)?;
+        expect_scan(rt, alloc, &mut scanner, links, under);
     }
-    Ok(())
 }
 
 // A worker that keeps the list answers so, row by row.
-fn expect_heard(
-    rt: &(impl Abort + Threads + Sync),
-    alloc: Global,
-    by: By,
-    links: &[Link],
-) -> Result<(), Fail> {
+fn expect_heard(rt: &(impl Abort + Threads + Sync), alloc: Global, by: By, links: &[Link]) {
     let mut worker = Worker::new(alloc, by);
-    worker.keep(rt, 0, links.to_vec(alloc)?)?;
+    worker.keep(rt, 0, links.to_vec(alloc).expect(rt, "memory"));
     expect_each(rt, alloc, &mut worker, &UNDER)
 }
 
 // Of parallel links the least is kept, whichever stands first. A scan of the whole list gives the same offers.
 #[test]
-fn parallel_links_are_laid_aside(rt: HostRuntime) -> Result<(), Fail> {
+fn parallel_links_are_laid_aside(rt: HostRuntime) {
     let alloc = rt.alloc();
-    let links = links_of(alloc, 6, &PARALLEL)?.ok_or("arcs")?;
-    expect_scans(&rt, alloc, links.as_slice())?;
-    expect_heard(&rt, alloc, By::OneThread, links.as_slice())?;
+    let links = links_between(&rt, alloc, 6, &PARALLEL);
+    expect_scans(&rt, alloc, links.as_slice());
+    expect_heard(&rt, alloc, By::OneThread, links.as_slice());
     expect_heard(&rt, alloc, By::Threads, links.as_slice())
 }

@@ -1,10 +1,9 @@
 //! A set of shards, to its last one.
 use super::same::expect_same;
 use shard_set::ShardSet;
-use std::test::Fail;
 
 #[test]
-fn shards_are_put_in_and_taken_out(rt: HostRuntime) -> Result<(), Fail> {
+fn shards_are_put_in_and_taken_out(rt: HostRuntime) {
     let mut shards = ShardSet::empty();
     for shard in [0, 63, 64, 4095] {
         shards.insert(shard);
@@ -24,12 +23,11 @@ fn shards_are_put_in_and_taken_out(rt: HostRuntime) -> Result<(), Fail> {
     ];
     let expected = [true, false, false, true, false, true, false, false];
     expect_same(&rt, held, expected);
-    Ok(())
 }
 
 // Every shard, past each inner word.
 #[test]
-fn every_shard_is_held_once(rt: HostRuntime) -> Result<(), Fail> {
+fn every_shard_is_held_once(rt: HostRuntime) {
     let mut shards = ShardSet::empty();
     for shard in 0..4096u32 {
         expect_same(&rt, (shard, shards.has(shard)), (shard, false));
@@ -44,5 +42,4 @@ fn every_shard_is_held_once(rt: HostRuntime) -> Result<(), Fail> {
             (shard, true, false),
         );
     }
-    Ok(())
 }

@@ -7,9 +7,8 @@ ghost use Rattle.std.specs.Prelude.{◌<◌, ◌^◌};
 use super::same::expect_same;
 use super::scans::{By, Worker, neighbours, plain_offers, scanned};
 use link_key::{Labels, Link};
-use std::alloc::{AllocError, Allocator, Global};
+use std::alloc::{Allocator, Global};
 use std::process::Abort;
-use std::test::Fail;
 use std::thread::Threads;
 use worker_engine::Scanner;
 
@@ -52,48 +51,51 @@ fn steps(n: u32) -> u32
 // Links that go round the path of n vertices again and again, each lighter than the one before: those from one place on
 // before another.
 pub(crate) fn falling<A: Allocator>(
+    rt: &impl Abort,
     alloc: A,
     n: u32,
     from: u32,
     to: u32,
-) -> Result<Vec<Link, A>, AllocError> {
+) -> Vec<Link, A> {
     let path = steps(n);
-    let mut links = Vec::with_capacity(alloc, to.saturating_sub(from) as usize)?;
+    let mut links = Vec::with_capacity(alloc, to.saturating_sub(from) as usize).expect(
+        rt, "memory",
+    );
     for i in from..to {
         let low = i % path + 1;
         let weight = -i64::from(i);
         if let Some(link) = Link::of_arc(low, low + 1, weight) {
-            links.push(link)?;
+            links.push(link).expect(rt, "memory");
         }
     }
-    Ok(links)
+    links
 }
 
 // The offers of so many such links: the last ones, once round the path, are the least.
 pub(crate) fn falling_offers(
+    rt: &impl Abort,
     alloc: Global,
     n: u32,
     count: u32,
     labels: &Labels,
-) -> Result<Vec<(u32, u32)>, Fail> {
+) -> Vec<(u32, u32)> {
     let from = count.saturating_sub(n);
-    let last = falling(alloc, n, from, count)?;
-    plain_offers(alloc, from, last.as_slice(), labels)
+    let last = falling(rt, alloc, n, from, count);
+    plain_offers(rt, alloc, from, last.as_slice(), labels)
 }
 
 // The labels of n vertices, each by itself.
-pub(crate) fn apart(alloc: Global, n: u32) -> Result<Labels, Fail> {
-    neighbours(alloc, n, 1)
+pub(crate) fn apart(rt: &impl Abort, alloc: Global, n: u32) -> Labels {
+    neighbours(rt, alloc, n, 1)
 }
 
 #[test]
-fn scans_of_each_size(rt: HostRuntime) -> Result<(), Fail> {
+fn scans_of_each_size(rt: HostRuntime) {
     let alloc = rt.alloc();
     let mut scanner = Scanner::new(alloc);
     for size in SIZES {
-        expect_scan(&rt, alloc, &mut scanner, size)?;
+        expect_scan(&rt, alloc, &mut scanner, size);
     }
-    Ok(())
 }
 
 // Such links are scanned so, each vertex a component by itself.
@@ -102,14 +104,13 @@ fn expect_scan(
     alloc: Global,
     scanner: &mut Scanner,
     size: Size,
-) -> Result<(), Fail> {
+) {
     let (n, count) = size;
-    let links = falling(alloc, n, 0, count)?;
-    let labels = apart(alloc, n)?;
-    let expected = falling_offers(alloc, n, count, &labels)?;
-    let offers = scanned(rt, alloc, scanner, links.as_slice(), &labels)?;
+    let links = falling(rt, alloc, n, 0, count);
+    let labels = apart(rt, alloc, n);
+    let expected = falling_offers(rt, alloc, n, count, &labels);
+    let offers = scanned(rt, alloc, scanner, links.as_slice(), &labels);
     expect_same(rt, (size, offers.pairs()), (size, expected.as_slice()));
-    Ok(())
 }
 
 // A worker that keeps such links answers with their offers, where components have so many neighbours each.
@@ -119,25 +120,19 @@ fn expect_answer(
     worker: &mut Worker,
     size: Size,
     component: u32,
-) -> Result<(), Fail>
+)
     requires { 0 < component }
 {
     let (n, count) = size;
-    let labels = neighbours(alloc, n, component)?;
-    let expected = falling_offers(alloc, n, count, &labels)?;
-    let offers = worker.answered(rt, 0, labels)?;
+    let labels = neighbours(rt, alloc, n, component);
+    let expected = falling_offers(rt, alloc, n, count, &labels);
+    let offers = worker.answered(rt, 0, labels);
     expect_same(rt, (size, offers.pairs()), (size, expected.as_slice()));
-    Ok(())
 }
 
 // It does so by all links under the labels of each vertex, and twice under those of pairs, the second time by the places
 // of half of them.
-fn expect_answers(
-    rt: &(impl Abort + Threads + Sync),
-    alloc: Global,
-    by: By,
-    size: Size,
-) -> Result<(), Fail> {
+fn expect_answers(rt: &(impl Abort + Threads + Sync), alloc: Global, by: By, size: Size) {
     let mut worker = Worker::new(alloc, by);
     expect_answers_of(rt, alloc, &mut worker, size)
 }
@@ -147,36 +142,33 @@ fn expect_answers_of(
     alloc: Global,
     worker: &mut Worker,
     size: Size,
-) -> Result<(), Fail> {
-    worker.keep(rt, 0, falling(alloc, size.0, 0, size.1)?)?;
+) {
+    worker.keep(rt, 0, falling(rt, alloc, size.0, 0, size.1));
     for component in [1, 2, 2] {
-        expect_answer(rt, alloc, worker, size, component)?;
+        expect_answer(rt, alloc, worker, size, component);
     }
-    Ok(())
 }
 
 #[test]
-fn engines_of_each_size(rt: HostRuntime) -> Result<(), Fail> {
+fn engines_of_each_size(rt: HostRuntime) {
     for size in SIZES {
         for by in [By::OneThread, By::Threads] {
-            expect_answers(&rt, rt.alloc(), by, size)?;
+            expect_answers(&rt, rt.alloc(), by, size);
         }
     }
-    Ok(())
 }
 
 // The same of asks that would have a fault where there were no memory, past the size of each piece of one thread.
 #[test]
-fn engines_with_faults_for_asks(rt: HostRuntime) -> Result<(), Fail> {
+fn engines_with_faults_for_asks(rt: HostRuntime) {
     for size in [(0, 0), (2, 1), (100, 65), (3, 65_537), (65_537, 131_072)] {
-        expect_answers(&rt, rt.alloc(), By::OrFault, size)?;
+        expect_answers(&rt, rt.alloc(), By::OrFault, size);
     }
-    Ok(())
 }
 
 // As many links as a shard may have.
 #[test]
-fn an_engine_keeps_the_longest_shard(rt: HostRuntime) -> Result<(), Fail> {
+fn an_engine_keeps_the_longest_shard(rt: HostRuntime) {
     expect_answers(&rt, rt.alloc(), By::Threads, (3, 1 << 24))
 }
 
@@ -186,19 +178,18 @@ fn expect_shard(
     alloc: Global,
     worker: &mut Worker,
     number: u32,
-) -> Result<(), Fail> {
-    worker.keep(rt, number, falling(alloc, 2, 0, 1)?)?;
-    worker.expect_answer(rt, number, apart(alloc, 2)?, &[(1, 0), (2, 0)])
+) {
+    worker.keep(rt, number, falling(rt, alloc, 2, 0, 1));
+    worker.expect_answer(rt, number, apart(rt, alloc, 2), &[(1, 0), (2, 0)])
 }
 
 // An engine keeps as many shards as there may be, each sent twice and asked for behind each time.
 #[test]
-fn as_many_shards_as_there_may_be(rt: HostRuntime) -> Result<(), Fail> {
+fn as_many_shards_as_there_may_be(rt: HostRuntime) {
     for by in [By::OneThread, By::Threads] {
         let mut worker = Worker::new(rt.alloc(), by);
         for turn in 0..8192 {
-            expect_shard(&rt, rt.alloc(), &mut worker, turn % 4096)?;
+            expect_shard(&rt, rt.alloc(), &mut worker, turn % 4096);
         }
     }
-    Ok(())
 }

@@ -1,13 +1,12 @@
 // Scans of a few links under many labels, each over the table of the scan before. A link touches labels at the front of
 // the table, in its middle or at its end, and all other labels stay as they were.
-use super::scans::{expect_offers, neighbours, plain_offers, scanned};
+use super::scans::{expect_offers, links_between, neighbours, plain_offers, scanned};
 use super::sizes::apart;
 use link_key::Labels;
 use std::alloc::Global;
 use std::process::Abort;
-use std::test::Fail;
 use std::thread::Threads;
-use worked_graphs::{Row, links_of};
+use worked_graphs::Row;
 use worker_engine::Scanner;
 
 // How many vertices there are, and three arcs. A table notes what is touched by 8 and by 64 labels: of
@@ -26,10 +25,9 @@ fn expect_none_behind(
     alloc: Global,
     scanner: &mut Scanner,
     labels: &Labels,
-) -> Result<(), Fail> {
-    let none = scanned(rt, alloc, scanner, &[], labels)?;
+) {
+    let none = scanned(rt, alloc, scanner, &[], labels);
     expect_offers(rt, &none, &[]);
-    Ok(())
 }
 
 // The offers of the link of this arc alone.
@@ -39,9 +37,9 @@ fn expect_alone(
     scanner: &mut Scanner,
     labels: &Labels,
     arc: Row,
-) -> Result<(), Fail> {
-    let link = links_of(alloc, labels.n(), &[arc])?.ok_or("an arc")?;
-    let offers = scanned(rt, alloc, scanner, link.as_slice(), labels)?;
+) {
+    let link = links_between(rt, alloc, labels.n(), &[arc]);
+    let offers = scanned(rt, alloc, scanner, link.as_slice(), labels);
     expect_offers(rt, &offers, &[(arc.0, 0), (arc.1, 0)]);
     expect_none_behind(rt, alloc, scanner, labels)
 }
@@ -53,27 +51,26 @@ fn expect_each_and_all(
     scanner: &mut Scanner,
     n: u32,
     arcs: &[Row],
-) -> Result<(), Fail> {
-    let labels = apart(alloc, n)?;
+) {
+    let labels = apart(rt, alloc, n);
     for arc in arcs {
-        expect_alone(rt, alloc, scanner, &labels, *arc)?;
+        expect_alone(rt, alloc, scanner, &labels, *arc);
     }
-    let pairs = neighbours(alloc, n, 2)?;
-    let all = links_of(alloc, n, arcs)?.ok_or("arcs")?;
-    let expected = plain_offers(alloc, 0, all.as_slice(), &pairs)?;
-    let offers = scanned(rt, alloc, scanner, all.as_slice(), &pairs)?;
+    let pairs = neighbours(rt, alloc, n, 2);
+    let all = links_between(rt, alloc, n, arcs);
+    let expected = plain_offers(rt, alloc, 0, all.as_slice(), &pairs);
+    let offers = scanned(rt, alloc, scanner, all.as_slice(), &pairs);
     expect_offers(rt, &offers, expected.as_slice());
     expect_none_behind(rt, alloc, scanner, &pairs)
 }
 
 // Each link alone, twice, and between them all three under the labels of pairs.
 #[test]
-fn few_of_many_labels_are_touched(rt: HostRuntime) -> Result<(), Fail> {
+fn few_of_many_labels_are_touched(rt: HostRuntime) {
     let mut scanner = Scanner::new(rt.alloc());
     for (n, arcs) in TOUCHED {
         for _ in 0..2 {
-            expect_each_and_all(&rt, rt.alloc(), &mut scanner, n, &arcs)?;
+            expect_each_and_all(&rt, rt.alloc(), &mut scanner, n, &arcs);
         }
     }
-    Ok(())
 }
