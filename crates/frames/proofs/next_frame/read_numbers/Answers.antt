@@ -1,4 +1,4 @@
-use Rattle.std.proofs.Common.{◌≡◌, ◌∙◌, false, ◌≤◌, ◌+◌, ◌*◌, ◌/◌, ◌++◌, List, ℕ, length, take, drop, sym, ap, subst, All, arith, rules}
+use Rattle.std.proofs.Common.{◌≡◌, ◌∙◌, false, ◌≤◌, ◌+◌, ◌*◌, ◌/◌, ◌++◌, List, ℕ, length, take, drop, sym, subst, All, arith, rules}
 use Rattle.std.specs.List.{flat_map}
 use Rattle.std.proofs.lemmas.List.{length-append, length-drop}
 use Rattle.std.proofs.lemmas.Result.{err_from_is_err_and}
