@@ -1,15 +1,16 @@
 // Frames and their bytes, and each refusal.
 use super::next_frames::next_bytes;
+use super::same;
 use super::same::expect_same;
+use super::sizes::text_of;
 use byte_streams::FusedSource;
 use frames::{
-    Answer, Frame, FrameFault, Head, Links, VERSION, answer_head, decode_body, decode_head, encode,
+    Answer, Frame, FrameFault, Head, Links, VERSION, answer_head, decode_body, decode_head,
     encode_ask, encode_ask_over, encode_shard, fault_bytes, put_offers, read_frame, read_next,
 };
 use link_key::{Labels, Link, Offers, Shard};
-use std::alloc::{AllocError, Global};
+use std::alloc::Global;
 use std::process::Abort;
-use std::test::Fail;
 
 const HELLO: [u8; 11] = [1, 0, 0, 0, 6, 0, 1, 0, 0, 0, 0];
 
@@ -38,35 +39,32 @@ const EMPTY_SHARD64: [u8; 13] = [6, 0, 0, 0, 8, 0, 0, 0, 0, 0, 0, 0, 0];
 const FAULT: [u8; 14] = [5, 0, 0, 0, 9, 0, 0, 0, 1, 0, 0, 0, 5, 2];
 
 // The links of a triangle whose edges weigh 5.
-fn triangle(alloc: Global) -> Result<Vec<Link>, AllocError> {
+fn triangle(rt: &impl Abort, alloc: Global) -> Vec<Link> {
     let mut links = Vec::new(alloc);
     for (low, high) in [(1, 2), (2, 3), (1, 3)] {
         if let Some(link) = Link::of_arc(low, high, 5) {
-            links.push(link)?;
+            links.push(link).expect(rt, "memory");
         }
     }
-    Ok(links)
+    links
 }
 
 // The frame's text is these bytes, and it is what they are read as, and no more is taken.
-fn expect_text(rt: &impl Abort, alloc: Global, frame: &Frame, bytes: &[u8]) -> Result<(), Fail> {
-    assert!(rt; frame.is_lawful());
-    expect_same(rt, encode(alloc, frame)?.as_slice(), bytes);
-    let mut text = Vec::from_slice(alloc, bytes)?;
-    text.push(77)?;
+fn expect_text(rt: &impl Abort, alloc: Global, frame: &Frame, bytes: &[u8]) {
+    expect_same(rt, text_of(rt, alloc, frame).as_slice(), bytes);
+    let mut text = Vec::from_slice(alloc, bytes).expect(rt, "memory");
+    text.push(77).expect(rt, "memory");
     let mut source = text.as_slice();
-    let again = read_frame(alloc, &mut source)?;
-    assert!(rt; again.is_lawful());
-    expect_same(rt, encode(alloc, &again)?.as_slice(), bytes);
+    let again = read_frame(alloc, &mut source).expect(rt, "a frame");
+    expect_same(rt, text_of(rt, alloc, &again).as_slice(), bytes);
     expect_same(rt, source, [77].as_slice());
-    Ok(())
 }
 
 // The frame is a hello of this version and worker.
 pub(crate) fn expect_hello(rt: &impl Abort, frame: Frame, fields: (u16, u32)) {
     match frame {
         Frame::Hello { version, worker } => expect_same(rt, (version, worker), fields),
-        _ => assert!(rt; false),
+        _ => panic!(rt; "another frame"),
     }
 }
 
@@ -77,7 +75,7 @@ pub(crate) fn expect_shard(rt: &impl Abort, frame: Frame, of: u32, expected: &[L
             expect_same(rt, (number, links.as_slice()), (of, expected));
             expect_same(rt, links.into_list().len(), expected.len());
         }
-        _ => assert!(rt; false),
+        _ => panic!(rt; "another frame"),
     }
 }
 
@@ -93,7 +91,7 @@ fn expect_ask(rt: &impl Abort, frame: Frame, of: (u32, u32), expected: &[u32]) {
             (round, shard, labels.as_slice()),
             (of.0, of.1, expected),
         ),
-        _ => assert!(rt; false),
+        _ => panic!(rt; "another frame"),
     }
 }
 
@@ -104,7 +102,7 @@ fn expect_answer(rt: &impl Abort, frame: Frame, of: (u32, u32), pairs: &[(u32, u
             expect_same(rt, (answer.round, answer.shard), of);
             expect_same(rt, answer.offers.pairs(), pairs);
         }
-        _ => assert!(rt; false),
+        _ => panic!(rt; "another frame"),
     }
 }
 
@@ -112,12 +110,12 @@ fn expect_answer(rt: &impl Abort, frame: Frame, of: (u32, u32), pairs: &[(u32, u
 fn expect_fault(rt: &impl Abort, frame: Frame, fields: (u32, u32, u8)) {
     match frame {
         Frame::Fault { round, shard, code } => expect_same(rt, (round, shard, code), fields),
-        _ => assert!(rt; false),
+        _ => panic!(rt; "another frame"),
     }
 }
 
 #[test]
-fn hellos_of_worker_0(rt: HostRuntime) -> Result<(), Fail> {
+fn hellos_of_worker_0(rt: HostRuntime) {
     for of in [1u16, 2] {
         let frame = Frame::Hello {
             version: of,
@@ -125,16 +123,19 @@ fn hellos_of_worker_0(rt: HostRuntime) -> Result<(), Fail> {
         };
         let mut bytes = HELLO;
         bytes[6] = of as u8;
-        expect_text(&rt, rt.alloc(), &frame, &bytes)?;
-        expect_hello(&rt, read_frame(rt.alloc(), &mut bytes.as_slice())?, (of, 0));
+        expect_text(&rt, rt.alloc(), &frame, &bytes);
+        expect_hello(
+            &rt,
+            read_frame(rt.alloc(), &mut bytes.as_slice()).expect(&rt, "a frame"),
+            (of, 0),
+        );
     }
     expect_same(&rt, VERSION, 2);
-    Ok(())
 }
 
 #[test]
-fn shard_of_a_triangle(rt: HostRuntime) -> Result<(), Fail> {
-    let links = triangle(rt.alloc())?;
+fn shard_of_a_triangle(rt: HostRuntime) {
+    let links = triangle(&rt, rt.alloc());
     let shard = Shard {
         number: 0,
         links: links.as_slice(),
@@ -142,10 +143,12 @@ fn shard_of_a_triangle(rt: HostRuntime) -> Result<(), Fail> {
     assert!(rt; shard.links.len() == 3);
     expect_same(
         &rt,
-        encode_shard(rt.alloc(), &shard)?.as_slice(),
+        encode_shard(rt.alloc(), &shard)
+            .expect(&rt, "memory")
+            .as_slice(),
         SHARD.as_slice(),
     );
-    let read = read_frame(rt.alloc(), &mut SHARD.as_slice())?;
+    let read = read_frame(rt.alloc(), &mut SHARD.as_slice()).expect(&rt, "a frame");
     expect_shard(&rt, read, 0, links.as_slice());
     let frame = Frame::Shard {
         number: 0,
@@ -157,7 +160,7 @@ fn shard_of_a_triangle(rt: HostRuntime) -> Result<(), Fail> {
 // One link of a weight past 32 bits, at each end of them, and beside one that fits; weights of which the lower 32 bits
 // are nothing, and three whose lower 32 bits are the same.
 #[test]
-fn shards_of_64_bits(rt: HostRuntime) -> Result<(), Fail> {
+fn shards_of_64_bits(rt: HostRuntime) {
     let rows: [(&[(u32, u32, i64)], &[u8]); 5] = [
         (&[(1, 2, 2147483648)], &SHARD64),
         (
@@ -194,22 +197,22 @@ fn shards_of_64_bits(rt: HostRuntime) -> Result<(), Fail> {
         let mut links = Vec::new(rt.alloc());
         for &(tail, head, weight) in arcs {
             assert!(rt; 1 <= tail && tail <= 3 && 1 <= head && head <= 3);
-            links.push(Link::of_arc(tail, head, weight).expect(&rt, "no loop"))?;
+            let link = Link::of_arc(tail, head, weight).expect(&rt, "no loop");
+            links.push(link).expect(&rt, "memory");
         }
-        let read = read_frame(rt.alloc(), &mut &bytes[..])?;
+        let read = read_frame(rt.alloc(), &mut &bytes[..]).expect(&rt, "a frame");
         expect_shard(&rt, read, 0, links.as_slice());
         let frame = Frame::Shard {
             number: 0,
             links: Links::of_list(links),
         };
-        expect_text(&rt, rt.alloc(), &frame, bytes)?;
+        expect_text(&rt, rt.alloc(), &frame, bytes);
     }
-    Ok(())
 }
 
 // The least and the greatest weight of 32 bits: a shard of them is one of version 1.
 #[test]
-fn shards_of_the_last_weights_of_32_bits(rt: HostRuntime) -> Result<(), Fail> {
+fn shards_of_the_last_weights_of_32_bits(rt: HostRuntime) {
     let rows: [(i64, [u8; 4]); 2] = [
         (-2147483648, [128, 0, 0, 0]),
         (2147483647, [127, 255, 255, 255]),
@@ -218,24 +221,28 @@ fn shards_of_the_last_weights_of_32_bits(rt: HostRuntime) -> Result<(), Fail> {
         let mut bytes = [
             2, 0, 0, 0, 20, 0, 0, 0, 0, 0, 0, 0, 1, 0, 0, 0, 1, 0, 0, 0, 2,
         ]
-        .to_vec(rt.alloc())?;
-        bytes.extend_from_slice(&end)?;
-        let links = [Link::of_arc(1, 2, weight).expect(&rt, "no loop")].to_vec(rt.alloc())?;
+        .to_vec(rt.alloc())
+        .expect(&rt, "memory");
+        bytes.extend_from_slice(&end).expect(&rt, "memory");
+        let links = [Link::of_arc(1, 2, weight).expect(&rt, "no loop")]
+            .to_vec(rt.alloc())
+            .expect(&rt, "memory");
         let frame = Frame::Shard {
             number: 0,
             links: Links::of_list(links),
         };
-        expect_text(&rt, rt.alloc(), &frame, bytes.as_slice())?;
+        expect_text(&rt, rt.alloc(), &frame, bytes.as_slice());
     }
-    Ok(())
 }
 
 #[test]
-fn ask_with_each_vertex_apart(rt: HostRuntime) -> Result<(), Fail> {
-    let labels = Labels::apart(rt.alloc(), 3)?;
+fn ask_with_each_vertex_apart(rt: HostRuntime) {
+    let labels = Labels::apart(rt.alloc(), 3).expect(&rt, "memory");
     expect_same(
         &rt,
-        encode_ask(rt.alloc(), 1, 0, &labels)?.as_slice(),
+        encode_ask(rt.alloc(), 1, 0, &labels)
+            .expect(&rt, "memory")
+            .as_slice(),
         ASK.as_slice(),
     );
     let frame = Frame::Ask {
@@ -243,19 +250,19 @@ fn ask_with_each_vertex_apart(rt: HostRuntime) -> Result<(), Fail> {
         shard: 0,
         labels,
     };
-    expect_text(&rt, rt.alloc(), &frame, &ASK)?;
-    let read = read_frame(rt.alloc(), &mut ASK.as_slice())?;
+    expect_text(&rt, rt.alloc(), &frame, &ASK);
+    let read = read_frame(rt.alloc(), &mut ASK.as_slice()).expect(&rt, "a frame");
     expect_ask(&rt, read, (1, 0), &[1, 2, 3]);
-    Ok(())
 }
 
-pub(crate) fn labels_of(rt: &impl Abort, alloc: Global, list: &[u32]) -> Result<Labels, Fail> {
-    Ok(Labels::of_list(Vec::from_slice(alloc, list)?).expect(rt, "labels"))
+pub(crate) fn labels_of(rt: &impl Abort, alloc: Global, list: &[u32]) -> Labels {
+    let list = Vec::from_slice(alloc, list).expect(rt, "memory");
+    Labels::of_list(list).expect(rt, "labels")
 }
 
 // What stands in the text before, longer or shorter, of the same labels or of others, changes nothing.
 #[test]
-fn an_ask_in_place_of_another(rt: HostRuntime) -> Result<(), Fail> {
+fn an_ask_in_place_of_another(rt: HostRuntime) {
     let rows: [(u32, u32, &[u32], &[u8]); 6] = [
         (1, 0, &[1, 2, 3], &ASK),
         (
@@ -292,53 +299,51 @@ fn an_ask_in_place_of_another(rt: HostRuntime) -> Result<(), Fail> {
     ];
     let mut text = Vec::new(rt.alloc());
     for (round, shard, list, bytes) in rows {
-        let labels = labels_of(&rt, rt.alloc(), list)?;
+        let labels = labels_of(&rt, rt.alloc(), list);
         assert!(rt; shard < 4096);
-        encode_ask_over(&mut text, round, shard, &labels)?;
+        encode_ask_over(&mut text, round, shard, &labels).expect(&rt, "memory");
         expect_same(&rt, text.as_slice(), bytes);
     }
-    Ok(())
 }
 
 // Behind whatever labels an ask comes, its own are read; labels that are none are refused behind those that they differ
 // from in one number too.
 #[test]
-fn an_ask_behind_another(rt: HostRuntime) -> Result<(), Fail> {
+fn an_ask_behind_another(rt: HostRuntime) {
     let lasts: [&[u32]; 5] = [&[], &[1], &[1, 2, 3], &[1, 1, 3], &[1, 2, 3, 4]];
     for list in lasts {
-        let last = labels_of(&rt, rt.alloc(), list)?;
+        let last = labels_of(&rt, rt.alloc(), list);
         let mut source = ASK.as_slice();
-        let next = read_next(rt.alloc(), &mut source, last.as_slice())?;
-        let text = next_bytes(&rt, rt.alloc(), &next, &last)?;
+        let next = read_next(rt.alloc(), &mut source, last.as_slice()).expect(&rt, "a frame");
+        let text = next_bytes(&rt, rt.alloc(), &next, &last);
         expect_same(&rt, text.as_slice(), ASK.as_slice());
-        assert!(rt; source.is_empty());
+        expect_same(&rt, source.len(), 0);
         let mut wrong = ASK;
         wrong[24] = 3;
         let found = read_next(rt.alloc(), &mut wrong.as_slice(), last.as_slice()).err();
         expect_same(&rt, found, Some(FrameFault::BadField));
     }
-    Ok(())
 }
 
 #[test]
-fn answer_of_three_offers(rt: HostRuntime) -> Result<(), Fail> {
+fn answer_of_three_offers(rt: HostRuntime) {
     let pairs = [(1, 0), (2, 0), (3, 2)];
-    let offers = Offers::of_pairs(pairs.to_vec(rt.alloc())?).expect(&rt, "ascending");
+    let list = pairs.to_vec(rt.alloc()).expect(&rt, "memory");
+    let offers = Offers::of_pairs(list).expect(&rt, "ascending");
     let frame = Frame::Answer(Answer {
         round: 1,
         shard: 0,
         offers,
     });
-    expect_text(&rt, rt.alloc(), &frame, &ANSWER)?;
-    let read = read_frame(rt.alloc(), &mut ANSWER.as_slice())?;
+    expect_text(&rt, rt.alloc(), &frame, &ANSWER);
+    let read = read_frame(rt.alloc(), &mut ANSWER.as_slice()).expect(&rt, "a frame");
     expect_answer(&rt, read, (1, 0), &pairs);
-    Ok(())
 }
 
 // Its head, and the bytes of its offers.
 #[test]
-fn parts_of_an_answer(rt: HostRuntime) -> Result<(), Fail> {
-    let pairs = Vec::from_slice(rt.alloc(), &[(1, 0), (2, 0), (3, 2)])?;
+fn parts_of_an_answer(rt: HostRuntime) {
+    let pairs = Vec::from_slice(rt.alloc(), &[(1, 0), (2, 0), (3, 2)]).expect(&rt, "memory");
     let offers = Offers::of_pairs(pairs).expect(&rt, "ascending");
     let answer = Answer {
         round: 1,
@@ -350,11 +355,10 @@ fn parts_of_an_answer(rt: HostRuntime) -> Result<(), Fail> {
     put_offers(&mut bytes, answer.offers.pairs());
     expect_same(&rt, answer_head(&answer).as_slice(), &ANSWER[..17]);
     expect_same(&rt, bytes.as_slice(), &ANSWER[17..]);
-    Ok(())
 }
 
 #[test]
-fn fault_for_a_shard_not_held(rt: HostRuntime) -> Result<(), Fail> {
+fn fault_for_a_shard_not_held(rt: HostRuntime) {
     expect_same(&rt, fault_bytes(1, 5, 2).as_slice(), FAULT.as_slice());
     let frame = Frame::Fault {
         round: 1,
@@ -370,21 +374,20 @@ fn expect_refused(
     alloc: Global,
     fault: FrameFault,
     rows: &[(&[u8], &[(usize, u8)])],
-) -> Result<(), Fail> {
+) {
     for (text, changes) in rows {
-        let mut bytes = Vec::from_slice(alloc, text)?;
+        let mut bytes = Vec::from_slice(alloc, text).expect(rt, "memory");
         for (place, byte) in *changes {
             *bytes.get_mut(*place).expect(rt, "a place in the text") = *byte;
         }
         let found = read_frame(alloc, &mut bytes.as_slice()).err();
         expect_same(rt, (text, changes, found), (text, changes, Some(fault)));
     }
-    Ok(())
 }
 
 #[test]
-fn streams_that_end(rt: HostRuntime) -> Result<(), Fail> {
-    expect_refused(&rt, rt.alloc(), FrameFault::Ended, &[(&[], &[])])?;
+fn streams_that_end(rt: HostRuntime) {
+    expect_refused(&rt, rt.alloc(), FrameFault::Ended, &[(&[], &[])]);
     let torn: [(&[u8], &[(usize, u8)]); 3] = [
         (&ANSWER[..40], &[]),
         (&ANSWER[..3], &[]),
@@ -394,7 +397,7 @@ fn streams_that_end(rt: HostRuntime) -> Result<(), Fail> {
 }
 
 #[test]
-fn fields_that_are_refused(rt: HostRuntime) -> Result<(), Fail> {
+fn fields_that_are_refused(rt: HostRuntime) {
     expect_refused(
         &rt,
         rt.alloc(),
@@ -404,7 +407,7 @@ fn fields_that_are_refused(rt: HostRuntime) -> Result<(), Fail> {
             (&HELLO, &[(6, 0)]),
             (&HELLO, &[(5, 1)]),
         ],
-    )?;
+    );
     let rows: [(&[u8], &[(usize, u8)]); 28] = [
         (&HELLO, &[(10, 64)]),
         (&FAULT, &[(13, 4)]),
@@ -480,31 +483,35 @@ fn heads(rt: HostRuntime) {
 }
 
 #[test]
-fn body_of_a_fault(rt: HostRuntime) -> Result<(), Fail> {
+fn body_of_a_fault(rt: HostRuntime) {
     let bytes = [5, 0, 0, 0, 9];
-    let head = decode_head(&bytes)?;
+    let head = decode_head(&bytes).expect(&rt, "a head");
     let body = &FAULT[5..];
     assert!(rt; head.length == 9 && body.len() == 9);
-    expect_fault(&rt, decode_body(rt.alloc(), head, body)?, (1, 5, 2));
-    Ok(())
+    expect_fault(
+        &rt,
+        decode_body(rt.alloc(), head, body).expect(&rt, "a body"),
+        (1, 5, 2),
+    );
 }
 
 // A read that fails is answered at each place where it comes.
 #[test]
-fn reads_that_fail(rt: HostRuntime) -> Result<(), Fail> {
+fn reads_that_fail(rt: HostRuntime) {
     for passes in 0..29 {
-        let bytes = Vec::from_slice(rt.alloc(), &ASK)?;
+        let bytes = Vec::from_slice(rt.alloc(), &ASK).expect(&rt, "memory");
         let mut source = FusedSource::new(bytes, passes, 4);
         let found = read_frame(rt.alloc(), &mut source).err();
         expect_same(&rt, (passes, found), (passes, Some(FrameFault::Device)));
     }
-    let mut source = FusedSource::new(Vec::from_slice(rt.alloc(), &ASK)?, 29, 4);
-    assert!(rt; read_frame(rt.alloc(), &mut source)?.is_lawful());
-    Ok(())
+    let bytes = Vec::from_slice(rt.alloc(), &ASK).expect(&rt, "memory");
+    let mut source = FusedSource::new(bytes, 29, 4);
+    let read = read_frame(rt.alloc(), &mut source).expect(&rt, "a frame");
+    expect_same(&rt, read.is_lawful(), true);
 }
 
 #[test]
-fn texts_of_faults(rt: HostRuntime) -> Result<(), Fail> {
+fn texts_of_faults(rt: HostRuntime) {
     let texts = [
         (FrameFault::BadKind, "frame of an unknown kind"),
         (FrameFault::BadLength, "frame of an impossible length"),
@@ -516,8 +523,6 @@ fn texts_of_faults(rt: HostRuntime) -> Result<(), Fail> {
         (FrameFault::Memory, "no memory"),
     ];
     for (fault, text) in texts {
-        let shown = format!(in rt.alloc(); "{fault}")?;
-        expect_same(&rt, shown.as_str(), text);
+        same::expect_text(&rt, rt.alloc(), &fault, text);
     }
-    Ok(())
 }

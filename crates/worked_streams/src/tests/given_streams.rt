@@ -1,5 +1,5 @@
 // Frames read of a source of which it is known what it gave, and not what will come.
-ghost use Rattle.std.specs.Prelude.{Some, None, ◌≡◌, IfOk, ◌<◌, ◌-◌, ◌^◌};
+ghost use Rattle.std.specs.Prelude.{Some, None, ◌≡◌, ◌<◌, ◌-◌, ◌^◌};
 
 use super::frames_codec::{expect_hello, expect_shard};
 use super::same::expect_same;
@@ -8,7 +8,6 @@ use frames::{FrameFault, read_frame};
 use link_key::Link;
 use std::alloc::Global;
 use std::process::Abort;
-use std::test::Fail;
 use test_memory::{Refusals, Refusing};
 
 // A source over memory of which the bytes are known that it gave, and nothing else.
@@ -35,26 +34,35 @@ const SHARD: [u8; 25] = [
 ];
 
 // A source of these bytes, in pieces of three, that fails once it gave `passes` of them.
-fn source_of(alloc: Global, bytes: &[u8], passes: usize) -> Result<GivenAlone, Fail>
-    ensures { IfOk result (λ source. (source.0.failures ≡ 0) × (source.0.ends ≡ 0)) }
+fn source_of(rt: &impl Abort, alloc: Global, bytes: &[u8], passes: usize) -> GivenAlone
+    ensures { (result.0.failures ≡ 0) × (result.0.ends ≡ 0) }
 {
-    Ok(GivenAlone(FusedSource::new(Vec::from_slice(alloc, bytes)?, passes, 3)))
+    let bytes = Vec::from_slice(alloc, bytes).expect(rt, "memory");
+    GivenAlone(FusedSource::new(bytes, passes, 3))
 }
 
 #[test]
-fn frames_that_follow_each_other_are_read_one_by_one(rt: HostRuntime) -> Result<(), Fail> {
-    let mut bytes = Vec::from_slice(rt.alloc(), &HELLO)?;
-    bytes.extend_from_slice(&SHARD)?;
-    let mut source = source_of(rt.alloc(), bytes.as_slice(), 100)?;
-    expect_hello(&rt, read_frame(rt.alloc(), &mut source)?, (1, 63));
+fn frames_that_follow_each_other_are_read_one_by_one(rt: HostRuntime) {
+    let mut bytes = Vec::from_slice(rt.alloc(), &HELLO).expect(&rt, "memory");
+    bytes.extend_from_slice(&SHARD).expect(&rt, "memory");
+    let mut source = source_of(&rt, rt.alloc(), bytes.as_slice(), 100);
+    expect_hello(
+        &rt,
+        read_frame(rt.alloc(), &mut source).expect(&rt, "a frame"),
+        (1, 63),
+    );
     let link = Link::of_arc(1, 2, 5).expect(&rt, "no loop");
-    expect_shard(&rt, read_frame(rt.alloc(), &mut source)?, 7, &[link]);
-    Ok(())
+    expect_shard(
+        &rt,
+        read_frame(rt.alloc(), &mut source).expect(&rt, "a frame"),
+        7,
+        &[link],
+    );
 }
 
 // Bytes that end, or a read that fails once so many were given, and what is answered.
 #[test]
-fn each_fault_is_answered_where_it_comes(rt: HostRuntime) -> Result<(), Fail> {
+fn each_fault_is_answered_where_it_comes(rt: HostRuntime) {
     let rows: [(&[u8], usize, FrameFault); 21] = [
         // A stream that ends is torn but between frames.
         (&[], 100, FrameFault::Ended),
@@ -91,33 +99,25 @@ fn each_fault_is_answered_where_it_comes(rt: HostRuntime) -> Result<(), Fail> {
         ),
     ];
     for (bytes, passes, expected) in rows {
-        let mut source = source_of(rt.alloc(), bytes, passes)?;
+        let mut source = source_of(&rt, rt.alloc(), bytes, passes);
         let found = read_frame(rt.alloc(), &mut source).err();
         expect_same(&rt, (bytes, passes, found), (bytes, passes, Some(expected)));
     }
-    Ok(())
 }
 
 // The links are the only growth of a shard. A shard of another count is refused before memory for its links is asked for.
 #[test]
-fn want_of_memory_is_answered_for_a_good_head_and_good_fields(rt: HostRuntime) -> Result<(), Fail> {
-    expect_refused(&rt, rt.alloc(), &SHARD, 1, FrameFault::Memory)?;
+fn want_of_memory_is_answered_for_a_good_head_and_good_fields(rt: HostRuntime) {
+    expect_refused(&rt, rt.alloc(), &SHARD, 1, FrameFault::Memory);
     let mut two_links = SHARD;
     two_links[12] = 2;
     expect_refused(&rt, rt.alloc(), &two_links, 1, FrameFault::BadField)
 }
 
 // The bytes are refused so in memory whose allocations from this number on are refused.
-fn expect_refused(
-    rt: &impl Abort,
-    alloc: Global,
-    bytes: &[u8],
-    number: u64,
-    fault: FrameFault,
-) -> Result<(), Fail> {
+fn expect_refused(rt: &impl Abort, alloc: Global, bytes: &[u8], number: u64, fault: FrameFault) {
     let memory = Refusing::new(alloc, Refusals::since(number));
-    let mut source = source_of(alloc, bytes, 100)?;
+    let mut source = source_of(rt, alloc, bytes, 100);
     let found = read_frame(&memory, &mut source).err();
     expect_same(rt, found, Some(fault));
-    Ok(())
 }

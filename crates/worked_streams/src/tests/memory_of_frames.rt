@@ -7,7 +7,6 @@ use frames::{
 use link_key::Labels;
 use std::alloc::Global;
 use std::process::Abort;
-use std::test::Fail;
 use test_memory::{Refusals, Refusing};
 
 const HELLO: [u8; 11] = [1, 0, 0, 0, 6, 0, 1, 0, 0, 0, 0];
@@ -106,10 +105,10 @@ fn what_came_before_a_refusal_is_dropped(rt: HostRuntime) {
 // A head promises 2^28 bytes and more, and few come. The body is given room for one piece of 65,536 bytes before any
 // has come, and then a new block, twice as large, only once that one is full.
 #[test]
-fn a_body_is_given_room_as_it_comes(rt: HostRuntime) -> Result<(), Fail> {
+fn a_body_is_given_room_as_it_comes(rt: HostRuntime) {
     for (pieces, blocks) in [(0, 1), (1, 2), (2, 3), (3, 3), (4, 4), (7, 4), (8, 5)] {
-        let mut bytes = Vec::from_slice(rt.alloc(), &[3, 16, 0, 0, 12])?;
-        bytes.resize(6 + 65_536 * pieces, 0)?;
+        let mut bytes = Vec::from_slice(rt.alloc(), &[3, 16, 0, 0, 12]).expect(&rt, "memory");
+        bytes.resize(6 + 65_536 * pieces, 0).expect(&rt, "memory");
         let memory = Refusing::new(rt.alloc(), Refusals::none());
         let found = refused(&memory, bytes.as_slice());
         expect_same(
@@ -118,7 +117,6 @@ fn a_body_is_given_room_as_it_comes(rt: HostRuntime) -> Result<(), Fail> {
             (pieces, (Some(FrameFault::Torn), blocks, 0)),
         );
     }
-    Ok(())
 }
 
 // A head and fields promise many items, and this one comes again and again, `count` times, and then one byte.
@@ -129,77 +127,72 @@ fn expect_given(
     item: &[u8],
     count: usize,
     blocks: u64,
-) -> Result<(), Fail> {
-    let mut bytes = Vec::from_slice(alloc, head)?;
+) {
+    let mut bytes = Vec::from_slice(alloc, head).expect(rt, "memory");
     for _ in 0..count {
-        bytes.extend_from_slice(item)?;
+        bytes.extend_from_slice(item).expect(rt, "memory");
     }
-    bytes.push(0)?;
+    bytes.push(0).expect(rt, "memory");
     let memory = Refusing::new(alloc, Refusals::none());
     let found = refused(&memory, bytes.as_slice());
     let expected = (Some(FrameFault::Torn), blocks, 0);
     expect_same(rt, (count, found), (count, expected));
-    Ok(())
 }
 
 // The links of a shard are given room for one piece before any has come, and then a new block, twice as large, only once
 // that one is full. Behind a link that is refused no more room is asked for.
 #[test]
-fn links_are_given_room_as_they_come(rt: HostRuntime) -> Result<(), Fail> {
+fn links_are_given_room_as_they_come(rt: HostRuntime) {
     let head = [2, 12, 0, 0, 8, 0, 0, 0, 0, 1, 0, 0, 0];
     let link = [0, 0, 0, 1, 0, 0, 0, 2, 0, 0, 0, 5];
     for (pieces, blocks) in [(0, 1), (1, 2), (2, 3), (3, 3), (4, 4), (7, 4), (8, 5)] {
-        expect_given(&rt, rt.alloc(), &head, &link, pieces * 5_461, blocks)?;
-        expect_given(&rt, rt.alloc(), &head, &[0; 12], pieces * 5_461, 1)?;
+        expect_given(&rt, rt.alloc(), &head, &link, pieces * 5_461, blocks);
+        expect_given(&rt, rt.alloc(), &head, &[0; 12], pieces * 5_461, 1);
     }
-    Ok(())
 }
 
 // The offers of an answer likewise, 8,192 a piece, whether they ascend or not; and none where the count isn't theirs.
 #[test]
-fn offers_are_given_room_as_they_come(rt: HostRuntime) -> Result<(), Fail> {
+fn offers_are_given_room_as_they_come(rt: HostRuntime) {
     let head = [4, 16, 0, 0, 12, 0, 0, 0, 1, 0, 0, 0, 0, 2, 0, 0, 0];
     let mut other = head;
     other[16] = 1;
     let offer = [0, 0, 0, 1, 0, 0, 0, 2];
     for (pieces, blocks) in [(0, 1), (1, 2), (2, 3), (3, 3), (4, 4), (7, 4), (8, 5)] {
-        expect_given(&rt, rt.alloc(), &head, &offer, pieces * 8_192, blocks)?;
-        expect_given(&rt, rt.alloc(), &other, &offer, pieces * 8_192, 0)?;
+        expect_given(&rt, rt.alloc(), &head, &offer, pieces * 8_192, blocks);
+        expect_given(&rt, rt.alloc(), &other, &offer, pieces * 8_192, 0);
     }
-    Ok(())
 }
 
 // A text is given its whole room once, and a body's list too, whatever their size.
-fn expect_one_block(rt: &impl Abort, alloc: Global, bytes: &[u8]) -> Result<(), Fail> {
+fn expect_one_block(rt: &impl Abort, alloc: Global, bytes: &[u8]) {
     let memory = Refusing::new(alloc, Refusals::none());
     let Some((first, body)) = bytes.split_first_chunk::<5>() else {
         panic!(rt; "a head");
     };
-    let head = decode_head(first)?;
+    let head = decode_head(first).expect(rt, "a head");
     assert!(rt; body.len() == head.length as usize);
-    let frame = decode_body(alloc, head, body)?;
+    let frame = decode_body(alloc, head, body).expect(rt, "a body");
     assert!(rt; frame.is_lawful());
-    let text = encode(&memory, &frame)?;
-    assert!(rt; text.as_slice() == bytes);
+    let text = encode(&memory, &frame).expect(rt, "memory");
+    expect_same(rt, text.as_slice() == bytes, true);
     expect_same(rt, memory.given(), 1);
-    let _listed = decode_body(&memory, head, body)?;
+    let _listed = decode_body(&memory, head, body).expect(rt, "a body");
     expect_same(rt, memory.given(), 2);
-    Ok(())
 }
 
 #[test]
-fn a_text_is_given_one_block(rt: HostRuntime) -> Result<(), Fail> {
-    let labels = Labels::apart(rt.alloc(), 20_000)?;
-    let long = encode_ask(rt.alloc(), 1, 0, &labels)?;
+fn a_text_is_given_one_block(rt: HostRuntime) {
+    let labels = Labels::apart(rt.alloc(), 20_000).expect(&rt, "memory");
+    let long = encode_ask(rt.alloc(), 1, 0, &labels).expect(&rt, "memory");
     for bytes in [SHARD.as_slice(), &ASK, &ANSWER, long.as_slice()] {
-        expect_one_block(&rt, rt.alloc(), bytes)?;
+        expect_one_block(&rt, rt.alloc(), bytes);
     }
-    Ok(())
 }
 
 // An ask takes the room of the text before it, and a new block, of its whole size, only where it is longer.
 #[test]
-fn an_ask_in_place_of_another_takes_its_room(rt: HostRuntime) -> Result<(), Fail> {
+fn an_ask_in_place_of_another_takes_its_room(rt: HostRuntime) {
     let memory = Refusing::new(rt.alloc(), Refusals::none());
     let mut text = Vec::new(&memory);
     for (count, blocks) in [
@@ -214,13 +207,12 @@ fn an_ask_in_place_of_another_takes_its_room(rt: HostRuntime) -> Result<(), Fail
         (20_000, 3),
     ] {
         assert!(rt; count <= 20_000);
-        let labels = Labels::apart(rt.alloc(), count)?;
-        encode_ask_over(&mut text, 1, 0, &labels)?;
+        let labels = Labels::apart(rt.alloc(), count).expect(&rt, "memory");
+        encode_ask_over(&mut text, 1, 0, &labels).expect(&rt, "memory");
         expect_same(
             &rt,
             (memory.given(), text.len()),
             (blocks, 17 + 4 * count as usize),
         );
     }
-    Ok(())
 }

@@ -5,12 +5,12 @@ ghost use Rattle.std.specs.Prelude.{◌≤◌};
 
 use super::frames_codec::labels_of;
 use super::same::expect_same;
+use super::sizes::text_of;
 use byte_streams::FusedSource;
-use frames::{FrameFault, NextFrame, encode, encode_ask, read_frame, read_next};
+use frames::{FrameFault, NextFrame, encode_ask, read_frame, read_next};
 use link_key::Labels;
 use std::alloc::Global;
 use std::process::Abort;
-use std::test::Fail;
 use test_memory::{Refusals, Refusing};
 
 const COUNT: u32 = 80_001;
@@ -26,11 +26,11 @@ pub(crate) fn next_bytes(
     alloc: Global,
     next: &NextFrame,
     last: &Labels,
-) -> Result<Vec<u8>, Fail> {
+) -> Vec<u8> {
     match next {
         NextFrame::AskAgain { round, shard } => {
             assert!(rt; *shard < 4096);
-            Ok(encode_ask(alloc, *round, *shard, last)?)
+            encode_ask(alloc, *round, *shard, last).expect(rt, "memory")
         }
         NextFrame::AskCoarser {
             round,
@@ -38,55 +38,48 @@ pub(crate) fn next_bytes(
             labels,
         } => {
             assert!(rt; *shard < 4096);
-            Ok(encode_ask(alloc, *round, *shard, labels)?)
+            encode_ask(alloc, *round, *shard, labels).expect(rt, "memory")
         }
-        NextFrame::Other(frame) => {
-            assert!(rt; frame.is_lawful());
-            Ok(encode(alloc, frame)?)
-        }
+        NextFrame::Other(frame) => text_of(rt, alloc, frame),
     }
 }
 
 // Each vertex has its own label, but this one, which has that of the vertex before; vertex 0 is none.
-fn labels_but(rt: &impl Abort, alloc: Global, vertex: u32) -> Result<Labels, Fail> {
-    let mut list = Vec::with_capacity(alloc, COUNT as usize)?;
+fn labels_but(rt: &impl Abort, alloc: Global, vertex: u32) -> Labels {
+    let mut list = Vec::with_capacity(alloc, COUNT as usize).expect(rt, "memory");
     for before in 0..COUNT {
         let own = before + 1;
-        list.push(if own == vertex { before } else { own })?;
+        list.push(if own == vertex { before } else { own })
+            .expect(rt, "memory");
     }
-    Ok(Labels::of_list(list).expect(rt, "labels"))
+    Labels::of_list(list).expect(rt, "labels")
 }
 
 // An ask of shard 7 in round 5.
-fn ask(alloc: Global, labels: &Labels) -> Result<Vec<u8>, Fail> {
-    Ok(encode_ask(alloc, 5, 7, labels)?)
+fn ask(rt: &impl Abort, alloc: Global, labels: &Labels) -> Vec<u8> {
+    encode_ask(alloc, 5, 7, labels).expect(rt, "memory")
 }
 
 // Behind these labels the bytes say what they say alone, or are refused for the same fault; the source fails once it gave
 // so many of them.
-fn expect_as_alone(
-    rt: &impl Abort,
-    alloc: Global,
-    bytes: &[u8],
-    passes: usize,
-    last: &Labels,
-) -> Result<(), Fail> {
+fn expect_as_alone(rt: &impl Abort, alloc: Global, bytes: &[u8], passes: usize, last: &Labels) {
     for piece in [1000, usize::MAX] {
         assert!(rt; 1 <= piece);
-        let mut first = FusedSource::new(Vec::from_slice(alloc, bytes)?, passes, piece);
-        let mut second = FusedSource::new(Vec::from_slice(alloc, bytes)?, passes, piece);
+        let same = Vec::from_slice(alloc, bytes).expect(rt, "memory");
+        let mut first = FusedSource::new(same, passes, piece);
+        let same = Vec::from_slice(alloc, bytes).expect(rt, "memory");
+        let mut second = FusedSource::new(same, passes, piece);
         let alone = read_frame(alloc, &mut first);
         match (alone, read_next(alloc, &mut second, last.as_slice())) {
             (Ok(frame), Ok(next)) => {
-                assert!(rt; frame.is_lawful());
-                let text = encode(alloc, &frame)?;
-                assert!(rt; next_bytes(rt, alloc, &next, last)?.as_slice() == text.as_slice());
+                let text = text_of(rt, alloc, &frame);
+                let next = next_bytes(rt, alloc, &next, last);
+                expect_same(rt, next.as_slice() == text.as_slice(), true);
             }
             (Err(fault), Err(other)) => expect_same(rt, other, fault),
             _ => panic!(rt; "one is refused, and the other isn't"),
         }
     }
-    Ok(())
 }
 
 // What an ask is said to be behind another one: one under the same labels, under labels that coarsen them, or under others.
@@ -98,17 +91,11 @@ enum Said {
 }
 
 // An ask under these labels, behind those, is said to be this. It takes one block, but for the same labels none.
-fn expect_ask(
-    rt: &impl Abort,
-    alloc: Global,
-    labels: &Labels,
-    last: &Labels,
-    said: Said,
-) -> Result<(), Fail> {
-    let bytes = ask(alloc, labels)?;
+fn expect_ask(rt: &impl Abort, alloc: Global, labels: &Labels, last: &Labels, said: Said) {
+    let bytes = ask(rt, alloc, labels);
     let memory = Refusing::new(alloc, Refusals::none());
     let mut source = bytes.as_slice();
-    let found = match read_next(&memory, &mut source, last.as_slice())? {
+    let found = match read_next(&memory, &mut source, last.as_slice()).expect(rt, "a frame") {
         NextFrame::AskAgain { .. } => Said::Again,
         NextFrame::AskCoarser { .. } => Said::Coarser,
         NextFrame::Other(_) => Said::Other,
@@ -120,42 +107,39 @@ fn expect_ask(
 }
 
 #[test]
-fn labels_that_come_again_take_no_memory(rt: HostRuntime) -> Result<(), Fail> {
+fn labels_that_come_again_take_no_memory(rt: HostRuntime) {
     for vertex in [0, 2, 40_000, 80_001] {
-        let labels = labels_but(&rt, rt.alloc(), vertex)?;
-        expect_ask(&rt, rt.alloc(), &labels, &labels, Said::Again)?;
+        let labels = labels_but(&rt, rt.alloc(), vertex);
+        expect_ask(&rt, rt.alloc(), &labels, &labels, Said::Again);
     }
-    Ok(())
 }
 
 // Labels that differ in one place are given one block, of their whole size, wherever that place is. Where two vertices are
 // joined that were apart they coarsen, and not the other way round.
 #[test]
-fn labels_that_differ_in_one_place(rt: HostRuntime) -> Result<(), Fail> {
-    let last = labels_but(&rt, rt.alloc(), 0)?;
+fn labels_that_differ_in_one_place(rt: HostRuntime) {
+    let last = labels_but(&rt, rt.alloc(), 0);
     for vertex in PLACES {
-        let labels = labels_but(&rt, rt.alloc(), vertex)?;
-        expect_ask(&rt, rt.alloc(), &labels, &last, Said::Coarser)?;
-        expect_ask(&rt, rt.alloc(), &last, &labels, Said::Other)?;
+        let labels = labels_but(&rt, rt.alloc(), vertex);
+        expect_ask(&rt, rt.alloc(), &labels, &last, Said::Coarser);
+        expect_ask(&rt, rt.alloc(), &last, &labels, Said::Other);
     }
-    Ok(())
 }
 
 // Labels that join two vertices and part two others don't coarsen, whichever piece each of them stands in.
 #[test]
-fn labels_that_part_what_was_joined(rt: HostRuntime) -> Result<(), Fail> {
+fn labels_that_part_what_was_joined(rt: HostRuntime) {
     for (joined, parted) in [(2, 80_001), (80_001, 2), (16_384, 16_385), (65_537, 16_384)] {
-        let labels = labels_but(&rt, rt.alloc(), joined)?;
-        let last = labels_but(&rt, rt.alloc(), parted)?;
-        expect_ask(&rt, rt.alloc(), &labels, &last, Said::Other)?;
+        let labels = labels_but(&rt, rt.alloc(), joined);
+        let last = labels_but(&rt, rt.alloc(), parted);
+        expect_ask(&rt, rt.alloc(), &labels, &last, Said::Other);
     }
-    Ok(())
 }
 
 // Behind two pairs that were joined: all four, the same pairs, one of them alone, and a pair that is parted and joined anew.
 #[test]
-fn labels_behind_joined_vertices(rt: HostRuntime) -> Result<(), Fail> {
-    let last = labels_of(&rt, rt.alloc(), &[1, 1, 3, 3])?;
+fn labels_behind_joined_vertices(rt: HostRuntime) {
+    let last = labels_of(&rt, rt.alloc(), &[1, 1, 3, 3]);
     let rows: [(&[u32], Said); 4] = [
         (&[1, 1, 1, 1], Said::Coarser),
         (&[1, 1, 3, 3], Said::Again),
@@ -163,31 +147,29 @@ fn labels_behind_joined_vertices(rt: HostRuntime) -> Result<(), Fail> {
         (&[1, 1, 3, 1], Said::Other),
     ];
     for (list, said) in rows {
-        let labels = labels_of(&rt, rt.alloc(), list)?;
-        expect_ask(&rt, rt.alloc(), &labels, &last, said)?;
+        let labels = labels_of(&rt, rt.alloc(), list);
+        expect_ask(&rt, rt.alloc(), &labels, &last, said);
     }
-    Ok(())
 }
 
 // The stream ends inside the fields, inside a piece, or at the end of one, before the place that differs and behind it;
 // and so does one whose source fails there.
 #[test]
-fn a_stream_cut_inside_a_piece(rt: HostRuntime) -> Result<(), Fail> {
-    let last = labels_but(&rt, rt.alloc(), 0)?;
+fn a_stream_cut_inside_a_piece(rt: HostRuntime) {
+    let last = labels_but(&rt, rt.alloc(), 0);
     for vertex in [0, 2, 40_000, 80_001] {
-        let labels = labels_but(&rt, rt.alloc(), vertex)?;
-        let bytes = ask(rt.alloc(), &labels)?;
+        let labels = labels_but(&rt, rt.alloc(), vertex);
+        let bytes = ask(&rt, rt.alloc(), &labels);
         for count in [
             0, 4, 5, 6, 16, 17, 18, 65_552, 65_553, 65_554, 120_000, 160_018, 320_000, 320_018,
             320_020,
         ] {
             assert!(rt; count < bytes.len());
             let cut = &bytes.as_slice()[..count];
-            expect_as_alone(&rt, rt.alloc(), cut, usize::MAX, &last)?;
-            expect_as_alone(&rt, rt.alloc(), bytes.as_slice(), count, &last)?;
+            expect_as_alone(&rt, rt.alloc(), cut, usize::MAX, &last);
+            expect_as_alone(&rt, rt.alloc(), bytes.as_slice(), count, &last);
         }
     }
-    Ok(())
 }
 
 // An ask that has these bytes from a place on, whole, cut, and from a source that fails. Whole it has an unlawful field.
@@ -197,9 +179,9 @@ fn expect_unlawful(
     labels: &Labels,
     last: &Labels,
     unlawful: (usize, [u8; 4]),
-) -> Result<(), Fail> {
+) {
     let (place, field) = unlawful;
-    let mut bytes = ask(alloc, labels)?;
+    let mut bytes = ask(rt, alloc, labels);
     for (i, byte) in field.iter().enumerate() {
         assert!(rt; place < 1 << 20 && place + i < bytes.len());
         bytes[place + i] = *byte;
@@ -209,8 +191,8 @@ fn expect_unlawful(
     for count in [17, 160_000, 320_020] {
         assert!(rt; count < bytes.len());
         let cut = &bytes.as_slice()[..count];
-        expect_as_alone(rt, alloc, cut, usize::MAX, last)?;
-        expect_as_alone(rt, alloc, bytes.as_slice(), count, last)?;
+        expect_as_alone(rt, alloc, cut, usize::MAX, last);
+        expect_as_alone(rt, alloc, bytes.as_slice(), count, last);
     }
     expect_as_alone(rt, alloc, bytes.as_slice(), usize::MAX, last)
 }
@@ -218,9 +200,9 @@ fn expect_unlawful(
 // A shard's number out of range, a count that is not that of the labels, and labels that are none: in the first, a middle
 // and the last piece, behind labels that are the same in all other places or in none of some.
 #[test]
-fn an_ask_with_an_unlawful_field(rt: HostRuntime) -> Result<(), Fail> {
-    let apart = labels_but(&rt, rt.alloc(), 0)?;
-    let other = labels_but(&rt, rt.alloc(), 40_000)?;
+fn an_ask_with_an_unlawful_field(rt: HostRuntime) {
+    let apart = labels_but(&rt, rt.alloc(), 0);
+    let other = labels_but(&rt, rt.alloc(), 40_000);
     for last in [&apart, &other] {
         for unlawful in [
             (9, [0, 0, 16, 0]),
@@ -233,19 +215,18 @@ fn an_ask_with_an_unlawful_field(rt: HostRuntime) -> Result<(), Fail> {
             (320_017, [0, 1, 56, 130]),
             (320_017, [255, 255, 255, 255]),
         ] {
-            expect_unlawful(&rt, rt.alloc(), &apart, last, unlawful)?;
+            expect_unlawful(&rt, rt.alloc(), &apart, last, unlawful);
         }
     }
-    Ok(())
 }
 
 // Where no memory is left for labels that differ, that is the fault; another ask under the same labels needs none.
 #[test]
-fn no_memory_for_labels_that_differ(rt: HostRuntime) -> Result<(), Fail> {
-    let last = labels_but(&rt, rt.alloc(), 0)?;
+fn no_memory_for_labels_that_differ(rt: HostRuntime) {
+    let last = labels_but(&rt, rt.alloc(), 0);
     for vertex in [0, 2, 40_000, 80_001] {
-        let labels = labels_but(&rt, rt.alloc(), vertex)?;
-        let bytes = ask(rt.alloc(), &labels)?;
+        let labels = labels_but(&rt, rt.alloc(), vertex);
+        let bytes = ask(&rt, rt.alloc(), &labels);
         let memory = Refusing::new(rt.alloc(), Refusals::since(1));
         let found = read_next(&memory, &mut bytes.as_slice(), last.as_slice()).err();
         let fault = if vertex == 0 {
@@ -259,5 +240,4 @@ fn no_memory_for_labels_that_differ(rt: HostRuntime) -> Result<(), Fail> {
             (vertex, fault, 0, 0),
         );
     }
-    Ok(())
 }

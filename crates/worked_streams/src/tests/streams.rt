@@ -1,11 +1,10 @@
 // Sources and sinks, and those that fail at a chosen byte.
-use super::same::expect_same;
+use super::same::{expect_same, expect_text};
 use byte_streams::{
     BufferedSink, Failed, FillFault, FusedSink, FusedSource, PutFault, Sink, Source, Uncounted,
     fill, put,
 };
 use std::fs::{File, OpenOptions};
-use std::test::Fail;
 
 #[test]
 fn fills_from_a_slice(rt: HostRuntime) {
@@ -20,23 +19,22 @@ fn fills_from_a_slice(rt: HostRuntime) {
 }
 
 #[test]
-fn puts_into_a_vector(rt: HostRuntime) -> Result<(), Fail> {
+fn puts_into_a_vector(rt: HostRuntime) {
     let mut sink = Vec::new(rt.alloc());
     expect_same(&rt, put(&mut sink, 0, b"p sp "), Ok(5));
     expect_same(&rt, put(&mut sink, 5, b""), Ok(5));
     expect_same(&rt, put(&mut sink, 5, b"6 5\n"), Ok(9));
     expect_same(&rt, sink.flush(), Ok(()));
     expect_same(&rt, sink.as_slice(), b"p sp 6 5\n".as_slice());
-    Ok(())
 }
 
 // Texts past every piece in which bytes are read or written anywhere, into a vector that grows, and out of a slice again.
 #[test]
-fn texts_of_any_size_go_in_and_out(rt: HostRuntime) -> Result<(), Fail> {
+fn texts_of_any_size_go_in_and_out(rt: HostRuntime) {
     for size in [65_535, 65_536, 65_537, 1_000_000] {
         let mut text = Vec::new(rt.alloc());
         for number in 0..size {
-            text.push((number % 251) as u8)?;
+            text.push((number % 251) as u8).expect(&rt, "memory");
         }
         let mut sink = Vec::new(rt.alloc());
         for before in 0..3 {
@@ -49,20 +47,20 @@ fn texts_of_any_size_go_in_and_out(rt: HostRuntime) -> Result<(), Fail> {
         }
         let mut source = sink.as_slice();
         for _ in 0..3 {
-            let mut buf = vec![in rt.alloc(); 0; size as usize]?;
+            let mut buf = vec![in rt.alloc(); 0; size as usize].expect(&rt, "memory");
             expect_same(&rt, fill(&mut source, &mut buf), Ok(()));
-            assert!(rt; buf.as_slice() == text.as_slice(), "{size} bytes");
+            let same = buf.as_slice() == text.as_slice();
+            expect_same(&rt, (size, same), (size, true));
         }
-        assert!(rt; source.is_empty());
+        expect_same(&rt, source.len(), 0);
     }
-    Ok(())
 }
 
 // Five bytes in pieces of two: `passes` of them come before the source fails.
 #[test]
-fn source_fails_after_its_passes(rt: HostRuntime) -> Result<(), Fail> {
+fn source_fails_after_its_passes(rt: HostRuntime) {
     for passes in 0..5 {
-        let bytes = Vec::from_slice(rt.alloc(), b"hello")?;
+        let bytes = Vec::from_slice(rt.alloc(), b"hello").expect(&rt, "memory");
         let mut source = FusedSource::new(bytes, passes, 2);
         let mut buf = [0; 5];
         expect_same(
@@ -72,33 +70,39 @@ fn source_fails_after_its_passes(rt: HostRuntime) -> Result<(), Fail> {
         );
         expect_same(&rt, &buf[..passes], &b"hello"[..passes]);
     }
-    let mut source = FusedSource::new(Vec::from_slice(rt.alloc(), b"hello")?, 5, 2);
+    let mut source = FusedSource::new(
+        Vec::from_slice(rt.alloc(), b"hello").expect(&rt, "memory"),
+        5,
+        2,
+    );
     expect_same(&rt, fill(&mut source, &mut [0; 5]), Ok(()));
     expect_same(
         &rt,
         fill(&mut source, &mut [0; 1]),
         Err(FillFault::Failed(0)),
     );
-    Ok(())
 }
 
 #[test]
-fn source_ends_before_its_passes(rt: HostRuntime) -> Result<(), Fail> {
-    let mut source = FusedSource::new(Vec::from_slice(rt.alloc(), b"hello")?, 6, 2);
+fn source_ends_before_its_passes(rt: HostRuntime) {
+    let mut source = FusedSource::new(
+        Vec::from_slice(rt.alloc(), b"hello").expect(&rt, "memory"),
+        6,
+        2,
+    );
     let mut buf = [0; 4];
     expect_same(&rt, source.read(&mut buf), Ok(2));
     expect_same(&rt, fill(&mut source, &mut buf), Err(FillFault::Ended(3)));
     expect_same(&rt, &buf[..3], b"llo".as_slice());
     expect_same(&rt, source.read(&mut buf), Ok(0));
-    Ok(())
 }
 
 // Nine bytes in pieces of two: the sink takes `passes` of them.
 #[test]
-fn sink_fails_after_its_passes(rt: HostRuntime) -> Result<(), Fail> {
+fn sink_fails_after_its_passes(rt: HostRuntime) {
     let text = b"p sp 6 5\n";
     for passes in 0..9 {
-        let mut sink = FusedSink::new(rt.alloc(), passes, 2)?;
+        let mut sink = FusedSink::new(rt.alloc(), passes, 2).expect(&rt, "memory");
         let fault = PutFault {
             written: 3 + passes as u64,
         };
@@ -106,34 +110,32 @@ fn sink_fails_after_its_passes(rt: HostRuntime) -> Result<(), Fail> {
         expect_same(&rt, sink.held(), &text[..passes]);
         expect_same(&rt, sink.flush(), Err(Failed));
     }
-    let mut sink = FusedSink::new(rt.alloc(), 9, 2)?;
+    let mut sink = FusedSink::new(rt.alloc(), 9, 2).expect(&rt, "memory");
     expect_same(&rt, put(&mut sink, 0, text), Ok(9));
     expect_same(&rt, sink.flush(), Err(Failed));
-    let mut sink = FusedSink::new(rt.alloc(), 10, 2)?;
+    let mut sink = FusedSink::new(rt.alloc(), 10, 2).expect(&rt, "memory");
     expect_same(&rt, put(&mut sink, 0, text), Ok(9));
     expect_same(&rt, sink.flush(), Ok(()));
     expect_same(&rt, sink.held(), text.as_slice());
-    Ok(())
 }
 
 #[test]
-fn stopped_sink_takes_nothing_more(rt: HostRuntime) -> Result<(), Fail> {
+fn stopped_sink_takes_nothing_more(rt: HostRuntime) {
     let text = b"p sp 6 5\n";
-    let mut sink = FusedSink::stopped(rt.alloc(), 4, 3)?;
+    let mut sink = FusedSink::stopped(rt.alloc(), 4, 3).expect(&rt, "memory");
     expect_same(&rt, put(&mut sink, 0, text), Err(PutFault { written: 4 }));
     expect_same(&rt, sink.write(text), Ok(0));
     expect_same(&rt, sink.write(&[]), Ok(0));
     expect_same(&rt, sink.flush(), Ok(()));
     expect_same(&rt, sink.held(), b"p sp".as_slice());
-    let mut sink = FusedSink::stopped(rt.alloc(), 9, 3)?;
+    let mut sink = FusedSink::stopped(rt.alloc(), 9, 3).expect(&rt, "memory");
     expect_same(&rt, put(&mut sink, 0, text), Ok(9));
-    Ok(())
 }
 
 // Bytes wait until the next flush, those that it began with too.
 #[test]
-fn buffered_sink_keeps_bytes_until_a_flush(rt: HostRuntime) -> Result<(), Fail> {
-    let mut sink = BufferedSink::new(Vec::from_slice(rt.alloc(), b"p ")?);
+fn buffered_sink_keeps_bytes_until_a_flush(rt: HostRuntime) {
+    let mut sink = BufferedSink::new(Vec::from_slice(rt.alloc(), b"p ").expect(&rt, "memory"));
     expect_same(&rt, put(&mut sink, 2, b"sp "), Ok(5));
     expect_same(&rt, sink.flushed(), b"".as_slice());
     expect_same(&rt, sink.flush(), Ok(()));
@@ -141,11 +143,10 @@ fn buffered_sink_keeps_bytes_until_a_flush(rt: HostRuntime) -> Result<(), Fail> 
     expect_same(&rt, sink.flushed(), b"p sp ".as_slice());
     expect_same(&rt, sink.flush(), Ok(()));
     expect_same(&rt, sink.flushed(), b"p sp 6 5\n".as_slice());
-    Ok(())
 }
 
 #[test]
-fn wraps_other_readers_and_writers(rt: HostRuntime) -> Result<(), Fail> {
+fn wraps_other_readers_and_writers(rt: HostRuntime) {
     let mut source = Uncounted(b"hello".as_slice());
     let mut buf = [0; 4];
     expect_same(&rt, fill(&mut source, &mut buf), Ok(()));
@@ -154,47 +155,62 @@ fn wraps_other_readers_and_writers(rt: HostRuntime) -> Result<(), Fail> {
     expect_same(&rt, put(&mut sink, 0, &buf), Ok(4));
     expect_same(&rt, sink.flush(), Ok(()));
     expect_same(&rt, sink.0.as_slice(), b"hell".as_slice());
-    Ok(())
 }
 
 // A directory fails at its first read, an empty device ends there, a full one fails at its first write.
 #[test]
-fn devices_fail_and_end(rt: HostRuntime) -> Result<(), Fail> {
+fn devices_fail_and_end(rt: HostRuntime) {
     let mut buf = [0; 1];
     expect_same(
         &rt,
-        fill(&mut File::open(&rt, "/")?, &mut buf),
+        fill(&mut File::open(&rt, "/").expect(&rt, "a device"), &mut buf),
         Err(FillFault::Failed(0)),
     );
     expect_same(
         &rt,
-        fill(&mut File::open(&rt, "/dev/null")?, &mut buf),
+        fill(
+            &mut File::open(&rt, "/dev/null").expect(&rt, "a device"),
+            &mut buf,
+        ),
         Err(FillFault::Ended(0)),
     );
     expect_same(
         &rt,
-        fill(&mut File::open(&rt, "/dev/zero")?, &mut buf),
+        fill(
+            &mut File::open(&rt, "/dev/zero").expect(&rt, "a device"),
+            &mut buf,
+        ),
         Ok(()),
     );
-    let mut full = OpenOptions::new().write(true).open(&rt, "/dev/full")?;
+    let mut full = OpenOptions::new()
+        .write(true)
+        .open(&rt, "/dev/full")
+        .expect(&rt, "a device");
     expect_same(&rt, put(&mut full, 2, b"ab"), Err(PutFault { written: 2 }));
-    let mut sink = OpenOptions::new().write(true).open(&rt, "/dev/null")?;
+    let mut sink = OpenOptions::new()
+        .write(true)
+        .open(&rt, "/dev/null")
+        .expect(&rt, "a device");
     expect_same(&rt, put(&mut sink, 2, b"ab"), Ok(4));
     expect_same(&rt, sink.flush(), Ok(()));
-    Ok(())
 }
 
 #[test]
-fn faults_have_texts(rt: HostRuntime) -> Result<(), Fail> {
-    let texts = [
-        format!(in rt.alloc(); "{}", Failed)?,
-        format!(in rt.alloc(); "{}", FillFault::Failed(3))?,
-        format!(in rt.alloc(); "{}", FillFault::Ended(4))?,
-        format!(in rt.alloc(); "{}", PutFault { written: 5 })?,
-    ];
-    expect_same(&rt, texts[0].as_str(), "the stream failed");
-    expect_same(&rt, texts[1].as_str(), "read failed after 3 bytes");
-    expect_same(&rt, texts[2].as_str(), "stream ended after 4 bytes");
-    expect_same(&rt, texts[3].as_str(), "write failed after 5 bytes");
-    Ok(())
+fn faults_have_texts(rt: HostRuntime) {
+    let alloc = rt.alloc();
+    expect_text(&rt, alloc, &Failed, "the stream failed");
+    expect_text(
+        &rt,
+        alloc,
+        &FillFault::Failed(3),
+        "read failed after 3 bytes",
+    );
+    expect_text(
+        &rt,
+        alloc,
+        &FillFault::Ended(4),
+        "stream ended after 4 bytes",
+    );
+    let fault = PutFault { written: 5 };
+    expect_text(&rt, alloc, &fault, "write failed after 5 bytes");
 }
