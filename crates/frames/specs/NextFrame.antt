@@ -19,7 +19,8 @@ next_value last (AskAgain round shard) = AskFrame round shard last
 next_value last (AskCoarser round shard labels) = AskFrame round shard labels
 next_value last (Other frame) = value_of frame
 
--- other labels are said to coarsen those of the last ask only where they do, and an ask that comes as a whole frame has labels that don't: so the same come as such
+-- labels that an ask is said to have are others than those of the last one, and coarsen these; one that comes as a whole frame
+-- has labels that don't, so that an ask under the same ones is told as such
 abbrev pub SaysCoarser : {A : Type 0} → List ℕ → NextFrame A → Type 0
 SaysCoarser last (AskAgain round shard) = Unit {0}
 SaysCoarser last (AskCoarser round shard labels) = Coarsens labels last × (labels ≢ last)
@@ -41,7 +42,7 @@ pub record IsAskUnder {A : Type 0} (last : List ℕ) (round shard : ℕ) (number
   pub labels : AreLabels numbers
   pub coarser : SaysCoarser last next
 
--- numbers that were stored aren't the same as so many of the last ones
+-- if numbers were stored, they aren't the same as so many of the last ones
 abbrev pub AreOthers : {A : Type 0} → List ℕ → ℕ → Option (Vec ℕ A) → Type 0
 AreOthers last came numbers = IfSome numbers (λ list. list.items ≢ take came last)
 

@@ -17,8 +17,8 @@
 //! - The encoders give exactly a lawful frame's one text, the same in both versions; no frame's text
 //!   begins another's, so a stream of frames reads in one way (`laws`).
 //! - [`read_frame`] that answers a frame took exactly its text, and answers else the first refusal that fits; so do
-//!   [`decode_head`] and [`decode_body`] for its parts, and [`read_next`] behind an ask, which says too whether other
-//!   labels coarsen those of the one before. (That it answers another ask under the same as that alone, and stores none, is
+//!   [`decode_head`] and [`decode_body`] for its parts, and [`read_next`] behind an ask, which says too whether an
+//!   ask's labels are those of the one before, or others that coarsen them. (That it takes no memory for the same ones is
 //!   only tested.)
 //!
 //! Where to start a change: the grammar stands in `specs/FrameText`, what is lawful in `specs/Lawful`, and
