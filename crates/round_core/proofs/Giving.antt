@@ -73,7 +73,7 @@ given_more picks labels roots k links l are_roots k_in here are = record {
 -- a root that doesn't take its pick, or has none, gives no link
 pub not_taken : (picks : List (Option Link)) (c : ℕ) (takes : Bool) → IsTaker picks c takes → takes ≡ false → (m : Link) → ¬ (IsFirstPickedAt picks m (c - 1))
 not_taken picks c takes taker is m first =
-    let wrong : false ≡ true = sym is ∙ (taker m first.here).1 first in
+    let wrong : false ≡ true = sym is ∙ (taker.picked m first.here).1 first in
     absurd (cc)
 
 -- the next root of a batch gives its pick, or gives none
@@ -98,7 +98,7 @@ pub next_written : (picks : List (Option Link)) (labels roots batch : List ℕ) 
 next_written picks labels roots batch k i given links count count' l true are_roots stands lt within here taker count_is so_far =
     let taken : take count' (set links count l) ≡ take count links ++ l ∷ [] = ap (λ n. take n (set links count l)) count_is ∙ take_more_set links count l within in
     subst (AreGiven picks roots (k + (i + 1))) (append_assoc given (take count links) (l ∷ []) ∙ ap (λ xs. given ++ xs) (sym taken))
-    (next_given picks labels roots batch k i (given ++ take count links) l are_roots stands lt ((taker l here).0 refl) so_far)
+    (next_given picks labels roots batch k i (given ++ take count links) l are_roots stands lt ((taker.picked l here).0 refl) so_far)
 next_written picks labels roots batch k i given links count count' l false are_roots stands lt within here taker count_is so_far =
     let same : count' ≡ count = omega (arith, count_is) in
     let taken : take count' (set links count l) ≡ take count links = ap (λ n. take n (set links count l)) same ∙ take-set links count l in

@@ -231,10 +231,13 @@ module _ (labels : List ℕ) (heard : List Hearing) (picks : List (Option Link))
         first.first (d - 1) before there
 
     takes_where : (takes : Bool) → 1 ≤ d → (takes ≡ true → (pick_of picks d ≢ Some l) ⊎ (c < d)) → (takes ≡ false → (pick_of picks d ≡ Some l) × (d ≤ c)) → IsTaker picks c takes
-    takes_where takes one if_so if_not m m_here =
-        let both : Some l ≡ Some m = sym here ∙ m_here in
-        let same : l ≡ m = cc in
-        subst (λ k. (takes ≡ true) ↔ IsFirstPickedAt picks k (c - 1)) same (decided takes if_so if_not)
+    takes_where takes one if_so if_not = record {
+      picked = λ m m_here.
+          let both : Some l ≡ Some m = sym here ∙ m_here in
+          let same : l ≡ m = cc in
+          subst (λ k. (takes ≡ true) ↔ IsFirstPickedAt picks k (c - 1)) same (decided takes if_so if_not);
+      none = λ no. absurd (let never : Some l ≡ None = sym here ∙ no in cc);
+    }
       where
         decided : (b : Bool) → (b ≡ true → (pick_of picks d ≢ Some l) ⊎ (c < d)) → (b ≡ false → (pick_of picks d ≡ Some l) × (d ≤ c)) → (b ≡ true) ↔ IsFirstPickedAt picks l (c - 1)
         decided true if_so if_not = (λ _. first_here (if_so refl), λ _. refl)

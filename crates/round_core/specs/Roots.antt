@@ -1,5 +1,5 @@
 -- The labels that name components, as they stay from round to round, and where picks lead each of them.
-use Rattle.std.specs.Prelude.{◌≡◌, ◌≢◌, ℕ, ◌+◌, ◌-◌, ◌<◌, ◌≤◌, ◌^◌, ◌⊎◌, ◌↔◌, min, Bool, true, List, ◌++◌, length, slice_index, slice_index_or, slice_set, All, AllPairs, Contains, Option, Some, None}
+use Rattle.std.specs.Prelude.{◌≡◌, ◌≢◌, ℕ, ◌+◌, ◌-◌, ◌<◌, ◌≤◌, ◌^◌, ◌⊎◌, ◌↔◌, min, Bool, true, false, List, ◌++◌, length, slice_index, slice_index_or, slice_set, All, AllPairs, Contains, Option, Some, None}
 use Rattle.link_key.specs.declared.links.Link.{Link}
 use Rattle.link_key.specs.Labels.{label_of, AreLabels}
 use Rattle.round_theory.specs.Labelling.{IsVertex, JoinsOver, IsLeastJoinedOver}
@@ -34,9 +34,10 @@ pub record IsLed (labels : List ℕ) (picks : List (Option Link)) (c parent : �
 abbrev pub IsLedBy : List ℕ → List (Option Link) → List ℕ → ℕ → Type 0
 IsLedBy labels picks parents c = IsLed labels picks c (slice_index parents c) × IsRoot labels (slice_index parents c)
 
--- whether label c takes its pick: just where no lesser label has it too
-abbrev pub IsTaker : List (Option Link) → ℕ → Bool → Type 0
-IsTaker picks c takes = (l : Link) → pick_of picks c ≡ Some l → (takes ≡ true) ↔ IsFirstPickedAt picks l (c - 1)
+-- whether label c takes its pick: just where it has one, and no lesser label has it too
+pub record IsTaker (picks : List (Option Link)) (c : ℕ) (takes : Bool) : Type 0 where
+  pub picked : (l : Link) → pick_of picks c ≡ Some l → (takes ≡ true) ↔ IsFirstPickedAt picks l (c - 1)
+  pub none : pick_of picks c ≡ None → takes ≡ false
 
 -- so it is said of each root, at its place
 abbrev pub AreTakers : List (Option Link) → List ℕ → List Lead → Type 0
@@ -135,13 +136,13 @@ pub record IsLeastUnder (roots parents : List ℕ) (c u : ℕ) : Type 0 where
   pub same : slice_index parents u ≡ slice_index parents c
   pub least : (w : ℕ) → Contains roots w → slice_index parents w ≡ slice_index parents c → u ≤ w
 
--- roots of labels, and the picks of a book with these
+-- some roots of labels, and the picks of a book with these labels
 pub record CanLead (labels roots : List ℕ) (picks : List (Option Link)) : Type 0 where
   pub labelled : AreLabels labels
   pub picked : ArePicksOfHearings labels picks
   pub each_root : All (IsRoot labels) roots
 
--- the roots of labels, the picks of a book with these, and where they lead each root
+-- all roots of labels, the picks of a book with these labels, and where they lead each root
 pub record CanStep (labels roots : List ℕ) (picks : List (Option Link)) (leads : List Lead) : Type 0 where
   pub labelled : AreLabels labels
   pub picked : ArePicksOfHearings labels picks
@@ -149,6 +150,6 @@ pub record CanStep (labels roots : List ℕ) (picks : List (Option Link)) (leads
   pub each : length leads ≡ length roots
   pub led : AreLeads labels picks roots leads
 
--- the name of each root is the least vertex that the components of the labels and the picks join it to
+-- the name of each root, at the place of its number, is the least vertex that the components of the labels and the picks join it to
 abbrev pub AreNames : List ℕ → List (Option Link) → List ℕ → Type 0
 AreNames labels picks names = (c : ℕ) → IsRoot labels c → IsLeastJoinedOver (length labels) labels (Picked picks) c (slice_index names c)

@@ -221,7 +221,8 @@ fn make_room<A: Allocator + Copy>(
     Ok(())
 }
 
-// What a step begins with: the labels, the roots of their components, and what these pick, each with a lifetime of its own.
+// What a step begins with: the labels, the roots of their components, and what these pick. A closure that goes to a thread
+// borrows each by itself, so each has a lifetime of its own.
 #[derive(Clone, Copy)]
 struct Picking<'l, 'r, 'p, A: Allocator> {
     labels: &'l [u32],
@@ -434,7 +435,8 @@ fn take_and_name<R: Threads + Sync, A: Allocator + Copy + Send + Sync>(
     took
 }
 
-// Writes for each root the name of the component that it comes to: the least vertex that the components and the picks join it to.
+// Writes for each root the name of the component that it comes to: the least vertex that the components and the picks join
+// it to.
 fn name_joined<A: Allocator + Copy>(led: Led<A>, parents: &mut [u32], least: &mut [u32])
     requires can { CanStep led.labels.now led.roots.now led.picks.now led.leads.now }
     requires parents { length led.labels.now < length parents.old }
