@@ -52,7 +52,7 @@ const ASK: [u8; 29] = [
     3, 0, 0, 0, 24, 0, 0, 0, 1, 0, 0, 0, 0, 0, 0, 0, 3, 0, 0, 0, 1, 0, 0, 0, 2, 0, 0, 0, 3,
 ];
 
-// One vertex more, which no link has, and then the same as one component with the first.
+// Under the labels of one vertex more, which no link has; a round later it is in the component of the first.
 const ASK_OF_FOUR: [u8; 33] = [
     3, 0, 0, 0, 28, 0, 0, 0, 1, 0, 0, 0, 0, 0, 0, 0, 4, 0, 0, 0, 1, 0, 0, 0, 2, 0, 0, 0, 3, 0, 0,
     0, 4,
@@ -251,7 +251,7 @@ fn an_ask_that_comes_again_is_not_stored(rt: HostRuntime) {
 // the offers. The list of the shard's live links stays: were all live again, it would take a block for another list, and none
 // for marks and names.
 #[test]
-fn an_ask_under_coarser_labels_keeps_the_lists(rt: HostRuntime) {
+fn an_ask_under_coarser_labels_keeps_the_list(rt: HostRuntime) {
     let once = blocks_of_session(&rt, rt.alloc(), &[&SHARD, &ASK_OF_FOUR]);
     let twice = blocks_of_session(&rt, rt.alloc(), &[&SHARD, &ASK_OF_FOUR, &COARSER_ASK]);
     expect_same(&rt, twice.wrapping_sub(once), 4);

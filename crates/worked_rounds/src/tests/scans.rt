@@ -540,9 +540,7 @@ fn expect_under(
     list: &[u32],
     expected: &[(u32, u32)],
 ) {
-    let labels = Labels::of_list(Vec::from_slice(alloc, list).expect(rt, "memory")).expect(
-        rt, "labels",
-    );
+    let labels = labels_of(rt, alloc, list);
     worker.expect_answer(rt, 0, labels, expected)
 }
 
@@ -630,9 +628,7 @@ fn expect_scan(
     under: (&[u32], &[(u32, u32)]),
 ) {
     let (list, expected) = under;
-    let labels = Labels::of_list(Vec::from_slice(alloc, list).expect(rt, "memory")).expect(
-        rt, "labels",
-    );
+    let labels = labels_of(rt, alloc, list);
     let offers = scanned(rt, alloc, scanner, links, &labels);
     expect_offers(rt, &offers, expected);
 }

@@ -65,10 +65,10 @@ fn ask(rt: &impl Abort, alloc: Global, labels: &Labels) -> Vec<u8> {
 fn expect_as_alone(rt: &impl Abort, alloc: Global, bytes: &[u8], passes: usize, last: &Labels) {
     for piece in [1000, usize::MAX] {
         assert!(rt; 1 <= piece);
-        let same = Vec::from_slice(alloc, bytes).expect(rt, "memory");
-        let mut first = FusedSource::new(same, passes, piece);
-        let same = Vec::from_slice(alloc, bytes).expect(rt, "memory");
-        let mut second = FusedSource::new(same, passes, piece);
+        let copy = Vec::from_slice(alloc, bytes).expect(rt, "memory");
+        let mut first = FusedSource::new(copy, passes, piece);
+        let copy = Vec::from_slice(alloc, bytes).expect(rt, "memory");
+        let mut second = FusedSource::new(copy, passes, piece);
         let alone = read_frame(alloc, &mut first);
         match (alone, read_next(alloc, &mut second, last.as_slice())) {
             (Ok(frame), Ok(next)) => {
