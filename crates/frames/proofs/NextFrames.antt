@@ -3,7 +3,7 @@ use Rattle.std.proofs.Common.{◌≡◌, ℕ, ◌+◌, ◌*◌, ◌<◌, ◌≤�
 use Rattle.std.specs.Prelude.{◌≢◌, Result, Ok, Err, OnOk, is_ok, if◌then◌else◌}
 use Rattle.std.specs.List.{flat_map}
 use Rattle.std.proofs.Math.Seq.{take-add}
-use Rattle.std.proofs.lemmas.List.{length-append, length-take-le, append_cancel_left, get_or_default}
+use Rattle.std.proofs.lemmas.List.{length-append, append_cancel_left, get_or_default}
 use Rattle.std.proofs.lemmas.List.Elements.{All-append, All-take}
 use Rattle.std.proofs.lemmas.Grind.{flat_map-append}
 use Rattle.byte_streams.specs.Streams.{SourceState, Gave}
@@ -20,7 +20,7 @@ use Rattle.frames.specs.declared.next_frame.NextFrame.{NextFrame}
 use Rattle.frames.specs.declared.fault.FrameFault.{FrameFault}
 use Rattle.frames.specs.declared.fault.FrameFault.TheVariants.{BadField, Memory}
 use Rattle.frames.proofs.Streams.{frame_gave, cut_more, cut_refused, body_refused}
-use Rattle.frames.proofs.Texts.{u32_length, items_length, parts_same}
+use Rattle.frames.proofs.Texts.{u32_length, items_length}
 use Rattle.frames.proofs.Pieces.{three_fields, list_came, list_refused, list_stopped}
 use Rattle.frames.proofs.Decoded.{ask_refused, ask_begun, ask_found, ask_unlabelled}
 
@@ -42,11 +42,6 @@ refused_behind fault kind len s t u wide possible first (inr whole) =
 -- numbers and the next ones, the same that stand there
 pub same_more : (last : List ℕ) (came k : ℕ) → take (came + k) last ≡ take came last ++ take k (drop came last)
 same_more last came k = take-add came k last
-
--- where the first numbers aren't those of the last ask, they aren't with more of them behind
-pub others_on : (last old more new : List ℕ) (came k : ℕ) → came ≤ length last → length old ≡ came → old ≢ take came last → new ≡ old ++ more → new ≢ take (came + k) last
-others_on last old more new came k within count other is same =
-    other (parts_same old (take came last) more (take k (drop came last)) (count ∙ sym (length-take-le came last within)) (sym is ∙ same ∙ same_more last came k)).0
 
 -- where the next ones have other bytes than those of the last ask, they aren't either
 pub others_here : (last more new piece : List ℕ) (came k : ℕ) → flat_map u32_text more ≡ piece → flat_map u32_text (take k (drop came last)) ≢ piece
