@@ -30,9 +30,6 @@ pub record SaysOffers (len most : ℕ) : Type 0 where
   pub few : most ≤ 2 * MAX_SHARD_LINKS
   pub length_is : len ≡ 12 + 8 * most
 
-pub says_offers : (len most : ℕ) → IsPossible 4 len → most ≡ (len - 12) / 8 → SaysOffers len most
-says_offers len most possible offers = let (count, few, size) = possible.answer refl in record { fields = omega arith; few = omega arith; length_is = omega arith }
-
 -- ---- offers pushed
 
 -- one more offer, of the bytes that are left

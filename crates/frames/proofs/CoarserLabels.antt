@@ -83,19 +83,6 @@ module _ (last : List ℕ) (are : AreLabels last) where
         sym (label_front front more v one most) ∙ is.coarser v one most ∙ label_front front more (label_of last v) finer.from_one (omega (arith, finer.at_most_itself));
   }
 
-  -- all of them
-  pub labels_of_coarser : (numbers : List ℕ) → length numbers ≡ length last → AreCoarserUpTo last numbers (length last) → AreLabels numbers
-  labels_of_coarser numbers each is = record {
-    few_vertices = omega (arith, each, are.few_vertices);
-    labelled = λ v one most. is.labelled v one (omega (arith, each, most));
-  }
-
-  pub coarsens_of : (numbers : List ℕ) → length numbers ≡ length last → AreCoarserUpTo last numbers (length last) → Coarsens numbers last
-  coarsens_of numbers each is = record {
-    vertices = each;
-    together = λ u v one most one' most' same. is.coarser u one most ∙ ap (λ (c : ℕ). label_of numbers c) same ∙ sym (is.coarser v one' most');
-  }
-
   pub coarser_of : (numbers : List ℕ) → AreLabels numbers → Coarsens numbers last → AreCoarserUpTo last numbers (length last)
   coarser_of numbers labels coarsens = record {
     labelled = λ v one most. labels.labelled v one (omega (arith, coarsens.vertices, most));

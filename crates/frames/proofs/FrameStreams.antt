@@ -67,15 +67,6 @@ only_frames_of_texts fs gs lawful are =
       none_left fs [] rest none = append-nil fs
       none_left fs (h ∷ hs) rest none = absurd (text_some h (texts_of hs ++ rest) (none ∙ append_assoc (text_of h) (texts_of hs) rest))
 
--- the frames of a prefix of a stream are the first of the stream's
-pub prefix_has_prefix : (prefix rest : List ℕ) (some all : List FrameValue) → AreFramesOf prefix some → AreFramesOf (prefix ++ rest) all
-    → (more : List FrameValue) × (all ≡ some ++ more)
-prefix_has_prefix prefix rest some all are are_all =
-    let split : texts_of some ++ (are.rest ++ rest) ≡ texts_of all ++ are_all.rest =
-    sym (append_assoc (texts_of some) are.rest rest) ∙ ap (λ (t : List ℕ). t ++ rest) (sym are.split) ∙ are_all.split in
-    let (hs, is, left) = prefix_frames some all (are.rest ++ rest) are_all.rest are.lawful are_all.lawful are_all.no_more split in
-    (hs, is)
-
 -- the same frames stand in a stream however they are looked for
 pub same_frames : (stream : List ℕ) (fs gs : List FrameValue) → AreFramesOf stream fs → AreFramesOf stream gs → gs ≡ fs
 same_frames stream fs gs first second =

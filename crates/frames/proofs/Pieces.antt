@@ -34,9 +34,6 @@ bytes_more m n piece x y z came count behind = record {
   gave = gave_more 0 0 came.bytes piece x y z came.gave behind;
 }
 
-pub bytes_none : (x : SourceState) → BytesCame 0 x x
-bytes_none x = record { bytes = []; counted = refl; gave = gave_nothing x }
-
 pub passed_so_many : (m n : ℕ) (x y : SourceState) → m ≡ n → BytesCame m x y → BytesCame n x y
 passed_so_many m n x y is came = subst (λ (k : ℕ). BytesCame k x y) is came
 
@@ -44,18 +41,6 @@ pub unpassed_so_many : (fault : FrameFault) (m n : ℕ) (x y : SourceState) → 
 unpassed_so_many fault m n x y is cut = subst (λ (k : ℕ). IsCutShort fault k x y) is cut
 
 -- ---- a piece that was stopped
-
--- no memory for its items
-pub stopped_before : (len : ℕ) (x : SourceState) → IsStopped Memory len x x
-stopped_before len x = record { bytes = []; gave = gave_nothing x; within = omega arith; short = inl refl; cause = inr (inr refl) }
-
--- less than the piece came
-pub stopped_short : (fault : FrameFault) (len : ℕ) (x y : SourceState) → IsCutShort fault len x y → IsStopped fault len x y
-stopped_short fault len x y cut = record { bytes = cut.bytes; gave = cut.gave; within = omega (arith, cut.short); short = inr cut.short; cause = cut.cause }
-
--- it came, and there was no memory for its items
-pub stopped_behind : (piece : List ℕ) (len : ℕ) (x y : SourceState) → length piece ≡ len → Gave 0 0 piece x y → IsStopped Memory len x y
-stopped_behind piece len x y count gave = record { bytes = piece; gave = gave; within = omega (arith, count); short = inl refl; cause = inr (inr refl) }
 
 -- items of so many bytes each came before it
 pub stopped_later : (size n k count : ℕ) (fault : FrameFault) (bytes : List ℕ) (x y z : SourceState) → n + k ≤ count → length bytes ≡ size * n → Gave 0 0 bytes x y

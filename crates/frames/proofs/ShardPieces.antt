@@ -47,10 +47,6 @@ mul-add : (s : Spelling) (n k : ℕ) → size_in s * (n + k) ≡ size_in s * n +
 mul-add Narrow n k = omega arith
 mul-add Wide n k = omega arith
 
-mul-none : (s : Spelling) → 0 ≡ size_in s * 0
-mul-none Narrow = refl
-mul-none Wide = refl
-
 -- nothing more is heard once some link was refused
 pub hears_none : (A : Type 0) (s : Spelling) (piece : List ℕ) → HearsLinks {A = A} s piece None None
 hears_none A s piece bytes count counted none = none_before s bytes piece count counted none
@@ -70,15 +66,6 @@ came_more s n k before after piece x y z count came behind heard = record {
   counted = omega (arith, length-append came.bytes piece, came.counted, count, mul-add s n k);
   gave = gave_more 0 0 came.bytes piece x y z came.gave behind;
   are = heard came.bytes n came.counted came.are;
-}
-
--- no link yet
-pub came_none : {A : Type 0} (s : Spelling) (x : SourceState) (links : Vec Link A) → links.items ≡ [] → LinksCame s 0 (Some links) x x
-came_none s x links is = record {
-  bytes = [];
-  counted = mul-none s;
-  gave = gave_nothing x;
-  are = subst (λ (ls : List Link). Spells s ls []) (sym is) (spells_none s);
 }
 
 -- ---- the eight bytes before the links

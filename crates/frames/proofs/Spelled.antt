@@ -20,11 +20,6 @@ pub size_some : (s : Spelling) → 0 < size_in s
 size_some Narrow = omega arith
 size_some Wide = omega arith
 
--- a shard's links have few bytes
-pub size_few : (s : Spelling) (n : ℕ) → n ≤ 2 ^ 24 → size_in s * n ≤ 2 ^ 28
-size_few Narrow n few = omega arith
-size_few Wide n few = omega arith
-
 pub spelled_length : (s : Spelling) (l : Link) → length (spelled_in s l) ≡ size_in s
 spelled_length Narrow l = link_length l
 spelled_length Wide l = wide_link_length l
@@ -123,11 +118,6 @@ pub none_behind_them : (s : Spelling) (x y : List ℕ) (k : ℕ) → length x �
 none_behind_them s x y k count none links same = none (drop k links) (links_split s links x y k count same).1
 
 -- ---- one link after another
-
--- some bytes of whole links have one at least
-pub one_at_least : (s : Spelling) (n : ℕ) → n % size_in s ≡ 0 → 0 < n → size_in s ≤ n
-one_at_least Narrow n whole some = omega (arith, whole)
-one_at_least Wide n whole some = omega (arith, whole)
 
 pub whole_behind : (s : Spelling) (m n : ℕ) → n % size_in s ≡ 0 → m + size_in s ≡ n → m % size_in s ≡ 0
 whole_behind Narrow m n whole is = omega (arith, whole, is)

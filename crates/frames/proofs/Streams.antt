@@ -53,19 +53,7 @@ frame_gave v kind len bytes body s t u first second head count is =
 
 -- ---- a head that was refused
 
-pub head_refused : (fault : FrameFault) (bytes : List ℕ) (s t : SourceState) → length bytes ≡ 5 → Gave 0 0 bytes s t → HeadRefused fault (kind_at bytes) (length_at bytes)
-    → IsReadRefused fault s t
-head_refused BadKind bytes s t five gave refused = record { bytes = bytes; gave = gave; within = inl (omega arith); refused = (omega arith, refused) }
-head_refused BadLength bytes s t five gave refused = record { bytes = bytes; gave = gave; within = inl (omega arith); refused = (omega arith, refused) }
-head_refused _ bytes s t five gave refused = absurd refused
-
 -- ---- a body that didn't come
-
--- some of the next bytes
-pub cut_within : (fault : FrameFault) (n count : ℕ) (buf : List ℕ) (s t : SourceState) → CutsShort fault → length buf ≡ count
-    → (n < length buf) × Gave (failures_of fault) (ends_of fault) (take n buf) s t → IsCutShort fault count s t
-cut_within fault n count buf s t cause size (short, gave) =
-    record { bytes = take n buf; gave = gave; short = omega (arith, length-take-le n buf (omega arith)); cause = cause }
 
 -- so many bytes of the body, and then some of the next
 pub cut_more : (fault : FrameFault) (count len : ℕ) (body : List ℕ) (s t u : SourceState) → length body + count ≤ len → Gave 0 0 body s t
@@ -136,13 +124,3 @@ body_refused fault kind len bytes body s t u wide possible count head first seco
     }
 
 -- ---- a piece of the body
-
-pub piece_behind : (old buf whole post rest : List ℕ) (start len : ℕ) → take start whole ≡ old → post ≡ [] → length old + length buf ≡ len
-    → take len (take start whole ++ (buf ++ post) ++ rest) ≡ old ++ buf
-piece_behind old buf whole post rest start len prefix none count =
-    let shown : take start whole ++ (buf ++ post) ≡ old ++ buf = ap (λ (t : List ℕ). t ++ (buf ++ post)) prefix ∙ ap (λ (t : List ℕ). old ++ (buf ++ t)) none ∙ ap (λ (t : List ℕ). old ++ t) (append-nil buf) in
-    ap (λ (t : List ℕ). take len (t ++ rest)) shown ∙ take_at (old ++ buf) rest len (length-append old buf ∙ count)
-
-pub resized_prefix : (old whole : List ℕ) (n k start : ℕ) → whole ≡ take n old ++ replicate k 0 → length old ≤ n → start ≡ length old → take start whole ≡ old
-resized_prefix old whole n k start is long begin =
-    ap (take start) (is ∙ ap (λ (t : List ℕ). t ++ replicate k 0) (take_all n old long)) ∙ take_at old (replicate k 0) start (sym begin)

@@ -96,9 +96,6 @@ fits_by_test z test =
     let parts = and_parts (int_le (neg_ℤ (pos (2 ^ 31))) z) (int_lt z (pos (2 ^ 31))) test in
     grind (arith, ints, parts.0, parts.1)
 
-pub test_by_fits : (z : ℤ) → FitsSigned w32 z → (int_le (neg_ℤ (pos (2 ^ 31))) z && int_lt z (pos (2 ^ 31))) ≡ true
-test_by_fits z fits = grind (arith, ints, fits)
-
 pub narrow_fit : (links : List Link) → IsTrue (are_narrow links) → AllByRecursion FitsNarrow links
 narrow_fit [] narrow = tt
 narrow_fit (l ∷ links) narrow =
