@@ -2,5 +2,6 @@ mod closing;
 mod passes;
 mod relabelling;
 mod rounds;
+mod same;
 mod solving;
 mod wires;

@@ -1,15 +1,15 @@
 // Books closed in threads: the picks are those of closing in one, and the least of what was offered, whether the offers
 // are worth threads or too few, of equal links and of links of equal weight, and whoever answers first.
-ghost use Rattle.std.specs.Prelude.{◌≡◌, ◌<◌, ◌≤◌, ◌^◌, length, IfOk};
+ghost use Rattle.std.specs.Prelude.{◌≡◌, ◌<◌, ◌≤◌, ◌^◌, length};
 ghost use Rattle.round_core.specs.BookValue.{missing};
 
 use super::rounds::opened;
+use super::same::expect_same;
 use frames::Answer;
 use link_key::{Cut, Labels, Link, Offers};
 use round_core::{Picks, RoundBook, Solver, Turn};
 use std::alloc::Global;
 use std::process::Abort;
-use std::test::Fail;
 use std::thread::Threads;
 use worked_graphs::{all_have_labels, have_labels};
 use worker_engine::scan;
@@ -23,32 +23,32 @@ fn step(rt: &impl Abort, shard: u32, vertex: u32) -> Link {
 }
 
 // So many shards that each have a link from each of n vertices to the next.
-pub(crate) fn paths(rt: &impl Abort, alloc: Global, n: u32, shards: u32) -> Result<Vec<Link>, Fail>
-    ensures few { IfOk result (λ links. length links.items ≤ 2 ^ 24) }
+pub(crate) fn paths(rt: &impl Abort, alloc: Global, n: u32, shards: u32) -> Vec<Link>
+    ensures few { length result.items ≤ 2 ^ 24 }
 {
     let mut links = Vec::new(alloc);
     for shard in 0..shards {
         for vertex in 1..n {
-            links.push(step(rt, shard, vertex))?;
+            links.push(step(rt, shard, vertex)).expect(rt, "memory");
         }
     }
     assert!(rt; links.len() <= 1 << 24);
-    Ok(links)
+    links
 }
 
 // An answer that offers the first so many links of a path, each for the lower of its ends.
-fn first_links(rt: &impl Abort, alloc: Global, shard: u32, count: u32) -> Result<Answer, Fail> {
+fn first_links(rt: &impl Abort, alloc: Global, shard: u32, count: u32) -> Answer {
     let mut pairs = Vec::new(alloc);
     for place in 0..count {
         assert!(rt; place < 1 << 30);
-        pairs.push((place + 1, place))?;
+        pairs.push((place + 1, place)).expect(rt, "memory");
     }
     let offers = Offers::of_pairs(pairs).expect(rt, "ascending");
-    Ok(Answer {
+    Answer {
         round: 1,
         shard,
         offers,
-    })
+    }
 }
 
 // The book once it has heard each shard offer the first so many of its links, in this order of the shards.
@@ -58,39 +58,36 @@ fn heard<'a>(
     mut book: RoundBook<'a>,
     counts: &[u32],
     order: &[u32],
-) -> Result<RoundBook<'a>, Fail>
-    ensures labels { IfOk result (λ heard. heard.labels ≡ book.entry.labels) }
-    ensures whole { IfOk result (λ heard. missing heard ≡ 0) }
+) -> RoundBook<'a>
+    ensures labels { result.labels ≡ book.entry.labels }
+    ensures whole { missing result ≡ 0 }
 {
     for shard in order {
         assert!(rt; (*shard as usize) < counts.len() && *shard < book.len());
-        let answer = first_links(rt, alloc, *shard, counts[*shard as usize])?;
-        book.take(*shard, answer)?;
+        let answer = first_links(rt, alloc, *shard, counts[*shard as usize]);
+        book.take(*shard, answer).expect(rt, "memory");
     }
     assert!(rt; book.missing() == 0);
-    Ok(book)
+    book
 }
 
 // The least of the offered links that leave a vertex, by a look at all of them.
-fn least(
-    rt: &impl Abort,
-    alloc: Global,
-    counts: &[u32],
-    vertex: u32,
-) -> Result<Option<Link>, Fail> {
+fn least(rt: &impl Abort, alloc: Global, counts: &[u32], vertex: u32) -> Option<Link> {
     let mut offered = Vec::new(alloc);
     let mut shard = 0u32;
     for count in counts {
         if 1 < vertex && vertex - 1 <= *count {
-            offered.push(step(rt, shard, vertex - 1))?;
+            offered
+                .push(step(rt, shard, vertex - 1))
+                .expect(rt, "memory");
         }
         if 0 < vertex && vertex <= *count {
-            offered.push(step(rt, shard, vertex))?;
+            offered.push(step(rt, shard, vertex)).expect(rt, "memory");
         }
         shard = shard.wrapping_add(1);
     }
     offered.sort_unstable();
-    Ok(offered.first().copied())
+    offered.first().copied()
 }
 
 // The picks of a round over paths of n vertices are the least offered, closed in threads and in one.
@@ -100,9 +97,9 @@ fn expect_least<R: Abort + Threads + Sync>(
     n: u32,
     counts: &[u32],
     order: &[u32],
-) -> Result<(), Fail> {
+) {
     assert!(rt; n < 1 << 20);
-    let labels = Labels::apart(alloc, n)?;
+    let labels = Labels::apart(alloc, n).expect(rt, "memory");
     expect_least_under(rt, alloc, &labels, counts, order)
 }
 
@@ -113,45 +110,35 @@ fn expect_least_under<R: Abort + Threads + Sync>(
     labels: &Labels,
     counts: &[u32],
     order: &[u32],
-) -> Result<(), Fail> {
+) {
     let n = labels.n();
     assert!(rt; n < 1 << 20 && order.len() <= 8);
     let shards = order.len() as u32;
-    let links = paths(rt, alloc, n, shards)?;
+    let links = paths(rt, alloc, n, shards);
     let cut = Cut::even(alloc, links.as_slice(), shards).expect(rt, "a cut");
-    let book = opened(rt, alloc, &cut, 1, labels)?;
-    let alone = heard(rt, alloc, book, counts, order)?.close();
-    expect_picks(rt, alloc, &alone, n, counts)?;
-    let book = opened(rt, alloc, &cut, 1, labels)?;
-    let beside = heard(rt, alloc, book, counts, order)?.close_par(rt);
+    let book = opened(rt, alloc, &cut, 1, labels);
+    let alone = heard(rt, alloc, book, counts, order).close();
+    expect_picks(rt, alloc, &alone, n, counts);
+    let book = opened(rt, alloc, &cut, 1, labels);
+    let beside = heard(rt, alloc, book, counts, order).close_par(rt);
     expect_picks(rt, alloc, &beside, n, counts)
 }
 
 // The picks of n vertices are the least of the links offered.
-fn expect_picks(
-    rt: &impl Abort,
-    alloc: Global,
-    picks: &Picks,
-    n: u32,
-    counts: &[u32],
-) -> Result<(), Fail>
+fn expect_picks(rt: &impl Abort, alloc: Global, picks: &Picks, n: u32, counts: &[u32])
     requires few { n < 2 ^ 20 }
     requires each_vertex { length picks.now ≡ n }
 {
     for vertex in 1..n + 1 {
-        assert_eq!(rt; picks.of(vertex), least(rt, alloc, counts, vertex)?);
+        let least = least(rt, alloc, counts, vertex);
+        expect_same(rt, (vertex, picks.of(vertex)), (vertex, least));
     }
-    Ok(())
 }
 
 // The book once it has heard the light offers of each shard.
-fn heard_light<'a>(
-    rt: &impl Abort,
-    alloc: Global,
-    mut book: RoundBook<'a>,
-) -> Result<RoundBook<'a>, Fail>
-    ensures labels { IfOk result (λ heard. heard.labels ≡ book.entry.labels) }
-    ensures whole { IfOk result (λ heard. missing heard ≡ 0) }
+fn heard_light<'a>(rt: &impl Abort, alloc: Global, mut book: RoundBook<'a>) -> RoundBook<'a>
+    ensures labels { result.labels ≡ book.entry.labels }
+    ensures whole { missing result ≡ 0 }
 {
     let (cut, labels) = (book.cut(), book.labels());
     for shard in 0..cut.len() {
@@ -160,164 +147,155 @@ fn heard_light<'a>(
         let answer = Answer {
             round: 1,
             shard,
-            offers: scan(alloc, links, labels)?,
+            offers: scan(alloc, links, labels).expect(rt, "memory"),
         };
-        book.take(shard, answer)?;
+        book.take(shard, answer).expect(rt, "memory");
     }
     assert!(rt; book.missing() == 0);
-    Ok(book)
+    book
 }
 
 // Of light offers of so many paths of n vertices the picks, closed in threads, are the least of all links.
-fn expect_least_of_all<R: Abort + Threads + Sync>(
-    rt: &R,
-    alloc: Global,
-    n: u32,
-    shards: u32,
-) -> Result<(), Fail> {
+fn expect_least_of_all<R: Abort + Threads + Sync>(rt: &R, alloc: Global, n: u32, shards: u32) {
     assert!(rt; 0 < n && n < 1 << 20 && shards <= 8);
-    let labels = Labels::apart(alloc, n)?;
-    let links = paths(rt, alloc, n, shards)?;
+    let labels = Labels::apart(alloc, n).expect(rt, "memory");
+    let links = paths(rt, alloc, n, shards);
     let cut = Cut::even(alloc, links.as_slice(), shards).expect(rt, "a cut");
-    let counts = vec![in alloc; n - 1; shards as usize]?;
-    let book = opened(rt, alloc, &cut, 1, &labels)?;
-    let picks = heard_light(rt, alloc, book)?.close_par(rt);
+    let counts = vec![in alloc; n - 1; shards as usize].expect(rt, "memory");
+    let book = opened(rt, alloc, &cut, 1, &labels);
+    let picks = heard_light(rt, alloc, book).close_par(rt);
     expect_picks(rt, alloc, &picks, n, counts.as_slice())
 }
 
 // An offer for each vertex, and of these as few as one thread counts, and more; the labels are cut into four parts, of which
 // the last is shorter or as long.
 #[test]
-fn light_offers_of_one_shard(rt: HostRuntime) -> Result<(), Fail> {
+fn light_offers_of_one_shard(rt: HostRuntime) {
     for n in [16_383, 16_384, 16_385, 16_387] {
-        expect_least_of_all(&rt, rt.alloc(), n, 1)?;
+        expect_least_of_all(&rt, rt.alloc(), n, 1);
     }
-    Ok(())
 }
 
 // Of 160,008 no pick of a component is above a link that is offered for another.
 #[test]
-fn light_offers_of_many_shards(rt: HostRuntime) -> Result<(), Fail> {
+fn light_offers_of_many_shards(rt: HostRuntime) {
     expect_least_of_all(&rt, rt.alloc(), 20_001, 8)
 }
 
 // 160,000 offers, 20,000 of each shard: past what one thread counts. The order of answers changes nothing. Each link is
 // offered for its lower end alone, so that some are below the pick of the other.
 #[test]
-fn many_offers(rt: HostRuntime) -> Result<(), Fail> {
+fn many_offers(rt: HostRuntime) {
     let counts = [20_000; 8];
-    expect_least(&rt, rt.alloc(), 20_001, &counts, &[0, 1, 2, 3, 4, 5, 6, 7])?;
+    expect_least(&rt, rt.alloc(), 20_001, &counts, &[0, 1, 2, 3, 4, 5, 6, 7]);
     expect_least(&rt, rt.alloc(), 20_001, &counts, &[7, 6, 5, 4, 3, 2, 1, 0])
 }
 
 // As many, of which two answers have nearly all, and one has none.
 #[test]
-fn answers_of_unequal_length(rt: HostRuntime) -> Result<(), Fail> {
+fn answers_of_unequal_length(rt: HostRuntime) {
     let counts = [1, 70_000, 0, 69_999, 5];
-    expect_least(&rt, rt.alloc(), 70_001, &counts, &[0, 1, 2, 3, 4])?;
+    expect_least(&rt, rt.alloc(), 70_001, &counts, &[0, 1, 2, 3, 4]);
     expect_least(&rt, rt.alloc(), 70_001, &counts, &[4, 3, 2, 1, 0])
 }
 
 // One answer has them all.
 #[test]
-fn one_answer(rt: HostRuntime) -> Result<(), Fail> {
+fn one_answer(rt: HostRuntime) {
     expect_least(&rt, rt.alloc(), 140_001, &[140_000], &[0])
 }
 
 // The longer of two has nearly all.
 #[test]
-fn two_answers_of_unequal_length(rt: HostRuntime) -> Result<(), Fail> {
+fn two_answers_of_unequal_length(rt: HostRuntime) {
     let counts = [140_000, 3_000];
-    expect_least(&rt, rt.alloc(), 140_001, &counts, &[0, 1])?;
+    expect_least(&rt, rt.alloc(), 140_001, &counts, &[0, 1]);
     expect_least(&rt, rt.alloc(), 140_001, &counts, &[1, 0])
 }
 
 // Labels of the vertices up to n, each its own but for that of the last, which is the one before.
-fn apart_but_for_the_last(rt: &impl Abort, alloc: Global, n: u32) -> Result<Labels, Fail> {
+fn apart_but_for_the_last(rt: &impl Abort, alloc: Global, n: u32) -> Labels {
     assert!(rt; 1 < n && n < 1 << 20);
     let mut labels = Vec::new(alloc);
     for vertex in 1..n {
-        labels.push(vertex)?;
+        labels.push(vertex).expect(rt, "memory");
     }
-    labels.push(n - 1)?;
-    Ok(Labels::of_list(labels).expect(rt, "labels"))
+    labels.push(n - 1).expect(rt, "memory");
+    Labels::of_list(labels).expect(rt, "labels")
 }
 
 // Links to all vertices but the last are offered, whose label is the one before: its own is picked by none.
 #[test]
-fn labels_apart_but_for_the_last(rt: HostRuntime) -> Result<(), Fail> {
+fn labels_apart_but_for_the_last(rt: HostRuntime) {
     let alloc = rt.alloc();
-    let labels = apart_but_for_the_last(&rt, alloc, 10)?;
-    expect_least_under(&rt, alloc, &labels, &[8, 3, 8], &[0, 1, 2])?;
-    let labels = apart_but_for_the_last(&rt, alloc, 20_002)?;
+    let labels = apart_but_for_the_last(&rt, alloc, 10);
+    expect_least_under(&rt, alloc, &labels, &[8, 3, 8], &[0, 1, 2]);
+    let labels = apart_but_for_the_last(&rt, alloc, 20_002);
     let counts = [20_000; 8];
     expect_least_under(&rt, alloc, &labels, &counts, &[0, 1, 2, 3, 4, 5, 6, 7])
 }
 
 #[test]
-fn few_offers(rt: HostRuntime) -> Result<(), Fail> {
-    expect_least(&rt, rt.alloc(), 9, &[8, 3, 8], &[0, 1, 2])?;
+fn few_offers(rt: HostRuntime) {
+    expect_least(&rt, rt.alloc(), 9, &[8, 3, 8], &[0, 1, 2]);
     expect_least(&rt, rt.alloc(), 9, &[8, 3, 8], &[2, 1, 0])
 }
 
 // As many as are looked up at a time, and one fewer or more, and as many as two or three times.
 #[test]
-fn whole_batches_and_odd_ones(rt: HostRuntime) -> Result<(), Fail> {
+fn whole_batches_and_odd_ones(rt: HostRuntime) {
     let counts = [63, 64, 65, 127, 128, 129, 192, 193];
-    expect_least(&rt, rt.alloc(), 194, &counts, &[0, 1, 2, 3, 4, 5, 6, 7])?;
+    expect_least(&rt, rt.alloc(), 194, &counts, &[0, 1, 2, 3, 4, 5, 6, 7]);
     for count in counts {
-        expect_least(&rt, rt.alloc(), 194, &[count], &[0])?;
+        expect_least(&rt, rt.alloc(), 194, &[count], &[0]);
     }
-    Ok(())
 }
 
 #[test]
-fn no_offer(rt: HostRuntime) -> Result<(), Fail> {
+fn no_offer(rt: HostRuntime) {
     expect_least(&rt, rt.alloc(), 5, &[0, 0], &[1, 0])
 }
 
 // The picks of 50 vertices, once a step let go of them.
-fn picks_let_go(rt: &(impl Abort + Threads + Sync), alloc: Global) -> Result<Picks, Fail> {
-    let links = paths(rt, alloc, 50, 1)?;
+fn picks_let_go(rt: &(impl Abort + Threads + Sync), alloc: Global) -> Picks {
+    let links = paths(rt, alloc, 50, 1);
     let cut = Cut::even(alloc, links.as_slice(), 1).expect(rt, "a cut");
-    let mut solver = Solver::new(alloc, 50)?;
-    let book = opened(rt, alloc, &cut, 1, solver.labels())?;
-    let mut picks = heard(rt, alloc, book, &[49], &[0])?.close();
+    let mut solver = Solver::new(alloc, 50).expect(rt, "memory");
+    let book = opened(rt, alloc, &cut, 1, solver.labels());
+    let mut picks = heard(rt, alloc, book, &[49], &[0]).close();
     let turn = solver.step_par(rt, &mut picks).expect(rt, "a turn");
-    assert!(rt; turn != Turn::Done);
-    Ok(picks)
+    expect_same(rt, turn == Turn::Done, false);
+    picks
 }
 
 // A book over picks of which there is none has the picks of its own answer alone, which offers one link.
-fn expect_least_over(rt: &impl Abort, alloc: Global, picks: Picks, n: u32) -> Result<(), Fail> {
+fn expect_least_over(rt: &impl Abort, alloc: Global, picks: Picks, n: u32) {
     assert!(rt; picks.is_empty() && n < 1 << 20);
-    let links = paths(rt, alloc, n, 1)?;
+    let links = paths(rt, alloc, n, 1);
     let cut = Cut::even(alloc, links.as_slice(), 1).expect(rt, "a cut");
-    let labels = Labels::apart(alloc, n)?;
+    let labels = Labels::apart(alloc, n).expect(rt, "memory");
     assert!(rt; all_have_labels(&cut, labels.n()));
-    let book = RoundBook::open_over(picks, 1, &cut, &labels)?;
+    let book = RoundBook::open_over(picks, 1, &cut, &labels).expect(rt, "memory");
     assert!(rt; book.len() == 1 && book.missing() == 1);
-    let over = heard(rt, alloc, book, &[1], &[0])?.close();
+    let over = heard(rt, alloc, book, &[1], &[0]).close();
     assert!(rt; n < 1 << 20);
     expect_picks(rt, alloc, &over, n, &[1])
 }
 
 // With as many labels as the picks have, with fewer, and with more.
 #[test]
-fn a_book_over_the_picks_of_another(rt: HostRuntime) -> Result<(), Fail> {
+fn a_book_over_the_picks_of_another(rt: HostRuntime) {
     for n in [50, 30, 80] {
-        let picks = picks_let_go(&rt, rt.alloc())?;
-        expect_least_over(&rt, rt.alloc(), picks, n)?;
+        let picks = picks_let_go(&rt, rt.alloc());
+        expect_least_over(&rt, rt.alloc(), picks, n);
     }
-    Ok(())
 }
 
 // So it is over picks that were none from the beginning.
 #[test]
-fn a_book_over_no_picks(rt: HostRuntime) -> Result<(), Fail> {
+fn a_book_over_no_picks(rt: HostRuntime) {
     for n in [50, 30, 80] {
-        let picks = Picks::none(rt.alloc(), 50)?;
-        expect_least_over(&rt, rt.alloc(), picks, n)?;
+        let picks = Picks::none(rt.alloc(), 50).expect(&rt, "memory");
+        expect_least_over(&rt, rt.alloc(), picks, n);
     }
-    Ok(())
 }

@@ -3,6 +3,7 @@ ghost use Rattle.std.specs.Prelude.{◌≡◌, ◌<◌, ◌≤◌, ◌^◌, leng
 ghost use Rattle.forest_run.specs.Lanes.{IsIdle};
 
 use super::rounds::links_to_cut;
+use super::same::expect_same;
 use super::solving::{LIMITS, LIMITS_FOREST, expect_links, path};
 use forest_run::{Lane, Report, solve};
 use link_key::{Cut, Link};
@@ -10,7 +11,6 @@ use ports::{EngineLine, Port, Wire};
 use std::alloc::{AllocError, Global};
 use std::process::Abort;
 use std::sync::Wait;
-use std::test::Fail;
 use std::thread::Threads;
 use worked_graphs::{Row, SMALL_NET, WIDE_WEIGHTS, all_have_labels};
 
@@ -47,7 +47,7 @@ fn lanes<'a>(alloc: Global, cut: &'a Cut<'a>, count: u32) -> Result<Vec<Worker<'
 fn ask_count(rt: &impl Abort, lanes: Vec<Worker>) -> u64 {
     let mut asks = 0u64;
     for lane in lanes {
-        assert!(rt; lane.port().is_open());
+        expect_same(rt, lane.port().is_open(), true);
         asks = asks.wrapping_add(lane.into_port().asks());
     }
     asks
@@ -62,27 +62,23 @@ fn expect_run_over<R: Abort + Threads + Wait + Sync>(
     alloc: Global,
     links: &[Link],
     run: Run,
-) -> Result<(), Fail>
+)
     requires few { length links.now ≤ 2 ^ 30 }
 {
     let (workers, _, forest, expected) = run;
     let n = expected.vertices;
     let cut = Cut::even(alloc, links, expected.shards).expect(rt, "a cut");
     assert!(rt; workers <= 64 && n <= 1 << 26 && all_have_labels(&cut, n));
-    let mut lanes = lanes(alloc, &cut, workers)?;
+    let mut lanes = lanes(alloc, &cut, workers).expect(rt, "memory");
     let (found, report) = solve(rt, alloc, n, &cut, lanes.as_mut_slice()).expect(rt, "a forest");
-    assert!(rt; report == expected);
-    assert_eq!(rt; ask_count(rt, lanes), report.asked);
+    expect_same(rt, report, expected);
+    expect_same(rt, ask_count(rt, lanes), report.asked);
     expect_links(rt, alloc, &found, n, forest)
 }
 
 // The run goes so.
-fn expect_run(
-    rt: &(impl Abort + Threads + Wait + Sync),
-    alloc: Global,
-    run: Run,
-) -> Result<(), Fail> {
-    let links = links_to_cut(rt, alloc, run.3.vertices, run.1)?;
+fn expect_run(rt: &(impl Abort + Threads + Wait + Sync), alloc: Global, run: Run) {
+    let links = links_to_cut(rt, alloc, run.3.vertices, run.1);
     expect_run_over(rt, alloc, links.as_slice(), run)
 }
 
@@ -105,7 +101,7 @@ fn report(size: (u32, u64), cut: (u32, u32), work: (u64, u64), total: i128) -> R
 // Two workers answer each shard once a round, and none leave each to the coordinator. Of a path of one weight each
 // vertex but the first picks the link to the one before it, so one round merges them all.
 #[test]
-fn runs_over_lanes(rt: HostRuntime) -> Result<(), Fail> {
+fn runs_over_lanes(rt: HostRuntime) {
     let alloc = rt.alloc();
     let net = SMALL_NET;
     let wide = WIDE_WEIGHTS;
@@ -138,9 +134,9 @@ fn runs_over_lanes(rt: HostRuntime) -> Result<(), Fail> {
         (0, &[], &[], report((0, 0), (0, 4096), (0, 4096), 0)),
     ];
     for run in runs {
-        expect_run(&rt, alloc, run)?;
+        expect_run(&rt, alloc, run);
     }
-    let path = path(alloc, 10_000)?;
+    let path = path(&rt, alloc, 10_000);
     let path = path.as_slice();
     let expected = report((10_001, 10_000), (1, 4), (8, 0), 10_000);
     expect_run(&rt, alloc, (3, path, path, expected))

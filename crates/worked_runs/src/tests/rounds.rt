@@ -1,47 +1,40 @@
 // A round's book by example: what the judge says of answers for a triangle of equal weights, that the order of answers
 // changes nothing, and a book that several threads read.
-ghost use Rattle.std.specs.Prelude.{◌≡◌, ◌≤◌, ◌<◌, ◌↔◌, ◌^◌, ℕ, length, All, IsTrue, IfOk};
+ghost use Rattle.std.specs.Prelude.{◌≡◌, ◌≤◌, ◌<◌, ◌↔◌, ◌^◌, ℕ, length, All, IsTrue};
 ghost use Rattle.link_key.specs.Cut.{links_at};
 ghost use Rattle.link_key.specs.Link.{EndsUpTo};
 ghost use Rattle.round_core.specs.Picks.{ArePicksOfHearings};
 
+use super::same::expect_same;
 use frames::Answer;
 use link_key::{Cut, Labels, Link, Offers};
 use round_core::{Picks, Refusal, RoundBook};
-use std::alloc::{AllocError, Global};
+use std::alloc::Global;
 use std::fmt::Display;
 use std::process::Abort;
-use std::test::Fail;
 use worked_graphs::{A_PATH_OF_EIGHT, EQUAL_WEIGHTS, Row, all_have_labels, have_labels, links_of};
 use worker_engine::scan;
 
-fn answer(
-    rt: &impl Abort,
-    alloc: Global,
-    round: u32,
-    shard: u32,
-    pairs: &[(u32, u32)],
-) -> Result<Answer, AllocError> {
-    let offers = Offers::of_pairs(Vec::from_slice(alloc, pairs)?).expect(rt, "offers");
-    Ok(Answer {
+fn answer(rt: &impl Abort, alloc: Global, round: u32, shard: u32, pairs: &[(u32, u32)]) -> Answer {
+    let offers = Offers::of_pairs(Vec::from_slice(alloc, pairs).expect(rt, "memory")).expect(
+        rt, "offers",
+    );
+    Answer {
         round,
         shard,
         offers,
-    })
+    }
 }
 
 // The links of the arcs, few enough for any cut.
-pub(crate) fn links_to_cut(
-    rt: &impl Abort,
-    alloc: Global,
-    n: u32,
-    arcs: &[Row],
-) -> Result<Vec<Link>, Fail>
-    ensures few { IfOk result (λ links. length links.items ≤ 2 ^ 30) }
+pub(crate) fn links_to_cut(rt: &impl Abort, alloc: Global, n: u32, arcs: &[Row]) -> Vec<Link>
+    ensures few { length result.items ≤ 2 ^ 30 }
 {
-    let links = links_of(alloc, n, arcs)?.expect(rt, "arcs");
+    let links = links_of(alloc, n, arcs)
+        .expect(rt, "memory")
+        .expect(rt, "arcs");
     assert!(rt; links.len() <= 1 << 30);
-    Ok(links)
+    links
 }
 
 // A book of the round of this number over the cut.
@@ -51,13 +44,13 @@ pub(crate) fn opened<'a>(
     cut: &'a Cut<'a>,
     round: u32,
     labels: &'a Labels,
-) -> Result<RoundBook<'a>, AllocError>
-    ensures { IfOk result (λ book. book.labels ≡ labels.now) }
+) -> RoundBook<'a>
+    ensures { result.labels ≡ labels.now }
 {
     assert!(rt; all_have_labels(cut, labels.n()));
-    let book = RoundBook::open(alloc, round, cut, labels)?;
-    assert_eq!(rt; book.round(), round);
-    Ok(book)
+    let book = RoundBook::open(alloc, round, cut, labels).expect(rt, "memory");
+    expect_same(rt, book.round(), round);
+    book
 }
 
 // The picks of the book's round where its answers offer these, one list for each shard.
@@ -66,18 +59,18 @@ pub(crate) fn picks_of_offers(
     alloc: Global,
     mut book: RoundBook,
     offered: &[&[(u32, u32)]],
-) -> Result<Picks, AllocError>
-    ensures heard { IfOk result (ArePicksOfHearings book.entry.labels) }
-    ensures each_vertex { IfOk result (λ picks. length picks ≡ length book.entry.labels) }
+) -> Picks
+    ensures heard { ArePicksOfHearings book.entry.labels result }
+    ensures each_vertex { length result ≡ length book.entry.labels }
 {
     let round = book.round();
     for shard in 0..book.cut().len() {
         assert!(rt; shard < book.len() && (shard as usize) < offered.len());
-        let taken = answer(rt, alloc, round, shard, offered[shard as usize])?;
-        assert!(rt; book.take(shard, taken).is_ok());
+        let taken = answer(rt, alloc, round, shard, offered[shard as usize]);
+        expect_same(rt, book.take(shard, taken), Ok(()));
     }
     assert!(rt; book.missing() == 0);
-    Ok(book.close())
+    book.close()
 }
 
 // The picks of the book's round where its shards are scanned and answered in this order.
@@ -86,9 +79,9 @@ pub(crate) fn picks_of_scans(
     alloc: Global,
     mut book: RoundBook,
     order: &[u32],
-) -> Result<Picks, AllocError>
-    ensures heard { IfOk result (ArePicksOfHearings book.entry.labels) }
-    ensures each_vertex { IfOk result (λ picks. length picks ≡ length book.entry.labels) }
+) -> Picks
+    ensures heard { ArePicksOfHearings book.entry.labels result }
+    ensures each_vertex { length result ≡ length book.entry.labels }
 {
     let (round, cut, labels) = (book.round(), book.cut(), book.labels());
     for shard in order {
@@ -98,12 +91,12 @@ pub(crate) fn picks_of_scans(
         let answer = Answer {
             round,
             shard: *shard,
-            offers: scan(alloc, links, labels)?,
+            offers: scan(alloc, links, labels).expect(rt, "memory"),
         };
-        assert!(rt; book.take(*shard, answer).is_ok());
+        expect_same(rt, book.take(*shard, answer), Ok(()));
     }
     assert!(rt; book.missing() == 0);
-    Ok(book.close())
+    book.close()
 }
 
 // What the judge says of an answer for shard 0, of this round and shard and with these offers.
@@ -112,10 +105,10 @@ fn judged(
     alloc: Global,
     book: &RoundBook,
     answered: (u32, u32, &[(u32, u32)]),
-) -> Result<Result<(), Refusal>, AllocError> {
+) -> Result<(), Refusal> {
     assert!(rt; 0 < book.len());
-    let answer = answer(rt, alloc, answered.0, answered.1, answered.2)?;
-    Ok(book.judge(0, &answer))
+    let answer = answer(rt, alloc, answered.0, answered.1, answered.2);
+    book.judge(0, &answer)
 }
 
 // The book judges these answers so, one after the other.
@@ -124,21 +117,20 @@ fn expect_judged(
     alloc: Global,
     book: &RoundBook,
     rows: &[(u32, u32, &[(u32, u32)], Result<(), Refusal>)],
-) -> Result<(), AllocError> {
+) {
     for row in rows {
-        let said = judged(rt, alloc, book, (row.0, row.1, row.2))?;
-        assert_eq!(rt; said, row.3);
+        let said = judged(rt, alloc, book, (row.0, row.1, row.2));
+        expect_same(rt, said, row.3);
     }
-    Ok(())
 }
 
 #[test]
-fn judged_answers(rt: HostRuntime) -> Result<(), Fail> {
+fn judged_answers(rt: HostRuntime) {
     let alloc = rt.alloc();
-    let links = links_to_cut(&rt, alloc, 3, EQUAL_WEIGHTS.arcs)?;
+    let links = links_to_cut(&rt, alloc, 3, EQUAL_WEIGHTS.arcs);
     let cut = Cut::even(alloc, links.as_slice(), 1).expect(&rt, "a cut");
-    let labels = Labels::apart(alloc, 3)?;
-    let mut book = opened(&rt, alloc, &cut, 1, &labels)?;
+    let labels = Labels::apart(alloc, 3).expect(&rt, "memory");
+    let mut book = opened(&rt, alloc, &cut, 1, &labels);
     assert!(rt; 0 < book.len() && book.is_missing(0));
     let light = [(1, 0), (2, 0), (3, 2)];
     expect_judged(
@@ -154,26 +146,27 @@ fn judged_answers(rt: HostRuntime) -> Result<(), Fail> {
             (1, 0, &light, Ok(())),
             (1, 0, &[(1, 0), (2, 0), (3, 1)], Ok(())),
         ],
-    )?;
-    assert_eq!(rt; book.take(0, answer(&rt, alloc, 1, 0, &light)?), Ok(()));
+    );
+    let first = answer(&rt, alloc, 1, 0, &light);
+    expect_same(&rt, book.take(0, first), Ok(()));
     assert!(rt; 0 < book.len() && !book.is_missing(0));
-    Ok(expect_judged(&rt, alloc, &book, &[(1, 0, &light, Err(Refusal::Double))])?)
+    expect_judged(&rt, alloc, &book, &[(1, 0, &light, Err(Refusal::Double))])
 }
 
 // What the judge allows is taken without a second look, and can't be taken again.
 #[test]
-fn an_answer_that_was_judged(rt: HostRuntime) -> Result<(), Fail> {
+fn an_answer_that_was_judged(rt: HostRuntime) {
     let alloc = rt.alloc();
-    let links = links_to_cut(&rt, alloc, 3, EQUAL_WEIGHTS.arcs)?;
+    let links = links_to_cut(&rt, alloc, 3, EQUAL_WEIGHTS.arcs);
     let cut = Cut::even(alloc, links.as_slice(), 1).expect(&rt, "a cut");
-    let labels = Labels::apart(alloc, 3)?;
-    let mut book = opened(&rt, alloc, &cut, 1, &labels)?;
+    let labels = Labels::apart(alloc, 3).expect(&rt, "memory");
+    let mut book = opened(&rt, alloc, &cut, 1, &labels);
     let light = [(1, 0), (2, 0), (3, 2)];
-    let first = answer(&rt, alloc, 1, 0, &light)?;
+    let first = answer(&rt, alloc, 1, 0, &light);
     assert!(rt; first.shard == 0 && 0 < book.len() && book.judge(0, &first).is_ok());
     book.take_allowed(first);
     assert!(rt; 0 < book.len() && !book.is_missing(0) && book.missing() == 0);
-    Ok(expect_judged(&rt, alloc, &book, &[(1, 0, &light, Err(Refusal::Double))])?)
+    expect_judged(&rt, alloc, &book, &[(1, 0, &light, Err(Refusal::Double))])
 }
 
 // In the path's first round each vertex picks the link to its neighbour.
@@ -190,11 +183,11 @@ fn are_pairs(picks: &Picks) -> bool
 
 // The picks are the same once its three shards have answered, in whatever order.
 #[test]
-fn answers_in_any_order(rt: HostRuntime) -> Result<(), Fail> {
+fn answers_in_any_order(rt: HostRuntime) {
     let alloc = rt.alloc();
-    let links = links_to_cut(&rt, alloc, 8, A_PATH_OF_EIGHT.arcs)?;
+    let links = links_to_cut(&rt, alloc, 8, A_PATH_OF_EIGHT.arcs);
     let cut = Cut::even(alloc, links.as_slice(), 3).expect(&rt, "a cut");
-    let labels = Labels::apart(alloc, 8)?;
+    let labels = Labels::apart(alloc, 8).expect(&rt, "memory");
     assert!(rt; labels.n() == 8);
     let orders = [
         [0, 1, 2],
@@ -205,11 +198,10 @@ fn answers_in_any_order(rt: HostRuntime) -> Result<(), Fail> {
         [2, 1, 0],
     ];
     for order in orders {
-        let book = opened(&rt, alloc, &cut, 1, &labels)?;
-        let picks = picks_of_scans(&rt, alloc, book, &order)?;
-        assert!(rt; are_pairs(&picks));
+        let book = opened(&rt, alloc, &cut, 1, &labels);
+        let picks = picks_of_scans(&rt, alloc, book, &order);
+        expect_same(&rt, are_pairs(&picks), true);
     }
-    Ok(())
 }
 
 // In the first round of the triangle 1 and 2 pick the link between them, and 3 that to 1.
@@ -222,18 +214,17 @@ fn are_of_triangle(picks: &Picks) -> bool
 
 // A book takes any number for its round's, those too that no run over so few vertices comes to: the picks are the same.
 #[test]
-fn books_of_late_rounds(rt: HostRuntime) -> Result<(), Fail> {
+fn books_of_late_rounds(rt: HostRuntime) {
     let alloc = rt.alloc();
-    let links = links_to_cut(&rt, alloc, 3, EQUAL_WEIGHTS.arcs)?;
+    let links = links_to_cut(&rt, alloc, 3, EQUAL_WEIGHTS.arcs);
     let cut = Cut::even(alloc, links.as_slice(), 1).expect(&rt, "a cut");
-    let labels = Labels::apart(alloc, 3)?;
+    let labels = Labels::apart(alloc, 3).expect(&rt, "memory");
     assert!(rt; labels.n() == 3);
     for round in [14, 15, 26, 27, u32::MAX] {
-        let book = opened(&rt, alloc, &cut, round, &labels)?;
-        let picks = picks_of_offers(&rt, alloc, book, &[&[(1, 0), (2, 0), (3, 2)]])?;
-        assert!(rt; are_of_triangle(&picks));
+        let book = opened(&rt, alloc, &cut, round, &labels);
+        let picks = picks_of_offers(&rt, alloc, book, &[&[(1, 0), (2, 0), (3, 2)]]);
+        expect_same(&rt, are_of_triangle(&picks), true);
     }
-    Ok(())
 }
 
 // Where 2 and 3 are joined, both components pick the link from 1 to 2, and 3 names none.
@@ -247,13 +238,15 @@ fn are_of_two(picks: &Picks) -> bool
 // Each vertex of the triangle is its own label but the last, which is joined to the second: the link between these is none
 // to offer, and the other two leave the second's label and not the last's own.
 #[test]
-fn the_last_vertex_is_joined(rt: HostRuntime) -> Result<(), Fail> {
+fn the_last_vertex_is_joined(rt: HostRuntime) {
     let alloc = rt.alloc();
-    let links = links_to_cut(&rt, alloc, 3, EQUAL_WEIGHTS.arcs)?;
+    let links = links_to_cut(&rt, alloc, 3, EQUAL_WEIGHTS.arcs);
     let cut = Cut::even(alloc, links.as_slice(), 1).expect(&rt, "a cut");
-    let labels = Labels::of_list(Vec::from_slice(alloc, &[1, 2, 2])?).expect(&rt, "labels");
+    let labels = Labels::of_list(Vec::from_slice(alloc, &[1, 2, 2]).expect(&rt, "memory")).expect(
+        &rt, "labels",
+    );
     assert!(rt; labels.n() == 3);
-    let book = opened(&rt, alloc, &cut, 2, &labels)?;
+    let book = opened(&rt, alloc, &cut, 2, &labels);
     expect_judged(
         &rt,
         alloc,
@@ -264,40 +257,32 @@ fn the_last_vertex_is_joined(rt: HostRuntime) -> Result<(), Fail> {
             (2, 0, &[(3, 2)], Err(Refusal::NotALink)),
             (2, 0, &[(1, 0), (2, 2)], Ok(())),
         ],
-    )?;
-    let picks = picks_of_offers(&rt, alloc, book, &[&[(1, 2), (2, 0)]])?;
-    assert!(rt; are_of_two(&picks));
-    Ok(())
+    );
+    let picks = picks_of_offers(&rt, alloc, book, &[&[(1, 2), (2, 0)]]);
+    expect_same(&rt, are_of_two(&picks), true);
 }
 
 // It has this text.
-pub(crate) fn expect_text(
-    rt: &impl Abort,
-    alloc: Global,
-    fault: &impl Display,
-    text: &str,
-) -> Result<(), Fail> {
-    let shown = format!(in alloc; "{fault}")?;
-    assert_eq!(rt; shown.as_str(), text);
-    Ok(())
+pub(crate) fn expect_text(rt: &impl Abort, alloc: Global, fault: &impl Display, text: &str) {
+    let shown = format!(in alloc; "{fault}").expect(rt, "memory");
+    expect_same(rt, shown.as_str(), text);
 }
 
 // What several threads may read at once.
 fn lent<B: Sync>(_book: &B) {}
 
 #[test]
-fn a_book_is_lent_to_threads(rt: HostRuntime) -> Result<(), Fail> {
+fn a_book_is_lent_to_threads(rt: HostRuntime) {
     let alloc = rt.alloc();
     let cut = Cut::even(alloc, &[], 2).expect(&rt, "a cut");
-    let labels = Labels::apart(alloc, 1)?;
-    let book = opened(&rt, alloc, &cut, 1, &labels)?;
+    let labels = Labels::apart(alloc, 1).expect(&rt, "memory");
+    let book = opened(&rt, alloc, &cut, 1, &labels);
     lent(&book);
-    assert_eq!(rt; book.missing(), 2);
-    Ok(())
+    expect_same(&rt, book.missing(), 2);
 }
 
 #[test]
-fn texts_of_refusals(rt: HostRuntime) -> Result<(), Fail> {
+fn texts_of_refusals(rt: HostRuntime) {
     let texts = [
         (Refusal::Stale, "answer of another round"),
         (Refusal::Stranger, "answer for another shard"),
@@ -305,7 +290,6 @@ fn texts_of_refusals(rt: HostRuntime) -> Result<(), Fail> {
         (Refusal::NotALink, "offer of no outgoing link"),
     ];
     for (refusal, text) in texts {
-        expect_text(&rt, rt.alloc(), &refusal, text)?;
+        expect_text(&rt, rt.alloc(), &refusal, text);
     }
-    Ok(())
 }

@@ -1,11 +1,14 @@
 // A solver's steps on the worked graphs, and whole runs by one thread.
+ghost use Rattle.std.specs.Prelude.{◌≡◌, length};
+ghost use Rattle.round_core.specs.Picks.{ArePicksOfHearings};
+
 use super::closing::paths;
 use super::rounds::{expect_text, links_to_cut, opened, picks_of_offers, picks_of_scans};
+use super::same::expect_same;
 use link_key::{Cut, Forest, Labels, Link};
-use round_core::{SolveFault, Solver, Turn, solve_alone};
-use std::alloc::{AllocError, Global};
+use round_core::{Picks, SolveFault, Solver, Turn, solve_alone};
+use std::alloc::Global;
 use std::process::Abort;
-use std::test::Fail;
 use std::thread::Threads;
 use worked_graphs::{
     A_PATH_OF_EIGHT, EQUAL_WEIGHTS, Row, SMALL_NET, WIDE_WEIGHTS, all_have_labels, links_of,
@@ -29,26 +32,31 @@ fn bytes_kept(labels: &Labels) -> Option<usize> {
     labels.spelled().map(|bytes| bytes.len())
 }
 
+// The picks of the solver's next round, where the cut's shards are scanned in this order.
+fn next_picks(rt: &impl Abort, alloc: Global, cut: &Cut, order: &[u32], solver: &Solver) -> Picks
+    ensures heard { ArePicksOfHearings solver.now.labels result }
+    ensures each_vertex { length result ≡ length solver.now.labels }
+{
+    let book = opened(rt, alloc, cut, solver.round(), solver.labels());
+    picks_of_scans(rt, alloc, book, order)
+}
+
 // A round whose shards are scanned in this order. The labels keep their bytes from its beginning until others are made.
-fn step(
-    rt: &impl Abort,
-    alloc: Global,
-    cut: &Cut,
-    order: &[u32],
-    solver: &mut Solver,
-) -> Result<Turn, Fail> {
-    let before = solver.labels().as_slice().to_vec(alloc)?;
-    solver.spell_labels()?;
-    assert!(rt; solver.labels().as_slice() == before.as_slice());
-    assert_eq!(rt;
-        bytes_kept(solver.labels()),
-        Some(before.len().wrapping_mul(4))
-    );
-    let book = opened(rt, alloc, cut, solver.round(), solver.labels())?;
-    let picks = picks_of_scans(rt, alloc, book, order)?;
+fn step(rt: &impl Abort, alloc: Global, cut: &Cut, order: &[u32], solver: &mut Solver) -> Turn {
+    let before = solver
+        .labels()
+        .as_slice()
+        .to_vec(alloc)
+        .expect(rt, "memory");
+    solver.spell_labels().expect(rt, "memory");
+    expect_same(rt, solver.labels().as_slice() == before.as_slice(), true);
+    let bytes = Some(before.len().wrapping_mul(4));
+    expect_same(rt, bytes_kept(solver.labels()), bytes);
+    let picks = next_picks(rt, alloc, cut, order, solver);
     let turn = solver.step(&picks).expect(rt, "a turn");
-    assert!(rt; turn == Turn::Done || bytes_kept(solver.labels()).is_none());
-    Ok(turn)
+    let keeps_none = bytes_kept(solver.labels()).is_none();
+    expect_same(rt, turn == Turn::Done || keeps_none, true);
+    turn
 }
 
 // A step by threads does what one in one thread does, keeps the labels' bytes as those of the labels, and leaves no pick.
@@ -58,16 +66,19 @@ fn expect_same_step<R: Abort + Threads + Sync>(
     cut: &Cut,
     one: &mut Solver,
     many: &mut Solver,
-) -> Result<Turn, Fail> {
-    let book = opened(rt, alloc, cut, one.round(), one.labels())?;
-    let picks = picks_of_scans(rt, alloc, book, &[0])?;
-    let book = opened(rt, alloc, cut, many.round(), many.labels())?;
-    let mut same = picks_of_scans(rt, alloc, book, &[0])?;
+) -> Turn {
+    let picks = next_picks(rt, alloc, cut, &[0], one);
+    let mut same = next_picks(rt, alloc, cut, &[0], many);
     let turn = one.step(&picks).expect(rt, "a turn");
-    assert!(rt; many.step_par(rt, &mut same).expect(rt, "a turn") == turn);
-    assert!(rt; same.is_empty() && many.labels().as_slice() == one.labels().as_slice());
-    assert!(rt; have_their_bytes(many.labels()));
-    Ok(turn)
+    let by_threads = many.step_par(rt, &mut same).expect(rt, "a turn");
+    expect_same(rt, (by_threads, same.is_empty()), (turn, true));
+    expect_same(
+        rt,
+        many.labels().as_slice() == one.labels().as_slice(),
+        true,
+    );
+    expect_same(rt, have_their_bytes(many.labels()), true);
+    turn
 }
 
 // Whether the labels' bytes are kept, and are theirs: four of each, the highest first.
@@ -85,102 +96,86 @@ fn have_their_bytes(labels: &Labels) -> bool {
 }
 
 // All steps over a path of so many vertices by threads and in one, and the forests at their ends.
-fn expect_same_steps<R: Abort + Threads + Sync>(rt: &R, alloc: Global, n: u32) -> Result<(), Fail> {
+fn expect_same_steps<R: Abort + Threads + Sync>(rt: &R, alloc: Global, n: u32) {
     assert!(rt; 1 < n && n <= 1 << 20);
-    let links = paths(rt, alloc, n, 1)?;
+    let links = paths(rt, alloc, n, 1);
     let cut = Cut::even(alloc, links.as_slice(), 1).expect(rt, "a cut");
-    let mut one = Solver::new(alloc, n)?;
-    let mut many = Solver::new(alloc, n)?;
-    many.spell_labels()?;
+    let mut one = Solver::new(alloc, n).expect(rt, "memory");
+    let mut many = Solver::new(alloc, n).expect(rt, "memory");
+    many.spell_labels().expect(rt, "memory");
     let mut turn = Turn::Merged(0);
     for _ in 0..20 {
         if turn == Turn::Done {
             break;
         }
-        turn = expect_same_step(rt, alloc, &cut, &mut one, &mut many)?;
+        turn = expect_same_step(rt, alloc, &cut, &mut one, &mut many);
     }
-    assert!(rt; turn == Turn::Done && one.round() == many.round());
+    expect_same(rt, (turn, one.round()), (Turn::Done, many.round()));
     assert!(rt;
         all_have_labels(&cut, one.labels().n()) && all_have_labels(&cut, many.labels().n())
     );
     let found = many.finish(&cut).expect(rt, "a forest");
-    assert!(rt; found.links() == one.finish(&cut).expect(rt, "a forest").links());
-    Ok(())
+    let alone = one.finish(&cut).expect(rt, "a forest");
+    expect_same(rt, found.links() == alone.links(), true);
 }
 
 // Too few vertices for threads; as many roots as one thread takes the links of, and one more; and so many that each part has
 // a thread: of the roots, and of the labels too.
 #[test]
-fn steps_by_threads(rt: HostRuntime) -> Result<(), Fail> {
+fn steps_by_threads(rt: HostRuntime) {
     for n in [40, 16_383, 16_384, 140_001] {
-        expect_same_steps(&rt, rt.alloc(), n)?;
+        expect_same_steps(&rt, rt.alloc(), n);
     }
-    Ok(())
 }
 
 // From vertices that are apart these steps are taken over the cut. The solver behind them.
-fn taken(
-    rt: &impl Abort,
-    alloc: Global,
-    n: u32,
-    cut: &Cut,
-    steps: &[Step],
-) -> Result<Solver, Fail> {
+fn taken(rt: &impl Abort, alloc: Global, n: u32, cut: &Cut, steps: &[Step]) -> Solver {
     assert!(rt; n <= 1 << 26);
-    let mut solver = Solver::new(alloc, n)?;
+    let mut solver = Solver::new(alloc, n).expect(rt, "memory");
     let mut round = 1u32;
     for (order, expected, behind) in steps {
-        assert_eq!(rt; solver.round(), round);
-        let turn = step(rt, alloc, cut, order, &mut solver)?;
-        assert!(rt; turn == *expected && solver.labels().as_slice() == *behind);
+        expect_same(rt, solver.round(), round);
+        let turn = step(rt, alloc, cut, order, &mut solver);
+        let same = solver.labels().as_slice() == *behind;
+        expect_same(rt, (turn, same), (*expected, true));
         round = round.wrapping_add(if turn == Turn::Done { 0 } else { 1 });
     }
-    assert_eq!(rt; solver.round(), round);
-    Ok(solver)
+    expect_same(rt, solver.round(), round);
+    solver
 }
 
 // The rounds go so, and lead to the forest.
-fn expect_rounds(
-    rt: &(impl Abort + Threads + Sync),
-    alloc: Global,
-    rounds: Rounds,
-) -> Result<(), Fail> {
+fn expect_rounds(rt: &(impl Abort + Threads + Sync), alloc: Global, rounds: Rounds) {
     let n = rounds.n;
-    let links = links_to_cut(rt, alloc, n, rounds.arcs)?;
+    let links = links_to_cut(rt, alloc, n, rounds.arcs);
     let cut = Cut::at(alloc, links.as_slice(), rounds.places).expect(rt, "a cut");
-    let solver = taken(rt, alloc, n, &cut, rounds.steps)?;
+    let solver = taken(rt, alloc, n, &cut, rounds.steps);
     assert!(rt; all_have_labels(&cut, solver.labels().n()));
     let found = solver.finish(&cut).expect(rt, "a forest");
-    expect_links(rt, alloc, &found, n, rounds.forest)?;
+    expect_links(rt, alloc, &found, n, rounds.forest);
     let by_threads = solver.finish_par(rt, &cut).expect(rt, "a forest");
-    assert!(rt; by_threads.links() == found.links());
-    Ok(())
+    expect_same(rt, by_threads.links() == found.links(), true);
 }
 
 // The forest has the links of these arcs.
-pub(crate) fn expect_links(
-    rt: &impl Abort,
-    alloc: Global,
-    found: &Forest,
-    n: u32,
-    arcs: &[Row],
-) -> Result<(), Fail> {
-    let links = links_of(alloc, n, arcs)?.expect(rt, "arcs");
-    assert!(rt; found.links() == links.as_slice());
-    Ok(())
+pub(crate) fn expect_links(rt: &impl Abort, alloc: Global, found: &Forest, n: u32, arcs: &[Row]) {
+    let links = links_of(alloc, n, arcs)
+        .expect(rt, "memory")
+        .expect(rt, "arcs");
+    expect_same(rt, found.links() == links.as_slice(), true);
 }
 
 // The shards of a cut in their order.
-fn ascending(alloc: Global, count: u32) -> Result<Vec<u32>, AllocError> {
+fn ascending(rt: &impl Abort, alloc: Global, count: u32) -> Vec<u32> {
     let mut order = Vec::new(alloc);
     for shard in 0..count {
-        order.push(shard)?;
+        order.push(shard).expect(rt, "memory");
     }
-    Ok(order)
+    order
 }
 
 #[test]
-fn steps_on_the_small_net(rt: HostRuntime) -> Result<(), Fail> {
+fn steps_on_the_small_net(rt: HostRuntime) {
     let merged = [1, 2, 1, 1, 2, 1].as_slice();
     let ones = [1; 6].as_slice();
     let steps: [Step; 3] = [
@@ -200,10 +195,10 @@ fn steps_on_the_small_net(rt: HostRuntime) -> Result<(), Fail> {
 
 // No vertex, one, and two, in one shard and in as many as there may be: cut at no place, and at 4,095.
 #[test]
-fn steps_at_their_bounds(rt: HostRuntime) -> Result<(), Fail> {
+fn steps_at_their_bounds(rt: HostRuntime) {
     let alloc = rt.alloc();
     let places = [0; 4095];
-    let order = ascending(alloc, 4096)?;
+    let order = ascending(&rt, alloc, 4096);
     let graphs: [(u32, &[Row], Turn, &[u32]); 3] = [
         (0, &[], Turn::Done, &[]),
         (1, &[], Turn::Done, &[1]),
@@ -220,10 +215,9 @@ fn steps_at_their_bounds(rt: HostRuntime) -> Result<(), Fail> {
                 steps: &steps,
                 forest: arcs,
             };
-            expect_rounds(&rt, alloc, rounds)?;
+            expect_rounds(&rt, alloc, rounds);
         }
     }
-    Ok(())
 }
 
 // Four vertices with the greatest and the least weight that there are, and its forest's links. Vertices 1 and 2 are
@@ -240,7 +234,7 @@ pub(crate) const LIMITS: [Row; 5] = [
 pub(crate) const LIMITS_FOREST: [Row; 3] = [(3, 4, i64::MIN), (1, 2, i64::MAX), (1, 4, i64::MAX)];
 
 #[test]
-fn steps_at_both_limits_of_weights(rt: HostRuntime) -> Result<(), Fail> {
+fn steps_at_both_limits_of_weights(rt: HostRuntime) {
     let pairs = [1, 1, 3, 3].as_slice();
     let ones = [1; 4].as_slice();
     let steps: [Step; 3] = [
@@ -256,9 +250,8 @@ fn steps_at_both_limits_of_weights(rt: HostRuntime) -> Result<(), Fail> {
             steps: &steps,
             forest: &LIMITS_FOREST,
         };
-        expect_rounds(&rt, rt.alloc(), rounds)?;
+        expect_rounds(&rt, rt.alloc(), rounds);
     }
-    Ok(())
 }
 
 // A round whose only answer offers these.
@@ -268,31 +261,31 @@ fn offer(
     cut: &Cut,
     solver: &mut Solver,
     pairs: &[(u32, u32)],
-) -> Result<Result<Turn, SolveFault>, Fail> {
-    let book = opened(rt, alloc, cut, solver.round(), solver.labels())?;
-    let picks = picks_of_offers(rt, alloc, book, &[pairs])?;
-    Ok(solver.step(&picks))
+) -> Result<Turn, SolveFault> {
+    let book = opened(rt, alloc, cut, solver.round(), solver.labels());
+    let picks = picks_of_offers(rt, alloc, book, &[pairs]);
+    solver.step(&picks)
 }
 
 // A worker that offers one link a round, and hides the third: three vertices can't have a second merging round.
 #[test]
-fn a_round_past_the_bound(rt: HostRuntime) -> Result<(), Fail> {
+fn a_round_past_the_bound(rt: HostRuntime) {
     let alloc = rt.alloc();
-    let links = links_to_cut(&rt, alloc, EQUAL_WEIGHTS.n, EQUAL_WEIGHTS.arcs)?;
+    let links = links_to_cut(&rt, alloc, EQUAL_WEIGHTS.n, EQUAL_WEIGHTS.arcs);
     let cut = Cut::even(alloc, links.as_slice(), 1).expect(&rt, "a cut");
-    let mut solver = Solver::new(alloc, 3)?;
+    let mut solver = Solver::new(alloc, 3).expect(&rt, "memory");
     let rounds = [
         ((1, 0), Ok(Turn::Merged(1))),
         ((3, 1), Err(SolveFault::Rounds { round: 2 })),
     ];
     for (pair, expected) in rounds {
-        let said = offer(&rt, alloc, &cut, &mut solver, &[pair])?;
-        assert!(rt; said == expected && solver.labels().as_slice() == [1, 1, 3].as_slice());
-        assert_eq!(rt; solver.round(), 2);
+        let said = offer(&rt, alloc, &cut, &mut solver, &[pair]);
+        expect_same(&rt, said, expected);
+        expect_same(&rt, solver.labels().as_slice(), [1, 1, 3].as_slice());
+        expect_same(&rt, solver.round(), 2);
     }
     expect_missed(&rt, &solver, &cut, Link::of_arc(2, 3, 5));
     expect_missed_by_threads(&rt, solver, &cut, Link::of_arc(2, 3, 5));
-    Ok(())
 }
 
 // The same where threads look for the link.
@@ -304,65 +297,55 @@ fn expect_missed_by_threads(
 ) {
     assert!(rt; all_have_labels(cut, solver.labels().n()));
     let missed = solver.finish_par(rt, cut).err();
-    assert!(rt; is_missed(missed, expected));
+    expect_same(rt, is_missed(missed, expected), true);
 }
 
 // Offers of the first so many links of a path, each for the higher of its ends.
-fn first_pairs(alloc: Global, count: u32) -> Result<Vec<(u32, u32)>, AllocError> {
+fn first_pairs(rt: &impl Abort, alloc: Global, count: u32) -> Vec<(u32, u32)> {
     let mut pairs = Vec::new(alloc);
     for place in 0..count {
-        pairs.push((place.wrapping_add(2), place))?;
+        pairs
+            .push((place.wrapping_add(2), place))
+            .expect(rt, "memory");
     }
-    Ok(pairs)
+    pairs
 }
 
 // A solver that took what these offers pick.
-fn solver_behind(
-    rt: &impl Abort,
-    alloc: Global,
-    cut: &Cut,
-    pairs: &[(u32, u32)],
-) -> Result<Solver, Fail> {
-    let mut solver = Solver::new(alloc, 70_001)?;
-    let said = offer(rt, alloc, cut, &mut solver, pairs)?;
-    assert!(rt; said.is_ok());
-    Ok(solver)
+fn solver_behind(rt: &impl Abort, alloc: Global, cut: &Cut, pairs: &[(u32, u32)]) -> Solver {
+    let mut solver = Solver::new(alloc, 70_001).expect(rt, "memory");
+    let said = offer(rt, alloc, cut, &mut solver, pairs);
+    expect_same(rt, said.is_ok(), true);
+    solver
 }
 
 // The first of the links behind so many is missed.
-fn expect_first_missed(
-    rt: &(impl Abort + Threads + Sync),
-    alloc: Global,
-    cut: &Cut,
-    count: u32,
-) -> Result<(), Fail> {
-    let pairs = first_pairs(alloc, count)?;
-    let solver = solver_behind(rt, alloc, cut, pairs.as_slice())?;
+fn expect_first_missed(rt: &(impl Abort + Threads + Sync), alloc: Global, cut: &Cut, count: u32) {
+    let pairs = first_pairs(rt, alloc, count);
+    let solver = solver_behind(rt, alloc, cut, pairs.as_slice());
     let first = count.wrapping_add(1);
     assert!(rt; 0 < first && first < 1 << 20);
     expect_missed_by_threads(rt, solver, cut, Link::of_arc(first, first + 1, 1));
-    Ok(())
 }
 
 // Of a path of so many links the first ones alone are offered. The first of the others is missed, in whichever part of
 // the list threads look for it.
 #[test]
-fn the_first_missed_of_many_links(rt: HostRuntime) -> Result<(), Fail> {
+fn the_first_missed_of_many_links(rt: HostRuntime) {
     let alloc = rt.alloc();
-    let arcs = path(alloc, 70_000)?;
-    let links = links_to_cut(&rt, alloc, 70_001, arcs.as_slice())?;
+    let arcs = path(&rt, alloc, 70_000);
+    let links = links_to_cut(&rt, alloc, 70_001, arcs.as_slice());
     let cut = Cut::even(alloc, links.as_slice(), 1).expect(&rt, "a cut");
     for count in [0, 1, 34_999, 35_000, 35_001, 69_999] {
-        expect_first_missed(&rt, alloc, &cut, count)?;
+        expect_first_missed(&rt, alloc, &cut, count);
     }
-    Ok(())
 }
 
 // The links picked, where one worker offers one of the triangle's links for one of its components.
 #[test]
-fn picks_of_one_offer(rt: HostRuntime) -> Result<(), Fail> {
+fn picks_of_one_offer(rt: HostRuntime) {
     let alloc = rt.alloc();
-    let links = links_to_cut(&rt, alloc, EQUAL_WEIGHTS.n, EQUAL_WEIGHTS.arcs)?;
+    let links = links_to_cut(&rt, alloc, EQUAL_WEIGHTS.n, EQUAL_WEIGHTS.arcs);
     let cut = Cut::even(alloc, links.as_slice(), 1).expect(&rt, "a cut");
     let (first, second) = (Link::of_arc(1, 2, 5), Link::of_arc(2, 3, 5));
     let rounds = [
@@ -370,20 +353,22 @@ fn picks_of_one_offer(rt: HostRuntime) -> Result<(), Fail> {
         ([1, 1, 3], (3, 1), [second, None, second]),
     ];
     for (labels, pair, expected) in rounds {
-        let labels = Labels::of_list(labels.to_vec(alloc)?).expect(&rt, "labels");
+        let labels = Labels::of_list(labels.to_vec(alloc).expect(&rt, "memory")).expect(
+            &rt, "labels",
+        );
         assert!(rt; labels.n() == 3);
-        let book = opened(&rt, alloc, &cut, 1, &labels)?;
-        let picks = picks_of_offers(&rt, alloc, book, &[&[pair]])?;
-        assert!(rt; [picks.of(1), picks.of(2), picks.of(3)] == expected);
+        let book = opened(&rt, alloc, &cut, 1, &labels);
+        let picks = picks_of_offers(&rt, alloc, book, &[&[pair]]);
+        let found = [picks.of(1), picks.of(2), picks.of(3)];
+        expect_same(&rt, found, expected);
     }
-    Ok(())
 }
 
 // The links picked under these labels of four vertices, where both limits of weights are met.
 #[test]
-fn picks_at_both_limits_of_weights(rt: HostRuntime) -> Result<(), Fail> {
+fn picks_at_both_limits_of_weights(rt: HostRuntime) {
     let alloc = rt.alloc();
-    let links = links_to_cut(&rt, alloc, 4, &LIMITS)?;
+    let links = links_to_cut(&rt, alloc, 4, &LIMITS);
     let cut = Cut::even(alloc, links.as_slice(), 2).expect(&rt, "a cut");
     let greatest = Link::of_arc(1, 2, i64::MAX);
     let least = Link::of_arc(3, 4, i64::MIN);
@@ -394,20 +379,22 @@ fn picks_at_both_limits_of_weights(rt: HostRuntime) -> Result<(), Fail> {
         ([1, 1, 1, 1], [None; 4]),
     ];
     for (labels, expected) in rounds {
-        let labels = Labels::of_list(labels.to_vec(alloc)?).expect(&rt, "labels");
+        let labels = Labels::of_list(labels.to_vec(alloc).expect(&rt, "memory")).expect(
+            &rt, "labels",
+        );
         assert!(rt; labels.n() == 4);
-        let book = opened(&rt, alloc, &cut, 1, &labels)?;
-        let picks = picks_of_scans(&rt, alloc, book, &[1, 0])?;
-        assert!(rt; [picks.of(1), picks.of(2), picks.of(3), picks.of(4)] == expected);
+        let book = opened(&rt, alloc, &cut, 1, &labels);
+        let picks = picks_of_scans(&rt, alloc, book, &[1, 0]);
+        let found = [picks.of(1), picks.of(2), picks.of(3), picks.of(4)];
+        expect_same(&rt, found, expected);
     }
-    Ok(())
 }
 
 // The links that the solver took miss this link of the cut.
 fn expect_missed(rt: &impl Abort, solver: &Solver, cut: &Cut, expected: Option<Link>) {
     assert!(rt; all_have_labels(cut, solver.labels().n()));
     let missed = solver.finish(cut).err();
-    assert!(rt; is_missed(missed, expected));
+    expect_same(rt, is_missed(missed, expected), true);
 }
 
 fn is_missed(fault: Option<SolveFault>, expected: Option<Link>) -> bool {
@@ -421,47 +408,49 @@ fn is_missed(fault: Option<SolveFault>, expected: Option<Link>) -> bool {
 type Alone<'a> = (u32, &'a [Row], u32, &'a [Row], u32);
 
 // One thread finds the forest in so many merging rounds.
-fn expect_alone(rt: &impl Abort, alloc: Global, run: Alone) -> Result<(), Fail> {
+fn expect_alone(rt: &impl Abort, alloc: Global, run: Alone) {
     let (n, arcs, shards, forest, merging) = run;
-    let links = links_to_cut(rt, alloc, n, arcs)?;
+    let links = links_to_cut(rt, alloc, n, arcs);
     let cut = Cut::even(alloc, links.as_slice(), shards).expect(rt, "a cut");
     assert!(rt; n <= 1 << 26 && all_have_labels(&cut, n));
     let (found, rounds) = solve_alone(alloc, n, &cut).expect(rt, "a forest");
-    assert_eq!(rt; rounds, merging);
+    expect_same(rt, rounds, merging);
     expect_links(rt, alloc, &found, n, forest)
 }
 
 // The path of so many arcs of one weight.
-pub(crate) fn path(alloc: Global, count: u32) -> Result<Vec<Row>, AllocError> {
+pub(crate) fn path(rt: &impl Abort, alloc: Global, count: u32) -> Vec<Row> {
     let mut arcs = Vec::new(alloc);
     for v in 0..count {
         let first = v.wrapping_add(1);
-        arcs.push((first, first.wrapping_add(1), 1))?;
+        arcs.push((first, first.wrapping_add(1), 1))
+            .expect(rt, "memory");
     }
-    Ok(arcs)
+    arcs
 }
 
 // The path of 2^16 vertices whose arc behind vertex v is as heavy as 2 divides v often, by weight: each round makes
 // components of twice as many vertices.
-fn doubling_path(alloc: Global) -> Result<Vec<Row>, AllocError> {
+fn doubling_path(rt: &impl Abort, alloc: Global) -> Vec<Row> {
     let mut arcs = Vec::new(alloc);
     for weight in 0..16u32 {
         for pair in 0..32_768u32 >> weight {
             let v = pair.wrapping_mul(2).wrapping_add(1).wrapping_shl(weight);
-            arcs.push((v, v.wrapping_add(1), i64::from(weight)))?;
+            arcs.push((v, v.wrapping_add(1), i64::from(weight)))
+                .expect(rt, "memory");
         }
     }
-    Ok(arcs)
+    arcs
 }
 
 // Of the path of eight pairs after one round, fours after two, and one component after three. Of a path of one weight
 // each vertex but the first picks the link to the one before it, so one round merges them all.
 #[test]
-fn runs_alone(rt: HostRuntime) -> Result<(), Fail> {
+fn runs_alone(rt: HostRuntime) {
     let alloc = rt.alloc();
     let eight = A_PATH_OF_EIGHT;
-    let path = path(alloc, 10_000)?;
-    let doubling = doubling_path(alloc)?;
+    let path = path(&rt, alloc, 10_000);
+    let doubling = doubling_path(&rt, alloc);
     let wide = WIDE_WEIGHTS;
     let runs: [Alone; 11] = [
         (0, &[], 1, &[], 0),
@@ -477,18 +466,17 @@ fn runs_alone(rt: HostRuntime) -> Result<(), Fail> {
         (65_536, doubling.as_slice(), 64, doubling.as_slice(), 16),
     ];
     for run in runs {
-        expect_alone(&rt, alloc, run)?;
+        expect_alone(&rt, alloc, run);
     }
-    Ok(())
 }
 
 #[test]
-fn steps_over_ten_thousand_links(rt: HostRuntime) -> Result<(), Fail> {
+fn steps_over_ten_thousand_links(rt: HostRuntime) {
     let alloc = rt.alloc();
-    let path = path(alloc, 10_000)?;
+    let path = path(&rt, alloc, 10_000);
     let mut ones = Vec::new(alloc);
     for _ in 0..10_001u32 {
-        ones.push(1)?;
+        ones.push(1).expect(&rt, "memory");
     }
     let (path, ones) = (path.as_slice(), ones.as_slice());
     let steps: [Step; 2] = [
@@ -506,28 +494,29 @@ fn steps_over_ten_thousand_links(rt: HostRuntime) -> Result<(), Fail> {
 }
 
 // The path of so many arcs, each of them so many times as heavy as the vertex that it leaves.
-fn weighted_path(alloc: Global, count: u32, times: i64) -> Result<Vec<Row>, AllocError> {
+fn weighted_path(rt: &impl Abort, alloc: Global, count: u32, times: i64) -> Vec<Row> {
     let mut arcs = Vec::new(alloc);
     for v in 0..count {
         let first = v.wrapping_add(1);
         let weight = i64::from(first).wrapping_mul(times);
-        arcs.push((first, first.wrapping_add(1), weight))?;
+        arcs.push((first, first.wrapping_add(1), weight))
+            .expect(rt, "memory");
     }
-    Ok(arcs)
+    arcs
 }
 
 // Chains of picks as long as the path: where weights ascend each vertex but the first picks the link to the one before
 // it, and where they descend each but the last the link to the one behind it. One round merges all either way.
 #[test]
-fn steps_along_chains_of_picks(rt: HostRuntime) -> Result<(), Fail> {
+fn steps_along_chains_of_picks(rt: HostRuntime) {
     let alloc = rt.alloc();
     let mut ones = Vec::new(alloc);
     for _ in 0..70_000u32 {
-        ones.push(1)?;
+        ones.push(1).expect(&rt, "memory");
     }
     for times in [1, -1] {
-        let arcs = weighted_path(alloc, 69_999, times)?;
-        let mut forest = arcs.as_slice().to_vec(alloc)?;
+        let arcs = weighted_path(&rt, alloc, 69_999, times);
+        let mut forest = arcs.as_slice().to_vec(alloc).expect(&rt, "memory");
         if times < 0 {
             forest.reverse();
         }
@@ -542,15 +531,14 @@ fn steps_along_chains_of_picks(rt: HostRuntime) -> Result<(), Fail> {
             steps: &steps,
             forest: forest.as_slice(),
         };
-        expect_rounds(&rt, alloc, rounds)?;
+        expect_rounds(&rt, alloc, rounds);
     }
-    Ok(())
 }
 
 // Vertices without links stay by themselves, and what is joined has its least vertex for a label, whichever of its
 // vertices the picks lead to.
 #[test]
-fn steps_beside_lone_vertices(rt: HostRuntime) -> Result<(), Fail> {
+fn steps_beside_lone_vertices(rt: HostRuntime) {
     let alloc = rt.alloc();
     let arcs: [Row; 4] = [(9, 3, 1), (3, 6, 2), (8, 5, 4), (6, 8, 9)];
     let forest: [Row; 4] = [(3, 9, 1), (3, 6, 2), (5, 8, 4), (6, 8, 9)];
@@ -572,7 +560,7 @@ fn steps_beside_lone_vertices(rt: HostRuntime) -> Result<(), Fail> {
 }
 
 #[test]
-fn texts_of_its_faults(rt: HostRuntime) -> Result<(), Fail> {
+fn texts_of_its_faults(rt: HostRuntime) {
     let alloc = rt.alloc();
     let link = Link::of_arc(2, 1, 17).expect(&rt, "a link");
     let texts = [
@@ -581,7 +569,6 @@ fn texts_of_its_faults(rt: HostRuntime) -> Result<(), Fail> {
         (SolveFault::Memory, "no memory"),
     ];
     for (fault, text) in texts {
-        expect_text(&rt, alloc, &fault, text)?;
+        expect_text(&rt, alloc, &fault, text);
     }
-    Ok(())
 }

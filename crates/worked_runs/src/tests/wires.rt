@@ -4,12 +4,12 @@ ghost use Rattle.std.specs.Prelude.{◌≡◌, ◌+◌, ◌<◌, ◌≤◌};
 ghost use Rattle.ports.specs.Lines.{HasRoom};
 
 use super::rounds::{expect_text, links_to_cut};
+use super::same::expect_same;
 use frames::Answer;
 use link_key::{Cut, Labels};
 use ports::{EngineLine, FusedLine, Line, LineFault, Port, PortFault, ScriptLine, Wire};
-use std::alloc::{AllocError, Global};
+use std::alloc::Global;
 use std::process::Abort;
-use std::test::Fail;
 use worked_graphs::{EQUAL_WEIGHTS, Row, have_labels};
 
 /// The offers of an answer, or why there is none.
@@ -59,7 +59,8 @@ fn take_step<P: Port<Global>>(rt: &impl Abort, port: &mut P, cut: &Cut, labels: 
     assert!(rt; 1 <= round && shard < cut.len() && port.asks() < 100);
     assert!(rt; have_labels(cut.shard(shard).links, labels.n()));
     let reply = port.ask(round, shard, labels);
-    assert!(rt; is_reply(&reply, (round, shard), expected) && port.is_open() == reply.is_ok());
+    let found = (is_reply(&reply, (round, shard), expected), port.is_open());
+    expect_same(rt, found, (true, reply.is_ok()));
 }
 
 fn take_steps<P: Port<Global>>(
@@ -95,18 +96,18 @@ fn expect_transcript<L: Line + Drop>(
     client: Client,
     line: L,
     worker: u32,
-) -> Result<L, Fail>
+) -> L
     requires worker { worker < 64 }
     requires room { HasRoom (L.state line) }
 {
-    let links = links_to_cut(rt, alloc, client.n, client.arcs)?;
+    let links = links_to_cut(rt, alloc, client.n, client.arcs);
     assert!(rt; client.n <= 1 << 26);
     let cut = Cut::even(alloc, links.as_slice(), client.shards).expect(rt, "a cut");
-    let labels = Labels::apart(alloc, client.n)?;
+    let labels = Labels::apart(alloc, client.n).expect(rt, "memory");
     let mut wire = Wire::new(alloc, line, &cut, worker);
     take_steps(rt, &mut wire, &cut, &labels, client.steps);
-    assert_eq!(rt; wire.asks(), client.asks);
-    Ok(wire.into_line())
+    expect_same(rt, wire.asks(), client.asks);
+    wire.into_line()
 }
 
 // Two asks for the whole triangle, of rounds 1 and 2, over a new wire are answered so.
@@ -116,7 +117,7 @@ fn expect_two<L: Line + Drop>(
     line: L,
     worker: u32,
     replies: (Reply<'static>, Reply<'static>),
-) -> Result<(), Fail>
+)
     requires worker { worker < 64 }
     requires room { HasRoom (L.state line) }
 {
@@ -129,8 +130,7 @@ fn expect_two<L: Line + Drop>(
         steps: &steps,
         asks,
     };
-    expect_transcript(rt, alloc, client, line, worker)?;
-    Ok(())
+    expect_transcript(rt, alloc, client, line, worker);
 }
 
 // The replies to two asks over a line that stops after so much, where the first wants so much, and both so much.
@@ -146,31 +146,29 @@ fn stopped(after: u64, first: u64, both: u64) -> (Reply<'static>, Reply<'static>
 
 // The hello has 11 bytes and each answer 41.
 #[test]
-fn a_line_that_stops_after_each_byte(rt: HostRuntime) -> Result<(), Fail> {
+fn a_line_that_stops_after_each_byte(rt: HostRuntime) {
     let alloc = rt.alloc();
     for bytes in 0..94u64 {
-        let line = FusedLine::after_bytes(EngineLine::new(alloc, 0)?, bytes);
-        expect_two(&rt, alloc, line, 0, stopped(bytes, 52, 93))?;
+        let line = FusedLine::after_bytes(EngineLine::new(alloc, 0).expect(&rt, "memory"), bytes);
+        expect_two(&rt, alloc, line, 0, stopped(bytes, 52, 93));
     }
-    Ok(())
 }
 
 // The calls of two asks over an engine: the hello's head and body, the shard, the ask, the answer's head, its fields and its
 // offers; and then the ask and the answer's three.
 #[test]
-fn a_line_that_stops_after_so_many_calls(rt: HostRuntime) -> Result<(), Fail> {
+fn a_line_that_stops_after_so_many_calls(rt: HostRuntime) {
     let alloc = rt.alloc();
     for calls in 0..12u64 {
-        let line = FusedLine::after_calls(EngineLine::new(alloc, 0)?, calls);
-        expect_two(&rt, alloc, line, 0, stopped(calls, 7, 11))?;
+        let line = FusedLine::after_calls(EngineLine::new(alloc, 0).expect(&rt, "memory"), calls);
+        expect_two(&rt, alloc, line, 0, stopped(calls, 7, 11));
     }
-    Ok(())
 }
 
 #[test]
-fn a_wire_that_was_shut(rt: HostRuntime) -> Result<(), Fail> {
+fn a_wire_that_was_shut(rt: HostRuntime) {
     let alloc = rt.alloc();
-    let line = EngineLine::new(alloc, 0)?;
+    let line = EngineLine::new(alloc, 0).expect(&rt, "memory");
     let steps = [Step::Ask(1, 0, OFFERS), Step::Shut, Step::Ask(2, 0, CLOSED)];
     let client = Client {
         n: 3,
@@ -179,22 +177,21 @@ fn a_wire_that_was_shut(rt: HostRuntime) -> Result<(), Fail> {
         steps: &steps,
         asks: 1,
     };
-    expect_transcript(&rt, alloc, client, line, 0)?;
-    Ok(())
+    expect_transcript(&rt, alloc, client, line, 0);
 }
 
 // The bytes of some parts, one behind the other.
-fn script(alloc: Global, parts: &[&[u8]]) -> Result<Vec<u8>, AllocError> {
+fn script(rt: &impl Abort, alloc: Global, parts: &[&[u8]]) -> Vec<u8> {
     let mut bytes = Vec::new(alloc);
     for part in parts {
-        bytes.extend_from_slice(part)?;
+        bytes.extend_from_slice(part).expect(rt, "memory");
     }
-    Ok(bytes)
+    bytes
 }
 
 // A wire for this worker hears these parts: so its first ask ends, and it is closed.
 #[test]
-fn a_script_in_place_of_a_worker(rt: HostRuntime) -> Result<(), Fail> {
+fn a_script_in_place_of_a_worker(rt: HostRuntime) {
     let alloc = rt.alloc();
     let scripts: [(u32, &[&[u8]], PortFault); 9] = [
         (1, &[&HELLO], PortFault::WrongHello),
@@ -208,11 +205,10 @@ fn a_script_in_place_of_a_worker(rt: HostRuntime) -> Result<(), Fail> {
         (0, &[], PortFault::Down),
     ];
     for (worker, parts, fault) in scripts {
-        let line = ScriptLine::new(script(alloc, parts)?);
+        let line = ScriptLine::new(script(&rt, alloc, parts));
         assert!(rt; worker < 64);
-        expect_two(&rt, alloc, line, worker, (Err(fault), CLOSED))?;
+        expect_two(&rt, alloc, line, worker, (Err(fault), CLOSED));
     }
-    Ok(())
 }
 
 // The offers of two shards: of the link of 1 and 2, and of that of 2 and 3, whose weight is past 32 bits.
@@ -264,17 +260,19 @@ fn kept_line<L: Line>(alloc: Global, line: L) -> Keeping<L>
 type Numbers<'a> = (u8, &'a [u32]);
 
 // The text of these frames.
-fn text_of(alloc: Global, frames: &[Numbers]) -> Result<Vec<u8>, AllocError> {
+fn text_of(rt: &impl Abort, alloc: Global, frames: &[Numbers]) -> Vec<u8> {
     let mut text = Vec::new(alloc);
     for (kind, numbers) in frames {
         let count = numbers.len().min(1 << 20) as u32;
-        text.push(*kind)?;
-        text.extend_from_slice(&count.wrapping_mul(4).to_be_bytes())?;
+        text.push(*kind).expect(rt, "memory");
+        text.extend_from_slice(&count.wrapping_mul(4).to_be_bytes())
+            .expect(rt, "memory");
         for number in numbers.iter() {
-            text.extend_from_slice(&number.to_be_bytes())?;
+            text.extend_from_slice(&number.to_be_bytes())
+                .expect(rt, "memory");
         }
     }
-    Ok(text)
+    text
 }
 
 // A new wire over the line transcripts so, and puts these frames meanwhile, each by one put.
@@ -284,13 +282,13 @@ fn expect_put<L: Line + Drop>(
     client: Client,
     line: L,
     frames: &[Numbers],
-) -> Result<(), Fail>
+)
     requires room { HasRoom (L.state line) }
 {
-    let line = expect_transcript(rt, alloc, client, kept_line(alloc, line), 0)?;
-    assert!(rt; line.are_all_kept && line.puts == frames.len());
-    assert_eq!(rt; line.kept.as_slice(), text_of(alloc, frames)?.as_slice());
-    Ok(())
+    let line = expect_transcript(rt, alloc, client, kept_line(alloc, line), 0);
+    expect_same(rt, (line.are_all_kept, line.puts), (true, frames.len()));
+    let text = text_of(rt, alloc, frames);
+    expect_same(rt, line.kept.as_slice(), text.as_slice());
 }
 
 const TOO_OLD: Reply = Err(PortFault::TooOld);
@@ -312,7 +310,7 @@ const AGAIN: Numbers = (3, &[2, 1, 3, 1, 2, 3]);
 // A session of a worker of the first version, which says its hello and answers the ask for the shard that fits 32 bits.
 // Once a shard needs the second version the wire is closed, before an answer or behind it, and nothing is put for it.
 #[test]
-fn a_worker_of_the_first_version(rt: HostRuntime) -> Result<(), Fail> {
+fn a_worker_of_the_first_version(rt: HostRuntime) {
     let alloc = rt.alloc();
     let answer = [
         4, 0, 0, 0, 28, 0, 0, 0, 1, 0, 0, 0, 0, 0, 0, 0, 2, 0, 0, 0, 1, 0, 0, 0, 0, 0, 0, 0, 2, 0,
@@ -329,7 +327,7 @@ fn a_worker_of_the_first_version(rt: HostRuntime) -> Result<(), Fail> {
         (&steps[1..], 1, &[]),
     ];
     for (steps, asks, put) in transcripts {
-        let line = ScriptLine::new(script(alloc, &[&HELLO, &answer])?);
+        let line = ScriptLine::new(script(&rt, alloc, &[&HELLO, &answer]));
         let client = Client {
             n: 3,
             arcs: &NARROW_AND_WIDE,
@@ -337,14 +335,13 @@ fn a_worker_of_the_first_version(rt: HostRuntime) -> Result<(), Fail> {
             steps,
             asks,
         };
-        expect_put(&rt, alloc, client, line, put)?;
+        expect_put(&rt, alloc, client, line, put);
     }
-    Ok(())
 }
 
 // An engine is sent both shards, each before its first ask alone.
 #[test]
-fn shards_of_64_bits(rt: HostRuntime) -> Result<(), Fail> {
+fn shards_of_64_bits(rt: HostRuntime) {
     let alloc = rt.alloc();
     let steps = [
         Step::Ask(1, 0, NARROW),
@@ -359,12 +356,18 @@ fn shards_of_64_bits(rt: HostRuntime) -> Result<(), Fail> {
         steps: &steps,
         asks: 3,
     };
-    expect_put(&rt, alloc, client, EngineLine::new(alloc, 0)?, &put)
+    expect_put(
+        &rt,
+        alloc,
+        client,
+        EngineLine::new(alloc, 0).expect(&rt, "memory"),
+        &put,
+    )
 }
 
 // The two shards of the triangle, and asks for them under three labels.
 #[test]
-fn each_shard_is_sent_before_its_first_ask_alone(rt: HostRuntime) -> Result<(), Fail> {
+fn each_shard_is_sent_before_its_first_ask_alone(rt: HostRuntime) {
     let alloc = rt.alloc();
     let of_one: Reply = Ok(&[(1, 0), (2, 0)]);
     let of_two: Reply = Ok(&[(1, 1), (2, 0), (3, 1)]);
@@ -389,7 +392,13 @@ fn each_shard_is_sent_before_its_first_ask_alone(rt: HostRuntime) -> Result<(), 
         steps: &steps,
         asks: 4,
     };
-    expect_put(&rt, alloc, client, EngineLine::new(alloc, 0)?, &put)
+    expect_put(
+        &rt,
+        alloc,
+        client,
+        EngineLine::new(alloc, 0).expect(&rt, "memory"),
+        &put,
+    )
 }
 
 // Two asks under these labels of vertices that are apart, of which the first and the last are linked, over a new wire
@@ -400,52 +409,51 @@ fn ask_twice<L: Line + Drop>(
     labels: &Labels,
     line: L,
     replies: (Reply, Reply),
-) -> Result<L, Fail>
+) -> L
     requires { HasRoom (L.state line) }
 {
-    let links = links_to_cut(rt, alloc, labels.n(), &[(1, labels.n(), 7)])?;
+    let links = links_to_cut(rt, alloc, labels.n(), &[(1, labels.n(), 7)]);
     let cut = Cut::even(alloc, links.as_slice(), 1).expect(rt, "a cut");
     let mut wire = Wire::new(alloc, line, &cut, 0);
     let steps = [Step::Ask(1, 0, replies.0), Step::Ask(2, 0, replies.1)];
     take_steps(rt, &mut wire, &cut, labels, &steps);
-    Ok(wire.into_line())
+    wire.into_line()
 }
 
 // How many puts two asks under these labels are, and their bytes.
-fn puts_under(rt: &impl Abort, alloc: Global, labels: &Labels) -> Result<(usize, Vec<u8>), Fail> {
-    let line = kept_line(alloc, EngineLine::new(alloc, 0)?);
+fn puts_under(rt: &impl Abort, alloc: Global, labels: &Labels) -> (usize, Vec<u8>) {
+    let line = kept_line(alloc, EngineLine::new(alloc, 0).expect(rt, "memory"));
     let offers = [(1, 0), (labels.n(), 0)];
-    let line = ask_twice(rt, alloc, labels, line, (Ok(&offers), Ok(&offers)))?;
-    assert!(rt; line.are_all_kept);
-    Ok((line.puts, line.kept))
+    let line = ask_twice(rt, alloc, labels, line, (Ok(&offers), Ok(&offers)));
+    expect_same(rt, line.are_all_kept, true);
+    (line.puts, line.kept)
 }
 
 // The shard and each ask is a put; an ask whose labels keep their bytes is two from 64 KiB of labels on. The bytes are
 // the same.
 #[test]
-fn labels_with_and_without_their_bytes(rt: HostRuntime) -> Result<(), Fail> {
+fn labels_with_and_without_their_bytes(rt: HostRuntime) {
     let alloc = rt.alloc();
     for (n, puts) in [(2, 3), (16_383, 3), (16_384, 5), (16_385, 5), (40_000, 5)] {
-        let mut labels = Labels::apart(alloc, n)?;
-        let (turned, bytes) = puts_under(&rt, alloc, &labels)?;
-        labels.spell()?;
-        let (spelled, same) = puts_under(&rt, alloc, &labels)?;
-        assert_eq!(rt; (turned, spelled), (3, puts));
-        assert!(rt; same.as_slice() == bytes.as_slice());
+        let mut labels = Labels::apart(alloc, n).expect(&rt, "memory");
+        let (turned, bytes) = puts_under(&rt, alloc, &labels);
+        labels.spell().expect(&rt, "memory");
+        let (spelled, same) = puts_under(&rt, alloc, &labels);
+        let same = same.as_slice() == bytes.as_slice();
+        expect_same(&rt, (n, turned, spelled, same), (n, 3, puts, true));
     }
-    Ok(())
 }
 
 // The calls of two asks under labels of 64 KiB that keep their bytes: the hello's head and body, the shard, the ask's two
 // parts, the answer's head, its fields and its offers; and then the ask's two and the answer's three.
 #[test]
-fn a_line_that_stops_between_the_parts_of_an_ask(rt: HostRuntime) -> Result<(), Fail> {
+fn a_line_that_stops_between_the_parts_of_an_ask(rt: HostRuntime) {
     let alloc = rt.alloc();
-    let mut labels = Labels::apart(alloc, 16_384)?;
-    labels.spell()?;
+    let mut labels = Labels::apart(alloc, 16_384).expect(&rt, "memory");
+    labels.spell().expect(&rt, "memory");
     let offers = [(1, 0), (16_384, 0)];
     for calls in 0..14u64 {
-        let line = FusedLine::after_calls(EngineLine::new(alloc, 0)?, calls);
+        let line = FusedLine::after_calls(EngineLine::new(alloc, 0).expect(&rt, "memory"), calls);
         let replies: (Reply, Reply) = if calls < 8 {
             (DOWN, CLOSED)
         } else if calls < 13 {
@@ -453,9 +461,8 @@ fn a_line_that_stops_between_the_parts_of_an_ask(rt: HostRuntime) -> Result<(), 
         } else {
             (Ok(&offers), Ok(&offers))
         };
-        ask_twice(&rt, alloc, &labels, line, replies)?;
+        ask_twice(&rt, alloc, &labels, line, replies);
     }
-    Ok(())
 }
 
 const MANY: u32 = 10_000;
@@ -463,15 +470,16 @@ const MANY: u32 = 10_000;
 // A path of 10,000 links, each as heavy as its lower end: the first vertex is offered the first link, and each other
 // one the link before it.
 #[test]
-fn a_wire_at_ten_thousand_links(rt: HostRuntime) -> Result<(), Fail> {
+fn a_wire_at_ten_thousand_links(rt: HostRuntime) {
     let alloc = rt.alloc();
     let mut arcs = Vec::new(alloc);
     let mut offers = Vec::new(alloc);
-    offers.push((1, 0))?;
+    offers.push((1, 0)).expect(&rt, "memory");
     for i in 0..MANY {
         let low = i.wrapping_add(1);
-        arcs.push((low, low.wrapping_add(1), i64::from(low)))?;
-        offers.push((low.wrapping_add(1), i))?;
+        arcs.push((low, low.wrapping_add(1), i64::from(low)))
+            .expect(&rt, "memory");
+        offers.push((low.wrapping_add(1), i)).expect(&rt, "memory");
     }
     let reply: Reply = Ok(offers.as_slice());
     let steps = [Step::Ask(1, 0, reply), Step::Ask(2, 0, reply)];
@@ -482,13 +490,18 @@ fn a_wire_at_ten_thousand_links(rt: HostRuntime) -> Result<(), Fail> {
         steps: &steps,
         asks: 2,
     };
-    expect_transcript(&rt, alloc, client, EngineLine::new(alloc, 0)?, 0)?;
-    Ok(())
+    expect_transcript(
+        &rt,
+        alloc,
+        client,
+        EngineLine::new(alloc, 0).expect(&rt, "memory"),
+        0,
+    );
 }
 
 // Asks under no labels and under one, and for the last of as many shards as there may be.
 #[test]
-fn asks_at_their_bounds(rt: HostRuntime) -> Result<(), Fail> {
+fn asks_at_their_bounds(rt: HostRuntime) {
     let alloc = rt.alloc();
     let none: Reply = Ok(&[]);
     let graphs: [(u32, &[Row], u32, u32, Reply); 5] = [
@@ -510,9 +523,14 @@ fn asks_at_their_bounds(rt: HostRuntime) -> Result<(), Fail> {
             steps: &steps,
             asks: 2,
         };
-        expect_transcript(&rt, alloc, client, EngineLine::new(alloc, 0)?, 0)?;
+        expect_transcript(
+            &rt,
+            alloc,
+            client,
+            EngineLine::new(alloc, 0).expect(&rt, "memory"),
+            0,
+        );
     }
-    Ok(())
 }
 
 // Puts these bytes, and gets once: how many bytes came.
@@ -533,7 +551,7 @@ const ASKED: [u8; 50] = [
 
 // A session that heard bytes which begin no frame is over: what is put later adds nothing, and each get finds the end.
 #[test]
-fn a_session_that_is_over(rt: HostRuntime) -> Result<(), Fail> {
+fn a_session_that_is_over(rt: HostRuntime) {
     let alloc = rt.alloc();
     // A hello of seven bytes, one of another version, and the first three bytes of a frame, which may go on.
     let sessions: [(&[u8], usize); 8] = [
@@ -547,18 +565,17 @@ fn a_session_that_is_over(rt: HostRuntime) -> Result<(), Fail> {
         (&HELLO, 33),
     ];
     for (first, came) in sessions {
-        let mut line = EngineLine::new(alloc, 0)?;
+        let mut line = EngineLine::new(alloc, 0).expect(&rt, "memory");
         let hello = say(&rt, &mut line, &[]);
         let silent = say(&rt, &mut line, first);
         let answer = say(&rt, &mut line, &ASKED);
         let again = say(&rt, &mut line, &[]);
-        assert_eq!(rt; (hello, silent, answer, again), (11, 0, came, 0));
+        expect_same(&rt, (hello, silent, answer, again), (11, 0, came, 0));
     }
-    Ok(())
 }
 
 #[test]
-fn texts_of_faults(rt: HostRuntime) -> Result<(), Fail> {
+fn texts_of_faults(rt: HostRuntime) {
     let alloc = rt.alloc();
     let texts = [
         (PortFault::Down, "line is down"),
@@ -570,7 +587,7 @@ fn texts_of_faults(rt: HostRuntime) -> Result<(), Fail> {
         (PortFault::TooOld, "worker is too old for 64-bit weights"),
     ];
     for (fault, text) in texts {
-        expect_text(&rt, alloc, &fault, text)?;
+        expect_text(&rt, alloc, &fault, text);
     }
     expect_text(&rt, alloc, &LineFault::Failed, "line failed")
 }
