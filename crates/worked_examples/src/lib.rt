@@ -12,6 +12,7 @@
 //!   again           a forest's text, run again: the premise of that promise is met
 //!   totals          what forests weigh
 //!   fault_texts     the text of each fault, and of a report
+//!   same            what is found beside what is expected
 //!   sizes           each call at and past the size of every inner piece
 //!   memory_of_graphs    what a reader, and a forest of distinct links, ask for, by an allocator that refuses
 //! ```

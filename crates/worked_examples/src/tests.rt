@@ -5,6 +5,7 @@ mod lists;
 mod memory_of_graphs;
 mod plain_runs;
 mod reading;
+mod same;
 mod sizes;
 mod totals;
 mod writing;

@@ -1,23 +1,19 @@
 // The solver beside a simple program, over drawn lists of arcs.
 ghost use Rattle.std.specs.Prelude.{◌≤◌, ◌<◌, ◌^◌};
 
+use super::lists::links_between;
+use super::same::expect_same;
 use link_key::{Link, forest_of, plain_forest};
-use std::alloc::{AllocError, Global};
+use std::alloc::Global;
 use std::process::Abort;
-use std::test::Fail;
-use worked_graphs::{Row, links_of};
+use worked_graphs::Row;
 
 // The links whose ends aren't joined by smaller ones, by the simple program: where two labels become one, each vertex
 // is looked at.
-fn slow_forest(
-    rt: &impl Abort,
-    alloc: Global,
-    n: u32,
-    links: &[Link],
-) -> Result<Vec<Link>, AllocError> {
-    let mut sorted = Vec::from_slice(alloc, links)?;
+fn slow_forest(rt: &impl Abort, alloc: Global, n: u32, links: &[Link]) -> Vec<Link> {
+    let mut sorted = Vec::from_slice(alloc, links).expect(rt, "memory");
     sorted.as_mut_slice().sort_unstable();
-    let mut labels: Vec<u32> = (0..=n).collect(alloc)?;
+    let mut labels: Vec<u32> = (0..=n).collect(alloc).expect(rt, "memory");
     let mut taken = Vec::new(alloc);
     for link in &sorted {
         assert!(rt; (link.low as usize) < labels.len() && (link.high as usize) < labels.len());
@@ -25,10 +21,10 @@ fn slow_forest(
         let high = labels[link.high as usize];
         if low != high {
             rename(labels.as_mut_slice(), high, low);
-            taken.push(*link)?;
+            taken.push(*link).expect(rt, "memory");
         }
     }
-    Ok(taken)
+    taken
 }
 
 // Gives what has the label `from` the label `to`.
@@ -53,12 +49,13 @@ pub(crate) fn draw(state: &mut u64, bound: u32) -> u32
 
 // So many arcs between the vertices 1 to n, loops and repeats among them, each of one of these weights.
 fn drawn_arcs(
+    rt: &impl Abort,
     alloc: Global,
     seed: u64,
     n: u32,
     count: u32,
     weights: &[i64; 5],
-) -> Result<Vec<Row>, AllocError>
+) -> Vec<Row>
     requires some { 0 < n }
     requires few { n ≤ 2 ^ 26 }
 {
@@ -68,85 +65,72 @@ fn drawn_arcs(
         let tail = draw(&mut state, n) + 1;
         let head = draw(&mut state, n) + 1;
         let place = draw(&mut state, 5) as usize;
-        arcs.push((tail, head, weights[place]))?;
+        arcs.push((tail, head, weights[place])).expect(rt, "memory");
     }
-    Ok(arcs)
+    arcs
 }
 
 // The solver, on a copy and in the list itself, gives just these links as the forest of the arcs.
-pub(crate) fn expect_forest(
-    rt: &impl Abort,
-    alloc: Global,
-    n: u32,
-    arcs: &[Row],
-    wanted: &[Link],
-) -> Result<(), Fail> {
+pub(crate) fn expect_forest(rt: &impl Abort, alloc: Global, n: u32, arcs: &[Row], wanted: &[Link]) {
     assert!(rt; n <= 1 << 26);
-    let links = links_of(alloc, n, arcs)?.expect(rt, "arcs");
-    let forest = plain_forest(alloc, n, links.as_slice())?;
-    assert_eq!(rt; forest.links(), wanted);
-    let forest = forest_of(alloc, n, links)?;
-    assert_eq!(rt; forest.links(), wanted);
-    Ok(())
+    let links = links_between(rt, alloc, n, arcs);
+    let forest = plain_forest(alloc, n, links.as_slice()).expect(rt, "memory");
+    expect_same(rt, forest.links(), wanted);
+    let forest = forest_of(alloc, n, links).expect(rt, "memory");
+    expect_same(rt, forest.links(), wanted);
 }
 
 // The solver and the simple program give one forest of a drawn list, which is returned.
-pub(crate) fn expect_one_forest(
-    rt: &impl Abort,
-    alloc: Global,
-    n: u32,
-    arcs: &[Row],
-) -> Result<Vec<Link>, Fail> {
-    let links = links_of(alloc, n, arcs)?.expect(rt, "arcs");
-    let slow = slow_forest(rt, alloc, n, links.as_slice())?;
-    expect_forest(rt, alloc, n, arcs, slow.as_slice())?;
-    Ok(slow)
+pub(crate) fn expect_one_forest(rt: &impl Abort, alloc: Global, n: u32, arcs: &[Row]) -> Vec<Link> {
+    let links = links_between(rt, alloc, n, arcs);
+    let slow = slow_forest(rt, alloc, n, links.as_slice());
+    expect_forest(rt, alloc, n, arcs, slow.as_slice());
+    slow
 }
 
 // The same of 300 drawn lists of sixty arcs with these weights.
-fn expect_forests(rt: &impl Abort, alloc: Global, weights: &[i64; 5]) -> Result<(), Fail> {
+fn expect_forests(rt: &impl Abort, alloc: Global, weights: &[i64; 5]) {
     for seed in 0..300u32 {
         let n = seed % 39 + 2;
-        let arcs = drawn_arcs(alloc, u64::from(seed), n, 60, weights)?;
-        let _forest = expect_one_forest(rt, alloc, n, arcs.as_slice())?;
+        let arcs = drawn_arcs(rt, alloc, u64::from(seed), n, 60, weights);
+        let _forest = expect_one_forest(rt, alloc, n, arcs.as_slice());
     }
-    Ok(())
 }
 
 #[test]
-fn drawn_lists(rt: HostRuntime) -> Result<(), Fail> {
-    expect_forests(&rt, rt.alloc(), &[-2, -1, 0, 1, 2])
+fn drawn_lists(rt: HostRuntime) {
+    expect_forests(&rt, rt.alloc(), &[-2, -1, 0, 1, 2]);
 }
 
 #[test]
-fn drawn_lists_of_extreme_weights(rt: HostRuntime) -> Result<(), Fail> {
+fn drawn_lists_of_extreme_weights(rt: HostRuntime) {
     expect_forests(
         &rt,
         rt.alloc(),
         &[-0x8000_0000, -0x7fff_ffff, 0, 0x7fff_fffe, 0x7fff_ffff],
-    )?;
+    );
     expect_forests(
         &rt,
         rt.alloc(),
         &[i64::MIN, i64::MIN + 1, 0, i64::MAX - 1, i64::MAX],
-    )
+    );
 }
 
 // Lists of many sizes: few vertices, so that most links close a cycle, and many, so that there are many components.
 // Each arc stands twice, one behind the other, as the two directions in a road file do.
 #[test]
-fn drawn_lists_of_many_sizes(rt: HostRuntime) -> Result<(), Fail> {
+fn drawn_lists_of_many_sizes(rt: HostRuntime) {
     for count in [0u32, 1, 17, 1_000, 10_000] {
         for n in [count / 40 + 2, count / 4 + 2, count.max(2)] {
             assert!(&rt; 0 < n && n <= 1 << 26);
-            let drawn = drawn_arcs(rt.alloc(), u64::from(count), n, count, &[-7, 0, 3, 4, 50])?;
+            let seed = u64::from(count);
+            let drawn = drawn_arcs(&rt, rt.alloc(), seed, n, count, &[-7, 0, 3, 4, 50]);
             let mut arcs = Vec::new(rt.alloc());
             for (tail, head, weight) in &drawn {
-                arcs.push((*tail, *head, *weight))?;
-                arcs.push((*head, *tail, *weight))?;
+                arcs.push((*tail, *head, *weight)).expect(&rt, "memory");
+                arcs.push((*head, *tail, *weight)).expect(&rt, "memory");
             }
-            let _forest = expect_one_forest(&rt, rt.alloc(), n, arcs.as_slice())?;
+            let _forest = expect_one_forest(&rt, rt.alloc(), n, arcs.as_slice());
         }
     }
-    Ok(())
 }

@@ -2,9 +2,10 @@
 ghost use Rattle.std.specs.Prelude.{◌<◌};
 
 use super::drawn_lists::draw;
+use super::same::expect_same;
 use gr_text::{GrReader, Graph, MAX_BYTES, ReadFault};
-use std::alloc::{AllocError, Global};
-use std::test::Fail;
+use std::alloc::Global;
+use std::process::Abort;
 
 // What stands between two fields, mostly one space.
 const GAPS: [&[u8]; 6] = [b"  ", b"\t", b" \t", b"\r", b"\n", b""];
@@ -86,26 +87,31 @@ fn drawn_weight(state: &mut u64) -> &'static [u8] {
     }
 }
 
+// Puts these bytes behind the text.
+fn put(rt: &impl Abort, text: &mut Vec<u8>, bytes: &[u8]) {
+    text.extend_from_slice(bytes).expect(rt, "memory");
+}
+
 // A problem line and mostly three arc lines.
-fn drawn_text(alloc: Global, state: &mut u64) -> Result<Vec<u8>, AllocError> {
+fn drawn_text(rt: &impl Abort, alloc: Global, state: &mut u64) -> Vec<u8> {
     let mut text = Vec::new(alloc);
-    text.extend_from_slice(drawn(state, 32, &PROBLEMS, b"p sp 5 3\n"))?;
+    put(rt, &mut text, drawn(state, 32, &PROBLEMS, b"p sp 5 3\n"));
     let lines = match draw(state, 16) {
         0 => 2,
         1 => 4,
         _ => 3,
     };
     for _ in 0..lines {
-        text.extend_from_slice(drawn(state, 128, &LETTERS, b"a"))?;
-        text.extend_from_slice(drawn(state, 128, &GAPS, b" "))?;
-        text.extend_from_slice(drawn_end(state))?;
-        text.extend_from_slice(drawn(state, 128, &GAPS, b" "))?;
-        text.extend_from_slice(drawn_end(state))?;
-        text.extend_from_slice(drawn(state, 128, &GAPS, b" "))?;
-        text.extend_from_slice(drawn_weight(state))?;
-        text.extend_from_slice(drawn(state, 64, &ENDINGS, b"\n"))?;
+        put(rt, &mut text, drawn(state, 128, &LETTERS, b"a"));
+        put(rt, &mut text, drawn(state, 128, &GAPS, b" "));
+        put(rt, &mut text, drawn_end(state));
+        put(rt, &mut text, drawn(state, 128, &GAPS, b" "));
+        put(rt, &mut text, drawn_end(state));
+        put(rt, &mut text, drawn(state, 128, &GAPS, b" "));
+        put(rt, &mut text, drawn_weight(state));
+        put(rt, &mut text, drawn(state, 64, &ENDINGS, b"\n"));
     }
-    Ok(text)
+    text
 }
 
 // What is read of a text that is fed in pieces of drawn lengths, 1 to `most`, and the line that the reader was at.
@@ -138,22 +144,20 @@ fn is_same(one: &Result<Graph, ReadFault>, other: &Result<Graph, ReadFault>) -> 
 }
 
 #[test]
-fn drawn_texts_in_two_cuttings(rt: HostRuntime) -> Result<(), Fail> {
+fn drawn_texts_in_two_cuttings(rt: HostRuntime) {
     let mut state = 0;
     let mut graphs = 0u32;
     for _ in 0..10_000u32 {
-        let text = drawn_text(rt.alloc(), &mut state)?;
+        let text = drawn_text(&rt, rt.alloc(), &mut state);
         let (line, slow) = read_cut(rt.alloc(), &text, 1, &mut state);
         if slow.is_ok() {
             graphs = graphs.wrapping_add(1);
         }
         for most in [40, 1_000] {
             let (at, quick) = read_cut(rt.alloc(), &text, most, &mut state);
-            assert_eq!(rt; at, line);
-            assert!(rt; is_same(&slow, &quick));
+            expect_same(&rt, (at, is_same(&slow, &quick)), (line, true));
         }
     }
     // Both outcomes are common.
-    assert!(rt; graphs > 1_000 && graphs < 9_000);
-    Ok(())
+    expect_same(&rt, graphs > 1_000 && graphs < 9_000, true);
 }

@@ -1,25 +1,19 @@
 // The texts of the faults of files and of a run.
+use super::same::expect_same;
 use forest_run::{Report, RunFault};
 use gr_text::{GrFault, GrKind, ReadFault, WriteFault};
 use link_key::{CutFault, Link};
 use std::alloc::Global;
 use std::fmt::Display;
 use std::process::Abort;
-use std::test::Fail;
 
-fn expect_text<T: Display>(
-    rt: &impl Abort,
-    alloc: Global,
-    shown: &T,
-    expected: &str,
-) -> Result<(), Fail> {
-    let text = format!(in alloc; "{shown}")?;
-    assert_eq!(rt; text.as_str(), expected);
-    Ok(())
+fn expect_text(rt: &impl Abort, alloc: Global, shown: &impl Display, expected: &str) {
+    let text = format!(in alloc; "{shown}").expect(rt, "memory");
+    expect_same(rt, text.as_str(), expected);
 }
 
 #[test]
-fn of_each_faulty_line(rt: HostRuntime) -> Result<(), Fail> {
+fn of_each_faulty_line(rt: HostRuntime) {
     let texts = [
         (GrKind::UnknownLine, "line 7: UnknownLine"),
         (GrKind::NoProblemYet, "line 7: NoProblemYet"),
@@ -35,37 +29,36 @@ fn of_each_faulty_line(rt: HostRuntime) -> Result<(), Fail> {
     ];
     for (kind, text) in texts {
         let fault = GrFault { line: 7, kind };
-        expect_text(&rt, rt.alloc(), &fault, text)?;
-        expect_text(&rt, rt.alloc(), &ReadFault::Gr(fault), text)?;
-        expect_text(&rt, rt.alloc(), &RunFault::Read(ReadFault::Gr(fault)), text)?;
+        expect_text(&rt, rt.alloc(), &fault, text);
+        expect_text(&rt, rt.alloc(), &ReadFault::Gr(fault), text);
+        expect_text(&rt, rt.alloc(), &RunFault::Read(ReadFault::Gr(fault)), text);
     }
-    Ok(())
 }
 
 #[test]
-fn of_reading_writing_and_running(rt: HostRuntime) -> Result<(), Fail> {
+fn of_reading_writing_and_running(rt: HostRuntime) {
     let texts = [
         (ReadFault::Source { line: 2 }, "line 2: read failed"),
         (ReadFault::TooLong, "file is too long"),
         (ReadFault::Memory, "no memory"),
     ];
     for (fault, text) in texts {
-        expect_text(&rt, rt.alloc(), &fault, text)?;
-        expect_text(&rt, rt.alloc(), &RunFault::Read(fault), text)?;
+        expect_text(&rt, rt.alloc(), &fault, text);
+        expect_text(&rt, rt.alloc(), &RunFault::Read(fault), text);
     }
-    expect_text(&rt, rt.alloc(), &RunFault::Memory, "no memory")?;
+    expect_text(&rt, rt.alloc(), &RunFault::Memory, "no memory");
     let past = RunFault::Rounds { round: 2 };
-    expect_text(&rt, rt.alloc(), &past, "round 2 is past the bound")?;
+    expect_text(&rt, rt.alloc(), &past, "round 2 is past the bound");
     let link = Link::of_arc(2, 1, 17).expect(&rt, "ends that differ");
     let missed = RunFault::Missed { link };
-    expect_text(&rt, rt.alloc(), &missed, "link 1 2 17 was missed")?;
+    expect_text(&rt, rt.alloc(), &missed, "link 1 2 17 was missed");
     let write = "write failed after 10 bytes";
-    expect_text(&rt, rt.alloc(), &RunFault::Write { written: 10 }, write)?;
-    expect_text(&rt, rt.alloc(), &WriteFault { written: 10 }, write)
+    expect_text(&rt, rt.alloc(), &RunFault::Write { written: 10 }, write);
+    expect_text(&rt, rt.alloc(), &WriteFault { written: 10 }, write);
 }
 
 #[test]
-fn of_each_refused_cut(rt: HostRuntime) -> Result<(), Fail> {
+fn of_each_refused_cut(rt: HostRuntime) {
     let texts = [
         (CutFault::NoShards, "cut refused: NoShards"),
         (CutFault::TooManyShards, "cut refused: TooManyShards"),
@@ -74,14 +67,13 @@ fn of_each_refused_cut(rt: HostRuntime) -> Result<(), Fail> {
         (CutFault::Memory, "no memory"),
     ];
     for (fault, text) in texts {
-        expect_text(&rt, rt.alloc(), &RunFault::Cut(fault), text)?;
+        expect_text(&rt, rt.alloc(), &RunFault::Cut(fault), text);
     }
-    Ok(())
 }
 
 // Each number of a report stands behind its own name.
 #[test]
-fn of_a_report(rt: HostRuntime) -> Result<(), Fail> {
+fn of_a_report(rt: HostRuntime) {
     let report = Report {
         vertices: 1,
         links: 2,
@@ -94,5 +86,5 @@ fn of_a_report(rt: HostRuntime) -> Result<(), Fail> {
         total: -9,
     };
     let text = "vertices=1 links=2 rounds=3 shards=4 asked=5 answered=6 alone=7 closed=8 total=-9";
-    expect_text(&rt, rt.alloc(), &report, text)
+    expect_text(&rt, rt.alloc(), &report, text);
 }

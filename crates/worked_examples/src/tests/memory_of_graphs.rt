@@ -1,11 +1,11 @@
 // The memory that a reader asks for: that of the arcs that came, whatever its problem line states. And what a forest of
 // distinct links asks for beside their list.
 use super::lists::have_lows_ascending;
+use super::same::expect_same;
 use gr_text::{GrFault, GrKind, GrReader, MAX_BYTES, ReadFault, parse, read_graph};
 use link_key::{Forest, Link};
-use std::alloc::{AllocError, Global};
+use std::alloc::Global;
 use std::process::Abort;
-use std::test::Fail;
 use test_memory::{Refusals, Refusing};
 
 // The first line of a text of as many arc lines as there may be.
@@ -33,11 +33,9 @@ fn expect_fault(
     let read = read_graph(&memory, &mut source).err();
     let mut reader = GrReader::new(&memory, MAX_BYTES);
     let _answer = reader.feed(text);
-    assert_eq!(rt;
-        (parsed, read, reader.finish().err()),
-        (fault, fault, fault)
-    );
-    assert_eq!(rt; memory.live(), 0);
+    let found = (parsed, read, reader.finish().err());
+    expect_same(rt, found, (fault, fault, fault));
+    expect_same(rt, memory.live(), 0);
     memory.asked()
 }
 
@@ -47,48 +45,48 @@ fn a_problem_line_takes_none(rt: HostRuntime) {
     for refusals in [Refusals::since(1), Refusals::only(1), Refusals::none()] {
         for text in [PROBLEM, PROBLEM.trim_ascii_end()] {
             let asked = expect_fault(&rt, rt.alloc(), refusals, text, lacks_arcs(2));
-            assert_eq!(rt; asked, 0);
+            expect_same(&rt, asked, 0);
         }
     }
 }
 
 // A list that grows as the arcs come asks for a block at each growth, and one with room for all that are stated once.
 #[test]
-fn arcs_take_it_as_they_come(rt: HostRuntime) -> Result<(), Fail> {
-    let mut text = Vec::from_slice(rt.alloc(), PROBLEM)?;
-    text.extend_from_slice(b"a 1 2 3\n")?;
+fn arcs_take_it_as_they_come(rt: HostRuntime) {
+    let mut text = Vec::from_slice(rt.alloc(), PROBLEM).expect(&rt, "memory");
+    text.extend_from_slice(b"a 1 2 3\n").expect(&rt, "memory");
     let refused = Some(ReadFault::Memory);
     let asked = expect_fault(&rt, rt.alloc(), Refusals::since(1), &text, refused);
-    assert_eq!(rt; asked, 3);
+    expect_same(&rt, asked, 3);
     for _ in 1..1000u32 {
-        text.extend_from_slice(b"a 1 2 3\n")?;
+        text.extend_from_slice(b"a 1 2 3\n").expect(&rt, "memory");
     }
     let asked = expect_fault(&rt, rt.alloc(), Refusals::none(), &text, lacks_arcs(1002));
-    assert!(rt; asked > 6);
-    Ok(())
+    expect_same(&rt, asked > 6, true);
 }
 
 // How many blocks a list of a thousand links and their forest take, whose weights are so far apart. Their ends tell
 // twenty binary digits: ten of the lower one, and ten of how far the other is from it.
-fn blocks_of_forest(rt: &impl Abort, alloc: Global, spread: u64) -> Result<u64, Fail> {
+fn blocks_of_forest(rt: &impl Abort, alloc: Global, spread: u64) -> u64 {
     let memory = Refusing::new(alloc, Refusals::none());
-    let mut links = Vec::with_capacity(&memory, 1000)?;
+    let mut links = Vec::with_capacity(&memory, 1000).expect(rt, "memory");
     for low in 1..1001u32 {
         let above = if low % 2 == 0 { 0 } else { spread };
         let weight = i64::MIN.wrapping_add(above.cast_signed());
-        links.push(Link::of_arc(low, 2 * low + 1, weight).ok_or("a link")?)?;
+        let link = Link::of_arc(low, 2 * low + 1, weight).expect(rt, "a link");
+        links.push(link).expect(rt, "memory");
     }
     assert!(rt; have_lows_ascending(links.as_slice()));
-    drop(Forest::of_distinct(&memory, links)?);
-    Ok(memory.given())
+    drop(Forest::of_distinct(&memory, links).expect(rt, "memory"));
+    memory.given()
 }
 
 // Beside the list there is one block where the keys fit 64 binary digits, those of weights with 44 too, and else two.
 #[test]
-fn keys_that_fit_take_one_block(rt: HostRuntime) -> Result<(), Fail> {
+fn keys_that_fit_take_one_block(rt: HostRuntime) {
     let spreads = [(999, 2), ((1 << 44) - 1, 2), (1 << 44, 3), (u64::MAX, 3)];
     for (spread, blocks) in spreads {
-        assert_eq!(rt; blocks_of_forest(&rt, rt.alloc(), spread)?, blocks);
+        let found = blocks_of_forest(&rt, rt.alloc(), spread);
+        expect_same(&rt, (spread, found), (spread, blocks));
     }
-    Ok(())
 }

@@ -1,11 +1,11 @@
 // Files to the texts of their forests.
+use super::same::expect_same;
 use crate::again::text_again;
 use byte_streams::{FusedSink, FusedSource};
 use forest_run::{Report, RunFault, plain_text, run_plain};
 use gr_text::{GrFault, GrKind, ReadFault};
 use std::alloc::Global;
 use std::process::Abort;
-use std::test::Fail;
 use worked_graphs::{SMALL_NET, WORKED, Worked};
 
 // The run over this file ends well with the forest's text, and counts vertices, links and what the forest weighs, and
@@ -24,9 +24,10 @@ fn expect_text(rt: &impl Abort, alloc: Global, file: &[u8], graph: Worked, links
         closed: 0,
         total: graph.total,
     };
-    assert_eq!(rt; run_plain(alloc, &mut source, &mut sink), Ok(report));
-    assert_eq!(rt; sink.as_slice(), graph.text);
-    assert!(rt; source.is_empty());
+    let ended = run_plain(alloc, &mut source, &mut sink);
+    expect_same(rt, ended, Ok(report));
+    expect_same(rt, sink.as_slice(), graph.text);
+    expect_same(rt, source.is_empty(), true);
 }
 
 // Their links, repeats counted and loops left out.
@@ -57,56 +58,50 @@ fn texts_of_forests_are_written_again(rt: HostRuntime) {
 fn texts_that_are_run_again(rt: HostRuntime) {
     for graph in WORKED {
         let (text, report) = text_again(rt.alloc(), graph.file).expect(&rt, "a forest");
-        assert_eq!(rt; text.as_slice(), graph.text);
+        expect_same(&rt, text.as_slice(), graph.text);
         let links = graph.forest.len() as u64;
-        assert_eq!(rt; (report.links, report.total), (links, graph.total));
+        expect_same(&rt, (report.links, report.total), (links, graph.total));
     }
 }
 
 // A sink that fails, or takes nothing more, after ten bytes holds just these.
 #[test]
-fn a_sink_that_stops(rt: HostRuntime) -> Result<(), Fail> {
+fn a_sink_that_stops(rt: HostRuntime) {
     let fault = RunFault::Write { written: 10 };
     let mut source = SMALL_NET.file;
-    let mut failing = FusedSink::new(rt.alloc(), 10, 3)?;
-    assert_eq!(rt;
-        run_plain(rt.alloc(), &mut source, &mut failing),
-        Err(fault)
-    );
-    assert_eq!(rt; failing.held(), b"p sp 6 5\na".as_slice());
+    let mut failing = FusedSink::new(rt.alloc(), 10, 3).expect(&rt, "memory");
+    let ended = run_plain(rt.alloc(), &mut source, &mut failing);
+    expect_same(&rt, ended, Err(fault));
+    expect_same(&rt, failing.held(), b"p sp 6 5\na".as_slice());
     let mut source = SMALL_NET.file;
-    let mut stopping = FusedSink::stopped(rt.alloc(), 10, 3)?;
-    assert_eq!(rt;
-        run_plain(rt.alloc(), &mut source, &mut stopping),
-        Err(fault)
-    );
-    assert_eq!(rt; stopping.held(), b"p sp 6 5\na".as_slice());
-    Ok(())
+    let mut stopping = FusedSink::stopped(rt.alloc(), 10, 3).expect(&rt, "memory");
+    let ended = run_plain(rt.alloc(), &mut source, &mut stopping);
+    expect_same(&rt, ended, Err(fault));
+    expect_same(&rt, stopping.held(), b"p sp 6 5\na".as_slice());
 }
 
 // Nothing is written of a file that is refused, nor of one whose source fails.
 #[test]
-fn a_file_that_is_not_read(rt: HostRuntime) -> Result<(), Fail> {
+fn a_file_that_is_not_read(rt: HostRuntime) {
     let file = b"p sp 2 2\na 1 2 5";
-    let mut sink = FusedSink::new(rt.alloc(), 10, 3)?;
+    let mut sink = FusedSink::new(rt.alloc(), 10, 3).expect(&rt, "memory");
     let missing = RunFault::Read(ReadFault::Gr(GrFault {
         line: 3,
         kind: GrKind::MissingArcs,
     }));
     let mut source = file.as_slice();
-    assert_eq!(rt; run_plain(rt.alloc(), &mut source, &mut sink), Err(missing));
-    assert!(rt; sink.held().is_empty());
+    let ended = run_plain(rt.alloc(), &mut source, &mut sink);
+    expect_same(&rt, (ended, sink.held().is_empty()), (Err(missing), true));
     let failed = RunFault::Read(ReadFault::Source { line: 2 });
-    let mut source = FusedSource::new(Vec::from_slice(rt.alloc(), file)?, 12, 5);
-    let mut sink = FusedSink::new(rt.alloc(), 10, 3)?;
-    assert_eq!(rt; run_plain(rt.alloc(), &mut source, &mut sink), Err(failed));
-    assert!(rt; sink.held().is_empty());
-    Ok(())
+    let bytes = Vec::from_slice(rt.alloc(), file).expect(&rt, "memory");
+    let mut source = FusedSource::new(bytes, 12, 5);
+    let mut sink = FusedSink::new(rt.alloc(), 10, 3).expect(&rt, "memory");
+    let ended = run_plain(rt.alloc(), &mut source, &mut sink);
+    expect_same(&rt, (ended, sink.held().is_empty()), (Err(failed), true));
 }
 
 #[test]
-fn a_file_in_memory(rt: HostRuntime) -> Result<(), Fail> {
-    let text = plain_text(rt.alloc(), SMALL_NET.file).map_err(|_| "a lawful file")?;
-    assert_eq!(rt; text.as_slice(), SMALL_NET.text);
-    Ok(())
+fn a_file_in_memory(rt: HostRuntime) {
+    let text = plain_text(rt.alloc(), SMALL_NET.file).expect(&rt, "a lawful file");
+    expect_same(&rt, text.as_slice(), SMALL_NET.text);
 }

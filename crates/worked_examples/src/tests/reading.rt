@@ -1,19 +1,20 @@
 // Texts in the `.gr` format: what they mean, their faults, pieces and limits.
+use super::same::expect_same;
 use gr_text::{
     FusedSource, GrFault, GrKind, GrReader, Graph, MAX_BYTES, ReadFault, parse, read_graph,
     read_graph_upto,
 };
 use link_key::Link;
-use std::alloc::Allocator;
-use std::test::Fail;
+use std::process::Abort;
 use worked_graphs::{Row, SMALL_NET};
 
 fn fault(line: u64, kind: GrKind) -> ReadFault {
     ReadFault::Gr(GrFault { line, kind })
 }
 
-// Whether this is the graph that the small net's file means.
-fn is_small_net<A: Allocator>(graph: &Graph<A>) -> bool {
+// What was read is the graph that the small net's file means.
+fn expect_small_net(rt: &impl Abort, read: Result<Graph, ReadFault>) {
+    let graph = read.ok().expect(rt, "a graph");
     let links = [
         (1, 2, 17),
         (1, 3, 10),
@@ -24,7 +25,8 @@ fn is_small_net<A: Allocator>(graph: &Graph<A>) -> bool {
         (2, 5, 0),
         (5, 6, 20),
     ];
-    graph.n() == 6 && are_links(graph.links(), &links)
+    let found = (graph.n(), are_links(graph.links(), &links));
+    expect_same(rt, found, (6, true));
 }
 
 // Whether the links have these lower ends, higher ends and weights.
@@ -53,7 +55,8 @@ fn names_what_is_wrong_with_a_problem_line(rt: HostRuntime) {
         ),
     ];
     for (text, line, kind) in rows {
-        assert_eq!(rt; parse(rt.alloc(), text).err(), Some(fault(line, kind)));
+        let found = parse(rt.alloc(), text).err();
+        expect_same(&rt, (text, found), (text, Some(fault(line, kind))));
     }
 }
 
@@ -96,7 +99,8 @@ fn names_what_is_wrong_with_an_arc_line(rt: HostRuntime) {
         (b"p sp 2 2\na 1 2 5\n".as_slice(), 3, GrKind::MissingArcs),
     ];
     for (text, line, kind) in rows {
-        assert_eq!(rt; parse(rt.alloc(), text).err(), Some(fault(line, kind)));
+        let found = parse(rt.alloc(), text).err();
+        expect_same(&rt, (text, found), (text, Some(fault(line, kind))));
     }
 }
 
@@ -105,7 +109,7 @@ fn reads_weights_loops_and_repeats(rt: HostRuntime) {
     let text =
         b"p sp 2 7\na 1 2 -9223372036854775808\na 1 1 5\na 2 1 9223372036854775807\na 2 1 2147483648\na 2 1 -00000000002147483649\na 2 1 -0\na 1 2 0";
     let graph = parse(rt.alloc(), text).ok().expect(&rt, "a graph");
-    assert_eq!(rt; graph.n(), 2);
+    expect_same(&rt, graph.n(), 2);
     let rows = [
         (1, 2, -9223372036854775808),
         (1, 2, 9223372036854775807),
@@ -114,8 +118,9 @@ fn reads_weights_loops_and_repeats(rt: HostRuntime) {
         (1, 2, 0),
         (1, 2, 0),
     ];
-    assert!(rt; are_links(graph.links(), &rows));
-    assert!(rt; are_links(graph.into_links().as_slice(), &rows));
+    expect_same(&rt, are_links(graph.links(), &rows), true);
+    let links = graph.into_links();
+    expect_same(&rt, are_links(links.as_slice(), &rows), true);
 }
 
 #[test]
@@ -124,11 +129,11 @@ fn reads_bytes_one_after_another(rt: HostRuntime) {
         b"c a small net\r\np\tsp\t006\t8\r\na\t1\t02\t0017\r\nc the usual shape\r\na\t1\t3\t10\r\na\t2\t4\t002\r\na\t3\t5\t0\r\na\t4\t3\t000\r\na\t4\t6\t3\r\n\ta\t5\t2\t-0\r\na\t5\t006\t20\r\n";
     let mut reader = GrReader::new(rt.alloc(), MAX_BYTES);
     for i in 0..text.len() {
-        assert_eq!(rt; reader.feed(&text[i..i + 1]), Ok(()));
+        expect_same(&rt, reader.feed(&text[i..i + 1]), Ok(()));
     }
-    assert_eq!(rt; reader.line(), 12);
-    assert!(rt; is_small_net(&reader.finish().ok().expect(&rt, "a graph")));
-    assert!(rt; is_small_net(&parse(rt.alloc(), text).ok().expect(&rt, "a graph")));
+    expect_same(&rt, reader.line(), 12);
+    expect_small_net(&rt, reader.finish());
+    expect_small_net(&rt, parse(rt.alloc(), text));
 }
 
 #[test]
@@ -136,9 +141,9 @@ fn reads_two_pieces_cut_anywhere(rt: HostRuntime) {
     let text = SMALL_NET.file;
     for at in 0..=text.len() {
         let mut reader = GrReader::new(rt.alloc(), MAX_BYTES);
-        assert_eq!(rt; reader.feed(&text[..at]), Ok(()));
-        assert_eq!(rt; reader.feed(&text[at..]), Ok(()));
-        assert!(rt; is_small_net(&reader.finish().ok().expect(&rt, "a graph")));
+        expect_same(&rt, reader.feed(&text[..at]), Ok(()));
+        expect_same(&rt, reader.feed(&text[at..]), Ok(()));
+        expect_small_net(&rt, reader.finish());
     }
 }
 
@@ -151,16 +156,15 @@ fn takes_no_more_than_its_limit(rt: HostRuntime) {
         let (first, second) = text.split_at(at);
         let mut short = GrReader::new(rt.alloc(), 9);
         let answers = (short.feed(first).is_ok(), short.feed(second));
-        assert_eq!(rt; answers, (at < 10, too_long));
-        assert_eq!(rt;
-            short.finish().map(|graph| graph.n()),
-            Err(ReadFault::TooLong)
-        );
+        expect_same(&rt, (at, answers), (at, (at < 10, too_long)));
+        let read = short.finish().map(|graph| graph.n());
+        expect_same(&rt, read, Err(ReadFault::TooLong));
         let mut enough = GrReader::new(rt.alloc(), 10);
         let answers = (enough.feed(first), enough.feed(second), enough.feed(b""));
-        assert_eq!(rt; answers, (Ok(()), Ok(()), Ok(())));
-        assert_eq!(rt; enough.line(), 2);
-        assert_eq!(rt; enough.finish().map(|graph| graph.n()), Ok(0));
+        expect_same(&rt, (at, answers), (at, (Ok(()), Ok(()), Ok(()))));
+        expect_same(&rt, enough.line(), 2);
+        let read = enough.finish().map(|graph| graph.n());
+        expect_same(&rt, read, Ok(0));
     }
 }
 
@@ -168,42 +172,38 @@ fn takes_no_more_than_its_limit(rt: HostRuntime) {
 fn answers_its_fault_from_then_on(rt: HostRuntime) {
     let unknown = fault(1, GrKind::UnknownLine);
     let mut reader = GrReader::new(rt.alloc(), MAX_BYTES);
-    assert_eq!(rt; reader.feed(b"x"), Ok(()));
-    assert_eq!(rt; reader.feed(b"\n"), Err(unknown));
-    assert_eq!(rt; reader.feed(b"p sp 0 0"), Err(unknown));
-    assert_eq!(rt; reader.finish().err(), Some(unknown));
+    expect_same(&rt, reader.feed(b"x"), Ok(()));
+    expect_same(&rt, reader.feed(b"\n"), Err(unknown));
+    expect_same(&rt, reader.feed(b"p sp 0 0"), Err(unknown));
+    expect_same(&rt, reader.finish().err(), Some(unknown));
 }
 
 #[test]
-fn reads_a_source_to_its_end(rt: HostRuntime) -> Result<(), Fail> {
-    let text = Vec::from_slice(rt.alloc(), SMALL_NET.file)?;
+fn reads_a_source_to_its_end(rt: HostRuntime) {
+    let text = Vec::from_slice(rt.alloc(), SMALL_NET.file).expect(&rt, "memory");
     let mut source = FusedSource::new(text, 109, 7);
-    let graph = read_graph(rt.alloc(), &mut source);
-    assert!(rt; is_small_net(&graph.ok().expect(&rt, "a graph")));
-    Ok(())
+    expect_small_net(&rt, read_graph(rt.alloc(), &mut source));
 }
 
 #[test]
-fn reads_sources_that_fail(rt: HostRuntime) -> Result<(), Fail> {
-    let text = Vec::from_slice(rt.alloc(), b"p sp 2 2\na 1 2 5")?;
+fn reads_sources_that_fail(rt: HostRuntime) {
+    let text = Vec::from_slice(rt.alloc(), b"p sp 2 2\na 1 2 5").expect(&rt, "memory");
     let mut breaks_off = FusedSource::new(text, 12, 5);
     let lost = ReadFault::Source { line: 2 };
-    assert_eq!(rt; read_graph(rt.alloc(), &mut breaks_off).err(), Some(lost));
-    let text = Vec::from_slice(rt.alloc(), b"x\np")?;
+    let found = read_graph(rt.alloc(), &mut breaks_off).err();
+    expect_same(&rt, found, Some(lost));
+    let text = Vec::from_slice(rt.alloc(), b"x\np").expect(&rt, "memory");
     let mut faulty = FusedSource::new(text, 3, 5);
-    assert_eq!(rt;
-        read_graph(rt.alloc(), &mut faulty).err(),
-        Some(fault(1, GrKind::UnknownLine))
-    );
-    Ok(())
+    let found = read_graph(rt.alloc(), &mut faulty).err();
+    expect_same(&rt, found, Some(fault(1, GrKind::UnknownLine)));
 }
 
 // In pieces of each length, so that some begin just at the limit.
 #[test]
-fn reads_a_source_up_to_a_limit(rt: HostRuntime) -> Result<(), Fail> {
+fn reads_a_source_up_to_a_limit(rt: HostRuntime) {
     for piece in 1..12usize {
         for limit in 0..12u64 {
-            let text = Vec::from_slice(rt.alloc(), b"p sp 0 0\nc")?;
+            let text = Vec::from_slice(rt.alloc(), b"p sp 0 0\nc").expect(&rt, "memory");
             let mut source = FusedSource::new(text, usize::MAX, piece);
             let graph = read_graph_upto(rt.alloc(), &mut source, limit);
             let expected = if limit < 10 {
@@ -211,8 +211,8 @@ fn reads_a_source_up_to_a_limit(rt: HostRuntime) -> Result<(), Fail> {
             } else {
                 Ok(0)
             };
-            assert_eq!(rt; graph.map(|graph| graph.n()), expected);
+            let read = graph.map(|graph| graph.n());
+            expect_same(&rt, (piece, limit, read), (piece, limit, expected));
         }
     }
-    Ok(())
 }

@@ -2,17 +2,17 @@
 // call works in, less one, themselves and one more, and far past them. A body that gives up at some size is proved as
 // well as one that doesn't. What is expected is written by a formula, here.
 use super::drawn_lists::expect_forest;
-use super::lists::have_lows_ascending;
+use super::lists::{have_lows_ascending, links_between};
+use super::same::expect_same;
 use forest_run::{plain_text, run_plain};
 use gr_text::{
     FusedSource, GrReader, Graph, MAX_BYTES, parse, read_graph, read_graph_upto, write_forest,
 };
 use link_key::{Components, Forest, Labels, Link, Offers};
-use std::alloc::{AllocError, Global};
+use std::alloc::Global;
 use std::process::Abort;
-use std::test::Fail;
 use std::thread::Threads;
-use worked_graphs::{Row, links_of};
+use worked_graphs::Row;
 
 // How many vertices a path has. Labels are looked at by 4 and by 256, a sample has 256 links, and 65,536 links are put
 // in order at once; a path has a link less than vertices, and with long keys there are two more.
@@ -28,212 +28,199 @@ const LAST: u32 = 1 << 20;
 const MOST: u32 = 1 << 26;
 
 // Adds the arcs of a path from vertex 1 to n, each as heavy as its first vertex: in key order, and each one in the forest.
-fn put_path(arcs: &mut Vec<Row>, n: u32) -> Result<(), AllocError> {
+fn put_path(rt: &impl Abort, arcs: &mut Vec<Row>, n: u32) {
     for v in 1..n {
-        arcs.push((v, v.wrapping_add(1), i64::from(v)))?;
+        arcs.push((v, v.wrapping_add(1), i64::from(v)))
+            .expect(rt, "memory");
     }
-    Ok(())
 }
 
-fn path(alloc: Global, n: u32) -> Result<Vec<Row>, AllocError> {
+fn path(rt: &impl Abort, alloc: Global, n: u32) -> Vec<Row> {
     let mut arcs = Vec::new(alloc);
-    put_path(&mut arcs, n)?;
-    Ok(arcs)
+    put_path(rt, &mut arcs, n);
+    arcs
 }
 
 // The path as a file, which is also its forest's text.
-fn path_text(alloc: Global, n: u32, arcs: &[Row]) -> Result<Vec<u8>, Fail> {
-    let first = format!(in alloc; "p sp {n} {}\n", arcs.len())?;
-    let mut text = Vec::from_slice(alloc, first.as_bytes())?;
+fn path_text(rt: &impl Abort, alloc: Global, n: u32, arcs: &[Row]) -> Vec<u8> {
+    let first = format!(in alloc; "p sp {n} {}\n", arcs.len()).expect(rt, "memory");
+    let mut text = Vec::from_slice(alloc, first.as_bytes()).expect(rt, "memory");
     for (u, v, w) in arcs {
-        let line = format!(in alloc; "a {u} {v} {w}\n")?;
-        text.extend_from_slice(line.as_bytes())?;
+        let line = format!(in alloc; "a {u} {v} {w}\n").expect(rt, "memory");
+        text.extend_from_slice(line.as_bytes()).expect(rt, "memory");
     }
-    Ok(text)
+    text
 }
 
 // The arcs in another order, each beside others from far off. Every place is taken by the steps of 7,919, since that is
 // a prime that doesn't divide their number.
-fn scattered(alloc: Global, arcs: &[Row]) -> Result<Vec<Row>, AllocError> {
+fn scattered(rt: &impl Abort, alloc: Global, arcs: &[Row]) -> Vec<Row> {
     let mut list = Vec::new(alloc);
     let mut place = 0;
     for _ in 0..arcs.len() {
         if let Some(arc) = arcs.get(place) {
-            list.push(*arc)?;
+            list.push(*arc).expect(rt, "memory");
         }
         place = place.wrapping_add(7919) % arcs.len().max(1);
     }
-    Ok(list)
+    list
 }
 
 // The forest of the arcs in another order has just these links, in key order.
-fn expect_links(
-    rt: &impl Abort,
-    alloc: Global,
-    n: u32,
-    arcs: &[Row],
-    wanted: &[Row],
-) -> Result<(), Fail> {
-    let links = links_of(alloc, n, wanted)?.expect(rt, "links");
-    let mixed = scattered(alloc, arcs)?;
-    expect_forest(rt, alloc, n, mixed.as_slice(), links.as_slice())
+fn expect_links(rt: &impl Abort, alloc: Global, n: u32, arcs: &[Row], wanted: &[Row]) {
+    let links = links_between(rt, alloc, n, wanted);
+    let mixed = scattered(rt, alloc, arcs);
+    expect_forest(rt, alloc, n, mixed.as_slice(), links.as_slice());
 }
 
 #[test]
-fn forests_of_paths(rt: HostRuntime) -> Result<(), Fail> {
+fn forests_of_paths(rt: HostRuntime) {
     for n in SIZES {
-        let arcs = path(rt.alloc(), n)?;
-        expect_links(&rt, rt.alloc(), n, arcs.as_slice(), arcs.as_slice())?;
+        let arcs = path(&rt, rt.alloc(), n);
+        expect_links(&rt, rt.alloc(), n, arcs.as_slice(), arcs.as_slice());
     }
-    Ok(())
 }
 
 // Keys that don't fit 64 bits: beside the path there are two of the lightest links, and the heaviest beside one of them,
 // which closes a cycle.
 #[test]
-fn forests_of_links_with_long_keys(rt: HostRuntime) -> Result<(), Fail> {
+fn forests_of_links_with_long_keys(rt: HostRuntime) {
     for n in SIZES {
         let mut wanted = Vec::new(rt.alloc());
-        wanted.push((1, LAST, i64::MIN))?;
-        wanted.push((LAST - 1, LAST, -i64::MAX))?;
-        put_path(&mut wanted, n)?;
-        let mut arcs = wanted.clone()?;
-        arcs.push((1, LAST, i64::MAX))?;
-        expect_links(&rt, rt.alloc(), LAST, arcs.as_slice(), wanted.as_slice())?;
+        wanted.push((1, LAST, i64::MIN)).expect(&rt, "memory");
+        wanted
+            .push((LAST - 1, LAST, -i64::MAX))
+            .expect(&rt, "memory");
+        put_path(&rt, &mut wanted, n);
+        let mut arcs = wanted.clone().expect(&rt, "memory");
+        arcs.push((1, LAST, i64::MAX)).expect(&rt, "memory");
+        expect_links(&rt, rt.alloc(), LAST, arcs.as_slice(), wanted.as_slice());
     }
-    Ok(())
 }
 
 // The links of a path of 2^`rounds` vertices in key order. Every second one is lighter than the others, every second of
 // these lighter than the rest, and so on, so that each round leaves half of the components.
-fn halving_path(alloc: Global, rounds: u32) -> Result<Vec<Row>, AllocError> {
+fn halving_path(rt: &impl Abort, alloc: Global, rounds: u32) -> Vec<Row> {
     let mut arcs = Vec::new(alloc);
     for weight in 0..rounds {
         let step = 1u32.wrapping_shl(weight);
         let mut v = step;
         for _ in 0..1u32.wrapping_shl(rounds.wrapping_sub(weight).wrapping_sub(1)) {
-            arcs.push((v, v.wrapping_add(1), i64::from(weight)))?;
+            arcs.push((v, v.wrapping_add(1), i64::from(weight)))
+                .expect(rt, "memory");
             v = v.wrapping_add(step).wrapping_add(step);
         }
     }
-    Ok(arcs)
+    arcs
 }
 
 #[test]
-fn forests_of_up_to_eighteen_rounds(rt: HostRuntime) -> Result<(), Fail> {
+fn forests_of_up_to_eighteen_rounds(rt: HostRuntime) {
     for rounds in 0..19u32 {
-        let arcs = halving_path(rt.alloc(), rounds)?;
+        let arcs = halving_path(&rt, rt.alloc(), rounds);
         let n = 1u32.wrapping_shl(rounds);
-        expect_links(&rt, rt.alloc(), n, arcs.as_slice(), arcs.as_slice())?;
+        expect_links(&rt, rt.alloc(), n, arcs.as_slice(), arcs.as_slice());
     }
-    Ok(())
 }
 
 // The arcs of a tree whose vertices come after their parents, each lighter than the one before: against key order.
-fn tree(alloc: Global, n: u32) -> Result<Vec<Row>, AllocError> {
+fn tree(rt: &impl Abort, alloc: Global, n: u32) -> Vec<Row> {
     let mut arcs = Vec::new(alloc);
     for v in 1..n {
         let child = v.wrapping_add(1);
-        arcs.push((child / 2, child, i64::from(v).wrapping_neg()))?;
+        arcs.push((child / 2, child, i64::from(v).wrapping_neg()))
+            .expect(rt, "memory");
     }
-    Ok(arcs)
+    arcs
 }
 
 // All of these links are the forest, and the list is only put in order. With one link more to the last vertex, which
 // closes a cycle where there are three vertices or more, it isn't.
 #[test]
-fn forests_of_trees_in_order(rt: HostRuntime) -> Result<(), Fail> {
+fn forests_of_trees_in_order(rt: HostRuntime) {
     for n in SIZES {
-        let mut arcs = tree(rt.alloc(), n)?;
-        let mut wanted = arcs.clone()?;
+        let mut arcs = tree(&rt, rt.alloc(), n);
+        let mut wanted = arcs.clone().expect(&rt, "memory");
         wanted.as_mut_slice().reverse();
-        let links = links_of(rt.alloc(), n, wanted.as_slice())?.expect(&rt, "links");
-        expect_forest(&rt, rt.alloc(), n, arcs.as_slice(), links.as_slice())?;
+        let links = links_between(&rt, rt.alloc(), n, wanted.as_slice());
+        expect_forest(&rt, rt.alloc(), n, arcs.as_slice(), links.as_slice());
         if n > 2 {
-            arcs.push((1, n, 0))?;
-            expect_forest(&rt, rt.alloc(), n, arcs.as_slice(), links.as_slice())?;
+            arcs.push((1, n, 0)).expect(&rt, "memory");
+            expect_forest(&rt, rt.alloc(), n, arcs.as_slice(), links.as_slice());
         }
     }
-    Ok(())
 }
 
 // Each of the vertices 1 to n by itself, by each call that labels them, and as offers.
-fn expect_numbers(rt: &impl Abort, alloc: Global, n: u32) -> Result<(), Fail> {
+fn expect_numbers(rt: &impl Abort, alloc: Global, n: u32) {
     assert!(rt; n <= MOST);
-    let numbers: Vec<u32> = (1..n + 1).collect(alloc)?;
-    let apart = Labels::apart(alloc, n)?;
-    assert_eq!(rt; apart.as_slice(), numbers.as_slice());
-    let components = Components::apart(alloc, n)?;
+    let numbers: Vec<u32> = (1..n + 1).collect(alloc).expect(rt, "memory");
+    let apart = Labels::apart(alloc, n).expect(rt, "memory");
+    expect_same(rt, apart.as_slice(), numbers.as_slice());
+    let components = Components::apart(alloc, n).expect(rt, "memory");
     for v in 0..n + 1 {
-        assert_eq!(rt; components.label(v), v);
+        expect_same(rt, components.label(v), v);
     }
-    let pairs: Vec<(u32, u32)> = numbers.iter().map(|v| (*v, *v)).collect(alloc)?;
-    let wanted = pairs.clone()?;
+    let pairs = numbers.iter().map(|v| (*v, *v));
+    let pairs: Vec<(u32, u32)> = pairs.collect(alloc).expect(rt, "memory");
+    let wanted = pairs.clone().expect(rt, "memory");
     let offers = Offers::of_pairs(pairs).expect(rt, "ascending");
-    assert_eq!(rt; offers.pairs(), wanted.as_slice());
+    expect_same(rt, offers.pairs(), wanted.as_slice());
     let labels = Labels::of_list(numbers).expect(rt, "labels");
-    assert_eq!(rt; labels.as_slice(), apart.as_slice());
-    Ok(())
+    expect_same(rt, labels.as_slice(), apart.as_slice());
 }
 
 #[test]
-fn labels_and_offers(rt: HostRuntime) -> Result<(), Fail> {
+fn labels_and_offers(rt: HostRuntime) {
     for n in SIZES {
-        expect_numbers(&rt, rt.alloc(), n)?;
+        expect_numbers(&rt, rt.alloc(), n);
     }
-    Ok(())
 }
 
 // The graph has so many vertices and these links.
 fn expect_graph(rt: &impl Abort, graph: &Graph, n: u32, links: &[Link]) {
-    assert_eq!(rt; (graph.n(), graph.links()), (n, links));
+    expect_same(rt, (graph.n(), graph.links()), (n, links));
 }
 
 #[test]
-fn files_to_graphs(rt: HostRuntime) -> Result<(), Fail> {
+fn files_to_graphs(rt: HostRuntime) {
     for n in SIZES {
-        let arcs = path(rt.alloc(), n)?;
-        let links = links_of(rt.alloc(), n, arcs.as_slice())?.expect(&rt, "arcs");
-        let text = path_text(rt.alloc(), n, arcs.as_slice())?;
-        let parsed = parse(rt.alloc(), text.as_slice())?;
+        let arcs = path(&rt, rt.alloc(), n);
+        let links = links_between(&rt, rt.alloc(), n, arcs.as_slice());
+        let text = path_text(&rt, rt.alloc(), n, arcs.as_slice());
+        let parsed = parse(rt.alloc(), text.as_slice()).expect(&rt, "a graph");
         expect_graph(&rt, &parsed, n, links.as_slice());
-        let read = read_graph(rt.alloc(), &mut text.as_slice())?;
+        let read = read_graph(rt.alloc(), &mut text.as_slice()).expect(&rt, "a graph");
         expect_graph(&rt, &read, n, links.as_slice());
     }
-    Ok(())
 }
 
 // What is read at once has 65,536 bytes; a piece of a source or of a text has a byte, or about so many as that.
 #[test]
-fn files_in_pieces(rt: HostRuntime) -> Result<(), Fail> {
+fn files_in_pieces(rt: HostRuntime) {
     let n = 10_001;
-    let arcs = path(rt.alloc(), n)?;
-    let links = links_of(rt.alloc(), n, arcs.as_slice())?.expect(&rt, "arcs");
-    let text = path_text(rt.alloc(), n, arcs.as_slice())?;
+    let arcs = path(&rt, rt.alloc(), n);
+    let links = links_between(&rt, rt.alloc(), n, arcs.as_slice());
+    let text = path_text(&rt, rt.alloc(), n, arcs.as_slice());
     let limit = MAX_BYTES.min(text.len() as u64);
     for piece in [1, 2, 4095, 4096, 65_535, 65_536, 65_537, 1 << 20] {
-        let mut source = FusedSource::new(text.clone()?, usize::MAX, piece);
-        let read = read_graph_upto(rt.alloc(), &mut source, limit)?;
+        let bytes = text.clone().expect(&rt, "memory");
+        let mut source = FusedSource::new(bytes, usize::MAX, piece);
+        let read = read_graph_upto(rt.alloc(), &mut source, limit).expect(&rt, "a graph");
         expect_graph(&rt, &read, n, links.as_slice());
         let mut reader = GrReader::new(rt.alloc(), limit);
         for part in text.chunks(piece) {
-            reader.feed(part)?;
+            reader.feed(part).expect(&rt, "a lawful part");
         }
-        assert_eq!(rt; reader.line(), 10_002);
-        let fed = reader.finish()?;
+        expect_same(&rt, reader.line(), 10_002);
+        let fed = reader.finish().expect(&rt, "a graph");
         expect_graph(&rt, &fed, n, links.as_slice());
     }
-    Ok(())
 }
 
 // A path whose weights are drawn from so many, the least being the least weight there is; as a forest it is what std's
 // sort gives.
-fn expect_distinct(
-    rt: &(impl Abort + Threads + Sync),
-    alloc: Global,
-    n: u32,
-    weights: u64,
-) -> Result<(), Fail> {
+fn expect_distinct(rt: &(impl Abort + Threads + Sync), alloc: Global, n: u32, weights: u64) {
     let mut arcs = Vec::new(alloc);
     let mut weight = 0u64;
     for v in 1..n {
@@ -245,71 +232,73 @@ fn expect_distinct(
             v,
             v.wrapping_add(1),
             i64::MIN.wrapping_add(drawn.cast_signed()),
-        ))?;
+        ))
+        .expect(rt, "memory");
     }
-    let links = links_of(alloc, n, arcs.as_slice())?.expect(rt, "arcs");
-    let mut wanted = links.clone()?;
+    let links = links_between(rt, alloc, n, arcs.as_slice());
+    let mut wanted = links.clone().expect(rt, "memory");
     wanted.sort_unstable();
-    let again = links.clone()?;
+    let again = links.clone().expect(rt, "memory");
     assert!(rt; have_lows_ascending(links.as_slice()));
-    let forest = Forest::of_distinct(alloc, links)?;
-    assert_eq!(rt; forest.links(), wanted.as_slice());
+    let forest = Forest::of_distinct(alloc, links).expect(rt, "memory");
+    expect_same(rt, forest.links(), wanted.as_slice());
     assert!(rt; have_lows_ascending(again.as_slice()));
-    let by_threads = Forest::of_distinct_par(rt, alloc, again)?;
-    assert_eq!(rt; by_threads.links(), wanted.as_slice());
-    Ok(())
+    let by_threads = Forest::of_distinct_par(rt, alloc, again).expect(rt, "memory");
+    expect_same(rt, by_threads.links(), wanted.as_slice());
 }
 
 // Weights of three digits, whose keys fit 64 bits; of all 64, which leave no room for the ends where there are two links
 // or more; and of 41, with which the first digits of keys are often the same.
 #[test]
-fn distinct_links(rt: HostRuntime) -> Result<(), Fail> {
+fn distinct_links(rt: HostRuntime) {
     for n in SIZES {
         for weights in [1_000, 0, 1 << 41] {
-            expect_distinct(&rt, rt.alloc(), n, weights)?;
+            expect_distinct(&rt, rt.alloc(), n, weights);
         }
     }
-    Ok(())
 }
 
 #[test]
-fn forests_to_texts(rt: HostRuntime) -> Result<(), Fail> {
+fn forests_to_texts(rt: HostRuntime) {
     for n in SIZES {
-        let arcs = path(rt.alloc(), n)?;
-        let links = links_of(rt.alloc(), n, arcs.as_slice())?.expect(&rt, "arcs");
-        let text = path_text(rt.alloc(), n, arcs.as_slice())?;
+        let arcs = path(&rt, rt.alloc(), n);
+        let links = links_between(&rt, rt.alloc(), n, arcs.as_slice());
+        let text = path_text(&rt, rt.alloc(), n, arcs.as_slice());
         let forest = Forest::of_list(links).expect(&rt, "ascending");
         let mut sink = Vec::new(rt.alloc());
         let written = write_forest(&mut sink, n, &forest);
-        assert_eq!(rt; written, Ok(text.len() as u64));
-        assert_eq!(rt; sink.as_slice(), text.as_slice());
+        expect_same(&rt, written, Ok(text.len() as u64));
+        expect_same(&rt, sink.as_slice(), text.as_slice());
     }
-    Ok(())
 }
 
 #[test]
-fn files_to_texts(rt: HostRuntime) -> Result<(), Fail> {
+fn files_to_texts(rt: HostRuntime) {
     for n in SIZES {
-        let arcs = path(rt.alloc(), n)?;
-        let text = path_text(rt.alloc(), n, arcs.as_slice())?;
+        let arcs = path(&rt, rt.alloc(), n);
+        let text = path_text(&rt, rt.alloc(), n, arcs.as_slice());
         let mut sink = Vec::new(rt.alloc());
-        let report = run_plain(rt.alloc(), &mut text.as_slice(), &mut sink)?;
-        assert_eq!(rt; (report.vertices, report.links), (n, arcs.len() as u64));
-        assert_eq!(rt; sink.as_slice(), text.as_slice());
-        let again = plain_text(rt.alloc(), text.as_slice())?;
-        assert_eq!(rt; again.as_slice(), text.as_slice());
+        let ended = run_plain(rt.alloc(), &mut text.as_slice(), &mut sink);
+        let report = ended.expect(&rt, "a forest");
+        let counts = (report.vertices, report.links);
+        expect_same(&rt, counts, (n, arcs.len() as u64));
+        expect_same(&rt, sink.as_slice(), text.as_slice());
+        let again = plain_text(rt.alloc(), text.as_slice()).expect(&rt, "a forest");
+        expect_same(&rt, again.as_slice(), text.as_slice());
     }
-    Ok(())
 }
 
 // Tables of 268 MB each.
 #[test]
-fn as_many_vertices_as_there_may_be(rt: HostRuntime) -> Result<(), Fail> {
+fn as_many_vertices_as_there_may_be(rt: HostRuntime) {
     let arcs = [(1, MOST, -7), (1, 2, 5), (MOST - 1, MOST, 5)];
-    expect_links(&rt, rt.alloc(), MOST, &arcs, &arcs)?;
+    expect_links(&rt, rt.alloc(), MOST, &arcs, &arcs);
     let text = b"p sp 67108864 0\n".as_slice();
-    assert_eq!(rt; plain_text(rt.alloc(), text)?.as_slice(), text);
-    assert_eq!(rt; Labels::apart(rt.alloc(), MOST)?.n(), MOST);
-    assert_eq!(rt; Components::apart(rt.alloc(), MOST)?.label(MOST), MOST);
-    Ok(())
+    let again = plain_text(rt.alloc(), text).expect(&rt, "a forest");
+    expect_same(&rt, again.as_slice(), text);
+    let labels = Labels::apart(rt.alloc(), MOST).expect(&rt, "memory");
+    expect_same(&rt, labels.n(), MOST);
+    drop(labels);
+    let components = Components::apart(rt.alloc(), MOST).expect(&rt, "memory");
+    expect_same(&rt, components.label(MOST), MOST);
 }

@@ -1,16 +1,17 @@
 // The texts of forests, how a sink is called, and how much of a text went out.
+use super::lists::links_between;
+use super::same::expect_same;
 use byte_streams::{BufferedSink, Failed, Sink};
 use gr_text::{FusedSink, WriteFault, write_forest};
 use link_key::Forest;
-use std::alloc::{AllocError, Global};
+use std::alloc::Global;
 use std::process::Abort;
-use std::test::Fail;
-use worked_graphs::{Row, SMALL_NET, links_of};
+use worked_graphs::{Row, SMALL_NET};
 
 // The forest of these links, which have to ascend.
-fn forest_of(rt: &impl Abort, alloc: Global, rows: &[Row]) -> Result<Forest, AllocError> {
-    let links = links_of(alloc, 1 << 26, rows)?.expect(rt, "arcs");
-    Ok(Forest::of_list(links).expect(rt, "ascending"))
+fn forest_of(rt: &impl Abort, alloc: Global, rows: &[Row]) -> Forest {
+    let links = links_between(rt, alloc, 1 << 26, rows);
+    Forest::of_list(links).expect(rt, "ascending")
 }
 
 // A sink that counts its writes, its flushes, and the writes that come behind the first flush.
@@ -53,20 +54,19 @@ impl Sink for Counted {
 // of 8 KiB, each of which but the last has no room for one more line of 64 bytes.
 fn expect_text(rt: &impl Abort, alloc: Global, n: u32, forest: &Forest, text: &[u8]) {
     let mut sink = Counted::new(alloc);
-    assert_eq!(rt; write_forest(&mut sink, n, forest), Ok(text.len() as u64));
-    assert_eq!(rt; sink.bytes.as_slice(), text);
-    assert_eq!(rt; (sink.flushes, sink.late_writes), (1, 0));
-    assert!(rt; sink.writes <= text.len() / 8128 + 1);
+    let written = write_forest(&mut sink, n, forest);
+    expect_same(rt, written, Ok(text.len() as u64));
+    expect_same(rt, sink.bytes.as_slice(), text);
+    expect_same(rt, (sink.flushes, sink.late_writes), (1, 0));
+    expect_same(rt, sink.writes <= text.len() / 8128 + 1, true);
     let mut buffered = BufferedSink::new(Vec::new(alloc));
-    assert_eq!(rt;
-        write_forest(&mut buffered, n, forest),
-        Ok(text.len() as u64)
-    );
-    assert_eq!(rt; buffered.flushed(), text);
+    let written = write_forest(&mut buffered, n, forest);
+    expect_same(rt, written, Ok(text.len() as u64));
+    expect_same(rt, buffered.flushed(), text);
 }
 
 #[test]
-fn writes_small_forests(rt: HostRuntime) -> Result<(), Fail> {
+fn writes_small_forests(rt: HostRuntime) {
     let signs = [
         (7, 8, -9223372036854775808),
         (5, 6, -2147483648),
@@ -85,47 +85,45 @@ fn writes_small_forests(rt: HostRuntime) -> Result<(), Fail> {
         ),
     ];
     for (n, links, text) in rows {
-        let forest = forest_of(&rt, rt.alloc(), links)?;
+        let forest = forest_of(&rt, rt.alloc(), links);
         expect_text(&rt, rt.alloc(), n, &forest, text);
     }
-    Ok(())
 }
 
 // A sink that fails after `passes` bytes holds just these, also one that is full at the last byte and fails at the
 // flush; one that takes nothing more, and then is flushed, has the whole text.
 #[test]
-fn counts_the_bytes_that_went_out(rt: HostRuntime) -> Result<(), Fail> {
-    let forest = forest_of(&rt, rt.alloc(), SMALL_NET.forest)?;
+fn counts_the_bytes_that_went_out(rt: HostRuntime) {
+    let forest = forest_of(&rt, rt.alloc(), SMALL_NET.forest);
     for passes in 0..51usize {
         let fault = Err(WriteFault {
             written: passes as u64,
         });
-        let mut failing = FusedSink::new(rt.alloc(), passes, 7)?;
-        assert_eq!(rt; write_forest(&mut failing, 6, &forest), fault);
-        let mut stopping = FusedSink::stopped(rt.alloc(), passes, 7)?;
+        let mut failing = FusedSink::new(rt.alloc(), passes, 7).expect(&rt, "memory");
+        expect_same(&rt, write_forest(&mut failing, 6, &forest), fault);
+        let mut stopping = FusedSink::stopped(rt.alloc(), passes, 7).expect(&rt, "memory");
         let expected = if passes < 50 { fault } else { Ok(50) };
-        assert_eq!(rt; write_forest(&mut stopping, 6, &forest), expected);
-        assert_eq!(rt; stopping.held(), failing.held());
-        assert_eq!(rt; SMALL_NET.text.get(..passes), Some(failing.held()));
+        expect_same(&rt, write_forest(&mut stopping, 6, &forest), expected);
+        expect_same(&rt, stopping.held(), failing.held());
+        expect_same(&rt, SMALL_NET.text.get(..passes), Some(failing.held()));
     }
-    Ok(())
 }
 
 // 2000 links whose lines have 11 bytes each, which is more than two pieces hold.
 #[test]
-fn writes_many_pieces(rt: HostRuntime) -> Result<(), Fail> {
+fn writes_many_pieces(rt: HostRuntime) {
     let mut rows = Vec::new(rt.alloc());
-    let mut text = Vec::from_slice(rt.alloc(), b"p sp 8 2000\n")?;
+    let mut text = Vec::from_slice(rt.alloc(), b"p sp 8 2000\n").expect(&rt, "memory");
     for weight in 1000..3000 {
-        rows.push((7, 8, weight))?;
-        let line = format!(in rt.alloc(); "a 7 8 {weight}\n")?;
-        text.extend_from_slice(line.as_bytes())?;
+        rows.push((7, 8, weight)).expect(&rt, "memory");
+        let line = format!(in rt.alloc(); "a 7 8 {weight}\n").expect(&rt, "memory");
+        text.extend_from_slice(line.as_bytes())
+            .expect(&rt, "memory");
     }
-    let forest = forest_of(&rt, rt.alloc(), rows.as_slice())?;
+    let forest = forest_of(&rt, rt.alloc(), rows.as_slice());
     expect_text(&rt, rt.alloc(), 8, &forest, text.as_slice());
-    let mut failing = FusedSink::new(rt.alloc(), 20000, 5000)?;
+    let mut failing = FusedSink::new(rt.alloc(), 20000, 5000).expect(&rt, "memory");
     let fault = WriteFault { written: 20000 };
-    assert_eq!(rt; write_forest(&mut failing, 8, &forest), Err(fault));
-    assert_eq!(rt; text.get(..20000), Some(failing.held()));
-    Ok(())
+    expect_same(&rt, write_forest(&mut failing, 8, &forest), Err(fault));
+    expect_same(&rt, text.get(..20000), Some(failing.held()));
 }
