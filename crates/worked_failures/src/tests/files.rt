@@ -8,7 +8,7 @@ use super::streams::{Place, Setback, sink_at, source_of};
 use byte_streams::{FusedSink, FusedSource};
 use forest_run::{RunFault, run_plain};
 use gr_text::ReadFault;
-use std::alloc::{AllocError, Global};
+use std::alloc::Global;
 use std::process::Abort;
 use std::sync::Wait;
 use std::thread::Threads;
@@ -34,20 +34,21 @@ const LENGTHS: [(Worked, usize, usize); 2] = [(SMALL_NET, 108, 50), (WIDE_WEIGHT
 
 // Why a run ends, if it doesn't end well.
 fn fault_of(
-    rt: &(impl Threads + Wait + Sync),
+    rt: &(impl Threads + Wait + Sync + Abort),
     alloc: Global,
     way: Way,
     source: &mut FusedSource,
     sink: &mut FusedSink,
-) -> Result<Option<RunFault>, AllocError>
+) -> Option<RunFault>
     requires can_read { (source.old.failures < 2 ^ 64 - 1) × (source.old.ends < 2 ^ 64 - 1) }
     requires can_write { sink.old.setbacks < 2 ^ 64 - 1 }
 {
     match way {
-        Way::OneThread => Ok(run_plain(alloc, source, sink).err()),
+        Way::OneThread => run_plain(alloc, source, sink).err(),
         Way::TwoWorkers => {
-            let (ended, _) = run_over(rt, two_workers(alloc)?, 2, source, sink);
-            Ok(ended.err())
+            let lines = two_workers(alloc).expect(rt, "memory");
+            let (ended, _) = run_over(rt, lines, 2, source, sink);
+            ended.err()
         }
     }
 }
@@ -97,7 +98,7 @@ fn expect_end<R: Threads + Wait + Sync + Abort>(
     let file = Vec::from_slice(alloc, graph.file).expect(rt, "memory");
     let mut source = source_of(file, place);
     let mut sink = sink_at(alloc, place).expect(rt, "memory");
-    let fault = fault_of(rt, alloc, way, &mut source, &mut sink).expect(rt, "memory");
+    let fault = fault_of(rt, alloc, way, &mut source, &mut sink);
     let found = (fault, sink.held());
     expect_same(
         rt,

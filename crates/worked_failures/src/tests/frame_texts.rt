@@ -168,9 +168,9 @@ fn expect_ask<'a>(
     memory: &'a Memory,
     labels: &Labels<&'a Memory>,
 ) -> Result<(), AllocError> {
-    assert!(rt; labels.as_slice() == [1, 2, 3].as_slice());
+    expect_same(rt, labels.as_slice(), [1, 2, 3].as_slice());
     let text = encode_ask(memory, 1, 0, labels)?;
-    assert!(rt; text.as_slice() == ASK.as_slice());
+    expect_same(rt, text.as_slice(), ASK.as_slice());
     Ok(())
 }
 
@@ -181,14 +181,15 @@ fn ask_spelled<'a>(rt: &impl Abort, memory: &'a Memory) -> Result<Vec<u8, &'a Me
     let mut labels = Labels::apart(memory, 3)?;
     expect_ask(rt, memory, &labels)?;
     if labels.spell().is_err() {
-        assert!(rt; ask_parts(1, 0, &labels).is_none());
+        expect_same(rt, ask_parts(1, 0, &labels).is_none(), true);
         expect_ask(rt, memory, &labels)?;
         labels.spell()?;
     }
     let asked = memory.asked();
     labels.spell()?;
     let (head, bytes) = ask_parts(1, 0, &labels).expect(rt, "kept bytes");
-    assert!(rt; (head.as_slice(), bytes) == ASK.split_at(17) && memory.asked() == asked);
+    expect_same(rt, (head.as_slice(), bytes), ASK.split_at(17));
+    expect_same(rt, memory.asked(), asked);
     expect_ask(rt, memory, &labels)?;
     encode_ask(memory, 1, 0, &labels)
 }
@@ -244,7 +245,7 @@ fn expect_refused(rt: &impl Abort, memory: Memory, bytes: &[u8], fault: FrameFau
     let mut source = bytes;
     let found = read_frame(&memory, &mut source).err();
     let wants = was_refused(&memory) && found == Some(FrameFault::Memory);
-    assert!(rt; found == Some(fault) || wants);
+    expect_same(rt, found == Some(fault) || wants, true);
     expect_same(rt, memory.live(), 0);
 }
 

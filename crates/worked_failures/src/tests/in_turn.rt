@@ -1,5 +1,7 @@
 // The searches: a call is made with each of its allocations refused in turn, until a run meets no refusal.
+use super::same::expect_same;
 use std::alloc::{AllocError, Global};
+use std::fmt::Debug;
 use std::process::Abort;
 use test_memory::{Found, Refusals, Refusing, refuse_each};
 
@@ -10,7 +12,7 @@ const MOST: u64 = 2000;
 pub(crate) type Memory = Refusing<Global>;
 
 // What the call answered, if it did; the only fault that is let pass is this one, of want of memory.
-pub(crate) fn or_refused<T: Drop, E: Drop + PartialEq>(
+pub(crate) fn or_refused<T: Drop, E: PartialEq + Debug + Drop>(
     rt: &impl Abort,
     outcome: Result<T, E>,
     memory: E,
@@ -18,7 +20,7 @@ pub(crate) fn or_refused<T: Drop, E: Drop + PartialEq>(
     match outcome {
         Ok(answer) => Ok(answer),
         Err(fault) => {
-            assert!(rt; fault == memory);
+            expect_same(rt, fault, memory);
             Err(AllocError)
         }
     }
@@ -34,7 +36,7 @@ where
     match refuse_each(alloc, MOST, call) {
         Found::Each(count) if count > 0 => count,
         found => {
-            assert_eq!(rt; found, Found::Each(1));
+            expect_same(rt, found, Found::Each(1));
             0
         }
     }
@@ -52,13 +54,13 @@ where
         for refusals in [Refusals::only(number), Refusals::since(number)] {
             let memory = Refusing::new(alloc, refusals);
             let went = call(&memory);
-            assert_eq!(rt; memory.live(), 0, "allocation {number}");
+            expect_same(rt, (number, memory.live()), (number, 0));
             let asked = memory.asked();
-            assert!(rt; went.is_ok() || asked >= number);
+            expect_same(rt, went.is_ok() || asked >= number, true);
             most = most.max(asked);
         }
         if most < number {
-            assert!(rt; number > 1);
+            expect_same(rt, number > 1, true);
             return number.wrapping_sub(1);
         }
     }

@@ -31,7 +31,7 @@ pub(crate) fn few_links(rt: &impl Abort, alloc: Global, n: u32, arcs: &[Row]) ->
 // These are the links of the graph's forest.
 pub(crate) fn expect_forest(rt: &impl Abort, alloc: Global, found: &[Link], graph: &Worked) {
     let forest = few_links(rt, alloc, graph.n, graph.forest);
-    assert!(rt; found == forest.as_slice());
+    expect_same(rt, found, forest.as_slice());
 }
 
 // A cut of links between so many vertices into so many shards.
@@ -73,7 +73,7 @@ fn make(rt: &impl Abort, alloc: Global, memory: &Memory, call: Call) -> Result<(
     match call {
         Call::Apart => {
             let labels = Labels::apart(memory, 3)?;
-            assert!(rt; labels.as_slice() == [1, 2, 3].as_slice());
+            expect_same(rt, labels.as_slice(), [1, 2, 3].as_slice());
         }
         Call::Even => expect_sizes(rt, Cut::even(memory, links, 3), &[2, 3, 3])?,
         Call::At => expect_sizes(rt, Cut::at(memory, links, &[2, 2, 8]), &[2, 0, 6, 0])?,

@@ -59,7 +59,7 @@ fn expect_claims(rt: &impl Abort, memory: &Memory) -> Result<(), AllocError> {
     let (board, mut seats) = match Board::open(memory, 2, 2) {
         Ok(it) => it,
         Err(fault) => {
-            assert!(rt; fault == BoardFault::Memory);
+            expect_same(rt, fault, BoardFault::Memory);
             return Err(AllocError);
         }
     };
@@ -68,10 +68,11 @@ fn expect_claims(rt: &impl Abort, memory: &Memory) -> Result<(), AllocError> {
     let other = claim(&board, &mut seats, 1, 0);
     let gave = give_back(&board, &mut seats, 0, 0);
     let last = claim(&board, &mut seats, 1, 0);
-    assert!(rt; gave && (first, other, last) == (Claim::Won, Claim::Held(0), Claim::Won));
-    expect_same(rt, memory.asked(), asked);
+    let claims = (first, other, last);
+    expect_same(rt, claims, (Claim::Won, Claim::Held(0), Claim::Won));
+    expect_same(rt, (gave, memory.asked()), (true, asked));
     let owners = or_refused(rt, board.close(seats), BoardFault::Memory)?;
-    assert!(rt; (owners.of(0), owners.of(1)) == (Some(1), None));
+    expect_same(rt, (owners.of(0), owners.of(1)), (Some(1), None));
     Ok(())
 }
 
@@ -128,7 +129,7 @@ fn expect_taken<'a>(
     assert!(rt; shard < book.len());
     let asked = memory.asked();
     let taken = book.take(shard, answer).is_ok();
-    assert!(rt; taken && memory.asked() == asked);
+    expect_same(rt, (taken, memory.asked()), (true, asked));
 }
 
 // The picks of the book's round where each shard's answer offers this.
@@ -174,12 +175,14 @@ fn picks_over<'a>(
 fn expect_spelled<'a>(rt: &impl Abort, solver: &mut Solver<&'a Memory>) -> Result<(), AllocError> {
     let round = solver.round();
     if solver.spell_labels().is_err() {
-        assert!(rt; solver.labels().spelled().is_none() && solver.round() == round);
+        let keeps_none = solver.labels().spelled().is_none();
+        expect_same(rt, (keeps_none, solver.round()), (true, round));
         solver.spell_labels()?;
     }
     let labels = solver.labels();
     let bytes = labels.spelled().expect(rt, "kept bytes");
-    assert!(rt; solver.round() == round && spell(labels.as_slice(), bytes));
+    let are_theirs = spell(labels.as_slice(), bytes);
+    expect_same(rt, (are_theirs, solver.round()), (true, round));
     Ok(())
 }
 
@@ -206,10 +209,10 @@ fn expect_step<'a>(
 ) -> Result<(), AllocError> {
     let before = solver.labels().as_slice().to_vec(memory)?;
     expect_spelled(rt, solver)?;
-    assert!(rt; solver.labels().as_slice() == before.as_slice());
+    expect_same(rt, solver.labels().as_slice(), before.as_slice());
     let picks = picks_over(rt, memory, cut, solver.labels(), Offered::Scanned)?;
     let turn = step(rt, solver, &picks, before.as_slice())?;
-    assert!(rt; (turn, solver.labels().as_slice()) == expected);
+    expect_same(rt, (turn, solver.labels().as_slice()), expected);
     Ok(())
 }
 
@@ -227,8 +230,8 @@ fn step<'a>(
     match solver.step(picks) {
         Ok(turn) => Ok(turn),
         Err(fault) => {
-            assert!(rt; fault == SolveFault::Memory && solver.round() == round);
-            assert!(rt; solver.labels().as_slice() == before);
+            expect_same(rt, (fault, solver.round()), (SolveFault::Memory, round));
+            expect_same(rt, solver.labels().as_slice(), before);
             or_refused(rt, solver.step(picks), SolveFault::Memory)
         }
     }
@@ -269,7 +272,7 @@ fn finished<'a>(
     match solver.finish(cut) {
         Ok(found) => Ok(found),
         Err(fault) => {
-            assert!(rt; fault == SolveFault::Memory);
+            expect_same(rt, fault, SolveFault::Memory);
             or_refused(rt, solver.finish(cut), SolveFault::Memory)
         }
     }
@@ -284,7 +287,7 @@ fn expect_relabelled<'a>(
     let labels = Labels::apart(memory, 6)?;
     let picks = picks_over(rt, memory, cut, &labels, Offered::Scanned)?;
     let made = hook_relabel(memory, &labels, &picks)?;
-    assert!(rt; made.as_slice() == [1, 2, 1, 1, 2, 1].as_slice());
+    expect_same(rt, made.as_slice(), [1, 2, 1, 1, 2, 1].as_slice());
     Ok(())
 }
 
@@ -424,21 +427,16 @@ fn boards_books_and_solvers(rt: HostRuntime) {
 }
 
 // How many blocks a book over the cut for so many labels takes that is opened in the room of picks of six.
-fn blocks_in_room<'a>(
-    rt: &impl Abort,
-    memory: &'a Memory,
-    cut: &Cut<&'a Memory>,
-    n: u32,
-) -> Result<u64, AllocError> {
+fn blocks_in_room<'a>(rt: &impl Abort, memory: &'a Memory, cut: &Cut<&'a Memory>, n: u32) -> u64 {
     assert!(rt; n < 1 << 20);
-    let labels = Labels::apart(memory, 6)?;
-    let picks = picks_over(rt, memory, cut, &labels, Offered::Nothing)?;
+    let labels = Labels::apart(memory, 6).expect(rt, "memory");
+    let picks = picks_over(rt, memory, cut, &labels, Offered::Nothing).expect(rt, "memory");
     assert!(rt; picks.is_empty());
-    let labels = Labels::apart(memory, n)?;
+    let labels = Labels::apart(memory, n).expect(rt, "memory");
     assert!(rt; all_have_labels(cut, labels.n()));
     let before = memory.given();
-    let _book = RoundBook::open_over(picks, 1, cut, &labels)?;
-    Ok(memory.given().wrapping_sub(before))
+    let _book = RoundBook::open_over(picks, 1, cut, &labels).expect(rt, "memory");
+    memory.given().wrapping_sub(before)
 }
 
 // It takes so many.
@@ -446,7 +444,7 @@ fn expect_blocks(rt: &impl Abort, alloc: Global, n: u32, blocks: u64) {
     let memory = Refusing::new(alloc, Refusals::none());
     let cut = Cut::even(&memory, &[], 1).expect(rt, "a cut");
     let found = blocks_in_room(rt, &memory, &cut, n);
-    expect_same(rt, found, Ok(blocks));
+    expect_same(rt, (n, found), (n, blocks));
 }
 
 // A book takes two blocks for its shards, and one for its picks: none where those before had as many labels, or more.

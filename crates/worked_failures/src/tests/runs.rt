@@ -37,11 +37,12 @@ fn expect_ended(
 ) -> Result<Report, AllocError> {
     match ended {
         Ok(report) => {
-            assert!(rt; held == graph.text && report.total == graph.total);
+            expect_same(rt, (held, report.total), (graph.text, graph.total));
             Ok(report)
         }
         Err(fault) => {
-            assert!(rt; was_refused(memory) && wants_memory(fault) && held.is_empty());
+            let wants = was_refused(memory) && wants_memory(fault);
+            expect_same(rt, (fault, wants, held.is_empty()), (fault, true, true));
             Err(AllocError)
         }
     }
@@ -55,7 +56,7 @@ fn expect_plain(
     graph: Worked,
 ) -> Result<(), AllocError> {
     let mut source = graph.file;
-    let mut sink = FusedSink::new(alloc, 100, 7)?;
+    let mut sink = FusedSink::new(alloc, 100, 7).expect(rt, "memory");
     let ended = run_plain(memory, &mut source, &mut sink);
     expect_ended(rt, memory, &graph, ended, sink.held())?;
     Ok(())
@@ -108,11 +109,11 @@ fn expect_over_workers<R: Threads + Wait + Sync + Abort>(
     graph: Worked,
 ) -> Result<(), AllocError> {
     let mut source = graph.file;
-    let mut sink = FusedSink::new(alloc, 100, 7)?;
+    let mut sink = FusedSink::new(alloc, 100, 7).expect(rt, "memory");
     let (ended, count) = run_over(rt, two_workers(memory)?, 2, &mut source, &mut sink);
     let report = expect_ended(rt, memory, &graph, ended, sink.held())?;
     expect_same(rt, (count, report.rounds, report.shards), (2, 2, 2));
-    assert!(rt; report.closed == 0 || was_refused(memory));
+    expect_same(rt, report.closed == 0 || was_refused(memory), true);
     Ok(())
 }
 
@@ -125,7 +126,7 @@ fn expect_over_an_old_worker<R: Threads + Wait + Sync + Abort>(
     let mut lines = Vec::new(memory);
     lines.push(ScriptLine::new(FIRST_HELLO.to_vec(memory)?))?;
     let mut source = WIDE_WEIGHTS.file;
-    let mut sink = FusedSink::new(alloc, 100, 7)?;
+    let mut sink = FusedSink::new(alloc, 100, 7).expect(rt, "memory");
     let (ended, _) = run_over(rt, lines, 1, &mut source, &mut sink);
     let report = expect_ended(rt, memory, &WIDE_WEIGHTS, ended, sink.held())?;
     let asks = (report.asked, report.answered, report.alone);

@@ -4,7 +4,7 @@ use super::frame_texts::{ANSWER, ASK, HELLO, SHARD, SHARD64};
 use super::same::expect_same;
 use super::streams::{Place, Setback, sink_at, source_of};
 use frames::FrameFault;
-use std::alloc::{AllocError, Global};
+use std::alloc::Global;
 use std::process::Abort;
 use std::thread::Threads;
 use worker_engine::{ServeFault, Served, serve};
@@ -22,10 +22,10 @@ const GREETED: usize = 11;
 const ANSWERED: usize = 52;
 
 // Two texts, one behind the other.
-pub(crate) fn joined(alloc: Global, first: &[u8], second: &[u8]) -> Result<Vec<u8>, AllocError> {
-    let mut bytes = Vec::from_slice(alloc, first)?;
-    bytes.extend_from_slice(second)?;
-    Ok(bytes)
+pub(crate) fn joined(rt: &impl Abort, alloc: Global, first: &[u8], second: &[u8]) -> Vec<u8> {
+    let mut bytes = Vec::from_slice(alloc, first).expect(rt, "memory");
+    bytes.extend_from_slice(second).expect(rt, "memory");
+    bytes
 }
 
 /// A shard, how many bytes it has together with the ask, and how many bytes a source and a sink take at a time.
@@ -67,12 +67,12 @@ fn expect_end(
         passes,
         piece,
     };
-    let bytes = joined(alloc, shard, &ASK).expect(rt, "memory");
+    let bytes = joined(rt, alloc, shard, &ASK);
     let mut source = source_of(bytes, place);
     let mut sink = sink_at(alloc, place).expect(rt, "memory");
     let end = serve(rt, alloc, 0, &mut source, &mut sink);
     let (expected, written) = end_of(heard, place);
-    let both = joined(alloc, &HELLO, &ANSWER).expect(rt, "memory");
+    let both = joined(rt, alloc, &HELLO, &ANSWER);
     assert!(rt; both.len() == ANSWERED && written <= both.len());
     expect_same(
         rt,

@@ -34,7 +34,7 @@ fn expect_graph(
     links: &[Link],
 ) -> Result<(), AllocError> {
     let graph = or_refused(rt, read, ReadFault::Memory)?;
-    assert!(rt; graph.n() == 6 && graph.links() == links);
+    expect_same(rt, (graph.n(), graph.links()), (6, links));
     Ok(())
 }
 
@@ -149,6 +149,7 @@ fn expect_ten_bytes(
         write_forest(&mut sink, 6, &forest),
         Err(WriteFault { written: 10 }),
     );
-    assert!(rt; sink.held() == b"p sp 6 5\na".as_slice() && memory.asked() == asked);
+    expect_same(rt, sink.held(), b"p sp 6 5\na".as_slice());
+    expect_same(rt, memory.asked(), asked);
     Ok(())
 }

@@ -33,7 +33,7 @@ fn fault_over<'a, 'b, L: Line + Drop>(
     let mut wire = Wire::new(memory, line, cut, 0);
     let fault = match wire.ask(1, shard, &labels) {
         Ok(answer) => {
-            assert!(rt; answer.offers.pairs() == OFFERS.as_slice());
+            expect_same(rt, answer.offers.pairs(), OFFERS.as_slice());
             None
         }
         Err(fault) => Some(fault),
@@ -85,7 +85,8 @@ fn expect_over_cut<'a>(
     if went_well(asked, fault) {
         return Ok(());
     }
-    assert!(rt; was_refused(memory) && wants_memory(asked, fault));
+    let wants = was_refused(memory) && wants_memory(asked, fault);
+    expect_same(rt, (fault, wants), (fault, true));
     Err(AllocError)
 }
 

@@ -52,7 +52,7 @@ fn expect_offers(
     let links = few_links(rt, alloc, 3, arcs);
     let labels = Labels::apart(alloc, 3).expect(rt, "memory");
     let offers = offers(rt, memory, by, links.as_slice(), &labels)?;
-    assert!(rt; offers.pairs() == [(1, 0), (2, 0), (3, 2)].as_slice());
+    expect_same(rt, offers.pairs(), [(1, 0), (2, 0), (3, 2)].as_slice());
     Ok(())
 }
 
@@ -175,16 +175,16 @@ fn expect_session(
     memory: &Memory,
     session: Session,
 ) -> Result<(), AllocError> {
-    let heard = joined(alloc, session.shard, &ASK).expect(rt, "memory");
+    let heard = joined(rt, alloc, session.shard, &ASK);
     let mut source = heard.as_slice();
     let mut sink = Vec::new(alloc);
     let end = serve_upto(rt, memory, 0, &mut source, &mut sink, session.limit);
     let (hello, replied) = sink.split_at(sink.len().min(HELLO.len()));
     if end == session.end && replied == session.answer {
-        assert!(rt; hello == HELLO.as_slice());
+        expect_same(rt, hello, HELLO.as_slice());
         return Ok(());
     }
-    assert!(rt; was_refused(memory));
+    expect_same(rt, was_refused(memory), true);
     if replied == NO_MEMORY.as_slice() {
         let in_its_place = match session.end {
             Ok(_) => Ok(Served {
@@ -197,8 +197,9 @@ fn expect_session(
         expect_same(rt, end, in_its_place);
         return Ok(());
     }
-    assert!(rt; end == Err(ServeFault::Memory) || end == Err(ServeFault::Read(FrameFault::Memory)));
-    assert!(rt; replied.is_empty() && (hello.is_empty() || hello == HELLO.as_slice()));
+    let wants = end == Err(ServeFault::Memory) || end == Err(ServeFault::Read(FrameFault::Memory));
+    expect_same(rt, (end, wants, replied.is_empty()), (end, true, true));
+    expect_same(rt, hello.is_empty() || hello == HELLO.as_slice(), true);
     Err(AllocError)
 }
 
