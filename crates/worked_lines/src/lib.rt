@@ -4,6 +4,7 @@
 //! ```text
 //!   in_memory       engines in memory, and a run over them: the premise of the promise over lines is met
 //!   runs            a run into memory, and what is said of each: the calls that the others make
+//!   same            what is found beside what is expected
 //!   served          the worked graphs over no line, one, two, and as many as there may be
 //!   stopping        lines that stop after so many bytes or calls
 //!   scripts         stored bytes in place of a worker: answers that are refused, and answers that lie

@@ -2,6 +2,7 @@ mod drawn;
 mod gates;
 mod refusals;
 mod runs;
+mod same;
 mod scripts;
 mod served;
 mod sizes;

@@ -10,7 +10,6 @@ use ports::{EngineLine, FusedLine};
 use std::alloc::{AllocError, Global};
 use std::process::Abort;
 use std::sync::Wait;
-use std::test::Fail;
 use std::thread::Threads;
 
 /// A worker in memory behind a line that may stop.
@@ -53,12 +52,12 @@ struct Drawn {
 }
 
 // Up to 200 vertices and twice as many arcs, loops and repeats among them, of up to 20 weights.
-fn drawn_file(alloc: Global, draws: &mut Draws) -> Result<Drawn, Fail> {
+fn drawn_file(rt: &impl Abort, alloc: Global, draws: &mut Draws) -> Drawn {
     let n = draws.below(201);
     let arcs = draws.below(2 * n + 1);
     let weights = draws.below(20) + 1;
-    let head = format!(in alloc; "p sp {n} {arcs}\n")?;
-    let mut file = Vec::from_slice(alloc, head.as_bytes())?;
+    let head = format!(in alloc; "p sp {n} {arcs}\n").expect(rt, "memory");
+    let mut file = Vec::from_slice(alloc, head.as_bytes()).expect(rt, "memory");
     let mut links = 0u32;
     for _ in 0..arcs {
         let (tail, head) = (draws.vertex(n), draws.vertex(n));
@@ -66,24 +65,25 @@ fn drawn_file(alloc: Global, draws: &mut Draws) -> Result<Drawn, Fail> {
         if tail != head {
             links = links.wrapping_add(1);
         }
-        let line = format!(in alloc; "a {tail} {head} {weight}\n")?;
-        file.extend_from_slice(line.as_bytes())?;
+        let line = format!(in alloc; "a {tail} {head} {weight}\n").expect(rt, "memory");
+        file.extend_from_slice(line.as_bytes()).expect(rt, "memory");
     }
-    Ok(Drawn {
+    Drawn {
         file,
         vertices: n,
         links,
-    })
+    }
 }
 
 // Up to nine places where so many links are cut.
-fn drawn_places(alloc: Global, draws: &mut Draws, links: u32) -> Result<Vec<usize>, AllocError> {
+fn drawn_places(rt: &impl Abort, alloc: Global, draws: &mut Draws, links: u32) -> Vec<usize> {
     let mut places = Vec::new(alloc);
     for _ in 0..draws.below(10) {
-        places.push(draws.below(links.saturating_add(1)) as usize)?;
+        let place = draws.below(links.saturating_add(1)) as usize;
+        places.push(place).expect(rt, "memory");
     }
     places.as_mut_slice().sort_unstable();
-    Ok(places)
+    places
 }
 
 // A line to a worker: one in three never stops, and the others do after some bytes or calls.
@@ -113,36 +113,34 @@ fn drawn_lines(alloc: Global, draws: &mut Draws) -> Result<Vec<Fused>, AllocErro
 }
 
 // One run beside the run by one thread, over what is drawn from here on.
-fn expect_same<R: Threads + Wait + Sync + Abort>(
+fn expect_as_by_one_thread<R: Threads + Wait + Sync + Abort>(
     rt: &R,
     alloc: Global,
     draws: &mut Draws,
-) -> Result<(), Fail> {
-    let drawn = drawn_file(alloc, draws)?;
+) {
+    let drawn = drawn_file(rt, alloc, draws);
     let file = drawn.file.as_slice();
     let mut source = file;
     let mut text = Vec::new(alloc);
-    let alone = run_plain(alloc, &mut source, &mut text).map_err(|_| "a lawful file")?;
-    let places = drawn_places(alloc, draws, drawn.links)?;
+    let alone = run_plain(alloc, &mut source, &mut text).expect(rt, "a lawful file");
+    let places = drawn_places(rt, alloc, draws, drawn.links);
     let cutting = match draws.below(2) {
         0 => Cutting::Even(draws.below(12) + 1),
         _ => Cutting::At(places.as_slice()),
     };
-    let lines = drawn_lines(alloc, draws)?;
+    let lines = drawn_lines(alloc, draws).expect(rt, "memory");
     let solved = Solved {
         file,
         text: text.as_slice(),
         size: (drawn.vertices, u64::from(drawn.links), alone.total),
     };
     run_of(rt, alloc, &solved, cutting, lines);
-    Ok(())
 }
 
 #[test]
-fn a_thousand_drawn_runs(rt: HostRuntime) -> Result<(), Fail> {
+fn a_thousand_drawn_runs(rt: HostRuntime) {
     let mut draws = Draws { state: 1926 };
     for _ in 0..1000 {
-        expect_same(&rt, rt.alloc(), &mut draws)?;
+        expect_as_by_one_thread(&rt, rt.alloc(), &mut draws);
     }
-    Ok(())
 }

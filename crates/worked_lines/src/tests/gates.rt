@@ -6,12 +6,12 @@ ghost use Rattle.ports.specs.Lines.{HasRoom};
 ghost use Rattle.ports.specs.Testing.{with_stops};
 
 use super::runs::{Solved, run_of, run_of_worked};
+use super::same::expect_same;
 use forest_run::Cutting;
 use ports::{EngineLine, Line, LineFault};
-use std::alloc::Global;
+use std::alloc::{AllocError, Global};
 use std::sync::atomic::AtomicU64;
 use std::sync::atomic::Ordering::SeqCst;
-use std::test::Fail;
 use worked_graphs::SMALL_NET;
 
 // How often a line looks at another's count.
@@ -97,7 +97,7 @@ fn gate_to<'a>(
     counts: (&'a AtomicU64, &'a AtomicU64),
     least: u64,
     first: u8,
-) -> Result<Gate<'a>, Fail>
+) -> Result<Gate<'a>, AllocError>
     requires { worker < 64 }
     ensures room { IfOk result (λ line. HasRoom (with_stops (line_of line.line) line.stopped)) }
 {
@@ -120,7 +120,7 @@ fn two_gates<'a>(
     counts: (&'a AtomicU64, &'a AtomicU64),
     least: (u64, u64),
     first: (u8, u8),
-) -> Result<Vec<Gate<'a>>, Fail>
+) -> Result<Vec<Gate<'a>>, AllocError>
     ensures few { IfOk result (λ lines. length lines.items ≤ 64) }
     ensures room { IfOk result (λ lines. All (λ line. HasRoom (with_stops (line_of line.line) line.stopped)) lines.items) }
 {
@@ -132,7 +132,7 @@ fn two_gates<'a>(
 }
 
 // Nine gates with one count, each of which waits until all were asked.
-fn nine_gates<'a>(alloc: Global, asked: &'a AtomicU64) -> Result<Vec<Gate<'a>>, Fail>
+fn nine_gates<'a>(alloc: Global, asked: &'a AtomicU64) -> Result<Vec<Gate<'a>>, AllocError>
     ensures few { IfOk result (λ lines. length lines.items ≤ 64) }
     ensures room { IfOk result (λ lines. All (λ line. HasRoom (with_stops (line_of line.line) line.stopped)) lines.items) }
 {
@@ -145,37 +145,34 @@ fn nine_gates<'a>(alloc: Global, asked: &'a AtomicU64) -> Result<Vec<Gate<'a>>, 
 
 // Each waits for the other's first ask.
 #[test]
-fn lines_that_wait_for_each_other(rt: HostRuntime) -> Result<(), Fail> {
+fn lines_that_wait_for_each_other(rt: HostRuntime) {
     let alloc = rt.alloc();
     let (zero, one) = (AtomicU64::new(0), AtomicU64::new(0));
-    let lines = two_gates(alloc, (&zero, &one), (1, 1), (0, 1))?;
+    let lines = two_gates(alloc, (&zero, &one), (1, 1), (0, 1)).expect(&rt, "memory");
     let counts = run_of_worked(&rt, alloc, &SMALL_NET, Cutting::Even(2), lines);
-    assert_eq!(rt; counts, [2, 2, 6, 6, 0, 0]);
-    Ok(())
+    expect_same(&rt, counts, [2, 2, 6, 6, 0, 0]);
 }
 
 // Line 0 waits with one of four shards until the other line was asked for the other three, and that one with the first of
 // these until line 0 was asked: else it may take all four before the thread of line 0 begins.
 #[test]
-fn a_line_that_waits_for_three_asks(rt: HostRuntime) -> Result<(), Fail> {
+fn a_line_that_waits_for_three_asks(rt: HostRuntime) {
     let alloc = rt.alloc();
     let (zero, one) = (AtomicU64::new(0), AtomicU64::new(0));
-    let lines = two_gates(alloc, (&zero, &one), (3, 1), (0, 2))?;
+    let lines = two_gates(alloc, (&zero, &one), (3, 1), (0, 2)).expect(&rt, "memory");
     let counts = run_of_worked(&rt, alloc, &SMALL_NET, Cutting::Even(4), lines);
-    assert_eq!(rt; counts, [2, 4, 12, 12, 0, 0]);
-    Ok(())
+    expect_same(&rt, counts, [2, 4, 12, 12, 0, 0]);
 }
 
 // Nine lines over eighteen shards: each is first asked for a shard of its own, two places after the one before, and waits
 // until all were asked.
 #[test]
-fn nine_lines_that_wait_for_all(rt: HostRuntime) -> Result<(), Fail> {
+fn nine_lines_that_wait_for_all(rt: HostRuntime) {
     let alloc = rt.alloc();
     let asked = AtomicU64::new(0);
-    let lines = nine_gates(alloc, &asked)?;
+    let lines = nine_gates(alloc, &asked).expect(&rt, "memory");
     let counts = run_of_worked(&rt, alloc, &SMALL_NET, Cutting::Even(18), lines);
-    assert_eq!(rt; counts, [2, 18, 54, 54, 0, 0]);
-    Ok(())
+    expect_same(&rt, counts, [2, 18, 54, 54, 0, 0]);
 }
 
 /// A line to a worker in memory, which has the first version in its hello where it is an old one. Another waits, before
@@ -224,28 +221,27 @@ impl<'a> Line for Versioned<'a> {
 // The first worker has the first version, and the first of two shards a weight past 32 bits, so its first ask closes it.
 // The other answers both shards in both rounds, and the forest is that of the file.
 #[test]
-fn workers_of_two_versions(rt: HostRuntime) -> Result<(), Fail> {
+fn workers_of_two_versions(rt: HostRuntime) {
     let alloc = rt.alloc();
     let greeted = AtomicU64::new(0);
     let old = Versioned {
-        line: EngineLine::new(alloc, 0)?,
+        line: EngineLine::new(alloc, 0).expect(&rt, "memory"),
         greeted: &greeted,
         is_old: true,
         got: 0,
     };
     let new = Versioned {
-        line: EngineLine::new(alloc, 1)?,
+        line: EngineLine::new(alloc, 1).expect(&rt, "memory"),
         greeted: &greeted,
         is_old: false,
         got: 0,
     };
-    let lines = Vec::from_array(alloc, [old, new])?;
+    let lines = Vec::from_array(alloc, [old, new]).expect(&rt, "memory");
     let solved = Solved {
         file: b"p sp 3 2\na 1 2 2147483648\na 2 3 5\n",
         text: b"p sp 3 2\na 2 3 5\na 1 2 2147483648\n",
         size: (3, 2, 2147483653),
     };
     let counts = run_of(&rt, alloc, &solved, Cutting::Even(2), lines);
-    assert_eq!(rt; counts, [1, 2, 5, 4, 0, 1]);
-    Ok(())
+    expect_same(&rt, counts, [1, 2, 5, 4, 0, 1]);
 }

@@ -2,6 +2,7 @@
 ghost use Rattle.std.specs.Prelude.{◌≤◌, length, All};
 ghost use Rattle.ports.specs.Lines.{HasRoom};
 
+use super::same::expect_same;
 use forest_run::{Cutting, Report, RunFault, run_lines};
 use ports::Line;
 use std::alloc::Global;
@@ -25,15 +26,20 @@ fn lawful_counts(rt: &impl Abort, report: &Report, lines: usize) -> Counts {
         closed,
         ..
     } = *report;
-    assert_eq!(rt; asked, answered.wrapping_add(closed));
-    assert_eq!(rt;
+    expect_same(rt, asked, answered.wrapping_add(closed));
+    expect_same(
+        rt,
         answered.wrapping_add(alone),
-        rounds.wrapping_add(1).wrapping_mul(shards)
+        rounds.wrapping_add(1).wrapping_mul(shards),
     );
-    assert!(rt; closed <= lines as u64);
-    assert!(rt; alone == 0 || closed == lines as u64);
+    expect_same(rt, closed <= lines as u64, true);
+    expect_same(rt, alone == 0 || closed == lines as u64, true);
     assert!(rt; rounds < 32);
-    assert!(rt; 1u64 << rounds <= u64::from(report.vertices.max(1)));
+    expect_same(
+        rt,
+        1u64 << rounds <= u64::from(report.vertices.max(1)),
+        true,
+    );
     [rounds, shards, asked, answered, alone, closed]
 }
 
@@ -61,10 +67,11 @@ pub(crate) fn run_of<L: Line + Send + Drop, R: Threads + Wait + Sync + Abort>(
     let mut sink = Vec::new(alloc);
     let ended = run_lines(rt, alloc, &mut source, cutting, lines, &mut sink);
     let (report, lines) = ended.expect(rt, "a forest");
-    assert_eq!(rt; sink.as_slice(), solved.text);
-    assert!(rt; source.is_empty());
-    assert_eq!(rt; lines.len(), count);
-    assert_eq!(rt; (report.vertices, report.links, report.total), solved.size);
+    expect_same(rt, sink.as_slice(), solved.text);
+    expect_same(rt, source.is_empty(), true);
+    expect_same(rt, lines.len(), count);
+    let size = (report.vertices, report.links, report.total);
+    expect_same(rt, size, solved.size);
     lawful_counts(rt, &report, count)
 }
 
@@ -102,6 +109,6 @@ pub(crate) fn fault_of<L: Line + Send + Drop, R: Threads + Wait + Sync + Abort>(
     let mut source = file;
     let mut sink = Vec::new(alloc);
     let ended = run_lines(rt, alloc, &mut source, cutting, lines, &mut sink);
-    assert!(rt; sink.is_empty());
+    expect_same(rt, sink.is_empty(), true);
     ended.err()
 }

@@ -4,11 +4,11 @@ ghost use Rattle.ports.specs.Lines.{HasRoom};
 ghost use Rattle.ports.specs.Testing.{line_of_script};
 
 use super::runs::{Solved, fault_of, run_of, run_of_worked};
+use super::same::expect_same;
 use forest_run::{Cutting, RunFault};
 use link_key::Link;
 use ports::ScriptLine;
 use std::alloc::{AllocError, Global};
-use std::test::Fail;
 use worked_graphs::{EQUAL_WEIGHTS, SMALL_NET};
 
 const HELLO: [u8; 11] = [1, 0, 0, 0, 6, 0, 1, 0, 0, 0, 0];
@@ -45,7 +45,7 @@ fn script(alloc: Global, answers: &[Numbers]) -> Result<Vec<ScriptLine>, AllocEr
 // Of another round; of another shard; with an offer that doesn't leave its component; with components that don't
 // ascend. Each closes the port, and the coordinator scans alone.
 #[test]
-fn answers_that_are_refused(rt: HostRuntime) -> Result<(), Fail> {
+fn answers_that_are_refused(rt: HostRuntime) {
     let refused: [Numbers; 4] = [
         &[12, 0, 0, 0],
         &[12, 1, 1, 0],
@@ -53,70 +53,64 @@ fn answers_that_are_refused(rt: HostRuntime) -> Result<(), Fail> {
         &[28, 1, 0, 2, 2, 0, 1, 0],
     ];
     for answer in refused {
-        let lines = script(rt.alloc(), &[answer])?;
+        let lines = script(rt.alloc(), &[answer]).expect(&rt, "memory");
         let counts = run_of_worked(&rt, rt.alloc(), &EQUAL_WEIGHTS, Cutting::Even(1), lines);
-        assert_eq!(rt; counts, [1, 1, 1, 0, 2, 1]);
+        expect_same(&rt, counts, [1, 1, 1, 0, 2, 1]);
     }
-    Ok(())
 }
 
 // Vertex 3 is offered a link that leaves it and isn't its lightest: the links span and close no cycle, and aren't the
 // minimum spanning forest.
 #[test]
-fn an_offer_that_is_too_heavy(rt: HostRuntime) -> Result<(), Fail> {
-    let lines = script(
-        rt.alloc(),
-        &[&[36, 1, 0, 3, 1, 0, 2, 0, 3, 1], &[12, 2, 0, 0]],
-    )?;
+fn an_offer_that_is_too_heavy(rt: HostRuntime) {
+    let (first, second): (Numbers, Numbers) = (&[36, 1, 0, 3, 1, 0, 2, 0, 3, 1], &[12, 2, 0, 0]);
+    let lines = script(rt.alloc(), &[first, second]).expect(&rt, "memory");
     let solved = Solved {
         file: EQUAL_WEIGHTS.file,
         text: b"p sp 3 2\na 1 2 5\na 2 3 5\n",
         size: (3, 3, 10),
     };
     let counts = run_of(&rt, rt.alloc(), &solved, Cutting::Even(1), lines);
-    assert_eq!(rt; counts, [1, 1, 2, 2, 0, 0]);
-    Ok(())
+    expect_same(&rt, counts, [1, 1, 2, 2, 0, 0]);
 }
 
 #[test]
-fn an_answer_that_hides_all_links(rt: HostRuntime) -> Result<(), Fail> {
-    let lines = script(rt.alloc(), &[&[12, 1, 0, 0]])?;
+fn an_answer_that_hides_all_links(rt: HostRuntime) {
+    let lines = script(rt.alloc(), &[&[12, 1, 0, 0]]).expect(&rt, "memory");
     let fault = fault_of(&rt, rt.alloc(), SMALL_NET.file, Cutting::Even(1), lines);
     let link = Link::of_arc(1, 2, 17).expect(&rt, "a link");
-    assert_eq!(rt; fault, Some(RunFault::Missed { link }));
-    Ok(())
+    expect_same(&rt, fault, Some(RunFault::Missed { link }));
 }
 
 // One link a round: three vertices can't have a second merging round.
 #[test]
-fn answers_past_the_bound(rt: HostRuntime) -> Result<(), Fail> {
-    let lines = script(rt.alloc(), &[&[20, 1, 0, 1, 1, 0], &[20, 2, 0, 1, 3, 1]])?;
+fn answers_past_the_bound(rt: HostRuntime) {
+    let (first, second): (Numbers, Numbers) = (&[20, 1, 0, 1, 1, 0], &[20, 2, 0, 1, 3, 1]);
+    let lines = script(rt.alloc(), &[first, second]).expect(&rt, "memory");
     let fault = fault_of(&rt, rt.alloc(), EQUAL_WEIGHTS.file, Cutting::Even(1), lines);
-    assert_eq!(rt; fault, Some(RunFault::Rounds { round: 2 }));
-    Ok(())
+    expect_same(&rt, fault, Some(RunFault::Rounds { round: 2 }));
 }
 
 // A worker of the first version, which has no frame for a weight past 32 bits: it is closed before the shard is sent, and
 // the coordinator scans alone; with another shard, which fits, it answers that one first.
 #[test]
-fn a_worker_of_the_first_version(rt: HostRuntime) -> Result<(), Fail> {
+fn a_worker_of_the_first_version(rt: HostRuntime) {
     let text = b"p sp 2 1\na 1 2 2147483648\n";
-    let lines = script(rt.alloc(), &[])?;
+    let lines = script(rt.alloc(), &[]).expect(&rt, "memory");
     let solved = Solved {
         file: text,
         text,
         size: (2, 1, 2147483648),
     };
     let counts = run_of(&rt, rt.alloc(), &solved, Cutting::Even(1), lines);
-    assert_eq!(rt; counts, [1, 1, 1, 0, 2, 1]);
+    expect_same(&rt, counts, [1, 1, 1, 0, 2, 1]);
     let text = b"p sp 3 2\na 1 2 5\na 2 3 2147483648\n";
-    let lines = script(rt.alloc(), &[&[28, 1, 0, 2, 1, 0, 2, 0]])?;
+    let lines = script(rt.alloc(), &[&[28, 1, 0, 2, 1, 0, 2, 0]]).expect(&rt, "memory");
     let solved = Solved {
         file: text,
         text,
         size: (3, 2, 2147483653),
     };
     let counts = run_of(&rt, rt.alloc(), &solved, Cutting::Even(2), lines);
-    assert_eq!(rt; counts, [1, 2, 2, 1, 3, 1]);
-    Ok(())
+    expect_same(&rt, counts, [1, 2, 2, 1, 3, 1]);
 }

@@ -1,92 +1,84 @@
 // The worked graphs over lines to workers in memory.
 use super::runs::{Solved, run_of, run_of_worked};
+use super::same::expect_same;
 use crate::in_memory::{engines, text_over_workers};
 use forest_run::Cutting;
-use std::test::Fail;
 use worked_graphs::{A_PATH_OF_EIGHT, NO_VERTICES, SMALL_NET, WORKED};
 
 // Both shards are asked for in each of three rounds, and both lines are open at the end.
 #[test]
-fn the_small_net_over_two_workers(rt: HostRuntime) -> Result<(), Fail> {
-    let lines = engines(rt.alloc(), 2)?;
+fn the_small_net_over_two_workers(rt: HostRuntime) {
+    let lines = engines(rt.alloc(), 2).expect(&rt, "memory");
     let counts = run_of_worked(&rt, rt.alloc(), &SMALL_NET, Cutting::Even(2), lines);
-    assert_eq!(rt; counts, [2, 2, 6, 6, 0, 0]);
-    Ok(())
+    expect_same(&rt, counts, [2, 2, 6, 6, 0, 0]);
 }
 
 // The same by the call whose contract says by definitions which text it is.
 #[test]
-fn the_text_of_the_small_net(rt: HostRuntime) -> Result<(), Fail> {
+fn the_text_of_the_small_net(rt: HostRuntime) {
     for workers in 0..3u32 {
         let text = text_over_workers(&rt, rt.alloc(), SMALL_NET.file, Cutting::Even(2), workers);
-        assert_eq!(rt; text.expect(&rt, "a forest").as_slice(), SMALL_NET.text);
+        let text = text.expect(&rt, "a forest");
+        expect_same(&rt, text.as_slice(), SMALL_NET.text);
     }
-    Ok(())
 }
 
 // The coordinator scans each shard itself. A graph without links has one round too.
 #[test]
-fn no_workers(rt: HostRuntime) -> Result<(), Fail> {
-    let lines = engines(rt.alloc(), 0)?;
+fn no_workers(rt: HostRuntime) {
+    let lines = engines(rt.alloc(), 0).expect(&rt, "memory");
     let counts = run_of_worked(&rt, rt.alloc(), &SMALL_NET, Cutting::Even(2), lines);
-    assert_eq!(rt; counts, [2, 2, 0, 0, 6, 0]);
-    let lines = engines(rt.alloc(), 0)?;
+    expect_same(&rt, counts, [2, 2, 0, 0, 6, 0]);
+    let lines = engines(rt.alloc(), 0).expect(&rt, "memory");
     let counts = run_of_worked(&rt, rt.alloc(), &NO_VERTICES, Cutting::Even(1), lines);
-    assert_eq!(rt; counts, [0, 1, 0, 0, 1, 0]);
-    Ok(())
+    expect_same(&rt, counts, [0, 1, 0, 0, 1, 0]);
 }
 
 // A weight past 32 bits, over a worker that has frames for it.
 #[test]
-fn a_weight_of_64_bits(rt: HostRuntime) -> Result<(), Fail> {
+fn a_weight_of_64_bits(rt: HostRuntime) {
     let text = b"p sp 2 1\na 1 2 2147483648\n";
-    let lines = engines(rt.alloc(), 1)?;
+    let lines = engines(rt.alloc(), 1).expect(&rt, "memory");
     let solved = Solved {
         file: text,
         text,
         size: (2, 1, 2147483648),
     };
     let counts = run_of(&rt, rt.alloc(), &solved, Cutting::Even(1), lines);
-    assert_eq!(rt; counts, [1, 1, 2, 2, 0, 0]);
-    Ok(())
+    expect_same(&rt, counts, [1, 1, 2, 2, 0, 0]);
 }
 
 // Three merging rounds are as many as eight vertices can have.
 #[test]
-fn a_path_of_eight(rt: HostRuntime) -> Result<(), Fail> {
+fn a_path_of_eight(rt: HostRuntime) {
     for workers in 1..3u32 {
-        let lines = engines(rt.alloc(), workers)?;
+        let lines = engines(rt.alloc(), workers).expect(&rt, "memory");
         let counts = run_of_worked(&rt, rt.alloc(), &A_PATH_OF_EIGHT, Cutting::Even(3), lines);
-        assert_eq!(rt; counts, [3, 3, 12, 12, 0, 0], "over {workers}");
+        expect_same(&rt, (workers, counts), (workers, [3, 3, 12, 12, 0, 0]));
     }
-    Ok(())
 }
 
 // As many shards as there may be, without a line, over one, over more than 32, and over as many as there may be; all but
 // eight of the shards are empty.
 #[test]
-fn the_most_shards(rt: HostRuntime) -> Result<(), Fail> {
+fn the_most_shards(rt: HostRuntime) {
     for (workers, answered, alone) in [
         (0u32, 0, 12_288),
         (1, 12_288, 0),
         (33, 12_288, 0),
         (64, 12_288, 0),
     ] {
-        let lines = engines(rt.alloc(), workers.min(64))?;
+        let lines = engines(rt.alloc(), workers.min(64)).expect(&rt, "memory");
         let counts = run_of_worked(&rt, rt.alloc(), &SMALL_NET, Cutting::Even(4096), lines);
-        assert_eq!(rt;
-            counts,
-            [2, 4096, answered, answered, alone, 0],
-            "over {workers}"
-        );
+        let expected = [2, 4096, answered, answered, alone, 0];
+        expect_same(&rt, (workers, counts), (workers, expected));
     }
-    Ok(())
 }
 
 // In one shard, even and at no place; in five; in three of which the first two are empty; and in as many as there may
 // be, with all links in the last: no worker answers ill.
 #[test]
-fn each_worked_graph_over_up_to_two_workers(rt: HostRuntime) -> Result<(), Fail> {
+fn each_worked_graph_over_up_to_two_workers(rt: HostRuntime) {
     for graph in WORKED {
         for cutting in [
             Cutting::Even(1),
@@ -96,11 +88,10 @@ fn each_worked_graph_over_up_to_two_workers(rt: HostRuntime) -> Result<(), Fail>
             Cutting::At(&[0; 4095]),
         ] {
             for workers in 0..3u32 {
-                let lines = engines(rt.alloc(), workers)?;
+                let lines = engines(rt.alloc(), workers).expect(&rt, "memory");
                 let counts = run_of_worked(&rt, rt.alloc(), &graph, cutting, lines);
-                assert_eq!(rt; counts[5], 0);
+                expect_same(&rt, counts[5], 0);
             }
         }
     }
-    Ok(())
 }

@@ -1,49 +1,51 @@
 // Lines that stop: what one worker doesn't answer another does, and the coordinator where none is left.
-ghost use Rattle.std.specs.Prelude.{◌<◌, IfOk};
+ghost use Rattle.std.specs.Prelude.{◌<◌};
 ghost use Rattle.ports.specs.EngineLines.{line_of};
 ghost use Rattle.ports.specs.Lines.{HasRoom};
 ghost use Rattle.ports.specs.Testing.{line_of_script, with_stops};
 
 use super::runs::{Counts, run_of_worked};
+use super::same::expect_same;
 use super::scripts::{Numbers, script_line};
 use forest_run::Cutting;
 use ports::{EngineLine, Fuse, FusedLine, ScriptLine};
-use std::alloc::{AllocError, Global};
-use std::test::Fail;
+use std::alloc::Global;
+use std::process::Abort;
 use worked_graphs::{SMALL_NET, WIDE_WEIGHTS, Worked};
 
 // A line to the worker of this number that stops once so many bytes were got.
 fn stopping(
+    rt: &impl Abort,
     alloc: Global,
     worker: u32,
     bytes: u64,
-) -> Result<FusedLine<EngineLine<Global>>, AllocError>
+) -> FusedLine<EngineLine<Global>>
     requires { worker < 64 }
-    ensures room { IfOk result (λ line. HasRoom (with_stops (line_of line.line) line.stopped)) }
+    ensures room { HasRoom (with_stops (line_of result.line) result.stopped) }
 {
-    Ok(FusedLine::after_bytes(EngineLine::new(alloc, worker)?, bytes))
+    let line = EngineLine::new(alloc, worker).expect(rt, "memory");
+    FusedLine::after_bytes(line, bytes)
 }
 
 #[test]
-fn both_lines_fail_at_their_first_read(rt: HostRuntime) -> Result<(), Fail> {
+fn both_lines_fail_at_their_first_read(rt: HostRuntime) {
     let alloc = rt.alloc();
-    let lines = Vec::from_array(alloc, [stopping(alloc, 0, 0)?, stopping(alloc, 1, 0)?])?;
+    let both = [stopping(&rt, alloc, 0, 0), stopping(&rt, alloc, 1, 0)];
+    let lines = Vec::from_array(alloc, both).expect(&rt, "memory");
     let counts = run_of_worked(&rt, alloc, &SMALL_NET, Cutting::Even(2), lines);
-    assert_eq!(rt; counts, [2, 2, 2, 0, 6, 2]);
-    Ok(())
+    expect_same(&rt, counts, [2, 2, 2, 0, 6, 2]);
 }
 
 // The other line answers all; the one that fails may not come to be asked at all.
 #[test]
-fn one_of_two_lines_fails_at_its_first_read(rt: HostRuntime) -> Result<(), Fail> {
+fn one_of_two_lines_fails_at_its_first_read(rt: HostRuntime) {
     let alloc = rt.alloc();
-    let whole = stopping(alloc, 0, u64::MAX)?;
-    let lines = Vec::from_array(alloc, [whole, stopping(alloc, 1, 0)?])?;
+    let whole = stopping(&rt, alloc, 0, u64::MAX);
+    let lines = Vec::from_array(alloc, [whole, stopping(&rt, alloc, 1, 0)]).expect(&rt, "memory");
     let counts = run_of_worked(&rt, alloc, &SMALL_NET, Cutting::Even(2), lines);
     let closed = counts[5];
-    assert!(rt; closed <= 1);
-    assert_eq!(rt; counts, [2, 2, closed.wrapping_add(6), 6, 0, closed]);
-    Ok(())
+    expect_same(&rt, closed <= 1, true);
+    expect_same(&rt, counts, [2, 2, closed.wrapping_add(6), 6, 0, closed]);
 }
 
 /// A graph in so many shards, and how many bytes a line has given with the hello and each answer: the hello has 11.
@@ -92,59 +94,60 @@ fn done_after(answered: Answered, bytes: u64) -> Counts {
 }
 
 #[test]
-fn a_line_that_stops_after_each_byte(rt: HostRuntime) -> Result<(), Fail> {
+fn a_line_that_stops_after_each_byte(rt: HostRuntime) {
     let alloc = rt.alloc();
     for it in [WHOLE, WIDE, WIDE_IN_TWO] {
         for bytes in 0..231u64 {
-            let lines = Vec::from_array(alloc, [stopping(alloc, 0, bytes)?])?;
+            let line = stopping(&rt, alloc, 0, bytes);
+            let lines = Vec::from_array(alloc, [line]).expect(&rt, "memory");
             let counts = run_of_worked(&rt, alloc, &it.graph, Cutting::Even(it.shards), lines);
-            assert_eq!(rt; counts, done_after(it, bytes), "after {bytes} bytes");
+            expect_same(&rt, (bytes, counts), (bytes, done_after(it, bytes)));
         }
     }
-    Ok(())
 }
 
 #[test]
-fn a_line_that_stops_after_each_call(rt: HostRuntime) -> Result<(), Fail> {
+fn a_line_that_stops_after_each_call(rt: HostRuntime) {
     let alloc = rt.alloc();
     for it in [WHOLE, WIDE, WIDE_IN_TWO] {
         for calls in 0..41u64 {
-            let line = FusedLine::after_calls(EngineLine::new(alloc, 0)?, calls);
-            let lines = Vec::from_array(alloc, [line])?;
+            let engine = EngineLine::new(alloc, 0).expect(&rt, "memory");
+            let line = FusedLine::after_calls(engine, calls);
+            let lines = Vec::from_array(alloc, [line]).expect(&rt, "memory");
             let counts = run_of_worked(&rt, alloc, &it.graph, Cutting::Even(it.shards), lines);
-            assert_eq!(rt; counts[0], 2);
+            expect_same(&rt, counts[0], 2);
         }
     }
-    Ok(())
 }
 
 // A worker of the first version that stops so: it answers the shard whose weights fit 32 bits.
-fn old_worker(alloc: Global, fuse: Fuse) -> Result<FusedLine<ScriptLine>, AllocError>
-    ensures room { IfOk result (λ line. HasRoom (with_stops (line_of_script line.line) line.stopped)) }
+fn old_worker(rt: &impl Abort, alloc: Global, fuse: Fuse) -> FusedLine<ScriptLine>
+    ensures room { HasRoom (with_stops (line_of_script result.line) result.stopped) }
 {
     let answer: Numbers = &[52, 1, 0, 5, 1, 1, 2, 2, 3, 3, 4, 2, 5, 3];
-    let line = script_line(alloc, &[answer])?;
-    Ok(match fuse {
+    let line = script_line(alloc, &[answer]).expect(rt, "memory");
+    match fuse {
         Fuse::Bytes(bytes) => FusedLine::after_bytes(line, bytes),
         Fuse::Calls(calls) => FusedLine::after_calls(line, calls),
-    })
+    }
 }
 
 // It is too old for the other shard, and closed there if it wasn't before; all in one shard, before it answers at all.
 #[test]
-fn a_worker_of_the_first_version_that_stops(rt: HostRuntime) -> Result<(), Fail> {
+fn a_worker_of_the_first_version_that_stops(rt: HostRuntime) {
     let alloc = rt.alloc();
     for (shards, end, alone) in [(1u32, u64::MAX, 3u64), (2, 68, 6)] {
         for count in 0..71u64 {
-            let lines = Vec::from_array(alloc, [old_worker(alloc, Fuse::Bytes(count))?])?;
+            let line = old_worker(&rt, alloc, Fuse::Bytes(count));
+            let lines = Vec::from_array(alloc, [line]).expect(&rt, "memory");
             let counts = run_of_worked(&rt, alloc, &WIDE_WEIGHTS, Cutting::Even(shards), lines);
             let taken = u64::from(end <= count);
             let (asked, alone) = (taken.wrapping_add(1), alone.wrapping_sub(taken));
-            assert_eq!(rt; counts, [2, u64::from(shards), asked, taken, alone, 1]);
-            let lines = Vec::from_array(alloc, [old_worker(alloc, Fuse::Calls(count))?])?;
+            expect_same(&rt, counts, [2, u64::from(shards), asked, taken, alone, 1]);
+            let line = old_worker(&rt, alloc, Fuse::Calls(count));
+            let lines = Vec::from_array(alloc, [line]).expect(&rt, "memory");
             let counts = run_of_worked(&rt, alloc, &WIDE_WEIGHTS, Cutting::Even(shards), lines);
-            assert_eq!(rt; (counts[0], counts[5]), (2, 1));
+            expect_same(&rt, (counts[0], counts[5]), (2, 1));
         }
     }
-    Ok(())
 }
