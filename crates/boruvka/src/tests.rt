@@ -16,12 +16,12 @@ use gr_text::{GrFault, GrKind, ReadFault};
 use link_key::{CutFault, Link};
 use ports::{EngineLine, Line, ScriptLine};
 use std::alloc::{Alloc, AllocError, Global};
+use std::fmt::Debug;
 use std::fs::{self, File, Files};
 use std::io::{self, ErrorKind, Write};
 use std::net::{Net, TcpListener, TcpStream};
 use std::process::Abort;
 use std::sync::Wait;
-use std::test::Fail;
 use std::thread::Threads;
 
 const SMALL_NET: &[u8; 108] =
@@ -60,6 +60,13 @@ Examples:
   gzip -dc net.gr.gz | boruvka --plain > forest.gr
 ";
 
+// Both are the same. A call of it costs a caller's proof less than an assertion does. For the same reason the tests expect
+// the memory that they ask for: where a `?` hands its want on, a proof drops there all that lives. Where many are compared in
+// turn, the place stands in both.
+fn expect_same<T: PartialEq + Debug + Drop>(rt: &impl Abort, found: T, expected: T) {
+    assert_eq!(rt; found, expected);
+}
+
 // The program answers this status for these words and this input, and writes just these texts.
 fn expect(
     rt: &(impl Abort
@@ -81,16 +88,14 @@ fn expect(
     let mut source = input;
     let mut out = Vec::new(rt.alloc());
     let mut err = Vec::new(rt.alloc());
-    assert_eq!(rt;
-        command(rt, words, &mut source, &mut out, &mut err,),
-        status
-    );
-    assert_eq!(rt; out.as_slice(), output);
-    assert_eq!(rt; err.as_slice(), errors);
+    let ended = command(rt, words, &mut source, &mut out, &mut err);
+    expect_same(rt, ended, status);
+    expect_same(rt, out.as_slice(), output);
+    expect_same(rt, err.as_slice(), errors);
 }
 
 #[test]
-fn writes_the_forest(rt: HostRuntime) -> Result<(), Fail> {
+fn writes_the_forest(rt: HostRuntime) {
     let report =
         b"vertices=6 links=8 rounds=0 shards=0 asked=0 answered=0 alone=0 closed=0 total=13\n".as_slice();
     expect(
@@ -109,14 +114,13 @@ fn writes_the_forest(rt: HostRuntime) -> Result<(), Fail> {
         SMALL_FOREST,
         report,
     );
-    Ok(())
 }
 
 #[test]
-fn reads_a_named_file(rt: HostRuntime) -> Result<(), Fail> {
+fn reads_a_named_file(rt: HostRuntime) {
     let name = "small_net_for_a_test.gr";
-    let mut file = File::create(&rt, name)?;
-    file.write_all(SMALL_NET)?;
+    let mut file = File::create(&rt, name).expect(&rt, "a file");
+    file.write_all(SMALL_NET).expect(&rt, "bytes written");
     drop(file);
     expect(
         &rt,
@@ -126,12 +130,11 @@ fn reads_a_named_file(rt: HostRuntime) -> Result<(), Fail> {
         SMALL_FOREST,
         b"",
     );
-    fs::remove_file(&rt, name)?;
-    Ok(())
+    fs::remove_file(&rt, name).expect(&rt, "a file");
 }
 
 #[test]
-fn refuses_a_file_by_its_first_fault(rt: HostRuntime) -> Result<(), Fail> {
+fn refuses_a_file_by_its_first_fault(rt: HostRuntime) {
     let words = ["boruvka", "--plain"];
     let late = b"boruvka: line 1: NoProblemYet\n";
     expect(&rt, &words, b"a 1 2 3\np sp 2 1\n", 1, b"", late);
@@ -146,11 +149,10 @@ fn refuses_a_file_by_its_first_fault(rt: HostRuntime) -> Result<(), Fail> {
     let missing = b"boruvka: line 3: MissingArcs\n";
     expect(&rt, &words, b"p sp 2 2\na 1 2 5", 1, b"", missing);
     expect(&rt, &words, b"p sp 2 2\na 1 2 5\n", 1, b"", missing);
-    Ok(())
 }
 
 #[test]
-fn prints_a_file_that_cannot_be_read(rt: HostRuntime) -> Result<(), Fail> {
+fn prints_a_file_that_cannot_be_read(rt: HostRuntime) {
     let unopened = b"boruvka: cannot open no/such/file\n";
     expect(
         &rt,
@@ -162,12 +164,11 @@ fn prints_a_file_that_cannot_be_read(rt: HostRuntime) -> Result<(), Fail> {
     );
     let folder = b"boruvka: line 1: read failed\n";
     expect(&rt, &["boruvka", "--plain", "/"], SMALL_NET, 3, b"", folder);
-    Ok(())
 }
 
 // Over workers the forest is the same, whatever their number.
 #[test]
-fn runs_over_workers(rt: HostRuntime) -> Result<(), Fail> {
+fn runs_over_workers(rt: HostRuntime) {
     expect(
         &rt,
         &["boruvka", "--workers", "2", "--shards", "2", "--report"],
@@ -185,12 +186,11 @@ fn runs_over_workers(rt: HostRuntime) -> Result<(), Fail> {
         b"vertices=6 links=8 rounds=2 shards=2 asked=0 answered=0 alone=6 closed=0 total=13\n",
     );
     expect(&rt, &["boruvka"], SMALL_NET, 0, SMALL_FOREST, b"");
-    Ok(())
 }
 
 // The workers end where the run ends ill.
 #[test]
-fn refuses_a_file_over_workers(rt: HostRuntime) -> Result<(), Fail> {
+fn refuses_a_file_over_workers(rt: HostRuntime) {
     let late = b"boruvka: line 1: NoProblemYet\n";
     expect(&rt, &["boruvka"], b"a 1 2 3\np sp 2 1\n", 1, b"", late);
     let unopened = b"boruvka: cannot open no/such/file\n";
@@ -202,14 +202,13 @@ fn refuses_a_file_over_workers(rt: HostRuntime) -> Result<(), Fail> {
         b"",
         unopened,
     );
-    Ok(())
 }
 
 #[test]
-fn prints_how_much_was_written(rt: HostRuntime) -> Result<(), Fail> {
+fn prints_how_much_was_written(rt: HostRuntime) {
     let mut errors = Vec::new(rt.alloc());
     let mut input = SMALL_NET.as_slice();
-    let mut output = FusedSink::new(rt.alloc(), 10, 7)?;
+    let mut output = FusedSink::new(rt.alloc(), 10, 7).expect(&rt, "memory");
     let status = command(
         &rt,
         &["boruvka", "--plain"],
@@ -217,39 +216,38 @@ fn prints_how_much_was_written(rt: HostRuntime) -> Result<(), Fail> {
         &mut output,
         &mut errors,
     );
-    assert_eq!(rt; status, 3);
-    assert_eq!(rt; output.held(), b"p sp 6 5\na".as_slice());
-    assert_eq!(rt;
+    expect_same(&rt, status, 3);
+    expect_same(&rt, output.held(), b"p sp 6 5\na".as_slice());
+    expect_same(
+        &rt,
         errors.as_slice(),
-        b"boruvka: write failed after 10 bytes\n".as_slice()
+        b"boruvka: write failed after 10 bytes\n".as_slice(),
     );
-    assert_eq!(rt; status_of(&RunFault::Memory), 4);
-    Ok(())
+    expect_same(&rt, status_of(&RunFault::Memory), 4);
 }
 
 // A fault has this line, and this status.
 fn expect_line(rt: &(impl Abort + Alloc<A = Global>), fault: RunFault, status: u8, line: &[u8]) {
     let mut errors = Vec::new(rt.alloc());
     write_fault(&mut errors, &fault);
-    assert_eq!(rt; errors.as_slice(), line);
-    assert_eq!(rt; status_of(&fault), status);
+    expect_same(rt, errors.as_slice(), line);
+    expect_same(rt, status_of(&fault), status);
 }
 
 #[test]
-fn prints_what_the_cut_and_the_workers_made_impossible(rt: HostRuntime) -> Result<(), Fail> {
-    let link = Link::of_arc(1, 2, 17).ok_or("a link")?;
+fn prints_what_the_cut_and_the_workers_made_impossible(rt: HostRuntime) {
+    let link = Link::of_arc(1, 2, 17).expect(&rt, "a link");
     let missed = b"boruvka: link 1 2 17 was missed\n";
     expect_line(&rt, RunFault::Missed { link }, 5, missed);
     let late = b"boruvka: round 2 is past the bound\n";
     expect_line(&rt, RunFault::Rounds { round: 2 }, 5, late);
     let large = b"boruvka: cut refused: ShardTooLarge\n";
     expect_line(&rt, RunFault::Cut(CutFault::ShardTooLarge), 1, large);
-    Ok(())
 }
 
 // Each fault is printed as the library shows it.
 #[test]
-fn prints_each_fault_in_its_own_text(rt: HostRuntime) -> Result<(), Fail> {
+fn prints_each_fault_in_its_own_text(rt: HostRuntime) {
     let kinds = [
         GrKind::UnknownLine,
         GrKind::NoProblemYet,
@@ -265,7 +263,7 @@ fn prints_each_fault_in_its_own_text(rt: HostRuntime) -> Result<(), Fail> {
     ];
     let most = 18_446_744_073_709_551_615;
     let lowest = -2_147_483_648;
-    let link = Link::of_arc(1, 67_108_864, lowest).ok_or("a link")?;
+    let link = Link::of_arc(1, 67_108_864, lowest).expect(&rt, "a link");
     let others = [
         RunFault::Read(ReadFault::Source { line: most }),
         RunFault::Read(ReadFault::TooLong),
@@ -282,21 +280,21 @@ fn prints_each_fault_in_its_own_text(rt: HostRuntime) -> Result<(), Fail> {
         RunFault::Memory,
         RunFault::Write { written: most },
     ];
-    let mut faults = Vec::from_array(rt.alloc(), others)?;
+    let mut faults = Vec::from_array(rt.alloc(), others).expect(&rt, "memory");
     for kind in kinds {
-        faults.push(RunFault::Read(ReadFault::Gr(GrFault { line: most, kind })))?;
+        let fault = RunFault::Read(ReadFault::Gr(GrFault { line: most, kind }));
+        faults.push(fault).expect(&rt, "memory");
     }
     for fault in &faults {
         let mut errors = Vec::new(rt.alloc());
         write_fault(&mut errors, fault);
-        let line = format!(in rt.alloc(); "boruvka: {fault}\n")?;
-        assert_eq!(rt; errors.as_slice(), line.as_str().as_bytes());
+        let line = format!(in rt.alloc(); "boruvka: {fault}\n").expect(&rt, "memory");
+        expect_same(&rt, errors.as_slice(), line.as_str().as_bytes());
     }
-    Ok(())
 }
 
 #[test]
-fn prints_the_help(rt: HostRuntime) -> Result<(), Fail> {
+fn prints_the_help(rt: HostRuntime) {
     let mut errors = Vec::new(rt.alloc());
     let mut input = SMALL_NET.as_slice();
     let mut output = Vec::new(rt.alloc());
@@ -307,18 +305,17 @@ fn prints_the_help(rt: HostRuntime) -> Result<(), Fail> {
         &mut output,
         &mut errors,
     );
-    assert_eq!(rt; status, 0);
-    assert_eq!(rt; output.as_slice(), HELP.as_bytes());
-    assert!(rt; errors.is_empty());
-    Ok(())
+    expect_same(&rt, status, 0);
+    expect_same(&rt, output.as_slice(), HELP.as_bytes());
+    expect_same(&rt, errors.is_empty(), true);
 }
 
 #[test]
-fn names_each_option_in_the_help(rt: HostRuntime) -> Result<(), Fail> {
+fn names_each_option_in_the_help(rt: HostRuntime) {
     let Err(OptionsFault::Usage(help)) = options(rt.alloc(), &["boruvka", "-h"]) else {
         panic!(rt; "the help was asked for");
     };
-    let text = format!(in rt.alloc(); "{help}")?;
+    let text = format!(in rt.alloc(); "{help}").expect(&rt, "memory");
     for option in [
         "--workers",
         "--shards",
@@ -327,14 +324,14 @@ fn names_each_option_in_the_help(rt: HostRuntime) -> Result<(), Fail> {
         "--help",
         "FILE",
     ] {
-        assert!(rt; text.as_str().contains(option));
+        let is_named = text.as_str().contains(option);
+        expect_same(&rt, (option, is_named), (option, true));
     }
-    Ok(())
 }
 
 // A failed write to errors changes nothing else.
 #[test]
-fn ignores_errors_that_fail(rt: HostRuntime) -> Result<(), Fail> {
+fn ignores_errors_that_fail(rt: HostRuntime) {
     let words = ["boruvka", "--plain", "--report"];
     let late = b"a 1 2 3\np sp 2 1\n".as_slice();
     let files = [
@@ -344,20 +341,17 @@ fn ignores_errors_that_fail(rt: HostRuntime) -> Result<(), Fail> {
     for (file, status, text) in files {
         let mut input = file;
         let mut output = Vec::new(rt.alloc());
-        let mut errors = FusedSink::new(rt.alloc(), 0, 1)?;
-        assert_eq!(rt;
-            command(&rt, &words, &mut input, &mut output, &mut errors,),
-            status
-        );
-        assert_eq!(rt; output.as_slice(), text);
-        assert!(rt; errors.held().is_empty());
+        let mut errors = FusedSink::new(rt.alloc(), 0, 1).expect(&rt, "memory");
+        let ended = command(&rt, &words, &mut input, &mut output, &mut errors);
+        expect_same(&rt, ended, status);
+        expect_same(&rt, output.as_slice(), text);
+        expect_same(&rt, errors.held().is_empty(), true);
     }
-    Ok(())
 }
 
 // A run that fails has no report.
 #[test]
-fn reports_only_what_ended_well(rt: HostRuntime) -> Result<(), Fail> {
+fn reports_only_what_ended_well(rt: HostRuntime) {
     let words = ["boruvka", "--plain", "--report"];
     expect(
         &rt,
@@ -369,20 +363,20 @@ fn reports_only_what_ended_well(rt: HostRuntime) -> Result<(), Fail> {
     );
     let mut errors = Vec::new(rt.alloc());
     let mut input = SMALL_NET.as_slice();
-    let mut output = FusedSink::new(rt.alloc(), 10, 7)?;
+    let mut output = FusedSink::new(rt.alloc(), 10, 7).expect(&rt, "memory");
     let status = command(&rt, &words, &mut input, &mut output, &mut errors);
-    assert_eq!(rt; status, 3);
-    assert_eq!(rt;
+    expect_same(&rt, status, 3);
+    expect_same(
+        &rt,
         errors.as_slice(),
-        b"boruvka: write failed after 10 bytes\n".as_slice()
+        b"boruvka: write failed after 10 bytes\n".as_slice(),
     );
-    Ok(())
 }
 
 // The source gives the first line and four bytes of the second, and then fails.
 #[test]
-fn prints_the_line_of_a_failed_read(rt: HostRuntime) -> Result<(), Fail> {
-    let file = Vec::from_slice(rt.alloc(), b"p sp 2 2\na 1 2 5")?;
+fn prints_the_line_of_a_failed_read(rt: HostRuntime) {
+    let file = Vec::from_slice(rt.alloc(), b"p sp 2 2\na 1 2 5").expect(&rt, "memory");
     let mut input = FusedSource::new(file, 12, 5);
     let mut output = Vec::new(rt.alloc());
     let mut errors = Vec::new(rt.alloc());
@@ -393,13 +387,13 @@ fn prints_the_line_of_a_failed_read(rt: HostRuntime) -> Result<(), Fail> {
         &mut output,
         &mut errors,
     );
-    assert_eq!(rt; status, 3);
-    assert!(rt; output.is_empty());
-    assert_eq!(rt;
+    expect_same(&rt, status, 3);
+    expect_same(&rt, output.is_empty(), true);
+    expect_same(
+        &rt,
         errors.as_slice(),
-        b"boruvka: line 2: read failed\n".as_slice()
+        b"boruvka: line 2: read failed\n".as_slice(),
     );
-    Ok(())
 }
 
 // A writer that counts how often it is written to.
@@ -442,50 +436,45 @@ fn expect_one_write(
         taken: Vec::new(rt.alloc()),
     });
     let words = ["boruvka", "--plain", name];
-    assert_eq!(rt;
-        command(rt, &words, &mut input, &mut output, &mut errors,),
-        3
-    );
-    assert!(rt; output.is_empty());
-    assert_eq!(rt; errors.0.taken.as_slice(), line.as_bytes());
-    assert_eq!(rt; errors.0.writes, 1);
+    let ended = command(rt, &words, &mut input, &mut output, &mut errors);
+    expect_same(rt, ended, 3);
+    expect_same(rt, output.is_empty(), true);
+    expect_same(rt, errors.0.taken.as_slice(), line.as_bytes());
+    expect_same(rt, errors.0.writes, 1);
 }
 
 #[test]
-fn prints_a_long_name_in_one_write(rt: HostRuntime) -> Result<(), Fail> {
+fn prints_a_long_name_in_one_write(rt: HostRuntime) {
     for length in [200, 300, 4095, 4096] {
-        let name = "n".repeat(rt.alloc(), length)?;
-        let line = format!(in rt.alloc(); "boruvka: cannot open {name}\n")?;
+        let name = "n".repeat(rt.alloc(), length).expect(&rt, "memory");
+        let line = format!(in rt.alloc(); "boruvka: cannot open {name}\n").expect(&rt, "memory");
         expect_one_write(&rt, name.as_str(), line.as_str());
     }
-    Ok(())
 }
 
 #[test]
-fn prints_the_control_bytes_of_a_name_as_they_are(rt: HostRuntime) -> Result<(), Fail> {
+fn prints_the_control_bytes_of_a_name_as_they_are(rt: HostRuntime) {
     expect_one_write(
         &rt,
         "no/such\n\tfile\u{1}\u{7f}",
         "boruvka: cannot open no/such\n\tfile\u{1}\u{7f}\n",
     );
-    Ok(())
 }
 
 // An empty word and a minus are names of files like others.
 #[test]
-fn opens_whatever_name_it_is_given(rt: HostRuntime) -> Result<(), Fail> {
+fn opens_whatever_name_it_is_given(rt: HostRuntime) {
     let empty = b"boruvka: cannot open \n";
     expect(&rt, &["boruvka", "--plain", ""], SMALL_NET, 3, b"", empty);
     let minus = b"boruvka: cannot open -\n";
     expect(&rt, &["boruvka", "--plain", "-"], SMALL_NET, 3, b"", minus);
-    Ok(())
 }
 
 #[test]
-fn prints_a_help_that_cannot_be_written(rt: HostRuntime) -> Result<(), Fail> {
+fn prints_a_help_that_cannot_be_written(rt: HostRuntime) {
     let mut errors = Vec::new(rt.alloc());
     let mut input = SMALL_NET.as_slice();
-    let mut output = FusedSink::new(rt.alloc(), 10, 7)?;
+    let mut output = FusedSink::new(rt.alloc(), 10, 7).expect(&rt, "memory");
     let status = command(
         &rt,
         &["boruvka", "--help"],
@@ -493,13 +482,13 @@ fn prints_a_help_that_cannot_be_written(rt: HostRuntime) -> Result<(), Fail> {
         &mut output,
         &mut errors,
     );
-    assert_eq!(rt; status, 3);
-    assert_eq!(rt; output.held(), b"Computes t".as_slice());
-    assert_eq!(rt;
+    expect_same(&rt, status, 3);
+    expect_same(&rt, output.held(), b"Computes t".as_slice());
+    expect_same(
+        &rt,
         errors.as_slice(),
-        b"boruvka: write failed after 10 bytes\n".as_slice()
+        b"boruvka: write failed after 10 bytes\n".as_slice(),
     );
-    Ok(())
 }
 
 // The words are lawful, and ask for so many workers and shards, and for this file.
@@ -510,20 +499,14 @@ fn expect_options(
     shards: u32,
     file: Option<&str>,
 ) {
-    let Ok(chosen) = options(rt.alloc(), words) else {
-        panic!(rt; "lawful words");
-    };
-    assert_eq!(rt; chosen.workers, workers);
-    assert_eq!(rt; chosen.shards, shards);
-    match (&chosen.file, file) {
-        (Some(name), Some(wanted)) => assert_eq!(rt; name.as_str(), wanted),
-        (None, None) => {}
-        _ => panic!(rt; "another file"),
-    }
+    let chosen = options(rt.alloc(), words).expect(rt, "lawful words");
+    expect_same(rt, chosen.workers, workers);
+    expect_same(rt, chosen.shards, shards);
+    expect_same(rt, chosen.file.as_deref(), file);
 }
 
 #[test]
-fn takes_numbers_within_their_ranges(rt: HostRuntime) -> Result<(), Fail> {
+fn takes_numbers_within_their_ranges(rt: HostRuntime) {
     expect_options(&rt, &["boruvka"], 2, 64, None);
     expect_options(&rt, &["boruvka", "a.gr"], 2, 64, Some("a.gr"));
     expect_options(&rt, &["boruvka", "--workers", "0"], 0, 64, None);
@@ -535,16 +518,14 @@ fn takes_numbers_within_their_ranges(rt: HostRuntime) -> Result<(), Fail> {
     let most = ["boruvka", "--workers", "64", "--shards=4096", "--report"];
     expect_options(&rt, &most, 64, 4096, None);
     expect_options(&rt, &["boruvka", "--plain"], 2, 64, None);
-    Ok(())
 }
 
 #[test]
-fn takes_the_words_for_what_they_ask(rt: HostRuntime) -> Result<(), Fail> {
-    let plain = options(rt.alloc(), &["boruvka", "--plain"]).map_err(|_| "lawful words")?;
-    assert!(rt; plain.plain && !plain.report);
-    let report = options(rt.alloc(), &["boruvka", "--report"]).map_err(|_| "lawful words")?;
-    assert!(rt; report.report && !report.plain);
-    Ok(())
+fn takes_the_words_for_what_they_ask(rt: HostRuntime) {
+    let plain = options(rt.alloc(), &["boruvka", "--plain"]).expect(&rt, "lawful words");
+    expect_same(&rt, (plain.plain, plain.report), (true, false));
+    let report = options(rt.alloc(), &["boruvka", "--report"]).expect(&rt, "lawful words");
+    expect_same(&rt, (report.report, report.plain), (true, false));
 }
 
 // These words are refused as the usage says, and nothing goes to the output.
@@ -562,17 +543,17 @@ fn expect_refused(
     words: &[&str],
 ) {
     let is_usage = matches!(options(rt.alloc(), words), Err(OptionsFault::Usage(_)));
-    assert!(rt; is_usage);
+    expect_same(rt, is_usage, true);
     let mut errors = Vec::new(rt.alloc());
     let mut input = SMALL_NET.as_slice();
     let mut output = Vec::new(rt.alloc());
     let status = command(rt, words, &mut input, &mut output, &mut errors);
-    assert_eq!(rt; status, 2);
-    assert!(rt; output.is_empty() && !errors.is_empty());
+    expect_same(rt, status, 2);
+    expect_same(rt, (output.is_empty(), errors.is_empty()), (true, false));
 }
 
 #[test]
-fn refuses_wrong_words(rt: HostRuntime) -> Result<(), Fail> {
+fn refuses_wrong_words(rt: HostRuntime) {
     for wrong in ["--workers=65", "--shards=0", "--shards=4097", "--wrong"] {
         expect_refused(&rt, &["boruvka", wrong]);
     }
@@ -582,33 +563,32 @@ fn refuses_wrong_words(rt: HostRuntime) -> Result<(), Fail> {
     let wrong =
         b"error: unexpected argument '--wrong' found\n\n  tip: to pass '--wrong' as a value, use '-- --wrong'\n\nUsage: boruvka [OPTIONS] [FILE]\n\nFor more information, try '--help'.\n";
     expect(&rt, &["boruvka", "--wrong"], SMALL_NET, 2, b"", wrong);
-    Ok(())
 }
 
 #[test]
-fn prints_why_there_are_no_words(rt: HostRuntime) -> Result<(), Fail> {
+fn prints_why_there_are_no_words(rt: HostRuntime) {
     let mut errors = Vec::new(rt.alloc());
     let memory = io::Error::from(ErrorKind::OutOfMemory);
-    assert_eq!(rt; without_words(&memory, &mut errors), 4);
-    assert_eq!(rt; errors.as_slice(), b"boruvka: no memory\n".as_slice());
+    expect_same(&rt, without_words(&memory, &mut errors), 4);
+    expect_same(&rt, errors.as_slice(), b"boruvka: no memory\n".as_slice());
     errors.clear();
     let no_text = io::Error::from(ErrorKind::InvalidData);
-    assert_eq!(rt; without_words(&no_text, &mut errors), 2);
-    assert_eq!(rt;
+    expect_same(&rt, without_words(&no_text, &mut errors), 2);
+    expect_same(
+        &rt,
         errors.as_slice(),
-        b"boruvka: a word is not UTF-8\n".as_slice()
+        b"boruvka: a word is not UTF-8\n".as_slice(),
     );
-    assert!(rt; !all_words(&rt)?.is_empty());
-    Ok(())
+    let words = all_words(&rt).expect(&rt, "words");
+    expect_same(&rt, words.is_empty(), false);
 }
 
 // The help is for words before which nothing is wrong.
 #[test]
-fn refuses_words_that_are_wrong_before_they_ask_for_the_help(rt: HostRuntime) -> Result<(), Fail> {
+fn refuses_words_that_are_wrong_before_they_ask_for_the_help(rt: HostRuntime) {
     let help = ["boruvka", "--report", "--help", "--wrong"];
     expect(&rt, &help, SMALL_NET, 0, HELP.as_bytes(), b"");
     expect_refused(&rt, &["boruvka", "--wrong", "--help"]);
-    Ok(())
 }
 
 // A run over these lines, with its report, answers this status, and writes just these texts, to the output and the errors.
@@ -636,9 +616,9 @@ fn expect_over<L: Line + Send + Drop>(
             errors: &mut err,
         },
     );
-    assert_eq!(rt; ended, status);
-    assert_eq!(rt; out.as_slice(), texts.0);
-    assert_eq!(rt; err.as_slice(), texts.1);
+    expect_same(rt, ended, status);
+    expect_same(rt, out.as_slice(), texts.0);
+    expect_same(rt, err.as_slice(), texts.1);
 }
 
 // Lines to two workers in memory.
@@ -667,20 +647,19 @@ fn a_lie(alloc: Global) -> Result<Vec<ScriptLine>, AllocError>
 
 // Over lines whose bytes are known the forest is the least, and a lie of a worker is answered as such.
 #[test]
-fn runs_over_lines_in_memory(rt: HostRuntime) -> Result<(), Fail> {
+fn runs_over_lines_in_memory(rt: HostRuntime) {
     let report =
         b"vertices=6 links=8 rounds=2 shards=2 asked=6 answered=6 alone=0 closed=0 total=13\n".as_slice();
-    let lines = two_engines(rt.alloc())?;
+    let lines = two_engines(rt.alloc()).expect(&rt, "memory");
     expect_over(&rt, 2, lines, 0, (SMALL_FOREST, report));
     let missed = b"boruvka: link 1 2 17 was missed\n".as_slice();
-    let lines = a_lie(rt.alloc())?;
+    let lines = a_lie(rt.alloc()).expect(&rt, "memory");
     expect_over(&rt, 1, lines, 5, (b"", missed));
-    Ok(())
 }
 
 // A line of the longest report, and one that is broken off.
 #[test]
-fn writes_a_report_of_the_largest_numbers(rt: HostRuntime) -> Result<(), Fail> {
+fn writes_a_report_of_the_largest_numbers(rt: HostRuntime) {
     let most = 18_446_744_073_709_551_615;
     let report = Report {
         vertices: 4_294_967_295,
@@ -697,19 +676,17 @@ fn writes_a_report_of_the_largest_numbers(rt: HostRuntime) -> Result<(), Fail> {
         b"vertices=4294967295 links=18446744073709551615 rounds=4294967295 shards=4294967295 asked=18446744073709551615 answered=18446744073709551615 alone=18446744073709551615 closed=18446744073709551615 total=-170141183460469231731687303715884105728\n";
     let mut errors = Vec::new(rt.alloc());
     write_report(&mut errors, &report);
-    assert_eq!(rt; errors.as_slice(), line.as_slice());
-    let mut short = FusedSink::new(rt.alloc(), 9, 7)?;
+    expect_same(&rt, errors.as_slice(), line.as_slice());
+    let mut short = FusedSink::new(rt.alloc(), 9, 7).expect(&rt, "memory");
     write_report(&mut short, &report);
-    assert_eq!(rt; short.held(), b"vertices=".as_slice());
+    expect_same(&rt, short.held(), b"vertices=".as_slice());
     write_text(&mut errors, b"");
-    assert_eq!(rt; errors.len(), line.len());
-    Ok(())
+    expect_same(&rt, errors.len(), line.len());
 }
 
 #[test]
-fn starts_as_many_workers_as_are_asked_for(rt: HostRuntime) -> Result<(), Fail> {
+fn starts_as_many_workers_as_are_asked_for(rt: HostRuntime) {
     let (reserved, count) = workers_beside(&rt, 3);
-    assert!(rt; reserved.is_some());
-    assert_eq!(rt; count, 3);
-    Ok(())
+    expect_same(&rt, reserved.is_some(), true);
+    expect_same(&rt, count, 3);
 }
