@@ -1,6 +1,7 @@
 //! Worked examples of workers over real sockets of this machine, each a test that needs public calls alone.
 //!
 //! ```text
+//!   same            what is found beside what is expected
 //!   streams         the two ends of a connection, strangers, what a line counts
 //!   workers         asks and whole runs over workers in threads, and over a worker that is gone
 //! ```

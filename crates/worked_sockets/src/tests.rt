@@ -1,2 +1,3 @@
+mod same;
 mod streams;
 mod workers;

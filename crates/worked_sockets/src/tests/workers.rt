@@ -2,6 +2,7 @@
 ghost use Rattle.std.specs.Prelude.{◌≡◌, ◌+◌, ◌≤◌, length, All, OnOk};
 ghost use Rattle.tcp_lines.specs.Lines.{unused};
 
+use super::same::expect_same;
 use forest_run::{Cutting, Report, run_lines};
 use link_key::{Cut, Labels};
 use ports::{Port, PortFault, Wire};
@@ -9,7 +10,6 @@ use std::alloc::{Alloc, AllocError, Global};
 use std::net::{Ipv4Addr, Net, TcpListener, TcpStream};
 use std::process::Abort;
 use std::sync::Wait;
-use std::test::Fail;
 use std::thread::{self, Threads};
 use std::time::{Duration, Instant};
 use tcp_lines::{TcpLine, Workers, pair};
@@ -30,46 +30,52 @@ fn expect_offers(
     assert!(rt; have_labels(cut.shard(0).links, labels.n()));
     match wire.ask(round, 0, labels) {
         Ok(answer) => {
-            assert_eq!(rt; (answer.round, answer.shard), (round, 0));
-            assert_eq!(rt; answer.offers.pairs(), [(1, 0), (2, 0), (3, 2)].as_slice());
+            expect_same(rt, (answer.round, answer.shard), (round, 0));
+            expect_same(
+                rt,
+                answer.offers.pairs(),
+                [(1, 0), (2, 0), (3, 2)].as_slice(),
+            );
         }
         Err(_) => panic!(rt; "an answer"),
     }
 }
 
 #[test]
-fn a_worker_answers_over_a_connection(rt: HostRuntime) -> Result<(), Fail> {
+fn a_worker_answers_over_a_connection(rt: HostRuntime) {
     let alloc = rt.alloc();
-    let links = links_of(alloc, 3, EQUAL_WEIGHTS.arcs)?.expect(&rt, "arcs");
+    let links = links_of(alloc, 3, EQUAL_WEIGHTS.arcs)
+        .expect(&rt, "memory")
+        .expect(&rt, "arcs");
     assert!(rt; links.len() <= 1 << 30);
     let cut = Cut::even(alloc, links.as_slice(), 1).expect(&rt, "a cut");
-    let labels = Labels::apart(alloc, 3)?;
-    let (mut lines, workers) = Workers::start(&rt, alloc, 1)?;
+    let labels = Labels::apart(alloc, 3).expect(&rt, "memory");
+    let (mut lines, workers) = Workers::start(&rt, alloc, 1).expect(&rt, "memory");
     let line = lines.pop().expect(&rt, "a worker");
     let mut wire = Wire::new(alloc, line, &cut, 0);
     expect_offers(&rt, &mut wire, &cut, 1, &labels);
     expect_offers(&rt, &mut wire, &cut, 2, &labels);
     drop(wire);
     workers.join(&rt);
-    Ok(())
 }
 
 #[test]
-fn a_worker_who_hangs_up_is_down(rt: HostRuntime) -> Result<(), Fail> {
+fn a_worker_who_hangs_up_is_down(rt: HostRuntime) {
     let alloc = rt.alloc();
-    let links = links_of(alloc, 3, EQUAL_WEIGHTS.arcs)?.expect(&rt, "arcs");
+    let links = links_of(alloc, 3, EQUAL_WEIGHTS.arcs)
+        .expect(&rt, "memory")
+        .expect(&rt, "arcs");
     assert!(rt; links.len() <= 1 << 30);
     let cut = Cut::even(alloc, links.as_slice(), 1).expect(&rt, "a cut");
     let part = cut.shard(0);
-    let labels = Labels::apart(alloc, 3)?;
+    let labels = Labels::apart(alloc, 3).expect(&rt, "memory");
     assert!(rt; have_labels(part.links, labels.n()));
-    let listener = TcpListener::bind(&rt, (Ipv4Addr::LOCALHOST, 0))?;
-    let (line, far) = pair(&rt, &listener).map_err(|_| "a pair")?;
+    let listener = TcpListener::bind(&rt, (Ipv4Addr::LOCALHOST, 0)).expect(&rt, "a listener");
+    let (line, far) = pair(&rt, &listener).expect(&rt, "a pair");
     drop(far);
     let mut wire = Wire::new(alloc, line, &cut, 0);
-    assert_eq!(rt; wire.ask(1, 0, &labels).err(), Some(PortFault::Down));
-    assert_eq!(rt; wire.ask(1, 0, &labels).err(), Some(PortFault::Closed));
-    Ok(())
+    expect_same(&rt, wire.ask(1, 0, &labels).err(), Some(PortFault::Down));
+    expect_same(&rt, wire.ask(1, 0, &labels).err(), Some(PortFault::Closed));
 }
 
 // What a run over the small net, cut into so many shards, reports: it writes the net's forest.
@@ -86,13 +92,10 @@ fn report_of(
     let mut source = SMALL_NET.file;
     let mut text = Vec::new(alloc);
     let cutting = Cutting::Even(shards);
-    match run_lines(rt, alloc, &mut source, cutting, lines, &mut text) {
-        Ok((report, _lines)) => {
-            assert_eq!(rt; text.as_slice(), SMALL_NET.text);
-            report
-        }
-        Err(_) => panic!(rt; "a forest"),
-    }
+    let ended = run_lines(rt, alloc, &mut source, cutting, lines, &mut text);
+    let (report, _lines) = ended.expect(rt, "a forest");
+    expect_same(rt, text.as_slice(), SMALL_NET.text);
+    report
 }
 
 // What it reports where each shard of its three rounds was answered.
@@ -114,37 +117,35 @@ fn all_answered(shards: u32) -> Report
 }
 
 #[test]
-fn each_shard_is_answered_by_one_of_three_workers(rt: HostRuntime) -> Result<(), Fail> {
+fn each_shard_is_answered_by_one_of_three_workers(rt: HostRuntime) {
     let alloc = rt.alloc();
-    let (lines, workers) = Workers::start(&rt, alloc, 3)?;
-    assert_eq!(rt; lines.len(), 3);
-    assert_eq!(rt; report_of(&rt, alloc, 2, lines), all_answered(2));
+    let (lines, workers) = Workers::start(&rt, alloc, 3).expect(&rt, "memory");
+    expect_same(&rt, lines.len(), 3);
+    expect_same(&rt, report_of(&rt, alloc, 2, lines), all_answered(2));
     workers.join(&rt);
-    Ok(())
 }
 
 // A shard and an ask go out one behind the other, and must not wait for the receipt of the first, which the other end
 // may owe for 40 milliseconds.
 #[test]
-fn many_small_shards_take_no_time(rt: HostRuntime) -> Result<(), Fail> {
+fn many_small_shards_take_no_time(rt: HostRuntime) {
     let alloc = rt.alloc();
-    let (lines, workers) = Workers::start(&rt, alloc, 1)?;
-    assert_eq!(rt; lines.len(), 1);
-    let start = Instant::now(&rt)?;
-    assert_eq!(rt; report_of(&rt, alloc, 64, lines), all_answered(64));
-    assert!(rt; start.elapsed(&rt)? < Duration::from_secs(1));
+    let (lines, workers) = Workers::start(&rt, alloc, 1).expect(&rt, "memory");
+    expect_same(&rt, lines.len(), 1);
+    let start = Instant::now(&rt).expect(&rt, "the time");
+    expect_same(&rt, report_of(&rt, alloc, 64, lines), all_answered(64));
+    let taken = start.elapsed(&rt).expect(&rt, "the time");
+    expect_same(&rt, taken < Duration::from_secs(1), true);
     workers.join(&rt);
-    Ok(())
 }
 
 #[test]
-fn as_many_workers_as_may_be(rt: HostRuntime) -> Result<(), Fail> {
+fn as_many_workers_as_may_be(rt: HostRuntime) {
     let alloc = rt.alloc();
-    let (lines, workers) = Workers::start(&rt, alloc, 64)?;
-    assert_eq!(rt; lines.len(), 64);
-    assert_eq!(rt; report_of(&rt, alloc, 4, lines), all_answered(4));
+    let (lines, workers) = Workers::start(&rt, alloc, 64).expect(&rt, "memory");
+    expect_same(&rt, lines.len(), 64);
+    expect_same(&rt, report_of(&rt, alloc, 4, lines), all_answered(4));
     workers.join(&rt);
-    Ok(())
 }
 
 // One line more.
@@ -160,7 +161,7 @@ fn add(lines: &mut Vec<TcpLine>, line: TcpLine) -> Result<(), AllocError>
 }
 
 // A worker, and a line whose far end is closed or soon will be: the worker answers all.
-fn expect_all_of_the_other<R>(rt: &R, line: TcpLine) -> Result<(), Fail>
+fn expect_all_of_the_other<R>(rt: &R, line: TcpLine)
 where
     R: Alloc<A = Global>
         + Net<Listener = TcpListener, Stream = TcpStream>
@@ -174,34 +175,31 @@ where
     requires { line ≡ unused }
 {
     let alloc = rt.alloc();
-    let (mut lines, workers) = Workers::start(rt, alloc, 1)?;
-    add(&mut lines, line)?;
+    let (mut lines, workers) = Workers::start(rt, alloc, 1).expect(rt, "memory");
+    add(&mut lines, line).expect(rt, "memory");
     let report = report_of(rt, alloc, 2, lines);
-    assert_eq!(rt; (report.rounds, report.answered, report.alone), (2, 6, 0));
-    assert_eq!(rt; report.total, 13);
-    assert!(rt; report.closed <= 1);
-    assert_eq!(rt; report.asked, 6 + report.closed);
+    let work = (report.rounds, report.answered, report.alone);
+    expect_same(rt, work, (2, 6, 0));
+    expect_same(rt, report.total, 13);
+    expect_same(rt, report.closed <= 1, true);
+    expect_same(rt, report.asked, report.closed.wrapping_add(6));
     workers.join(rt);
-    Ok(())
 }
 
 #[test]
-fn a_worker_who_hangs_up_leaves_its_shards_to_the_other(rt: HostRuntime) -> Result<(), Fail> {
-    let listener = TcpListener::bind(&rt, (Ipv4Addr::LOCALHOST, 0))?;
-    let (line, far) = pair(&rt, &listener).map_err(|_| "a pair")?;
+fn a_worker_who_hangs_up_leaves_its_shards_to_the_other(rt: HostRuntime) {
+    let listener = TcpListener::bind(&rt, (Ipv4Addr::LOCALHOST, 0)).expect(&rt, "a listener");
+    let (line, far) = pair(&rt, &listener).expect(&rt, "a pair");
     drop(far);
     expect_all_of_the_other(&rt, line)
 }
 
 // The same where its thread hangs up, at whatever time that is.
 #[test]
-fn a_thread_that_drops_its_stream_leaves_its_shards_to_the_other(
-    rt: HostRuntime,
-) -> Result<(), Fail> {
-    let listener = TcpListener::bind(&rt, (Ipv4Addr::LOCALHOST, 0))?;
-    let (line, far) = pair(&rt, &listener).map_err(|_| "a pair")?;
-    let thread = thread::spawn(&rt, move || drop(far))?;
-    expect_all_of_the_other(&rt, line)?;
+fn a_thread_that_drops_its_stream_leaves_its_shards_to_the_other(rt: HostRuntime) {
+    let listener = TcpListener::bind(&rt, (Ipv4Addr::LOCALHOST, 0)).expect(&rt, "a listener");
+    let (line, far) = pair(&rt, &listener).expect(&rt, "a pair");
+    let thread = thread::spawn(&rt, move || drop(far)).expect(&rt, "a thread");
+    expect_all_of_the_other(&rt, line);
     thread.join(&rt);
-    Ok(())
 }
