@@ -78,6 +78,7 @@ fn read_pairs<A: Allocator + Copy, S: Source>(
         read_piece(source, &mut pairs, more, piece)?;
         came += more;
     }
+    pairs.shrink_to_fit();
     Ok(pairs)
 }
 

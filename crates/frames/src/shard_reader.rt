@@ -77,6 +77,9 @@ fn read_links<A: Allocator + Copy, S: Source>(
         read_piece(source, &mut links, spelling, more, piece)?;
         came += more;
     }
+    if let Some(list) = &mut links {
+        list.shrink_to_fit();
+    }
     Ok(links)
 }
 

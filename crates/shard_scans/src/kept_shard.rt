@@ -18,7 +18,7 @@ use std::thread::Threads;
 /// than a quarter lie between the ends of the link before them and are no less. Contracts see the links and the live ones, if
 /// these are listed; where they aren't, all are live.
 ///
-/// It keeps the links' memory. The list takes 12 bytes for each link while it is made, then for each that was live, and 4 bytes
+/// It keeps the links' memory. The list takes 12 bytes for each link while it is made, then for each that is live, and 4 bytes
 /// for the name of each number where it is by numbers; where there is no memory for it, all links stay live.
 #[derive(Drop)]
 pub struct KeptShard<A: Allocator = Global> {

@@ -42,6 +42,7 @@ impl<A: Allocator + Copy> Listed<A> {
     {
         let kept = pack(self.links.as_mut_slice(), labels);
         self.links.truncate(kept);
+        self.links.shrink_to_fit();
     }
 
     // Writes the links with the numbers of their labels, of which there are so many, in place of these.
@@ -93,6 +94,7 @@ impl<A: Allocator + Copy> Listed<A> {
         );
         let kept = pack(self.links.as_mut_slice(), changed.as_slice());
         self.links.truncate(kept);
+        self.links.shrink_to_fit();
         self.names = names;
         Ok(())
     }

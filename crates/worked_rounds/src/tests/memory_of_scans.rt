@@ -300,7 +300,7 @@ const LISTED: [Asked; 3] = [
         2,
         [
             ([1, 2, 3], 5),
-            ([1, 1, 3], 3),
+            ([1, 1, 3], 4),
             ([1, 1, 3], 3),
             ([1, 1, 1], 2),
         ],
@@ -309,7 +309,7 @@ const LISTED: [Asked; 3] = [
         2000,
         [
             ([1, 2, 3], 5),
-            ([1, 1, 3], 3),
+            ([1, 1, 3], 4),
             ([1, 1, 3], 3),
             ([1, 1, 1], 2),
         ],
@@ -318,7 +318,8 @@ const LISTED: [Asked; 3] = [
 
 // The live links are listed, in one block, before the first scan. Where they are less than half as many as the labels they are
 // numbered then, else at the next ask: in one block for the marks, three of the table, which are used again, and one for the names, and at
-// each later ask in one more for what becomes of the names. Each answer that offers something takes one.
+// each later ask in one more for what becomes of the names, and where links are laid aside and others stay, in a smaller one for the list.
+// Each answer that offers something takes one.
 #[test]
 fn live_links_are_listed_once(rt: HostRuntime) {
     for by in [By::OneThread, By::Threads] {

@@ -13,8 +13,9 @@ returns g c =
     let old = c.args.self.now.links.items in
     let live = c.pack-kept.new.live in
     let size : length live ≡ c.args.self.now.links.len = omega (arith, c.pack-kept.auto.live, c.as_mut_slice.ensures.len) in
-    let is : c.truncate.new.self.items ≡ packed labels old =
-    c.truncate.ensures.items
+    let is : c.shrink_to_fit.new.self.items ≡ packed labels old =
+    c.shrink_to_fit.ensures.items
+    ∙ c.truncate.ensures.items
     ∙ ap (take c.pack-kept.result) (written_back c.args.self.now.links.len old live size)
     ∙ c.pack-kept.ensures.packed
     ∙ ap (packed labels) c.as_mut_slice.ensures.value in

@@ -22,12 +22,13 @@ returns-clause-numbered g c =
     subst (λ (t : List ℕ). (i : ℕ) → i < length t → get_or changed i 0 ≡ number_of marks (new_name labels (get_or t i 0))) old_is c.number_names.ensures.numbered in
     let name_is : (i : ℕ) → i < length names → HasItsName marks names' (new_name labels (get_or names i 0)) =
     subst (λ (t : List ℕ). (i : ℕ) → i < length t → HasItsName marks names' (new_name labels (get_or t i 0))) old_is c.number_names.ensures.named in
-    let links_is : c.truncate.new.self.items ≡ packed changed live =
-    c.truncate.ensures.items
+    let links_is : c.shrink_to_fit.new.self.items ≡ packed changed live =
+    c.shrink_to_fit.ensures.items
+    ∙ c.truncate.ensures.items
     ∙ ap (λ (t : List LiveLink). take c.pack-kept.result t) (written_back c.args.self.now.links.len live c.pack-kept.new.live (omega (arith, c.pack-kept.auto.live, c.as_mut_slice-3.ensures.len)))
     ∙ c.pack-kept.ensures.packed
     ∙ ap (λ (t : List ℕ). packed t c.as_mut_slice-3.result.now) changed_is
     ∙ ap (λ (t : List LiveLink). packed changed t) c.as_mut_slice-3.ensures.value in
-    subst (λ (t : List ℕ). AreByNumbers marks t (packed labels (shown names live)) c.truncate.new.self.items) (sym names_is)
+    subst (λ (t : List ℕ). AreByNumbers marks t (packed labels (shown names live)) c.shrink_to_fit.new.self.items) (sym names_is)
     (subst (λ (t : List LiveLink). AreByNumbers marks names' (packed labels (shown names live)) t) (sym links_is)
     (next_by_numbers labels marks names names' changed c.requires.marked number_is name_is live c.requires.have_names c.requires.ends))
