@@ -1,5 +1,5 @@
 -- What two calls on a stream do together, and what a call does to a stream that is known.
-use Rattle.std.proofs.Common.{◌≡◌, ℕ, ◌+◌, ◌-◌, ◌<◌, ◌≤◌, List, [], ◌++◌, length, take, drop, Some, None, IfSome, refl, sym, ap, subst, ◌∙◌, arith, append-nil, length-append, length-take-le, le_refl, take_all, suc, zero}
+use Rattle.std.proofs.Common.{◌≡◌, ℕ, ◌+◌, ◌-◌, ◌<◌, ◌≤◌, List, [], ◌++◌, length, take, drop, Some, None, IfSome, refl, sym, ap, subst, ◌∙◌, arith, append-nil, length-append, length-take-le, suc, zero}
 use Rattle.std.proofs.Math.Seq.{take-add, take-append-add}
 use Rattle.std.proofs.lemmas.List.{nil_from_length, take-append-le, take_rest}
 use Rattle.std.specs.Prelude.{Option}
@@ -30,12 +30,6 @@ rises-same m n (Some x) (Some y) before after rose =
     let from : x ≡ n = cc in
     let to : y ≡ n = cc in
     omega arith
-
--- a known count is still known
-pub rises-known : (m n : ℕ) (a b : Option ℕ) → a ≡ Some n → RisesBy m a b → b ≡ Some (n + m)
-rises-known m n None b known rose = cc
-rises-known m n (Some x) None known rose = absurd rose
-rises-known m n (Some x) (Some y) known rose = let same : x ≡ n = cc in ap (λ k. Some k) (rose ∙ ap (λ k. k + m) same)
 
 -- ---- sources
 
@@ -166,15 +160,6 @@ took_then_went_out before middle after text field s t u first count part = recor
   took = subst (λ bs. Took 1 bs s u) (sym (take-append-add text field part.count)) (took_more 1 text (take part.count field) s t u first part.took);
 }
 
--- all of the field went out, and then came a setback that took no byte
-pub went_out_all : (before : ℕ) (field : List ℕ) (s t u : SinkState) → Took 0 field s t → Took 1 [] t u → WentOut before (before + length field) field s u
-went_out_all before field s t u first second = record {
-  count = length field;
-  within = le_refl _;
-  counted = refl;
-  took = subst (λ bs. Took 1 bs s u) (sym (take_all (length field) field (le_refl _))) (took_no_more 1 field s t u first second);
-}
-
 -- a part of a text, with what follows it and didn't go out
 pub went_out_followed : (before after : ℕ) (text rest : List ℕ) (s t : SinkState) → WentOut before after text s t → WentOut before after (text ++ rest) s t
 went_out_followed before after text rest s t part = record {
@@ -183,10 +168,3 @@ went_out_followed before after text rest s t part = record {
   counted = part.counted;
   took = subst (λ bs. Took 1 bs s t) (sym (take-append-le part.count text rest part.within)) part.took;
 }
-
--- a sink whose bytes are known holds as many bytes of the text as the count says
-pub went_out_known : (before after : ℕ) (xs text : List ℕ) (s t : SinkState) → s.held ≡ Some xs → WentOut before after text s t
-    → t.held ≡ Some (xs ++ take (after - before) text)
-went_out_known before after xs text s t known part =
-    let count : part.count ≡ after - before = omega (arith, part.counted) in
-    took_known 1 xs (take part.count text) s t known part.took ∙ ap (λ m. Some (xs ++ take m text)) count
