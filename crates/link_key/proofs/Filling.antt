@@ -1,10 +1,10 @@
 -- Numbers that are handed out one after the other, each to a label that has none.
-use Rattle.std.proofs.Common.{◌≡◌, ◌≢◌, ℕ, ◌+◌, ◌<◌, ◌≤◌, ◌==◌, if◌then◌else◌, List, [], ◌∷◌, length, get_or, set, get_or-set_same, get_or-set_other, refl, sym, ap, ◌∙◌, subst, inl, inr, arith}
-use Rattle.std.proofs.lemmas.List.Sums.{sum_by-set, sum_by-cons}
+use Rattle.std.proofs.Common.{◌≡◌, ◌≢◌, ℕ, ◌+◌, ◌<◌, ◌≤◌, ◌==◌, if◌then◌else◌, List, length, get_or, set, get_or-set_same, get_or-set_other, refl, sym, ap, ◌∙◌, subst, inl, inr, arith}
+use Rattle.std.proofs.lemmas.List.Sums.{sum_by-set}
 use Rattle.std.proofs.lemmas.List.{length-set}
 use Rattle.std.proofs.lemmas.Bool.{cases_eq}
 use Rattle.std.proofs.lemmas.Bool.Decides.{nat_tests}
-use Rattle.link_key.specs.OpenLinks.{zeros, AreNumbers, AreAllNumbers, AreFilled}
+use Rattle.link_key.specs.OpenLinks.{zeros, AreNumbers, AreFilled}
 
 abbrev no_number : ℕ → ℕ
 no_number k = if k == 0 then 1 else 0
@@ -35,22 +35,6 @@ zeros_two_fewer numbers a b n a_in b_in some none =
     let one = none_is (get_or numbers a 0) none in
     let second = zeros_set (set numbers a n) b n (subst (λ k. b < k) (sym (length-set numbers a n)) b_in) some in
     omega (arith, first, second, one)
-
-zeros_some : (numbers : List ℕ) → 0 < length numbers → get_or numbers 0 0 ≡ 0 → 0 < zeros numbers
-zeros_some [] some none = absurd (omega (arith, some))
-zeros_some (x ∷ xs) some none =
-    let e = sum_by-cons no_number x xs in
-    let one = none_is x none in
-    omega (arith, e, one)
-
--- all but label 0 have one
-pub all_numbers : {last : ℕ} {numbers : List ℕ} → 0 < length numbers → AreNumbers last numbers → ((c : ℕ) → 0 < c → c < length numbers → 0 < get_or numbers c 0) → AreAllNumbers last numbers
-all_numbers {last} {numbers} some are each = record {
-  at_most = are.at_most;
-  none = are.none;
-  some = each;
-  few = let few = are.few in let one = zeros_some numbers some are.none in omega (arith, few, one);
-}
 
 module _ {last i : ℕ} {numbers : List ℕ} (some : 0 < i) (i_in : i < length numbers) (none : get_or numbers i 0 ≡ 0) (are : AreNumbers last numbers) where
   at_i : get_or (set numbers i (last + 1)) i 0 ≡ last + 1

@@ -2,7 +2,6 @@
 use Rattle.std.proofs.Common.{◌≡◌, refl, sym, ap, ap₂, ◌∙◌, subst, inl, inr, ℕ, zero, suc, ◌+◌, ◌-◌, ◌*◌, ◌/◌, ◌<◌, ◌≤◌, Bool, true, false, ◌&&◌, List, [], ◌∷◌, ◌++◌, length, map, drop, get_or, arith}
 use Rattle.std.specs.Prelude.{nat_le, eqb, ltb, leb, if◌then◌else◌, Some, None}
 use Rattle.std.specs.List.{slice_range, list_all}
-use Rattle.std.proofs.Math.Seq.{drop-cons}
 use Rattle.std.proofs.Math.ListN.{drop_of_length-le}
 use Rattle.std.proofs.lemmas.List.{length-map, length-take}
 use Rattle.std.proofs.Math.Nat.{mul-div_cancel_left, div-mul-le_self, add-mul-div_left, zero-div, one-mul, mul_comm, add-mul}
@@ -25,14 +24,6 @@ both_first false b h = h
 pub both_second : (a b : Bool) → (a && b) ≡ true → b ≡ true
 both_second true b h = h
 both_second false b h = absurd (cc)
-
--- the spans from a place on: the first up to the next place, and the rest
-pub next_span : (p : (ℕ × ℕ) → Bool) (from len : ℕ) (places : List ℕ) (i : ℕ) → i < length places
-    → list_all p (spans_from from len (drop i places)) ≡ (p (from, get_or places i 0) && list_all p (spans_from (get_or places i 0) len (drop (i + 1) places)))
-next_span p from len places i h =
-    let e : drop i places ≡ get_or places i 0 ∷ drop (suc i) places = drop-cons places i 0 h in
-    let s : i + 1 ≡ suc i = omega arith in
-    rw (s, e) refl
 
 -- a test that each span passes holds of each
 pub test_at : (p : (ℕ × ℕ) → Bool) (from len : ℕ) (places : List ℕ) (i : ℕ) → i ≤ length places

@@ -58,9 +58,6 @@ apart_from labels l passes same = grind (arith, nat_tests)
 pub apart_test : (labels : List ℕ) (l : Link) → ¬ (HasOneLabel labels l) → is_apart labels l ≡ true
 apart_test labels l apart = grind (arith, nat_tests)
 
-pub joined_test : (labels : List ℕ) (l : Link) → HasOneLabel labels l → is_apart labels l ≡ false
-joined_test labels l same = grind (arith, nat_tests)
-
 -- A walk from a vertex with label c to one without takes a link that leaves c: the first that ends outside.
 crossing : (labels : List ℕ) (S : Link → Type 0) (c u v : ℕ) → Joins S u v → get_or labels u 0 ≡ c → get_or labels v 0 ≢ c → (m : Link) × S m × LeavesLabel labels m c
 crossing labels S c u v (walk, all, leads) inside outside = along u walk all leads inside
@@ -240,21 +237,6 @@ stage_end {links} {labels} {taken} stage = spanning_part links (Contains taken) 
 -- links of the list have their ends among its vertices
 pub ends_within : (n : ℕ) (links rest : List Link) → ((l : Link) → Contains rest l → Contains links l) → EndsUpTo n links → EndsUpTo n rest
 ends_within n links rest among ends k d lt = All-contains (λ (m : Link). m.high ≤ n) links (get_or rest k d) ends (among (get_or rest k d) (Contains-get_or rest k d lt))
-
--- links in another order are at the same stage
-pub stage_moved : {links rest rest' later : List Link} {labels : List ℕ} {taken : List Link} → ((l : Link) → Contains rest' l ↔ Contains rest l) → IsStage links rest later labels taken → IsStage links rest' later labels taken
-stage_moved same stage = record {
-  ends = stage.ends;
-  joined = stage.joined;
-  forest = stage.forest;
-  among = λ l l_in. stage.among l ((same l).0 l_in);
-  apart = λ l l_in. stage.apart l ((same l).0 l_in);
-  left = λ l l_in. elim (stage.left l l_in) [
-    | inl one ↦ inl one
-    | inr other ↦ elim other [ inl is_left ↦ inr (inl ((same l).1 is_left)) | inr put_off ↦ inr (inr put_off) ]
-  ];
-  above = λ l m l_in m_in. stage.above l m ((same l).0 l_in) m_in;
-}
 
 -- the light part first, the others later
 pub stage_part : {links rest light later : List Link} {labels : List ℕ} {taken : List Link} → AreParts rest light later → IsStage links rest [] labels taken → IsStage links light later labels taken
