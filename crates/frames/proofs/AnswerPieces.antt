@@ -1,17 +1,16 @@
 -- An answer whose offers come by pieces.
-use Rattle.std.proofs.Common.{◌≡◌, ℕ, ◌+◌, ◌-◌, ◌*◌, ◌/◌, ◌≤◌, List, [], ◌∷◌, ◌++◌, length, All, refl, sym, ap, subst, ◌∙◌, append_assoc, arith}
+use Rattle.std.proofs.Common.{◌≡◌, ℕ, ◌+◌, ◌-◌, ◌*◌, ◌≤◌, List, [], ◌∷◌, ◌++◌, length, All, refl, sym, ap, subst, ◌∙◌, append_assoc, arith}
 use Rattle.std.specs.List.{flat_map}
 use Rattle.std.proofs.lemmas.List.{length-append}
-use Rattle.std.proofs.lemmas.List.Elements.{All-append, All-nil}
+use Rattle.std.proofs.lemmas.List.Elements.{All-append}
 use Rattle.std.proofs.lemmas.Grind.{flat_map-append}
 use Rattle.byte_streams.specs.Streams.{SourceState, Gave}
-use Rattle.byte_streams.proofs.Streaming.{gave_more, gave_nothing}
+use Rattle.byte_streams.proofs.Streaming.{gave_more}
 use Rattle.limits.specs.declared.TheConstants.{MAX_SHARD_LINKS}
 use Rattle.link_key.specs.Offers.{Offer, AreOffers}
 use Rattle.frames.specs.FrameValue.{AnswerFrame}
 use Rattle.frames.specs.FrameText.{u32_text, offer_text}
 use Rattle.frames.specs.Lawful.{IsU32}
-use Rattle.frames.specs.Refusals.{IsPossible}
 use Rattle.frames.specs.ReadFault.{IsCutShort}
 use Rattle.frames.specs.NextFrame.{BodyCame, IsBodyRefused, IsStopped}
 use Rattle.frames.specs.Pieces.{BytesCame, PushesOffers, OffersCame}
@@ -21,14 +20,6 @@ use Rattle.frames.proofs.Texts.{FitsOffer, offer_length, items_length}
 use Rattle.frames.proofs.Listed.{offer_more, fits_more}
 use Rattle.frames.proofs.Decoded.{answer_refused, answer_begun, answer_found, answer_unsorted}
 use Rattle.frames.proofs.Pieces.{three_fields, list_came, list_refused, list_cut, list_stopped}
-
--- ---- the length in the head
-
--- a head of this kind says how many offers follow the twelve bytes of fields
-pub record SaysOffers (len most : ℕ) : Type 0 where
-  pub fields : 12 ≤ len
-  pub few : most ≤ 2 * MAX_SHARD_LINKS
-  pub length_is : len ≡ 12 + 8 * most
 
 -- ---- offers pushed
 
@@ -47,10 +38,6 @@ pushed_offer new old before more component place bytes rest rest' rest'' is so_f
 
 offers_length : (offers : List Offer) → length (flat_map offer_text offers) ≡ 8 * length offers
 offers_length offers = omega (arith, items_length offer_text 8 offer_length offers)
-
--- no offer yet
-pub offers_none : (x : SourceState) (offers : List Offer) → offers ≡ [] → OffersCame 0 offers x x
-offers_none x offers is = subst (λ (os : List Offer). OffersCame 0 os x x) (sym is) (record { counted = refl; gave = gave_nothing x; fit = All-nil FitsOffer })
 
 -- so many offers, and a piece with more of them
 pub offers_more : (n k : ℕ) (before after : List Offer) (piece : List ℕ) (x y z : SourceState) → length piece ≡ 8 * k → OffersCame n before x y → Gave 0 0 piece y z

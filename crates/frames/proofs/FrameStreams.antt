@@ -26,10 +26,6 @@ pub lawful_back : (fs gs : List FrameValue) → AreLawful (fs ++ gs) → AreLawf
 lawful_back [] gs all = all
 lawful_back (f ∷ fs) gs all = lawful_back fs gs all.1
 
-pub lawful_prefix : (fs gs : List FrameValue) → AreLawful (fs ++ gs) → AreLawful fs
-lawful_prefix [] gs all = tt
-lawful_prefix (f ∷ fs) gs all = (all.0, lawful_prefix fs gs all.1)
-
 -- a frame's text isn't empty
 pub text_some : (v : FrameValue) (more : List ℕ) → [] ≡ text_of v ++ more → ⊥
 text_some v more none = cc

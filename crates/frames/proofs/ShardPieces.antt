@@ -19,7 +19,7 @@ use Rattle.frames.specs.declared.fault.FrameFault.{FrameFault}
 use Rattle.frames.specs.declared.fault.FrameFault.TheVariants.{BadField}
 use Rattle.frames.proofs.Pieces.{list_came, list_refused, list_cut, list_stopped}
 use Rattle.frames.proofs.Texts.{u32_length}
-use Rattle.frames.proofs.Spelled.{counted_in, spells_none, spells_more, none_before, none_behind_them}
+use Rattle.frames.proofs.Spelled.{counted_in, spells_more, none_before, none_behind_them}
 use Rattle.frames.proofs.Decoded.{shard_refused, shard_begun, list_begun, shard_unlinked, shard_of_another_kind, shard_found}
 
 -- ---- the length in the head

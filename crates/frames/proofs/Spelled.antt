@@ -1,5 +1,5 @@
 -- Links in either spelling.
-use Rattle.std.proofs.Common.{◌≡◌, ℕ, ◌+◌, ◌*◌, ◌/◌, ◌%◌, ◌^◌, ◌<◌, ◌≤◌, Bool, true, false, cond, List, [], ◌∷◌, ◌++◌, length, take, drop, refl, sym, ap, subst, ◌∙◌, append_assoc, append-nil, arith}
+use Rattle.std.proofs.Common.{◌≡◌, ℕ, ◌+◌, ◌*◌, ◌/◌, ◌%◌, ◌<◌, ◌≤◌, Bool, true, false, cond, List, [], ◌∷◌, ◌++◌, length, take, drop, refl, sym, ap, subst, ◌∙◌, append_assoc, append-nil, arith}
 use Rattle.std.specs.List.{flat_map}
 use Rattle.std.proofs.lemmas.Bool.{and_parts, and_from}
 use Rattle.std.proofs.lemmas.List.{length-append, length-take, take-append-drop}
@@ -80,19 +80,12 @@ pub fit_parts : (s : Spelling) (a b : List Link) → FitIn s (a ++ b) → FitIn 
 fit_parts Narrow a b all = and_parts (are_narrow a) (are_narrow b) (sym (narrow-append a b) ∙ all)
 fit_parts Wide a b all = (tt, tt)
 
-pub fit_none : (s : Spelling) → FitIn s []
-fit_none Narrow = refl
-fit_none Wide = tt
-
 -- links that fit a spelling and have one text are the same
 pub spelled_same : (s : Spelling) (a b : List Link) → FitIn s a → FitIn s b → flat_map (spelled_in s) a ≡ flat_map (spelled_in s) b → a ≡ b
 spelled_same Narrow a b first second same = narrow_same a b first second same
 spelled_same Wide a b first second same = wide_same a b same
 
 -- ---- links and more links
-
-pub spells_none : (s : Spelling) → Spells s [] []
-spells_none s = record { fit = fit_none s; bytes_are = refl }
 
 pub spells_more : (s : Spelling) (a b : List Link) (x y : List ℕ) → Spells s a x → Spells s b y → Spells s (a ++ b) (x ++ y)
 spells_more s a b x y first second = record {
@@ -122,10 +115,6 @@ none_behind_them s x y k count none links same = none (drop k links) (links_spli
 pub whole_behind : (s : Spelling) (m n : ℕ) → n % size_in s ≡ 0 → m + size_in s ≡ n → m % size_in s ≡ 0
 whole_behind Narrow m n whole is = omega (arith, whole, is)
 whole_behind Wide m n whole is = omega (arith, whole, is)
-
-pub whole_of : (s : Spelling) (n count : ℕ) → n ≡ size_in s * count → n % size_in s ≡ 0
-whole_of Narrow n count is = omega (arith, is)
-whole_of Wide n count is = omega (arith, is)
 
 -- a link that was pushed behind those of the bytes before its own
 pub pushed_one : (s : Spelling) (new old before more : List Link) (link : Link) (bytes rest first behind : List ℕ)
