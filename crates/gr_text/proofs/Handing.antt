@@ -1,25 +1,11 @@
 -- Bytes handed to a sink in several calls.
-use Rattle.std.proofs.Common.{◌≡◌, ℕ, ◌+◌, ◌^◌, ◌<◌, List, [], ◌++◌, length, take, refl, sym, ap, subst, ◌∙◌, arith, append-nil, append_assoc, length-append}
+use Rattle.std.proofs.Common.{◌≡◌, ℕ, ◌+◌, ◌^◌, ◌<◌, List, [], ◌++◌, length, take, sym, ap, subst, ◌∙◌, arith, append-nil, append_assoc, length-append}
 use Rattle.std.proofs.Math.Seq.{take-append-add}
 use Rattle.std.proofs.lemmas.List.{take-append-le}
 use Rattle.byte_streams.specs.Streams.{SinkState, Took, WentOut}
-use Rattle.byte_streams.proofs.Streaming.{took_nothing, took_more}
+use Rattle.byte_streams.proofs.Streaming.{took_more}
 use Rattle.gr_text.specs.Handing.{HandsOn, HandsPrefix}
 use Rattle.gr_text.specs.Written.{written_count, PrefixWentOut}
-
--- no call at all
-pub hands_nothing : (s : SinkState) (count : ℕ) (waited : List ℕ) → count < 2 ^ 64 → HandsOn count count waited waited s s
-hands_nothing s count waited fits = record { out = []; took = took_nothing s; counted = omega arith; split = refl }
-
--- all that waited
-pub hands_all : (count total : ℕ) (waited waiting : List ℕ) (s t : SinkState) → Took 0 waited s t
-    → total ≡ written_count (count + length waited) → waiting ≡ [] → HandsOn count total waited waiting s t
-hands_all count total waited waiting s t took counted none = record {
-  out = waited;
-  took = took;
-  counted = counted;
-  split = sym (ap (λ rest. waited ++ rest) none ∙ append-nil waited);
-}
 
 -- a count that is given counts on as the number itself
 count_again : (x y z : ℕ) → written_count (written_count (x + y) + z) ≡ written_count (x + y + z)
