@@ -14,9 +14,6 @@ pub record AreClearedTo (labels old new : List ℕ) (k : ℕ) : Type 0 where
   pub cleared : (j : ℕ) → j < k → get_or new (get_or labels j 0 - 1) 0 ≡ no_pick
   pub rest : (i : ℕ) → (get_or new i 0 ≡ get_or old i 0) ⊎ (get_or new i 0 ≡ no_pick)
 
-pub cleared_none : (labels old : List ℕ) → AreClearedTo labels old old 0
-cleared_none labels old = record { long = refl; cleared = λ j none. absurd (omega (arith, none)); rest = λ i. inl refl }
-
 pub cleared_more : (labels old new : List ℕ) (k : ℕ) → get_or labels k 0 - 1 < length old → AreClearedTo labels old new k → AreClearedTo labels old (set new (get_or labels k 0 - 1) no_pick) (k + 1)
 cleared_more labels old new k within are = record {
   long = length-set new (get_or labels k 0 - 1) no_pick ∙ are.long;

@@ -1,22 +1,20 @@
 -- A book's answers: each shard that was taken has one, so those of a book that misses no shard are of all its links.
-use Rattle.std.proofs.Common.{◌≡◌, ◌≢◌, ℕ, zero, suc, ◌+◌, ◌<◌, ◌==◌, ◌↔◌, Bool, true, false, not, cond, List, [], ◌∷◌, ◌++◌, length, get_or, set, Contains, Some, None, Ok, Err, refl, sym, ap, ◌∙◌, subst, inl, inr, arith, length-append}
-use Rattle.std.specs.Prelude.{Option, Result, IfErr, OnOk, Any, count_by}
+use Rattle.std.proofs.Common.{◌≡◌, ◌≢◌, ℕ, zero, suc, ◌+◌, ◌<◌, ◌==◌, ◌↔◌, Bool, true, false, not, cond, List, [], ◌∷◌, ◌++◌, length, get_or, set, Contains, Some, None, refl, sym, ap, ◌∙◌, subst, inl, inr, arith, length-append}
+use Rattle.std.specs.Prelude.{Option, Any, count_by}
 use Rattle.std.specs.List.{list_all}
-use Rattle.std.specs.Result.{is_err}
 use Rattle.std.proofs.lemmas.Bool.{cases_eq, eqb-true}
-use Rattle.std.proofs.lemmas.List.{length-set, get_or-set_same, get_or-set_other, get_or_default, map-append}
+use Rattle.std.proofs.lemmas.List.{length-set, get_or-set_same, get_or-set_other, get_or_default}
 use Rattle.std.proofs.lemmas.List.Elements.{Contains-get_or, Contains-push, Contains-push_cases, Contains-append_left, All-contains, All-push}
 use Rattle.std.proofs.lemmas.List.Quantifiers.{all_pairs_push}
 use Rattle.std.proofs.lemmas.List.Sums.{sum_by-cons, sum_by-set}
 use Rattle.link_key.specs.declared.links.Link.{Link}
 use Rattle.link_key.specs.Cut.{joined, links_at}
 use Rattle.frames.specs.AnswerValue.{AnswerValue}
-use Rattle.round_theory.specs.Offers.{Hearing, IsNamed, AreLightOffers, AreAllLight}
+use Rattle.round_theory.specs.Offers.{Hearing, IsNamed}
 use Rattle.round_theory.proofs.Cutting.{any_from, flat_map_contains, light_offers_suffice}
 use Rattle.round_theory.proofs.Leaving.{least_leaving_exists}
 use Rattle.round_core.specs.Picks.{pick_of, IsPickOf}
 use Rattle.round_core.specs.BookValue.{BookValue, is_taken, missing, is_offer, refusal, with_answer, hearing_of, hearings, IsAnswered, IsRight, IsBookValue, IsBook, FullBookHasAllLinks, FullBookIsLeast}
-use Rattle.round_core.specs.declared.refusals.Refusal.{Refusal}
 use Rattle.round_core.specs.declared.refusals.Refusal.TheVariants.{Stale, Stranger, Double, NotALink}
 use Rattle.round_core.proofs.Books.{map_contains, map_from}
 
@@ -129,15 +127,6 @@ none_missing (true ∷ taken) none zero lt = refl
 none_missing (false ∷ taken) none zero lt = let n = sum_by-cons (λ (x : Bool). cond (not x) 1 0) false taken in absurd (omega (arith, n, none))
 none_missing (x ∷ taken) none (suc s) lt = let n = sum_by-cons (λ (x : Bool). cond (not x) 1 0) x taken in none_missing taken (omega (arith, n, none)) s (omega (arith, lt))
 
-pub all_taken : (taken : List Bool) → ((s : ℕ) → s < length taken → get_or taken s true ≡ true) → count_by not taken ≡ 0
-all_taken [] each = refl
-all_taken (x ∷ taken) each =
-    let here : x ≡ true = each 0 (omega arith) in
-    let n = sum_by-cons (λ (x : Bool). cond (not x) 1 0) x taken in
-    let zero_here : ◌≡◌ {A = ℕ} (cond (not x) 1 0) 0 = ap (λ b. cond (not b) 1 0) here in
-    let rest = all_taken taken (λ s lt. each (suc s) (omega (arith, lt))) in
-    omega (arith, n, zero_here, rest)
-
 -- a full book has an answer for each shard, so what was heard are shards with all links of the cut
 pub full_book_has_all_links : FullBookHasAllLinks
 full_book_has_all_links p is full l = (to, back)
@@ -173,18 +162,3 @@ full_book_is_least p picks is full light are = record {
         let best = least_leaving_exists (joined p.cut) p.labels c m m_in leaves in
         let named = (light_offers_suffice (joined p.cut) p.labels (hearings p) (full_book_has_all_links p is full) light c best.0).1 best.1 in
         none best.0 named.member named.leaves
-
--- of light answers
-pub heard_light : (labels : List ℕ) (p : BookValue) (a : AnswerValue) → AreAllLight labels (hearings p) → AreLightOffers (links_at p.cut a.shard) labels a.offers → AreAllLight labels (hearings (with_answer p a))
-heard_light labels p a all light =
-    subst (AreAllLight labels) (sym (map-append (hearing_of p.cut) p.answers (a ∷ [])))
-    (All-push (λ (h : Hearing). AreLightOffers h.shard labels h.offers) (hearings p) (hearing_of p.cut a) all light)
-
--- an answer that isn't refused is taken
-pub never_refused : {T : Type 0} (r : Result T Refusal) (cause : Option Refusal) → IfErr r (λ c. cause ≡ Some c) → cause ≡ None → is_err r ≡ true → ⊥
-never_refused (Ok x) cause refused none failed = absurd (cc)
-never_refused (Err c) cause refused none failed = let wrong : Some c ≡ None = sym refused ∙ none in absurd (cc)
-
-pub was_taken : {T : Type 0} {P : Type 0} (r : Result T Refusal) → OnOk r P → is_err r ≡ false → P
-was_taken (Ok x) took passed = took
-was_taken (Err c) took passed = absurd (cc)

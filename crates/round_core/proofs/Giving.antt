@@ -3,7 +3,7 @@ use Rattle.std.proofs.Common.{◌≡◌, ℕ, ◌+◌, ◌-◌, ◌<◌, ◌≤�
 use mir.Val.{bool_byte}
 use Rattle.std.specs.Prelude.{Option, All}
 use Rattle.std.proofs.lemmas.Bool.{cases_eq, cases_lt}
-use Rattle.std.proofs.lemmas.List.{append_assoc, append-nil, get_or_default, get_or_past, get_or-take, get_or-drop, length-take-le, take-set, take_more_set}
+use Rattle.std.proofs.lemmas.List.{append_assoc, get_or_default, get_or_past, get_or-take, get_or-drop, length-take-le, take-set, take_more_set}
 use Rattle.std.proofs.lemmas.List.Elements.{Contains-append_left, Contains-push, Contains-push_cases, Contains-get_or, All-contains}
 use Rattle.std.proofs.lemmas.List.Quantifiers.{all_pairs_push}
 use Rattle.link_key.specs.declared.links.Link.{Link}
@@ -13,7 +13,7 @@ use Rattle.round_theory.specs.Offers.{Hearing, IsNamed}
 use Rattle.round_theory.proofs.Labels.{labelling_is_labels}
 use Rattle.round_core.specs.Picks.{pick_of, ArePicks, ArePicksOfHearings, AreNoPicks}
 use Rattle.round_core.specs.declared.roots.Lead.{Lead}
-use Rattle.round_core.specs.Roots.{IsRoot, AreRoots, IsLed, IsLedBy, IsTaker, AreLeads, Follows, StandsAt, StandsBefore, TakesBatch, TakesPicked, IsGiven, AreGiven, CanLead}
+use Rattle.round_core.specs.Roots.{IsRoot, AreRoots, IsLed, IsLedBy, IsTaker, AreLeads, Follows, StandsAt, TakesBatch, TakesPicked, IsGiven, AreGiven, CanLead}
 use Rattle.round_core.specs.Solver.{Progress, vertices, IsProgress, IsFirstPickedAt, IsPickedBefore, ArePickedOnce}
 use Rattle.round_core.proofs.Leading.{root_at}
 use Rattle.round_core.proofs.Picking.{place_of, picked_there, first_place}
@@ -180,17 +180,6 @@ pub record HaveTaken (picks : List (Option Link)) (batch : List ℕ) (done : ℕ
   pub within : done ≤ length batch
   pub given : (labels roots : List ℕ) (k : ℕ) (given : List Link) → AreRoots labels roots → StandsAt roots k batch → AreGiven picks roots k given → AreGiven picks roots (k + done) (given ++ added)
 
-pub taken_none : (picks : List (Option Link)) (batch : List ℕ) (before : List Link) → HaveTaken picks batch 0 before before
-taken_none picks batch before = record {
-  added = [];
-  behind = sym (append-nil before);
-  few = omega arith;
-  within = omega arith;
-  given = λ labels roots k given are_roots stands so_far.
-      let place : k ≡ k + 0 = omega arith in
-      subst (λ xs. AreGiven picks roots (k + 0) xs) (sym (append-nil given)) (subst (λ m. AreGiven picks roots m given) place so_far);
-}
-
 pub taken_more : (picks : List (Option Link)) (batch part : List ℕ) (done next : ℕ) (before taken taken' : List Link) → done ≤ next → next ≤ length batch → part ≡ take (next - done) (drop done batch)
     → HaveTaken picks batch done before taken → TakesBatch picks part taken taken' → HaveTaken picks batch next before taken'
 taken_more picks batch part done next before taken taken' le within is have takes =
@@ -234,10 +223,6 @@ picked_behind picks heard labels roots before after are_labels are_picks are_roo
 -- the roots of a slice of the labels can be led
 pub can_lead : (labels old roots : List ℕ) (picks : List (Option Link)) → old ≡ labels → AreLabels labels → ArePicksOfHearings labels picks → AreRoots old roots → CanLead old roots picks
 can_lead labels old roots picks same are picked roots_are = record { labelled = rw same are; picked = rw same picked; each_root = λ k d lt. (roots_are.exact (get_or roots k d)).0 (Contains-get_or roots k d lt) }
-
--- nothing was taken yet
-pub nothing_added : (links : List Link) → StandsBefore links links
-nothing_added links = ([], sym (append-nil links))
 
 -- where leads are followed each root is led
 pub led_by_leads : (labels : List ℕ) (picks : List (Option Link)) (roots parents : List ℕ) (leads : List Lead) → length leads ≡ length roots → AreLeads labels picks roots leads → Follows roots leads parents

@@ -19,19 +19,6 @@ pub record AreLeastSeen (labels components : List ℕ) (i : ℕ) (least new : Li
   pub long : length new ≡ i
   pub done : (v : ℕ) → 1 ≤ v → v ≤ i → IsLeastMember labels components (component_of labels components v) (label_of new v)
 
--- before any vertex is seen each component has a number past them all
-pub seen_none : (labels components least new : List ℕ) → length least ≡ length labels + 1 → ((c : ℕ) → c < length least → get_or least c 0 ≡ length labels + 1) → length new ≡ 0
-    → AreLeastSeen labels components 0 least new
-seen_none labels components least new each_label past long = record {
-  each_label = each_label;
-  seen = λ c c_in. record {
-    below = λ w one none. absurd (omega (arith, one, none));
-    member = λ within. absurd (omega (arith, within, past c (omega (arith, each_label, c_in))));
-  };
-  long = long;
-  done = λ v one none. absurd (omega (arith, one, none));
-}
-
 -- One more vertex: its component's least one so far or itself, whichever is less, is the least of all. No later vertex
 -- is less, and a number past them all isn't the lesser of the two.
 module _ (labels components least new : List ℕ) (i : ℕ) (is : AreLeastSeen labels components i least new) (i_in : i < length labels) (in_range : component_of labels components (i + 1) ≤ length labels) (u : ℕ) (u_is : u ≡ min (get_or least (component_of labels components (i + 1)) 0) (i + 1)) where
@@ -127,13 +114,6 @@ seen_step {labels} {components} {least} {new} {new'} {i} {d} {f} {u} len is lt d
     subst (λ (k : ℕ). AreLeastSeen labels components (i + 1) (set least k u) new') (sym at)
     (subst (AreLeastSeen labels components (i + 1) (set least (component_of labels components (i + 1)) u)) (sym new_is)
     (seen_more labels components least new i is lt in_range u (u_is ∙ ap (λ (k : ℕ). min k (i + 1)) f_is)))
-
--- all vertices were seen
-pub seen_all : (labels components least new : List ℕ) (i : ℕ) → AreLeastSeen labels components i least new → i ≡ length labels → AreLeastMembers labels components new
-seen_all labels components least new i is all = record {
-  each_vertex = is.long ∙ all;
-  least = λ v vertex. is.done v vertex.0 (omega (arith, vertex.1, all));
-}
 
 -- The least vertex of the component, where components say what the old labels and a set of links join, is the least
 -- vertex that they join it to.

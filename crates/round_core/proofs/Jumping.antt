@@ -94,14 +94,6 @@ pub record HaveJumped (roots old new : List ℕ) (k : ℕ) : Type 0 where
   pub near : (rank : ℕ → ℕ) (i : ℕ) → AreNear roots rank i old → AreNear roots rank i new
   pub nearer : (rank : ℕ → ℕ) (i : ℕ) → AreNear roots rank i old → (j : ℕ) → j < k → j < length roots → IsNear rank (i + 1) new (get_or roots j 0)
 
-pub jumped_none : (roots old : List ℕ) → ArePointers roots old → HaveJumped roots old old 0
-jumped_none roots old pointers = record {
-  pointers = pointers;
-  parents = λ labels picks are. are;
-  near = λ rank i are. are;
-  nearer = λ rank i are j none. absurd (omega (arith, none));
-}
-
 -- what a jump writes
 jump_long : (new : List ℕ) (c : ℕ) → length (jumped new c) ≡ length new
 jump_long new c = length-set new c (get_or new (get_or new c 0) 0)

@@ -1,11 +1,10 @@
 -- Where picks lead the roots: each to a root that it is joined to, whose pick is less, or to one that stays.
-use Rattle.std.proofs.Common.{◌≡◌, ◌≢◌, ℕ, ◌+◌, ◌-◌, ◌<◌, ◌≤◌, ◌^◌, ◌⊎◌, min, ℤ, pos, negsuc, Less, List, [], ◌∷◌, length, get_or, set, Contains, Some, None, refl, sym, ap, ◌∙◌, subst, inl, inr, ◌↔◌, Bool, true, false, not, ltb, ◌&&◌, ◌||◌, arith}
+use Rattle.std.proofs.Common.{◌≡◌, ◌≢◌, ℕ, ◌+◌, ◌-◌, ◌<◌, ◌≤◌, ◌^◌, ◌⊎◌, min, ℤ, pos, negsuc, Less, List, [], ◌∷◌, length, get_or, Contains, Some, None, refl, sym, ap, ◌∙◌, subst, inl, inr, ◌↔◌, Bool, true, false, not, ltb, ◌&&◌, ◌||◌, arith}
 use Rattle.std.specs.Prelude.{Option, ◌+ℤ◌}
 use Rattle.std.specs.Int.Signed.{◌<ℤ◌}
 use Rattle.std.specs.Ordering.{int_cmp, MatchOrdering}
 use Rattle.std.specs.declared.cmp.Ordering.{Ordering}
-use Rattle.std.proofs.lemmas.Bool.{cases_eq, cases_lt, ltb-true, ltb-false}
-use Rattle.std.proofs.lemmas.List.{get_or-set_same, get_or-set_other}
+use Rattle.std.proofs.lemmas.Bool.{cases_lt, ltb-true, ltb-false}
 use Rattle.std.proofs.lemmas.Int.{ints}
 use Rattle.link_key.specs.declared.links.Link.{Link}
 use Rattle.link_key.specs.Link.{IsBelow}
@@ -18,7 +17,7 @@ use Rattle.round_theory.specs.Offers.{Leaves, IsLeastLeaving, NoneLeaves, Hearin
 use Rattle.round_theory.proofs.Leaving.{leaves_both_ends, leaves_apart}
 use Rattle.round_core.specs.Picks.{pick_of, Picked, IsPickOf, ArePicks}
 use Rattle.round_core.specs.PickNumbers.{IsKeyNumber}
-use Rattle.round_core.specs.Roots.{IsRoot, AreRoots, HasEndLabels, IsLed, IsLedBy, IsTaker, AreParents, AreNear, IsNear}
+use Rattle.round_core.specs.Roots.{IsRoot, AreRoots, HasEndLabels, IsLed, IsTaker, AreParents, AreNear, IsNear}
 use Rattle.round_core.specs.Solver.{IsFirstPickedAt}
 use Rattle.round_core.proofs.HookWalks.{over_same}
 use Rattle.round_core.proofs.Picking.{place_of, picked_there, least_at, least_end, first_at, pick_dec}
@@ -80,11 +79,6 @@ low_vertex labels l end = (l.from_one, omega (arith, l.ascending, end))
 pub high_vertex : (labels : List ℕ) (l : Link) → l.high ≤ length labels → IsVertex (length labels) l.high
 high_vertex labels l end = (omega (arith, l.from_one, l.ascending), end)
 
--- What the labels of both ends add up to, less the one that the link leaves, is the other one.
-pub other_of_sum : (labels : List ℕ) (l : Link) (c d : ℕ) → Leaves labels l c → d ≡ label_of labels l.low + label_of labels l.high - c → HasEndLabels labels l c d
-other_of_sum labels l c d (inl (low, other)) is = inl (low, sym (let e : d ≡ label_of labels l.high = omega (arith, low, is) in e))
-other_of_sum labels l c d (inr (other, high)) is = inr (sym (let e : d ≡ label_of labels l.low = omega (arith, high, is) in e), high)
-
 pub ends_root : (labels : List ℕ) (l : Link) (c d : ℕ) → AreLabels labels → l.high ≤ length labels → HasEndLabels labels l c d → IsRoot labels c × IsRoot labels d
 ends_root labels l c d are end (inl (low, high)) =
     (subst (IsRoot labels) low (end_root labels are l.low (low_vertex labels l end)), subst (IsRoot labels) high (end_root labels are l.high (high_vertex labels l end)))
@@ -134,17 +128,6 @@ led_to_other labels picks c d p l here ends not_there is = record {
 
     other : (m : Link) (e : ℕ) → pick_of picks c ≡ Some m → HasEndLabels labels m c e → d ≡ e
     other m e m_here m_ends = same_other labels l c d e ends (subst (λ k. HasEndLabels labels k c e) (sym (same m m_here)) m_ends)
-
--- one more root is led, its parent written where it stands; those led before still are
-pub led_at : (labels : List ℕ) (picks : List (Option Link)) (parents : List ℕ) (c p : ℕ) → c < length parents → IsLed labels picks c p → IsRoot labels p → IsLedBy labels picks (set parents c p) c
-led_at labels picks parents c p within led root =
-    subst (λ q. IsLed labels picks c q × IsRoot labels q) (sym (get_or-set_same parents c p 0 within)) (led, root)
-
-pub led_still : (labels : List ℕ) (picks : List (Option Link)) (parents : List ℕ) (c p x : ℕ) → c < length parents → IsLed labels picks c p → IsRoot labels p → IsLedBy labels picks parents x → IsLedBy labels picks (set parents c p) x
-led_still labels picks parents c p x within led root before = elim (cases_eq x c) [
-  | inl is ↦ subst (IsLedBy labels picks (set parents c p)) (sym is) (led_at labels picks parents c p within led root)
-  | inr other ↦ subst (λ q. IsLed labels picks x q × IsRoot labels q) (sym (get_or-set_other parents c x p 0 other)) before
-]
 
 -- what is known of a root that has a pick
 record HasPick (labels : List ℕ) (heard : List Hearing) (picks : List (Option Link)) (c : ℕ) (l : Link) : Type 0 where

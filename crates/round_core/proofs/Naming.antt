@@ -54,12 +54,6 @@ pub record AreFoundFrom (roots parents least : List ℕ) (k : ℕ) : Type 0 wher
   pub room : (c : ℕ) → Contains roots c → c < length least
   pub found : (j : ℕ) → k ≤ j → j < length roots → IsLeastFrom roots parents k (get_or parents (get_or roots j 0) 0) (get_or least (get_or parents (get_or roots j 0) 0) 0)
 
-pub found_none : (roots parents least : List ℕ) (k : ℕ) → All (λ c. c < length least) roots → length roots ≤ k → AreFoundFrom roots parents least k
-found_none roots parents least k room past = record {
-  room = λ c c_in. All-contains (λ c. c < length least) roots c room c_in;
-  found = λ j from within. absurd (omega (arith, past, from, within));
-}
-
 -- one more root, which is less than those before
 pub found_more : (roots parents least : List ℕ) (k c p : ℕ) → AllPairs (λ b c. b < c) roots → ArePointers roots parents → k < length roots → get_or roots k 0 ≡ c → get_or parents c 0 ≡ p
     → AreFoundFrom roots parents least (k + 1) → AreFoundFrom roots parents (set least p c) k
@@ -120,9 +114,6 @@ pub record AreNamed (roots least old new : List ℕ) (k : ℕ) : Type 0 where
   pub long : length new ≡ length old
   pub named : (j : ℕ) → j < k → j < length roots → get_or new (get_or roots j 0) 0 ≡ get_or least (get_or old (get_or roots j 0) 0) 0
   pub rest : (j : ℕ) → k ≤ j → j < length roots → get_or new (get_or roots j 0) 0 ≡ get_or old (get_or roots j 0) 0
-
-pub named_none : (roots least old : List ℕ) → AreNamed roots least old old 0
-named_none roots least old = record { long = refl; named = λ j none within. absurd (omega (arith, none)); rest = λ j from within. refl }
 
 module _ (roots least old new : List ℕ) (k : ℕ) (ascending : AllPairs (λ b c. b < c) roots) (k_in : k < length roots) (c_in : get_or roots k 0 < length old) (are : AreNamed roots least old new k) where
   abbrev c : ℕ

@@ -15,7 +15,7 @@ use Rattle.link_key.specs.Offers.{Offer}
 use Rattle.link_key.specs.Cut.{links_at}
 use Rattle.link_key.specs.WideKey.{wide_key}
 use Rattle.link_key.proofs.Keys.{trichotomy}
-use Rattle.link_key.proofs.Members.{contains_head, contains_none}
+use Rattle.link_key.proofs.Members.{contains_head}
 use Rattle.frames.specs.AnswerValue.{AnswerValue}
 use Rattle.round_theory.specs.Labelling.{IsVertex}
 use Rattle.round_theory.specs.Offers.{Leaves}
@@ -118,10 +118,6 @@ bounded_by k m l k_is l_is = (to k_is, back k_is)
           | inr (inl same) ↦ let equal : pos k ≡ pos m = n_is ∙ ap (λ (x : Link). wide_key x +ℤ pos (2 ^ 127)) (sym same) ∙ sym l_is in omega (arith, ints, equal)
           | inr (inr above) ↦ let less = below_is_less n l k m n_is l_is above in omega (arith, less)
         ]
-
--- no links are all counted
-pub counted_none : (labels : List ℕ) (picks : List (Option Link)) → AreCountedIn labels picks []
-counted_none labels picks l l_in = absurd (contains_none l l_in)
 
 -- those of two lists are where those of each are
 pub counted_both : (labels : List ℕ) (picks : List (Option Link)) (front back whole : List Link) → front ++ back ≡ whole → AreCountedIn labels picks front × AreCountedIn labels picks back ↔ AreCountedIn labels picks whole

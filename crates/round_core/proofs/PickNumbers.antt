@@ -1,5 +1,5 @@
 -- The numbers of picks: each link's number stands for it alone, and the lesser of two numbers is that of the lesser link.
-use Rattle.std.proofs.Common.{◌≡◌, ◌≢◌, ℕ, ◌+◌, ◌-◌, ◌*◌, ◌/◌, ◌%◌, ◌^◌, ◌<◌, ◌≤◌, ◌⊎◌, ◌↔◌, min, ℤ, pos, negsuc, Less, List, length, map, replicate, get_or, set, Some, None, refl, sym, ap, ◌∙◌, subst, inl, inr, arith}
+use Rattle.std.proofs.Common.{◌≡◌, ◌≢◌, ℕ, ◌+◌, ◌-◌, ◌*◌, ◌/◌, ◌%◌, ◌^◌, ◌<◌, ◌≤◌, ◌⊎◌, ◌↔◌, min, ℤ, pos, negsuc, Less, List, length, map, get_or, set, Some, None, refl, sym, ap, ◌∙◌, subst, inl, inr, arith}
 use Rattle.std.specs.Prelude.{All, ◌+ℤ◌, ◌-ℤ◌, FitsSigned}
 use Rattle.std.specs.Int.{w64}
 use Rattle.std.specs.Int.Signed.{◌<ℤ◌}
@@ -7,7 +7,7 @@ use Rattle.std.specs.Ordering.{int_cmp, MatchOrdering}
 use Rattle.std.specs.declared.cmp.Ordering.{Ordering}
 use Rattle.std.proofs.lemmas.Bool.{cases_lt}
 use Rattle.std.proofs.lemmas.Int.{ints}
-use Rattle.std.proofs.lemmas.List.{length-map, get_or-map, map-set, length-set, length-replicate, get_or-replicate}
+use Rattle.std.proofs.lemmas.List.{length-map, get_or-map, map-set, length-set}
 use Rattle.std.proofs.lemmas.List.Elements.{All-set}
 use Rattle.limits.specs.declared.TheConstants.{MAX_VERTICES}
 use Rattle.link_key.specs.declared.links.Link.{Link}
@@ -184,9 +184,6 @@ module _ (labels numbers : List ℕ) (l : Link) (m x y x' y' : ℕ) (are : AreLa
   second : IsPickNumber y' × IsLesserOf (pick_in y) l (pick_in y')
   second = subst (λ k. IsPickNumber k × IsLesserOf (pick_in y) l (pick_in k)) (sym y'_is) (lesser_is_min y m l (subst IsPickNumber (sym y_is) (all_once b y b_once)) m_is)
 
-  pub numbers_counted : All IsPickNumber counted_numbers
-  numbers_counted = All-set IsPickNumber once b y' second.0 all_once
-
   picks_once : map pick_in once ≡ set (map pick_in numbers) a (pick_in x')
   picks_once = map-set pick_in numbers a x'
 
@@ -198,10 +195,3 @@ module _ (labels numbers : List ℕ) (l : Link) (m x y x' y' : ℕ) (are : AreLa
       let at_b : pick_in y ≡ get_or (set best a (pick_in x')) b (pick_in y) = sym (ap (λ ps. get_or ps b (pick_in y)) (sym picks_once) ∙ get_or-map pick_in once b y (pick_in y) b_once ∙ ap pick_in (sym y_is)) in
       subst (AreCounted labels l best) (sym picks_twice)
       (set_counted labels l best (pick_in x) (pick_in y) (pick_in x') (pick_in y') are end long apart at_a first.1 at_b second.1)
-
--- so many numbers of no pick
-pub no_picks_are_none : (n : ℕ) (numbers : List ℕ) → numbers ≡ replicate n no_pick → AreNoPicks (map pick_in numbers)
-no_picks_are_none n numbers is = λ i d lt.
-    let long : length numbers ≡ n = ap length is ∙ length-replicate n no_pick in
-    let within : i < length numbers = omega (arith, lt, length-map numbers pick_in) in
-    get_or-map pick_in numbers i no_pick d within ∙ no_pick_is_none (get_or numbers i no_pick) (ap (λ ks. get_or ks i no_pick) is ∙ get_or-replicate n i no_pick no_pick (omega (arith, within, long)))

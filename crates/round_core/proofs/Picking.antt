@@ -1,19 +1,15 @@
 -- The links picked, each once: of two labels that pick a link the lesser one gives it.
-use Rattle.std.proofs.Common.{◌≡◌, ◌≢◌, ℕ, zero, suc, ◌+◌, ◌-◌, ◌<◌, ◌≤◌, ◌⊎◌, ◌↔◌, min, List, [], ◌∷◌, ◌++◌, length, get_or, Contains, Some, None, sym, ap, ◌∙◌, subst, inl, inr, arith}
+use Rattle.std.proofs.Common.{◌≡◌, ◌≢◌, ℕ, zero, suc, ◌+◌, ◌-◌, ◌<◌, ◌≤◌, ◌⊎◌, min, List, [], ◌∷◌, length, get_or, Some, None, sym, ap, ◌∙◌, subst, inl, inr, arith}
 use Rattle.std.specs.Prelude.{Option, AllPairs}
-use Rattle.std.proofs.lemmas.Bool.{cases_eq}
 use Rattle.std.proofs.lemmas.List.{get_or_default}
-use Rattle.std.proofs.lemmas.List.Elements.{Contains-append_left, Contains-push, Contains-push_cases, Contains-get_or}
-use Rattle.std.proofs.lemmas.List.Quantifiers.{all_pairs_push}
 use Rattle.link_key.specs.declared.links.Link.{Link}
 use Rattle.link_key.specs.Labels.{label_of}
 use Rattle.link_key.proofs.Keys.{link_dec}
-use Rattle.link_key.proofs.Members.{contains_none}
 use Rattle.round_theory.specs.Labelling.{IsVertex}
 use Rattle.round_theory.specs.Offers.{IsLeastLeaving, Hearing, IsNamed}
 use Rattle.round_theory.proofs.Leaving.{leaves_end, leaves_apart}
 use Rattle.round_core.specs.Picks.{pick_of, Picked, IsPickOf, ArePicks}
-use Rattle.round_core.specs.Solver.{IsFirstPickedAt, IsPickedBefore, ArePickedOnce}
+use Rattle.round_core.specs.Solver.{IsFirstPickedAt, ArePickedOnce}
 
 -- a place that has a pick is one of the list
 pub picked_within : (picks : List (Option Link)) (i : ℕ) (l : Link) → get_or picks i None ≡ Some l → i < length picks
@@ -77,52 +73,6 @@ first_at labels heard picks i l are here test = record { here = here; first = fi
         lesser a b (inr at) (inl at') = omega (arith, lt, at, at')
         lesser a b (inr at) (inr at') = omega (arith, lt, at, at')
 
--- the links that a place before the bound gives
-pub record ArePickedBelow (picks : List (Option Link)) (bound : ℕ) (links : List Link) : Type 0 where
-  pub exact : (l : Link) → Contains links l ↔ ((i : ℕ) × (i < bound) × IsFirstPickedAt picks l i)
-  pub in_order : AllPairs (IsPickedBefore picks) links
-
-pub none_below : (picks : List (Option Link)) → ArePickedBelow picks 0 []
-none_below picks = record {
-  exact = λ l. (λ l_in. absurd (contains_none l l_in), λ some. absurd (omega (arith, some.1)));
-  in_order = λ i j d lt within. absurd (omega (arith, within));
-}
-
-pub skip_place : (picks : List (Option Link)) (bound : ℕ) (links : List Link) → ((l : Link) → ¬ (IsFirstPickedAt picks l bound)) → ArePickedBelow picks bound links → ArePickedBelow picks (bound + 1) links
-skip_place picks bound links none are = record {
-  exact = λ l. (λ l_in. let (i, lt, first) = (are.exact l).0 l_in in (i, omega (arith, lt), first), back l);
-  in_order = are.in_order;
-}
-  where
-    back : (l : Link) → ((i : ℕ) × (i < bound + 1) × IsFirstPickedAt picks l i) → Contains links l
-    back l (i, lt, first) = elim (cases_eq i bound) [
-      | inl is ↦ absurd (none l (subst (IsFirstPickedAt picks l) is first))
-      | inr other ↦ (are.exact l).1 (i, omega (arith, lt, other), first)
-    ]
-
-pub give_place : (picks : List (Option Link)) (bound : ℕ) (links : List Link) (l : Link) → IsFirstPickedAt picks l bound → ArePickedBelow picks bound links → ArePickedBelow picks (bound + 1) (links ++ l ∷ [])
-give_place picks bound links l here are = record {
-  exact = λ m. (to m, back m);
-  in_order = all_pairs_push (IsPickedBefore picks) links l are.in_order (λ k d lt.
-      let (i, below, first) = (are.exact (get_or links k d)).0 (Contains-get_or links k d lt) in (i, bound, first, here, below));
-}
-  where
-    to : (m : Link) → Contains (links ++ l ∷ []) m → (i : ℕ) × (i < bound + 1) × IsFirstPickedAt picks m i
-    to m m_in = elim (Contains-push_cases links l m m_in) [
-      | inl before ↦ let (i, lt, first) = (are.exact m).0 before in (i, omega (arith, lt), first)
-      | inr is ↦ (bound, omega arith, subst (λ k. IsFirstPickedAt picks k bound) is here)
-    ]
-
-    back : (m : Link) → ((i : ℕ) × (i < bound + 1) × IsFirstPickedAt picks m i) → Contains (links ++ l ∷ []) m
-    back m (i, lt, first) = elim (cases_eq i bound) [
-      | inl is ↦
-          let there : get_or picks bound None ≡ Some m = subst (λ k. get_or picks k None ≡ Some m) is first.here in
-          let both : Some l ≡ Some m = sym here.here ∙ there in
-          let same : l ≡ m = cc in
-          subst (Contains (links ++ l ∷ [])) same (Contains-push links l)
-      | inr other ↦ Contains-append_left links (l ∷ []) m ((are.exact m).1 (i, omega (arith, lt, other), first))
-    ]
-
 -- a place that has no pick gives no link
 pub none_given : (picks : List (Option Link)) (i : ℕ) → get_or picks i None ≡ None → (m : Link) → ¬ (IsFirstPickedAt picks m i)
 none_given picks i is m first =
@@ -145,19 +95,6 @@ first_place (x ∷ picks) (suc i) l here = elim (pick_dec x l) [
     later : x ≢ Some l → (j : ℕ) → IsFirstPickedAt picks l j → (k : ℕ) → k < suc j → get_or (x ∷ picks) k None ≢ Some l
     later other j first zero lt = other
     later other j first (suc k) lt = first.first k (omega (arith, lt))
-
--- past the last place they are all
-pub all_below : (picks : List (Option Link)) (bound : ℕ) (links : List Link) → length picks ≤ bound → ArePickedBelow picks bound links → ArePickedOnce picks links
-all_below picks bound links past are = record {
-  exact = λ l. (
-    λ l_in. let (i, lt, first) = (are.exact l).0 l_in in picked_there picks i l first.here,
-    λ picked.
-        let (i, here) = place_of picks l picked in
-        let (j, le, first) = first_place picks i l here in
-        (are.exact l).1 (j, let within = picked_within picks i l here in omega (arith, le, within, past), first),
-  );
-  in_order = are.in_order;
-}
 
 -- a link has one first place
 pub each_once : (picks : List (Option Link)) (links : List Link) → ArePickedOnce picks links → AllPairs (λ l m. l ≢ m) links
