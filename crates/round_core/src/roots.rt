@@ -414,8 +414,8 @@ fn take_and_name<R: Threads + Sync, A: Allocator + Copy + Send + Sync>(
         requires roots { All (IsVertex (length picks.now)) roots.now }
         requires room { length leads.now ≡ length roots.now }
         requires takes { AreTakers picks.now roots.now leads.now }
-        ensures { OnOk result (TakesBatch picks.entry.now roots.entry.now taken.entry.now.items taken.exit.now.items)
-            × StandsBefore taken.entry.now.items taken.exit.now.items }
+        ensures given { OnOk result (TakesBatch picks.entry.now roots.entry.now taken.entry.now.items taken.exit.now.items) }
+        ensures before { StandsBefore taken.entry.now.items taken.exit.now.items }
     { take_all(roots, leads, picks, taken) };
     let mut names = ||
         requires can { CanStep labels.now roots.now picks.now leads.now }
