@@ -1,12 +1,8 @@
 -- Bytes in memory that are given piece by piece.
-use Rattle.std.proofs.Common.{◌≡◌, ◌≢◌, ℕ, ◌+◌, List, ◌++◌, take, drop, refl, sym, ap, ◌∙◌, ne_eqb}
+use Rattle.std.proofs.Common.{◌≡◌, ◌≢◌, ℕ, ◌+◌, List, take, drop, refl, ne_eqb}
 use Rattle.std.proofs.lemmas.List.{drop-drop}
 use Rattle.std.proofs.Math.Seq.{take-add}
 use Rattle.ports.specs.Testing.{ScriptLineState, after_get}
-
--- the bytes given so far, and those that were given now
-pub given_more : (given count : ℕ) (bytes into : List ℕ) → take count into ≡ take count (drop given bytes) → take (given + count) bytes ≡ take given bytes ++ take count into
-given_more given count bytes into same = take-add given count bytes ∙ ap (λ (t : List ℕ). take given bytes ++ t) (sym same)
 
 -- a script between two gets
 abbrev pub script_at : List ℕ → ℕ → ℕ → ScriptLineState

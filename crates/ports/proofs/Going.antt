@@ -1,15 +1,11 @@
 -- What was sent and got over several calls.
 use Rattle.std.proofs.Common.{◌≡◌, ℕ, ◌+◌, List, [], ◌++◌, append-nil, sym, subst, arith}
 use Rattle.std.specs.Prelude.{Result, Ok, Err, IfErr}
-use Rattle.std.proofs.KnownBytes.{Appends-nil, Appends-trans}
+use Rattle.std.proofs.KnownBytes.{Appends-trans}
 use Rattle.ports.specs.declared.fault.PortFault.{PortFault}
 use Rattle.ports.specs.declared.fault.PortFault.TheVariants.{Down}
 use Rattle.ports.specs.Lines.{LineState, HasRoom, Transfers}
 use Rattle.ports.specs.Causes.{LineFailed, Receives, SendingFault}
-
--- no call at all
-pub went_nowhere : (line : LineState) → Transfers 0 0 [] [] line line
-went_nowhere line = record { sent = λ e. Appends-nil line.sent; got = λ e. Appends-nil line.got; failures = omega arith; ends = omega arith }
 
 -- calls, and then more calls
 pub went_then : (f e f' e' : ℕ) (said came said' came' : List ℕ) (a b c : LineState)

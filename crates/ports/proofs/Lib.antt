@@ -1,5 +1,4 @@
 pub mod GivenBytes
-pub mod PortCalls
 pub mod Going
 pub mod SendingPieces
 pub mod LineReads

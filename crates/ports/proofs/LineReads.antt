@@ -1,5 +1,5 @@
 -- What reads of a line say, as facts on the line.
-use Rattle.std.proofs.Common.{◌≡◌, ℕ, List, [], inl, inr, arith}
+use Rattle.std.proofs.Common.{◌≡◌, ℕ, List, [], arith}
 use Rattle.std.specs.Prelude.{Result, Ok, Err, IfOk, IfErr}
 use Rattle.std.specs.Io.KnownBytes.{Appends}
 use Rattle.byte_streams.specs.Streams.{Gave}
@@ -8,11 +8,9 @@ use Rattle.frames.specs.declared.frame.Frame.{Frame}
 use Rattle.frames.specs.FrameText.{text_of}
 use Rattle.frames.specs.ReadFault.{IsReadRefused, failures_of, ends_of}
 use Rattle.frames.specs.declared.fault.FrameFault.{FrameFault}
-use Rattle.frames.specs.declared.fault.FrameFault.TheVariants.{BadKind, BadLength, BadField, BadVersion, Ended, Torn, Device, Memory}
 use Rattle.ports.specs.Lines.{LineState, Transfers}
 use Rattle.ports.specs.LineSources.{source_of}
-use Rattle.ports.specs.Causes.{FailsToRead, Receives, GreetingFault, AnswerFault, port_fault}
-use Rattle.ports.proofs.Going.{failed_of}
+use Rattle.ports.specs.Causes.{FailsToRead, Receives}
 
 -- what was sent stands, and what the source gave was got
 pub went_of : (failed ended : ℕ) (bytes : List ℕ) (a b : LineState) → (b.failures ≡ a.failures → Appends a.sent b.sent []) → Gave failed ended bytes (source_of a) (source_of b) → Transfers failed ended [] bytes a b
@@ -32,23 +30,3 @@ pub broke_of : {A : Type 0} (result : Result (Frame A) FrameFault) (a b : LineSt
     → IfErr result (λ fault. IsReadRefused fault (source_of a) (source_of b)) → IfErr result (λ fault. FailsToRead fault a b)
 broke_of (Ok f) a b sent refused = tt
 broke_of (Err fault) a b sent refused = (refused.bytes, refused.refused, went_of (failures_of fault) (ends_of fault) refused.bytes a b sent refused.gave)
-
-pub greeting_broke : (fault : FrameFault) (worker : ℕ) (a b : LineState) → FailsToRead fault a b → GreetingFault (port_fault fault) worker a b
-greeting_broke Ended worker a b broke = inr (broke.0, inl broke.1, broke.2)
-greeting_broke Torn worker a b broke = inr (broke.0, inr broke.1, broke.2)
-greeting_broke Device worker a b broke = inl (failed_of a b [] broke.0 broke.2)
-greeting_broke Memory worker a b broke = (broke.0, broke.1, broke.2)
-greeting_broke BadKind worker a b broke = (broke.0, (BadKind, tt, broke.1), broke.2)
-greeting_broke BadLength worker a b broke = (broke.0, (BadLength, tt, broke.1), broke.2)
-greeting_broke BadField worker a b broke = (broke.0, (BadField, tt, broke.1), broke.2)
-greeting_broke BadVersion worker a b broke = (broke.0, (BadVersion, tt, broke.1), broke.2)
-
-pub answer_broke : (fault : FrameFault) (a b : LineState) → FailsToRead fault a b → AnswerFault (port_fault fault) a b
-answer_broke Ended a b broke = inr (broke.0, inl broke.1, broke.2)
-answer_broke Torn a b broke = inr (broke.0, inr broke.1, broke.2)
-answer_broke Device a b broke = inl (failed_of a b [] broke.0 broke.2)
-answer_broke Memory a b broke = (broke.0, broke.1, broke.2)
-answer_broke BadKind a b broke = (broke.0, inl (BadKind, tt, broke.1), broke.2)
-answer_broke BadLength a b broke = (broke.0, inl (BadLength, tt, broke.1), broke.2)
-answer_broke BadField a b broke = (broke.0, inl (BadField, tt, broke.1), broke.2)
-answer_broke BadVersion a b broke = (broke.0, inl (BadVersion, tt, broke.1), broke.2)
