@@ -1,8 +1,8 @@
 -- An answer that is written by pieces.
-use Rattle.std.proofs.Common.{◌≡◌, ℕ, ◌+◌, List, [], ◌++◌, length, take, refl, sym, ap, subst, ◌∙◌, append_assoc, append-nil, arith}
+use Rattle.std.proofs.Common.{◌≡◌, ℕ, ◌+◌, List, [], ◌++◌, length, take, refl, sym, ap, subst, ◌∙◌, append_assoc, arith}
 use Rattle.std.specs.List.{flat_map}
 use Rattle.std.proofs.Math.Seq.{take-append-add}
-use Rattle.std.proofs.lemmas.List.{length-append, take-append-le}
+use Rattle.std.proofs.lemmas.List.{length-append}
 use Rattle.std.proofs.lemmas.Grind.{flat_map-append}
 use Rattle.byte_streams.specs.Streams.{SinkState, Took}
 use Rattle.byte_streams.proofs.Streaming.{took_more}
@@ -16,14 +16,6 @@ joined head offers first rest split =
     append_assoc head (flat_map offer_text first) (flat_map offer_text rest)
     ∙ ap (λ (t : List ℕ). head ++ t) (sym (flat_map-append offer_text first rest) ∙ ap (flat_map offer_text) (sym split))
 
--- what was cut off in a first part was so in the whole
-pub cut_followed : (text rest : List ℕ) (s t : SinkState) → CutOff text s t → CutOff (text ++ rest) s t
-cut_followed text rest s t cut = record {
-  count = cut.count;
-  short = omega (arith, length-append text rest, cut.short);
-  took = subst (λ (bytes : List ℕ). Took 1 bytes s t) (sym (take-append-le cut.count text rest (omega (arith, cut.short)))) cut.took;
-}
-
 -- a text was written, and what follows it was cut off
 cut_behind : (first text : List ℕ) (s t u : SinkState) → Took 0 first s t → CutOff text t u → CutOff (first ++ text) s u
 cut_behind first text s t u took cut = record {
@@ -31,16 +23,6 @@ cut_behind first text s t u took cut = record {
   short = omega (arith, length-append first text, cut.short);
   took = subst (λ (bytes : List ℕ). Took 1 bytes s u) (sym (take-append-add first text cut.count)) (took_more 1 first (take cut.count text) s t u took cut.took);
 }
-
--- the first offers were written
-pub wrote_first : (head : List ℕ) (offers first rest : List Offer) (s t : SinkState) → offers ≡ first ++ rest → Took 0 (head ++ flat_map offer_text first) s t → WroteSome head offers rest s t
-wrote_first head offers first rest s t split took = record { first = first; split = split; took = took }
-
--- they were cut off
-pub cut_first : (head : List ℕ) (offers first rest : List Offer) (s t : SinkState) → offers ≡ first ++ rest → CutOff (head ++ flat_map offer_text first) s t
-    → CutOff (head ++ flat_map offer_text offers) s t
-cut_first head offers first rest s t split cut =
-    subst (λ (text : List ℕ). CutOff text s t) (joined head offers first rest split) (cut_followed (head ++ flat_map offer_text first) (flat_map offer_text rest) s t cut)
 
 -- some were written, and then more of them
 pub wrote_more : (head : List ℕ) (offers rest rest' : List Offer) (s t u : SinkState) → WroteSome head offers rest s t → WroteSome [] rest rest' t u → WroteSome head offers rest' s u
@@ -57,9 +39,3 @@ pub wrote_then_cut : (head : List ℕ) (offers rest : List Offer) (s t u : SinkS
 wrote_then_cut head offers rest s t u some cut =
     subst (λ (text : List ℕ). CutOff text s u) (joined head offers some.first rest some.split)
     (cut_behind (head ++ flat_map offer_text some.first) (flat_map offer_text rest) s t u some.took cut)
-
--- all were written
-pub wrote_all : (head : List ℕ) (offers rest : List Offer) (s t : SinkState) → rest ≡ [] → WroteSome head offers rest s t → Took 0 (head ++ flat_map offer_text offers) s t
-wrote_all head offers rest s t none some =
-    let all : some.first ≡ offers = sym (some.split ∙ ap (λ (os : List Offer). some.first ++ os) none ∙ append-nil some.first) in
-    subst (λ (os : List Offer). Took 0 (head ++ flat_map offer_text os) s t) all some.took

@@ -15,7 +15,7 @@ use Rattle.frames.specs.Lawful.{IsLawful, IsAsk}
 use Rattle.frames.specs.FrameStream.{texts_of, AreLawful}
 use Rattle.frames.proofs.Texts.{parts_same}
 use Rattle.frames.proofs.FrameStreams.{texts-append, lawful-append, prefix_has_prefix_frames}
-use Rattle.worker_engine.specs.Serving.{Shelf, empty_shelf, shelf_with, shelf_after, AreShort, IsAnswerTo, IsReply, MayReply, AreReplyTo, MayFollow, AreReplies, heard_by, Serves, ask_bit, asks_in}
+use Rattle.worker_engine.specs.Serving.{Shelf, empty_shelf, shelf_with, shelf_after, AreShort, IsAnswerTo, IsReply, MayReply, MayFollow, AreReplies, heard_by, Serves, ask_bit, asks_in}
 use Rattle.worker_engine.proofs.Versions.{heard_more, heard_lawful}
 use Rattle.worker_engine.proofs.Offering.{light_answer_is_lawful}
 
@@ -70,12 +70,6 @@ last_reply shelf fs round shard labels came v more are count =
     let first_is : reply ≡ v = cc in
     subst (MayReply (shelf_after shelf fs shard) round shard labels) first_is good
 
--- as many replies as asks are all of them
-pub no_more_replies : (shelf : Shelf) (fs came more : List FrameValue) → AreReplies shelf fs (came ++ more) → length came ≡ asks_in fs → more ≡ []
-no_more_replies shelf fs came [] are count = refl
-no_more_replies shelf fs came (v ∷ more) are count =
-    absurd (omega (arith, length-append came (v ∷ more), replies_count shelf fs (came ++ v ∷ more) are))
-
 -- what is written for a stream begins with what may be written for a prefix of it
 pub prefix_has_prefix_replies : (version worker : ℕ) (prefix rest out : List ℕ) → Serves version worker (prefix ++ rest) out
     → (early : List ℕ) × (late : List ℕ) × (out ≡ early ++ late) × Serves version worker prefix early
@@ -96,14 +90,6 @@ prefix_has_prefix_replies version worker prefix rest out serves =
 pub replies_more : (fs out now : List FrameValue) (v : FrameValue) → AreReplies empty_shelf fs out → MayFollow (shelf_after empty_shelf fs) v now
     → AreReplies empty_shelf (fs ++ v ∷ []) (out ++ now)
 replies_more fs out now v are heard = replies_join empty_shelf fs (v ∷ []) out now are (now, [], sym (append-nil now), heard, refl)
-
--- an engine's reply is one that may be written
-pub reply_may_follow : (shelf : Shelf) (v : FrameValue) (out : List FrameValue) → AreReplyTo shelf v out → MayFollow shelf v out
-reply_may_follow shelf (AskFrame r s ls) out (reply, one, is) = (reply, one, inl is)
-reply_may_follow shelf (HelloFrame v w) out none = none
-reply_may_follow shelf (ShardFrame n ls) out none = none
-reply_may_follow shelf (AnswerFrame a) out none = none
-reply_may_follow shelf (FaultFrame r s c) out none = none
 
 -- ---- what may be written is lawful
 

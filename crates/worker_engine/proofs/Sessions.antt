@@ -1,5 +1,5 @@
 -- A session, frame by frame.
-use Rattle.std.proofs.Common.{◌≡◌, ℕ, ◌+◌, List, [], ◌∷◌, ◌++◌, length, drop, refl, sym, ap, subst, ◌∙◌, append_assoc, append-nil}
+use Rattle.std.proofs.Common.{◌≡◌, ℕ, ◌+◌, List, [], ◌∷◌, ◌++◌, length, drop, sym, ap, subst, ◌∙◌, append_assoc}
 use Rattle.std.proofs.lemmas.List.{length-append, drop_at}
 use Rattle.frames.specs.FrameValue.{FrameValue, HelloFrame}
 use Rattle.frames.specs.declared.frame.TheConstants.{VERSION}
@@ -11,24 +11,6 @@ use Rattle.worker_engine.specs.Serving.{Shelf, empty_shelf, shelf_with, MayFollo
 use Rattle.worker_engine.specs.Session.{InSession}
 use Rattle.worker_engine.proofs.Versions.{this_version, all_heard}
 use Rattle.worker_engine.proofs.Replying.{replies_more, shelf_after-append}
-
--- nothing came yet
-pub session_starts : (worker : ℕ) → InSession worker empty_shelf [] (text_of (HelloFrame VERSION worker)) 0
-session_starts worker = record { frames = []; replies = []; rest = []; lawful = tt; came = refl; heard_is = refl; shelf_is = refl; answered = refl; written = sym (append-nil (text_of (HelloFrame VERSION worker))) }
-
--- more bytes come
-pub session_gets : (worker : ℕ) (shelf : Shelf) (input out more : List ℕ) (heard : ℕ) → InSession worker shelf input out heard → InSession worker shelf (input ++ more) out heard
-session_gets worker shelf input out more heard session = record {
-  frames = session.frames;
-  replies = session.replies;
-  rest = session.rest ++ more;
-  lawful = session.lawful;
-  came = ap (λ (t : List ℕ). t ++ more) session.came ∙ append_assoc (texts_of session.frames) session.rest more;
-  heard_is = session.heard_is;
-  shelf_is = session.shelf_is;
-  answered = session.answered;
-  written = session.written;
-}
 
 -- what wasn't heard yet stands behind the frames
 pub session_left : (worker : ℕ) (shelf : Shelf) (input out : List ℕ) (heard : ℕ) (session : InSession worker shelf input out heard) → drop heard input ≡ session.rest

@@ -63,14 +63,6 @@ kept_by_retain T each f (e ∷ es) kept (b, w, f', rest, called, more, is) =
     found s true w rest live all = live
     found s false w rest live all = all
 
--- where all are live, they are so under any labels
-pub live_under : (labels : List ℕ) (shards : List (ℕ × KeptShardState)) → AreAllLive shards → AreAllUnder labels shards
-live_under labels shards all s = go (lookup (is_at (nat_cmp s)) shards) (all s)
-  where
-    go : (o : Option KeptShardState) → IfSome o IsAllLive → IfSome o (IsLive labels)
-    go None none = tt
-    go (Some kept) live = subst (λ listed. IfSome listed (AreLiveLinks kept.links labels)) (sym live) tt
-
 -- what is quiet stays so under labels that coarsen
 pub under_coarser : (labels finer : List ℕ) (shards : List (ℕ × KeptShardState)) → Coarsens labels finer → AreAllUnder finer shards → AreAllUnder labels shards
 under_coarser labels finer shards coarsens all s = go (lookup (is_at (nat_cmp s)) shards) (all s)
@@ -78,10 +70,6 @@ under_coarser labels finer shards coarsens all s = go (lookup (is_at (nat_cmp s)
     go : (o : Option KeptShardState) → IfSome o (IsLive finer) → IfSome o (IsLive labels)
     go None none = tt
     go (Some kept) live = kept_coarser kept labels finer coarsens live
-
--- a shard that is found
-pub live_there : (labels : List ℕ) (shards : List (ℕ × KeptShardState)) (s : ℕ) (kept : KeptShardState) → Some kept ≡ lookup (is_at (nat_cmp s)) shards → AreAllUnder labels shards → IsLive labels kept
-live_there labels shards s kept found all = subst (λ o. IfSome o (IsLive labels)) (sym found) (all s)
 
 -- a number is found by itself alone
 at_key : (n q : ℕ) → is_at (nat_cmp n) q ≡ (q == n)

@@ -1,9 +1,8 @@
 -- A session over a source and a sink, frame by frame.
-use Rattle.std.proofs.Common.{◌≡◌, ◌≢◌, ℕ, ◌+◌, ◌<◌, Option, Some, None, List, [], ◌∷◌, ◌++◌, length, take, refl, sym, ap, subst, ◌∙◌, inl, inr, append_assoc, append-nil, arith}
+use Rattle.std.proofs.Common.{◌≡◌, ◌≢◌, ℕ, ◌+◌, ◌<◌, List, [], ◌∷◌, ◌++◌, length, take, refl, sym, ap, subst, ◌∙◌, inl, inr, append_assoc, append-nil, arith}
 use Rattle.std.specs.Prelude.{Result, Ok, Err, IfOk, IfErr, OnOk, OnErr}
 use Rattle.std.proofs.lemmas.List.{length-append}
 use Rattle.std.proofs.Math.Seq.{take-append-add}
-use Rattle.link_key.specs.declared.links.Link.{Link}
 use Rattle.byte_streams.specs.Streams.{SourceState, Gave, SinkState, Took}
 use Rattle.byte_streams.proofs.Streaming.{gave_more, took_more}
 use Rattle.frames.specs.FrameValue.{FrameValue, HelloFrame, ShardFrame, AskFrame, AnswerFrame, FaultFrame}
@@ -20,13 +19,10 @@ use Rattle.worker_engine.specs.declared.session.ServeFault.{ServeFault}
 use Rattle.worker_engine.specs.declared.session.ServeFault.TheVariants.{Read, Write, Memory, TooMany}
 use Rattle.worker_engine.specs.declared.session.Written.{Written}
 use Rattle.worker_engine.specs.declared.session.Written.TheVariants.{AFault}
-use Rattle.worker_engine.specs.Serving.{Shelf, empty_shelf, shelf_with, shelf_after, MayReply, MayFollow, AreReplies, IsShardFrame}
-use Rattle.worker_engine.specs.Served.{answers_in, faults_in, HeardFrames, ServesToEnd, EndsAtRead, EndsAtWrite, EndsAtMemory, EndsAtLimit, EndsBy, IsSortOf, CountsReplies, AreAnswersOrFaults, HearsNext, HearsNone, WroteFor, CutOff, Ungreeted}
+use Rattle.worker_engine.specs.Serving.{Shelf, empty_shelf, shelf_with, shelf_after, MayFollow, AreReplies, IsShardFrame}
+use Rattle.worker_engine.specs.Served.{answers_in, faults_in, HeardFrames, ServesToEnd, EndsAtRead, EndsAtWrite, EndsAtMemory, EndsAtLimit, EndsBy, IsSortOf, CountsReplies, HearsNext, HearsNone, WroteFor, CutOff, Ungreeted}
 use Rattle.worker_engine.proofs.Versions.{this_version, all_heard}
-use Rattle.worker_engine.proofs.Replying.{kept_reply, replies_more, shelf_after-append}
-
-hello_of : ℕ → List ℕ
-hello_of worker = text_of (HelloFrame VERSION worker)
+use Rattle.worker_engine.proofs.Replying.{replies_more, shelf_after-append}
 
 -- whole lawful frames were heard, and what is owed for them was written
 pub record SoFar (worker : ℕ) (shelf : Shelf) (served : Served) (source source' : SourceState) (sink sink' : SinkState) : Type 0 where
@@ -69,23 +65,6 @@ faults-append (f ∷ fs) gs = omega (arith, faults-append fs gs)
 answered_more : (frames before now : List FrameValue) (shelf : Shelf) (v : FrameValue) → AreReplies empty_shelf frames before → shelf ≡ shelf_after empty_shelf frames
     → MayFollow shelf v now → AreReplies empty_shelf (frames ++ v ∷ []) (before ++ now)
 answered_more frames before now shelf v answered shelf_is may = replies_more frames before now v answered (subst (λ (s : Shelf). MayFollow s v now) shelf_is may)
-
--- what may be written for a frame is answers and faults
-kind_of_reply : (kept : Option (List Link)) (r s : ℕ) (ls : List ℕ) (reply : FrameValue) → MayReply kept r s ls reply → AreAnswersOrFaults (reply ∷ [])
-kind_of_reply None r s ls reply (inl is) = rw is refl
-kind_of_reply None r s ls reply (inr never) = absurd never
-kind_of_reply (Some links) r s ls reply (inl is) = elim (kept_reply links r s ls reply is) [
-  | inl (a, answers, one) ↦ rw answers refl
-  | inr (faults, none) ↦ rw faults refl
-]
-kind_of_reply (Some links) r s ls reply (inr is) = rw is refl
-
-pub reply_kinds : (shelf : Shelf) (f : FrameValue) (replies : List FrameValue) → MayFollow shelf f replies → AreAnswersOrFaults replies
-reply_kinds shelf (AskFrame r s ls) replies (reply, one, may) = subst AreAnswersOrFaults (sym one) (kind_of_reply (shelf s) r s ls reply may)
-reply_kinds shelf (HelloFrame a b) replies none = subst AreAnswersOrFaults (sym none) refl
-reply_kinds shelf (ShardFrame a b) replies none = subst AreAnswersOrFaults (sym none) refl
-reply_kinds shelf (AnswerFrame a) replies none = subst AreAnswersOrFaults (sym none) refl
-reply_kinds shelf (FaultFrame a b c) replies none = subst AreAnswersOrFaults (sym none) refl
 
 -- ---- from frame to frame
 
