@@ -73,10 +73,6 @@ module _ {P A : Type 0} (port : Port.Ghosts P A) (keeping : Exchange → Type 0)
     why_honest = λ x t f. absurd (cc);
   }
 
-  -- a closed port stays closed
-  closed_stays : (a b : P) (xs : List AnswerValue) → AnswersAsks port keeping closing a b xs → (port.state a).is_open ≡ false → (port.state b).is_open ≡ false
-  closed_stays a b xs p f = elim (either (port.state b).is_open) [ inl e ↦ absurd (let r = (p.opened e).0 in cc) | inr e ↦ e ]
-
   module _ (a b c : P) (xs ys : List AnswerValue) (p : AnswersAsks port keeping closing a b xs) (q : AnswersAsks port keeping closing b c ys) where
     -- the counts that stood still over both parts stood still in each
     each_stood : SameFaults (port.state a) (port.state c) → SameFaults (port.state a) (port.state b) × SameFaults (port.state b) (port.state c)

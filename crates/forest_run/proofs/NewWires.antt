@@ -80,17 +80,9 @@ module _ {L : Type 0} (state : L → LineState) (cut : List (List Link)) (all : 
   lanes_number lanes left some =
       omega (arith, ap (λ zs. length zs) some.split, length-append (lines_of lanes) (reverse left), length-map lanes (λ (lane : LaneState (WireState L)). lane.port.client.line), length-reverse left)
 
-  pub all_lanes : (lanes : List (LaneState (WireState L))) (left : List L) → left ≡ [] → SomeLanes lanes left → AreNewLanes all cut lanes
-  all_lanes lanes left none some =
-      let number : length lanes ≡ length all = omega (arith, lanes_number lanes left some, ap (λ zs. length zs) none) in
-      record { number = number; each = λ worker line lane b. some.each worker line lane (omega arith); idle = some.idle }
-
 -- ---- the lines out of the lanes
 
 module _ {L : Type 0} where
-  pub lines_reversed : (lanes : List (LaneState (WireState L))) → reverse (reverse lanes) ≡ lanes
-  lines_reversed lanes = reverse-reverse lanes
-
   pub line_out : (all : List L) (lines : List L) (left rest : List (LaneState (WireState L))) (lane : LaneState (WireState L)) → left ≡ rest ++ lane ∷ []
       → all ≡ lines ++ lines_of (reverse left) → all ≡ (lines ++ lane.port.client.line ∷ []) ++ lines_of (reverse rest)
   line_out all lines left rest lane e split =
