@@ -1,5 +1,5 @@
 -- What a parse of the program's words gives: what each word sets, and numbers that passed the ranges of their arguments.
-use Rattle.std.proofs.Common.{◌≡◌, ◌≢◌, ◌⊎◌, ◌∙◌, ◌<◌, ℕ, true, false, List, [], ◌∷◌, length, Option, Some, None, Result, Err, refl, sym, ap, subst, inl, inr, arith, codes, slice_index, ◌||◌}
+use Rattle.std.proofs.Common.{◌≡◌, ◌⊎◌, ◌∙◌, ◌<◌, ℕ, true, false, List, [], ◌∷◌, length, Option, Some, None, Result, refl, sym, ap, subst, inl, inr, arith, codes, slice_index, ◌||◌}
 use Rattle.std.specs.Prelude.{pos}
 use Rattle.std.specs.List.{All, slice_index_or}
 use Rattle.std.specs.Str.{bytes_eq}
@@ -19,15 +19,12 @@ use Rattle.clap.specs.declared.builder.value_parser.ValueParser.TheVariants as v
 use Rattle.clap.specs.declared.parser.matches.ArgMatches.{ArgMatches}
 use Rattle.clap.specs.declared.parser.matches.Found.{Found}
 use Rattle.clap.specs.declared.parser.matches.MatchedArg.{MatchedArg}
-use Rattle.clap.specs.Words.{App, FailsBy, HasKind, HasMatchesOf, IsAmong, Kinds, fault_of, first_of, first_value, is_simple, is_simple_and_free, kind_of, matches_of, one_of, rows_of}
+use Rattle.clap.specs.Words.{App, FailsBy, HasMatchesOf, fault_of, first_of, first_value, is_simple, is_simple_and_free, matches_of, one_of, rows_of}
 use Rattle.clap.proofs.OnLiterals.{clap_on_literals}
 use Rattle.clap.proofs.WalkLemmas.{first_value-rows, one_text-rows}
 use Rattle.clap.specs.declared.error.Error.{Error}
-use Rattle.clap.specs.declared.error.kind.ErrorKind.TheVariants.{OutOfMemory}
 use Rattle.limits.specs.declared.TheConstants.{MAX_SHARDS, MAX_WORKERS}
-use Rattle.boruvka.specs.Arguments.{TakesFrom, IsOwn, IsOwnArg, HoldsFrom, program, refusals, given, said, IsCauseOf, OnUsage}
-use Rattle.boruvka.specs.declared.chosen.OptionsFault.{OptionsFault}
-use Rattle.boruvka.specs.declared.chosen.OptionsFault.TheVariants.{Usage, Memory}
+use Rattle.boruvka.specs.Arguments.{TakesFrom, IsOwn, IsOwnArg, HoldsFrom, program, refusals, given, said}
 
 -- an argument takes what the caller's does
 takes_same : (name : List ℕ) (low high : ℕ) (a b : Arg) → SameRules a b → TakesFrom name low high a → TakesFrom name low high b
@@ -159,14 +156,3 @@ said_is app words m name is has = first_value-rows (found_of m) name ∙ ap (fir
 pub fails_by_words : {T : Type 0} (app : App) (words : List (List ℕ)) (r : Result T Error) → app ≡ program
     → (is_simple_and_free app ≡ true → FailsBy (fault_of app words) r) → FailsBy (refusals words) r
 fails_by_words {T} app words r is fails = subst (λ (a : App). FailsBy (fault_of a words) r) is (fails (ap is_simple_and_free is ∙ program_free))
-
--- an error that isn't want of memory is one of those that the words have
-pub usage_is_among : (T : Type 0) (error : Error) (why : OptionsFault) (kinds : Kinds) → IsCauseOf error why → HasKind kinds error
-    → OnUsage {T = T} (Err why) (λ e. IsAmong (kind_of e) kinds)
-usage_is_among T error (Usage same) kinds (other, is) (inl memory) = absurd (other memory)
-usage_is_among T error (Usage same) kinds (other, is) (inr among) = subst (λ (e : Error). IsAmong (kind_of e) kinds) (sym is) among
-usage_is_among T error Memory kinds cause has = tt
-
-pub usage_is_no_memory : (T : Type 0) (error : Error) (why : OptionsFault) → IsCauseOf error why → OnUsage {T = T} (Err why) (λ e. kind_of e ≢ OutOfMemory)
-usage_is_no_memory T error (Usage same) (other, is) = subst (λ (e : Error). kind_of e ≢ OutOfMemory) (sym is) other
-usage_is_no_memory T error Memory cause = tt
