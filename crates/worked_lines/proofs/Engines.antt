@@ -1,8 +1,8 @@
 -- New lines to engines, numbered from 0, and what a run over them leaves in memory.
-use Rattle.std.proofs.Common.{◌≡◌, ◌<◌, ℕ, List, [], ◌∷◌, ◌++◌, length, get_or, inl, inr, Some, None, Err, refl, sym, subst, arith, length-append}
+use Rattle.std.proofs.Common.{◌≡◌, ℕ, List, [], ◌∷◌, ◌++◌, length, inl, inr, Some, None, Err, refl, sym, subst, arith, length-append}
 use Rattle.std.proofs.lemmas.Bool.{cases_lt}
 use Rattle.std.proofs.lemmas.List.{get_or_append_left, get_or_push}
-use Rattle.std.proofs.lemmas.List.Elements.{All-nil, All-push}
+use Rattle.std.proofs.lemmas.List.Elements.{All-push}
 use Rattle.byte_streams.specs.Streams.{SourceState, SinkState, only_held}
 use Rattle.byte_streams.proofs.Streaming.{gave_to_end, took_known}
 use Rattle.gr_text.specs.ForestText.{forest_text}
@@ -19,9 +19,6 @@ use Rattle.forest_run.specs.declared.fault.RunFault.TheVariants as fault
 
 abbrev pub AreEngines : List EngineLineState → Type 0
 AreEngines lines = AreServed engine_line lines
-
-pub no_engines : AreEngines []
-no_engines = (All-nil (λ line. IsFresh (line_of line) × HasKnownBytes (line_of line)), λ worker d b. absurd (omega arith))
 
 -- of a line to an engine all bytes are known, and one more stands for the worker of the next number
 pub engine_more : (lines : List EngineLineState) (line : EngineLineState) (number : ℕ) → number ≡ length lines → AreEngines lines → IsEngineLine number line → IsFresh (line_of line)
