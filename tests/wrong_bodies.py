@@ -55,6 +55,7 @@ sys.dont_write_bytecode = True
 sys.path.insert(0, f"{ROOT}/tools")
 
 from crates import below, crate_lines
+from prove import NotProved, Plan, Progress, lanes, prove_libraries
 
 RT = shlex.split(os.environ.get("RT", "rt"))
 NAME_OF_EDIT = re.compile(r"[A-Za-z0-9_-][A-Za-z0-9_.-]*\.edit")
@@ -396,9 +397,29 @@ def planted(crate, edits, texts):
     return next((it for it in found if not it.touched & taken), found[0] if found else None)
 
 
-def is_proved(crate):
-    """Whether the crate itself is proved: what its check keeps in out/, and in those of the crates below, the copies begin with."""
-    return not subprocess.run([*RT, "check"], cwd=f"{ROOT}/crates/{crate}", **HOW).returncode
+class Libraries(Plan):
+    """How some libraries and those below them are proved: side by side, with one process for each, which takes the least of the processors."""
+
+    def __init__(self, names, lines, most):
+        # (they stand below a crate that there isn't)
+        super().__init__("", {**lines, "": f": {' '.join(names)}"}, most)
+
+    def processes(self, name, taken):
+        return 1
+
+
+def are_proved(names, lines):
+    """Which of the crates are proved. What their checks keep in out/, and in those of the crates below, the copies begin with."""
+    has_rlib = [it for it in names if os.path.isfile(f"{ROOT}/crates/{it}/src/lib.rt") and "staticlib" not in lines[it].partition(":")[0]]
+    try:
+        plan = Libraries(has_rlib, lines, lanes())
+        prove_libraries(plan, Progress(len(plan.names) - 1))
+        proved = has_rlib
+    except NotProved as error:
+        print(error, file=sys.stderr)
+        proved = []
+    # of what isn't a library, or where one isn't proved, each crate is checked by itself
+    return proved + [it for it in names if it not in proved and not subprocess.run([*RT, "check"], cwd=f"{ROOT}/crates/{it}", **HOW).returncode]
 
 
 def edits_of(crate, folders):
@@ -545,7 +566,8 @@ def main(words):
         if left:
             tried[name] = left
     # before any copy is made: the check of a crate builds those below it
-    for name in [it for it in tried if not is_proved(it)]:
+    proved = are_proved([*tried], lines) if tried else []
+    for name in [it for it in tried if it not in proved]:
         say_at_once(f"{name}: the crate itself is not proved, so nothing was tried")
         unfit += len(tried.pop(name))
     found = try_crates(tried, lines, kept, "--self-test" in options, jobs)
