@@ -18,7 +18,7 @@ LIB := $(UNDER)/lib
 help:
 	@echo 'make run        proves and builds the program, and runs it on examples/small.gr'
 	@echo 'make lib        proves and builds libboruvka.a and libboruvka.so, beside it; needs a C compiler and its ar'
-	@echo 'make test       the gate: all proofs, the wrong bodies of must-fail*/, the tests, the program whole'
+	@echo 'make test       the gate: all proofs, the wrong bodies of must-fail/, the tests, the program whole'
 	@echo 'make wrong      tries the wrong bodies of wrong-bodies/, many at a time'
 	@echo 'make soak       tries the program on drawn cases, MINUTES=$(MINUTES) long; needs Python 3 and a C compiler'
 	@echo 'make install    puts the proved program into PREFIX/bin, its manual page into PREFIX/share/man, the libraries into'

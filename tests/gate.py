@@ -1,11 +1,10 @@
 #!/usr/bin/env python3
-"""The gate: `rt ci`, then the wrong bodies that are tried together (tests/wrong_bodies.py), then the built program whole
-(tests/program.py), and one last line for all.
+"""The gate: `rt ci`, then the built program whole (tests/program.py), and one last line for both.
 
-It shows what each of them prints but the last line of `rt ci` and of tests/program.py, and before the program the
-processor time of each crate: its proof, its proof with its tests, its wrong bodies (read from /proc twice a second, so a
-little less than there was). The last line is `N passed, M failed` over all three. The status is 0 only where nothing
-failed. Where `rt ci` failed, no wrong body is tried together.
+It shows what `rt ci` prints but its last line, the processor time of each crate (its proof, its proof with its tests,
+its wrong bodies; read from /proc twice a second, so a little less than there was), and what tests/program.py prints.
+The last line is `N passed, M failed` over both, and no other such line stands behind `rt ci`'s. The status is 0 only
+where nothing failed.
 """
 import os
 import re
@@ -19,7 +18,6 @@ HERE = os.path.dirname(os.path.realpath(__file__))
 ROOT = os.path.dirname(HERE)
 PROGRAM = "crates/boruvka/out/boruvka"
 LAST = re.compile(r"(\d+) passed, (\d+) failed\n?")
-LAST_OF_BODIES = re.compile(r"(\d+) wrong bodies refused, (\d+) survived\n?")
 TICKS = os.sysconf("SC_CLK_TCK")
 
 
@@ -59,7 +57,7 @@ class Costs(threading.Thread):
             if top != pid:
                 continue
             spent = sum(used[it] for it in parents if it == pid or self.is_below(it, pid, parents))
-            kind = "wrong bodies" if re.search("rt-edit-|wrong-bodies-", its[-1]) else "tests" if "--test" in its else "proof"
+            kind = "wrong bodies" if "rt-edit-" in its[-1] else "tests" if "--test" in its else "proof"
             key = its[its.index("--crate-name") + 1], kind
             old = self.of_process.get(pid, (key, 0))[1]
             self.of_process[pid] = key, max(spent, old)
@@ -84,53 +82,41 @@ class Costs(threading.Thread):
             yield f"{name:24}" + "".join(f"{sums[name][kind]:14.0f}" for kind in self.KINDS)
 
 
-def shown(words, last, is_shown=False):
-    """Runs a command, shows what it prints but its last line of results, unless that is wanted, and answers the status and those results."""
+def shown(words):
+    """Runs a command, shows what it prints but its last line of results, and answers the status and those results."""
     told = None
     with subprocess.Popen(words, cwd=ROOT, stdout=subprocess.PIPE, stderr=subprocess.STDOUT, errors="replace") as started:
         for line in started.stdout:
-            found = last.fullmatch(line)
+            found = LAST.fullmatch(line)
             if found:
                 told = int(found[1]), int(found[2])
-            if not found or is_shown:
+            else:
                 print(line, end="", flush=True)
     return started.returncode, told
-
-
-def with_failure(status, told):
-    """The results, of which one is a failure where the run ended badly and told of none, or told nothing."""
-    passed, failed = told or (0, 0)
-    return passed, failed + (told is None or status != 0 and not failed)
-
-
-def say_time(what, begun):
-    used = resource.getrusage(resource.RUSAGE_CHILDREN)
-    minutes = (time.monotonic() - begun) / 60
-    print(f"{what} took {(used.ru_utime + used.ru_stime) / 60:.0f} processor minutes, {minutes:.0f} minutes", flush=True)
 
 
 def main():
     costs, begun = Costs(), time.monotonic()
     costs.start()
-    status, told = shown(["rt", "ci"], LAST)
-    say_time("rt ci", begun)
-    results = [with_failure(status, told)]
-    if status:
-        print("rt ci failed, so the wrong bodies of must-fail-together/ were not tried")
-    else:
-        results.append(with_failure(*shown([sys.executable, f"{HERE}/wrong_bodies.py", "--gate"], LAST_OF_BODIES, is_shown=True)))
+    status, told = shown(["rt", "ci"])
     costs.ends.set()
     costs.join()
+    used = resource.getrusage(resource.RUSAGE_CHILDREN)
     for line in costs.table():
         print(line)
-    say_time("rt ci and the wrong bodies together", begun)
+    minutes = (time.monotonic() - begun) / 60
+    print(f"rt ci took {(used.ru_utime + used.ru_stime) / 60:.0f} processor minutes, {minutes:.0f} minutes", flush=True)
+    passed, failed = told or (0, 0)
+    # a run that ended badly and told of no failure has one
+    if status and not failed or not told:
+        failed += 1
     if not status and not os.access(f"{ROOT}/{PROGRAM}", os.X_OK):
         subprocess.run(["make", PROGRAM], cwd=ROOT, check=False)
-    status, told = shown([sys.executable, f"{HERE}/program.py"], LAST)
-    if told is None:
+    status_of_program, told = shown([sys.executable, f"{HERE}/program.py"])
+    if told is None or status_of_program and not told[1]:
         print("tests/program.py ended without its results")
-    results.append(with_failure(status, told))
-    passed, failed = (sum(it) for it in zip(*results))
+        told = (told or (0, 0))[0], 1
+    passed, failed = passed + told[0], failed + told[1]
     print(f"{passed} passed, {failed} failed", flush=True)
     return 1 if failed else 0
 

@@ -1,9 +1,9 @@
 #!/usr/bin/env python3
 """Tries wrong bodies many at a time: each has to be refused by the prover.
 
-usage: tests/wrong_bodies.py [--jobs N] [--gate] [--must-fail] [--self-test] [CRATE..]
+usage: tests/wrong_bodies.py [--jobs N] [--must-fail] [--self-test] [CRATE..]
 
-Each `crates/NAME/wrong-bodies/*.edit` turns the body of a function, and so does each of `must-fail-together/`. As many edits as touch different functions go
+Each `crates/NAME/wrong-bodies/*.edit` turns the body of a function. As many edits as touch different functions go
 into one copy of the crate, and one `rt check` of that copy has to tell each of these functions as not proved: a
 body changes no contract, so each function is judged by itself. An edit that stands in another's way, or that
 changes more than bodies, waits for a copy of its own. A function that is told as not proved counts only for a
@@ -14,10 +14,7 @@ is tried alone too before it counts as survived.
 
   --jobs N      so many crates side by side (if not set: one for each two processors, and for each 4 GB of memory that
                 is free); where several go, the lines of a crate are printed once it is done
-  --gate        the edits of must-fail-together/ alone. What is refused is kept on this machine, by a checksum of all that
-                its check read, and isn't tried again (below $XDG_CACHE_HOME, or ~/.cache where it isn't set)
-  --must-fail   the edits of must-fail-together/ and of must-fail/ too, in the same way (`rt ci` and `rt must-fail` try the
-                latter one at a time)
+  --must-fail   the edits of must-fail/ too, in the same way (`rt must-fail` tries them one at a time)
   --self-test   puts one body that is right among the wrong ones of each crate, which has to be told as survived
   CRATE..       only these crates
 
@@ -30,13 +27,10 @@ that matters:
     new: what stands there in its place
 
 Each crate is checked as it stands first. Its own `out/` and those of the crates below it are copied then, so that
-only what an edit touches is proved again; and at the end it is checked so once more, over what the copies began with,
-and where it isn't proved there, none of its edits counts. RT is the command that checks (`rt`, if not set). The last
-line, over all crates, is `N wrong bodies refused, M survived`, and the status is 0 only where none survived and each
-edit could be tried.
+only what an edit touches is proved again. RT is the command that checks (`rt`, if not set). The last line, over all
+crates, is `N wrong bodies refused, M survived`, and the status is 0 only where none survived and each edit could be
+tried.
 """
-import contextlib
-import hashlib
 import os
 import re
 import resource
@@ -55,15 +49,12 @@ sys.dont_write_bytecode = True
 sys.path.insert(0, f"{ROOT}/tools")
 
 from crates import below, crate_lines
-from prove import NotProved, Plan, Progress, lanes, prove_libraries
 
 RT = shlex.split(os.environ.get("RT", "rt"))
 NAME_OF_EDIT = re.compile(r"[A-Za-z0-9_-][A-Za-z0-9_.-]*\.edit")
 # What a proof file says where it names something that the edit took away.
 NAMES_ALONE = re.compile(r"has no field|is not in scope|has no `|was not admitted")
 EACH = 4_000_000_000  # bytes of free memory for each crate that is tried
-PARTS = ("src", "specs", "proofs")
-TOGETHER = "must-fail-together"
 HOW = {"stdin": subprocess.DEVNULL, "stdout": subprocess.PIPE, "stderr": subprocess.STDOUT, "errors": "replace"}
 CUT_OFF = threading.Event()
 
@@ -81,7 +72,6 @@ class Edit:
     name: str
     why: str
     changes: list
-    text: str = ""
     touched: set = field(default_factory=set)  # the functions, as `Function.key`; empty: more than bodies
 
 
@@ -199,19 +189,18 @@ def block(plain, at):
 
 def read_edit(crate, path):
     why, file, old, changes = "", "", None, []
-    with open(path, encoding="utf-8") as it:
-        text = it.read()
-    for line in text.split("\n"):
-        if line.startswith("why: "):
-            why = line[len("why: ") :].strip()
-        elif line.startswith("file: "):
-            file = line[len("file: ") :].strip()
-        elif line.startswith("old: "):
-            old = line[len("old: ") :]
-        elif line.startswith("new:"):
-            changes.append(Change(file, old, line[len("new:") :].removeprefix(" ")))
-            old = None
-    return Edit(crate, os.path.basename(path)[: -len(".edit")], why, changes, text)
+    with open(path, encoding="utf-8") as lines:
+        for line in lines.read().split("\n"):
+            if line.startswith("why: "):
+                why = line[len("why: ") :].strip()
+            elif line.startswith("file: "):
+                file = line[len("file: ") :].strip()
+            elif line.startswith("old: "):
+                old = line[len("old: ") :]
+            elif line.startswith("new:"):
+                changes.append(Change(file, old, line[len("new:") :].removeprefix(" ")))
+                old = None
+    return Edit(crate, os.path.basename(path)[: -len(".edit")], why, changes)
 
 
 def why_unfit(edit, texts):
@@ -279,10 +268,10 @@ class Room:
         if os.path.exists(f"{ROOT}/HANDLES"):
             shutil.copy(f"{ROOT}/HANDLES", folder)
         for name in names:
-            skip = shutil.ignore_patterns("incremental", TOGETHER, "must-fail", "wrong-bodies")
+            skip = shutil.ignore_patterns("incremental", "must-fail", "wrong-bodies")
             shutil.copytree(f"{ROOT}/crates/{name}", f"{folder}/crates/{name}", ignore=skip)
         self.source = f"{ROOT}/crates/{crate}"
-        for part in PARTS:
+        for part in ("src", "specs", "proofs"):
             if os.path.isdir(f"{self.source}/{part}"):
                 shutil.copytree(f"{self.source}/{part}", f"{self.folder}/{part}")
         self.texts = {}
@@ -302,49 +291,6 @@ class Room:
                 it.write(text)
         said = subprocess.run([*RT, "check", *self.flags], cwd=self.folder, **HOW).stdout
         return said, next((it for it in reversed(said.split("\n")) if it.startswith("logic=")), "")
-
-
-class Kept:
-    """What was refused on this machine, each under the checksum of all that its check read. Where nothing is to be kept, it has none."""
-
-    def __init__(self, lines, is_asked):
-        cache = os.environ.get("XDG_CACHE_HOME") or os.path.expanduser("~/.cache")
-        self.lines, self.at = lines, f"{cache}/boruvka/refused" if is_asked else None
-        self.kit = subprocess.run([*RT, "version"], **HOW).stdout if is_asked else ""
-
-    def sum_of(self, crate):
-        """The checksum of what a check of the crate reads: the kit, this tool, and the files of the crate and of those below it."""
-        if self.at is None:
-            return ""
-        sum = hashlib.sha256(self.kit.encode())
-        files = [os.path.realpath(__file__), f"{ROOT}/HANDLES"]
-        for name in [*below(crate, self.lines), crate]:
-            sum.update(self.lines[name].encode())
-            for part in PARTS:
-                for at, folders, found in os.walk(f"{ROOT}/crates/{name}/{part}"):
-                    folders.sort()
-                    files += [f"{at}/{it}" for it in sorted(found)]
-        for path in files:
-            with contextlib.suppress(FileNotFoundError), open(path, "rb") as it:
-                sum.update(repr((os.path.relpath(path, ROOT), it.read())).encode())
-        return sum.hexdigest()
-
-    def place(self, sum, edit):
-        return f"{self.at}/{hashlib.sha256(repr((sum, edit.crate, edit.name, edit.text)).encode()).hexdigest()}"
-
-    def has(self, sum, edit):
-        return self.at is not None and os.path.isfile(self.place(sum, edit))
-
-    def keep(self, sum, edits):
-        """Keeps that these were refused, unless a file that their checks read was changed meanwhile."""
-        if self.at is None or not edits or self.sum_of(edits[0].crate) != sum:
-            return
-        # (nowhere to keep it: a later run tries them again)
-        with contextlib.suppress(OSError):
-            os.makedirs(self.at, exist_ok=True)
-            for edit in edits:
-                with open(self.place(sum, edit), "w", encoding="utf-8") as it:
-                    it.write(f"{edit.crate}/{edit.name}\n")
 
 
 def verdict(edit, texts, said):
@@ -397,62 +343,33 @@ def planted(crate, edits, texts):
     return next((it for it in found if not it.touched & taken), found[0] if found else None)
 
 
-class Libraries(Plan):
-    """How some libraries and those below them are proved: side by side, with one process for each, which takes the least of the processors."""
-
-    def __init__(self, names, lines, most):
-        # (they stand below a crate that there isn't)
-        super().__init__("", {**lines, "": f": {' '.join(names)}"}, most)
-
-    def processes(self, name, taken):
-        return 1
+def is_proved(crate):
+    """Whether the crate itself is proved: what its check keeps in out/, and in those of the crates below, the copies begin with."""
+    return not subprocess.run([*RT, "check"], cwd=f"{ROOT}/crates/{crate}", **HOW).returncode
 
 
-def are_proved(names, lines):
-    """Which of the crates are proved. What their checks keep in out/, and in those of the crates below, the copies begin with."""
-    has_rlib = [it for it in names if os.path.isfile(f"{ROOT}/crates/{it}/src/lib.rt") and "staticlib" not in lines[it].partition(":")[0]]
-    try:
-        plan = Libraries(has_rlib, lines, lanes())
-        prove_libraries(plan, Progress(len(plan.names) - 1))
-        proved = has_rlib
-    except NotProved as error:
-        print(error, file=sys.stderr)
-        proved = []
-    # of what isn't a library, or where one isn't proved, each crate is checked by itself
-    return proved + [it for it in names if it not in proved and not subprocess.run([*RT, "check"], cwd=f"{ROOT}/crates/{it}", **HOW).returncode]
-
-
-def edits_of(crate, folders):
-    """The edits in these folders of a crate, and the names of files that are none."""
-    edits, others = [], []
-    for part in folders:
-        where = f"{ROOT}/crates/{crate}/{part}"
-        for name in sorted(os.listdir(where)) if os.path.isdir(where) else []:
-            if NAME_OF_EDIT.fullmatch(name):
-                edits.append(read_edit(crate, f"{where}/{name}"))
-            elif not name.endswith(".md"):
-                others.append(f"{part}/{name}")
-    return edits, others
-
-
-def try_crate(crate, edits, lines, kept, tests_itself, flags, say):
+def try_crate(crate, lines, folders, tests_itself, flags, say):
     """The numbers of edits that were refused, that survived and that couldn't be tried."""
-    sum_before, unfit = kept.sum_of(crate), 0
+    edits, unfit = [], 0
     with tempfile.TemporaryDirectory(prefix="wrong-bodies-") as folder:
-        room, fit = Room(crate, lines, folder, flags), []
-        for edit in edits:
-            why = why_unfit(edit, room.texts)
-            if why:
-                say(f"{crate}/{edit.name}: BAD EDIT: {why}")
-                unfit += 1
-            else:
-                fit.append(edit)
-        if not fit:
+        room = Room(crate, lines, folder, flags)
+        for part in folders:
+            where = f"{ROOT}/crates/{crate}/{part}"
+            for name in sorted(os.listdir(where)) if os.path.isdir(where) else []:
+                if not NAME_OF_EDIT.fullmatch(name):
+                    why = None if name.endswith(".md") else "its name doesn't end in .edit"
+                else:
+                    edit = read_edit(crate, f"{where}/{name}")
+                    why = why_unfit(edit, room.texts)
+                    edits += [] if why else [edit]
+                if why:
+                    say(f"{crate}/{part}/{name}: BAD EDIT: {why}")
+                    unfit += 1
+        if not edits:
             return 0, 0, unfit
-        edits = fit
         right = planted(crate, edits, room.texts) if tests_itself else None
         queue = packed([right] * bool(right) + edits, room.texts)
-        refused, survived = [], []
+        refused, survived = 0, []
         while queue and not CUT_OFF.is_set():
             copy = queue.pop(0)
             said, last = room.check(copy["texts"])
@@ -475,7 +392,7 @@ def try_crate(crate, edits, lines, kept, tests_itself, flags, say):
                     survived.append(edit.name)
                     say(f"{crate}/{edit.name}: SURVIVED")
                 else:
-                    refused.append(edit)
+                    refused += 1
                     note = " (SUSPICIOUS: only a proof file's names are missing; turn a value in its place)" if how_it_ended == "named" else ""
                     say(f"{crate}/{edit.name}: refused{note}: {line[:160]}")
         if right:
@@ -488,11 +405,7 @@ def try_crate(crate, edits, lines, kept, tests_itself, flags, say):
         elif tests_itself:
             say(f"{crate}: no function to plant a body that is right in")
             unfit += 1
-        if refused and not CUT_OFF.is_set() and not room.check(room.texts)[1].startswith("logic=proved"):
-            say(f"{crate}: it isn't proved over what the copies began with, so none of its edits counts as refused")
-            return 0, len(survived), unfit + len(refused)
-        kept.keep(sum_before, [it for it in refused if it is not right])
-        return len(refused), len(survived), unfit
+        return refused, len(survived), unfit
 
 
 def side_by_side():
@@ -509,24 +422,26 @@ def say_at_once(line):
     print(line, flush=True)
 
 
-def try_crates(tried, lines, kept, tests_itself, jobs):
+def try_crates(names, lines, folders, tests_itself, jobs):
     """The sums of what `try_crate` gives, with crates side by side."""
-    jobs = min(jobs, len(tried))
+    jobs = min(jobs, len(names))
     if jobs < 2:
-        found = [try_crate(name, edits, lines, kept, tests_itself, [], say_at_once) for name, edits in tried.items()]
-        return [sum(it) for it in zip((0, 0, 0), *found)]
+        return [sum(it) for it in zip((0, 0, 0), *(try_crate(name, lines, folders, tests_itself, [], say_at_once) for name in names))]
     flags, printing = ["--jobs", str(max(1, (os.cpu_count() or 1) // jobs))], threading.Lock()
 
     def whole(name):
         said = []
-        found = try_crate(name, tried[name], lines, kept, tests_itself, flags, said.append)
+        found = try_crate(name, lines, folders, tests_itself, flags, said.append)
         with printing:
             print("".join(f"{it}\n" for it in said), end="", flush=True)
         return found
 
+    def edits_of(name):
+        return sum(len(os.listdir(f"{ROOT}/crates/{name}/{it}")) for it in folders if os.path.isdir(f"{ROOT}/crates/{name}/{it}"))
+
     with ThreadPoolExecutor(jobs) as pool:
         # the longest first
-        running = [pool.submit(whole, name) for name in sorted(tried, key=lambda it: len(tried[it]), reverse=True)]
+        running = [pool.submit(whole, name) for name in sorted(names, key=edits_of, reverse=True)]
         try:
             return [sum(it) for it in zip(*(it.result() for it in running))]
         except BaseException:
@@ -542,7 +457,7 @@ def main(words):
         word = words.pop(0)
         if word == "--jobs" and words and words[0].isdigit() and int(words[0]):
             jobs = int(words.pop(0))
-        elif word in ("--gate", "--must-fail", "--self-test"):
+        elif word in ("--must-fail", "--self-test"):
             options.add(word)
         elif not word.startswith("-"):
             names.append(word)
@@ -550,28 +465,15 @@ def main(words):
             print(__doc__, end="", file=sys.stderr)
             return 2
     lines, begun = crate_lines(), time.monotonic()
-    is_gate = "--gate" in options
-    folders = [TOGETHER] if is_gate else ["wrong-bodies"] + [TOGETHER, "must-fail"] * ("--must-fail" in options)
-    kept, tried, refused, unfit = Kept(lines, is_gate), {}, 0, 0
-    for name in names or lines:
-        edits, others = edits_of(name, folders)
-        for it in others:
-            say_at_once(f"{name}/{it}: BAD EDIT: its name doesn't end in .edit")
-        sum_now = kept.sum_of(name)
-        left = [it for it in edits if not kept.has(sum_now, it)]
-        if len(left) < len(edits):
-            earlier = f"{len(edits) - len(left)} of its {len(edits)} edits were refused by an earlier run on this machine"
-            say_at_once(f"{name}: {earlier}, and nothing that they stand on has changed")
-        refused, unfit = refused + len(edits) - len(left), unfit + len(others)
-        if left:
-            tried[name] = left
+    folders = ["wrong-bodies"] + ["must-fail"] * ("--must-fail" in options)
+    names = [name for name in names or lines if any(os.path.isdir(f"{ROOT}/crates/{name}/{part}") for part in folders)]
     # before any copy is made: the check of a crate builds those below it
-    proved = are_proved([*tried], lines) if tried else []
-    for name in [it for it in tried if it not in proved]:
-        say_at_once(f"{name}: the crate itself is not proved, so nothing was tried")
-        unfit += len(tried.pop(name))
-    found = try_crates(tried, lines, kept, "--self-test" in options, jobs)
-    refused, survived, unfit = refused + found[0], found[1], unfit + found[2]
+    proved = [name for name in names if is_proved(name)]
+    for name in names:
+        if name not in proved:
+            say_at_once(f"{name}: the crate itself is not proved, so nothing was tried")
+    refused, survived, unfit = try_crates(proved, lines, folders, "--self-test" in options, jobs)
+    unfit += len(names) - len(proved)
     used = resource.getrusage(resource.RUSAGE_CHILDREN)
     print(f"{time.monotonic() - begun:.0f} s, {used.ru_utime + used.ru_stime:.0f} s of processor time")
     if unfit:
