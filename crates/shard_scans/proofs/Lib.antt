@@ -13,3 +13,4 @@ pub mod ByNumbers
 pub mod Relisting
 pub mod NextScan
 pub mod Ends
+pub mod NamesByGaps

@@ -5,3 +5,4 @@ pub mod Parts
 pub mod Tables
 pub mod Numbers
 pub mod Laws
+pub mod Gaps

@@ -1,9 +1,12 @@
 //! A shard that is kept, and which of its links are live.
-ghost use Rattle.std.specs.Prelude.{◌≡◌, ◌≤◌, ◌↔◌, length, IfOk, IsTrue};
+ghost use Rattle.std.specs.Prelude.{◌≡◌, ◌≤◌, ◌↔◌, length, IfSome, IfOk, IsTrue};
+ghost use Rattle.std.specs.Option.{option_map};
 ghost use Rattle.link_key.specs.Link.{EndsUpTo};
 ghost use Rattle.round_theory.specs.Offers.{AreLightOffers};
 ghost use Rattle.shard_scans.specs.Live.{IsLive, IsAllLive, IsGreatestEnd, AreOffersOf};
+ghost use Rattle.shard_scans.specs.Numbers.{shown, IsListed};
 
+use crate::kept_list::KeptList;
 use crate::listed::Listed;
 use crate::scanning::Scanner;
 use limits::MAX_SHARD_LINKS;
@@ -18,30 +21,29 @@ use std::thread::Threads;
 /// than a quarter lie between the ends of the link before them and are no less. Contracts see the links and the live ones, if
 /// these are listed; where they aren't, all are live.
 ///
-/// It keeps the links' memory. The list takes 12 bytes for each link while it is made, then for each that is live, and 4 bytes
-/// for the name of each number where it is by numbers; where there is no memory for it, all links stay live.
+/// It keeps the links' memory. The list takes 12 bytes for each link while it is made, then for each that is live; where there
+/// is no memory for it, all links stay live. Where it is by numbers it takes 4 bytes for the label of each. Between two scans
+/// that is at most 2, where there is memory for it, the labels are 4,096 or more, and the greatest is at most 255 times as
+/// many above the least.
 #[derive(Drop)]
 pub struct KeptShard<A: Allocator = Global> {
     links: Vec<Link, A>,
     // at an end of a link; 0 where there is none
     greatest: u32,
     // none where all are live
-    live: Option<Listed<A>>,
+    live: Option<KeptList<A>>,
 }
 
 impl<A: Allocator> Model for KeptShard<A> {
-    ghost use Rattle.std.specs.Prelude.{◌≤◌, length, IfSome};
-    ghost use Rattle.std.specs.Option.{option_map};
-    ghost use Rattle.shard_scans.specs.Numbers.{shown, IsListed};
+    ghost use Rattle.std.specs.Prelude.{◌≤◌, length};
     ghost use Rattle.limits.specs.declared.TheConstants.{MAX_SHARD_LINKS};
     ghost use Rattle.shard_scans.specs.Live.{KeptShardState, IsGreatestEnd};
 
     ghost Value = { KeptShardState };
 
-    ghost view = { λ h. record { links = h.links.items; live = option_map (λ listed. shown listed.names.items listed.links.items) h.live } };
+    ghost view = { λ h. record { links = h.links.items; live = h.live } };
 
-    ghost invariant = { λ h. (length h.links.items ≤ MAX_SHARD_LINKS) × IsGreatestEnd h.links.items h.greatest
-        × IfSome h.live (λ listed. IsListed listed.names.items listed.links.items) };
+    ghost invariant = { λ h. (length h.links.items ≤ MAX_SHARD_LINKS) × IsGreatestEnd h.links.items h.greatest };
 }
 
 impl<A: Allocator + Copy> KeptShard<A> {
@@ -67,9 +69,9 @@ impl<A: Allocator + Copy> KeptShard<A> {
     /// For m live links of n vertices O(m + n) time. Where the list is made, of n / 2 live links or more, or has no memory, it
     /// scans by the labels themselves, over a table of 8 bytes and a bit a vertex. Else it scans by numbers of its own for the
     /// labels that live links have: the scanner's table takes 8 bytes and a bit for each of these, its marks a quarter of a
-    /// byte a vertex. Beside them it takes the list, 8 bytes for each offer, and 4 for the name of each number; once links are
-    /// listed by numbers, 8 more for each number that they had before, until it returns. The only error is want of memory, and
-    /// the shard can be asked again after it.
+    /// byte a vertex. Beside them it takes the list, 8 bytes for each offer, and at most 6 for the label of each number; once
+    /// links are listed by numbers, 8 more for each number that they had before, until it returns. The only error is want of
+    /// memory, and the shard can be asked again after it.
     pub fn offers(
         &mut self,
         scanner: &mut Scanner<A>,
@@ -99,11 +101,11 @@ impl<A: Allocator + Copy> KeptShard<A> {
         ensures links { self.new.links ≡ self.old.links }
         ensures live { IsLive labels.now self.new }
     {
-        if let Some(listed) = &mut self.live {
-            return scanner.scan_listed(self.links.as_slice(), listed, labels);
+        if let Some(list) = &mut self.live {
+            return list.scan(scanner, self.links.as_slice(), labels);
         }
         let (offers, listed) = scanner.scan_and_list(self.links.as_slice(), labels)?;
-        self.live = listed;
+        self.live = kept(listed);
         Ok(offers)
     }
 }
@@ -146,11 +148,11 @@ impl<A: Allocator + Copy + Send + Sync> KeptShard<A> {
         ensures links { self.new.links ≡ self.old.links }
         ensures live { IsLive labels.now self.new }
     {
-        if let Some(listed) = &mut self.live {
-            return scanner.scan_listed_par(rt, self.links.as_slice(), listed, labels);
+        if let Some(list) = &mut self.live {
+            return list.scan_par(rt, scanner, self.links.as_slice(), labels);
         }
         let (offers, listed) = scanner.scan_and_list_par(rt, self.links.as_slice(), labels)?;
-        self.live = listed;
+        self.live = kept(listed);
         Ok(offers)
     }
 }
@@ -170,6 +172,17 @@ impl<A: Allocator> KeptShard<A> {
         ensures live { IsAllLive self.new }
     {
         self.live = None;
+    }
+}
+
+// The list, if there is one, as it is kept.
+fn kept<A: Allocator + Copy>(listed: Option<Listed<A>>) -> Option<KeptList<A>>
+    requires { IfSome listed (λ it. IsListed it.names.items it.links.items) }
+    ensures { result ≡ option_map (λ it. shown it.names.items it.links.items) listed }
+{
+    match listed {
+        Some(listed) => Some(KeptList::of(listed)),
+        None => None,
     }
 }
 

@@ -19,12 +19,14 @@
 //! (`specs/Tables`), `batches` what is looked up before it is kept (`specs/Batches`), `live` the passes over live links
 //! (`specs/Live`), `parallel` those over `parts` of the links (`specs/Parts`). `numbers` numbers a shard's labels
 //! (`specs/Numbers`), `by_numbers` passes by these, `listed` lists live links, `end_labels` looks up the labels of their ends,
-//! `kept_shard` lays the others aside.
+//! `kept_list` keeps the list between two scans, its names by `gaps` (`specs/Gaps`), `kept_shard` the shard with its list.
 #![tactic(auto)]
 
 mod batches;
 mod by_numbers;
 mod end_labels;
+mod gaps;
+mod kept_list;
 mod kept_shard;
 pub mod laws;
 mod listed;
