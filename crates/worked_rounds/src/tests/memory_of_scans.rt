@@ -1,15 +1,18 @@
 // Which blocks of memory scans and engines take, which no contract counts.
+ghost use Rattle.std.specs.Prelude.{◌≤◌, ◌^◌};
+
 use super::labels::labels_of;
 use super::same::expect_same;
-use super::scans::{By, Worker, expect_offers};
+use super::scans::{By, Worker, expect_offers, plain_offers};
 use super::sizes::{apart, falling};
+use frames::{Frame, Links};
 use link_key::{Labels, Link, Offers};
 use std::alloc::{Allocator, Global};
 use std::process::Abort;
 use std::thread::{Threads, available_parallelism};
 use test_memory::{Refusals, Refusing};
 use worked_graphs::{Row, have_labels, links_of};
-use worker_engine::{Scanner, scan, scan_par};
+use worker_engine::{Engine, Scanner, scan, scan_par};
 
 // How many vertices and links there are, and the most parts that they are scanned in.
 const PARTS: [(u32, u32, u64); 7] = [
@@ -370,5 +373,121 @@ fn live_links_are_listed_at_the_next_ask(rt: HostRuntime) {
             let memory = Refusing::new(rt.alloc(), Refusals::only(before.wrapping_add(2)));
             let _before = expect_coarser_asks(&rt, rt.alloc(), &memory, by, later);
         }
+    }
+}
+
+/// How many blocks were asked for so far, and how many are live.
+type Blocks = (u64, u64);
+
+// The blocks of three asks for the links of a path of so many vertices, each by itself: those that each asked for, and those that
+// live behind it.
+fn blocks_of_path(
+    rt: &(impl Abort + Threads + Sync),
+    alloc: Global,
+    by: By,
+    n: u32,
+) -> [Blocks; 3] {
+    assert!(rt; n <= 1 << 26);
+    let memory = Refusing::new(alloc, Refusals::none());
+    let mut worker = Worker::new(&memory, by);
+    worker.keep(rt, 0, falling(rt, &memory, n, 0, n.saturating_sub(1)));
+    let mut blocks = [(0, 0); 3];
+    for taken in &mut blocks {
+        *taken = blocks_of_apart(rt, &memory, &mut worker, n);
+    }
+    blocks
+}
+
+fn blocks_of_apart<'a>(
+    rt: &(impl Abort + Threads + Sync),
+    memory: &'a Memory,
+    worker: &mut Worker<&'a Memory>,
+    n: u32,
+) -> Blocks
+    requires { n ≤ 2 ^ 26 }
+{
+    let labels = Labels::apart(memory, n).expect(rt, "memory");
+    let before = memory.asked();
+    drop(worker.answered(rt, 0, labels));
+    (memory.asked().wrapping_sub(before), memory.live())
+}
+
+// The first ask lists the links by their labels, and the second by numbers of these. From 4,096 labels on the numbers' names
+// are written by gaps until the next ask, in a block in place of theirs, and then written out in another one.
+#[test]
+fn many_names_are_written_by_gaps(rt: HostRuntime) {
+    for by in [By::OneThread, By::Threads] {
+        let [first, (second, listed), (third, renamed)] = blocks_of_path(&rt, rt.alloc(), by, 4095);
+        let by_gaps = [
+            first,
+            (second.wrapping_add(1), listed),
+            (third.wrapping_add(2), renamed),
+        ];
+        expect_same(&rt, blocks_of_path(&rt, rt.alloc(), by, 4096), by_gaps);
+    }
+}
+
+// The offers of an engine's answer to an ask for its shard, where each of n vertices is by itself. Where it wants memory it is
+// asked once more.
+fn answered_at_last<'a>(
+    rt: &impl Abort,
+    memory: &'a Memory,
+    engine: &mut Engine<&'a Memory>,
+    n: u32,
+) -> Offers<&'a Memory> {
+    assert!(rt; n <= 1 << 26);
+    for _time in 0..2 {
+        let Ok(labels) = Labels::apart(memory, n) else {
+            continue;
+        };
+        let ask = Frame::Ask {
+            round: 1,
+            shard: 0,
+            labels,
+        };
+        assert!(rt; ask.is_lawful());
+        if let Ok(Some(Frame::Answer(answer))) = engine.hear(ask) {
+            return answer.offers;
+        }
+    }
+    panic!(rt; "no answer")
+}
+
+// An engine that is asked three times for the links of a path gives these offers each time. How many blocks were asked for
+// before the second ask, and in all.
+fn asked_three_times(
+    rt: &impl Abort,
+    memory: &Memory,
+    n: u32,
+    expected: &[(u32, u32)],
+) -> (u64, u64) {
+    let mut engine = Engine::new(memory);
+    let shard = Frame::Shard {
+        number: 0,
+        links: Links::of_list(falling(rt, memory, n, 0, n.saturating_sub(1))),
+    };
+    assert!(rt; shard.is_lawful());
+    expect_same(rt, engine.hear(shard).expect(rt, "memory").is_none(), true);
+    expect_offers(rt, &answered_at_last(rt, memory, &mut engine, n), expected);
+    let before = memory.asked();
+    for _ask in 0..2 {
+        expect_offers(rt, &answered_at_last(rt, memory, &mut engine, n), expected);
+    }
+    (before, memory.asked())
+}
+
+// Each block of two asks whose names are written by gaps is refused alone: those of the names, and of the gaps, too.
+#[test]
+fn names_by_gaps_where_memory_is_wanted(rt: HostRuntime) {
+    let n = 4096;
+    let links = falling(&rt, rt.alloc(), n, 0, n.saturating_sub(1));
+    let labels = apart(&rt, rt.alloc(), n);
+    let expected = plain_offers(&rt, rt.alloc(), 0, links.as_slice(), &labels);
+    let memory = Refusing::new(rt.alloc(), Refusals::none());
+    let (before, all) = asked_three_times(&rt, &memory, n, expected.as_slice());
+    expect_same(&rt, before < all, true);
+    for number in before..all {
+        let memory = Refusing::new(rt.alloc(), Refusals::only(number.wrapping_add(1)));
+        asked_three_times(&rt, &memory, n, expected.as_slice());
     }
 }

@@ -444,23 +444,24 @@ fn expect_laid_aside(
     }
     for (size, shards) in COMPONENTS {
         for shard in 0..shards {
-            expect_plain(rt, alloc, worker, (shard, links), size);
+            expect_plain(rt, alloc, worker, (shard, links), (MANY, size));
         }
     }
 }
 
-// The worker answers an ask of a shard of many vertices with the offers of its links by the plain program, where
+// The worker answers an ask of a shard of so many vertices with the offers of its links by the plain program, where
 // components have so many neighbours each.
 fn expect_plain(
     rt: &(impl Abort + Threads + Sync),
     alloc: Global,
     worker: &mut Worker,
     shard: (u32, &[Link]),
-    size: u32,
+    components: (u32, u32),
 )
-    requires { 0 < size }
+    requires { 0 < components.1 }
 {
-    let labels = neighbours(rt, alloc, MANY, size);
+    let (n, size) = components;
+    let labels = neighbours(rt, alloc, n, size);
     let expected = plain_offers(rt, alloc, 0, shard.1, &labels);
     worker.expect_answer(rt, shard.0, labels, expected.as_slice())
 }
@@ -528,6 +529,47 @@ fn half_as_many_links_as_vertices(rt: HostRuntime) {
                 scanner: Scanner::new(rt.alloc()),
             };
             near.expect_fewer_and_fewer(&rt, rt.alloc(), few);
+        }
+    }
+}
+
+// How far the next vertex of a path lies: less than a gap of one byte leads on, just so far, as far as two lead, between and past.
+const GAPS: [u32; 10] = [1, 254, 255, 256, 510, 511, 2, 3, 1, 7];
+
+// The last vertex of a path of 6,000 links over such vertices.
+const FAR_APART: u32 = 1_080_001;
+
+fn far_links(rt: &impl Abort, alloc: Global) -> Vec<Link> {
+    let mut arcs = Vec::new(alloc);
+    let mut vertex = 1u32;
+    for i in 0..600u32 {
+        for gap in GAPS {
+            let next = vertex.wrapping_add(gap);
+            let weight = i.wrapping_mul(7919).wrapping_add(gap) % 101;
+            arcs.push((vertex, next, i64::from(weight)))
+                .expect(rt, "memory");
+            vertex = next;
+        }
+    }
+    links_between(rt, alloc, FAR_APART, arcs.as_slice())
+}
+
+// A shard with links to 6,001 labels of 1,080,001, some near the one before and some far, is numbered at its first ask. There
+// are more than 4,096 of them also where two vertices or four make a component, and fewer behind that.
+#[test]
+fn links_of_labels_that_lie_far_apart(rt: HostRuntime) {
+    let links = far_links(&rt, rt.alloc());
+    for by in [By::OneThread, By::Threads, By::OrFault] {
+        let mut worker = Worker::new(rt.alloc(), by);
+        worker.keep(&rt, 0, links.to_vec(rt.alloc()).expect(&rt, "memory"));
+        for size in [1, 1, 2, 4, 4, 256, 2048, FAR_APART] {
+            expect_plain(
+                &rt,
+                rt.alloc(),
+                &mut worker,
+                (0, links.as_slice()),
+                (FAR_APART, size),
+            );
         }
     }
 }
