@@ -36,6 +36,7 @@ import re
 import resource
 import shlex
 import shutil
+import signal
 import subprocess
 import sys
 import tempfile
@@ -72,7 +73,7 @@ class Edit:
     name: str
     why: str
     changes: list
-    touched: set = field(default_factory=set)  # the functions, as `Function.key`; empty: more than bodies
+    touched: set = field(default_factory=set)  # the functions, by `Function.key`; empty: more than bodies
 
 
 @dataclass
@@ -87,7 +88,8 @@ class Function:
 
     @property
     def key(self):
-        return self.file, self.owner, self.name
+        """Those of one cycle are one: their proofs are told together."""
+        return ("", "", self.cycle) if self.cycle else (self.file, self.owner, self.name)
 
     def is_told_as(self, path):
         """Whether `rt check` names it by this path without the crate's name: a method stands where its type does."""
@@ -140,7 +142,7 @@ def owner_of(header):
 def functions_of(file, text):
     """The functions of a file, those inside an impl or a trait with its name."""
     plain, found, owners, depth, at = blanked(text), [], [], 0, 0
-    starts = re.compile(r"(?m)^[ \t]*((?:unsafe\s+)?(?:impl|trait)\b|(?:pub(?:\([^)]*\))?\s+)?(?:const\s+)?(?:unsafe\s+)?(?:ghost\s+)?fn\s+(\w+))|[{}]")
+    starts = re.compile(r"(?m)^[ \t]*((?:unsafe\s+)?(?:impl|trait)\b|(?:pub(?:\([^)]*\))?\s+)?(?:const\s+)?(?:unsafe\s+)?(?:ghost\s+)?(?:extern\s+)?fn\s+(\w+))|[{}]")
     openers = []
     while True:
         it = starts.search(plain, at)
@@ -179,7 +181,7 @@ def block(plain, at):
             depth -= 1
             if depth < 0:
                 return None, at
-            if not depth and not re.match(r"\s*(?:ensures|requires|decreases|ghost\b|\{|,|follows)", plain[at + 1 :]):
+            if not depth and not re.match(r"\s*(?:ensures|requires|decreases|ghost\s+\w+\s*:|\{|,|follows)", plain[at + 1 :]):
                 return begin, at + 1
         elif letter == ";" and not depth and not within:
             return None, at + 1
@@ -212,6 +214,8 @@ def why_unfit(edit, texts):
     for change in edit.changes:
         if not change.file.startswith("src/") or change.file not in texts:
             return f"there is no file {change.file} of code"
+        if change.old is None:
+            return "a new text has no old one before it"
     if applied(edit, texts) is None:
         return "an old text doesn't stand once in its file"
     # each change is looked for where it is made: in what the earlier ones left, where its old text stands once
@@ -219,12 +223,14 @@ def why_unfit(edit, texts):
     for change in edit.changes:
         text = made[change.file]
         at = text.find(change.old)
+        made[change.file] = text.replace(change.old, change.new)
         inside = [it for it in functions_of(change.file, text) if it.begin <= at < it.end]
-        if not inside:
+        it = max(inside, key=lambda it: it.begin, default=None)
+        # (what stands before the body's brace and from its last one on, clauses among it, has to be as it was)
+        if not it or not made[change.file].startswith(text[: it.body + 1]) or not made[change.file].endswith(text[it.end - 1 :]):
             edit.touched = set()
             return None
-        edit.touched.add(max(inside, key=lambda it: it.begin).key)
-        made[change.file] = text.replace(change.old, change.new)
+        edit.touched.add(it.key)
     return None
 
 
@@ -254,6 +260,28 @@ def packed(edits, texts):
         else:
             copies.append({"edits": [edit], "texts": applied(edit, texts), "touched": set(edit.touched), "whole": not edit.touched})
     return copies
+
+
+RUNNING = set()
+
+
+def ran(flags, folder):
+    """The status of `rt check` and what it says."""
+    with subprocess.Popen([*RT, "check", *flags], cwd=folder, **HOW) as check:
+        RUNNING.add(check)
+        try:
+            said = check.communicate()[0]
+        finally:
+            RUNNING.discard(check)
+    return check.returncode, said
+
+
+def cut_off(*_):
+    """Ends the checks, so that none goes on without this program."""
+    CUT_OFF.set()
+    for it in list(RUNNING):
+        it.terminate()
+    sys.exit(143)
 
 
 class Room:
@@ -289,8 +317,10 @@ class Room:
         for file, text in texts.items():
             with open(f"{self.folder}/{file}", "w", encoding="utf-8") as it:
                 it.write(text)
-        said = subprocess.run([*RT, "check", *self.flags], cwd=self.folder, **HOW).stdout
-        return said, next((it for it in reversed(said.split("\n")) if it.startswith("logic=")), "")
+        status, said = ran(self.flags, self.folder)
+        last = next((it for it in reversed(said.split("\n")) if it.startswith("logic=")), "")
+        # a verdict, where its status is that of such a line
+        return said, last if last.startswith({0: "logic=proved", 1: "logic=not-proved"}.get(status, "\n")) else ""
 
 
 def verdict(edit, texts, said):
@@ -345,7 +375,7 @@ def planted(crate, edits, texts):
 
 def is_proved(crate):
     """Whether the crate itself is proved: what its check keeps in out/, and in those of the crates below, the copies begin with."""
-    return not subprocess.run([*RT, "check"], cwd=f"{ROOT}/crates/{crate}", **HOW).returncode
+    return not ran([], f"{ROOT}/crates/{crate}")[0]
 
 
 def try_crate(crate, lines, folders, tests_itself, flags, say):
@@ -379,6 +409,8 @@ def try_crate(crate, lines, folders, tests_itself, flags, say):
                 queue += [{"edits": [it], "texts": applied(it, room_texts), "touched": it.touched, "whole": True} for it in copy["edits"]]
                 continue
             for edit in copy["edits"]:
+                if not last and CUT_OFF.is_set():
+                    continue
                 if not last:
                     first = next((it for it in said.split("\n") if "error" in it), said[:200])
                     say(f"{crate}/{edit.name}: BAD EDIT: it did not reach the prover: {first[:200]}")
@@ -451,6 +483,14 @@ def try_crates(names, lines, folders, tests_itself, jobs):
             raise
 
 
+def passed_over(lines):
+    """The edits that no run would try: in a folder of another name, or of a crate that crates.txt lacks."""
+    for at, _, files in os.walk(f"{ROOT}/crates"):
+        crate, _, part = os.path.relpath(at, f"{ROOT}/crates").partition("/")
+        if crate not in lines or part not in ("must-fail", "wrong-bodies"):
+            yield from (f"{crate}/{part}/{name}" for name in files if name.endswith(".edit") and part.split("/")[0] != "out")
+
+
 def main(words):
     jobs, options, names = side_by_side(), set(), []
     while words:
@@ -465,6 +505,12 @@ def main(words):
             print(__doc__, end="", file=sys.stderr)
             return 2
     lines, begun = crate_lines(), time.monotonic()
+    for name in names:
+        if name not in lines:
+            print(f"tests/wrong_bodies.py: crates.txt has no crate {name}", file=sys.stderr)
+            return 2
+    signal.signal(signal.SIGTERM, cut_off)
+    lost = [] if names else sorted(passed_over(lines))
     folders = ["wrong-bodies"] + ["must-fail"] * ("--must-fail" in options)
     names = [name for name in names or lines if any(os.path.isdir(f"{ROOT}/crates/{name}/{part}") for part in folders)]
     # before any copy is made: the check of a crate builds those below it
@@ -473,7 +519,9 @@ def main(words):
         if name not in proved:
             say_at_once(f"{name}: the crate itself is not proved, so nothing was tried")
     refused, survived, unfit = try_crates(proved, lines, folders, "--self-test" in options, jobs)
-    unfit += len(names) - len(proved)
+    for name in lost:
+        say_at_once(f"{name}: BAD EDIT: it stands in no folder whose edits are tried")
+    unfit += len(names) - len(proved) + len(lost)
     used = resource.getrusage(resource.RUSAGE_CHILDREN)
     print(f"{time.monotonic() - begun:.0f} s, {used.ru_utime + used.ru_stime:.0f} s of processor time")
     if unfit:
