@@ -412,7 +412,7 @@ def try_crate(crate, lines, folders, tests_itself, flags, say):
                 if not last and CUT_OFF.is_set():
                     continue
                 if not last:
-                    first = next((it for it in said.split("\n") if "error" in it), said[:200])
+                    first = next((it for it in said.split("\n") if "error" in it), said.strip().replace("\n", "; "))
                     say(f"{crate}/{edit.name}: BAD EDIT: it did not reach the prover: {first[:200]}")
                     unfit += 1
                     continue
