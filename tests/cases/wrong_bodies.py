@@ -10,7 +10,8 @@ import time
 from cases.running import ROOT, SECONDS, TESTS, case
 
 # It judges each function of src/lib.rt by the last line of its body: right is `give(N)`, where its clause says N. It
-# notes each check in CALLS. Of a copy, it ends as ENDS says (a status and a last line), or waits where WAITS is set.
+# notes each check in CALLS. Of a copy, it ends as ENDS says (a status and a last line), or waits where WAITS is set. Where
+# REFUSES is set, a body with more than that line is refused too.
 PROVER = r"""
 import os, re, sys, time
 is_copy, wrong = "/wrong-bodies-" in os.getcwd(), False
