@@ -1,6 +1,7 @@
 // Frames that are read from bytes: the body's block, and the list that is made of it; of a shard and of an answer the
 // list's alone. Frames that are written: the text's one block.
 use super::same::expect_same;
+use super::sizes::frame_bytes;
 use frames::{
     FrameFault, decode_body, decode_head, encode, encode_ask, encode_ask_over, read_frame,
 };
@@ -162,6 +163,41 @@ fn offers_are_given_room_as_they_come(rt: HostRuntime) {
         expect_given(&rt, rt.alloc(), &head, &offer, pieces * 8_192, blocks);
         expect_given(&rt, rt.alloc(), &other, &offer, pieces * 8_192, 0);
     }
+}
+
+// Frames of this kind with these fields, and behind them so many items, are read so: each takes so many blocks, and none
+// lives once it is dropped.
+fn expect_read(
+    rt: &impl Abort,
+    alloc: Global,
+    kind: u8,
+    fields: &[u32],
+    item: &[u32],
+    rows: &[(u32, u64)],
+    fault: Option<FrameFault>,
+) {
+    for (count, blocks) in rows {
+        let mut numbers = Vec::from_slice(alloc, fields).expect(rt, "memory");
+        numbers.push(*count).expect(rt, "memory");
+        for _ in 0..*count {
+            numbers.extend_from_slice(item).expect(rt, "memory");
+        }
+        let bytes = frame_bytes(rt, alloc, kind, numbers.as_slice());
+        let memory = Refusing::new(alloc, Refusals::none());
+        let found = refused(&memory, bytes.as_slice());
+        expect_same(rt, (*count, found), (*count, (fault, *blocks, 0)));
+    }
+}
+
+// A list that came whole goes over into a smaller block where its last piece isn't full, so that it keeps the room that it
+// fills: the links of a shard, and the offers of an answer, here such as are refused then.
+#[test]
+fn a_list_keeps_no_room_that_it_does_not_fill(rt: HostRuntime) {
+    let shards = [(5_461, 1), (5_462, 3), (10_922, 2), (10_923, 4)];
+    expect_read(&rt, rt.alloc(), 2, &[0], &[1, 2, 5], &shards, None);
+    let answers = [(8_192, 1), (8_193, 3), (16_384, 2), (16_385, 4)];
+    let bad = Some(FrameFault::BadField);
+    expect_read(&rt, rt.alloc(), 4, &[1, 0], &[1, 2], &answers, bad);
 }
 
 // A text is given its whole room once, and a body's list too, whatever their size.
