@@ -379,8 +379,27 @@ fn live_links_are_listed_at_the_next_ask(rt: HostRuntime) {
 /// How many blocks were asked for so far, and how many are live.
 type Blocks = (u64, u64);
 
-// The blocks of three asks for the links of a path of so many vertices, each by itself: those that each asked for, and those that
-// live behind it.
+// The blocks of three asks for these links between n vertices, each by itself: those that each asked for, and those that live
+// behind it.
+fn blocks_of<'a>(
+    rt: &(impl Abort + Threads + Sync),
+    memory: &'a Memory,
+    by: By,
+    n: u32,
+    links: Vec<Link, &'a Memory>,
+) -> [Blocks; 3]
+    requires { n ≤ 2 ^ 26 }
+{
+    let mut worker = Worker::new(memory, by);
+    worker.keep(rt, 0, links);
+    let mut blocks = [(0, 0); 3];
+    for taken in &mut blocks {
+        *taken = blocks_of_apart(rt, memory, &mut worker, n);
+    }
+    blocks
+}
+
+// Those of a path of so many vertices.
 fn blocks_of_path(
     rt: &(impl Abort + Threads + Sync),
     alloc: Global,
@@ -389,13 +408,35 @@ fn blocks_of_path(
 ) -> [Blocks; 3] {
     assert!(rt; n <= 1 << 26);
     let memory = Refusing::new(alloc, Refusals::none());
-    let mut worker = Worker::new(&memory, by);
-    worker.keep(rt, 0, falling(rt, &memory, n, 0, n.saturating_sub(1)));
-    let mut blocks = [(0, 0); 3];
-    for taken in &mut blocks {
-        *taken = blocks_of_apart(rt, &memory, &mut worker, n);
+    let links = falling(rt, &memory, n, 0, n.saturating_sub(1));
+    blocks_of(rt, &memory, by, n, links)
+}
+
+// Links between neighbours, from vertex 1 on, each so many vertices behind the one before it.
+fn pairs<'a>(rt: &impl Abort, memory: &'a Memory, count: u32, way: u32) -> Vec<Link, &'a Memory> {
+    assert!(rt; count <= 4_096 && way <= 4_096);
+    let mut links = Vec::new(memory);
+    for i in 0..count {
+        let low = i * way + 1;
+        if let Some(link) = Link::of_arc(low, low + 1, 5) {
+            links.push(link).expect(rt, "memory");
+        }
     }
-    blocks
+    links
+}
+
+// Those of so many such links.
+fn blocks_of_pairs(
+    rt: &(impl Abort + Threads + Sync),
+    alloc: Global,
+    by: By,
+    count: u32,
+    way: u32,
+) -> [Blocks; 3] {
+    assert!(rt; count <= 4_096 && way <= 4_096);
+    let memory = Refusing::new(alloc, Refusals::none());
+    let links = pairs(rt, &memory, count, way);
+    blocks_of(rt, &memory, by, count * way + 2, links)
 }
 
 fn blocks_of_apart<'a>(
@@ -424,6 +465,28 @@ fn many_names_are_written_by_gaps(rt: HostRuntime) {
             (third.wrapping_add(2), renamed),
         ];
         expect_same(&rt, blocks_of_path(&rt, rt.alloc(), by, 4096), by_gaps);
+    }
+}
+
+// The links of 2,048 pairs are numbered at the first ask, by 4,096 labels. From the first of them to the last it is no more
+// than 4,096 gaps of 255 where a pair comes each 510 vertices, and more where it comes each 511: then nothing is written by
+// gaps, as where the labels are few.
+#[test]
+fn names_that_lie_far_apart_stay(rt: HostRuntime) {
+    for by in [By::OneThread, By::Threads] {
+        let few = blocks_of_pairs(&rt, rt.alloc(), by, 2_047, 511);
+        expect_same(&rt, blocks_of_pairs(&rt, rt.alloc(), by, 2_048, 511), few);
+        let [(first, numbered), (second, renamed), (third, again)] = few;
+        let by_gaps = [
+            (first.wrapping_add(1), numbered),
+            (second.wrapping_add(2), renamed),
+            (third.wrapping_add(2), again),
+        ];
+        expect_same(
+            &rt,
+            blocks_of_pairs(&rt, rt.alloc(), by, 2_048, 510),
+            by_gaps,
+        );
     }
 }
 
