@@ -69,12 +69,11 @@ $(BENCH): $(SOURCES)
 	@python3 tools/prove.py bench
 	@touch $(BENCH)
 
-# The library's crate over what the program's build left, and with it the toolchain's few lines over malloc and free.
-$(LIBRARY).a: $(SOURCES) $(PROGRAM)
-	@mkdir -p $(@D)
-	@cd $(@D)/.. && rt lib > out/log 2>&1 || { cat out/log >&2; exit 1; }
+# With the crate's own library the toolchain's few lines over malloc and free.
+$(LIBRARY).a: $(SOURCES)
+	@python3 tools/prove.py boruvka_c
 	@cd $(@D) && ar x "$$(dirname "$$(rt doc)")/c/liblibc_c.a" heap.pic.o && cp libboruvka_c.a made.a && ar qs made.a heap.pic.o
-	@cd $(@D) && mv made.a $(@F) && rm -f heap.pic.o log
+	@cd $(@D) && mv made.a $(@F) && rm -f heap.pic.o
 
 $(LIBRARY).so: $(LIBRARY).a
 	@echo '{ global: boruvka_*; local: *; };' > $(@D)/names

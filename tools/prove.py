@@ -1,14 +1,14 @@
 #!/usr/bin/env python3
-"""Proves and builds a program and the crates below it, those that don't stand on each other side by side, and runs it.
+"""Proves and builds a crate and those below it, those that don't stand on each other side by side.
 
-usage: tools/prove.py [--jobs N] [--dry-run] [PROGRAM]
+usage: tools/prove.py [--jobs N] [--dry-run] [CRATE]
 
-PROGRAM is a crate with a `main` (boruvka, if none is named); it is run with the words of its file `args`, and on its
-file `stdin`, where it has them. `rt` lets one of its commands at a time work in a crate and in those below it. So each
-library is proved in a room of its own: a copy of its files under .git (or under the program's out/, where there is no
-.git), beside what was built below it. What it built goes into its own out/, as if `rt lib` had run there; a crate that
-was proved before, and whose files are the same, takes a second. The program comes last, by `rt run` where it lies. A
-run that was cut off is begun again by the same words: what was proved stays.
+CRATE is a program (boruvka, if none is named), which is run too, with the words of its file `args`, and on its file
+`stdin`, where it has them; or a static library. `rt` lets one of its commands at a time work in a crate and in those
+below it. So each library below is proved in a room of its own: a copy of its files under .git (or under CRATE's out/,
+where there is no .git), beside what was built below it. What it built goes into its own out/, as if `rt lib` had run
+there; a crate that was proved before, and whose files are the same, takes a second. CRATE comes last, by `rt run` or
+`rt lib` where it lies. A run that was cut off is begun again by the same words: what was proved stays.
 
   --jobs N    at most N checks side by side, and N processes for each (if not set: as many as there are processors, and
               one for each 2.5 GB of memory that is free)
@@ -72,10 +72,10 @@ def lines_of(crate):
 class Plan:
     """Which crates wait for which, and how long what stands on each takes, in lines."""
 
-    def __init__(self, program, lines, most):
-        self.program, self.lines, self.most = program, lines, most
+    def __init__(self, top, lines, most):
+        self.top, self.lines, self.most = top, lines, most
         self.room = max(most, free_memory() // PROCESS)
-        self.names = [*below(program, lines), program]
+        self.names = [*below(top, lines), top]
         self.below = {name: below(name, lines) for name in self.names}
         self.count = {name: lines_of(name) for name in self.names}
         self.chain = {}
@@ -208,7 +208,7 @@ def alone_in(crates):
 
 
 def prove_libraries(plan, progress):
-    rooms = f"{ROOT}/.git/rooms" if os.path.isdir(f"{ROOT}/.git") else f"{ROOT}/crates/{plan.program}/out/rooms"
+    rooms = f"{ROOT}/.git/rooms" if os.path.isdir(f"{ROOT}/.git") else f"{ROOT}/crates/{plan.top}/out/rooms"
     with alone_in(plan.names):
         # what a run that was killed left
         for crate in os.listdir(rooms) if os.path.isdir(rooms) else []:
@@ -235,6 +235,14 @@ def prove_libraries(plan, progress):
             shutil.rmtree(rooms, ignore_errors=True)
 
 
+def is_program(crate):
+    return os.path.isfile(f"{ROOT}/crates/{crate}/src/main.rt")
+
+
+def is_static_library(crate, lines):
+    return "staticlib" in lines[crate].partition(":")[0].split()
+
+
 def words_of(folder):
     """What a program is run with: the words of its file `args`, one a line."""
     if not os.path.isfile(f"{folder}/args"):
@@ -243,20 +251,20 @@ def words_of(folder):
         return ["--", *it.read().splitlines()]
 
 
-def prove_program(plan, progress):
-    folder = f"{ROOT}/crates/{plan.program}"
+def prove_top(plan, progress):
+    folder = f"{ROOT}/crates/{plan.top}"
     source = f"{folder}/stdin"
     log = f"{folder}/out/log"
     os.makedirs(f"{folder}/out", exist_ok=True)
-    progress.tell([plan.program])
+    progress.tell([plan.top])
     with open(source if os.path.isfile(source) else os.devnull, "rb") as given, open(log, "w+b") as said:
-        words = [*RT, "run", "--jobs", str(plan.processes(plan.program, 0)), *words_of(folder)]
+        words = [*RT, "run" if is_program(plan.top) else "lib", "--jobs", str(plan.processes(plan.top, 0)), *words_of(folder)]
         process = subprocess.Popen(words, cwd=folder, stdin=given, stdout=said, stderr=said, start_new_session=True)
         try:
             while process.poll() is None:
                 with contextlib.suppress(subprocess.TimeoutExpired):
                     process.wait(0.2)
-                progress.tell_again([plan.program])
+                progress.tell_again([plan.top])
         finally:
             if process.poll() is None:
                 with contextlib.suppress(OSError):
@@ -266,7 +274,7 @@ def prove_program(plan, progress):
         text = said.read().decode(errors="replace")
     os.remove(log)
     if process.returncode:
-        raise NotProved(f"{text}{plan.program} is not proved, or its run failed")
+        raise NotProved(f"{text}{plan.top} is not proved{', or its run failed' if is_program(plan.top) else ''}")
 
 
 def show_order(plan):
@@ -285,7 +293,7 @@ def show_order(plan):
         for name in [it for it in ends if ends[it] == now]:
             del ends[name]
             done.add(name)
-    print(f"{plan.program} ({len(plan.names)} of {len(plan.names)})")
+    print(f"{plan.top} ({len(plan.names)} of {len(plan.names)})")
 
 
 def main(words):
@@ -302,23 +310,23 @@ def main(words):
             print(__doc__, end="", file=sys.stderr)
             return 2
     lines = crate_lines()
-    program = names[0] if names else "boruvka"
-    if len(names) > 1 or program not in lines or not os.path.isfile(f"{ROOT}/crates/{program}/src/main.rt"):
-        print(f"tools/prove.py: crates.txt has no program {' '.join(names)}", file=sys.stderr)
+    top = names[0] if names else "boruvka"
+    if len(names) > 1 or top not in lines or not (is_program(top) or is_static_library(top, lines)):
+        print(f"tools/prove.py: crates.txt has no program or static library {' '.join(names)}", file=sys.stderr)
         return 2
-    plan = Plan(program, lines, most or lanes())
+    plan = Plan(top, lines, most or lanes())
     if is_dry:
         show_order(plan)
         return 0
     if not shutil.which(RT[0]):
-        print(f"To prove and build {program}, the Rattle toolchain's command `{RT[0]}` has to be on the PATH: see the README.", file=sys.stderr)
+        print(f"To prove and build {top}, the Rattle toolchain's command `{RT[0]}` has to be on the PATH: see the README.", file=sys.stderr)
         return 1
     signal.signal(signal.SIGTERM, lambda *_: sys.exit(143))
     print("proving and building; the first time this takes some minutes", file=sys.stderr, flush=True)
     progress = Progress(len(plan.names))
     try:
         prove_libraries(plan, progress)
-        prove_program(plan, progress)
+        prove_top(plan, progress)
     except NotProved as error:
         print(error, file=sys.stderr)
         return 1

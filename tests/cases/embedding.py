@@ -29,8 +29,9 @@ def compiler():
 
 def libraries():
     """Builds the libraries, where they aren't built, and answers their paths."""
-    words = ["make", "-s", "-C", ROOT, "-o", Program.path, f"PROGRAM={Program.path}", "lib"]
-    expect(run(words, env=ENVIRONMENT, seconds=60 * MINUTES), 0, b"", b"")
+    status, said, told = run(["make", "-s", "-C", ROOT, "lib"], env=ENVIRONMENT, seconds=60 * MINUTES)
+    # where they are built which crate is under way goes to standard error
+    expect((status, said, told if status else b""), 0, b"", b"")
     return f"{LIBRARIES}/libboruvka.a", f"{LIBRARIES}/libboruvka.so"
 
 

@@ -67,7 +67,7 @@ def the_gate_adds_what_both_of_its_parts_told(room):
     passed, program = ["0", "rt: all is proved", "12 passed, 0 failed"], ["0", "3 passed, 0 failed"]
     found = it.run(passed, program)
     expect(found, 0, "15 passed, 0 failed")
-    if found[1][0] != "rt: all is proved":
+    if found[1][:1] != ["rt: all is proved"]:
         raise AssertionError(f"it hides what rt ci prints: {found[1]}")
     expect(it.run(["1", "11 passed, 1 failed"], program), 1, "14 passed, 1 failed", "11 passed, 1 failed")
     expect(it.run(passed, ["1", "2 passed, 1 failed"]), 1, "14 passed, 1 failed")
