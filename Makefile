@@ -15,6 +15,9 @@ LIB := $(UNDER)/lib
 
 .PHONY: help run lib test wrong soak install uninstall bench clean
 
+# Each of them goes side by side by itself, as far as the machine holds.
+.NOTPARALLEL:
+
 help:
 	@echo 'make run        proves and builds the program, and runs it on examples/small.gr'
 	@echo 'make lib        proves and builds libboruvka.a and libboruvka.so, beside it; needs a C compiler and its ar'
