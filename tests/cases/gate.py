@@ -9,8 +9,8 @@ import sys
 
 from cases.running import SECONDS, TESTS, case
 
-# Each prints its lines and ends with its status. In the place of `rt`, what LOADS names runs first, a process for each
-# word: the prover's words, a folder `rt-edit-1-x` to work in where they begin with `edit`, and how long it works.
+# It prints its lines and ends with its status. In the place of `rt`, what LOADS names runs first, a process for each line:
+# the folder that it works in, its processor seconds, and its words.
 STAND_IN = r"""
 import os, subprocess, sys
 status, *lines = sys.argv[1:]

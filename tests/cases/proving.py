@@ -7,9 +7,9 @@ import sys
 
 from cases.running import ROOT, SECONDS, case
 
-# It notes each call in CALLS: its words and its crate. `lib` proves a crate where what stands below it was built beside it,
-# and BAD names none of both; it makes out/rlib. Where MEET names crates, those wait until all of them are under way. `run`
-# shows what it is given in out/ran.
+# It notes each call in CALLS: its words and its crate. A crate is proved where what stands below it was built beside it, and
+# BAD doesn't name it; then it has out/rlib. Where MEET names crates, each of those waits until all of them are under way.
+# `run` writes what it is given to out/ran.
 RT = r"""
 import os, re, sys, time
 crate, calls = os.path.basename(os.getcwd()), os.environ["CALLS"]
