@@ -3,7 +3,7 @@
 //! Each is run several times, the rounds over 1, 64 and 4,096 even shards. The number of the forest's links and that of
 //! the merging rounds go to standard output, the least times in microseconds to standard error.
 ghost use Rattle.std.specs.Prelude.{◌≤◌, length, IsTrue, All};
-ghost use Rattle.link_key.specs.Link.{EndsUpTo};
+ghost use Rattle.links.specs.Link.{EndsUpTo};
 ghost use Rattle.limits.specs.declared.TheConstants.{MAX_VERTICES};
 
 use crate::drawn::are_within;

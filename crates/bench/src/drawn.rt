@@ -1,7 +1,7 @@
 //! What is measured over: links and labels drawn by fixed rules, so that all runs have the same ones. Those of the scans
 //! are drawn by `benches/scan.cpp` too.
 ghost use Rattle.std.specs.Prelude.{◌<◌, ◌≤◌, ◌^◌, ◌↔◌, IsTrue};
-ghost use Rattle.link_key.specs.Link.{EndsUpTo};
+ghost use Rattle.links.specs.Link.{EndsUpTo};
 
 use link_key::Link;
 use std::alloc::{AllocError, Global};

@@ -7,7 +7,7 @@
 //! Scans of few links between few vertices are run by one thread and by threads, in turns, to see from how many links on
 //! threads are faster.
 ghost use Rattle.std.specs.Prelude.{◌<◌, ◌≤◌, length, IsTrue};
-ghost use Rattle.link_key.specs.Link.{EndsUpTo};
+ghost use Rattle.links.specs.Link.{EndsUpTo};
 
 use crate::drawn::{MANY, are_within, drawn_links, scattered_labels};
 use limits::MAX_SHARD_LINKS;

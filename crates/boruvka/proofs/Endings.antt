@@ -5,25 +5,26 @@ use Rattle.std.specs.Global.{Vec}
 use Rattle.std.proofs.Common.{◌≡◌, ◌≢◌, ◌≤◌, ℕ, ◌⊎◌, ◌∙◌, List, [], length, All, Option, None, Some, inl, inr, Ok, Err, refl, sym, subst, arith, codes}
 use Rattle.byte_streams.specs.Streams.{SourceState, SinkState, IsFlushed}
 use Rattle.byte_streams.proofs.Streaming.{gave_nothing, took_nothing}
-use Rattle.link_key.specs.declared.cuts.CutFault.TheVariants as cut
+use Rattle.links.specs.declared.cuts.CutFault.TheVariants as cut
 use Rattle.gr_text.specs.Graph.{GraphValue}
 use Rattle.gr_text.specs.declared.faults.ReadFault.TheVariants as read
-use Rattle.ports.specs.declared.line.Line as Line
+use Rattle.wires.specs.declared.line.Line as Line
 use Rattle.tcp_lines.specs.Lines.{TcpLineState, tcp_line, unused}
-use Rattle.forest_run.specs.Files.{HasFile, MeansGraph, MeansNothing, IsFirstFaultOf, IsNoRefusal}
-use Rattle.forest_run.specs.Outcomes.{streams, Streams, ForestFact, AnswerFact, Ran, IsUnread, IsSpanning, IsLeast}
-use Rattle.forest_run.specs.PlainRun.{RanPlain, IsPlainReport, IsPlainFault}
+use Rattle.plain_run.specs.Files.{HasFile, MeansGraph, MeansNothing, IsFirstFaultOf, IsNoRefusal}
+use Rattle.plain_run.specs.Outcomes.{streams, Streams, ForestFact, AnswerFact, Ran, IsUnread, IsSpanning, IsLeast}
+use Rattle.plain_run.specs.PlainRun.{RanPlain, IsPlainReport, IsPlainFault}
 use Rattle.forest_run.specs.WiredLines.{AreServed}
 use Rattle.forest_run.specs.LinesRun.{RanLines, RanServed, HasGraphToCut, IsUnhindered, EndsWell, RunsOverLines, IsLinesFault}
 use Rattle.forest_run.specs.declared.cutting.Cutting.TheVariants.{Even}
-use Rattle.forest_run.specs.declared.report.Report.{Report}
-use Rattle.forest_run.specs.declared.fault.RunFault.{RunFault}
-use Rattle.forest_run.specs.declared.fault.RunFault.TheVariants as fault
-use Rattle.boruvka.specs.Arguments.{given, number_of, is_set, file_named}
-use Rattle.boruvka.specs.Messages.{fault_line, unopened_line}
-use Rattle.boruvka.specs.declared.chosen.Options.{Options}
+use Rattle.plain_run.specs.declared.report.Report.{Report}
+use Rattle.plain_run.specs.declared.fault.RunFault.{RunFault}
+use Rattle.plain_run.specs.declared.fault.RunFault.TheVariants as fault
+use Rattle.program_words.specs.Arguments.{given, number_of, is_set, file_named}
+use Rattle.program_words.specs.Messages.{IsWritten, fault_line, unopened_line}
+use Rattle.program_words.specs.Statuses.{status_for}
+use Rattle.program_words.specs.declared.chosen.Options.{Options}
 use Rattle.boruvka.specs.Streams.{Standard, of_run}
-use Rattle.boruvka.specs.Status.{Asked, asked_of, asked_by, EndsAs, EndsOn, Obeys, EndsWith, EndsOver, EndsOverWorkers, HasNoGraph, IsDone, IsReported, IsWritten, LeavesOutput, IsUntouched, report_of, status_for, status_of_run, uncounted}
+use Rattle.boruvka.specs.Status.{Asked, asked_of, asked_by, EndsAs, EndsOn, Obeys, EndsWith, EndsOver, EndsOverWorkers, HasNoGraph, IsDone, IsReported, LeavesOutput, IsUntouched, report_of, status_of_run, uncounted}
 
 -- ---- how a run ends
 

@@ -1,4 +1,2 @@
-pub mod Messages
 pub mod Status
 pub mod Streams
-pub mod Arguments

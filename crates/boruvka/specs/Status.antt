@@ -2,26 +2,23 @@
 use Rattle.std.specs.Prelude.{◌≡◌, ◌≢◌, ◌≤◌, ℕ, ◌⊎◌, List, [], ◌∷◌, ◌++◌, length, All, Option, None, Some, Bool, true, false, Result, Ok, Err, codes, option_map}
 use Rattle.std.specs.Global.{Vec}
 use Rattle.std.specs.String.{string_bytes}
-use Rattle.byte_streams.specs.Streams.{SourceState, SinkState, only_left, Took, WentOut, HadNoSetback}
-use Rattle.gr_text.specs.declared.faults.ReadFault.TheVariants as read
+use Rattle.byte_streams.specs.Streams.{SourceState, SinkState, only_left, Took, HadNoSetback}
 use Rattle.clap.specs.Words.{IsAmong}
 use Rattle.clap.specs.declared.error.kind.ErrorKind.{ErrorKind}
-use Rattle.clap.specs.declared.error.kind.ErrorKind.TheVariants.{DisplayHelp}
-use Rattle.link_key.specs.declared.cuts.CutFault.TheVariants as cut
-use Rattle.ports.specs.declared.line.Line as Line
-use Rattle.forest_run.specs.Files.{HasFile, MeansGraph, MeansNothing, IsFirstFaultOf, IsNoRefusal}
-use Rattle.forest_run.specs.PlainRun.{RanPlain}
+use Rattle.clap.specs.declared.error.kind.ErrorKind.TheVariants.{DisplayHelp, DisplayVersion}
+use Rattle.wires.specs.declared.line.Line as Line
+use Rattle.plain_run.specs.Files.{HasFile, MeansGraph, MeansNothing, IsFirstFaultOf, IsNoRefusal}
+use Rattle.plain_run.specs.PlainRun.{RanPlain}
 use Rattle.forest_run.specs.LinesRun.{RanLines, RanServed, EndsWell}
-use Rattle.forest_run.specs.ReportText.{report_text}
 use Rattle.forest_run.specs.WiredLines.{AreServed}
 use Rattle.forest_run.specs.declared.cutting.Cutting.TheVariants.{Even}
-use Rattle.forest_run.specs.declared.report.Report.{Report}
-use Rattle.forest_run.specs.declared.fault.RunFault.{RunFault}
-use Rattle.forest_run.specs.declared.fault.RunFault.TheVariants as fault
+use Rattle.plain_run.specs.declared.report.Report.{Report}
+use Rattle.plain_run.specs.declared.fault.RunFault.{RunFault}
 use Rattle.tcp_lines.specs.Lines.{TcpLineState, tcp_line, unused}
-use Rattle.boruvka.specs.Arguments.{refusals, given, file_named, number_of, is_set, IsMistake}
-use Rattle.boruvka.specs.declared.chosen.Options.{Options}
-use Rattle.boruvka.specs.Messages.{fault_line, unopened_line}
+use Rattle.program_words.specs.Arguments.{refusals, given, file_named, number_of, is_set, IsMistake}
+use Rattle.program_words.specs.declared.chosen.Options.{Options}
+use Rattle.program_words.specs.Messages.{IsWritten, report_line, fault_line, unopened_line}
+use Rattle.program_words.specs.Statuses.{status_for}
 use Rattle.boruvka.specs.Streams.{Standard, of_run}
 
 -- ---- what was written
@@ -30,24 +27,7 @@ use Rattle.boruvka.specs.Streams.{Standard, of_run}
 abbrev pub IsUntouched : SinkState → SinkState → Type 0
 IsUntouched before after = Took 0 [] before after
 
--- all of a text was written, or a first part of it and then came a setback
-abbrev pub IsWritten : List ℕ → SinkState → SinkState → Type 0
-IsWritten text before after = Took 0 text before after ⊎ ((written : ℕ) × WentOut 0 written text before after)
-
 -- ---- the status
-
--- the status of a fault: 1 the file's, or that it can't be cut so, 3 a stream's, 4 want of memory, 5 the workers'
-abbrev pub status_for : RunFault → ℕ
-status_for (fault.Read (read.Gr f)) = 1
-status_for (fault.Read read.TooLong) = 1
-status_for (fault.Read (read.Source number)) = 3
-status_for (fault.Write written) = 3
-status_for (fault.Read read.Memory) = 4
-status_for (fault.Cut cut.Memory) = 4
-status_for (fault.Cut refusal) = 1
-status_for (fault.Rounds round) = 5
-status_for (fault.Missed link) = 5
-status_for fault.Memory = 4
 
 -- the status of a run: 0 where it ended well, and else its fault's
 abbrev pub status_of_run : {X : Type 0} → Result X RunFault → ℕ
@@ -60,10 +40,6 @@ abbrev pub LeavesOutput : ℕ → Type 0
 LeavesOutput status = (status ≡ 1) ⊎ (status ≡ 2) ⊎ (status ≡ 4) ⊎ (status ≡ 5)
 
 -- ---- the report
-
--- a report as a line
-abbrev pub report_line : Report → List ℕ
-report_line report = report_text report ++ 10 ∷ []
 
 -- what the errors got of a run that answered this: the line of its report where that is asked for, and else nothing; the line of its fault
 abbrev pub IsReported : Bool → Result Report RunFault → SinkState → SinkState → Type 0
@@ -184,6 +160,10 @@ ObeysWords words status before after = refusals words ≡ [] → Obeys (asked_by
 abbrev pub AskForHelp : List (List ℕ) → Type 0
 AskForHelp words = refusals words ≡ DisplayHelp ∷ []
 
+-- words that ask for the version alone
+abbrev pub AskForVersion : List (List ℕ) → Type 0
+AskForVersion words = refusals words ≡ DisplayVersion ∷ []
+
 -- words that are refused, and ask neither for the help nor for the version
 abbrev pub AreWrong : List (List ℕ) → Type 0
 AreWrong words = (refusals words ≢ []) × ((kind : ErrorKind) → IsAmong kind (refusals words) → IsMistake kind)
@@ -192,7 +172,7 @@ AreWrong words = (refusals words ≢ []) × ((kind : ErrorKind) → IsAmong kind
 abbrev pub RefusesWords : ℕ → Type 0
 RefusesWords status = (status ≡ 2) ⊎ (status ≡ 4)
 
--- what the help does to the output: it took the text, or a part of it and then had a setback, or memory was wanting
+-- what the help and the version do to the output: it took the text, or a part of it and then had a setback, or memory was wanting
 abbrev pub HelpEnds : ℕ → SinkState → SinkState → Type 0
 HelpEnds status before after = (text : List ℕ) × (((status ≡ 0) × Took 0 text before after)
     ⊎ (((status ≡ 3) × Took 1 text before after) ⊎ ((status ≡ 4) × IsUntouched before after)))

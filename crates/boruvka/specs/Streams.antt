@@ -2,7 +2,7 @@
 use Rattle.std.specs.Prelude.{◌≡◌, ⊤, ℕ, List, Option}
 use Rattle.std.specs.Borrow.{MutBor}
 use Rattle.byte_streams.specs.Streams.{SourceState, SinkState, IsFlushed}
-use Rattle.forest_run.specs.Outcomes.{Streams, streams}
+use Rattle.plain_run.specs.Outcomes.{Streams, streams}
 use Rattle.boruvka.specs.declared.standard.StandardStreams.{StandardStreams}
 
 -- the program's three streams, as each is known

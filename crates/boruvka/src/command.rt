@@ -4,25 +4,24 @@ ghost use Rattle.std.specs.IoError.{error_kind};
 ghost use Rattle.limits.specs.declared.TheConstants.{MAX_WORKERS};
 ghost use Rattle.byte_streams.specs.Streams.{IsFlushed};
 ghost use Rattle.clap.specs.Words.{kind_of};
-ghost use Rattle.ports.specs.Lines.{HasRoom};
+ghost use Rattle.wires.specs.Lines.{HasRoom};
 ghost use Rattle.forest_run.specs.LinesRun.{HasGraphToCut};
 ghost use Rattle.forest_run.specs.WiredLines.{AreServed};
 ghost use Rattle.forest_run.specs.declared.cutting.Cutting.TheVariants.{Even};
 ghost use Rattle.tcp_lines.specs.Lines.{tcp_line, unused};
-ghost use Rattle.boruvka.specs.Arguments.{IsMistake, file_named, is_set, refusals};
-ghost use Rattle.boruvka.specs.Messages.{message_line, no_text_line};
+ghost use Rattle.program_words.specs.Arguments.{IsMistake, file_named, is_set, refusals};
+ghost use Rattle.program_words.specs.Messages.{IsWritten, message_line, no_text_line};
 ghost use Rattle.boruvka.specs.Streams.{OnThree, OnStreams, OnInput, OnOutput, OutputIsFlushed, SameInput, SameErrors};
 ghost use Rattle.boruvka.specs.Status.{asked_of, status_of_run, report_of, IsReported, EndsOver, EndsAs, Obeys, ObeysWords};
-ghost use Rattle.boruvka.specs.Status.{HasNoGraph, IsDone, LeavesOutput, IsUntouched, IsWritten, AskForHelp, AreWrong, HelpEnds, RefusesWords, EndsRefused};
+ghost use Rattle.boruvka.specs.Status.{HasNoGraph, IsDone, LeavesOutput, IsUntouched, AskForHelp, AskForVersion, AreWrong, HelpEnds, RefusesWords, EndsRefused};
 
-use crate::arguments::options;
-use crate::chosen::{Options, OptionsFault};
-use crate::messages::{write_fault, write_no_text, write_report, write_text, write_unopened};
 use crate::standard::{StandardStreams, workers_beside};
-use crate::statuses::{DEVICE, NO_MEMORY, USAGE, status_of};
 use byte_streams::{Sink, Source, Uncounted, put};
 use forest_run::{Cutting, Report, RunFault, run_lines, run_plain};
-use ports::Line;
+use program_words::{
+    DEVICE, NO_MEMORY, Options, OptionsFault, USAGE, options, status_of, write_fault,
+    write_no_text, write_report, write_text, write_unopened,
+};
 use std::alloc::{Alloc, AllocError, Global};
 use std::convert::AsStr;
 use std::fs::{File, Files};
@@ -31,6 +30,7 @@ use std::net::{Net, TcpListener, TcpStream};
 use std::sync::Wait;
 use std::thread::Threads;
 use tcp_lines::{TcpLine, Workers};
+use wires::Line;
 
 // Writes the report of a run that ended well, where it is wanted, or why it ended ill.
 fn write_end<E: Sink>(wants_report: bool, ended: &Result<Report, RunFault>, errors: &mut E) -> u8
@@ -249,7 +249,7 @@ where
     )
 }
 
-// Prints the help to the output, or what is wrong with the words to errors.
+// Prints the help or the version to the output, or what is wrong with the words to errors.
 fn print_usage<O: Sink, E: Sink>(
     alloc: Global,
     error: &clap::Error,
@@ -262,7 +262,7 @@ fn print_usage<O: Sink, E: Sink>(
     ensures silent { LeavesOutput result → IsUntouched (O.state output.old) (O.state output.new) }
     ensures quiet { result ≡ 0 → errors.new ≡ errors.old }
 
-    // Wrong words write nothing to the output, and only the help does.
+    // Wrong words write nothing to the output, and only the help and the version do.
     ensures wrong { IsMistake (kind_of error.now) → RefusesWords result × (output.new ≡ output.old) }
     ensures help { ¬ IsMistake (kind_of error.now) → HelpEnds result (O.state output.old) (O.state output.new) }
     ensures refused { EndsRefused O.state result output.old output.new }
@@ -293,7 +293,7 @@ fn print_usage<O: Sink, E: Sink>(
 ///
 /// `words` has the program's name first. The words are judged first, by [`options`]; then they are
 /// obeyed, by [`obey`], or the user reads what is wrong with them. A text for the user goes to the errors, the
-/// help alone to the output. A failed write to the errors is ignored.
+/// help and the version alone to the output. A failed write to the errors is ignored.
 ///
 /// Status 0: done. 1: the file was refused, or can't be cut so. 2: the words were. 3: FILE can't be opened, a
 /// read failed, or a write did. 4: memory was refused. 5: what the workers answered makes no forest.
@@ -337,9 +337,11 @@ where
     ensures flushed { refusals (map S.text words.now) ≡ [] → result ≡ 0 → IsFlushed (O.unflushed output.new) }
     ensures quiet { is_set (map S.text words.now) (codes "report") ≡ false → result ≡ 0 → errors.new ≡ errors.old }
 
-    // The help goes to the output, and wrong words touch nothing. Words that are refused and ask for the help too end
-    // as one or the other.
+    // The help and the version go to the output, and wrong words touch nothing. Words that are refused and ask for the help
+    // too end as one or the other.
     ensures help { AskForHelp (map S.text words.now)
+        → (input.new ≡ input.old) × HelpEnds result (O.state output.old) (O.state output.new) }
+    ensures version { AskForVersion (map S.text words.now)
         → (input.new ≡ input.old) × HelpEnds result (O.state output.old) (O.state output.new) }
     ensures wrong { AreWrong (map S.text words.now)
         → RefusesWords result × (input.new ≡ input.old) × (output.new ≡ output.old) }

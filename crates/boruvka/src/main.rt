@@ -2,8 +2,8 @@
 //! worker threads at the far ends of loopback connections, or by one thread.
 //!
 //! ```text
-//! words --arguments::options--> Options --command::obey--> a run over FILE or standard input --> status
-//!                                               \--messages--> standard error
+//! words --program_words::options--> Options --command::obey--> a run over FILE or standard input --> status
+//!                                               \--program_words::write_..--> standard error
 //!   a run: tcp_lines::Workers::start, command::run_over, Workers::join; with --plain forest_run::run_plain
 //! ```
 //!
@@ -14,17 +14,12 @@
 //! - The forest is the minimum one by one thread, without workers, and where workers answer as the engine does, which no
 //!   contract sees of sockets; whatever they answer it spans ([`command::run_over`]).
 //!
-//! Where to start a change: a new option, `arguments` and `chosen`, with the table in `specs/Arguments`; a new fault,
-//! `statuses` and `messages`, with `specs/Status` and `specs/Messages`; what the program does, in order, `command`; how
-//! the standard streams are kept apart from sockets, `standard`.
+//! Where to start a change: what the program does, in order, `command` with `specs/Status`; how the standard streams are
+//! kept apart from sockets, `standard`. The words, the messages and the statuses stand in `program_words`.
 #![tactic(auto)]
 
-mod arguments;
-mod chosen;
 mod command;
-mod messages;
 mod standard;
-mod statuses;
 #[cfg(test)]
 mod tests;
 
@@ -32,7 +27,7 @@ use std::process::ExitCode;
 
 fn main(rt: HostRuntime) -> ExitCode {
     let mut errors = rt.stderr();
-    let status = match arguments::all_words(&rt) {
+    let status = match program_words::all_words(&rt) {
         Ok(words) => command::command(
             &rt,
             words.as_slice(),

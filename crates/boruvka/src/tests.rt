@@ -1,20 +1,17 @@
 ghost use Rattle.std.specs.Prelude.{◌≡◌, ◌≤◌, length, All, IfOk};
 ghost use Rattle.limits.specs.declared.TheConstants.{MAX_WORKERS};
-ghost use Rattle.ports.specs.EngineLines.{line_of};
-ghost use Rattle.ports.specs.Lines.{HasRoom};
-ghost use Rattle.ports.specs.Testing.{line_of_script};
+ghost use Rattle.wires.specs.Lines.{HasRoom};
+ghost use Rattle.wires.specs.Testing.{line_of_script};
 
-use crate::arguments::{all_words, options};
-use crate::chosen::OptionsFault;
 use crate::command::{command, run_over, without_words};
-use crate::messages::{write_fault, write_report, write_text};
 use crate::standard::{StandardStreams, workers_beside};
-use crate::statuses::status_of;
 use byte_streams::{FusedSink, FusedSource, Uncounted};
 use forest_run::{Report, RunFault};
 use gr_text::{GrFault, GrKind, ReadFault};
-use link_key::{CutFault, Link};
-use ports::{EngineLine, Line, ScriptLine};
+use links::{CutFault, Link};
+use program_words::{
+    OptionsFault, all_words, options, status_of, write_fault, write_report, write_text,
+};
 use std::alloc::{Alloc, AllocError, Global};
 use std::fmt::Debug;
 use std::fs::{self, File, Files};
@@ -23,6 +20,7 @@ use std::net::{Net, TcpListener, TcpStream};
 use std::process::Abort;
 use std::sync::Wait;
 use std::thread::Threads;
+use wires::{Line, ScriptLine};
 
 const SMALL_NET: &[u8; 108] =
     b"c a small net\np sp 6 8\na 1 2 17\nc the usual shape\na 1 3 10\na 2 4 2\na 3 5 0\na 4 3 0\na 4 6 3\na 5 2 0\na 5 6 20\n";
@@ -34,7 +32,7 @@ const HELP: &str = "Computes the minimum spanning forest of a graph in the .gr f
 Usage: boruvka [OPTIONS] [FILE]
 
 Arguments:
-  [FILE]  The graph; without it, standard input
+  [FILE]  The graph; without it, or as -, standard input
 
 Options:
       --workers <N>  How many workers scan the shards: 0 to 64 [default: 2]
@@ -42,6 +40,7 @@ Options:
       --plain        Solve in one thread, without workers
       --report       Print what the run did to standard error
   -h, --help         Print help
+  -V, --version      Print version
 
 Exit status:
   0  Done
@@ -461,13 +460,30 @@ fn prints_the_control_bytes_of_a_name_as_they_are(rt: HostRuntime) {
     );
 }
 
-// An empty word and a minus are names of files like others.
+// An empty word is the name of a file like others. A minus alone stands for the input.
 #[test]
-fn opens_whatever_name_it_is_given(rt: HostRuntime) {
+fn opens_the_name_that_it_is_given(rt: HostRuntime) {
     let empty = b"boruvka: cannot open \n";
     expect(&rt, &["boruvka", "--plain", ""], SMALL_NET, 3, b"", empty);
-    let minus = b"boruvka: cannot open -\n";
-    expect(&rt, &["boruvka", "--plain", "-"], SMALL_NET, 3, b"", minus);
+    let named = b"boruvka: cannot open ./-\n";
+    expect(
+        &rt,
+        &["boruvka", "--plain", "./-"],
+        SMALL_NET,
+        3,
+        b"",
+        named,
+    );
+    let minus = ["boruvka", "--plain", "-"];
+    expect(&rt, &minus, SMALL_NET, 0, SMALL_FOREST, b"");
+}
+
+#[test]
+fn prints_the_version(rt: HostRuntime) {
+    let version = b"boruvka 1.0.0\n";
+    for word in ["--version", "-V"] {
+        expect(&rt, &["boruvka", word], SMALL_NET, 0, version, b"");
+    }
 }
 
 #[test]
@@ -591,10 +607,11 @@ fn refuses_words_that_are_wrong_before_they_ask_for_the_help(rt: HostRuntime) {
     expect_refused(&rt, &["boruvka", "--wrong", "--help"]);
 }
 
-// A run over these lines, with its report, answers this status, and writes just these texts, to the output and the errors.
+// A run over these lines, of the net in one shard and with its report, answers this status, and writes just these texts, to
+// the output and the errors.
 fn expect_over<L: Line + Send + Drop>(
     rt: &(impl Abort + Alloc<A = Global> + Threads + Wait + Sync),
-    shards: u32,
+    net: &[u8],
     lines: Vec<L>,
     status: u8,
     texts: (&[u8], &[u8]),
@@ -602,12 +619,12 @@ fn expect_over<L: Line + Send + Drop>(
     requires few { length lines.items ≤ MAX_WORKERS }
     requires room { All (λ line. HasRoom (L.state line)) lines.items }
 {
-    let mut source = SMALL_NET.as_slice();
+    let mut source = net;
     let mut out = Vec::new(rt.alloc());
     let mut err = Vec::new(rt.alloc());
     let ended = run_over(
         rt,
-        shards,
+        1,
         true,
         lines,
         StandardStreams {
@@ -621,40 +638,48 @@ fn expect_over<L: Line + Send + Drop>(
     expect_same(rt, err.as_slice(), texts.1);
 }
 
-// Lines to two workers in memory.
-fn two_engines(alloc: Global) -> Result<Vec<EngineLine<Global>>, AllocError>
-    ensures two { IfOk result (λ lines. length lines.items ≡ 2) }
-    ensures room { IfOk result (λ lines. All (λ line. HasRoom (line_of line)) lines.items) }
-{
-    let mut lines = Vec::new(alloc);
-    lines.push(EngineLine::new(alloc, 0)?)?;
-    lines.push(EngineLine::new(alloc, 1)?)?;
-    Ok(lines)
-}
-
-// A line over which come the hello of worker 0, and then an answer to the first ask that offers no link.
-fn a_lie(alloc: Global) -> Result<Vec<ScriptLine>, AllocError>
+// A line over which these bytes come.
+fn scripted(alloc: Global, script: &[u8]) -> Result<Vec<ScriptLine>, AllocError>
     ensures one { IfOk result (λ lines. length lines.items ≡ 1) }
     ensures room { IfOk result (λ lines. All (λ line. HasRoom (line_of_script line)) lines.items) }
 {
-    let script = [
-        1, 0, 0, 0, 6, 0, 1, 0, 0, 0, 0, 4, 0, 0, 0, 12, 0, 0, 0, 1, 0, 0, 0, 0, 0, 0, 0, 0,
-    ];
     let mut lines = Vec::new(alloc);
-    lines.push(ScriptLine::new(Vec::from_slice(alloc, &script)?))?;
+    lines.push(ScriptLine::new(Vec::from_slice(alloc, script)?))?;
     Ok(lines)
 }
 
-// Over lines whose bytes are known the forest is the least, and a lie of a worker is answered as such.
+const HELLO: [u8; 11] = [1, 0, 0, 0, 6, 0, 1, 0, 0, 0, 0];
+
+// The least links of a triangle of three equal weights, for its vertices 1, 2 and 3.
+const LEAST_OF_THREE: [u8; 41] = [
+    4, 0, 0, 0, 36, 0, 0, 0, 1, 0, 0, 0, 0, 0, 0, 0, 3, 0, 0, 0, 1, 0, 0, 0, 0, 0, 0, 0, 2, 0, 0,
+    0, 0, 0, 0, 0, 3, 0, 0, 0, 2,
+];
+
+// Answers of the first and the second round that offer no link.
+const NONE_AT_FIRST: [u8; 17] = [4, 0, 0, 0, 12, 0, 0, 0, 1, 0, 0, 0, 0, 0, 0, 0, 0];
+
+const NONE_LATER: [u8; 17] = [4, 0, 0, 0, 12, 0, 0, 0, 2, 0, 0, 0, 0, 0, 0, 0, 0];
+
+// A worker that answers as it should is believed, and a lie of a worker is answered as such.
 #[test]
 fn runs_over_lines_in_memory(rt: HostRuntime) {
+    let triangle = b"p sp 3 3\na 1 2 5\na 2 3 5\na 1 3 5\n".as_slice();
     let report =
-        b"vertices=6 links=8 rounds=2 shards=2 asked=6 answered=6 alone=0 closed=0 total=13\n".as_slice();
-    let lines = two_engines(rt.alloc()).expect(&rt, "memory");
-    expect_over(&rt, 2, lines, 0, (SMALL_FOREST, report));
+        b"vertices=3 links=3 rounds=1 shards=1 asked=2 answered=2 alone=0 closed=0 total=10\n".as_slice();
+    let mut script = Vec::from_slice(rt.alloc(), &HELLO).expect(&rt, "memory");
+    script
+        .extend_from_slice(&LEAST_OF_THREE)
+        .expect(&rt, "memory");
+    script.extend_from_slice(&NONE_LATER).expect(&rt, "memory");
+    let lines = scripted(rt.alloc(), script.as_slice()).expect(&rt, "memory");
+    let forest = b"p sp 3 2\na 1 2 5\na 1 3 5\n".as_slice();
+    expect_over(&rt, triangle, lines, 0, (forest, report));
     let missed = b"boruvka: link 1 2 17 was missed\n".as_slice();
-    let lines = a_lie(rt.alloc()).expect(&rt, "memory");
-    expect_over(&rt, 1, lines, 5, (b"", missed));
+    let mut lie = Vec::from_slice(rt.alloc(), &HELLO).expect(&rt, "memory");
+    lie.extend_from_slice(&NONE_AT_FIRST).expect(&rt, "memory");
+    let lines = scripted(rt.alloc(), lie.as_slice()).expect(&rt, "memory");
+    expect_over(&rt, SMALL_NET, lines, 5, (b"", missed));
 }
 
 // A line of the longest report, and one that is broken off.

@@ -1,9 +1,9 @@
 -- The fault that C gets of a run over bytes in memory.
 use Rattle.std.proofs.Common.{ℕ, List, inl, inr, refl, Err}
 use Rattle.gr_text.specs.declared.faults.ReadFault.TheVariants as read
-use Rattle.forest_run.specs.Files.{IsFirstFaultOf}
-use Rattle.forest_run.specs.declared.fault.RunFault.{RunFault}
-use Rattle.forest_run.specs.declared.fault.RunFault.TheVariants as run
+use Rattle.plain_run.specs.Files.{IsFirstFaultOf}
+use Rattle.plain_run.specs.declared.fault.RunFault.{RunFault}
+use Rattle.plain_run.specs.declared.fault.RunFault.TheVariants as run
 use Rattle.boruvka_c.specs.Texts.{fault_of, GivesFirstFault}
 
 -- the first fault of a text, or want of memory

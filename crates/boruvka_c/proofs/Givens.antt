@@ -3,8 +3,8 @@ use Rattle.std.proofs.Common.{◌≡◌, ◌≢◌, ℕ, ◌+◌, ◌<◌, ◌�
 use Rattle.std.proofs.lemmas.List.{map-append, length-map, length-take-le}
 use Rattle.std.proofs.Math.Seq.{take-suc, drop-cons, set-append_seam}
 use Rattle.std.proofs.lemmas.Bool.Decides.{nat_tests}
-use Rattle.link_key.specs.Link.{key_of, arc_key, AreLinksOf}
-use Rattle.link_key.specs.declared.links.Link.{Link}
+use Rattle.links.specs.Link.{key_of, arc_key, AreLinksOf}
+use Rattle.links.specs.declared.links.Link.{Link}
 use Rattle.gr_text.proofs.Steps.{AreLinksOf-loop, AreLinksOf-link}
 use Rattle.boruvka_c.specs.declared.given.GivenLink.{GivenLink}
 use Rattle.boruvka_c.specs.Links.{arc_of, arcs_of, given_of}

@@ -1,11 +1,11 @@
 -- Links in the caller's memory, and what becomes of them.
 use Rattle.std.specs.Prelude.{◌≡◌, ℕ, ℤ, pos, ◌<◌, ◌≤◌, List, ◌++◌, map, drop, length, All}
 use Rattle.limits.specs.declared.TheConstants.{MAX_ARCS, MAX_VERTICES}
-use Rattle.link_key.specs.Arc.{Arc}
-use Rattle.link_key.specs.Link.{AreLinksOf}
-use Rattle.link_key.specs.Forest.{IsForestOf}
-use Rattle.link_key.specs.Least.{sum_of_weights, IsLightest}
-use Rattle.link_key.specs.declared.links.Link.{Link}
+use Rattle.links.specs.Arc.{Arc}
+use Rattle.links.specs.Link.{AreLinksOf}
+use Rattle.links.specs.Forest.{IsForestOf}
+use Rattle.links.specs.Least.{sum_of_weights, IsLightest}
+use Rattle.links.specs.declared.links.Link.{Link}
 use Rattle.gr_text.specs.Graph.{HasEnds}
 use Rattle.boruvka_c.specs.declared.given.GivenLink.{GivenLink}
 use Rattle.boruvka_c.specs.declared.refusals.Refusal.{Refusal}

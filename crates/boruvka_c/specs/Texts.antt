@@ -3,9 +3,9 @@ use Rattle.std.specs.Prelude.{◌≡◌, ◌≢◌, ℕ, ℤ, pos, ◌≤ℤ◌,
 use Rattle.gr_text.specs.Fault.{IsFirstFault}
 use Rattle.gr_text.specs.declared.faults.GrKind.{GrKind}
 use Rattle.gr_text.specs.declared.faults.ReadFault.TheVariants as read
-use Rattle.forest_run.specs.Files.{IsForestTextOf, IsFaultInMemory}
-use Rattle.forest_run.specs.declared.fault.RunFault.{RunFault}
-use Rattle.forest_run.specs.declared.fault.RunFault.TheVariants as run
+use Rattle.plain_run.specs.Files.{IsForestTextOf, IsFaultInMemory}
+use Rattle.plain_run.specs.declared.fault.RunFault.{RunFault}
+use Rattle.plain_run.specs.declared.fault.RunFault.TheVariants as run
 use Rattle.boruvka_c.specs.declared.faults.Fault.{Fault}
 use Rattle.boruvka_c.specs.declared.refusals.Refusal.{Refusal}
 use Rattle.boruvka_c.specs.declared.refusals.Refusal.TheVariants.{NoMemory, TooLong, Line}

@@ -4,8 +4,8 @@ ghost use Rattle.boruvka_c.specs.Texts.{fault_of, IsTextOfCode, GivesTextOf};
 
 use crate::refusals::Refusal;
 use crate::room::fill;
-use forest_run::RunFault;
 use gr_text::ReadFault;
+use plain_run::RunFault;
 
 /// Why a text gives no forest, `struct boruvka_fault`: the code of the refusal, and the line of a text that is faulty,
 /// from 1; else 0. Both are 0 where there is a forest.

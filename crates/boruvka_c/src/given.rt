@@ -1,12 +1,12 @@
 //! Links as C gives them.
 ghost use Rattle.std.specs.Prelude.{◌≡◌, ◌↔◌, ◌≤◌, ◌++◌, map, drop, length, IfOk, IfSome, IsNone, IsTrue};
 ghost use Rattle.limits.specs.declared.TheConstants.{MAX_VERTICES};
-ghost use Rattle.link_key.specs.Link.{AreLinksOf, EndsUpTo, arc_key, key_of};
+ghost use Rattle.links.specs.Link.{AreLinksOf, EndsUpTo, arc_key, key_of};
 ghost use Rattle.gr_text.specs.Graph.{HasEnds};
 ghost use Rattle.boruvka_c.specs.Links.{arc_of, arcs_of, given_of, HaveEnds};
 
 use limits::MAX_VERTICES;
-use link_key::Link;
+use links::Link;
 use std::alloc::{AllocError, Global};
 
 /// A link as C gives it and gets it back, `struct boruvka_link`. What is given may have its ends in either order, be a

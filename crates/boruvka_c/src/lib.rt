@@ -1,14 +1,14 @@
 //! The forest for programs in C, and in whatever calls C: a static library of four calls over [`link_key::forest_of`]
-//! and [`forest_run::plain_text`], in the caller's memory. `include/boruvka.h` is its header.
+//! and [`plain_run::plain_text`], in the caller's memory. `include/boruvka.h` is its header.
 //!
 //! ```text
 //!   links  --given-->  Vec<Link>  --forest_of-->  Forest  --given-->  the first of the links     boruvka_forest
-//!   text   --forest_run::plain_text-->  the forest's text  --room-->  the caller's room         boruvka_forest_text
+//!   text   --plain_run::plain_text-->  the forest's text  --room-->  the caller's room         boruvka_forest_text
 //!   a code --refusals-->  its text  --room-->  the caller's room                                boruvka_fault_text
 //! ```
 //!
 //! What it promises:
-//! - A call answers exactly the forest, as its definition in `link_key` and `forest_run` says, or a refusal with its
+//! - A call answers exactly the forest, as its definition in `link_key` and `plain_run` says, or a refusal with its
 //!   cause; where it refuses, the caller's links and room stay as they were.
 //! - Nothing is written past what a caller gave.
 //!

@@ -1,13 +1,13 @@
 //! The text of the forest of a text in the caller's memory.
 ghost use Rattle.std.specs.Prelude.{◌≡◌, ◌≤◌, ◌≤ℤ◌, pos, length};
 ghost use Rattle.std.specs.Int.Signed.{◌<ℤ◌};
-ghost use Rattle.forest_run.specs.Files.{MeansGraph, MeansNothing};
+ghost use Rattle.plain_run.specs.Files.{MeansGraph, MeansNothing};
 ghost use Rattle.boruvka_c.specs.Texts.{WritesForestText, RefusesText, GivesFirstFault, WantsMemoryAtMost, no_fault};
 
 use crate::faults::Fault;
 use crate::room::fill;
-use forest_run::plain_text;
 use limits::MAX_BYTES;
+use plain_run::plain_text;
 use std::alloc::Global;
 
 /// Puts the text of the minimum spanning forest of a `.gr` text into the caller's room, as far as it has room, and

@@ -1,62 +1,40 @@
 -- What a run over lines did, by what its steps say.
-use Rattle.std.proofs.Common.{◌≡◌, ℕ, zero, suc, ◌+◌, ◌<◌, ◌≤◌, ◌^◌, ◌⊎◌, inl, inr, true, List, [], ◌∷◌, length, get_or, take, map, None, Ok, Err, refl, sym, ap, subst, ◌∙◌, arith}
-use Rattle.std.specs.Prelude.{All, Contains, Vec, max, filter}
-use Rattle.std.proofs.lemmas.List.{length-append, length-map, get_or_append_left, get_or-append-add}
-use Rattle.std.proofs.lemmas.List.Elements.{All-head, All-tail, All-contains}
-use Rattle.std.proofs.lemmas.List.Sorted.{IsPermutation-remove, length_permutation, Contains-permutation}
+use Rattle.std.proofs.Common.{◌≡◌, ℕ, zero, suc, ◌+◌, ◌<◌, ◌≤◌, ◌^◌, ◌⊎◌, inl, inr, true, List, [], ◌∷◌, length, get_or, take, None, Ok, Err, refl, sym, ap, subst, ◌∙◌, arith}
+use Rattle.std.specs.Prelude.{All, Contains, Vec, max}
+use Rattle.std.proofs.lemmas.List.{length-append, get_or_append_left, get_or-append-add}
+use Rattle.std.proofs.lemmas.List.Elements.{All-contains}
 use Rattle.std.proofs.lemmas.List.Sums.{sum_by-cons}
-use Rattle.std.specs.List.{remove}
 use Rattle.limits.specs.declared.TheConstants.{MAX_ARCS, MAX_BYTES}
 use Rattle.byte_streams.specs.Streams.{SourceState, SinkState, HadNoSetback}
 use Rattle.byte_streams.proofs.Streaming.{took_unhindered}
 use Rattle.gr_text.specs.Written.{PrefixWentOut}
-use Rattle.link_key.specs.Arc.{Arc}
-use Rattle.link_key.specs.declared.links.Link.{Link}
-use Rattle.link_key.specs.declared.cuts.CutFault.{CutFault}
-use Rattle.link_key.specs.declared.cuts.CutFault.TheVariants as cut
-use Rattle.link_key.specs.Cut.{joined, IsCutFault}
-use Rattle.link_key.specs.Link.{IsBelow, IsAscending, EndsUpTo, key_of, arc_key, is_no_loop}
-use Rattle.link_key.specs.Forest.{IsForestOf}
-use Rattle.link_key.specs.Least.{IsSpanningForestOf, IsLightest}
-use Rattle.link_key.proofs.Keys.{below_irrefl}
+use Rattle.links.specs.declared.links.Link.{Link}
+use Rattle.links.specs.declared.cuts.CutFault.{CutFault}
+use Rattle.links.specs.declared.cuts.CutFault.TheVariants as cut
+use Rattle.links.specs.Cut.{joined, IsCutFault}
+use Rattle.links.specs.Link.{IsAscending, EndsUpTo}
+use Rattle.links.specs.Forest.{IsForestOf}
+use Rattle.links.specs.Least.{IsSpanningForestOf, IsLightest}
 use Rattle.gr_text.specs.ForestText.{forest_text}
-use Rattle.gr_text.specs.Graph.{GraphValue, IsGraphOf}
+use Rattle.gr_text.specs.Graph.{GraphValue}
 use Rattle.round_theory.specs.Rounds.{IsMergingRounds}
 use Rattle.gr_text.specs.Sourced.{IsReadOf}
-use Rattle.gr_text.proofs.Texts.{means_one_graph}
 use Rattle.round_core.specs.declared.solver.SolveFault.{SolveFault}
 use Rattle.round_core.specs.declared.solver.SolveFault.TheVariants as solving
-use Rattle.ports.specs.declared.line.Line as Line
-use Rattle.ports.specs.Wires.{WireState, port_of}
+use Rattle.wires.specs.declared.line.Line as Line
+use Rattle.wires.specs.Wires.{WireState, port_of}
 use Rattle.forest_run.specs.declared.cutting.Cutting.{Cutting}
-use Rattle.forest_run.specs.declared.fault.RunFault.TheVariants as fault
-use Rattle.forest_run.specs.declared.report.Report.{Report}
-use Rattle.forest_run.specs.Lanes.{LaneState, count_if, open_count}
+use Rattle.plain_run.specs.declared.fault.RunFault.TheVariants as fault
+use Rattle.plain_run.specs.declared.report.Report.{Report}
+use Rattle.port_rounds.specs.Lanes.{LaneState, count_if, open_count}
 use Rattle.forest_run.specs.Cuttings.{cut_refusal, IsCutOf}
-use Rattle.forest_run.specs.Outcomes.{streams, IsUnsolved, IsSpanning, IsLeast}
+use Rattle.plain_run.specs.Outcomes.{streams, IsUnsolved, IsSpanning, IsLeast}
 use Rattle.forest_run.specs.WiredLines.{AreServed, FindsOverLines, RefusesOverLines}
 use Rattle.forest_run.specs.LinesRun.{IsLinesReport, RunsOverLines, IsLinesFault, run_fault, RanLines, IsHonestReport, IsServedReport, IsServedFault, RanServed}
-use Rattle.forest_run.proofs.PlainRunning.{unsolved, broken_off}
+use Rattle.plain_run.proofs.Lengths.{no_longer}
+use Rattle.plain_run.proofs.PlainRunning.{unsolved, broken_off}
 use Rattle.forest_run.proofs.NewWires.{served_honest}
 use Rattle.forest_run.proofs.Transcripts.{have_transcripts}
-
--- ---- a list that ascends
-
--- what ascends and is in a list is no longer than it: of each link one place is taken
-pub no_longer : (xs ys : List Link) → IsAscending xs → All (Contains ys) xs → length xs ≤ length ys
-no_longer [] ys up all = omega arith
-no_longer (x ∷ xs) ys up all =
-    let (k, within, at) = All-head (Contains ys) x xs all in
-    let moved = IsPermutation-remove ys k x within (sym at) in
-    let others : All (Contains (remove ys k)) xs = (λ i d b.
-    other (remove ys k) x (get_or xs i d) (λ e. below_irrefl x (subst (IsBelow x) (sym e) (up 0 (suc i) d (omega arith) (omega arith))))
-    (Contains-permutation ys (x ∷ remove ys k) (get_or xs i d) moved (All-tail (Contains ys) x xs all i d b))) in
-    let rest = no_longer xs (remove ys k) (λ i j d l b. up (suc i) (suc j) d (omega arith) (omega arith)) others in
-    omega (arith, rest, length_permutation ys (x ∷ remove ys k) moved)
-  where
-    other : (zs : List Link) (x y : Link) → ¬ (x ≡ y) → Contains (x ∷ zs) y → Contains zs y
-    other zs x y apart (zero, b, e) = absurd (apart e)
-    other zs x y apart (suc k, b, e) = (k, omega arith, e)
 
 -- ---- cuts
 
@@ -66,13 +44,6 @@ shards_ends n [] ends i d b = absurd (omega arith)
 shards_ends n (s ∷ shards) ends zero d b = λ i e within. subst (λ l. l.high ≤ n) (get_or_append_left s (joined shards) e i within) (ends i e (omega (arith, length-append s (joined shards))))
 shards_ends n (s ∷ shards) ends (suc k) d b =
     shards_ends n shards (λ i e within. subst (λ l. l.high ≤ n) (get_or-append-add s (joined shards) i e) (ends (length s + i) e (omega (arith, length-append s (joined shards))))) k d (omega arith)
-
--- two graphs of one text have as many links
-pub same_length : (bytes : List ℕ) (graph other : GraphValue) → IsGraphOf bytes graph → IsGraphOf bytes other → length graph.links ≡ length other.links
-same_length bytes graph other (arcs, means, links) (arcs', means', links') =
-    let same = means_one_graph bytes graph.vertices other.vertices arcs arcs' means means' in
-    let keys : map key_of graph.links ≡ map key_of other.links = links ∙ (ap (λ (xs : List Arc). map arc_key (filter is_no_loop xs)) same.1 ∙ sym links') in
-    sym (length-map graph.links key_of) ∙ (ap (λ ks. length ks) keys ∙ length-map other.links key_of)
 
 -- a graph has so few links that the text of its forest is counted whole
 pub few_enough : (n m : ℕ) → n ≤ m → m ≤ MAX_ARCS → n ≤ 2 ^ 55

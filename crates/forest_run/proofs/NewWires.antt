@@ -4,22 +4,22 @@ use Rattle.std.specs.Prelude.{All, reverse}
 use Rattle.std.proofs.lemmas.Bool.{cases_lt}
 use Rattle.std.proofs.lemmas.List.{length-append, length-map, length-reverse, map-append, reverse-append, reverse-reverse, get_or_append_left, get_or-append-add, get_or_push, take_at}
 use Rattle.std.proofs.lemmas.List.Elements.{All-push, All-nil}
-use Rattle.link_key.specs.declared.links.Link.{Link}
-use Rattle.frames.specs.AnswerValue.{AnswerValue}
-use Rattle.ports.specs.declared.line.Line as Line
-use Rattle.ports.specs.Lines.{LineState, HasRoom, IsFresh, HasKnownBytes}
-use Rattle.ports.specs.Wires.{WireState, IsNewWire, IsFaultless, port_of, wire_port, IsHonestWire, IsSoundWire}
-use Rattle.ports.proofs.Wiring.{fresh_faultless}
-use Rattle.forest_run.specs.Lanes.{LaneState, IsIdle}
-use Rattle.forest_run.specs.Asks.{answered}
-use Rattle.forest_run.specs.Runs.{PortsAnswer}
+use Rattle.links.specs.declared.links.Link.{Link}
+use Rattle.links.specs.AnswerValue.{AnswerValue}
+use Rattle.wires.specs.declared.line.Line as Line
+use Rattle.wires.specs.Lines.{LineState, HasRoom, IsFresh, HasKnownBytes}
+use Rattle.wires.specs.Wires.{WireState, IsNewWire, IsFaultless, port_of, wire_port, IsHonestWire, IsSoundWire}
+use Rattle.wires.proofs.Wiring.{fresh_faultless}
+use Rattle.port_rounds.specs.Lanes.{LaneState, IsIdle}
+use Rattle.port_rounds.specs.Asks.{answered}
+use Rattle.port_rounds.specs.Runs.{PortsAnswer}
 use Rattle.forest_run.specs.WiredLines.{AreServed, AreNewLanes, lines_of, AreLeftWires, FindsOverLines, RefusesOverLines}
-use Rattle.forest_run.specs.Solved.{AreHonest, FindsForest, IsSolveFault}
-use Rattle.forest_run.specs.declared.report.Report.{Report}
+use Rattle.port_rounds.specs.Solved.{AreHonest, FindsForest, IsSolveFault}
+use Rattle.plain_run.specs.declared.report.Report.{Report}
 use Rattle.round_core.specs.BookValue.{BookValue}
 use Rattle.round_core.specs.declared.solver.SolveFault.{SolveFault}
 use Rattle.round_core.specs.declared.solver.SolveFault.TheVariants.{Memory}
-use Rattle.forest_run.proofs.Solving.{all_front}
+use Rattle.port_rounds.proofs.Solving.{all_front}
 
 -- the last of a list is the first of its reverse
 pub reverse_last : {X : Type 0} (xs ys : List X) (x : X) → ys ≡ xs ++ x ∷ [] → reverse ys ≡ x ∷ reverse xs

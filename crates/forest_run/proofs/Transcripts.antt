@@ -4,23 +4,23 @@ use Rattle.std.specs.Prelude.{Contains, Option, sum_by}
 use Rattle.std.proofs.lemmas.List.{append-nil, length-map, get_or-map}
 use Rattle.std.proofs.lemmas.List.Elements.{Contains-get_or}
 use Rattle.std.proofs.lemmas.List.Sums.{sum_by-cons}
-use Rattle.link_key.specs.declared.links.Link.{Link}
-use Rattle.frames.specs.AnswerValue.{AnswerValue}
-use Rattle.worker_engine.specs.Serving.{asks_in}
-use Rattle.ports.specs.declared.line.Line as Line
-use Rattle.ports.specs.Exchanges.{Exchange, answers_of}
-use Rattle.ports.specs.Clients.{seen_client}
-use Rattle.ports.specs.Wires.{WireState, port_of, IsSoundWire}
-use Rattle.ports.specs.declared.fault.PortFault.{PortFault}
-use Rattle.ports.specs.declared.fault.PortFault.TheVariants.{Closed}
-use Rattle.ports.proofs.Asking.{asks_made}
-use Rattle.ports.proofs.Wiring.{faultless_open}
-use Rattle.forest_run.specs.declared.report.Report.{Report}
-use Rattle.forest_run.specs.Lanes.{LaneState, count_if, ask_count, open_count}
+use Rattle.links.specs.declared.links.Link.{Link}
+use Rattle.links.specs.AnswerValue.{AnswerValue}
+use Rattle.worker_replies.specs.Serving.{asks_in}
+use Rattle.wires.specs.declared.line.Line as Line
+use Rattle.port_trait.specs.Exchanges.{Exchange, answers_of}
+use Rattle.wires.specs.Clients.{seen_client}
+use Rattle.wires.specs.Wires.{WireState, port_of, IsSoundWire}
+use Rattle.port_trait.specs.declared.fault.PortFault.{PortFault}
+use Rattle.port_trait.specs.declared.fault.PortFault.TheVariants.{Closed}
+use Rattle.wires.proofs.Asking.{asks_made}
+use Rattle.wires.proofs.Wiring.{faultless_open}
+use Rattle.plain_run.specs.declared.report.Report.{Report}
+use Rattle.port_rounds.specs.Lanes.{LaneState, count_if, ask_count, open_count}
 use Rattle.forest_run.specs.WiredLines.{AreFresh, FindsOverLines, Transcript, HasTranscript, HaveTranscripts}
 use Rattle.round_theory.specs.Offers.{Names}
 use Rattle.round_core.specs.BookValue.{hearing_of}
-use Rattle.forest_run.specs.Asks.{answered}
+use Rattle.port_rounds.specs.Asks.{answered}
 use Rattle.forest_run.proofs.NewWires.{new_sound}
 
 -- ---- lists

@@ -1,8 +1,8 @@
 -- How the links of a run are cut.
 use Rattle.std.specs.Prelude.{◌≡◌, ℕ, List, length, Option, None}
-use Rattle.link_key.specs.declared.links.Link.{Link}
-use Rattle.link_key.specs.declared.cuts.CutFault.{CutFault}
-use Rattle.link_key.specs.Cut.{joined, shards_at, IsEvenCut, even_refusal, places_refusal}
+use Rattle.links.specs.declared.links.Link.{Link}
+use Rattle.links.specs.declared.cuts.CutFault.{CutFault}
+use Rattle.links.specs.Cut.{joined, shards_at, IsEvenCut, even_refusal, places_refusal}
 use Rattle.forest_run.specs.declared.cutting.Cutting.{Cutting}
 use Rattle.forest_run.specs.declared.cutting.Cutting.TheVariants.{Even, At}
 

@@ -1,23 +1,23 @@
 -- A run over lines to workers.
 use Rattle.std.specs.Prelude.{◌≡◌, ℕ, ◌+◌, ◌*◌, ◌^◌, ◌<◌, ◌≤◌, ⊤, max, List, length, None, Vec, Result, Ok, Err}
 use Rattle.byte_streams.specs.Streams.{SourceState, SinkState, HadNoSetback}
-use Rattle.link_key.specs.declared.links.Link.{Link}
-use Rattle.link_key.specs.declared.cuts.CutFault.TheVariants as cut
-use Rattle.link_key.specs.Cut.{IsCutFault}
-use Rattle.link_key.specs.Least.{sum_of_weights, IsLightest}
+use Rattle.links.specs.declared.links.Link.{Link}
+use Rattle.links.specs.declared.cuts.CutFault.TheVariants as cut
+use Rattle.links.specs.Cut.{IsCutFault}
+use Rattle.links.specs.Least.{sum_of_weights, IsLightest}
 use Rattle.gr_text.specs.Graph.{GraphValue}
 use Rattle.gr_text.specs.declared.faults.ReadFault.TheVariants as read
 use Rattle.round_theory.specs.Rounds.{IsMergingRounds}
 use Rattle.round_core.specs.declared.solver.SolveFault.{SolveFault}
 use Rattle.round_core.specs.declared.solver.SolveFault.TheVariants as solving
-use Rattle.ports.specs.declared.line.Line as Line
-use Rattle.forest_run.specs.declared.report.Report.{Report}
-use Rattle.forest_run.specs.declared.fault.RunFault.{RunFault}
-use Rattle.forest_run.specs.declared.fault.RunFault.TheVariants as fault
+use Rattle.wires.specs.declared.line.Line as Line
+use Rattle.plain_run.specs.declared.report.Report.{Report}
+use Rattle.plain_run.specs.declared.fault.RunFault.{RunFault}
+use Rattle.plain_run.specs.declared.fault.RunFault.TheVariants as fault
 use Rattle.forest_run.specs.declared.cutting.Cutting.{Cutting}
 use Rattle.forest_run.specs.Cuttings.{cut_refusal, IsCutOf}
-use Rattle.forest_run.specs.Files.{IsFileOf, HasFile}
-use Rattle.forest_run.specs.Outcomes.{Streams, Ran, IsSpanning, IsLeast}
+use Rattle.plain_run.specs.Files.{IsFileOf, HasFile}
+use Rattle.plain_run.specs.Outcomes.{Streams, Ran, IsSpanning, IsLeast}
 use Rattle.forest_run.specs.WiredLines.{AreFresh, AreServed, FindsOverLines, RefusesOverLines, HaveTranscripts}
 
 -- ---- a run whatever the workers answer

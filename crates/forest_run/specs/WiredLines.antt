@@ -1,19 +1,19 @@
 -- Lines to workers, and a run over new wires over them.
 use Rattle.std.specs.Prelude.{◌≡◌, ℕ, ◌<◌, List, length, map, sum_by, slice_index_or, All, Contains}
-use Rattle.link_key.specs.declared.links.Link.{Link}
+use Rattle.links.specs.declared.links.Link.{Link}
 use Rattle.frames.specs.FrameValue.{FrameValue}
 use Rattle.round_theory.specs.Offers.{Names}
-use Rattle.worker_engine.specs.Serving.{asks_in}
+use Rattle.worker_replies.specs.Serving.{asks_in}
 use Rattle.round_core.specs.BookValue.{hearing_of}
 use Rattle.round_core.specs.declared.solver.SolveFault.{SolveFault}
-use Rattle.ports.specs.declared.line.Line as Line
-use Rattle.ports.specs.Lines.{LineState, IsFresh, HasKnownBytes}
-use Rattle.ports.specs.Exchanges.{Exchange}
-use Rattle.ports.specs.Clients.{Client, MatchesLine}
-use Rattle.ports.specs.Wires.{WireState, IsNewWire, wire_port, IsHonestWire, IsSoundWire}
-use Rattle.forest_run.specs.declared.report.Report.{Report}
-use Rattle.forest_run.specs.Lanes.{LaneState, IsIdle}
-use Rattle.forest_run.specs.Solved.{FindsForest, RefusesRun}
+use Rattle.wires.specs.declared.line.Line as Line
+use Rattle.wires.specs.Lines.{LineState, IsFresh, HasKnownBytes}
+use Rattle.port_trait.specs.Exchanges.{Exchange}
+use Rattle.wires.specs.Clients.{Client, MatchesLine}
+use Rattle.wires.specs.Wires.{WireState, IsNewWire, wire_port, IsHonestWire, IsSoundWire}
+use Rattle.plain_run.specs.declared.report.Report.{Report}
+use Rattle.port_rounds.specs.Lanes.{LaneState, IsIdle}
+use Rattle.port_rounds.specs.Solved.{FindsForest, RefusesRun}
 
 -- ---- the lines
 

@@ -2,30 +2,28 @@
 ghost use Rattle.std.specs.Prelude.{◌≡◌, ℕ, ◌⊎◌, ◌≤◌, List, [], length, All, IfOk, IfErr, OnOk, vec_capacity};
 ghost use Rattle.limits.specs.declared.TheConstants.{MAX_ARCS, MAX_VERTICES, MAX_WORKERS};
 ghost use Rattle.byte_streams.specs.Streams.{IsFlushed};
-ghost use Rattle.link_key.specs.Cut.{IsCutFault};
-ghost use Rattle.link_key.specs.Link.{EndsUpTo};
+ghost use Rattle.links.specs.Cut.{IsCutFault};
+ghost use Rattle.links.specs.Link.{EndsUpTo};
 ghost use Rattle.round_core.specs.declared.solver.SolveFault.TheVariants.{Memory};
-ghost use Rattle.ports.specs.Lines.{HasRoom};
-ghost use Rattle.forest_run.specs.Files.{HasFile, MeansGraph, MeansNothing, IsFirstFaultOf, IsNoRefusal};
-ghost use Rattle.forest_run.specs.Outcomes.{known};
+ghost use Rattle.wires.specs.Lines.{HasRoom};
+ghost use Rattle.plain_run.specs.Files.{HasFile, MeansGraph, MeansNothing, IsFirstFaultOf, IsNoRefusal};
+ghost use Rattle.plain_run.specs.Outcomes.{known};
 ghost use Rattle.forest_run.specs.Cuttings.{cut_refusal, IsCutOf};
 ghost use Rattle.forest_run.specs.WiredLines.{AreServed, AreNewLanes, lines_of, FindsOverLines, RefusesOverLines};
-ghost use Rattle.forest_run.specs.LinesRun.{RanLines, RanServed, EndsWell};
+ghost use Rattle.forest_run.specs.LinesRun.{run_fault, RanLines, RanServed, EndsWell};
 
 use crate::cutting::Cutting;
-use crate::fault::RunFault;
-use crate::lane::Lane;
-use crate::report::Report;
-use crate::run::solve;
 use byte_streams::{Sink, Source};
 use gr_text::{read_graph, write_forest};
 use limits::MAX_WORKERS;
-use link_key::{Cut, CutFault, Forest, Link};
-use ports::{Line, Wire};
+use links::{Cut, CutFault, Forest, Link};
+use plain_run::{Report, RunFault};
+use port_rounds::{Lane, solve};
 use round_core::SolveFault;
 use std::alloc::{AllocError, Allocator};
 use std::sync::Wait;
 use std::thread::Threads;
+use wires::{Line, Wire};
 
 // Cuts the links as it was asked for.
 fn cut_links<'a, A: Allocator + Copy>(
@@ -76,6 +74,17 @@ fn close_lanes<'a, L: Line + Drop, A: Allocator + Copy>(
     lanes.reverse();
     while let Some(lane) = lanes.pop() {
         lines.push_reserved(lane.into_port().into_line());
+    }
+}
+
+// The run's fault for a fault of its rounds.
+fn run_fault_for(fault: SolveFault) -> RunFault
+    ensures { result ≡ run_fault fault }
+{
+    match fault {
+        SolveFault::Rounds { round } => RunFault::Rounds { round },
+        SolveFault::Missed { link } => RunFault::Missed { link },
+        SolveFault::Memory => RunFault::Memory,
     }
 }
 
@@ -179,7 +188,7 @@ pub fn run_lines<
     };
     let (forest, report, lines) = match solve_lines(rt, alloc, graph.n(), &cut, lines) {
         Ok(solved) => solved,
-        Err(fault) => return Err(RunFault::from(fault)),
+        Err(fault) => return Err(run_fault_for(fault)),
     };
     match write_forest(sink, graph.n(), &forest) {
         Ok(_) => Ok((report, lines)),

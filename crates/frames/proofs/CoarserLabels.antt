@@ -4,7 +4,7 @@ use Rattle.std.specs.Prelude.{◌≢◌, ◌↔◌, IsTrue, IfSome, IfNone}
 use Rattle.std.specs.List.{flat_map}
 use Rattle.std.proofs.Math.ListN.{get_or-append}
 use Rattle.std.proofs.lemmas.List.{length-append, length-take-le, take-append-drop, take_all}
-use Rattle.link_key.specs.Labels.{label_of, IsLabelled, AreLabels, Coarsens}
+use Rattle.links.specs.Labels.{label_of, IsLabelled, AreLabels, Coarsens}
 use Rattle.byte_streams.specs.Streams.{SourceState}
 use Rattle.frames.specs.FrameValue.{FrameValue, AskFrame}
 use Rattle.frames.specs.FrameText.{u32_text, kind_of, body_of}

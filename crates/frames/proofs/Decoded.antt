@@ -5,9 +5,9 @@ use Rattle.std.specs.List.{flat_map, AllByRecursion}
 use Rattle.std.proofs.lemmas.List.{length-append, nil_from_length}
 use Rattle.std.proofs.lemmas.List.Elements.{recursion_from_All}
 use Rattle.limits.specs.declared.TheConstants.{MAX_SHARDS, MAX_SHARD_LINKS, MAX_VERTICES, MAX_WORKERS}
-use Rattle.link_key.specs.declared.links.Link.{Link}
-use Rattle.link_key.specs.Labels.{AreLabels}
-use Rattle.link_key.specs.Offers.{Offer, AreOffers}
+use Rattle.links.specs.declared.links.Link.{Link}
+use Rattle.links.specs.Labels.{AreLabels}
+use Rattle.links.specs.Offers.{Offer, AreOffers}
 use Rattle.frames.specs.FrameValue.{FrameValue, HelloFrame, ShardFrame, AskFrame, AnswerFrame, FaultFrame}
 use Rattle.frames.specs.FrameText.{u16_text, u32_text, links_text, offer_text}
 use Rattle.frames.specs.Lawful.{IsU32, IsVersion, IsShard}

@@ -11,13 +11,13 @@ use borrow.Rule.Slice.PartMut.{put_mid}
 use Rattle.std.proofs.lemmas.List.Elements.{All-append, All-cons, All-nil, All-from_recursion}
 use Rattle.std.proofs.lemmas.List.Folds.{flat_map-map}
 use Rattle.std.proofs.lemmas.Grind.{flat_map-append}
-use Rattle.link_key.specs.declared.links.Link.{Link}
+use Rattle.links.specs.declared.links.Link.{Link}
 use Rattle.frames.specs.FrameText.{u32_text, i32_text, i64_text, is_narrow, are_narrow, offer_text}
 use Rattle.frames.specs.Lawful.{IsU32}
 use Rattle.frames.specs.Refusals.{AreNoLinks, IsNoLink}
 use Rattle.frames.proofs.Texts.{IsBytes, IsBytes-drop, IsBytes-take, u32_length, u32_back, u32_prefix, i64_length, items_same, parts_same, FitsOffer, offer_length}
 use Rattle.frames.proofs.OneText.{two_prefix}
-use Rattle.link_key.specs.Offers.{Offer}
+use Rattle.links.specs.Offers.{Offer}
 
 -- ---- numbers, a piece at a time
 

@@ -9,7 +9,7 @@ use Rattle.std.proofs.lemmas.Grind.{flat_map-append}
 use Rattle.byte_streams.specs.Streams.{SourceState, Gave}
 use Rattle.byte_streams.proofs.Streaming.{gave_more}
 use Rattle.limits.specs.declared.TheConstants.{MAX_SHARDS, MAX_VERTICES}
-use Rattle.link_key.specs.Labels.{AreLabels}
+use Rattle.links.specs.Labels.{AreLabels}
 use Rattle.frames.specs.FrameValue.{FrameValue, AskFrame}
 use Rattle.frames.specs.FrameText.{u32_text, text_of}
 use Rattle.frames.specs.Lawful.{IsU32, IsLawful}

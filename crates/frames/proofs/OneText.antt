@@ -5,9 +5,9 @@ use Rattle.std.specs.List.{flat_map, AllByRecursion}
 use Rattle.std.proofs.lemmas.Bool.{cases_Bool, cases_cond}
 use Rattle.std.proofs.lemmas.List.{length-append}
 use Rattle.std.proofs.lemmas.List.Elements.{recursion_from_All}
-use Rattle.link_key.specs.declared.links.Link.{Link}
-use Rattle.link_key.specs.Labels.{AreLabels}
-use Rattle.frames.specs.AnswerValue.{AnswerValue}
+use Rattle.links.specs.declared.links.Link.{Link}
+use Rattle.links.specs.Labels.{AreLabels}
+use Rattle.links.specs.AnswerValue.{AnswerValue}
 use Rattle.frames.specs.FrameValue.{FrameValue, HelloFrame, ShardFrame, AskFrame, AnswerFrame, FaultFrame}
 use Rattle.frames.specs.FrameText.{u16_text, u32_text, are_narrow, link_text, wide_link_text, links_text, offer_text, kind_of, body_of}
 use Rattle.frames.specs.Lawful.{IsU32, IsShard, IsAsk, IsAnswer, IsLawful}

@@ -4,7 +4,7 @@ use Rattle.std.specs.List.{flat_map}
 use Rattle.std.proofs.lemmas.Bool.{and_parts, and_from}
 use Rattle.std.proofs.lemmas.List.{length-append, length-take, take-append-drop}
 use Rattle.std.proofs.lemmas.Grind.{flat_map-append}
-use Rattle.link_key.specs.declared.links.Link.{Link}
+use Rattle.links.specs.declared.links.Link.{Link}
 use Rattle.frames.specs.FrameText.{are_narrow, links_text}
 use Rattle.frames.specs.Refusals.{AreNoLinks, IsNoLink}
 use Rattle.frames.specs.Spellings.{spelled_in, size_in, kind_in, spelling_of, FitIn, Spells, Pushes}

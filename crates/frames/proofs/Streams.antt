@@ -1,5 +1,5 @@
 -- What the parts of a stream say of the whole.
-use Rattle.std.proofs.Common.{◌≡◌, ℕ, ◌+◌, ◌<◌, ◌≤◌, List, [], ◌∷◌, ◌++◌, length, take, drop, replicate, refl, sym, ap, subst, ◌∙◌, append-nil, arith, inl, inr, length-take-le}
+use Rattle.std.proofs.Common.{◌≡◌, ℕ, ◌+◌, ◌<◌, ◌≤◌, List, [], ◌∷◌, ◌++◌, length, take, drop, refl, sym, ap, subst, ◌∙◌, append-nil, arith, inl, inr}
 use Rattle.std.specs.Int.{w32, from_be_bytes}
 use Rattle.std.proofs.lemmas.List.{nil_from_length, length-append, take_at, drop_at, take_all}
 use Rattle.byte_streams.specs.Streams.{SourceState, Gave}
@@ -7,10 +7,10 @@ use Rattle.byte_streams.proofs.Streaming.{gave_more}
 use Rattle.frames.specs.FrameValue.{FrameValue}
 use Rattle.frames.specs.FrameText.{u32_text, body_of, text_of}
 use Rattle.frames.specs.Lawful.{IsU32}
-use Rattle.frames.specs.Refusals.{IsPossible, HeadRefused, IsFrameOf, BodyRefused, kind_at, length_at, body_at, HasGoodHead, HasBody, IsInBody, StreamRefused}
+use Rattle.frames.specs.Refusals.{IsPossible, IsFrameOf, BodyRefused, kind_at, length_at, body_at, HasGoodHead, HasBody, IsInBody, StreamRefused}
 use Rattle.frames.specs.ReadFault.{failures_of, ends_of, IsReadRefused, CutsShort, IsCutShort}
 use Rattle.frames.specs.declared.fault.FrameFault.{FrameFault}
-use Rattle.frames.specs.declared.fault.FrameFault.TheVariants.{BadKind, BadLength, BadField, BadVersion, Memory}
+use Rattle.frames.specs.declared.fault.FrameFault.TheVariants.{BadField, BadVersion, Memory}
 use Rattle.frames.proofs.Texts.{u32_length, u32_again}
 
 -- ---- a head

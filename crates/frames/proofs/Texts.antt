@@ -8,9 +8,9 @@ use Rattle.std.proofs.lemmas.List.{take_at, drop_at, length-append, length-take,
 use Rattle.std.proofs.lemmas.Int.{ints, to_z-of_z, of_z-to_z}
 use Rattle.std.proofs.Math.Facts.{Fits-of_z}
 use Rattle.std.proofs.lemmas.Nat.{be_bytes_2, be_bytes_4, be_bytes_8, from_be_bytes-to_be_bytes_2, from_be_bytes-to_be_bytes_4, from_be_bytes-to_be_bytes_8}
-use Rattle.link_key.specs.declared.links.Link.{Link}
-use Rattle.link_key.specs.Offers.{Offer}
-use Rattle.link_key.proofs.Keys.{link_eq}
+use Rattle.links.specs.declared.links.Link.{Link}
+use Rattle.links.specs.Offers.{Offer}
+use Rattle.links.proofs.Keys.{link_eq}
 use Rattle.frames.specs.FrameText.{u16_text, u32_text, i32_text, i64_text, is_narrow, are_narrow, link_text, wide_link_text, links_text, offer_text}
 use Rattle.frames.specs.Lawful.{IsU32}
 

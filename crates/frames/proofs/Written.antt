@@ -2,8 +2,8 @@
 use Rattle.std.proofs.Common.{◌≡◌, ℕ, ◌+◌, ◌*◌, ◌≤◌, List, ◌∷◌, ◌++◌, length, take, drop, refl, sym, ap, subst, ◌∙◌, append_assoc, arith}
 use Rattle.std.specs.List.{flat_map}
 use Rattle.std.proofs.lemmas.List.{length-append, length-drop, take-append-le, take_all}
-use Rattle.link_key.specs.declared.links.Link.{Link}
-use Rattle.frames.specs.AnswerValue.{AnswerValue}
+use Rattle.links.specs.declared.links.Link.{Link}
+use Rattle.links.specs.AnswerValue.{AnswerValue}
 use Rattle.frames.specs.FrameValue.{HelloFrame, ShardFrame, AskFrame, AnswerFrame}
 use Rattle.frames.specs.FrameText.{u16_text, u32_text, offer_text, body_of, text_of}
 use Rattle.frames.specs.Spellings.{spelled_in, size_in, kind_in, spelling_of}

@@ -1,7 +1,7 @@
 -- Frames as values, without where their lists lie in memory.
 use Rattle.std.specs.Prelude.{ℕ, List}
-use Rattle.link_key.specs.declared.links.Link.{Link}
-use Rattle.frames.specs.AnswerValue.{AnswerValue}
+use Rattle.links.specs.declared.links.Link.{Link}
+use Rattle.links.specs.AnswerValue.{AnswerValue}
 use Rattle.frames.specs.declared.frame.Frame.{Frame}
 use Rattle.frames.specs.declared.frame.Frame.TheVariants.{Hello, Shard, Ask, Answer, Fault}
 

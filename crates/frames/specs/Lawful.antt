@@ -1,11 +1,11 @@
 -- Lawful frames: the fields fit their widths, and say what they may say.
 use Rattle.std.specs.Prelude.{ℕ, ◌<◌, ◌≤◌, ◌^◌, ◌*◌, List, length, All}
 use Rattle.limits.specs.declared.TheConstants.{MAX_SHARDS, MAX_SHARD_LINKS, MAX_WORKERS}
-use Rattle.link_key.specs.declared.links.Link.{Link}
-use Rattle.link_key.specs.Labels.{AreLabels}
-use Rattle.link_key.specs.Offers.{AreOffers}
+use Rattle.links.specs.declared.links.Link.{Link}
+use Rattle.links.specs.Labels.{AreLabels}
+use Rattle.links.specs.Offers.{AreOffers}
 use Rattle.frames.specs.declared.frame.TheConstants.{VERSION}
-use Rattle.frames.specs.AnswerValue.{AnswerValue}
+use Rattle.links.specs.AnswerValue.{AnswerValue}
 use Rattle.frames.specs.FrameValue.{FrameValue, HelloFrame, ShardFrame, AskFrame, AnswerFrame, FaultFrame}
 
 -- a number of four bytes

@@ -1,4 +1,3 @@
-pub mod AnswerValue
 pub mod FrameValue
 pub mod FrameText
 pub mod Lawful

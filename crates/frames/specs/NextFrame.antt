@@ -2,7 +2,7 @@
 use Rattle.std.specs.Prelude.{◌≡◌, ◌≢◌, ℕ, ◌+◌, ◌/◌, ◌<◌, ◌≤◌, ◌⊎◌, List, ◌++◌, length, take, All, Option, Some, None, IfSome, Vec}
 use Rattle.std.specs.List.{flat_map}
 use Rattle.byte_streams.specs.Streams.{SourceState, Gave}
-use Rattle.link_key.specs.Labels.{label_of, IsLabelled, AreLabels, Coarsens}
+use Rattle.links.specs.Labels.{label_of, IsLabelled, AreLabels, Coarsens}
 use Rattle.frames.specs.FrameValue.{FrameValue, AskFrame, value_of}
 use Rattle.frames.specs.FrameText.{u32_text}
 use Rattle.frames.specs.Lawful.{IsU32}

@@ -4,7 +4,7 @@ use Rattle.std.specs.List.{flat_map}
 use Rattle.std.specs.Int.{w16, w32, from_be_bytes}
 use Rattle.limits.specs.declared.TheConstants.{MAX_SHARDS, MAX_SHARD_LINKS, MAX_VERTICES}
 use Rattle.frames.specs.FrameValue.{FrameValue}
-use Rattle.link_key.specs.declared.links.Link.{Link}
+use Rattle.links.specs.declared.links.Link.{Link}
 use Rattle.frames.specs.FrameText.{u32_text, kind_of, body_of}
 use Rattle.frames.specs.Lawful.{IsVersion, IsLawful}
 use Rattle.frames.specs.declared.fault.FrameFault.{FrameFault}

@@ -2,7 +2,7 @@
 use Rattle.std.specs.Prelude.{◌≡◌, ℕ, ◌*◌, ⊤, if◌then◌else◌, IsTrue, List, ◌++◌, length, Option, Some, None, Vec}
 use Rattle.std.specs.List.{flat_map}
 use Rattle.byte_streams.specs.Streams.{SourceState, Gave}
-use Rattle.link_key.specs.declared.links.Link.{Link}
+use Rattle.links.specs.declared.links.Link.{Link}
 use Rattle.frames.specs.FrameText.{are_narrow, link_text, wide_link_text}
 use Rattle.frames.specs.Refusals.{AreNoLinks}
 use Rattle.frames.specs.declared.spelling.Spelling.{Spelling}

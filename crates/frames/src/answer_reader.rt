@@ -9,11 +9,11 @@ ghost use Rattle.frames.specs.Pieces.{PushesOffers, OffersCame};
 use crate::bodies::{PIECE, pass_over, read_bytes};
 use crate::fault::FrameFault;
 use crate::fields::split_u32;
-use crate::frame::{Answer, Frame};
+use crate::frame::Frame;
 use crate::items::push_offers;
 use byte_streams::Source;
 use limits::MAX_SHARD_LINKS;
-use link_key::Offers;
+use links::{Answer, Offers};
 use std::alloc::Allocator;
 
 // The answer whose head came, with a length for so many offers. Its count is judged first; where it is refused, the rest

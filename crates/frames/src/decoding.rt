@@ -7,12 +7,12 @@ ghost use Rattle.frames.specs.declared.fault.FrameFault.TheVariants.{BadField};
 
 use crate::fault::FrameFault;
 use crate::fields::{split_u16, split_u32};
-use crate::frame::{Answer, Frame, Links, VERSION};
+use crate::frame::{Frame, Links, VERSION};
 use crate::head::Head;
 use crate::items::{numbers_of, offers_of, push_links};
 use crate::spelling::Spelling;
 use limits::{MAX_SHARD_LINKS, MAX_SHARDS, MAX_VERTICES, MAX_WORKERS};
-use link_key::{Labels, Link, Offers};
+use links::{Answer, Labels, Link, Offers};
 use std::alloc::Allocator;
 
 /// The frame of a head and its body.

@@ -7,11 +7,11 @@ ghost use Rattle.frames.specs.Lawful.{IsLawful};
 ghost use Rattle.frames.specs.Spellings.{spelled_in, spelling_of};
 
 use crate::fields::{put_u16, put_u32};
-use crate::frame::{Answer, Frame};
+use crate::frame::Frame;
 use crate::items::{put_links, put_numbers, spells, write_offers};
 use crate::spelling::Spelling;
 use limits::{MAX_SHARD_LINKS, MAX_SHARDS, MAX_VERTICES};
-use link_key::{Labels, Link, Shard};
+use links::{Answer, Labels, Link, Shard};
 use std::alloc::{AllocError, Allocator};
 
 /// The text of a frame.

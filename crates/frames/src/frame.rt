@@ -1,7 +1,7 @@
 //! The values that frames carry.
 ghost use Rattle.std.specs.Prelude.{◌≡◌};
 
-use link_key::{Labels, Link, Offers};
+use links::{Answer, Labels, Link};
 use std::alloc::{Allocator, Global};
 use std::marker::Model;
 
@@ -16,7 +16,7 @@ pub struct Links<A: Allocator = Global> {
 
 impl<A: Allocator> Model for Links<A> {
     ghost use Rattle.std.specs.Prelude.{List};
-    ghost use Rattle.link_key.specs.declared.links.Link.{Link};
+    ghost use Rattle.links.specs.declared.links.Link.{Link};
 
     ghost Value = { List Link };
 
@@ -45,24 +45,6 @@ impl<A: Allocator> Links<A> {
         let Links { links } = self;
         links
     }
-}
-
-/// What a worker answers to an ask: a round and a shard, and a place in the shard for each of some components.
-/// They are to be the round and the shard of the ask, each component that a link of the shard leaves, and the
-/// place of the least such link: a worker keeps to that, and nothing here tests it.
-#[derive(Drop)]
-pub struct Answer<A: Allocator = Global> {
-    pub round: u32,
-    pub shard: u32,
-    pub offers: Offers<A>,
-}
-
-impl<A: Allocator> Model for Answer<A> {
-    ghost use Rattle.frames.specs.AnswerValue.{AnswerValue};
-
-    ghost Value = { AnswerValue };
-
-    ghost view = { λ s. record { round = s.round; shard = s.shard; offers = s.offers } };
 }
 
 /// A message between the coordinator and a worker. The fields may say anything that fits them;

@@ -11,7 +11,7 @@ ghost use Rattle.frames.specs.Spellings.{spelled_in, size_in, FitIn, Pushes};
 use crate::fields::{put_u32, split_i64, split_u32};
 use crate::spelling::Spelling;
 use limits::MAX_VERTICES;
-use link_key::Link;
+use links::Link;
 use std::alloc::{AllocError, Allocator};
 
 // How many numbers are turned into bytes at a time, on the stack.

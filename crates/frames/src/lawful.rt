@@ -5,7 +5,7 @@ ghost use Rattle.frames.specs.Lawful.{IsU32, IsLawful, IsHello, IsShard, IsAsk, 
 
 use crate::frame::{Frame, VERSION};
 use limits::{MAX_SHARD_LINKS, MAX_SHARDS, MAX_WORKERS};
-use link_key::{Labels, Link, Offers};
+use links::{Labels, Link, Offers};
 use std::alloc::Allocator;
 
 impl<A: Allocator> Frame<A> {

@@ -49,9 +49,10 @@ pub use encoding::{
     encode_shard, fault_bytes, shard_head,
 };
 pub use fault::FrameFault;
-pub use frame::{Answer, Frame, Links, VERSION};
+pub use frame::{Frame, Links, VERSION};
 pub use frame_reader::read_frame;
 pub use head::{Head, decode_head};
 pub use items::{fit_32_bits, put_links, put_offers};
+pub use links::Answer;
 pub use next_frame::{NextFrame, read_next};
 pub use spelling::Spelling;

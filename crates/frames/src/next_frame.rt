@@ -8,7 +8,7 @@ ghost use Rattle.std.specs.Prelude.{◌≡◌, ◌≢◌, ℕ, ◌+◌, ◌*◌,
 ghost use Rattle.std.specs.Int.{w32, from_be_bytes};
 ghost use Rattle.std.specs.List.{flat_map};
 ghost use Rattle.byte_streams.specs.Streams.{Gave};
-ghost use Rattle.link_key.specs.Labels.{label_of, IsLabelled, AreLabels};
+ghost use Rattle.links.specs.Labels.{label_of, IsLabelled, AreLabels};
 ghost use Rattle.frames.specs.FrameText.{u32_text, text_of};
 ghost use Rattle.frames.specs.Lawful.{IsU32, IsLawful};
 ghost use Rattle.frames.specs.Refusals.{IsPossible};
@@ -25,7 +25,7 @@ use crate::head::Head;
 use crate::items::spells;
 use byte_streams::Source;
 use limits::MAX_SHARDS;
-use link_key::Labels;
+use links::Labels;
 use std::alloc::{AllocError, Allocator, Global};
 
 // How many labels are compared at a time, on the stack: with fewer a worker is woken more often while they come.

@@ -16,7 +16,7 @@ use crate::items::push_links;
 use crate::spelling::Spelling;
 use byte_streams::Source;
 use limits::{MAX_SHARD_LINKS, MAX_SHARDS};
-use link_key::Link;
+use links::Link;
 use std::alloc::{AllocError, Allocator};
 
 // The shard whose head came, with a length for so many links. Its fields are judged first. Where they or some link are

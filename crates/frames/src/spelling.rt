@@ -4,7 +4,7 @@ ghost use Rattle.frames.specs.Spellings.{size_in, kind_in, spelling_of, FitIn};
 
 use crate::items::fit_32_bits;
 use limits::MAX_SHARD_LINKS;
-use link_key::Link;
+use links::Link;
 
 /// How the links of a shard are written: with weights of 32 bits where all fit them, else with weights of 64.
 #[derive(Clone, Copy, Debug, PartialEq, Eq)]

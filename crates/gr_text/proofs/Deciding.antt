@@ -3,7 +3,7 @@ use Rattle.std.proofs.Common.{◌≡◌, ℕ, ℤ, ◌+◌, ◌⊎◌, inl, inr,
 use Rattle.std.proofs.lemmas.Bool.Decides.{leb_tells}
 use Rattle.std.proofs.lemmas.Int.{by_lt_z, ints}
 use Rattle.limits.specs.declared.TheConstants.{MAX_ARCS, MAX_VERTICES, MAX_WEIGHT, MIN_WEIGHT}
-use Rattle.link_key.specs.Arc.{Arc}
+use Rattle.links.specs.Arc.{Arc}
 use Rattle.gr_text.specs.Lines.{with_last, AreLines}
 use Rattle.gr_text.specs.Statement.{Problem, ArcLine}
 use Rattle.gr_text.specs.Sort.{LineSort, Nothing, Makes, NoProblem, NoArc, Unknown, IsOfSort}

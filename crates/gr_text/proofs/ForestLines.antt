@@ -3,7 +3,7 @@ use Rattle.std.proofs.Common.{◌≡◌, ℕ, ◌+◌, ◌≤◌, ◌<◌, List,
 use Rattle.std.specs.List.{flat_map}
 use Rattle.std.proofs.lemmas.Grind.{flat_map-append}
 use Rattle.std.proofs.lemmas.List.{take-append-drop, flat_map_more, take_more}
-use Rattle.link_key.specs.declared.links.Link.{Link}
+use Rattle.links.specs.declared.links.Link.{Link}
 use Rattle.gr_text.specs.ForestText.{header_of, link_line, forest_text}
 use Rattle.byte_streams.specs.Streams.{SinkState, Took}
 use Rattle.byte_streams.proofs.Streaming.{took_no_more}

@@ -7,18 +7,18 @@ use Rattle.std.proofs.lemmas.Fmt.{decimal_by_steps}
 use Rattle.std.proofs.lemmas.List.{append-nil, length-map}
 use Rattle.std.proofs.lemmas.List.Sums.{fold-append}
 use Rattle.std.proofs.lemmas.List.Elements.{recursion_from_All}
-use Rattle.link_key.specs.Arc.{Arc}
-use Rattle.link_key.specs.Link.{AreLinksOf, key_of, arc_key, is_no_loop}
-use Rattle.link_key.specs.declared.links.Link.{Link}
+use Rattle.links.specs.Arc.{Arc}
+use Rattle.links.specs.Link.{AreLinksOf, key_of, arc_key, is_no_loop}
+use Rattle.links.specs.declared.links.Link.{Link}
 use Rattle.gr_text.specs.Lines.{IsLine, ended}
 use Rattle.gr_text.specs.Fields.{IsFieldByte, BeginsBlank, AreFields, IsDigit, number_of, Writes, WritesSigned}
 use Rattle.gr_text.specs.Statement.{Problem, ArcLine, Says, Say}
 use Rattle.gr_text.specs.Graph.{IsArcOf}
 use Rattle.gr_text.specs.ForestText.{header_of, link_line, forest_text}
 use Rattle.gr_text.specs.Laws.{ForestTextMeansItsLinks, ForestTextGivesItself}
-use Rattle.link_key.specs.Forest.{IsForestOf}
-use Rattle.link_key.proofs.Keys.{link_eq, same_members}
-use Rattle.link_key.proofs.Least.{no_cycle_is_its_forest}
+use Rattle.links.specs.Forest.{IsForestOf}
+use Rattle.links.proofs.Keys.{link_eq, same_members}
+use Rattle.links.proofs.Least.{no_cycle_is_its_forest}
 use Rattle.gr_text.proofs.Texts.{means_one_graph}
 use Rattle.gr_text.proofs.Alls.{All-both, All-push}
 

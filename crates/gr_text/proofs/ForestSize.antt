@@ -6,7 +6,7 @@ use Rattle.std.specs.Fmt.{digits_onto, digits, digit_glyph, signed_decimal}
 use Rattle.std.specs.List.{flat_map}
 use Rattle.std.proofs.lemmas.List.Concat.{length-flat_map}
 use Rattle.std.proofs.lemmas.List.Sums.{sum_by-le}
-use Rattle.link_key.specs.declared.links.Link.{Link}
+use Rattle.links.specs.declared.links.Link.{Link}
 use Rattle.byte_streams.specs.Streams.{SinkState, WentOut}
 use Rattle.gr_text.specs.ForestText.{header_of, link_line, forest_text}
 use Rattle.gr_text.specs.Written.{PrefixWentOut}

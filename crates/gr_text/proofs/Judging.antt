@@ -1,7 +1,7 @@
 -- From what a line says and the lines before it to its verdict.
 use Rattle.std.proofs.Common.{◌≡◌, ℕ, ◌≤◌, ◌<◌, ◌⊎◌, List, [], ◌∷◌, subst, sym, arith, codes, ap, ◌∙◌, append-nil, length, Option, Some, None}
 use Rattle.limits.specs.declared.TheConstants.{MAX_VERTICES}
-use Rattle.link_key.specs.Arc.{Arc}
+use Rattle.links.specs.Arc.{Arc}
 use Rattle.gr_text.specs.Statement.{Problem, ArcLine, AreSilent, FieldsSay}
 use Rattle.gr_text.specs.Sort.{LineSort, NoProblem, NoArc, AreOfSort, IsOfSort}
 use Rattle.gr_text.specs.Graph.{HasEnds, AreLawfulLines}

@@ -1,6 +1,6 @@
 -- What a line can still become when one more field comes.
 use Rattle.std.proofs.Common.{◌≡◌, ◌≢◌, ℕ, ℤ, List, [], ◌∷◌, ◌++◌, refl, ap, sym, append_assoc, codes, subst}
-use Rattle.link_key.specs.Arc.{Arc}
+use Rattle.links.specs.Arc.{Arc}
 use Rattle.gr_text.specs.Fields.{Writes, WritesSigned}
 use Rattle.gr_text.specs.Statement.{Statement, Problem, ArcLine, AreSilent, FieldsSay}
 use Rattle.gr_text.specs.Word.{NeverSay, IsProblem, IsArcLine, BeginsComment}

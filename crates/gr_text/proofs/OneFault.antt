@@ -1,6 +1,6 @@
 -- A text has one first fault at the most, and none where it means a graph.
 use Rattle.std.proofs.Common.{◌≡◌, ℕ, ◌+◌, ◌⊎◌, inl, inr, List, [], ◌∷◌, ◌++◌, refl, ap, sym, ◌∙◌, subst, arith, append_assoc, append-nil, map, length}
-use Rattle.link_key.specs.Arc.{Arc}
+use Rattle.links.specs.Arc.{Arc}
 use Rattle.gr_text.specs.Statement.{Problem, ArcLine}
 use Rattle.gr_text.specs.Sort.{LineSort, Nothing, Makes}
 use Rattle.gr_text.specs.Graph.{AreLawfulLines, AreLawfulSoFar}

@@ -2,7 +2,7 @@
 use Rattle.std.proofs.Common.{◌≡◌, ◌≢◌, ℕ, ℤ, pos, neg_ℤ, ◌⊎◌, inl, inr, List, [], ◌∷◌, ◌++◌, refl, ap, sym, ◌∙◌, subst, arith, append_assoc, append-nil, codes}
 use Rattle.std.specs.List.{AllByRecursion}
 use Rattle.std.proofs.lemmas.Bool.{cases_eq}
-use Rattle.link_key.specs.Arc.{Arc}
+use Rattle.links.specs.Arc.{Arc}
 use Rattle.gr_text.specs.Fields.{IsDigit, number_of, Writes, WritesSigned}
 use Rattle.gr_text.specs.Statement.{Problem, ArcLine, AreSilent, FieldsSay}
 use Rattle.gr_text.specs.Sort.{LineSort, Nothing, Makes, NoProblem, NoArc, Unknown, AreOfSort, IsOfSort}

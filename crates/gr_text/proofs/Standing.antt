@@ -1,7 +1,7 @@
 -- What was read of a text when more of it comes.
 use Rattle.std.proofs.Common.{◌≡◌, ℕ, ◌+◌, inl, inr, List, [], ◌∷◌, ◌++◌, ap, sym, ◌∙◌, subst, arith, append_assoc, length, Option, Some, None}
 use Rattle.std.proofs.lemmas.List.{length_push}
-use Rattle.link_key.specs.declared.links.Link.{Link}
+use Rattle.links.specs.declared.links.Link.{Link}
 use Rattle.gr_text.specs.Lines.{IsLine, ended, EndsLines}
 use Rattle.gr_text.specs.Graph.{AreLawfulSoFar}
 use Rattle.gr_text.specs.Fault.{IsFirstFaulty}

@@ -1,6 +1,6 @@
 -- The laws of texts.
 use Rattle.std.proofs.Common.{◌≡◌, ℕ, List, [], ◌∷◌, refl, ap, ◌∙◌, subst, length, map}
-use Rattle.link_key.specs.Arc.{Arc}
+use Rattle.links.specs.Arc.{Arc}
 use Rattle.gr_text.specs.Statement.{Problem, ArcLine}
 use Rattle.gr_text.specs.Graph.{AreLawfulLines}
 use Rattle.gr_text.specs.Fault.{SaidSoFar, Unsaid, Stated, HaveSaid}

@@ -1,7 +1,7 @@
 -- A line has one list of fields, a text one list of lines, and lines say one thing.
 use Rattle.std.proofs.Common.{◌≡◌, ◌≢◌, ℕ, ℤ, pos, neg_ℤ, inl, inr, List, [], ◌∷◌, ◌++◌, refl, ap, sym, ◌∙◌, subst, arith, append_assoc, codes}
 use Rattle.std.specs.List.{AllByRecursion, flat_map}
-use Rattle.link_key.specs.Arc.{Arc}
+use Rattle.links.specs.Arc.{Arc}
 use Rattle.gr_text.specs.Lines.{line_feed, IsLine, ended, EndsLines, with_last, AreLines}
 use Rattle.gr_text.specs.Fields.{IsBlank, IsFieldByte, BeginsBlank, AreFields, IsDigit, Writes, WritesSigned}
 use Rattle.gr_text.proofs.Alls.{All-parts}

@@ -2,9 +2,9 @@
 use Rattle.std.specs.Prelude.{ℕ, ℤ, ◌≤ℤ◌, ◌≤◌, ◌⊎◌, List, [], ◌∷◌, map, length}
 use Rattle.std.specs.List.{AllByRecursion}
 use Rattle.limits.specs.declared.TheConstants.{MAX_ARCS, MAX_VERTICES, MAX_WEIGHT, MIN_WEIGHT}
-use Rattle.link_key.specs.Arc.{Arc}
-use Rattle.link_key.specs.Link.{AreLinksOf}
-use Rattle.link_key.specs.declared.links.Link.{Link}
+use Rattle.links.specs.Arc.{Arc}
+use Rattle.links.specs.Link.{AreLinksOf}
+use Rattle.links.specs.declared.links.Link.{Link}
 use Rattle.gr_text.specs.Lines.{AreLines}
 use Rattle.gr_text.specs.Statement.{Problem, ArcLine, Say}
 

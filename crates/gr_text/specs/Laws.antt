@@ -1,11 +1,11 @@
 -- What the definitions promise of every text.
 use Rattle.std.specs.Prelude.{◌≡◌, ℕ, ◌≤◌, ◌⊎◌, List, length, Contains}
 use Rattle.limits.specs.declared.TheConstants.{MAX_ARCS, MAX_VERTICES}
-use Rattle.link_key.specs.Arc.{Arc}
-use Rattle.link_key.specs.Link.{EndsUpTo, IsAscending}
-use Rattle.link_key.specs.declared.links.Link.{Link}
-use Rattle.link_key.specs.Forest.{IsForestOf}
-use Rattle.link_key.specs.LinkSet.{HasNoCycle}
+use Rattle.links.specs.Arc.{Arc}
+use Rattle.links.specs.Link.{EndsUpTo, IsAscending}
+use Rattle.links.specs.declared.links.Link.{Link}
+use Rattle.links.specs.Forest.{IsForestOf}
+use Rattle.links.specs.LinkSet.{HasNoCycle}
 use Rattle.gr_text.specs.Graph.{Means, GraphValue, IsGraphOf}
 use Rattle.gr_text.specs.ForestText.{forest_text}
 use Rattle.gr_text.specs.Fault.{IsFirstFault}

@@ -1,9 +1,9 @@
 -- What the lines that were read say, and what a further line does.
 use Rattle.std.specs.Prelude.{◌≡◌, ◌≢◌, ℕ, ◌+◌, ◌<◌, ◌≤◌, ◌⊎◌, List, [], length, Option, Some, None, ◌++◌, ◌∷◌, Result, MatchResult}
 use Rattle.limits.specs.declared.TheConstants.{MAX_ARCS, MAX_VERTICES}
-use Rattle.link_key.specs.Arc.{Arc}
-use Rattle.link_key.specs.Link.{key_of, arc_key, AreLinksOf, EndsUpTo}
-use Rattle.link_key.specs.declared.links.Link.{Link}
+use Rattle.links.specs.Arc.{Arc}
+use Rattle.links.specs.Link.{key_of, arc_key, AreLinksOf, EndsUpTo}
+use Rattle.links.specs.declared.links.Link.{Link}
 use Rattle.gr_text.specs.Statement.{Problem, ArcLine, IsSilent, Says, Say}
 use Rattle.gr_text.specs.Graph.{GraphValue, HasEnds, IsArcOf, AreLawfulLines}
 use Rattle.gr_text.specs.Fault.{IsFaultAfter, Lacks}

@@ -1,6 +1,6 @@
 -- What sort of line a line is.
 use Rattle.std.specs.Prelude.{◌≡◌, ◌≢◌, ℕ, List, ◌∷◌, codes}
-use Rattle.link_key.specs.Arc.{Arc}
+use Rattle.links.specs.Arc.{Arc}
 use Rattle.gr_text.specs.Fields.{AreFields}
 use Rattle.gr_text.specs.Statement.{Statement, Problem, ArcLine, AreSilent, FieldsSay}
 

@@ -1,6 +1,6 @@
 -- What the lines of a file say.
 use Rattle.std.specs.Prelude.{◌≡◌, ℕ, ◌⊎◌, List, [], ◌∷◌, codes}
-use Rattle.link_key.specs.Arc.{Arc}
+use Rattle.links.specs.Arc.{Arc}
 use Rattle.gr_text.specs.Fields.{AreFields, Writes, WritesSigned}
 
 -- a problem line states the numbers of vertices and of arc lines, an arc line an arc

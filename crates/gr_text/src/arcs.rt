@@ -9,7 +9,7 @@ pub(crate) struct Arc {
 }
 
 impl Model for Arc {
-    ghost use Rattle.link_key.specs.Arc.{Arc};
+    ghost use Rattle.links.specs.Arc.{Arc};
 
     ghost Value = { Arc };
 

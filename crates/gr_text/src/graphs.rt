@@ -1,8 +1,8 @@
 ghost use Rattle.std.specs.Prelude.{◌≡◌, ◌≤◌, length};
-ghost use Rattle.link_key.specs.Link.{EndsUpTo};
+ghost use Rattle.links.specs.Link.{EndsUpTo};
 
 use limits::{MAX_ARCS, MAX_VERTICES};
-use link_key::Link;
+use links::Link;
 use std::alloc::{Allocator, Global};
 use std::marker::Model;
 
@@ -19,7 +19,7 @@ pub struct Graph<A: Allocator = Global> {
 impl<A: Allocator> Model for Graph<A> {
     ghost use Rattle.std.specs.Prelude.{◌≤◌, length};
     ghost use Rattle.limits.specs.declared.TheConstants.{MAX_ARCS, MAX_VERTICES};
-    ghost use Rattle.link_key.specs.Link.{EndsUpTo};
+    ghost use Rattle.links.specs.Link.{EndsUpTo};
     ghost use Rattle.gr_text.specs.Graph.{GraphValue};
 
     ghost Value = { GraphValue };

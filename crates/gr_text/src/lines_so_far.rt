@@ -8,7 +8,7 @@ use crate::graphs::Graph;
 use crate::sizes::Size;
 use crate::verdicts::{Verdict, judge};
 use crate::words::LineFields;
-use link_key::Link;
+use links::Link;
 use std::alloc::Allocator;
 use std::marker::Model;
 

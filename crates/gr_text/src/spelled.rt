@@ -5,7 +5,7 @@ ghost use Rattle.std.specs.Fmt.{signed_decimal};
 ghost use Rattle.gr_text.specs.ForestText.{header_of, link_line};
 
 use itoa::write_digits;
-use link_key::Link;
+use links::Link;
 use std::marker::Model;
 
 /// The room for a line: a vertex has at most 10 digits, a weight and a number of links at most 20 bytes, and with the

@@ -12,7 +12,7 @@ use crate::spelled::Spelled;
 use arrayvec::ArrayString;
 use byte_streams::{Failed, Sink, put};
 use itoa::Buffer;
-use link_key::Forest;
+use links::Forest;
 use std::alloc::Allocator;
 use thiserror::Error;
 

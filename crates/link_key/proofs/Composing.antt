@@ -1,7 +1,8 @@
 -- Rounds one after the other: new numbers of the components, then new numbers of these.
 use Rattle.std.proofs.Common.{◌≡◌, ℕ, ◌+◌, ◌++◌, Bool, List, length, sym, ◌∙◌, subst}
 use Rattle.link_key.specs.declared.sequential.rounds.Open.{Open}
-use Rattle.link_key.specs.Rounds.{renamed, IsStage}
+use Rattle.link_key.specs.Rounds.{IsStage}
+use Rattle.links.specs.Labels.{renamed}
 use Rattle.link_key.specs.OpenLinks.{links_of, marked, AreOpenOf, AreAllNumbers, StayOpen, LeadsOn}
 use Rattle.link_key.proofs.Opened.{renamed_twice}
 use Rattle.link_key.proofs.Stages.{renamed_labels}

@@ -5,9 +5,9 @@ use Rattle.std.proofs.lemmas.Bool.{cases_eq}
 use Rattle.std.proofs.lemmas.List.Elements.{Contains-append_left, Contains-append_right, Contains-append_cases, Contains-push, Contains-push_cases}
 use mathlib.Core.Bool.{false≢true}
 use mir.Val.{bool_byte}
-use Rattle.link_key.specs.declared.links.Link.{Link}
+use Rattle.links.specs.declared.links.Link.{Link}
 use Rattle.link_key.specs.OpenLinks.{marked}
-use Rattle.link_key.proofs.Members.{contains_cases, contains_head, contains_tail, contains_none}
+use Rattle.links.proofs.Members.{contains_cases, contains_head, contains_tail, contains_none}
 
 -- a link that is marked has a place with a mark
 abbrev IsMarked : List Link → List Bool → Link → Type 0

@@ -1,24 +1,25 @@
 -- Links with the labels of their ends: what a new numbering of the labels leaves of them.
-use Rattle.std.proofs.Common.{◌≡◌, ℕ, ◌+◌, ◌<◌, ◌≤◌, ◌==◌, pos, true, false, not, List, [], ◌∷◌, ◌++◌, map, take, drop, take_all, Contains, length, get_or, is_lt, refl, sym, ap, ap₂, ◌∙◌, subst, inl, inr, arith}
+use Rattle.std.proofs.Common.{◌≡◌, ℕ, ◌+◌, ◌<◌, ◌≤◌, ◌==◌, pos, true, false, not, List, [], ◌∷◌, map, Contains, length, get_or, is_lt, refl, sym, ap, ap₂, ◌∙◌, subst, inl, inr, arith}
 use Rattle.std.specs.List.{filter, All}
 use Rattle.std.specs.List.Sorted.{IsSorted}
 use Rattle.std.proofs.lemmas.Int.{ints}
-use Rattle.std.proofs.lemmas.List.{same_lists, get_or-map, get_or_default, length-map, get_or_past, take-append-le}
+use Rattle.std.proofs.lemmas.List.{same_lists, get_or-map, get_or_default, length-map, get_or_past}
 use Rattle.std.proofs.lemmas.Bool.{cases_lt}
 use Rattle.std.proofs.lemmas.List.Elements.{All-contains, All-filter, All-map}
 use Rattle.std.proofs.lemmas.List.Filters.{length-filter_both}
 use Rattle.std.proofs.lemmas.List.Kept.{IsSortedBy-filter}
 use Rattle.std.proofs.lemmas.List.Sorted.{ranks_by}
 use Rattle.std.proofs.lemmas.Bool.Decides.{nat_tests}
-use Rattle.link_key.specs.declared.links.Link.{Link}
+use Rattle.links.specs.declared.links.Link.{Link}
 use Rattle.link_key.specs.declared.sequential.rounds.Open.{Open}
-use Rattle.link_key.specs.Link.{key_cmp}
-use Rattle.link_key.specs.Components.{HasOneLabel}
-use Rattle.link_key.specs.Rounds.{renamed}
+use Rattle.links.specs.Link.{key_cmp}
+use Rattle.link_key.specs.Rounds.{HasOneLabel}
+use Rattle.links.specs.Labels.{renamed}
 use Rattle.link_key.specs.OpenLinks.{link_of, links_of, open_cmp, renumbered, is_open, AreOpened, IsLabelled, AreLabelled, AreOpenOf, IsBetween, AreBetween, AreAllNumbers, AreFilled, HaveFirst}
-use Rattle.link_key.proofs.Members.{contains_cases, contains_head, contains_tail, contains_none}
-use Rattle.link_key.proofs.Keys.{key_cmp_total}
-use Rattle.link_key.proofs.Stages.{kept_in, kept_if, kept_fewer, renamed_to, renamed_len}
+use Rattle.links.proofs.Members.{contains_cases, contains_head, contains_tail, contains_none}
+use Rattle.links.proofs.Keys.{key_cmp_total}
+use Rattle.link_key.proofs.Stages.{kept_fewer, renamed_to, renamed_len}
+use Rattle.links.proofs.Kept.{kept_in, kept_if}
 
 in_map : {X Y : Type 0} (f : X → Y) (xs : List X) (x : X) → Contains xs x → Contains (map f xs) (f x)
 in_map f [] x x_in = absurd (contains_none x x_in)
@@ -256,7 +257,3 @@ filled_first {numbers} {filled} candidates are first d some =
     let low = are.kept (get_or candidates 0 d).low had.0 in
     let high = are.kept (get_or candidates 0 d).high had.1 in
     (subst (λ k. 0 < k) (sym low) had.0, subst (λ k. 0 < k) (sym high) had.1, low ∙ had.2 ∙ sym high)
-
--- a list that was written through a slice of all of it
-pub written : {X : Type 0} (n : ℕ) (now old : List X) → length now ≡ length old → n ≡ length old → take n (now ++ drop (length now) old) ≡ now
-written n now old len is = take-append-le n now (drop (length now) old) (omega (arith, len, is)) ∙ take_all n now (omega (arith, len, is))

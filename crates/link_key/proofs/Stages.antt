@@ -5,44 +5,20 @@ use Rattle.std.proofs.lemmas.List.Elements.{All-contains, Contains-get_or}
 use Rattle.std.proofs.lemmas.List.Filters.{length-filter_both}
 use Rattle.std.proofs.lemmas.Bool.{cases_eq, cases_lt}
 use Rattle.std.proofs.lemmas.Bool.Decides.{nat_tests}
-use mathlib.Core.Bool.{false≢true}
-use Rattle.link_key.specs.declared.links.Link.{Link}
-use Rattle.link_key.specs.Link.{EndsUpTo}
-use Rattle.link_key.specs.Walk.{IsWalk, Joins}
-use Rattle.link_key.specs.Forest.{LinksBelow, IsForestLink}
-use Rattle.link_key.specs.Components.{HasOneLabel}
-use Rattle.link_key.specs.Rounds.{is_apart, renamed, LeavesLabel, IsLeastOut, AreLabelsUpTo, IsStage, AreParts}
+use Rattle.links.specs.declared.links.Link.{Link}
+use Rattle.links.specs.Link.{EndsUpTo}
+use Rattle.links.specs.Walk.{IsWalk, Joins}
+use Rattle.links.specs.Forest.{LinksBelow, IsForestLink}
+use Rattle.link_key.specs.Rounds.{HasOneLabel}
+use Rattle.link_key.specs.Rounds.{is_apart, LeavesLabel, IsLeastOut, AreLabelsUpTo, IsStage}
+use Rattle.link_key.specs.Parts.{AreParts}
+use Rattle.links.specs.Labels.{renamed}
 use Rattle.link_key.specs.OpenLinks.{AreTouched, AreFilled, AreAllNumbers, number_of}
 use Rattle.std.proofs.lemmas.List.{get_or-map, length-map}
-use Rattle.link_key.proofs.Members.{contains_cases, contains_head, contains_tail, contains_none}
-use Rattle.link_key.proofs.Walks.{joins_same, joins_symm, joins_replace, joins_more}
-use Rattle.link_key.proofs.Spanning.{spanning_part}
-
--- what a test keeps of a list
-pub kept_in : {X : Type 0} (p : X → Bool) (xs : List X) (x : X) → Contains (filter p xs) x → Contains xs x × (p x ≡ true)
-kept_in p [] x x_in = absurd (contains_none x x_in)
-kept_in {X} p (y ∷ xs) x x_in = by_test (p y) refl (kept_in p xs x)
-  where
-    by_test : (b : Bool) → p y ≡ b → (Contains (filter p xs) x → Contains xs x × (p x ≡ true)) → Contains (y ∷ xs) x × (p x ≡ true)
-    by_test true passes later = elim (contains_cases y x (filter p xs) (subst (λ b. Contains (cond b (y ∷ filter p xs) (filter p xs)) x) passes x_in)) [
-      | inl is ↦ (subst (Contains (y ∷ xs)) (sym is) (contains_head y xs), ap p is ∙ passes)
-      | inr x_in' ↦ let rest = later x_in' in (contains_tail y x xs rest.0, rest.1)
-    ]
-    by_test false fails later = let rest = later (subst (λ b. Contains (cond b (y ∷ filter p xs) (filter p xs)) x) fails x_in) in (contains_tail y x xs rest.0, rest.1)
-
-pub kept_if : {X : Type 0} (p : X → Bool) (xs : List X) (x : X) → Contains xs x → p x ≡ true → Contains (filter p xs) x
-kept_if p [] x x_in passes = absurd (contains_none x x_in)
-kept_if {X} p (y ∷ xs) x x_in passes = by_test (p y) refl (λ later. kept_if p xs x later passes)
-  where
-    by_test : (b : Bool) → p y ≡ b → (Contains xs x → Contains (filter p xs) x) → Contains (filter p (y ∷ xs)) x
-    by_test true is later = subst (λ b. Contains (cond b (y ∷ filter p xs) (filter p xs)) x) (sym is) (elim (contains_cases y x xs x_in) [
-      | inl same ↦ subst (Contains (y ∷ filter p xs)) (sym same) (contains_head y (filter p xs))
-      | inr x_in' ↦ contains_tail y x (filter p xs) (later x_in')
-    ])
-    by_test false is later = subst (λ b. Contains (cond b (y ∷ filter p xs) (filter p xs)) x) (sym is) (elim (contains_cases y x xs x_in) [
-      | inl same ↦ absurd (false≢true (sym is ∙ sym (ap p same) ∙ passes))
-      | inr x_in' ↦ later x_in'
-    ])
+use Rattle.links.proofs.Kept.{kept_in, kept_if}
+use Rattle.links.proofs.Members.{contains_none}
+use Rattle.links.proofs.Walks.{joins_same, joins_symm, joins_replace, joins_more}
+use Rattle.links.proofs.Spanning.{spanning_part}
 
 -- a test keeps fewer where the first fails
 pub kept_fewer : {X : Type 0} (p : X → Bool) (xs : List X) → ((d : X) → p (get_or xs 0 d) ≡ false) → 0 < length xs → length (filter p xs) < length xs

@@ -7,16 +7,16 @@ use Rattle.std.proofs.lemmas.List.Sorted.{sorted_far, ranks_by}
 use mathlib.Core.Bool.{false≢true}
 use Rattle.std.proofs.lemmas.List.Elements.{Contains-append_left, Contains-push, Contains-push_cases}
 use Rattle.std.proofs.lemmas.Bool.{cases_eq, cases_lt}
-use Rattle.link_key.specs.declared.links.Link.{Link}
-use Rattle.link_key.specs.Link.{IsBelow, key_cmp}
-use Rattle.link_key.specs.Walk.{Joins}
-use Rattle.link_key.specs.Components.{HasOneLabel}
+use Rattle.links.specs.declared.links.Link.{Link}
+use Rattle.links.specs.Link.{IsBelow, key_cmp}
+use Rattle.links.specs.Walk.{Joins}
+use Rattle.link_key.specs.Rounds.{HasOneLabel}
 use Rattle.link_key.specs.declared.sequential.rounds.Open.{Open}
 use Rattle.link_key.specs.Rounds.{LeavesLabel, IsLeastOut, AreJoinedWhereOne}
 use Rattle.link_key.specs.OpenLinks.{AreNumbers, ShareNumber, AreTouched, number_of, zeros}
-use Rattle.link_key.proofs.Members.{contains_none}
-use Rattle.link_key.proofs.Keys.{key_cmp_total}
-use Rattle.link_key.proofs.Walks.{joins_link, joins_symm, joins_trans, joins_more}
+use Rattle.links.proofs.Members.{contains_none}
+use Rattle.links.proofs.Keys.{key_cmp_total}
+use Rattle.links.proofs.Walks.{joins_link, joins_symm, joins_trans, joins_more}
 
 -- What the first touches of the first i links leave: nothing where there are none, else the first link's labels have one
 -- number.

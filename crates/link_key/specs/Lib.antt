@@ -1,14 +1,3 @@
-pub mod Arc
-pub mod Link
-pub mod Walk
-pub mod Forest
-pub mod LinkSet
-pub mod Least
-pub mod Labels
-pub mod Offers
-pub mod Components
-pub mod WideKey
-pub mod PackedKey
-pub mod Cut
 pub mod Rounds
 pub mod OpenLinks
+pub mod Parts

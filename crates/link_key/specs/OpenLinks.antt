@@ -4,12 +4,13 @@ use Rattle.std.specs.Prelude.{List, [], ◌∷◌, ◌++◌, map, length, slice_
 use Rattle.std.specs.List.{All, sum_by}
 use Rattle.std.specs.List.Sorted.{IsSorted}
 use Rattle.std.specs.declared.cmp.Ordering.{Ordering}
-use Rattle.link_key.specs.declared.links.Link.{Link}
+use Rattle.links.specs.declared.links.Link.{Link}
 use Rattle.link_key.specs.declared.sequential.rounds.Open.{Open}
-use Rattle.link_key.specs.Link.{key_cmp}
-use Rattle.link_key.specs.Walk.{Joins}
-use Rattle.link_key.specs.Components.{HasOneLabel}
-use Rattle.link_key.specs.Rounds.{renamed, IsLeastOut, AreJoinedWhereOne, AreLabelsUpTo, IsStage}
+use Rattle.links.specs.Link.{key_cmp}
+use Rattle.links.specs.Walk.{Joins}
+use Rattle.link_key.specs.Rounds.{HasOneLabel}
+use Rattle.link_key.specs.Rounds.{IsLeastOut, AreJoinedWhereOne, AreLabelsUpTo, IsStage}
+use Rattle.links.specs.Labels.{renamed}
 
 -- the link that has the rank of an open one; d where there is none
 abbrev pub link_of : Link → List Link → Open → Link

@@ -1,11 +1,14 @@
 -- Borůvka's rounds over links in the order of their keys, by labels of the vertices.
 use Rattle.std.specs.Prelude.{◌≡◌, ◌≢◌, ℕ, ◌+◌, ◌<◌, ◌≤◌, ◌⊎◌, Bool, not, ◌==◌}
-use Rattle.std.specs.Prelude.{List, [], ◌++◌, map, take, drop, length, slice_index, EachIndex, Contains}
-use Rattle.link_key.specs.declared.links.Link.{Link}
-use Rattle.link_key.specs.Link.{IsBelow}
-use Rattle.link_key.specs.Walk.{Joins}
-use Rattle.link_key.specs.Forest.{IsForestLink}
-use Rattle.link_key.specs.Components.{HasOneLabel}
+use Rattle.std.specs.Prelude.{List, [], ◌++◌, take, drop, length, slice_index, EachIndex, Contains}
+use Rattle.links.specs.declared.links.Link.{Link}
+use Rattle.links.specs.Link.{IsBelow}
+use Rattle.links.specs.Walk.{Joins}
+use Rattle.links.specs.Forest.{IsForestLink}
+
+-- both ends of the link have one label
+abbrev pub HasOneLabel : List ℕ → Link → Type 0
+HasOneLabel labels l = slice_index labels l.low ≡ slice_index labels l.high
 
 -- the ends of the link have different labels
 abbrev pub is_apart : List ℕ → Link → Bool
@@ -37,10 +40,6 @@ pub record AreLabelsUpTo (count : ℕ) (labels : List ℕ) : Type 0 where
 abbrev pub AreOwn : ℕ → List ℕ → Type 0
 AreOwn n labels = (length labels ≡ n + 1) × EachIndex labels (λ v. slice_index labels v ≡ v)
 
--- its number in the place of each label
-abbrev pub renamed : List ℕ → List ℕ → List ℕ
-renamed numbers labels = map (λ (c : ℕ). slice_index numbers c) labels
-
 -- What stands while the forest of a list is found: each end has a label; what is taken is in the forest, and joins what
 -- has one label; a link whose ends have different labels is of the rest, all whose links are such, or left for later,
 -- where none is below any of the rest.
@@ -66,10 +65,3 @@ TakeRest rest labels taken labels' =
 -- of the rest of a stage the first links of a list are taken, and by the new labels the others of the list are left
 abbrev pub TakePart : List Link → List ℕ → ℕ → List Link → List ℕ → Type 0
 TakePart rest labels first list labels' = (all before : List Link) → IsStage all rest [] labels before → IsStageOf all first list labels' before
-
--- two parts of the links, of which nothing in the first is above anything in the other
-pub record AreParts (links light later : List Link) : Type 0 where
-  pub light_in : (l : Link) → Contains light l → Contains links l
-  pub later_in : (l : Link) → Contains later l → Contains links l
-  pub all : (l : Link) → Contains links l → Contains light l ⊎ Contains later l
-  pub above : (l m : Link) → Contains light l → Contains later m → ¬ (IsBelow m l)

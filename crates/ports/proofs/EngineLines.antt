@@ -7,8 +7,8 @@ use Rattle.frames.specs.Refusals.{StreamRefused}
 use Rattle.frames.specs.declared.fault.FrameFault.{FrameFault}
 use Rattle.frames.specs.FrameStream.{BeginsNone, IsOfStream}
 use Rattle.frames.proofs.FrameStreams.{refused_begins_none}
-use Rattle.ports.specs.Causes.{IsBad, IsGarble}
-use Rattle.ports.proofs.Refused.{bad_begins_none, bad_more}
+use Rattle.wires.specs.Causes.{IsBad, IsGarble}
+use Rattle.wires.proofs.Refused.{bad_begins_none, bad_more}
 
 pub refused_left : {E : Type 0} (result : Result Bool E) (fault : FrameFault) (bytes left : List ℕ) → bytes ≡ left → (IsOfStream fault → StreamRefused fault bytes) → OnOk result (IsOfStream fault)
     → OnOk result (BeginsNone left)

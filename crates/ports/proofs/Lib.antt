@@ -1,9 +1,1 @@
-pub mod GivenBytes
-pub mod Going
-pub mod SendingPieces
-pub mod LineReads
-pub mod Refused
-pub mod Asking
-pub mod OneAsk
-pub mod Wiring
 pub mod EngineLines

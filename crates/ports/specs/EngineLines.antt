@@ -1,11 +1,11 @@
 -- A line to an engine in memory.
 use Rattle.std.specs.Prelude.{◌≡◌, ℕ, List, ◌++◌, take, drop, Bool, true, Some}
 use Rattle.frames.specs.FrameStream.{BeginsNone}
-use Rattle.worker_engine.specs.Serving.{ShelfList, shelf_of}
-use Rattle.worker_engine.specs.Session.{InSession}
-use Rattle.ports.specs.declared.line.Line as Line
-use Rattle.ports.specs.Causes.{IsBad}
-use Rattle.ports.specs.Lines.{LineState}
+use Rattle.worker_replies.specs.Serving.{ShelfList, shelf_of}
+use Rattle.worker_replies.specs.Session.{InSession}
+use Rattle.wires.specs.declared.line.Line as Line
+use Rattle.wires.specs.Causes.{IsBad}
+use Rattle.wires.specs.Lines.{LineState}
 
 -- a session in memory: the shards that its engine keeps, the bytes that came, how many of them were heard, and the bytes that it wrote
 pub record SessionState : Type 0 where

@@ -1,11 +1,2 @@
-pub mod Lines
-pub mod Testing
-pub mod Ports
-pub mod Exchanges
-pub mod LineSources
-pub mod Clients
-pub mod Causes
-pub mod Sending
 pub mod EngineLines
 pub mod LineLaws
-pub mod Wires

@@ -1,16 +1,11 @@
--- Why the lines of this crate keep the law of lines: what a faithful one got begins what its worker's session may write.
--- These are proofs, which each `impl` of `Line` gives for its law; no contract cites them.
-use Rattle.std.proofs.Common.{◌≡◌, ℕ, List, ◌++◌, take, drop, sym, ap, subst, ◌∙◌, take-append-drop, arith}
+-- Why a line to an engine keeps the law of lines: what was got begins what its worker's session may write. It is a
+-- proof, which the `impl` of `Line` gives for its law; no contract cites it.
+use Rattle.std.proofs.Common.{◌≡◌, ℕ, List, ◌++◌, take, drop, sym, ap, subst, ◌∙◌, take-append-drop}
 use Rattle.frames.specs.declared.frame.TheConstants.{VERSION}
-use Rattle.worker_engine.specs.Serving.{shelf_of, Serves}
-use Rattle.worker_engine.proofs.Sessions.{session_serves}
-use Rattle.ports.specs.Lines.{LineState, ServesSoFar}
-use Rattle.ports.specs.Testing.{with_stops}
+use Rattle.worker_replies.specs.Serving.{shelf_of, Serves}
+use Rattle.worker_replies.proofs.Sessions.{session_serves}
+use Rattle.wires.specs.Lines.{ServesSoFar}
 use Rattle.ports.specs.EngineLines.{EngineLineState, line_of, IsEngineLine}
-
--- stopped calls are failures too
-pub fused_serves : (worker : ℕ) (line : LineState) (stopped : ℕ) → ServesSoFar worker line → ServesSoFar worker (with_stops line stopped)
-fused_serves worker line stopped serves no_failure = serves (omega arith)
 
 -- what was got begins what the session wrote
 pub engine_serves : (worker : ℕ) (s : EngineLineState) → IsEngineLine worker s → ServesSoFar worker (line_of s)

@@ -1,18 +1,16 @@
 //! A line to an engine in memory.
 ghost use Rattle.std.specs.Prelude.{◌≡◌, ℕ, ◌+◌, ◌-◌, ◌<◌, ◌≤◌, ◌++◌, min, length, Ok, IfOk, IsErr};
 ghost use Rattle.std.specs.Io.{ReadsAtMost};
-ghost use Rattle.ports.specs.Lines.{HasRoom, IsFresh, Puts, Gets};
+ghost use Rattle.wires.specs.Lines.{HasRoom, IsFresh, Puts, Gets};
 ghost use Rattle.ports.specs.EngineLines.{line_of, IsEngineLine};
 ghost use Rattle.ports.specs.LineLaws.{engine_serves};
 
-use crate::fault::LineFault;
-use crate::line::Line;
-use crate::memory::give;
 use crate::session::Session;
 use frames::{Frame, VERSION, encode};
 use limits::MAX_WORKERS;
 use std::alloc::{AllocError, Allocator};
 use std::marker::Model;
+use wires::{Line, LineFault, give};
 use worker_engine::Engine;
 
 /// An engine behind a line in memory. The bytes to get are those that the worker's session writes for the

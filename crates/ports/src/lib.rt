@@ -1,48 +1,18 @@
-//! Lines to workers, and ports over them: where bytes become answers. A [`Wire`] is the port over a line; it asks for
-//! the light offers of a shard by frames, and is closed for good by its first fault.
+//! All that asks workers, under one name: ports and their faults (`port_trait`), lines and wires over them (`wires`), and
+//! a line to an engine in memory, which stands above both the wires' crate and the engine's.
 //!
 //! ```text
-//!     Port::ask, shut, is_open, asks        what rounds ask
-//!              |
-//!            Wire                           is it open? counts
-//!            Client::ask                      one ask: hello, shard, ask, answer
-//!            steps                          greet, check_version, send_shard, send_ask, hear_answer
-//!              |                 \
-//!         Line::put           LineSource, which owns the line: frames are read of it
-//!              |                 /
-//!            Line
-//!      EngineLine    FusedLine(line)    ScriptLine       in memory; one that stops; one that plays stored bytes
+//!     EngineLine    Line::put --Session--> Engine::hear_or_fault --Session--> Line::get
 //! ```
 //!
 //! What it promises:
-//! - Over a fresh line with known bytes that is faithful for its worker a wire is honest: each answer is light for
-//!   what was asked, and the only faults are the line's own, want of memory, and a worker too old for wide weights.
-//! - Over any line a fault has its cause: the bytes that came, what the line counted, or want of memory.
-//! - An open wire over a line that was fresh, with known bytes, sent each shard once, before its first ask, and the
-//!   asks, and got the hello and the answers, and nothing else.
+//! - An [`EngineLine`] is faithful for its worker: what comes of it begins what the worker's session may write.
 //!
-//! Where to start a change: `line` and `specs/Lines` for what is known of a line; `port`, `specs/Ports` and `specs/Exchanges`
-//! for what a port does; `steps` and `specs/Causes` for a new fault or step; `specs/Clients` for what a wire said and
-//! heard.
+//! Where to start a change: `engine_line` and `session`, with `specs/EngineLines`; of anything else the crates below.
 #![tactic(auto)]
 
-mod client;
 mod engine_line;
-mod fault;
-mod fused;
-mod line;
-mod line_source;
-mod memory;
-mod port;
-mod script;
 mod session;
-mod steps;
-mod wire;
 
 pub use engine_line::EngineLine;
-pub use fault::{LineFault, PortFault};
-pub use fused::{Fuse, FusedLine};
-pub use line::Line;
-pub use port::Port;
-pub use script::ScriptLine;
-pub use wire::Wire;
+pub use wires::{Fuse, FusedLine, Line, LineFault, Port, PortFault, ScriptLine, Wire};

@@ -5,8 +5,8 @@ ghost use Rattle.frames.specs.FrameText.{text_of};
 ghost use Rattle.frames.specs.Lawful.{IsLawful};
 ghost use Rattle.frames.specs.FrameStream.{texts_of, AreLawful, BeginsNone, IsOfStream};
 ghost use Rattle.frames.specs.Refusals.{StreamRefused};
-ghost use Rattle.worker_engine.specs.Serving.{replies_in};
-ghost use Rattle.ports.specs.Causes.{IsGarble};
+ghost use Rattle.worker_replies.specs.Serving.{replies_in};
+ghost use Rattle.wires.specs.Causes.{IsGarble};
 ghost use Rattle.ports.specs.EngineLines.{rest_of, GoesOn, IsOver, Extends};
 
 use frames::{Frame, FrameFault, encode, read_frame};

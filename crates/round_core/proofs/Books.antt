@@ -9,13 +9,13 @@ use Rattle.std.proofs.lemmas.List.Elements.{All-get_or}
 use Rattle.std.proofs.lemmas.List.Sums.{sum_by-cons}
 use Rattle.std.proofs.lemmas.Option.{slice_get_cases, slice_get_read}
 use Rattle.limits.specs.declared.TheConstants.{MAX_SHARDS}
-use Rattle.link_key.specs.declared.links.Link.{Link}
-use Rattle.link_key.specs.Link.{EndsUpTo}
-use Rattle.link_key.specs.Labels.{label_of, AreLabels}
-use Rattle.link_key.specs.Offers.{Offer}
-use Rattle.link_key.specs.Cut.{links_at}
-use Rattle.link_key.proofs.Members.{contains_head, contains_tail, contains_none}
-use Rattle.frames.specs.AnswerValue.{AnswerValue}
+use Rattle.links.specs.declared.links.Link.{Link}
+use Rattle.links.specs.Link.{EndsUpTo}
+use Rattle.links.specs.Labels.{label_of, AreLabels}
+use Rattle.links.specs.Offers.{Offer}
+use Rattle.links.specs.Cut.{links_at}
+use Rattle.links.proofs.Members.{contains_head, contains_tail, contains_none}
+use Rattle.links.specs.AnswerValue.{AnswerValue}
 use Rattle.round_theory.specs.LinkSet.{SameLinks}
 use Rattle.round_theory.specs.Offers.{Hearing, Names, IsNamed}
 use Rattle.round_theory.proofs.Cutting.{any_from, flat_map_contains}

@@ -7,9 +7,9 @@ use Rattle.std.proofs.lemmas.List.{length-set, get_or-set_same, get_or-set_other
 use Rattle.std.proofs.lemmas.List.Elements.{Contains-get_or, Contains-push, Contains-push_cases, Contains-append_left, All-contains, All-push}
 use Rattle.std.proofs.lemmas.List.Quantifiers.{all_pairs_push}
 use Rattle.std.proofs.lemmas.List.Sums.{sum_by-cons, sum_by-set}
-use Rattle.link_key.specs.declared.links.Link.{Link}
-use Rattle.link_key.specs.Cut.{joined, links_at}
-use Rattle.frames.specs.AnswerValue.{AnswerValue}
+use Rattle.links.specs.declared.links.Link.{Link}
+use Rattle.links.specs.Cut.{joined, links_at}
+use Rattle.links.specs.AnswerValue.{AnswerValue}
 use Rattle.round_theory.specs.Offers.{Hearing, IsNamed}
 use Rattle.round_theory.proofs.Cutting.{any_from, flat_map_contains, light_offers_suffice}
 use Rattle.round_theory.proofs.Leaving.{least_leaving_exists}

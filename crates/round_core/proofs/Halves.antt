@@ -4,10 +4,10 @@ use Rattle.std.specs.Prelude.{slice_get}
 use Rattle.std.specs.Option.{option_to_list}
 use Rattle.std.proofs.lemmas.Grind.{flat_map-append}
 use Rattle.std.proofs.lemmas.List.{take-append-drop}
-use Rattle.link_key.specs.declared.links.Link.{Link}
-use Rattle.link_key.specs.Cut.{links_at}
-use Rattle.link_key.specs.Offers.{Offer}
-use Rattle.frames.specs.AnswerValue.{AnswerValue}
+use Rattle.links.specs.declared.links.Link.{Link}
+use Rattle.links.specs.Cut.{links_at}
+use Rattle.links.specs.Offers.{Offer}
+use Rattle.links.specs.AnswerValue.{AnswerValue}
 use Rattle.round_core.specs.BookValue.{named_links, all_named}
 
 -- what the first answers name and what the rest do stand one behind the other

@@ -4,10 +4,10 @@ use Rattle.std.specs.Prelude.{All, slice_get}
 use Rattle.std.specs.List.{list_all}
 use Rattle.std.proofs.lemmas.List.{get_or_default}
 use Rattle.std.proofs.lemmas.Option.{slice_get-get_or}
-use Rattle.link_key.specs.declared.links.Link.{Link}
-use Rattle.link_key.specs.Labels.{label_of}
-use Rattle.link_key.specs.Offers.{Offer}
-use Rattle.link_key.specs.Cut.{links_at}
+use Rattle.links.specs.declared.links.Link.{Link}
+use Rattle.links.specs.Labels.{label_of}
+use Rattle.links.specs.Offers.{Offer}
+use Rattle.links.specs.Cut.{links_at}
 use Rattle.round_theory.specs.Offers.{Leaves, OffersLeaving}
 use Rattle.round_theory.proofs.LightOffers.{light_offers_leave}
 use Rattle.round_core.specs.BookValue.{is_leaving, is_offer, LightOffersAreTaken}

@@ -5,7 +5,7 @@ use Rattle.std.proofs.lemmas.Bool.{cases_eq, cases_lt}
 use Rattle.std.proofs.Math.Nat.{two-pow-succ}
 use Rattle.std.proofs.lemmas.List.{length-set, set-get_or, get_or-set_same, get_or-set_other, get_or_default}
 use Rattle.std.proofs.lemmas.List.Elements.{Contains-get_or}
-use Rattle.link_key.specs.declared.links.Link.{Link}
+use Rattle.links.specs.declared.links.Link.{Link}
 use Rattle.round_theory.specs.Labelling.{JoinsOver}
 use Rattle.round_core.specs.Picks.{Picked}
 use Rattle.round_core.specs.Roots.{ArePointers, AreParents, jumped, IsSettled, AreSettled, IsNear, AreNear}

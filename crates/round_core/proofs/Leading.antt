@@ -6,12 +6,12 @@ use Rattle.std.specs.Ordering.{int_cmp, MatchOrdering}
 use Rattle.std.specs.declared.cmp.Ordering.{Ordering}
 use Rattle.std.proofs.lemmas.Bool.{cases_lt, ltb-true, ltb-false}
 use Rattle.std.proofs.lemmas.Int.{ints}
-use Rattle.link_key.specs.declared.links.Link.{Link}
-use Rattle.link_key.specs.Link.{IsBelow}
-use Rattle.link_key.specs.Labels.{label_of, AreLabels}
-use Rattle.link_key.specs.WideKey.{wide_key}
-use Rattle.link_key.proofs.Keys.{trichotomy}
-use Rattle.link_key.proofs.WideKeys.{int_ranks, wide_compares}
+use Rattle.links.specs.declared.links.Link.{Link}
+use Rattle.links.specs.Link.{IsBelow}
+use Rattle.links.specs.Labels.{label_of, AreLabels}
+use Rattle.links.specs.WideKey.{wide_key}
+use Rattle.links.proofs.Keys.{trichotomy}
+use Rattle.links.proofs.WideKeys.{int_ranks, wide_compares}
 use Rattle.round_theory.specs.Labelling.{IsVertex, JoinsOver}
 use Rattle.round_theory.specs.Offers.{Leaves, IsLeastLeaving, NoneLeaves, Hearing, IsNamed}
 use Rattle.round_theory.proofs.Leaving.{leaves_both_ends, leaves_apart}

@@ -5,8 +5,6 @@ pub mod Books
 pub mod Halves
 pub mod Honest
 pub mod HookWalks
-pub mod Hooking
-pub mod HookMembers
 pub mod Full
 pub mod Picking
 pub mod Leading

@@ -7,9 +7,9 @@ use Rattle.std.proofs.lemmas.List.Folds.{list_all-append}
 use Rattle.std.proofs.lemmas.Bool.{cases_lt, cases_eq}
 use Rattle.std.proofs.lemmas.Option.{slice_get_read}
 use Rattle.std.proofs.lemmas.List.{take_more, flat_map_more, get_or_default, get_or-take, length-take-le, get_or-set_same, get_or-set_other, take-append-drop}
-use Rattle.link_key.specs.declared.links.Link.{Link}
-use Rattle.link_key.specs.Labels.{label_of, AreLabels}
-use Rattle.link_key.specs.Offers.{Offer}
+use Rattle.links.specs.declared.links.Link.{Link}
+use Rattle.links.specs.Labels.{label_of, AreLabels}
+use Rattle.links.specs.Offers.{Offer}
 use Rattle.round_core.specs.declared.picks.LookedUp.{LookedUp}
 use Rattle.round_core.specs.PickNumbers.{IsPickNumber, pick_in}
 use Rattle.round_core.specs.Picks.{ArePicks, Counts}

@@ -5,10 +5,10 @@ use Rattle.std.specs.List.{AllByRecursion}
 use Rattle.std.proofs.lemmas.Bool.{cases_lt}
 use Rattle.std.proofs.lemmas.Nat.{pow_below}
 use Rattle.std.proofs.lemmas.List.Elements.{Contains-get_or, All-append}
-use Rattle.link_key.specs.declared.links.Link.{Link}
-use Rattle.link_key.specs.Link.{EndsUpTo}
-use Rattle.link_key.specs.Labels.{label_of, AreApart}
-use Rattle.link_key.proofs.Members.{contains_none}
+use Rattle.links.specs.declared.links.Link.{Link}
+use Rattle.links.specs.Link.{EndsUpTo}
+use Rattle.links.specs.Labels.{label_of, AreApart}
+use Rattle.links.proofs.Members.{contains_none}
 use Rattle.round_theory.specs.LinkSet.{LinkSet, IsPartOf, SameLinks}
 use Rattle.round_theory.specs.Labelling.{IsLabelling, JoinsOver, IsRelabelling}
 use Rattle.round_theory.specs.Offers.{IsPick, Hearing, IsNamed}

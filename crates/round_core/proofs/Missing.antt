@@ -7,16 +7,16 @@ use Rattle.std.proofs.lemmas.List.{take_more, take-append-drop}
 use Rattle.std.proofs.lemmas.List.Folds.{find-append}
 use Rattle.std.proofs.lemmas.List.Elements.{Contains-get_or, All-contains}
 use Rattle.std.proofs.lemmas.List.Sorted.{Contains-permutation, IsPermutation-sym}
-use Rattle.link_key.specs.declared.links.Link.{Link}
-use Rattle.link_key.specs.Link.{EndsUpTo, IsAscending}
-use Rattle.link_key.specs.Labels.{label_of}
-use Rattle.link_key.specs.Cut.{joined}
-use Rattle.link_key.proofs.Members.{contains_none, contains_cases}
-use Rattle.link_key.proofs.Walks.{joins_more}
+use Rattle.links.specs.declared.links.Link.{Link}
+use Rattle.links.specs.Link.{EndsUpTo, IsAscending}
+use Rattle.links.specs.Labels.{label_of}
+use Rattle.links.specs.Cut.{joined}
+use Rattle.links.proofs.Members.{contains_none, contains_cases}
+use Rattle.links.proofs.Walks.{joins_more}
 use Rattle.round_theory.specs.LinkSet.{SameLinks}
 use Rattle.round_theory.specs.Offers.{Leaves}
 use Rattle.round_theory.proofs.Cutting.{flat_map_contains}
-use Rattle.link_key.proofs.Cycles.{no_cycle_part}
+use Rattle.links.proofs.Cycles.{no_cycle_part}
 use Rattle.round_theory.proofs.Leaving.{leaves_apart, spans_where_none_leaves}
 use Rattle.round_core.specs.Solver.{Progress, vertices, IsProgress, is_apart, missed, IsFinished}
 

@@ -8,10 +8,10 @@ use Rattle.std.proofs.lemmas.List.Filters.{FiltersInPlace, FiltersInPlace-more_n
 use Rattle.std.proofs.lemmas.List.{drop-set-lt, take-set, length-set, length-map, get_or-map, get_or-set_same, get_or-set_other, get_or_default, with_items_is}
 use Rattle.std.proofs.lemmas.List.Elements.{Contains-get_or, All-contains}
 use Rattle.std.proofs.lemmas.List.Kept.{AllPairs-filter}
-use Rattle.link_key.specs.declared.links.Link.{Link}
-use Rattle.link_key.specs.Labels.{label_of, AreLabels, AreApart}
-use Rattle.link_key.specs.Rounds.{renamed}
-use Rattle.link_key.proofs.Stages.{kept_in, kept_if}
+use Rattle.links.specs.declared.links.Link.{Link}
+use Rattle.links.specs.Labels.{label_of, AreLabels, AreApart}
+use Rattle.links.specs.Labels.{renamed}
+use Rattle.links.proofs.Kept.{kept_in, kept_if}
 use Rattle.round_theory.specs.Labelling.{IsVertex, JoinsOver, IsRelabelling, IsLeastJoinedOver}
 use Rattle.round_core.specs.Picks.{Picked}
 use Rattle.round_core.specs.Roots.{IsRoot, AreRoots, ArePointers, AreParents, AreSettled, IsLeastUnder, AreNames}
@@ -22,26 +22,55 @@ use Rattle.round_core.proofs.Leading.{end_root}
 pub at_contained : (P : ℕ → Type 0) (roots : List ℕ) (k : ℕ) → length roots ≤ k → ((j : ℕ) → j < k → P (get_or roots j 0)) → (c : ℕ) → Contains roots c → P c
 at_contained P roots k past all c (j, within, here) = subst P (get_or_default roots j 0 c within ∙ here) (all j (omega (arith, past, within)))
 
+-- the vertices from 1 on ascend, and are just these
+pub vertices_ascend : (vertices : List ℕ) → ((k : ℕ) → k < length vertices → get_or vertices k 0 ≡ k + 1) → AllPairs (λ b c. b < c) vertices
+vertices_ascend vertices own i j d lt within =
+    let at_i : get_or vertices i d ≡ i + 1 = get_or_default vertices i d 0 (omega (arith, lt, within)) ∙ own i (omega (arith, lt, within)) in
+    let at_j : get_or vertices j d ≡ j + 1 = get_or_default vertices j d 0 within ∙ own j within in
+    omega (arith, at_i, at_j, lt)
+
+pub contained_is_vertex : (vertices : List ℕ) (c : ℕ) → ((k : ℕ) → k < length vertices → get_or vertices k 0 ≡ k + 1) → Contains vertices c → IsVertex (length vertices) c
+contained_is_vertex vertices c own (j, within, here) =
+    let is : j + 1 ≡ c = sym (own j within) ∙ get_or_default vertices j 0 c within ∙ here in
+    (omega (arith, is), omega (arith, is, within))
+
+pub vertex_is_contained : (vertices : List ℕ) (c : ℕ) → ((k : ℕ) → k < length vertices → get_or vertices k 0 ≡ k + 1) → IsVertex (length vertices) c → Contains vertices c
+vertex_is_contained vertices c own vertex =
+    let within : c - 1 < length vertices = omega (arith, vertex.0, vertex.1) in
+    (c - 1, within, get_or_default vertices (c - 1) c 0 within ∙ own (c - 1) within ∙ (let e : c - 1 + 1 ≡ c = omega (arith, vertex.0) in e))
+
 -- each vertex by itself is a root
 pub apart_roots : (n : ℕ) (roots labels : List ℕ) → length roots ≡ n → ((k : ℕ) → k < length roots → get_or roots k 0 ≡ k + 1) → AreApart n labels → AreRoots labels roots
 apart_roots n roots labels long own apart = record {
-  ascending = λ i j d lt within.
-      let at_i : get_or roots i d ≡ i + 1 = get_or_default roots i d 0 (omega (arith, lt, within)) ∙ own i (omega (arith, lt, within)) in
-      let at_j : get_or roots j d ≡ j + 1 = get_or_default roots j d 0 within ∙ own j within in
-      omega (arith, at_i, at_j, lt);
+  ascending = vertices_ascend roots own;
   exact = λ c. (to c, back c);
 }
   where
     to : (c : ℕ) → Contains roots c → IsRoot labels c
-    to c (j, within, here) =
-        let is : j + 1 ≡ c = sym (own j within) ∙ get_or_default roots j 0 c within ∙ here in
-        let le : c ≤ n = omega (arith, is, within, long) in
-        ((omega (arith, is), omega (arith, le, apart.vertices)), apart.itself c (omega (arith, is)) le)
+    to c c_in =
+        let vertex = contained_is_vertex roots c own c_in in
+        let le : c ≤ n = omega (arith, vertex.1, long) in
+        ((vertex.0, omega (arith, le, apart.vertices)), apart.itself c vertex.0 le)
 
     back : (c : ℕ) → IsRoot labels c → Contains roots c
-    back c (vertex, _) =
-        let within : c - 1 < length roots = omega (arith, vertex.0, vertex.1, apart.vertices, long) in
-        (c - 1, within, get_or_default roots (c - 1) c 0 within ∙ own (c - 1) within ∙ (let e : c - 1 + 1 ≡ c = omega (arith, vertex.0) in e))
+    back c (vertex, _) = vertex_is_contained roots c own (vertex.0, omega (arith, vertex.1, apart.vertices, long))
+
+-- of all vertices those that label themselves are the roots
+pub own_roots : (vertices labels : List ℕ) → length vertices ≡ length labels → ((k : ℕ) → k < length vertices → get_or vertices k 0 ≡ k + 1)
+    → AreRoots labels (filter (λ c. label_of labels c == c) vertices)
+own_roots vertices labels long own = record {
+  ascending = AllPairs-filter (λ b c. b < c) (λ c. label_of labels c == c) vertices (vertices_ascend vertices own);
+  exact = λ c. (to c, back c);
+}
+  where
+    to : (c : ℕ) → Contains (filter (λ c. label_of labels c == c) vertices) c → IsRoot labels c
+    to c c_in =
+        let (among, itself) = kept_in (λ c. label_of labels c == c) vertices c c_in in
+        (subst (λ n. IsVertex n c) long (contained_is_vertex vertices c own among), eqb-true (label_of labels c) c itself)
+
+    back : (c : ℕ) → IsRoot labels c → Contains (filter (λ c. label_of labels c == c) vertices) c
+    back c (vertex, itself) =
+        kept_if (λ c. label_of labels c == c) vertices c (vertex_is_contained vertices c own (subst (λ n. IsVertex n c) (sym long) vertex)) (eq-eqb (label_of labels c) c itself)
 
 -- of the roots from place k on with the parent p, u is the least
 pub record IsLeastFrom (roots parents : List ℕ) (k p u : ℕ) : Type 0 where

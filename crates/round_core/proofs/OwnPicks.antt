@@ -8,15 +8,15 @@ use Rattle.std.proofs.lemmas.Bool.{cases_lt, cases_eq}
 use Rattle.std.proofs.lemmas.Option.{slice_get_cases, slice_get_read}
 use Rattle.std.proofs.lemmas.List.{length-map, get_or-map, get_or_default, get_or-set_same, get_or-set_other}
 use Rattle.std.proofs.lemmas.List.Elements.{All-contains_itself, Contains-append_left, Contains-append_right, Contains-push_cases}
-use Rattle.link_key.specs.declared.links.Link.{Link}
-use Rattle.link_key.specs.Link.{IsBelow, EndsUpTo}
-use Rattle.link_key.specs.Labels.{label_of}
-use Rattle.link_key.specs.Offers.{Offer}
-use Rattle.link_key.specs.Cut.{links_at}
-use Rattle.link_key.specs.WideKey.{wide_key}
-use Rattle.link_key.proofs.Keys.{trichotomy}
-use Rattle.link_key.proofs.Members.{contains_head}
-use Rattle.frames.specs.AnswerValue.{AnswerValue}
+use Rattle.links.specs.declared.links.Link.{Link}
+use Rattle.links.specs.Link.{IsBelow, EndsUpTo}
+use Rattle.links.specs.Labels.{label_of}
+use Rattle.links.specs.Offers.{Offer}
+use Rattle.links.specs.Cut.{links_at}
+use Rattle.links.specs.WideKey.{wide_key}
+use Rattle.links.proofs.Keys.{trichotomy}
+use Rattle.links.proofs.Members.{contains_head}
+use Rattle.links.specs.AnswerValue.{AnswerValue}
 use Rattle.round_theory.specs.Labelling.{IsVertex}
 use Rattle.round_theory.specs.Offers.{Leaves}
 use Rattle.round_theory.proofs.Cutting.{any_from, flat_map_contains}

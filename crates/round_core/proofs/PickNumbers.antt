@@ -10,12 +10,12 @@ use Rattle.std.proofs.lemmas.Int.{ints}
 use Rattle.std.proofs.lemmas.List.{length-map, get_or-map, map-set, length-set}
 use Rattle.std.proofs.lemmas.List.Elements.{All-set}
 use Rattle.limits.specs.declared.TheConstants.{MAX_VERTICES}
-use Rattle.link_key.specs.declared.links.Link.{Link}
-use Rattle.link_key.specs.Link.{IsBelow}
-use Rattle.link_key.specs.Labels.{label_of, AreLabels}
-use Rattle.link_key.specs.WideKey.{wide_key}
-use Rattle.link_key.proofs.Keys.{link_eq}
-use Rattle.link_key.proofs.WideKeys.{int_ranks, wide_compares}
+use Rattle.links.specs.declared.links.Link.{Link}
+use Rattle.links.specs.Link.{IsBelow}
+use Rattle.links.specs.Labels.{label_of, AreLabels}
+use Rattle.links.specs.WideKey.{wide_key}
+use Rattle.links.proofs.Keys.{link_eq}
+use Rattle.links.proofs.WideKeys.{int_ranks, wide_compares}
 use Rattle.round_core.specs.PickNumbers.{IsKeyNumber, no_pick, IsPickNumber, weight_fits, link_of, pick_in}
 use Rattle.round_core.specs.Picks.{AreNoPicks}
 use Rattle.round_core.proofs.Counts.{IsLesserOf, AreCounted, set_counted}

@@ -3,10 +3,10 @@ use Rattle.std.proofs.Common.{◌≡◌, ℕ, zero, suc, ◌+◌, ◌<◌, List,
 use Rattle.std.specs.Prelude.{Option, Any}
 use Rattle.std.proofs.lemmas.List.{flat_map_more, take_more}
 use Rattle.std.proofs.lemmas.List.Elements.{All-from_recursion}
-use Rattle.link_key.specs.declared.links.Link.{Link}
-use Rattle.link_key.specs.Labels.{label_of}
-use Rattle.link_key.specs.Cut.{joined, links_at}
-use Rattle.link_key.proofs.Members.{contains_head}
+use Rattle.links.specs.declared.links.Link.{Link}
+use Rattle.links.specs.Labels.{label_of}
+use Rattle.links.specs.Cut.{joined, links_at}
+use Rattle.links.proofs.Members.{contains_head}
 use Rattle.round_theory.specs.Offers.{Hearing, Names, IsNamed, HaveLinksOf, AreLightOffers, AreAllLight}
 use Rattle.round_theory.proofs.Cutting.{any_from, light_offers_suffice}
 use Rattle.round_theory.proofs.Leaving.{leaves_apart}

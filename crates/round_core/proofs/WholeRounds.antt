@@ -4,16 +4,16 @@ use Rattle.std.specs.Prelude.{Option}
 use Rattle.std.proofs.lemmas.Bool.{cases_lt}
 use Rattle.std.proofs.lemmas.List.{get_or_default}
 use Rattle.std.proofs.lemmas.List.Elements.{All-contains}
-use Rattle.link_key.specs.declared.links.Link.{Link}
-use Rattle.link_key.specs.Link.{EndsUpTo}
-use Rattle.link_key.specs.Labels.{label_of, AreLabels}
-use Rattle.link_key.specs.Forest.{IsForestLink, IsForestOf}
-use Rattle.link_key.proofs.Members.{contains_none, contains_head, contains_tail}
+use Rattle.links.specs.declared.links.Link.{Link}
+use Rattle.links.specs.Link.{EndsUpTo}
+use Rattle.links.specs.Labels.{label_of, AreLabels}
+use Rattle.links.specs.Forest.{IsForestLink, IsForestOf}
+use Rattle.links.proofs.Members.{contains_none, contains_head, contains_tail}
 use Rattle.round_theory.specs.LinkSet.{IsPartOf, SameLinks}
 use Rattle.round_theory.specs.Labelling.{IsVertex}
 use Rattle.round_theory.specs.Offers.{Leaves, IsPick}
 use Rattle.round_theory.specs.Rounds.{TakenAfter, IsMergingRounds}
-use Rattle.link_key.proofs.ForestSpans.{spanning_part_is_forest}
+use Rattle.links.proofs.ForestSpans.{spanning_part_is_forest}
 use Rattle.round_theory.proofs.Labels.{labelling_alike, labelling_is_labels}
 use Rattle.round_theory.proofs.Leaving.{leaves_low, least_leaving_unique}
 use Rattle.round_theory.proofs.OfferSteps.{left_label_is_vertex}

@@ -2,9 +2,9 @@
 use Rattle.std.proofs.Common.{◌≡◌, ◌≢◌, ℕ, zero, suc, ◌<◌, ◌≤◌, [], Contains, Some, None, refl, ap, arith, lit≤, lit<}
 use Rattle.std.specs.Prelude.{Option, AllPairs, MatchOption, ⊤, slice_index_or}
 use Rattle.std.proofs.lemmas.List.Elements.{All-contains, All-from_recursion}
-use Rattle.link_key.specs.declared.links.Link.{Link}
-use Rattle.link_key.specs.Link.{IsAscending}
-use Rattle.link_key.proofs.Members.{contains_none}
+use Rattle.links.specs.declared.links.Link.{Link}
+use Rattle.links.specs.Link.{IsAscending}
+use Rattle.links.proofs.Members.{contains_none}
 use Rattle.round_theory.specs.LinkSet.{SameLinks, HasNoCycle}
 use Rattle.round_theory.specs.Labelling.{IsVertex}
 use Rattle.round_theory.specs.Examples.{link_1_2, link_1_3, triangle, two_sides, apart}

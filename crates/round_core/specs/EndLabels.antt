@@ -1,6 +1,6 @@
 -- The labels in which those of links' ends are looked up.
 use Rattle.std.specs.Prelude.{◌≡◌, ◌↔◌, ℕ, Bool, true, List, length}
-use Rattle.link_key.specs.Labels.{AreLabels, AreApart}
+use Rattle.links.specs.Labels.{AreLabels, AreApart}
 
 -- they are said to be apart just where each vertex is labelled by itself
 pub record AreEndLabels (labels : List ℕ) (apart : Bool) : Type 0 where

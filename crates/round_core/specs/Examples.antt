@@ -1,7 +1,7 @@
 -- A worked example for each law of a solver: three vertices, each two of them linked by the same weight.
 use Rattle.std.specs.Prelude.{◌≡◌, List, [], ◌∷◌, Option, Some, None}
-use Rattle.link_key.specs.declared.links.Link.{Link}
-use Rattle.link_key.specs.Forest.{IsForestOf}
+use Rattle.links.specs.declared.links.Link.{Link}
+use Rattle.links.specs.Forest.{IsForestOf}
 use Rattle.round_theory.specs.Examples.{link_1_2, link_1_3, triangle, two_sides, apart}
 use Rattle.round_core.specs.Solver.{Progress, IsStepFault, missed, HasRoundsOf, IsRoundOf}
 use Rattle.round_core.specs.declared.solver.Turn.TheVariants.{Merged, Done}

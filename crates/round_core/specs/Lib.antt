@@ -1,7 +1,6 @@
 pub mod Picks
 pub mod PickNumbers
 pub mod BookValue
-pub mod Hooks
 pub mod Roots
 pub mod Solver
 pub mod SolverLaws

@@ -1,8 +1,8 @@
 -- What was looked up of the links that offers name, before they are counted.
 use Rattle.std.specs.Prelude.{◌≡◌, ◌≢◌, ℕ, ◌<◌, ◌≤◌, List, [], ◌∷◌, length, Option, Some, slice_get, slice_index_or}
-use Rattle.link_key.specs.declared.links.Link.{Link}
-use Rattle.link_key.specs.Labels.{label_of, AreLabels}
-use Rattle.link_key.specs.Offers.{Offer}
+use Rattle.links.specs.declared.links.Link.{Link}
+use Rattle.links.specs.Labels.{label_of, AreLabels}
+use Rattle.links.specs.Offers.{Offer}
 use Rattle.round_core.specs.declared.picks.LookedUp.{LookedUp}
 use Rattle.round_core.specs.PickNumbers.{IsKeyNumber, IsPickNumber}
 use Rattle.round_core.specs.Picks.{Counts}

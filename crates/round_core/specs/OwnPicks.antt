@@ -1,12 +1,12 @@
 -- Picks that are found by the components for which links are offered: a pick is one of these links, and where no offered link is
 -- below the pick of either of its components the picks are the least. Of light offers, each taken where it is the least, none is.
 use Rattle.std.specs.Prelude.{◌≡◌, ℕ, ◌+◌, ◌<◌, ◌⊎◌, List, length, slice_index, slice_get, All, Any, Contains, Option, Some, IsSomeAnd}
-use Rattle.link_key.specs.declared.links.Link.{Link}
-use Rattle.link_key.specs.Link.{IsBelow}
-use Rattle.link_key.specs.Labels.{label_of}
-use Rattle.link_key.specs.Offers.{Offer}
-use Rattle.link_key.specs.Cut.{links_at}
-use Rattle.frames.specs.AnswerValue.{AnswerValue}
+use Rattle.links.specs.declared.links.Link.{Link}
+use Rattle.links.specs.Link.{IsBelow}
+use Rattle.links.specs.Labels.{label_of}
+use Rattle.links.specs.Offers.{Offer}
+use Rattle.links.specs.Cut.{links_at}
+use Rattle.links.specs.AnswerValue.{AnswerValue}
 use Rattle.round_theory.specs.Labelling.{IsVertex}
 use Rattle.round_core.specs.PickNumbers.{IsKeyNumber}
 use Rattle.round_core.specs.Picks.{pick_of}

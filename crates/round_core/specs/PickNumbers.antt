@@ -8,8 +8,8 @@ use Rattle.std.proofs.lemmas.Bool.{cases_lt}
 use Rattle.std.proofs.lemmas.Int.{ints}
 use Rattle.std.proofs.Common.{arith}
 use Rattle.limits.specs.declared.TheConstants.{MAX_VERTICES}
-use Rattle.link_key.specs.declared.links.Link.{Link}
-use Rattle.link_key.specs.WideKey.{wide_key}
+use Rattle.links.specs.declared.links.Link.{Link}
+use Rattle.links.specs.WideKey.{wide_key}
 
 -- the number of the link's key: the key as one signed number, counted from the least one of 128 bits on
 abbrev pub IsKeyNumber : Link → ℕ → Type 0

@@ -1,6 +1,6 @@
 -- The picks of a round: for each label the least link that was offered of those that leave it.
 use Rattle.std.specs.Prelude.{◌≡◌, ℕ, ◌+◌, ◌-◌, ◌≤◌, List, ◌++◌, length, All, Contains, Option, Some, None, slice_index_or, MatchOption}
-use Rattle.link_key.specs.declared.links.Link.{Link}
+use Rattle.links.specs.declared.links.Link.{Link}
 use Rattle.round_theory.specs.LinkSet.{LinkSet}
 use Rattle.round_theory.specs.Labelling.{IsVertex}
 use Rattle.round_theory.specs.Offers.{IsLeastLeaving, NoneLeaves, Hearing, IsNamed}

@@ -1,7 +1,7 @@
 -- The labels that name components, as they stay from round to round, and where picks lead each of them.
 use Rattle.std.specs.Prelude.{◌≡◌, ◌≢◌, ℕ, ◌+◌, ◌-◌, ◌<◌, ◌≤◌, ◌^◌, ◌⊎◌, ◌↔◌, min, Bool, true, false, List, ◌++◌, length, slice_index, slice_index_or, slice_set, All, AllPairs, Contains, Option, Some, None}
-use Rattle.link_key.specs.declared.links.Link.{Link}
-use Rattle.link_key.specs.Labels.{label_of, AreLabels}
+use Rattle.links.specs.declared.links.Link.{Link}
+use Rattle.links.specs.Labels.{label_of, AreLabels}
 use Rattle.round_theory.specs.Labelling.{IsVertex, JoinsOver, IsLeastJoinedOver}
 use Rattle.round_core.specs.Picks.{pick_of, Picked, ArePicksOfHearings}
 use Rattle.round_core.specs.declared.roots.Lead.{Lead}

@@ -2,9 +2,9 @@
 use Rattle.std.specs.Prelude.{◌≡◌, ◌≢◌, ℕ, suc, ◌+◌, ◌<◌, ◌≤◌, ◌^◌, ◌==◌, Bool, not, max, List, [], ◌++◌, length, AllPairs, Contains, Option, Some, None, slice_index_or}
 use Rattle.std.specs.List.{find}
 use Rattle.limits.specs.declared.TheConstants.{MAX_VERTICES}
-use Rattle.link_key.specs.declared.links.Link.{Link}
-use Rattle.link_key.specs.Link.{EndsUpTo, IsAscending}
-use Rattle.link_key.specs.Labels.{label_of, AreApart}
+use Rattle.links.specs.declared.links.Link.{Link}
+use Rattle.links.specs.Link.{EndsUpTo, IsAscending}
+use Rattle.links.specs.Labels.{label_of, AreApart}
 use Rattle.round_theory.specs.LinkSet.{SameLinks, HasNoCycle, Spans}
 use Rattle.round_theory.specs.Labelling.{IsLabelling}
 use Rattle.round_theory.specs.Rounds.{TakenAfter, IsMergingRounds}

@@ -1,8 +1,8 @@
 -- What a solver comes to where the picks of each round are the least links of a whole list that leave each component.
 use Rattle.std.specs.Prelude.{◌≡◌, ℕ, ◌↔◌, List, Contains, Option, None}
-use Rattle.link_key.specs.declared.links.Link.{Link}
-use Rattle.link_key.specs.Link.{EndsUpTo}
-use Rattle.link_key.specs.Forest.{IsForestOf}
+use Rattle.links.specs.declared.links.Link.{Link}
+use Rattle.links.specs.Link.{EndsUpTo}
+use Rattle.links.specs.Forest.{IsForestOf}
 use Rattle.round_theory.specs.Rounds.{IsMergingRounds}
 use Rattle.round_core.specs.Picks.{ArePicks}
 use Rattle.round_core.specs.Solver.{Progress, vertices, IsProgress, IsAtStart, IsTurn, IsStepFault, missed, IsFinished, HasRoundsOf, IsRoundOf}

@@ -1,10 +1,10 @@
 //! The whole run by one thread, which scans the shards itself.
 ghost use Rattle.std.specs.Prelude.{◌≡◌, ◌≤◌, ◌^◌, ◌++◌, max, List, length, All, Contains, IfOk, IfErr};
-ghost use Rattle.link_key.specs.declared.links.Link.{Link as TheLink};
-ghost use Rattle.link_key.specs.Labels.{AreLabels};
-ghost use Rattle.link_key.specs.Cut.{joined};
-ghost use Rattle.link_key.specs.Forest.{IsForestOf};
-ghost use Rattle.link_key.specs.Link.{EndsUpTo};
+ghost use Rattle.links.specs.declared.links.Link.{Link as TheLink};
+ghost use Rattle.links.specs.Labels.{AreLabels};
+ghost use Rattle.links.specs.Cut.{joined};
+ghost use Rattle.links.specs.Forest.{IsForestOf};
+ghost use Rattle.links.specs.Link.{EndsUpTo};
 ghost use Rattle.round_theory.specs.Rounds.{IsMergingRounds};
 ghost use Rattle.round_core.specs.Picks.{ArePicks, ArePicksOfHearings};
 ghost use Rattle.round_core.specs.Solver.{vertices, HasRoundsOf, IsRoundOf};
@@ -14,7 +14,7 @@ use crate::end_labels::EndLabels;
 use crate::picks::Picks;
 use crate::solver::{SolveFault, Solver, Turn};
 use limits::MAX_VERTICES;
-use link_key::{Cut, Forest, Labels, Link};
+use links::{Cut, Forest, Labels, Link};
 use std::alloc::{AllocError, Allocator};
 
 /// The minimum spanning forest of the links of a cut, between the vertices 1 to `n`, and in how many rounds components

@@ -1,5 +1,5 @@
 ghost use Rattle.std.specs.Prelude.{◌≡◌, ◌≤◌, ◌↔◌, length, IsTrue};
-ghost use Rattle.link_key.specs.Labels.{label_of, AreLabels, AreApart};
+ghost use Rattle.links.specs.Labels.{label_of, AreLabels, AreApart};
 
 use std::marker::Model;
 

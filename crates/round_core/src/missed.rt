@@ -1,10 +1,10 @@
 //! The first link that the links taken miss, since its ends have different labels: in one thread, or by halves in threads.
 ghost use Rattle.std.specs.Prelude.{◌≡◌, ◌<◌, length};
 ghost use denote.Param.Send.{IsSync};
-ghost use Rattle.link_key.specs.Link.{EndsUpTo};
+ghost use Rattle.links.specs.Link.{EndsUpTo};
 ghost use Rattle.round_core.specs.Solver.{missed};
 
-use link_key::Link;
+use links::Link;
 use rayon::{current_num_threads, join};
 use std::thread::Threads;
 

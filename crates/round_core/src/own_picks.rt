@@ -4,8 +4,7 @@ ghost use Rattle.std.specs.Prelude.{All};
 ghost use Rattle.round_core.specs.OwnPicks.{HavePlaces, IsPlaced, IsOfferedBy, IsOfferedIn, AreTakenFrom};
 
 use crate::picks::key_number;
-use frames::Answer;
-use link_key::{Cut, Link};
+use links::{Answer, Cut, Link};
 use std::alloc::Allocator;
 use std::thread;
 use std::thread::Threads;

@@ -1,6 +1,6 @@
 ghost use Rattle.std.specs.Prelude.{OnOk, ◌≡◌, ◌≢◌, ℕ, List, ◌+◌, ◌-◌, ◌<◌, ◌≤◌, ◌↔◌, [], ◌∷◌, ◌++◌, length, slice_index_or, All, Some, None, IsTrue, IfOk, Contains};
-ghost use Rattle.link_key.specs.declared.links.Link.{Link as TheLink};
-ghost use Rattle.link_key.specs.Labels.{label_of, AreLabels};
+ghost use Rattle.links.specs.declared.links.Link.{Link as TheLink};
+ghost use Rattle.links.specs.Labels.{label_of, AreLabels};
 ghost use Rattle.round_theory.specs.Labelling.{IsVertex};
 ghost use Rattle.round_core.specs.Picks.{pick_of, AreNoPicks, HaveAllPicks, ArePicks, Counts};
 ghost use Rattle.round_core.specs.OwnPicks.{IsPlaced, IsOfferedIn, AreOwnPicks, IsCountedIn};
@@ -9,8 +9,7 @@ ghost use Rattle.round_core.specs.LookedUp.{IsLookedUp, IsCountable, CountsFound
 
 use crate::end_labels::EndLabels;
 use crate::own_picks::take_by_parts;
-use frames::Answer;
-use link_key::{Cut, Link};
+use links::{Answer, Cut, Link};
 use std::alloc::{AllocError, Allocator, Global};
 use std::marker::Model;
 use std::mem;
@@ -38,7 +37,7 @@ pub struct Picks<A: Allocator = Global> {
 
 impl<A: Allocator> Model for Picks<A> {
     ghost use Rattle.std.specs.Prelude.{List, Option, All, map};
-    ghost use Rattle.link_key.specs.declared.links.Link.{Link};
+    ghost use Rattle.links.specs.declared.links.Link.{Link};
     ghost use Rattle.round_core.specs.PickNumbers.{pick_in, IsPickNumber};
 
     ghost Value = { List (Option Link) };

@@ -1,6 +1,6 @@
 ghost use Rattle.std.specs.Prelude.{◌≡◌, ℕ, List, Option, ◌+◌, ◌<◌, ◌≤◌, ◌==◌, ◌↔◌, length, map, filter, slice_index, All, AllPairs, Contains, slice_index_or, Some, None, EachIndex, IsTrue, IfOk, OnOk, OnErr, false};
-ghost use Rattle.link_key.specs.declared.links.Link.{Link as TheLink};
-ghost use Rattle.link_key.specs.Labels.{label_of, AreLabels, AreApart};
+ghost use Rattle.links.specs.declared.links.Link.{Link as TheLink};
+ghost use Rattle.links.specs.Labels.{label_of, AreLabels, AreApart};
 ghost use Rattle.round_theory.specs.Labelling.{IsVertex, IsRelabelling};
 ghost use Rattle.round_theory.specs.Offers.{Leaves};
 ghost use Rattle.round_core.specs.Picks.{pick_of, Picked, AreNoPicks, HaveAllPicks, ArePicksOfHearings};
@@ -8,7 +8,7 @@ ghost use Rattle.round_core.specs.Roots.{IsRoot, AreRoots, HasEndLabels, IsLed, 
 
 use crate::picks::Picks;
 use limits::MAX_VERTICES;
-use link_key::{Labels, Link};
+use links::{Labels, Link};
 use std::alloc::{AllocError, Allocator, Global};
 use std::marker::Model;
 use std::thread;
@@ -60,6 +60,19 @@ impl<A: Allocator + Copy> Roots<A> {
         ensures { IfOk result (λ roots. (labels : List ℕ) → AreApart n labels → AreRoots labels roots) }
     {
         let roots = vertices_to(alloc, n)?;
+        Ok(Roots {
+            roots,
+            parents: Vec::new(alloc),
+            least: Vec::new(alloc),
+        })
+    }
+
+    // The vertices that label themselves under these labels.
+    pub(crate) fn of_labels(alloc: A, labels: &Labels<A>) -> Result<Self, AllocError>
+        ensures { IfOk result (AreRoots labels.now) }
+    {
+        let mut roots = vertices_to(alloc, labels.n())?;
+        keep_own(&mut roots, labels.as_slice());
         Ok(Roots {
             roots,
             parents: Vec::new(alloc),

@@ -1,9 +1,9 @@
 //! The solver of a coordinator: it takes the picks of round after round, and is finished where the links taken span.
 ghost use Rattle.std.specs.Prelude.{◌≡◌, ◌≢◌, ℕ, ◌+◌, ◌-◌, ◌<◌, ◌≤◌, ◌^◌, ◌↔◌, max, length, slice_index_or, All, AllPairs, Some, None, IsTrue, IfOk, IfErr, OnErr, OnOk};
 ghost use Rattle.std.specs.List.Sorted.{IsPermutation};
-ghost use Rattle.link_key.specs.Link.{EndsUpTo, IsAscending};
-ghost use Rattle.link_key.specs.Labels.{AreLabels};
-ghost use Rattle.link_key.specs.Cut.{joined};
+ghost use Rattle.links.specs.Link.{EndsUpTo, IsAscending};
+ghost use Rattle.links.specs.Labels.{AreLabels};
+ghost use Rattle.links.specs.Cut.{joined};
 ghost use Rattle.round_core.specs.Picks.{AreNoPicks, ArePicksOfHearings};
 ghost use Rattle.round_core.specs.Solver.{vertices, IsProgress, IsAtStart, IsPastBound, IsFirstPickedAt, ArePickedOnce, IsTurn, IsStepFault, IsFinished, IsFinishFault};
 ghost use Rattle.round_core.specs.declared.solver.SolveFault.TheVariants.{Memory};
@@ -12,7 +12,7 @@ use crate::missed::{first_missed, first_missed_par};
 use crate::picks::Picks;
 use crate::roots::Roots;
 use limits::MAX_VERTICES;
-use link_key::{Cut, Forest, Labels, Link};
+use links::{Cut, Forest, Labels, Link};
 use std::alloc::{AllocError, Allocator, Global};
 use std::marker::Model;
 use std::thread::Threads;

@@ -7,8 +7,8 @@
 ghost use Rattle.std.specs.Prelude.{◌≡◌, ℕ, List, ◌+◌, ◌<◌, ◌≤◌, ◌↔◌, length, take, All, Contains, true, IsTrue};
 ghost use Rattle.std.specs.List.{list_all};
 ghost use denote.Param.Send.{IsSync};
-ghost use Rattle.link_key.specs.Link.{EndsUpTo};
-ghost use Rattle.link_key.specs.Labels.{AreLabels};
+ghost use Rattle.links.specs.Link.{EndsUpTo};
+ghost use Rattle.links.specs.Labels.{AreLabels};
 ghost use Rattle.round_core.specs.BookValue.{is_offer, named_links, all_named, CanCount, CanCountOffers};
 ghost use Rattle.round_core.specs.Picks.{AreNoPicks, ArePicks, Counts};
 ghost use Rattle.round_core.specs.LookedUp.{AreLookedUp};
@@ -16,8 +16,7 @@ ghost use Rattle.round_core.specs.OwnPicks.{AreCountedIn};
 
 use crate::end_labels::EndLabels;
 use crate::picks::{LookedUp, Picks, look_up};
-use frames::Answer;
-use link_key::{Cut, Link};
+use links::{Answer, Cut, Link};
 use rayon::join;
 use std::alloc::Allocator;
 use std::thread::Threads;

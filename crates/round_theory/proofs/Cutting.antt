@@ -3,10 +3,10 @@ use Rattle.std.proofs.Common.{◌≢◌, ℕ, zero, suc, ◌<◌, ◌⊎◌, ◌
 use Rattle.std.proofs.lemmas.List.Elements.{All-contains, Contains-append_cases, Contains-append_left, Contains-append_right}
 use Rattle.std.specs.Prelude.{Any}
 use Rattle.std.proofs.lemmas.List.Sorted.{IsPermutation-sym, Contains-permutation, All-permutation}
-use Rattle.link_key.specs.declared.links.Link.{Link}
-use Rattle.link_key.specs.Link.{IsBelow}
-use Rattle.link_key.proofs.Members.{contains_cases, contains_head, contains_none}
-use Rattle.link_key.proofs.Keys.{link_dec, trichotomy, below_trans}
+use Rattle.links.specs.declared.links.Link.{Link}
+use Rattle.links.specs.Link.{IsBelow}
+use Rattle.links.proofs.Members.{contains_cases, contains_head, contains_none}
+use Rattle.links.proofs.Keys.{link_dec, trichotomy, below_trans}
 use Rattle.round_theory.specs.LinkSet.{LinkSet, SameLinks}
 use Rattle.round_theory.specs.Offers.{Leaves, IsLeastLeaving, IsFirstPlace, AreLightOffers, Hearing, Names, IsNamed, HaveLinksOf, AreAllLight}
 use Rattle.round_theory.proofs.Leaving.{least_leaving_exists}

@@ -4,11 +4,11 @@ use Rattle.std.specs.List.{range_with_len}
 use Rattle.std.proofs.lemmas.Grind.{same_number_lists}
 use Rattle.std.proofs.lemmas.List.FromFn.{length-map-range_with_len, get_or-map-range_with_len}
 use Rattle.std.proofs.lemmas.Bool.{cases_lt}
-use Rattle.link_key.specs.declared.links.Link.{Link}
-use Rattle.link_key.specs.Walk.{Joins}
-use Rattle.link_key.proofs.Walks.{Decided, Passing, joins_refl, joins_symm, joins_trans, joins_alike, joins_least, joins_dec, dec_along}
+use Rattle.links.specs.declared.links.Link.{Link}
+use Rattle.links.specs.Walk.{Joins}
+use Rattle.links.proofs.Walks.{Decided, Passing, joins_refl, joins_symm, joins_trans, joins_alike, joins_least, joins_dec, dec_along}
 use Rattle.round_theory.specs.LinkSet.{LinkSet, SameLinks}
-use Rattle.link_key.specs.Labels.{label_of, IsLabelled, AreLabels}
+use Rattle.links.specs.Labels.{label_of, IsLabelled, AreLabels}
 use Rattle.round_theory.specs.Labelling.{IsVertex, IsLeastJoined, IsLabelling}
 
 -- whether the links of a list join two vertices is decided

@@ -2,15 +2,15 @@
 use Rattle.std.proofs.Common.{◌≡◌, ◌≢◌, ℕ, ◌⊎◌, ◌↔◌, List, [], ◌∷◌, Contains, refl, sym, ap, ◌∙◌, subst, inl, inr}
 use Rattle.std.specs.List.{AllByRecursion}
 use Rattle.std.proofs.lemmas.Bool.{cases_eq}
-use Rattle.link_key.specs.declared.links.Link.{Link}
-use Rattle.link_key.specs.Link.{IsBelow, EndsUpTo}
-use Rattle.link_key.specs.Walk.{IsWalk, Joins}
-use Rattle.link_key.specs.Forest.{LinksBelow, IsForestLink}
-use Rattle.link_key.proofs.Members.{contains_cases, contains_head, contains_tail, contains_none}
-use Rattle.link_key.proofs.Keys.{trichotomy, below_irrefl, below_trans}
-use Rattle.link_key.proofs.Walks.{Decided, joins_link, joins_replace, joins_symm}
+use Rattle.links.specs.declared.links.Link.{Link}
+use Rattle.links.specs.Link.{IsBelow, EndsUpTo}
+use Rattle.links.specs.Walk.{IsWalk, Joins}
+use Rattle.links.specs.Forest.{LinksBelow, IsForestLink}
+use Rattle.links.proofs.Members.{contains_cases, contains_head, contains_tail, contains_none}
+use Rattle.links.proofs.Keys.{trichotomy, below_irrefl, below_trans}
+use Rattle.links.proofs.Walks.{Decided, joins_link, joins_replace, joins_symm}
 use Rattle.round_theory.specs.LinkSet.{LinkSet, Spans}
-use Rattle.link_key.specs.Labels.{label_of}
+use Rattle.links.specs.Labels.{label_of}
 use Rattle.round_theory.specs.Labelling.{IsLabelling}
 use Rattle.round_theory.proofs.Lists.{set_ends}
 use Rattle.round_theory.proofs.Labels.{ends_label}

@@ -3,10 +3,10 @@ use Rattle.std.proofs.Common.{◌≡◌, ℕ, zero, suc, ◌+◌, ◌<◌, ◌�
 use Rattle.std.specs.Prelude.{All, AllPairs}
 use Rattle.std.proofs.lemmas.List.{get_or_default}
 use Rattle.std.proofs.lemmas.List.Elements.{Contains-get_or}
-use Rattle.link_key.specs.declared.links.Link.{Link}
-use Rattle.link_key.specs.Labels.{label_of}
-use Rattle.link_key.specs.Offers.{Offer}
-use Rattle.link_key.proofs.Members.{contains_cases, contains_none, same_ascending}
+use Rattle.links.specs.declared.links.Link.{Link}
+use Rattle.links.specs.Labels.{label_of}
+use Rattle.links.specs.Offers.{Offer}
+use Rattle.links.proofs.Members.{contains_cases, contains_none, same_ascending}
 use Rattle.round_theory.specs.Offers.{Leaves, IsLightOffer, AreLightOffers, OffersLeaving}
 use Rattle.round_theory.proofs.Leaving.{leaves_end, least_leaving}
 use Rattle.round_theory.proofs.Cutting.{first_place}

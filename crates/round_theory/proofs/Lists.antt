@@ -1,8 +1,8 @@
 -- The ends of links.
 use Rattle.std.proofs.Common.{ℕ, ◌≤◌, List, Contains}
-use Rattle.link_key.specs.declared.links.Link.{Link}
+use Rattle.links.specs.declared.links.Link.{Link}
 use Rattle.std.proofs.lemmas.List.Elements.{All-contains}
-use Rattle.link_key.specs.Link.{EndsUpTo}
+use Rattle.links.specs.Link.{EndsUpTo}
 use Rattle.round_theory.specs.LinkSet.{LinkSet}
 
 -- every end of every link of a set is one of the vertices 1 to n

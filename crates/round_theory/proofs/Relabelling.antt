@@ -4,12 +4,12 @@ use Rattle.std.specs.Prelude.{if◌then◌else◌}
 use Rattle.std.proofs.lemmas.Bool.{cases_eq, cases_lt}
 use Rattle.std.proofs.lemmas.List.{take_more}
 use Rattle.std.proofs.lemmas.List.Elements.{Contains-append_left, Contains-push, Contains-push_cases}
-use Rattle.link_key.specs.declared.links.Link.{Link}
-use Rattle.link_key.specs.Walk.{Joins}
-use Rattle.link_key.proofs.Members.{contains_none}
-use Rattle.link_key.proofs.Walks.{WithLink, joins_same, joins_symm, joins_trans, joins_link, joins_more, joins_equal, joins_one_more}
+use Rattle.links.specs.declared.links.Link.{Link}
+use Rattle.links.specs.Walk.{Joins}
+use Rattle.links.proofs.Members.{contains_none}
+use Rattle.links.proofs.Walks.{WithLink, joins_same, joins_symm, joins_trans, joins_link, joins_more, joins_equal, joins_one_more}
 use Rattle.round_theory.specs.LinkSet.{LinkSet, SameLinks}
-use Rattle.link_key.specs.Labels.{label_of, AreApart}
+use Rattle.links.specs.Labels.{label_of, AreApart}
 use Rattle.round_theory.specs.Labelling.{IsVertex, IsLeastJoined, IsLabelling}
 use Rattle.round_theory.proofs.Labels.{one_label, low_vertex, high_vertex, labelling_alike}
 

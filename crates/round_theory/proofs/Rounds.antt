@@ -3,21 +3,21 @@ use Rattle.std.proofs.Common.{◌≡◌, ◌≢◌, ℕ, zero, suc, ◌+◌, ◌
 use Rattle.std.proofs.lemmas.Bool.{cases_eq, cases_lt}
 use Rattle.std.proofs.lemmas.List.Elements.{Contains-append_cases, Contains-append_left, Contains-append_right}
 use Rattle.std.proofs.Math.Nat.{pow-suc}
-use Rattle.link_key.specs.declared.links.Link.{Link}
-use Rattle.link_key.specs.Link.{EndsUpTo}
-use Rattle.link_key.specs.Walk.{Joins}
-use Rattle.link_key.specs.Forest.{IsForestLink}
-use Rattle.link_key.proofs.Members.{contains_cases, contains_head, contains_tail, contains_none}
-use Rattle.link_key.proofs.Walks.{Decided, dec_along, joins_link, joins_more, joins_alike}
+use Rattle.links.specs.declared.links.Link.{Link}
+use Rattle.links.specs.Link.{EndsUpTo}
+use Rattle.links.specs.Walk.{Joins}
+use Rattle.links.specs.Forest.{IsForestLink}
+use Rattle.links.proofs.Members.{contains_cases, contains_head, contains_tail, contains_none}
+use Rattle.links.proofs.Walks.{Decided, dec_along, joins_link, joins_more, joins_alike}
 use Rattle.round_theory.specs.LinkSet.{LinkSet, IsPartOf, SameLinks, Spans}
-use Rattle.link_key.specs.Labels.{label_of}
+use Rattle.links.specs.Labels.{label_of}
 use Rattle.round_theory.specs.Labelling.{IsVertex, IsLabelling}
 use Rattle.round_theory.specs.Offers.{Leaves, IsLeastLeaving, IsPick}
 use Rattle.round_theory.specs.Rounds.{AreRoundPicks, TakenAfter, IsMergingRounds}
 use Rattle.round_theory.proofs.Lists.{set_ends}
 use Rattle.round_theory.proofs.Labels.{list_joins_dec, least_below, labelling_exists, labelling_unique, one_label, low_vertex, high_vertex, ends_label, labelling_alike}
 use Rattle.round_theory.proofs.Leaving.{leaves_apart, leaves_end, leaves_low, leaves_high, least_leaving, least_leaving_exists, least_leaving_unique, least_leaving_in_forest, spans_where_none_leaves}
-use Rattle.link_key.proofs.ForestSpans.{spanning_part_is_forest}
+use Rattle.links.proofs.ForestSpans.{spanning_part_is_forest}
 use Rattle.round_theory.proofs.Counting.{size_of, size_one, two_sizes, sizes_add}
 
 -- a set that is the set of a list's members

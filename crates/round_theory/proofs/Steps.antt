@@ -2,16 +2,16 @@
 use Rattle.std.proofs.Common.{refl, ◌^◌, ◌≤◌, arith, ◌≡◌, ◌≢◌, ℕ, ◌⊎◌, ◌↔◌, List, [], ◌∷◌, ◌++◌, Contains, sym, ap, ◌∙◌, inl, inr}
 use Rattle.std.specs.List.{AllByRecursion}
 use Rattle.std.proofs.lemmas.List.Elements.{Contains-append_cases, Contains-append_left, Contains-append_right}
-use Rattle.link_key.specs.declared.links.Link.{Link}
-use Rattle.link_key.specs.Link.{IsBelow, EndsUpTo}
-use Rattle.link_key.specs.Walk.{IsWalk, Joins}
-use Rattle.link_key.proofs.Walks.{joins_trans, joins_link, joins_link_back, joins_more, joins_least, joins_alike}
+use Rattle.links.specs.declared.links.Link.{Link}
+use Rattle.links.specs.Link.{IsBelow, EndsUpTo}
+use Rattle.links.specs.Walk.{IsWalk, Joins}
+use Rattle.links.proofs.Walks.{joins_trans, joins_link, joins_link_back, joins_more, joins_least, joins_alike}
 use Rattle.round_theory.specs.LinkSet.{LinkSet, Either, IsPartOf, SameLinks, HasNoCycle}
-use Rattle.link_key.specs.Labels.{label_of, IsLabelled, AreLabels}
+use Rattle.links.specs.Labels.{label_of, IsLabelled, AreLabels}
 use Rattle.round_theory.specs.Labelling.{IsVertex, IsLabelling, IsWalkOver, JoinsOver, IsRelabelling}
 use Rattle.round_theory.specs.Offers.{IsLeastLeaving, IsPick}
 use Rattle.round_theory.proofs.Lists.{HasEndsUpTo, set_ends}
-use Rattle.link_key.proofs.Cycles.{no_cycle_part, no_cycle_either}
+use Rattle.links.proofs.Cycles.{no_cycle_part, no_cycle_either}
 use Rattle.round_theory.proofs.Labels.{same_labels, one_label, low_vertex, high_vertex, ends_label, labelling_alike}
 use Rattle.round_theory.proofs.Leaving.{crossing_ends, leaves_apart, leaves_end}
 

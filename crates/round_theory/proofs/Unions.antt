@@ -1,8 +1,8 @@
 -- The least leaving link of two sets together.
 use Rattle.std.proofs.Common.{List, ◌++◌, ℕ, ◌↔◌, sym, subst, inl, inr}
 use Rattle.std.proofs.lemmas.List.Elements.{Contains-append_cases, Contains-append_left, Contains-append_right}
-use Rattle.link_key.specs.declared.links.Link.{Link}
-use Rattle.link_key.specs.Link.{IsBelow}
+use Rattle.links.specs.declared.links.Link.{Link}
+use Rattle.links.specs.Link.{IsBelow}
 use Rattle.round_theory.specs.LinkSet.{LinkSet, Either, SameLinks}
 use Rattle.round_theory.specs.Offers.{Leaves, IsLeastLeaving, NoneLeaves, IsLesser, Hearing, Names, IsNamed}
 use Rattle.round_theory.proofs.Leaving.{least_leaving_unique}

@@ -5,10 +5,10 @@ use Rattle.std.specs.List.{list_all}
 use Rattle.std.proofs.Math.Nat.{pow-suc}
 use Rattle.std.proofs.lemmas.Bool.{cases_eq}
 use Rattle.std.proofs.lemmas.List.Elements.{All-from_recursion}
-use Rattle.link_key.specs.declared.links.Link.{Link}
-use Rattle.link_key.specs.Link.{EndsUpTo, key_cmp}
-use Rattle.link_key.specs.Labels.{label_of, AreLabels}
-use Rattle.link_key.proofs.Members.{contains_cases, contains_head, contains_tail, contains_none}
+use Rattle.links.specs.declared.links.Link.{Link}
+use Rattle.links.specs.Link.{EndsUpTo, key_cmp}
+use Rattle.links.specs.Labels.{label_of, AreLabels}
+use Rattle.links.proofs.Members.{contains_cases, contains_head, contains_tail, contains_none}
 use Rattle.round_theory.specs.LinkSet.{SameLinks, IsPartOf}
 use Rattle.round_theory.specs.Labelling.{IsVertex, IsLabelling}
 use Rattle.round_theory.specs.Offers.{Leaves, IsLeastLeaving, NoneLeaves, IsLesser, IsPick, IsFirstPlace, AreLightOffers}

@@ -1,12 +1,12 @@
 -- A worked example for each law: three vertices, each two of them linked by the same weight.
 use Rattle.std.specs.Prelude.{◌≡◌, ℕ, pos, List, [], ◌∷◌, All, Contains}
 use Rattle.std.proofs.Common.{lit≤, lit<}
-use Rattle.link_key.specs.declared.links.Link.{Link}
-use Rattle.link_key.specs.Walk.{Joins}
-use Rattle.link_key.specs.Forest.{IsForestLink, IsForestOf}
-use Rattle.link_key.specs.Least.{IsSpanningForestOf, IsTotalOf, IsLightest}
-use Rattle.link_key.specs.Labels.{AreApart}
-use Rattle.link_key.specs.Offers.{Offer}
+use Rattle.links.specs.declared.links.Link.{Link}
+use Rattle.links.specs.Walk.{Joins}
+use Rattle.links.specs.Forest.{IsForestLink, IsForestOf}
+use Rattle.links.specs.Least.{IsSpanningForestOf, IsTotalOf, IsLightest}
+use Rattle.links.specs.Labels.{AreApart}
+use Rattle.links.specs.Offers.{Offer}
 use Rattle.round_theory.specs.LinkSet.{SameLinks, HasNoCycle}
 use Rattle.round_theory.specs.Labelling.{IsRelabelling}
 use Rattle.round_theory.specs.Offers.{IsLeastLeaving, AreLightOffers, OffersLeaving, Hearing, IsNamed}

@@ -1,9 +1,9 @@
 -- The labels that a set of links gives the vertices 1 to n, and what links join over components that labels give.
 use Rattle.std.specs.Prelude.{◌≡◌, ℕ, ◌≤◌, ◌⊎◌, List, [], ◌∷◌, length}
 use Rattle.std.specs.List.{AllByRecursion}
-use Rattle.link_key.specs.declared.links.Link.{Link}
-use Rattle.link_key.specs.Labels.{label_of}
-use Rattle.link_key.specs.Walk.{Joins}
+use Rattle.links.specs.declared.links.Link.{Link}
+use Rattle.links.specs.Labels.{label_of}
+use Rattle.links.specs.Walk.{Joins}
 use Rattle.round_theory.specs.LinkSet.{LinkSet}
 
 -- v is one of the vertices 1 to n

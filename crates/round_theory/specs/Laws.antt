@@ -2,13 +2,13 @@
 -- a list: of its members, or of the hearings that name them.
 use Rattle.std.specs.Prelude.{◌≡◌, ◌≢◌, ℕ, suc, ◌≤◌, max, ◌^◌, ◌⊎◌, ◌↔◌, List, [], ◌++◌, All, Contains, flat_map, IsPermutation}
 use Rattle.limits.specs.declared.TheConstants.{MAX_VERTICES}
-use Rattle.link_key.specs.declared.links.Link.{Link}
-use Rattle.link_key.specs.Link.{EndsUpTo}
-use Rattle.link_key.specs.Walk.{Joins}
-use Rattle.link_key.specs.Forest.{IsForestLink}
+use Rattle.links.specs.declared.links.Link.{Link}
+use Rattle.links.specs.Link.{EndsUpTo}
+use Rattle.links.specs.Walk.{Joins}
+use Rattle.links.specs.Forest.{IsForestLink}
 use Rattle.round_theory.specs.LinkSet.{LinkSet, Either, IsPartOf, SameLinks, HasNoCycle, Spans}
-use Rattle.link_key.specs.Labels.{label_of, AreLabels, AreApart}
-use Rattle.link_key.specs.Offers.{Offer}
+use Rattle.links.specs.Labels.{label_of, AreLabels, AreApart}
+use Rattle.links.specs.Offers.{Offer}
 use Rattle.round_theory.specs.Labelling.{IsVertex, IsLabelling, JoinsOver, IsRelabelling}
 use Rattle.round_theory.specs.Offers.{Leaves, IsLeastLeaving, NoneLeaves, IsLesser, IsPick, AreLightOffers, OffersLeaving, Hearing, IsNamed, HaveLinksOf, AreAllLight}
 use Rattle.round_theory.specs.Rounds.{AreRoundPicks, TakenAfter, IsMergingRounds}

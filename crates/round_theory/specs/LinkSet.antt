@@ -1,2 +1,2 @@
 -- Sets of links, handed on from link_key. Declares nothing.
-pub use Rattle.link_key.specs.LinkSet.{LinkSet, Either, Without, IsPartOf, SameLinks, HasNoCycle, Spans}
+pub use Rattle.links.specs.LinkSet.{LinkSet, Either, Without, IsPartOf, SameLinks, HasNoCycle, Spans}

@@ -1,10 +1,10 @@
 -- What leaves a component, and what is offered and picked for it.
 use Rattle.std.specs.Prelude.{◌≡◌, ◌≢◌, ℕ, ◌<◌, ◌⊎◌, ◌↔◌, List, length, slice_index_or, All, Contains, Any}
-use Rattle.link_key.specs.declared.links.Link.{Link}
-use Rattle.link_key.specs.Link.{IsBelow}
-use Rattle.link_key.specs.Offers.{Offer, AreOffers}
+use Rattle.links.specs.declared.links.Link.{Link}
+use Rattle.links.specs.Link.{IsBelow}
+use Rattle.links.specs.Offers.{Offer, AreOffers}
 use Rattle.round_theory.specs.LinkSet.{LinkSet}
-use Rattle.link_key.specs.Labels.{label_of}
+use Rattle.links.specs.Labels.{label_of}
 
 -- the link leaves label c: exactly one of its ends has that label
 abbrev pub Leaves : List ℕ → Link → ℕ → Type 0

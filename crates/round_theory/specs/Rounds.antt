@@ -1,6 +1,6 @@
 -- Borůvka's rounds.
 use Rattle.std.specs.Prelude.{ℕ, zero, suc, ◌<◌, ◌⊎◌, List, Contains}
-use Rattle.link_key.specs.declared.links.Link.{Link}
+use Rattle.links.specs.declared.links.Link.{Link}
 use Rattle.round_theory.specs.LinkSet.{LinkSet, SameLinks}
 use Rattle.round_theory.specs.Labelling.{IsLabelling}
 use Rattle.round_theory.specs.Offers.{IsPick}

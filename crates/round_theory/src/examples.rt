@@ -32,7 +32,7 @@ pub fn two_sides_weigh_least()
     ensures { TwoSidesWeighLeast }
 {
     two_sides();
-    link_key::laws::forest_is_lightest();
+    links::laws::forest_is_lightest();
 }
 
 /// The two sides close no cycle, so their own forest is both.
@@ -41,7 +41,7 @@ pub fn two_sides_are_their_forest()
 {
     two_sides();
     laws::forest_spans();
-    link_key::laws::no_cycle_is_its_forest();
+    links::laws::no_cycle_is_its_forest();
 }
 
 /// One round suffices, and takes the forest: two would need four vertices.

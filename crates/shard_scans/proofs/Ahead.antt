@@ -1,9 +1,9 @@
 -- Links that are looked up first and kept then.
 use Rattle.std.proofs.Common.{◌≡◌, ℕ, suc, ◌+◌, ◌-◌, ◌<◌, ◌≤◌, List, [], ◌∷◌, ◌++◌, length, get_or, take, All, refl, sym, ap, ◌∙◌, subst, arith}
 use Rattle.std.proofs.lemmas.List.{get_or-take, length-take}
-use Rattle.link_key.specs.declared.links.Link.{Link}
-use Rattle.link_key.specs.Link.{EndsUpTo}
-use Rattle.link_key.specs.Labels.{label_of, AreLabels}
+use Rattle.links.specs.declared.links.Link.{Link}
+use Rattle.links.specs.Link.{EndsUpTo}
+use Rattle.links.specs.Labels.{label_of, AreLabels}
 use Rattle.round_theory.specs.Labelling.{IsVertex}
 use Rattle.shard_scans.specs.declared.scanning.Best.{Best}
 use Rattle.shard_scans.specs.declared.live.LiveLink.{LiveLink}

@@ -3,9 +3,9 @@ use Rattle.std.proofs.Common.{◌≡◌, ◌≢◌, ℕ, ◌+◌, ◌<◌, ◌�
 use Rattle.std.specs.Ordering.{ordering_reverse}
 use Rattle.std.proofs.lemmas.Bool.{cases_lt}
 use Rattle.std.proofs.lemmas.List.{get_or_default}
-use Rattle.link_key.specs.declared.links.Link.{Link}
-use Rattle.link_key.specs.Link.{IsBelow, key_cmp}
-use Rattle.link_key.proofs.Keys.{key_cmp_total, trichotomy, below_irrefl, below_asymm, below_trans}
+use Rattle.links.specs.declared.links.Link.{Link}
+use Rattle.links.specs.Link.{IsBelow, key_cmp}
+use Rattle.links.proofs.Keys.{key_cmp_total, trichotomy, below_irrefl, below_asymm, below_trans}
 use Rattle.round_theory.specs.Offers.{Leaves, IsLightOffer}
 use Rattle.shard_scans.specs.Scanning.{ComesFirst, IsBestPlace, NoneLeavesIn, IsBest}
 

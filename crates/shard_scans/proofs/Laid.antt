@@ -1,8 +1,8 @@
 -- Live places of a shard's links.
 use Rattle.std.proofs.Common.{◌≡◌, ℕ, zero, suc, ◌+◌, ◌<◌, ◌≤◌, List, [], ◌∷◌, ◌++◌, length, get_or, ◌⊎◌, refl, sym, ◌∙◌, subst, inl, inr, arith}
 use Rattle.std.proofs.lemmas.Bool.{cases_lt}
-use Rattle.link_key.specs.declared.links.Link.{Link}
-use Rattle.link_key.specs.Labels.{label_of, Coarsens}
+use Rattle.links.specs.declared.links.Link.{Link}
+use Rattle.links.specs.Labels.{label_of, Coarsens}
 use Rattle.shard_scans.specs.Live.{HaveOneLabel, IsInside, AreParallel, IsOutdone, IsAside, AreAside, AreLive}
 use Rattle.shard_scans.proofs.BestSoFar.{one_read}
 

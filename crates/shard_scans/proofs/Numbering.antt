@@ -7,7 +7,7 @@ use Rattle.std.proofs.lemmas.Nat.{ones_cat, mod-pow-add, mod_below, pow_pos}
 use Rattle.std.proofs.lemmas.Nat.Bits.{bit_at_set_same, bit_at_set_other}
 use Rattle.std.proofs.lemmas.List.{get_or-map, length-map, map-set, set-get_or}
 use Rattle.std.proofs.lemmas.Nat.{one_shl}
-use Rattle.link_key.specs.Labels.{label_of, AreLabels}
+use Rattle.links.specs.Labels.{label_of, AreLabels}
 use Rattle.round_theory.specs.Labelling.{IsVertex}
 use Rattle.shard_scans.proofs.Written.{label_vertex}
 use Rattle.shard_scans.specs.declared.numbers.Word.{Word}

@@ -1,6 +1,6 @@
 -- The law of shards that are kept.
 use Rattle.std.specs.Prelude.{ℕ, List}
-use Rattle.link_key.specs.Labels.{Coarsens}
+use Rattle.links.specs.Labels.{Coarsens}
 use Rattle.shard_scans.specs.Live.{KeptShardState, IsLive}
 
 -- What is live of a shard under labels is so under labels that coarsen them.

@@ -1,8 +1,8 @@
 -- What is known of each label once the links at some places of a shard are seen.
 use Rattle.std.specs.Prelude.{◌≡◌, ℕ, ◌+◌, ◌-◌, ◌/◌, ◌^◌, ◌<◌, ◌≤◌, ◌⊎◌, min, ℤ, pos, negsuc, List, length, slice_index_or, Option, None, Some, MatchOption}
-use Rattle.link_key.specs.declared.links.Link.{Link}
-use Rattle.link_key.specs.Link.{IsBelow}
-use Rattle.link_key.specs.Labels.{label_of}
+use Rattle.links.specs.declared.links.Link.{Link}
+use Rattle.links.specs.Link.{IsBelow}
+use Rattle.links.specs.Labels.{label_of}
 use Rattle.round_theory.specs.Labelling.{IsVertex}
 use Rattle.round_theory.specs.Offers.{Leaves}
 use Rattle.shard_scans.specs.declared.scanning.TheConstants.{NO_KEY, NO_PLACE}

@@ -1,7 +1,7 @@
 -- A table of what is kept for each label, and notes of which labels were touched.
 use Rattle.std.specs.Prelude.{◌≡◌, ◌≢◌, ℕ, ◌*◌, ◌/◌, ◌<◌, ◌≤◌, ◌↔◌, Bool, true, false, List, length, slice_index_or, set, Contains}
-use Rattle.link_key.specs.declared.links.Link.{Link}
-use Rattle.link_key.specs.Offers.{Offer, AreOffers}
+use Rattle.links.specs.declared.links.Link.{Link}
+use Rattle.links.specs.Offers.{Offer, AreOffers}
 use Rattle.shard_scans.specs.declared.scanning.Best.{Best}
 use Rattle.shard_scans.specs.declared.table.TheConstants.{BLOCK, PART}
 use Rattle.shard_scans.specs.Scanning.{no_best, KeepsLesser, best_of}

@@ -5,7 +5,7 @@
 //! where the labels don't fit the cache that is most of its time. The look-ups of a batch wait for no write.
 ghost use Rattle.std.specs.Prelude.{◌≡◌, ◌+◌, ◌-◌, ◌<◌, ◌≤◌, ℕ, length, slice_index_or, take, All};
 ghost use Rattle.limits.specs.declared.TheConstants.{MAX_SHARD_LINKS};
-ghost use Rattle.link_key.specs.Link.{EndsUpTo};
+ghost use Rattle.links.specs.Link.{EndsUpTo};
 ghost use Rattle.round_theory.specs.Labelling.{IsVertex};
 ghost use Rattle.shard_scans.specs.declared.live.LiveLink.{LiveLink};
 ghost use Rattle.shard_scans.specs.Batches.{CanBeTakenIn, TakesInAll, AreLookedUp, AreRelabelled};
@@ -13,7 +13,7 @@ ghost use Rattle.shard_scans.specs.Batches.{CanBeTakenIn, TakesInAll, AreLookedU
 use crate::live::LiveLink;
 use crate::scanning::keep_next;
 use crate::table::Table;
-use link_key::Link;
+use links::Link;
 use std::alloc::Allocator;
 
 // So many links are looked up before they are kept. What is written of them stays in the processor's nearest cache, as do

@@ -1,8 +1,8 @@
 //! Passes over links by the numbers of their labels.
 ghost use Rattle.std.specs.Prelude.{◌≡◌, ℕ, ◌<◌, ◌≤◌, length, map, slice_index_or, replicate, IfOk};
 ghost use Rattle.limits.specs.declared.TheConstants.{MAX_SHARD_LINKS};
-ghost use Rattle.link_key.specs.Link.{EndsUpTo};
-ghost use Rattle.link_key.specs.Offers.{Offer};
+ghost use Rattle.links.specs.Link.{EndsUpTo};
+ghost use Rattle.links.specs.Offers.{Offer};
 ghost use Rattle.round_theory.specs.Labelling.{IsVertex};
 ghost use Rattle.round_theory.specs.Offers.{AreLightOffers};
 ghost use Rattle.shard_scans.specs.Scanning.{no_best, AreBestUpTo};
@@ -12,7 +12,7 @@ use crate::batches::keep_each;
 use crate::listed::Listed;
 use crate::numbers::Numbers;
 use crate::table::Table;
-use link_key::{Link, Offers};
+use links::{Link, Offers};
 use std::alloc::{AllocError, Allocator};
 
 // The offers of live links that are listed by numbers, over a table that keeps nothing yet.

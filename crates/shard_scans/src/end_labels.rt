@@ -3,7 +3,7 @@
 //! At first each vertex has a label of its own, and a shard's first scan looks up more labels than any later one. Where all
 //! labels are their vertices' own, none of them has to be looked up.
 ghost use Rattle.std.specs.Prelude.{◌≡◌, ◌^◌, ◌<◌, ◌↔◌, length, IsTrue};
-ghost use Rattle.link_key.specs.Labels.{label_of, AreLabels, AreApart};
+ghost use Rattle.links.specs.Labels.{label_of, AreLabels, AreApart};
 ghost use Rattle.round_theory.specs.Labelling.{IsVertex};
 
 // The labels of the vertices, and whether each is that of its own vertex.

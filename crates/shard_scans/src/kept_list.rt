@@ -1,7 +1,7 @@
 //! A list of live links between two scans.
 ghost use Rattle.std.specs.Prelude.{◌≡◌, ◌≤◌, [], length, None, IfSome, IfOk, OnOk, OnErr};
 ghost use Rattle.limits.specs.declared.TheConstants.{MAX_SHARD_LINKS};
-ghost use Rattle.link_key.specs.Link.{EndsUpTo};
+ghost use Rattle.links.specs.Link.{EndsUpTo};
 ghost use Rattle.round_theory.specs.Offers.{AreLightOffers};
 ghost use Rattle.shard_scans.specs.Live.{AreLiveLinks};
 ghost use Rattle.shard_scans.specs.Numbers.{shown, IsListed};
@@ -10,7 +10,7 @@ ghost use Rattle.shard_scans.specs.Gaps.{all_names};
 use crate::gaps::Gaps;
 use crate::listed::Listed;
 use crate::scanning::Scanner;
-use link_key::{Labels, Link, Offers};
+use links::{Labels, Link, Offers};
 use std::alloc::{AllocError, Allocator};
 use std::marker::Model;
 use std::thread::Threads;

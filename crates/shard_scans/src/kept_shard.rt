@@ -1,7 +1,7 @@
 //! A shard that is kept, and which of its links are live.
 ghost use Rattle.std.specs.Prelude.{◌≡◌, ◌≤◌, ◌↔◌, length, IfSome, IfOk, IsTrue};
 ghost use Rattle.std.specs.Option.{option_map};
-ghost use Rattle.link_key.specs.Link.{EndsUpTo};
+ghost use Rattle.links.specs.Link.{EndsUpTo};
 ghost use Rattle.round_theory.specs.Offers.{AreLightOffers};
 ghost use Rattle.shard_scans.specs.Live.{IsLive, IsAllLive, IsGreatestEnd, AreOffersOf};
 ghost use Rattle.shard_scans.specs.Numbers.{shown, IsListed};
@@ -10,7 +10,7 @@ use crate::kept_list::KeptList;
 use crate::listed::Listed;
 use crate::scanning::Scanner;
 use limits::MAX_SHARD_LINKS;
-use link_key::{Labels, Link, Offers};
+use links::{Labels, Link, Offers};
 use std::alloc::{AllocError, Allocator, Global};
 use std::marker::Model;
 use std::thread::Threads;

@@ -1,16 +1,16 @@
 //! The live links of a shard, listed by labels of their ends or by numbers of these.
 ghost use Rattle.std.specs.Prelude.{◌≡◌, ◌≤◌, [], List, length, All, IfSome, OnOk, OnErr};
 ghost use Rattle.limits.specs.declared.TheConstants.{MAX_SHARD_LINKS};
-ghost use Rattle.link_key.specs.declared.links.Link.{Link};
-ghost use Rattle.link_key.specs.Link.{EndsUpTo};
-ghost use Rattle.link_key.specs.Labels.{AreLabels};
+ghost use Rattle.links.specs.declared.links.Link.{Link};
+ghost use Rattle.links.specs.Link.{EndsUpTo};
+ghost use Rattle.links.specs.Labels.{AreLabels};
 ghost use Rattle.round_theory.specs.Labelling.{IsVertex};
 ghost use Rattle.shard_scans.specs.Live.{AreLiveLinks, relabelled};
 ghost use Rattle.shard_scans.specs.Numbers.{marks_of, marked_in, AreCounted, AreBothMarked, AreByNumbers, HaveNames, HaveMarks, AreRenumbered, shown, IsListed};
 
 use crate::live::{LiveLink, pack, write_live};
 use crate::numbers::{Numbers, number_each, number_names};
-use link_key::Link;
+use links::Link;
 use std::alloc::{AllocError, Allocator};
 
 // Live links, each written with labels of its ends; or with numbers of its own labels, and the label of each number.

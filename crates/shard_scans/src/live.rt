@@ -8,8 +8,8 @@
 //! and fewer. The weight is read where the link itself stands: places ascend, so that is a walk in order too.
 ghost use Rattle.std.specs.Prelude.{◌≡◌, ◌<◌, ◌≤◌, length, take, replicate, All, Some, IfOk, IsTrue, IsFalse};
 ghost use Rattle.limits.specs.declared.TheConstants.{MAX_SHARD_LINKS};
-ghost use Rattle.link_key.specs.Link.{EndsUpTo};
-ghost use Rattle.link_key.specs.Labels.{AreLabels};
+ghost use Rattle.links.specs.Link.{EndsUpTo};
+ghost use Rattle.links.specs.Labels.{AreLabels};
 ghost use Rattle.round_theory.specs.Labelling.{IsVertex};
 ghost use Rattle.shard_scans.specs.Scanning.{no_best, Says, AreBest};
 ghost use Rattle.shard_scans.specs.Live.{AreParallel, AreLiveLinks, StayLive, live_place, relabelled, packed};
@@ -19,7 +19,7 @@ use crate::end_labels::EndLabels;
 use crate::parts::Part;
 use crate::scanning::{Best, short_key};
 use crate::table::Table;
-use link_key::Link;
+use links::Link;
 use std::alloc::{AllocError, Allocator};
 
 // What is written of a link: a label of its lower end, or that label's number, the same of its higher end, and its place.

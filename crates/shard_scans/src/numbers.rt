@@ -5,7 +5,7 @@
 //! links have are marked, a bit each, and numbered in their order: the number of a label is one more than there are marked
 //! labels below it, which are counted a word of bits at a time.
 ghost use Rattle.std.specs.Prelude.{◌≡◌, ℕ, ◌+◌, ◌-◌, ◌*◌, ◌/◌, ◌^◌, ◌<◌, ◌≤◌, ◌⊎◌, [], length, All, slice_index, slice_index_or, replicate, set, count_ones, OnOk};
-ghost use Rattle.link_key.specs.Labels.{AreLabels};
+ghost use Rattle.links.specs.Labels.{AreLabels};
 ghost use Rattle.round_theory.specs.Labelling.{IsVertex};
 ghost use Rattle.shard_scans.specs.declared.live.LiveLink.{LiveLink};
 ghost use Rattle.shard_scans.specs.Numbers.{no_marks, marks_of, IsMarked, marked_in, AreCounted, number_of, numbered, HasItsName, AreBothMarked, AreBothNamed, HaveMarks, new_name};

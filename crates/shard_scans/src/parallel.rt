@@ -9,7 +9,7 @@ use crate::parts::{Part, Scanned};
 use crate::scanning::{Best, NO_PLACE, find_best};
 use crate::table::Table;
 use limits::MAX_SHARD_LINKS;
-use link_key::Link;
+use links::Link;
 use rayon::{current_num_threads, join};
 use std::alloc::{AllocError, Allocator};
 use std::thread::Threads;

@@ -2,7 +2,7 @@
 ghost use Rattle.std.specs.Prelude.{◌≤◌};
 
 use crate::live::LiveLink;
-use link_key::Link;
+use links::Link;
 
 // A shard's links that are to be scanned under labels: all of them, or the live ones alone where these are listed.
 #[derive(Clone, Copy)]

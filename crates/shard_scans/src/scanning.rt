@@ -1,7 +1,7 @@
 //! The light offers of a shard, in one pass over its links.
 ghost use Rattle.std.specs.Prelude.{◌≡◌, ◌≢◌, ℕ, ◌+◌, ◌-◌, ◌<◌, ◌≤◌, ◌↔◌, [], length, replicate, Some, All, IfSome, IfOk, OnOk, IsTrue};
-ghost use Rattle.link_key.specs.Link.{EndsUpTo};
-ghost use Rattle.link_key.specs.Labels.{AreLabels};
+ghost use Rattle.links.specs.Link.{EndsUpTo};
+ghost use Rattle.links.specs.Labels.{AreLabels};
 ghost use Rattle.round_theory.specs.Offers.{AreLightOffers};
 ghost use Rattle.shard_scans.specs.Scanning.{short_key, no_best, Says, KeepsLesser, AreBest, TakesIn};
 ghost use Rattle.shard_scans.specs.Live.{AreLiveLinks, relabelled};
@@ -17,7 +17,7 @@ use crate::parallel::{best_of_all, halvings_of};
 use crate::parts::{Part, Scanned};
 use crate::table::Table;
 use limits::MAX_SHARD_LINKS;
-use link_key::{Labels, Link, Offers};
+use links::{Labels, Link, Offers};
 use std::alloc::{AllocError, Allocator, Global};
 use std::marker::Model;
 use std::thread::Threads;

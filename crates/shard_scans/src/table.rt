@@ -8,7 +8,7 @@ ghost use Rattle.shard_scans.specs.Scanning.{no_best, Says};
 ghost use Rattle.shard_scans.specs.Tables.{KeepsAt, HaveNotes, AreNoted, AreNone, KeepNoMore, ArePlacesBelow, ArePlaces};
 
 use crate::scanning::{Best, NO_KEY, NO_PLACE, keep_lesser};
-use link_key::Link;
+use links::Link;
 use std::alloc::{AllocError, Allocator};
 use std::marker::Model;
 

@@ -1,7 +1,7 @@
 -- What is known of a line over a connection.
 use Rattle.std.specs.Prelude.{ℕ, None}
-use Rattle.ports.specs.declared.line.Line as Line
-use Rattle.ports.specs.Lines.{LineState}
+use Rattle.wires.specs.declared.line.Line as Line
+use Rattle.wires.specs.Lines.{LineState}
 
 -- how many calls failed, and how many gets found the end
 pub record TcpLineState : Type 0 where

@@ -1,13 +1,13 @@
 //! A line over a connection.
 ghost use Rattle.std.specs.Prelude.{◌≡◌, length};
 ghost use Rattle.std.specs.Io.{ReadsAtMost};
-ghost use Rattle.ports.specs.Lines.{HasRoom, Puts, Gets};
+ghost use Rattle.wires.specs.Lines.{HasRoom, Puts, Gets};
 ghost use Rattle.tcp_lines.specs.Lines.{line_of, unused};
 
 use byte_streams::{Source, put};
-use ports::{Line, LineFault};
 use std::marker::Model;
 use std::net::TcpStream;
+use wires::{Line, LineFault};
 
 /// A line over a TCP connection, which it owns and closes where it is dropped.
 ///

@@ -3,12 +3,12 @@ use Rattle.std.proofs.Common.{◌≡◌, ◌≤◌, ℕ, List, [], length, Some,
 use Rattle.limits.specs.declared.TheConstants.{MAX_BYTES}
 use Rattle.byte_streams.specs.Streams.{SourceState, SinkState, HadNoFailure}
 use Rattle.byte_streams.proofs.Streaming.{gave_to_end, took_known}
-use Rattle.link_key.proofs.Least.{forest_is_lightest}
+use Rattle.links.proofs.Least.{forest_is_lightest}
 use Rattle.gr_text.specs.ForestText.{forest_text}
-use Rattle.forest_run.specs.Files.{HasFile, IsForestTextOf}
-use Rattle.forest_run.specs.Outcomes.{streams, IsSpanning}
-use Rattle.forest_run.specs.PlainRun.{RanPlain, WritesAgain}
-use Rattle.forest_run.specs.declared.report.Report.{Report}
+use Rattle.plain_run.specs.Files.{HasFile, IsForestTextOf}
+use Rattle.plain_run.specs.Outcomes.{streams, IsSpanning}
+use Rattle.plain_run.specs.PlainRun.{RanPlain, WritesAgain}
+use Rattle.plain_run.specs.declared.report.Report.{Report}
 use Rattle.worked_examples.specs.Again.{IsWrittenAgain}
 
 -- where a source had the text of a file's forest and an empty sink took what a run wrote, that text went out again

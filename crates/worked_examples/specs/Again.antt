@@ -1,11 +1,11 @@
 -- A forest's text that was run again.
 use Rattle.std.specs.Prelude.{◌≡◌, ℕ, List, length}
-use Rattle.link_key.specs.Least.{sum_of_weights}
-use Rattle.link_key.specs.declared.links.Link.{Link}
+use Rattle.links.specs.Least.{sum_of_weights}
+use Rattle.links.specs.declared.links.Link.{Link}
 use Rattle.gr_text.specs.Graph.{GraphValue}
 use Rattle.gr_text.specs.ForestText.{forest_text}
-use Rattle.forest_run.specs.Files.{HasForest}
-use Rattle.forest_run.specs.declared.report.Report.{Report}
+use Rattle.plain_run.specs.Files.{HasForest}
+use Rattle.plain_run.specs.declared.report.Report.{Report}
 
 -- the text is that of the forest that these bytes give; the run that wrote it counted the forest's links, and no others, and their total
 pub record IsWrittenAgain (bytes text : List ℕ) (report : Report) : Type 0 where

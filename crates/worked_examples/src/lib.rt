@@ -1,6 +1,6 @@
 //! Worked examples of files and forests, each a test that needs public calls alone. `worked_streams`, `worked_rounds`,
 //! `worked_runs`, `worked_lines`, `worked_sockets` and `worked_failures` have those of the other subjects
-//! (CONTRIBUTING.md says of which).
+//! (docs/ARCHITECTURE.md says of which).
 //!
 //! ```text
 //!   lists           links of arcs, labels, offers, forests; the forests of the worked graphs

@@ -9,7 +9,7 @@
 //!   texts             files that are read whole, in pieces and from a source; sinks that are made
 //!   frame_texts       frames that are read and written
 //!   workers           scans, what a worker hears, its sessions
-//!   wires             a worker in memory, and asks over a wire to it
+//!   wire_asks         a worker in memory, and asks over a wire to it
 //!   rounds            the board of claims, the book of a round, the solver
 //!   runs              whole runs
 //!   streams           a source and a sink, one of which fails at a byte

@@ -8,5 +8,5 @@ mod same;
 mod sessions;
 mod streams;
 mod texts;
-mod wires;
+mod wire_asks;
 mod workers;

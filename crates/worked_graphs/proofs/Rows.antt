@@ -4,9 +4,9 @@ use Rattle.std.proofs.lemmas.Bool.Decides.{nat_tests}
 use Rattle.std.proofs.Math.Nat.{max-le}
 use Rattle.std.proofs.lemmas.List.{map-append, take_more}
 use Rattle.std.proofs.lemmas.List.Elements.{filter-append, All-push}
-use Rattle.link_key.specs.Arc.{Arc}
-use Rattle.link_key.specs.declared.links.Link.{Link}
-use Rattle.link_key.specs.Link.{Key, key_of, arc_key, is_no_loop, AreLinksOf, EndsUpTo}
+use Rattle.links.specs.Arc.{Arc}
+use Rattle.links.specs.declared.links.Link.{Link}
+use Rattle.links.specs.Link.{Key, key_of, arc_key, is_no_loop, AreLinksOf, EndsUpTo}
 use Rattle.worked_graphs.specs.Rows.{Row, arc_of, IsArcUpTo}
 
 -- rows whose ends are all vertices, and their links

@@ -1,7 +1,7 @@
 -- The rows in which worked graphs are written.
 use Rattle.std.specs.Prelude.{ℕ, ℤ, ◌≤◌}
 use Rattle.limits.specs.declared.TheConstants.{MAX_VERTICES}
-use Rattle.link_key.specs.Arc.{Arc}
+use Rattle.links.specs.Arc.{Arc}
 
 -- two ends and a weight
 abbrev pub Row : Type 0

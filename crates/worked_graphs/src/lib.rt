@@ -8,7 +8,7 @@
 #![tactic(auto)]
 
 ghost use Rattle.std.specs.Prelude.{◌≡◌, ◌↔◌, ◌≤◌, All, map, IsTrue, IsSome, IsNone, IfOk, IfSome};
-ghost use Rattle.link_key.specs.Link.{key_of, arc_key, EndsUpTo, AreLinksOf};
+ghost use Rattle.links.specs.Link.{key_of, arc_key, EndsUpTo, AreLinksOf};
 ghost use Rattle.worked_graphs.specs.Rows.{arc_of, AreEnds, IsArcUpTo};
 
 use limits::MAX_VERTICES;

@@ -7,15 +7,15 @@ use Rattle.byte_streams.specs.Streams.{SourceState, SinkState, only_held}
 use Rattle.byte_streams.proofs.Streaming.{gave_to_end, took_known}
 use Rattle.gr_text.specs.ForestText.{forest_text}
 use Rattle.gr_text.specs.Graph.{GraphValue}
-use Rattle.link_key.specs.declared.links.Link.{Link}
+use Rattle.links.specs.declared.links.Link.{Link}
 use Rattle.ports.specs.EngineLines.{EngineLineState, line_of, engine_line, IsEngineLine}
-use Rattle.ports.specs.Lines.{IsFresh, HasKnownBytes}
-use Rattle.forest_run.specs.Files.{IsFileOf, IsForestTextOf}
-use Rattle.forest_run.specs.Outcomes.{streams, IsDone, IsLeast}
+use Rattle.wires.specs.Lines.{IsFresh, HasKnownBytes}
+use Rattle.plain_run.specs.Files.{IsFileOf, IsForestTextOf}
+use Rattle.plain_run.specs.Outcomes.{streams, IsDone, IsLeast}
 use Rattle.forest_run.specs.LinesRun.{IsUnhindered}
 use Rattle.forest_run.specs.WiredLines.{AreServed}
-use Rattle.forest_run.specs.declared.fault.RunFault.{RunFault}
-use Rattle.forest_run.specs.declared.fault.RunFault.TheVariants as fault
+use Rattle.plain_run.specs.declared.fault.RunFault.{RunFault}
+use Rattle.plain_run.specs.declared.fault.RunFault.TheVariants as fault
 
 abbrev pub AreEngines : List EngineLineState → Type 0
 AreEngines lines = AreServed engine_line lines

@@ -4,8 +4,8 @@ ghost use Rattle.std.specs.Prelude.{◌≡◌, ◌≤◌, None, length, All, IfO
 ghost use Rattle.limits.specs.declared.TheConstants.{MAX_WORKERS};
 ghost use Rattle.byte_streams.specs.Streams.{only_held};
 ghost use Rattle.ports.specs.EngineLines.{line_of, engine_line};
-ghost use Rattle.ports.specs.Lines.{HasRoom};
-ghost use Rattle.forest_run.specs.Files.{IsForestTextOf};
+ghost use Rattle.wires.specs.Lines.{HasRoom};
+ghost use Rattle.plain_run.specs.Files.{IsForestTextOf};
 ghost use Rattle.forest_run.specs.LinesRun.{MeansGraphToCut, IsUnhindered};
 ghost use Rattle.forest_run.specs.WiredLines.{AreServed};
 

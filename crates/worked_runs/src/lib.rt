@@ -3,11 +3,11 @@
 //! ```text
 //!   closing         books closed in threads and in one
 //!   passes          whole runs over lanes: two workers in memory, and none
-//!   relabelling     components made one by merges and by picks, and the labels that follow
+//!   relabelling     components made one by picks, and the labels that follow
 //!   rounds          the judge's answers, the order of answers, a book that several threads read
 //!   same            what is found beside what is expected
 //!   solving         a solver's steps, rounds past the bound, whole runs by one thread
-//!   wires           asks of a worker over a line that stops, or over stored bytes in place of a worker; an engine's line
+//!   wire_asks       asks of a worker over a line that stops, or over stored bytes in place of a worker; an engine's line
 //!                   once its session is over
 //! ```
 //!

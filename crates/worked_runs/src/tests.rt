@@ -4,4 +4,4 @@ mod relabelling;
 mod rounds;
 mod same;
 mod solving;
-mod wires;
+mod wire_asks;

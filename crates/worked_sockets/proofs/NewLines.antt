@@ -1,7 +1,7 @@
 -- Lists of lines before their first call.
 use Rattle.std.proofs.Common.{◌≡◌, List, [], ◌∷◌, ◌++◌, All, subst, sym, arith}
 use Rattle.std.proofs.lemmas.List.Elements.{All-push}
-use Rattle.ports.specs.Lines.{HasRoom}
+use Rattle.wires.specs.Lines.{HasRoom}
 use Rattle.tcp_lines.specs.Lines.{TcpLineState, line_of, unused}
 
 pub unused_push : (zs : List TcpLineState) (xs : List TcpLineState) (x : TcpLineState) → zs ≡ xs ++ x ∷ [] → All (λ line. line ≡ unused) xs → x ≡ unused → All (λ line. line ≡ unused) zs

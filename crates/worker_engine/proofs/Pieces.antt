@@ -6,7 +6,7 @@ use Rattle.std.proofs.lemmas.List.{length-append}
 use Rattle.std.proofs.lemmas.Grind.{flat_map-append}
 use Rattle.byte_streams.specs.Streams.{SinkState, Took}
 use Rattle.byte_streams.proofs.Streaming.{took_more}
-use Rattle.link_key.specs.Offers.{Offer}
+use Rattle.links.specs.Offers.{Offer}
 use Rattle.frames.specs.FrameText.{offer_text}
 use Rattle.worker_engine.specs.Served.{WroteSome, CutOff}
 

@@ -9,10 +9,10 @@ use Rattle.std.specs.Map.{lookup, set_value}
 use Rattle.std.specs.Map.Calls.{RetainsPairs}
 use Rattle.std.proofs.lemmas.Bool.{cases_eq, cases_lt, eq-eqb, ne_eqb}
 use Rattle.std.proofs.lemmas.Map.Made.{lookup-map_values}
-use Rattle.link_key.specs.declared.links.Link.{Link}
-use Rattle.link_key.specs.Labels.{Coarsens}
+use Rattle.links.specs.declared.links.Link.{Link}
+use Rattle.links.specs.Labels.{Coarsens}
 use Rattle.frames.specs.FrameValue.{ShardFrame}
-use Rattle.worker_engine.specs.Serving.{shelf_of, shelf_with}
+use Rattle.worker_replies.specs.Serving.{shelf_of, shelf_with}
 use Rattle.shard_scans.proofs.Written.{kept_coarser}
 use Rattle.shard_scans.specs.Live.{KeptShardState, AreLiveLinks, IsLive, IsAllLive}
 use Rattle.worker_engine.specs.Shelves.{shelf_list, AreAllLive, AreAllUnder}

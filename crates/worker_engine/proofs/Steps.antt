@@ -19,10 +19,10 @@ use Rattle.worker_engine.specs.declared.session.ServeFault.{ServeFault}
 use Rattle.worker_engine.specs.declared.session.ServeFault.TheVariants.{Read, Write, Memory, TooMany}
 use Rattle.worker_engine.specs.declared.session.Written.{Written}
 use Rattle.worker_engine.specs.declared.session.Written.TheVariants.{AFault}
-use Rattle.worker_engine.specs.Serving.{Shelf, empty_shelf, shelf_with, shelf_after, MayFollow, AreReplies, IsShardFrame}
+use Rattle.worker_replies.specs.Serving.{Shelf, empty_shelf, shelf_with, shelf_after, MayFollow, AreReplies, IsShardFrame}
 use Rattle.worker_engine.specs.Served.{answers_in, faults_in, HeardFrames, ServesToEnd, EndsAtRead, EndsAtWrite, EndsAtMemory, EndsAtLimit, EndsBy, IsSortOf, CountsReplies, HearsNext, HearsNone, WroteFor, CutOff, Ungreeted}
-use Rattle.worker_engine.proofs.Versions.{this_version, all_heard}
-use Rattle.worker_engine.proofs.Replying.{replies_more, shelf_after-append}
+use Rattle.worker_replies.proofs.Versions.{this_version, all_heard}
+use Rattle.worker_replies.proofs.Replying.{replies_more, shelf_after-append}
 
 -- whole lawful frames were heard, and what is owed for them was written
 pub record SoFar (worker : ℕ) (shelf : Shelf) (served : Served) (source source' : SourceState) (sink sink' : SinkState) : Type 0 where

@@ -2,8 +2,8 @@
 use Rattle.std.specs.Prelude.{◌≡◌, ◌≢◌, ℕ, ◌+◌, ◌<◌, ◌⊎◌, List, [], ◌∷◌, ◌++◌, length, take}
 use Rattle.std.specs.List.{flat_map}
 use Rattle.byte_streams.specs.Streams.{SourceState, Gave, SinkState, Took}
-use Rattle.link_key.specs.declared.links.Link.{Link}
-use Rattle.link_key.specs.Offers.{Offer}
+use Rattle.links.specs.declared.links.Link.{Link}
+use Rattle.links.specs.Offers.{Offer}
 use Rattle.frames.specs.FrameValue.{FrameValue, ShardFrame, AnswerFrame, FaultFrame}
 use Rattle.frames.specs.declared.frame.TheConstants.{VERSION}
 use Rattle.frames.specs.FrameText.{offer_text, text_of}
@@ -18,7 +18,7 @@ use Rattle.worker_engine.specs.declared.session.ServeFault.{ServeFault}
 use Rattle.worker_engine.specs.declared.session.ServeFault.TheVariants.{Read, Write, Memory, TooMany}
 use Rattle.worker_engine.specs.declared.session.Written.{Written}
 use Rattle.worker_engine.specs.declared.session.Written.TheVariants.{Nothing, AnAnswer, AFault}
-use Rattle.worker_engine.specs.Serving.{Shelf, shelf_with, MayFollow, Serves, IsShardFrame}
+use Rattle.worker_replies.specs.Serving.{Shelf, shelf_with, MayFollow, Serves, IsShardFrame}
 
 -- how many answers there are, and how many faults
 abbrev pub answer_bit : FrameValue → ℕ

@@ -4,12 +4,12 @@ use Rattle.std.specs.Ordering.{nat_cmp}
 use Rattle.std.specs.BTreeMap.{is_at}
 use Rattle.std.specs.Map.{lookup}
 use Rattle.limits.specs.declared.TheConstants.{MAX_SHARD_LINKS}
-use Rattle.link_key.specs.declared.links.Link.{Link}
-use Rattle.link_key.specs.Offers.{Offer}
+use Rattle.links.specs.declared.links.Link.{Link}
+use Rattle.links.specs.Offers.{Offer}
 use Rattle.frames.specs.FrameValue.{FrameValue}
 use Rattle.frames.specs.Lawful.{IsLawful, IsAsk}
 use Rattle.shard_scans.specs.Live.{KeptShardState, AreOffersOf, IsLive, IsAllLive}
-use Rattle.worker_engine.specs.Serving.{ShelfList, IsReply}
+use Rattle.worker_replies.specs.Serving.{ShelfList, IsReply}
 
 -- what is kept, without what is live of it
 abbrev pub shelf_list : List (ℕ × KeptShardState) → ShelfList

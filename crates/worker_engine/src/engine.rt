@@ -3,8 +3,8 @@ ghost use Rattle.std.specs.Prelude.{◌≡◌, [], IsSome, IfOk, OnOk, OnErr, tr
 ghost use Rattle.frames.specs.FrameValue.{value_of, ShardFrame, FaultFrame};
 ghost use Rattle.frames.specs.Lawful.{IsLawful, IsShard, IsAsk};
 ghost use Rattle.frames.specs.FrameStream.{AreLawful};
-ghost use Rattle.worker_engine.specs.Serving.{shelf_of, shelf_with, IsReply, MayWantMemory, AreReplyTo, MayFollow, IsShardFrame, replies_in};
-ghost use Rattle.link_key.specs.Labels.{Coarsens};
+ghost use Rattle.worker_replies.specs.Serving.{shelf_of, shelf_with, IsReply, MayWantMemory, AreReplyTo, MayFollow, IsShardFrame, replies_in};
+ghost use Rattle.links.specs.Labels.{Coarsens};
 ghost use Rattle.shard_scans.specs.Live.{IsAllLive};
 ghost use Rattle.worker_engine.specs.Shelves.{shelf_list, IsReplyWith, AreAllLive, AreAllUnder};
 
@@ -12,7 +12,7 @@ mod hearing;
 mod threads;
 
 use frames::{Answer, Frame, Links};
-use link_key::{Labels, Offers};
+use links::{Labels, Offers};
 use shard_scans::{KeptShard, Scanner};
 use std::alloc::{AllocError, Allocator, Global};
 use std::collections::BTreeMap;
@@ -42,7 +42,7 @@ pub struct Engine<A: Allocator = Global> {
 }
 
 impl<A: Allocator> Model for Engine<A> {
-    ghost use Rattle.worker_engine.specs.Serving.{ShelfList};
+    ghost use Rattle.worker_replies.specs.Serving.{ShelfList};
     ghost use Rattle.worker_engine.specs.Shelves.{shelf_list, AreAllUnder};
 
     ghost Value = { ShelfList };

@@ -5,7 +5,7 @@ ghost use Rattle.byte_streams.specs.Streams.{Took};
 ghost use Rattle.frames.specs.FrameValue.{HelloFrame, AnswerFrame, FaultFrame};
 ghost use Rattle.frames.specs.FrameText.{offer_text, text_of};
 ghost use Rattle.frames.specs.FrameStream.{texts_of, AreLawful};
-ghost use Rattle.worker_engine.specs.Serving.{replies_in};
+ghost use Rattle.worker_replies.specs.Serving.{replies_in};
 ghost use Rattle.worker_engine.specs.Served.{ServesToEnd, EndsBy, CountsReplies, AreAnswersOrFaults, WroteFor, WroteSome, CutOff, Ungreeted};
 ghost use Rattle.worker_engine.specs.declared.session.ServeFault.TheVariants.{Read, Write};
 ghost use Rattle.frames.specs.declared.fault.FrameFault.TheVariants.{Ended};

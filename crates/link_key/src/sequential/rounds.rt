@@ -9,11 +9,12 @@
 ghost use Rattle.std.specs.Prelude.{◌≡◌, false, ◌+◌, ◌<◌, ◌≤◌, [], ◌++◌, map, take, drop, length, slice_index, EachIndex, IfOk, OnOk, IsTrue};
 ghost use Rattle.std.specs.List.{filter};
 ghost use Rattle.limits.specs.declared.TheConstants.{MAX_VERTICES};
-ghost use Rattle.link_key.specs.Rounds.{is_apart, renamed};
+ghost use Rattle.link_key.specs.Rounds.{is_apart};
+ghost use Rattle.links.specs.Labels.{renamed};
 ghost use Rattle.link_key.specs.OpenLinks.{renumbered, is_open, AreOpened, AreBetween, AreNumbers, AreAllNumbers, ShareNumber, AreFilled, HaveFirst, HaveNumbers, MarkTouched, StayOpen, LeadsOn, zeros};
 
-use crate::links::Link;
 use limits::MAX_VERTICES;
+use links::Link;
 use std::alloc::{AllocError, Allocator};
 
 // The most links that have ranks.

@@ -1,7 +1,7 @@
 // Links of arcs, labels, offers and forests, and the forests of the worked graphs.
 ghost use Rattle.std.specs.Prelude.{IsTrue};
-ghost use Rattle.link_key.specs.Least.{AreDistinct};
-ghost use Rattle.link_key.specs.Link.{EndsUpTo};
+ghost use Rattle.links.specs.Least.{AreDistinct};
+ghost use Rattle.links.specs.Link.{EndsUpTo};
 
 use super::drawn_lists::expect_one_forest;
 use super::same::expect_same;

@@ -8,7 +8,7 @@ use forest_run::{plain_text, run_plain};
 use gr_text::{
     FusedSource, GrReader, Graph, MAX_BYTES, parse, read_graph, read_graph_upto, write_forest,
 };
-use link_key::{Components, Forest, Labels, Link, Offers};
+use link_key::{Forest, Labels, Link, Offers};
 use std::alloc::Global;
 use std::process::Abort;
 use std::thread::Threads;
@@ -157,10 +157,6 @@ fn expect_numbers(rt: &impl Abort, alloc: Global, n: u32) {
     let numbers: Vec<u32> = (1..n + 1).collect(alloc).expect(rt, "memory");
     let apart = Labels::apart(alloc, n).expect(rt, "memory");
     expect_same(rt, apart.as_slice(), numbers.as_slice());
-    let components = Components::apart(alloc, n).expect(rt, "memory");
-    for v in 0..n + 1 {
-        expect_same(rt, components.label(v), v);
-    }
     let pairs = numbers.iter().map(|v| (*v, *v));
     let pairs: Vec<(u32, u32)> = pairs.collect(alloc).expect(rt, "memory");
     let wanted = pairs.clone().expect(rt, "memory");
@@ -298,7 +294,4 @@ fn as_many_vertices_as_there_may_be(rt: HostRuntime) {
     expect_same(&rt, again.as_slice(), text);
     let labels = Labels::apart(rt.alloc(), MOST).expect(&rt, "memory");
     expect_same(&rt, labels.n(), MOST);
-    drop(labels);
-    let components = Components::apart(rt.alloc(), MOST).expect(&rt, "memory");
-    expect_same(&rt, components.label(MOST), MOST);
 }

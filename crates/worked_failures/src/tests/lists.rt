@@ -1,6 +1,6 @@
 // Lists of link_key.
 ghost use Rattle.std.specs.Prelude.{◌≡◌, ◌≤◌, length, All, IfOk};
-ghost use Rattle.link_key.specs.Link.{EndsUpTo};
+ghost use Rattle.links.specs.Link.{EndsUpTo};
 
 use super::in_turn::{Memory, expect_each, or_refused};
 use super::same::expect_same;

@@ -2,11 +2,11 @@
 // in memory that is borrowed are refused by the borrow checker today.)
 ghost use Rattle.std.specs.Prelude.{◌≤◌, length, All, IfOk};
 ghost use Rattle.ports.specs.EngineLines.{line_of};
-ghost use Rattle.ports.specs.Lines.{HasRoom};
+ghost use Rattle.wires.specs.Lines.{HasRoom};
 
 use super::in_turn::{Memory, expect_any, was_refused};
 use super::same::expect_same;
-use super::wires::FIRST_HELLO;
+use super::wire_asks::FIRST_HELLO;
 use byte_streams::{FusedSink, Sink, Source};
 use forest_run::{Cutting, Report, RunFault, run_lines, run_plain};
 use gr_text::ReadFault;

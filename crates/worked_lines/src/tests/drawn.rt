@@ -1,8 +1,8 @@
 // Runs over drawn graphs, cuts and lines give what the run by one thread does.
 ghost use Rattle.std.specs.Prelude.{◌≡◌, ◌<◌, ◌≤◌, length, All, IfOk};
 ghost use Rattle.ports.specs.EngineLines.{line_of};
-ghost use Rattle.ports.specs.Lines.{HasRoom};
-ghost use Rattle.ports.specs.Testing.{with_stops};
+ghost use Rattle.wires.specs.Lines.{HasRoom};
+ghost use Rattle.wires.specs.Testing.{with_stops};
 
 use super::runs::{Solved, run_of};
 use forest_run::{Cutting, run_plain};

@@ -1,6 +1,6 @@
 // A run over lines into memory, and what holds of each.
 ghost use Rattle.std.specs.Prelude.{◌≤◌, length, All};
-ghost use Rattle.ports.specs.Lines.{HasRoom};
+ghost use Rattle.wires.specs.Lines.{HasRoom};
 
 use super::same::expect_same;
 use forest_run::{Cutting, Report, RunFault, run_lines};

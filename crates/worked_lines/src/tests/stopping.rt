@@ -1,8 +1,8 @@
 // Lines that stop: what one worker doesn't answer another does, and the coordinator where none is left.
 ghost use Rattle.std.specs.Prelude.{◌<◌};
 ghost use Rattle.ports.specs.EngineLines.{line_of};
-ghost use Rattle.ports.specs.Lines.{HasRoom};
-ghost use Rattle.ports.specs.Testing.{line_of_script, with_stops};
+ghost use Rattle.wires.specs.Lines.{HasRoom};
+ghost use Rattle.wires.specs.Testing.{line_of_script, with_stops};
 
 use super::runs::{Counts, run_of_worked};
 use super::same::expect_same;

@@ -4,7 +4,7 @@ ghost use Rattle.std.specs.Prelude.{◌<◌};
 ghost use Rattle.frames.specs.FrameValue.{value_of};
 ghost use Rattle.frames.specs.Lawful.{IsLawful};
 ghost use Rattle.frames.specs.FrameStream.{AreLawful};
-ghost use Rattle.worker_engine.specs.Serving.{replies_in};
+ghost use Rattle.worker_replies.specs.Serving.{replies_in};
 
 use super::labels::labels_of;
 use super::same::expect_same;

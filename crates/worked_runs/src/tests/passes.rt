@@ -1,6 +1,6 @@
 // Whole runs over lanes, each with a worker in memory that is asked in a thread of its own.
 ghost use Rattle.std.specs.Prelude.{◌≡◌, ◌<◌, ◌≤◌, ◌^◌, length, All, IfOk};
-ghost use Rattle.forest_run.specs.Lanes.{IsIdle};
+ghost use Rattle.port_rounds.specs.Lanes.{IsIdle};
 
 use super::rounds::links_to_cut;
 use super::same::expect_same;

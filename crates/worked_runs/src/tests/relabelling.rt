@@ -1,45 +1,16 @@
-// Components made one by merges, and labels made by a round's picks.
-ghost use Rattle.std.specs.Prelude.{◌≡◌, ◌<◌, ◌≤◌, All, length};
-ghost use Rattle.link_key.specs.declared.links.Link.{Link as TheLink};
-ghost use Rattle.link_key.specs.Link.{EndsUpTo};
-ghost use Rattle.round_core.specs.Picks.{Picked};
+// Labels made by a round's picks.
+ghost use Rattle.std.specs.Prelude.{◌<◌};
 
-use super::rounds::links_to_cut;
+use super::rounds::{links_to_cut, opened, picks_of_offers};
 use super::same::expect_same;
 use super::solving::path;
-use frames::Answer;
-use link_key::{Components, Cut, Labels, Offers};
-use round_core::{Picks, RoundBook, hook_relabel};
+use link_key::{Cut, Labels};
+use round_core::hook_relabel;
 use std::alloc::Global;
 use std::process::Abort;
-use worked_graphs::{Row, SMALL_NET, all_have_labels};
+use worked_graphs::{Row, SMALL_NET};
 
 const MANY: u32 = 10_000;
-
-// The picks of a round over one shard, whose only answer offers these.
-fn picks_of(
-    rt: &impl Abort,
-    alloc: Global,
-    cut: &Cut,
-    labels: &Labels,
-    pairs: &[(u32, u32)],
-) -> Picks
-    requires { All (EndsUpTo (length labels.now)) cut.now }
-    ensures each_vertex { length result ≡ length labels.now }
-    ensures ends { (l : TheLink) → Picked result l → l.high ≤ length labels.now }
-{
-    let offers = Offers::of_pairs(pairs.to_vec(alloc).expect(rt, "memory")).expect(rt, "ascending");
-    let answer = Answer {
-        round: 1,
-        shard: 0,
-        offers,
-    };
-    let mut book = RoundBook::open(alloc, 1, cut, labels).expect(rt, "memory");
-    assert!(rt; book.len() == 1);
-    book.take(0, answer).expect(rt, "memory");
-    assert!(rt; book.missing() == 0);
-    book.close()
-}
 
 /// A round over arcs as one shard: the labels before it, the arcs, the offers of its only answer, and the labels behind it.
 type Round<'a> = (&'a [u32], &'a [Row], &'a [(u32, u32)], &'a [u32]);
@@ -50,70 +21,10 @@ fn expect_relabelled(rt: &impl Abort, alloc: Global, round: Round) {
     let labels = Labels::of_list(before.to_vec(alloc).expect(rt, "memory")).expect(rt, "labels");
     let links = links_to_cut(rt, alloc, labels.n(), arcs);
     let cut = Cut::even(alloc, links.as_slice(), 1).expect(rt, "a cut");
-    assert!(rt; all_have_labels(&cut, labels.n()));
-    let picks = picks_of(rt, alloc, &cut, &labels, pairs);
+    let book = opened(rt, alloc, &cut, 1, &labels);
+    let picks = picks_of_offers(rt, alloc, book, &[pairs]);
     let made = hook_relabel(alloc, &labels, &picks).expect(rt, "memory");
     expect_same(rt, made.as_slice() == behind, true);
-}
-
-// Makes the components of two of the numbers one.
-fn make_one(rt: &impl Abort, components: &mut Components, u: u32, v: u32)
-    requires first { u < length components.old }
-    requires second { v < length components.old }
-    ensures { length components.new ≡ length components.old }
-{
-    let first = components.label(u);
-    let second = components.label(v);
-    assert!(rt; first != second);
-    components.merge(first, second);
-}
-
-#[test]
-fn components_of_five(rt: HostRuntime) {
-    let mut components = Components::apart(rt.alloc(), 5).expect(&rt, "memory");
-    make_one(&rt, &mut components, 2, 4);
-    make_one(&rt, &mut components, 4, 5);
-    make_one(&rt, &mut components, 1, 3);
-    let (first, second) = (components.label(1), components.label(2));
-    let others = (
-        components.label(0),
-        components.label(3),
-        components.label(5),
-    );
-    expect_same(&rt, others, (0, first, second));
-    expect_same(&rt, first == second, false);
-}
-
-// The component of 2 and 4, which meets 5 alone, as the first or as the second of the two: all get its label.
-fn expect_larger_kept(rt: &impl Abort, alloc: Global, u: u32, v: u32)
-    requires first { u < 6 }
-    requires second { v < 6 }
-{
-    let mut components = Components::apart(alloc, 5).expect(rt, "memory");
-    make_one(rt, &mut components, 2, 4);
-    let kept = components.label(2);
-    make_one(rt, &mut components, u, v);
-    let labels = (
-        components.label(2),
-        components.label(4),
-        components.label(5),
-    );
-    expect_same(rt, labels, (kept, kept, kept));
-}
-
-#[test]
-fn the_larger_of_two_components_keeps_its_label(rt: HostRuntime) {
-    expect_larger_kept(&rt, rt.alloc(), 2, 5);
-    expect_larger_kept(&rt, rt.alloc(), 5, 2)
-}
-
-// Components of no vertex and of one: each number stands alone.
-#[test]
-fn components_at_their_bounds(rt: HostRuntime) {
-    for n in 0..3u32 {
-        let components = Components::apart(rt.alloc(), n).expect(&rt, "memory");
-        expect_same(&rt, components.label(n), n);
-    }
 }
 
 #[test]

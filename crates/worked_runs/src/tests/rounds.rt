@@ -1,8 +1,8 @@
 // A round's book by example: what the judge says of answers for a triangle of equal weights, that the order of answers
 // changes nothing, and a book that several threads read.
 ghost use Rattle.std.specs.Prelude.{◌≡◌, ◌≤◌, ◌<◌, ◌↔◌, ◌^◌, ℕ, length, All, IsTrue};
-ghost use Rattle.link_key.specs.Cut.{links_at};
-ghost use Rattle.link_key.specs.Link.{EndsUpTo};
+ghost use Rattle.links.specs.Cut.{links_at};
+ghost use Rattle.links.specs.Link.{EndsUpTo};
 ghost use Rattle.round_core.specs.Picks.{ArePicksOfHearings};
 
 use super::same::expect_same;

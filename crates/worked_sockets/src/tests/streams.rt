@@ -1,6 +1,6 @@
 // The two ends of a connection.
 
-ghost use Rattle.ports.specs.Lines.{HasRoom};
+ghost use Rattle.wires.specs.Lines.{HasRoom};
 ghost use Rattle.tcp_lines.specs.Lines.{line_of};
 
 use super::same::expect_same;

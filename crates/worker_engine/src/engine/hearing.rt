@@ -1,7 +1,7 @@
 //! A worker's engine that hears the next frame of a stream.
 ghost use Rattle.std.specs.Prelude.{IfOk, IfErr, OnOk};
 ghost use Rattle.frames.specs.FrameStream.{AreLawful};
-ghost use Rattle.worker_engine.specs.Serving.{shelf_of, replies_in};
+ghost use Rattle.worker_replies.specs.Serving.{shelf_of, replies_in};
 ghost use Rattle.worker_engine.specs.Served.{HearsNext, HearsNone};
 
 use super::threads::reply_under_par;

@@ -3,12 +3,12 @@ ghost use Rattle.std.specs.Prelude.{◌≡◌, IsSome, IfOk, OnOk, OnErr};
 ghost use Rattle.frames.specs.FrameValue.{value_of};
 ghost use Rattle.frames.specs.Lawful.{IsLawful, IsAsk};
 ghost use Rattle.frames.specs.FrameStream.{AreLawful};
-ghost use Rattle.worker_engine.specs.Serving.{shelf_of, shelf_with, IsReply, MayWantMemory, AreReplyTo, MayFollow, IsShardFrame, replies_in};
+ghost use Rattle.worker_replies.specs.Serving.{shelf_of, shelf_with, IsReply, MayWantMemory, AreReplyTo, MayFollow, IsShardFrame, replies_in};
 ghost use Rattle.worker_engine.specs.Shelves.{shelf_list, AreAllUnder};
 
 use super::{Ask, Engine, NOT_KEPT, make_live};
 use frames::Frame;
-use link_key::Labels;
+use links::Labels;
 use shard_scans::{KeptShard, Scanner};
 use std::alloc::{AllocError, Allocator};
 use std::collections::BTreeMap;

@@ -1,7 +1,7 @@
 use Rattle.std.proofs.Common.{◌≡◌, ◌≤◌, true, false, arith, rules}
 use Rattle.std.proofs.lemmas.List.{length_push}
 use Rattle.std.proofs.lemmas.List.Elements.{All-push}
-use Rattle.link_key.specs.declared.links.Link.{Link}
+use Rattle.links.specs.declared.links.Link.{Link}
 use Rattle.boruvka_c.proofs.Givens.{links_at_loop, links_at_link}
 use Rattle.boruvka_c.proofs.given.links_of.Goals as goal
 use Rattle.boruvka_c.proofs.given.links_of.Goals.{in-Some+in_ok-push-in-Some, in-None}

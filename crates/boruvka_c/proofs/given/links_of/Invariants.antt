@@ -1,5 +1,5 @@
 use Rattle.std.proofs.Common.{◌≤◌, length, take}
-use Rattle.link_key.specs.Link.{AreLinksOf, EndsUpTo}
+use Rattle.links.specs.Link.{AreLinksOf, EndsUpTo}
 use Rattle.boruvka_c.specs.Links.{arcs_of}
 use Rattle.boruvka_c.proofs.given.links_of.Given as goal
 

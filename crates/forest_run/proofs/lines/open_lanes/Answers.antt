@@ -1,5 +1,5 @@
 use Rattle.std.proofs.Common.{◌≡◌, ◌<◌, [], length, rules, arith}
-use Rattle.ports.specs.Wires.{IsNewWire}
+use Rattle.wires.specs.Wires.{IsNewWire}
 use Rattle.forest_run.proofs.NewWires.{no_lanes, lane_more, next_room, lanes_number}
 use Rattle.forest_run.proofs.lines.open_lanes.Goals as goal
 

@@ -1,12 +1,13 @@
 use Rattle.std.proofs.Common.{◌∙◌, Vec, Ok, ap, length}
-use Rattle.link_key.specs.Link.{EndsUpTo}
-use Rattle.link_key.specs.Cut.{joined}
+use Rattle.links.specs.Link.{EndsUpTo}
+use Rattle.links.specs.Cut.{joined}
 use Rattle.forest_run.specs.Cuttings.{IsCutOf}
 use Rattle.forest_run.specs.WiredLines.{FindsOverLines}
-use Rattle.forest_run.specs.Outcomes.{IsSpanning, IsLeast}
-use Rattle.forest_run.proofs.KnownFiles.{reads_the_file, first_of_file, no_fault_of_file, something_of_file}
-use Rattle.forest_run.proofs.PlainRunning.{done}
-use Rattle.forest_run.proofs.LinesRunning.{had_setback, shards_ends, few_enough, same_length, spanning, few_links, least, lines_went, served_report, cut_unsolved, cut_served, solve_unsolved, solve_served, cut_unhindered, lines_broken_off, served_broken_off}
+use Rattle.plain_run.specs.Outcomes.{IsSpanning, IsLeast}
+use Rattle.plain_run.proofs.KnownFiles.{reads_the_file, first_of_file, no_fault_of_file, something_of_file}
+use Rattle.plain_run.proofs.Lengths.{same_length}
+use Rattle.plain_run.proofs.PlainRunning.{done}
+use Rattle.forest_run.proofs.LinesRunning.{had_setback, shards_ends, few_enough, spanning, few_links, least, lines_went, served_report, cut_unsolved, cut_served, solve_unsolved, solve_served, cut_unhindered, lines_broken_off, served_broken_off}
 use Rattle.forest_run.proofs.lines.run_lines.Goals as goal
 
 -- ---- the file isn't read
@@ -52,14 +53,14 @@ solve_lines-requires-clause-ends g c κs within =
 pub returns-in-Err-solve_lines-clause-ran : goal.returns-in-Err-solve_lines-clause-ran
 returns-in-Err-solve_lines-clause-ran g c =
     let cut : IsCutOf c.args.cutting c.in-Ok.graph.links c.in-Ok-cut_links.cut = rw c.links.ensures.links at c.in-Ok-cut_links.ensures.cut in
-    rw c.from.ensures
+    rw c.run_fault_for.ensures
     (solve_unsolved g.row.A.Denot g.L.Line c.args.cutting c.args.lines.items c.in-Ok.graph _ _ _ c.in-Ok.ensures.outcome c.in-Ok-cut_links.cut cut c.in-Err-solve_lines.fault
     (rw c.n.ensures.vertices at c.in-Err-solve_lines.ensures.fault))
 
 pub returns-in-Err-solve_lines-clause-served : goal.returns-in-Err-solve_lines-clause-served
 returns-in-Err-solve_lines-clause-served g c = λ served.
     let cut : IsCutOf c.args.cutting c.in-Ok.graph.links c.in-Ok-cut_links.cut = rw c.links.ensures.links at c.in-Ok-cut_links.ensures.cut in
-    rw c.from.ensures
+    rw c.run_fault_for.ensures
     (solve_served c.args.cutting c.in-Ok.graph _ _ _ c.in-Ok.ensures.outcome (Vec g.row.L.Denot g.row.A.Denot) c.in-Ok-cut_links.cut cut c.in-Err-solve_lines.fault (c.in-Err-solve_lines.ensures.served served))
 
 pub returns-in-Err-solve_lines-clause-malformed : goal.returns-in-Err-solve_lines-clause-malformed

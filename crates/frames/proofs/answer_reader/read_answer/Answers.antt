@@ -1,6 +1,6 @@
 use Rattle.std.proofs.Common.{refl, sym, subst, rules}
 use Rattle.std.proofs.lemmas.Result.{err_from_is_err_and}
-use Rattle.link_key.specs.Offers.{AreOffers}
+use Rattle.links.specs.Offers.{AreOffers}
 use Rattle.frames.proofs.AnswerPieces.{answer_unlawful, answer_unpassed, answer_stopped, answer_came, no_answer_came}
 use Rattle.frames.proofs.answer_reader.read_answer.Goals as goal
 

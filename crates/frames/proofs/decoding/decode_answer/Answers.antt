@@ -1,6 +1,6 @@
 use Rattle.std.proofs.Common.{refl, sym, subst, All}
 use Rattle.std.proofs.lemmas.Result.{err_from_is_err_and}
-use Rattle.link_key.specs.Offers.{AreOffers}
+use Rattle.links.specs.Offers.{AreOffers}
 use Rattle.frames.proofs.Texts.{FitsOffer}
 use Rattle.frames.proofs.Decoded.{answer_refused, answer_begun, answer_found, answer_unsorted}
 use Rattle.frames.proofs.decoding.decode_answer.Goals as goal

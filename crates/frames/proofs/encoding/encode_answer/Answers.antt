@@ -1,7 +1,7 @@
 use Rattle.std.proofs.Common.{◌≡◌, ◌++◌, List, ℕ, ap, ◌∙◌, rules}
 use Rattle.std.specs.List.{flat_map}
-use Rattle.link_key.specs.Offers.{Offer}
-use Rattle.frames.specs.AnswerValue.{AnswerValue}
+use Rattle.links.specs.Offers.{Offer}
+use Rattle.links.specs.AnswerValue.{AnswerValue}
 use Rattle.frames.specs.FrameText.{offer_text}
 use Rattle.frames.proofs.encoding.encode_answer.Goals as goal
 

@@ -1,7 +1,7 @@
 -- The links of the bytes that were read stand behind those that came before.
 use Rattle.std.proofs.Common.{◌≡◌, ◌++◌, ◌%◌, List, length}
 use Rattle.std.specs.List.{flat_map}
-use Rattle.link_key.specs.declared.links.Link.{Link}
+use Rattle.links.specs.declared.links.Link.{Link}
 use Rattle.frames.specs.Spellings.{spelled_in, size_in, FitIn}
 use Rattle.frames.proofs.items.push_links.Given as goal
 

@@ -1,7 +1,7 @@
 -- The offers of the bytes that were read stand behind those that came before.
 use Rattle.std.proofs.Common.{◌≡◌, ◌++◌, ◌%◌, List, length, All}
 use Rattle.std.specs.List.{flat_map}
-use Rattle.link_key.specs.Offers.{Offer}
+use Rattle.links.specs.Offers.{Offer}
 use Rattle.frames.specs.FrameText.{offer_text}
 use Rattle.frames.specs.Lawful.{IsU32}
 use Rattle.frames.proofs.items.push_offers.Given as goal

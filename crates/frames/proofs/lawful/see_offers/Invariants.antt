@@ -1,5 +1,5 @@
 use Rattle.std.proofs.Common.{ℕ, ◌<◌, get_or}
-use Rattle.link_key.specs.Offers.{Offer}
+use Rattle.links.specs.Offers.{Offer}
 use Rattle.frames.specs.Lawful.{IsU32}
 use Rattle.frames.proofs.lawful.see_offers.Given as goal
 

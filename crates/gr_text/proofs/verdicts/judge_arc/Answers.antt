@@ -1,7 +1,7 @@
 use Rattle.std.proofs.Common.{◌≡◌, subst, sym, arith, ◌∙◌, rules, inl, inr, refl, Option, w64}
 use Rattle.std.proofs.lemmas.Int.{to_z-of_z}
 use mir.Val.{to_z, of_z, SFits}
-use Rattle.link_key.specs.Arc.{Arc}
+use Rattle.links.specs.Arc.{Arc}
 use Rattle.gr_text.specs.Statement.{Says, ArcLine}
 use Rattle.gr_text.specs.Sort.{Makes}
 use Rattle.gr_text.specs.Graph.{HasEnds, IsArcOf}

@@ -1,6 +1,6 @@
 use Rattle.std.proofs.Common.{◌≡◌, ◌+◌, ◌++◌, [], ◌∷◌, List, Contains, take, sym, ap, ◌∙◌, subst, append_assoc, take_all, arith}
 use Rattle.std.proofs.lemmas.List.{take_more}
-use Rattle.link_key.specs.declared.links.Link.{Link}
+use Rattle.links.specs.declared.links.Link.{Link}
 use Rattle.round_core.specs.Picks.{ArePicks}
 use Rattle.round_core.proofs.WholeCuts.{picks_stay}
 use Rattle.round_core.proofs.alone.count_leaving.Goals as goal

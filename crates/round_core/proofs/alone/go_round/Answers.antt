@@ -1,7 +1,7 @@
 use Rattle.std.proofs.Common.{◌≡◌, subst}
 use Rattle.std.specs.Prelude.{Contains}
 use Rattle.std.proofs.lemmas.Result.{IfOk-weaker, IfErr-weaker}
-use Rattle.link_key.specs.Cut.{joined}
+use Rattle.links.specs.Cut.{joined}
 use Rattle.round_core.specs.Picks.{ArePicks}
 use Rattle.round_core.specs.Solver.{Progress, vertices, IsTurn, IsStepFault, IsRoundOf}
 use Rattle.round_core.specs.declared.solver.SolveFault.TheVariants.{Memory}

@@ -1,6 +1,6 @@
 use Rattle.std.proofs.Common.{◌≡◌, ◌<◌, ◌++◌, List, length, take, Contains, sym, ◌∙◌, subst, take_all, arith}
-use Rattle.link_key.specs.declared.links.Link.{Link}
-use Rattle.link_key.specs.Cut.{joined, links_at}
+use Rattle.links.specs.declared.links.Link.{Link}
+use Rattle.links.specs.Cut.{joined, links_at}
 use Rattle.round_core.specs.Picks.{ArePicks}
 use Rattle.round_core.proofs.Books.{shard_ends}
 use Rattle.round_core.proofs.Counts.{no_picks}

@@ -1,5 +1,5 @@
 use Rattle.std.proofs.Common.{◌≡◌, length, take, Contains}
-use Rattle.link_key.specs.Cut.{joined}
+use Rattle.links.specs.Cut.{joined}
 use Rattle.round_core.specs.Picks.{ArePicks}
 use Rattle.round_core.proofs.alone.pick_all.Given as goal
 

@@ -1,8 +1,8 @@
 use Rattle.std.proofs.Common.{◌≡◌, ℕ, ◌-◌, ◌≤◌, sym, subst, arith}
 use Rattle.std.specs.Prelude.{◌^◌, max}
 use Rattle.std.proofs.lemmas.Result.{err_from_is_err_and}
-use Rattle.link_key.specs.Link.{EndsUpTo}
-use Rattle.link_key.specs.Cut.{joined}
+use Rattle.links.specs.Link.{EndsUpTo}
+use Rattle.links.specs.Cut.{joined}
 use Rattle.round_theory.specs.Rounds.{IsMergingRounds}
 use Rattle.round_core.specs.Solver.{Progress, vertices}
 use Rattle.round_core.proofs.Missing.{joined_ends}

@@ -1,5 +1,5 @@
 use Rattle.std.proofs.Common.{◌≡◌, ◌≤◌, ◌-◌}
-use Rattle.link_key.specs.Cut.{joined}
+use Rattle.links.specs.Cut.{joined}
 use Rattle.round_core.specs.Solver.{vertices, HasRoundsOf}
 use Rattle.round_core.proofs.alone.solve_alone.Given as goal
 

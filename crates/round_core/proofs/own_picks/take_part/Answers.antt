@@ -1,6 +1,6 @@
 use Rattle.std.proofs.Common.{◌≡◌, get_or, sym, ◌∙◌, subst}
-use Rattle.link_key.specs.Cut.{links_at}
-use Rattle.frames.specs.AnswerValue.{AnswerValue}
+use Rattle.links.specs.Cut.{links_at}
+use Rattle.links.specs.AnswerValue.{AnswerValue}
 use Rattle.round_core.specs.OwnPicks.{IsOfferedBy, IsOfferedIn, AreTakenFrom}
 use Rattle.round_core.proofs.OwnPicks.{taken_then, taken_of_answer}
 use Rattle.round_core.proofs.own_picks.take_part.Goals as goal

@@ -1,7 +1,7 @@
 use Rattle.std.proofs.Common.{◌==◌, length}
 use Rattle.std.specs.Prelude.{All}
 use Rattle.std.proofs.lemmas.List.Filters.{FiltersInPlace}
-use Rattle.link_key.specs.Labels.{label_of}
+use Rattle.links.specs.Labels.{label_of}
 use Rattle.round_theory.specs.Labelling.{IsVertex}
 use Rattle.round_core.proofs.roots.keep_own.Given as goal
 

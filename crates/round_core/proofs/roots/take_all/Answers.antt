@@ -1,5 +1,5 @@
 use Rattle.std.proofs.Common.{◌≤◌, ◌-◌, List, ◌++◌, length, take, drop, refl, ap, ◌∙◌, subst, arith}
-use Rattle.link_key.specs.declared.links.Link.{Link}
+use Rattle.links.specs.declared.links.Link.{Link}
 use Rattle.round_core.specs.Roots.{TakesBatch}
 use Rattle.round_core.proofs.Giving.{taken_more, taken_all}
 use Rattle.round_core.proofs.roots.take_all.Goals as goal

@@ -1,5 +1,5 @@
 use Rattle.std.proofs.Common.{◌≡◌, ℕ, List, ◌+◌, ◌≤◌, ◌++◌, take, length}
-use Rattle.link_key.specs.declared.links.Link.{Link}
+use Rattle.links.specs.declared.links.Link.{Link}
 use Rattle.round_core.specs.Roots.{AreRoots, StandsAt, AreGiven}
 use Rattle.round_core.proofs.roots.take_each.Given as goal
 

@@ -1,7 +1,7 @@
 use Rattle.std.proofs.Common.{◌≡◌, ◌+◌, ◌↔◌, true, List, get_or, take, take_all, refl, sym, subst, arith}
 use Rattle.std.specs.Prelude.{IsTrue}
-use Rattle.link_key.specs.Cut.{links_at}
-use Rattle.frames.specs.AnswerValue.{AnswerValue}
+use Rattle.links.specs.Cut.{links_at}
+use Rattle.links.specs.AnswerValue.{AnswerValue}
 use Rattle.round_core.specs.BookValue.{named_links, all_named}
 use Rattle.round_core.specs.OwnPicks.{AreCountedIn}
 use Rattle.round_core.proofs.Books.{one_more_answer}

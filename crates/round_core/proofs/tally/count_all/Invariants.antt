@@ -1,7 +1,7 @@
 use Rattle.std.proofs.Common.{◌≡◌, List, length, true}
 use Rattle.std.specs.List.{list_all}
 use Rattle.std.specs.Prelude.{Option}
-use Rattle.link_key.specs.declared.links.Link.{Link}
+use Rattle.links.specs.declared.links.Link.{Link}
 use Rattle.round_core.specs.BookValue.{is_offer, named_links}
 use Rattle.round_core.specs.Picks.{Counts}
 use Rattle.round_core.proofs.tally.count_all.Given as goal

@@ -1,7 +1,7 @@
 use Rattle.std.proofs.Common.{◌≡◌, ◌++◌, List, get_or, take, Contains, sym, ap, ◌∙◌, subst, take_all, append_assoc, arith}
-use Rattle.link_key.specs.declared.links.Link.{Link}
-use Rattle.link_key.specs.Cut.{links_at}
-use Rattle.frames.specs.AnswerValue.{AnswerValue}
+use Rattle.links.specs.declared.links.Link.{Link}
+use Rattle.links.specs.Cut.{links_at}
+use Rattle.links.specs.AnswerValue.{AnswerValue}
 use Rattle.round_core.specs.BookValue.{named_links, all_named}
 use Rattle.round_core.specs.Picks.{ArePicks, Counts}
 use Rattle.round_core.proofs.Books.{one_more_answer}

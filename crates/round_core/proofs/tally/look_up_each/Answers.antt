@@ -1,8 +1,8 @@
 use Rattle.std.proofs.Common.{◌≢◌, ◌≤◌, length, get_or, sym, subst, ◌∙◌, arith}
 use Rattle.std.proofs.lemmas.List.{length-set}
 use Rattle.std.proofs.lemmas.List.Elements.{All-get_or}
-use Rattle.link_key.specs.declared.links.Link.{Link}
-use Rattle.link_key.specs.Labels.{label_of}
+use Rattle.links.specs.declared.links.Link.{Link}
+use Rattle.links.specs.Labels.{label_of}
 use Rattle.round_core.proofs.Books.{offer_at}
 use Rattle.round_core.proofs.LookedUp.{one_more_looked_up, looked_up_all}
 use Rattle.round_core.proofs.tally.look_up_each.Goals as goal

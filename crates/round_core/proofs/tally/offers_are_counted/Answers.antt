@@ -2,9 +2,9 @@ use Rattle.std.proofs.Common.{◌≡◌, ◌≢◌, ◌+◌, ◌≤◌, ℕ, Con
 use Rattle.std.proofs.lemmas.List.{get_or_default}
 use Rattle.std.proofs.lemmas.List.Elements.{All-get_or}
 use Rattle.std.specs.Prelude.{List}
-use Rattle.link_key.specs.declared.links.Link.{Link}
-use Rattle.link_key.specs.Labels.{label_of}
-use Rattle.link_key.specs.Offers.{Offer}
+use Rattle.links.specs.declared.links.Link.{Link}
+use Rattle.links.specs.Labels.{label_of}
+use Rattle.links.specs.Offers.{Offer}
 use Rattle.round_core.specs.BookValue.{named_links}
 use Rattle.round_core.specs.LookedUp.{IsCountable}
 use Rattle.round_core.specs.OwnPicks.{AreCountedIn}

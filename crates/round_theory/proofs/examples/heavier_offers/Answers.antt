@@ -1,5 +1,5 @@
 use Rattle.std.proofs.Common.{[]}
-use Rattle.link_key.proofs.Members.{contains_none}
+use Rattle.links.proofs.Members.{contains_none}
 use Rattle.round_theory.specs.Examples.{apart, first_part}
 use Rattle.round_theory.proofs.Worked.{none_ends, apart_is, heavier_picks}
 use Rattle.round_theory.proofs.examples.heavier_offers.Goals as goal

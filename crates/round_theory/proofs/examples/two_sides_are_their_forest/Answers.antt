@@ -1,6 +1,6 @@
 use Rattle.std.proofs.Common.{Contains}
-use Rattle.link_key.specs.Forest.{IsForestLink}
-use Rattle.link_key.proofs.Cycles.{no_cycle_part}
+use Rattle.links.specs.Forest.{IsForestLink}
+use Rattle.links.proofs.Cycles.{no_cycle_part}
 use Rattle.round_theory.specs.Examples.{triangle, two_sides}
 use Rattle.round_theory.proofs.examples.two_sides_are_their_forest.Goals as goal
 

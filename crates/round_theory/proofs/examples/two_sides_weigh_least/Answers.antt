@@ -1,5 +1,5 @@
 use Rattle.std.proofs.Common.{refl, zero, suc, arith}
-use Rattle.link_key.specs.Link.{IsAscending}
+use Rattle.links.specs.Link.{IsAscending}
 use Rattle.round_theory.specs.Examples.{triangle, two_sides}
 use Rattle.round_theory.proofs.examples.two_sides_weigh_least.Goals as goal
 

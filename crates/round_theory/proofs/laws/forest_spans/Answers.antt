@@ -1,5 +1,5 @@
 use Rattle.std.proofs.Common.{Contains}
-use Rattle.link_key.proofs.ForestSpans.{forest_no_cycle, forest_spans, spanning_part_is_forest}
+use Rattle.links.proofs.ForestSpans.{forest_no_cycle, forest_spans, spanning_part_is_forest}
 use Rattle.round_theory.proofs.laws.forest_spans.Goals as goal
 
 pub returns : goal.returns

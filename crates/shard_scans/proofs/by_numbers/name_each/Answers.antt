@@ -1,7 +1,7 @@
 use Rattle.std.proofs.Common.{◌≡◌, ◌≢◌, ◌<◌, ◌-◌, length, get_or, set, map, sym, ap, ◌∙◌, subst, inl, inr, arith}
 use Rattle.std.proofs.lemmas.Bool.{cases_lt}
 use Rattle.std.proofs.lemmas.List.{get_or-map, length-map, get_or_default, get_or-set_same, get_or-set_other, same_lists}
-use Rattle.link_key.specs.Offers.{Offer}
+use Rattle.links.specs.Offers.{Offer}
 use Rattle.shard_scans.specs.Numbers.{offered}
 use Rattle.shard_scans.proofs.by_numbers.name_each.Goals as goal
 

@@ -1,5 +1,5 @@
 use Rattle.std.proofs.Common.{◌≡◌, ℕ, ◌<◌, ◌≤◌, get_or}
-use Rattle.link_key.specs.Offers.{Offer}
+use Rattle.links.specs.Offers.{Offer}
 use Rattle.shard_scans.specs.Numbers.{offered}
 use Rattle.shard_scans.proofs.by_numbers.name_each.Given as goal
 

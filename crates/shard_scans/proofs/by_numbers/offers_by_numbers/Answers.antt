@@ -1,6 +1,6 @@
 use Rattle.std.proofs.Common.{◌≡◌, ◌<◌, List, length, get_or, sym, ap, subst, arith}
 use Rattle.std.proofs.lemmas.List.Elements.{Contains-get_or}
-use Rattle.link_key.specs.Offers.{Offer}
+use Rattle.links.specs.Offers.{Offer}
 use Rattle.round_theory.specs.Offers.{AreLightOffers}
 use Rattle.shard_scans.specs.Tables.{IsKept}
 use Rattle.shard_scans.specs.Numbers.{marks_of}

@@ -1,7 +1,7 @@
 use Rattle.std.proofs.Common.{◌≤◌, List, subst, take_all, arith}
 use Rattle.std.specs.Prelude.{◌↔◌}
-use Rattle.link_key.specs.declared.links.Link.{Link}
-use Rattle.link_key.specs.Link.{EndsUpTo}
+use Rattle.links.specs.declared.links.Link.{Link}
+use Rattle.links.specs.Link.{EndsUpTo}
 use Rattle.shard_scans.proofs.Ends.{greatest_more}
 use Rattle.shard_scans.proofs.kept_shard.greatest_end.Goals as goal
 

@@ -1,6 +1,6 @@
 use Rattle.std.proofs.Common.{ℕ, ◌≤◌, take}
 use Rattle.std.specs.Prelude.{◌↔◌}
-use Rattle.link_key.specs.Link.{EndsUpTo}
+use Rattle.links.specs.Link.{EndsUpTo}
 use Rattle.shard_scans.proofs.kept_shard.greatest_end.Given as goal
 
 abbrev pub invariant-loop-link : goal.invariant-loop-link

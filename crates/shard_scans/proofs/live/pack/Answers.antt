@@ -1,7 +1,7 @@
 use Rattle.std.proofs.Common.{◌≡◌, ◌≢◌, ◌+◌, ◌<◌, ◌++◌, [], ◌∷◌, List, length, get_or, take, sym, ap, ◌∙◌, arith}
 use Rattle.std.proofs.lemmas.List.{take_more, take_more_set, take_all, get_or-set_other, append-nil}
 use Rattle.shard_scans.specs.declared.live.LiveLink.{LiveLink}
-use Rattle.link_key.specs.Labels.{label_of}
+use Rattle.links.specs.Labels.{label_of}
 use Rattle.shard_scans.specs.Live.{relabelled, packed}
 use Rattle.shard_scans.proofs.Packed.{packed_append, packed_same, packed_apart}
 use Rattle.shard_scans.proofs.live.pack.Goals as goal

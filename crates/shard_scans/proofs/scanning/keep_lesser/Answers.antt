@@ -1,7 +1,7 @@
 use Rattle.std.proofs.Common.{◌≡◌, length, true, false, is_le, is_some, sym, ap, ◌∙◌, rules}
 use Rattle.std.proofs.lemmas.Bool.{ltb-true, ltb-false}
-use Rattle.link_key.specs.declared.links.Link.{Link}
-use Rattle.link_key.specs.Link.{key_cmp}
+use Rattle.links.specs.declared.links.Link.{Link}
+use Rattle.links.specs.Link.{key_cmp}
 use Rattle.shard_scans.proofs.Scans.{keeps_lighter, keeps_new_lighter, keeps_new_first, keeps_earlier, keeps_new}
 use Rattle.shard_scans.proofs.scanning.keep_lesser.Goals as goal
 

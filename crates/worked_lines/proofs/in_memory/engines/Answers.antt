@@ -1,7 +1,7 @@
 use Rattle.std.proofs.Common.{◌≡◌, rules, arith, length}
 use Rattle.std.proofs.lemmas.List.Elements.{All-push}
 use Rattle.ports.specs.EngineLines.{line_of}
-use Rattle.ports.specs.Lines.{HasRoom}
+use Rattle.wires.specs.Lines.{HasRoom}
 use Rattle.worked_lines.proofs.Engines.{engine_more}
 use Rattle.worked_lines.proofs.in_memory.engines.Goals as goal
 

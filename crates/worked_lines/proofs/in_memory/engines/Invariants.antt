@@ -1,7 +1,7 @@
 use Rattle.std.proofs.Common.{◌≡◌, vec_len}
 use Rattle.std.specs.Prelude.{All}
 use Rattle.ports.specs.EngineLines.{line_of}
-use Rattle.ports.specs.Lines.{HasRoom}
+use Rattle.wires.specs.Lines.{HasRoom}
 use Rattle.worked_lines.proofs.Engines.{AreEngines}
 use Rattle.worked_lines.proofs.in_memory.engines.Given as goal
 

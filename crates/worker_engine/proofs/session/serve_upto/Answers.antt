@@ -1,7 +1,7 @@
 use Rattle.std.proofs.Common.{refl, arith}
 use Rattle.std.proofs.lemmas.Result.{err_from_is_err_and}
 use Rattle.byte_streams.proofs.Streaming.{gave_nothing}
-use Rattle.worker_engine.specs.Serving.{shelf_of}
+use Rattle.worker_replies.specs.Serving.{shelf_of}
 use Rattle.worker_engine.proofs.Steps.{so_far_starts, so_far_more, ends_at_hello, ends_at_limit, stops_well, stops_by, cuts_by}
 use Rattle.worker_engine.proofs.session.serve_upto.Goals as goal
 

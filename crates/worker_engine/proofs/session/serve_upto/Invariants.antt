@@ -1,5 +1,5 @@
 use Rattle.std.proofs.Common.{◌+◌, ◌-◌, ◌≤◌}
-use Rattle.worker_engine.specs.Serving.{shelf_of}
+use Rattle.worker_replies.specs.Serving.{shelf_of}
 use Rattle.worker_engine.proofs.Steps.{SoFar}
 use Rattle.worker_engine.proofs.session.serve_upto.Given as goal
 

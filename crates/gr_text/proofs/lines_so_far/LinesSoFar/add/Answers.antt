@@ -1,7 +1,7 @@
 use Rattle.std.proofs.Common.{◌≡◌, ◌≢◌, List, [], ◌∷◌, ◌++◌, ◌+◌, ap, subst, inr, rules, true, false}
-use Rattle.link_key.specs.Arc.{Arc}
-use Rattle.link_key.specs.Link.{key_of, arc_key}
-use Rattle.link_key.specs.declared.links.Link.{Link}
+use Rattle.links.specs.Arc.{Arc}
+use Rattle.links.specs.Link.{key_of, arc_key}
+use Rattle.links.specs.declared.links.Link.{Link}
 use Rattle.gr_text.specs.LinesSoFar.{LinesSoFarValue, AddsLink}
 use Rattle.gr_text.proofs.lines_so_far.LinesSoFar.add.Goals as goal
 

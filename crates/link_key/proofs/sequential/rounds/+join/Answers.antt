@@ -2,10 +2,11 @@ use Rattle.std.proofs.Common.{◌≡◌, ℕ, ◌<◌, List, [], length, sym, ap
 use Rattle.std.proofs.lemmas.Bool.{cases_lt}
 use Rattle.std.proofs.lemmas.Bool.Decides.{nat_tests}
 use Rattle.link_key.specs.declared.sequential.rounds.Open.{Open}
-use Rattle.link_key.specs.Rounds.{renamed}
+use Rattle.links.specs.Labels.{renamed}
 use Rattle.link_key.specs.OpenLinks.{LeadsOn, AreAllNumbers}
 use Rattle.link_key.proofs.Composing.{stay_open, lead_on}
-use Rattle.link_key.proofs.Opened.{written, none_left, renamed_numbers}
+use Rattle.link_key.proofs.Opened.{none_left, renamed_numbers}
+use Rattle.links.proofs.InPlace.{written}
 use Rattle.link_key.proofs.sequential.rounds.+join.Goals as goal
 
 -- nothing is left, or fewer are

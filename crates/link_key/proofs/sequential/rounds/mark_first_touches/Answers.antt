@@ -1,7 +1,7 @@
 use Rattle.std.proofs.Common.{rules, ◌≡◌, ℕ, ◌+◌, ◌<◌, ◌≤◌, List, ◌++◌, ◌==◌, not, length, get_or, take, set, take_all, get_or-set_other, refl, sym, ap, ap₂, ◌∙◌, subst, inl, inr, arith}
 use mir.Val.{bool_byte}
 use Rattle.std.proofs.lemmas.List.{length-map, length-set, get_or-map, get_or_default}
-use Rattle.link_key.specs.declared.links.Link.{Link}
+use Rattle.links.specs.declared.links.Link.{Link}
 use Rattle.link_key.specs.declared.sequential.rounds.Open.{Open}
 use Rattle.link_key.specs.OpenLinks.{link_of, links_of, marked, renumbered, IsLabelled, AreOpenOf, IsBetween, AreBetween, AreTouched, HaveNumbers, ShareNumber}
 use Rattle.link_key.proofs.Keeping.{kept_of, kept_same, kept_closed, kept_passed, given_more, closed, counted}

@@ -1,5 +1,5 @@
 use Rattle.std.proofs.Common.{◌≡◌, ℕ, ◌≤◌, List, ◌++◌, take, length, get_or}
-use Rattle.link_key.specs.declared.links.Link.{Link}
+use Rattle.links.specs.declared.links.Link.{Link}
 use Rattle.link_key.specs.declared.sequential.rounds.Open.{Open}
 use Rattle.link_key.specs.OpenLinks.{links_of, marked, AreOpenOf, AreNumbers, AreTouched, HaveNumbers}
 use Rattle.link_key.proofs.Keeping.{kept_of}

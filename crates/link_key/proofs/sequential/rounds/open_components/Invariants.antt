@@ -1,5 +1,5 @@
 use Rattle.std.proofs.Common.{◌≡◌, ℕ, ◌<◌, ◌≤◌, length, get_or, vec_len, vec_capacity}
-use Rattle.link_key.specs.declared.links.Link.{Link}
+use Rattle.links.specs.declared.links.Link.{Link}
 use Rattle.link_key.specs.declared.sequential.rounds.Open.{Open}
 use Rattle.link_key.specs.OpenLinks.{opened}
 use Rattle.link_key.proofs.sequential.rounds.open_components.Given as goal

@@ -2,7 +2,7 @@ use Rattle.std.proofs.Common.{◌≡◌, ℕ, ◌+◌, ◌-◌, ◌<◌, ◌≤�
 use mir.Val.{bool_byte}
 use Rattle.std.specs.List.{filter}
 use Rattle.std.proofs.lemmas.List.{append-nil, get_or-drop, length-drop, length-set}
-use Rattle.link_key.specs.declared.links.Link.{Link}
+use Rattle.links.specs.declared.links.Link.{Link}
 use Rattle.link_key.specs.Rounds.{is_apart}
 use Rattle.link_key.proofs.Keeping.{counted, written_behind}
 use Rattle.link_key.proofs.sequential.rounds.put_apart_behind.Goals as goal

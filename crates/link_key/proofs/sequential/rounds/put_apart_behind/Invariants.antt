@@ -1,6 +1,6 @@
 use Rattle.std.proofs.Common.{◌≡◌, ℕ, ◌+◌, ◌-◌, ◌≤◌, ◌++◌, take, drop, length, get_or}
 use Rattle.std.specs.List.{filter}
-use Rattle.link_key.specs.declared.links.Link.{Link}
+use Rattle.links.specs.declared.links.Link.{Link}
 use Rattle.link_key.specs.Rounds.{is_apart}
 use Rattle.link_key.proofs.sequential.rounds.put_apart_behind.Given as goal
 

@@ -1,9 +1,11 @@
 use Rattle.std.proofs.Common.{◌≡◌, ℕ, ◌+◌, ◌<◌, ◌++◌, List, take, drop, length, sym, ap, ◌∙◌, subst}
 use Rattle.link_key.specs.declared.sequential.rounds.Open.{Open}
-use Rattle.link_key.specs.Rounds.{renamed, IsStage}
+use Rattle.link_key.specs.Rounds.{IsStage}
+use Rattle.links.specs.Labels.{renamed}
 use Rattle.link_key.specs.OpenLinks.{links_of, marked, AreOpenOf, AreBetween, HaveFirst, HaveNumbers, MarkTouched}
 use Rattle.link_key.proofs.Keeping.{kept_of, kept_same}
-use Rattle.link_key.proofs.Opened.{written, left_sorted, left_fewer, left_between, left_labelled, left_in, left_if, filled_first}
+use Rattle.link_key.proofs.Opened.{left_sorted, left_fewer, left_between, left_labelled, left_in, left_if, filled_first}
+use Rattle.links.proofs.InPlace.{written}
 use Rattle.link_key.proofs.Stages.{round_stage}
 use Rattle.link_key.proofs.sequential.rounds.round.Given as given
 use Rattle.link_key.proofs.sequential.rounds.round.Goals as goal

@@ -2,8 +2,8 @@ use Rattle.std.proofs.Common.{◌≡◌, ◌-◌, ◌∙◌, sym, ap, length, ta
 use Rattle.std.proofs.lemmas.List.{take_rest, length-append, length-drop}
 use Rattle.frames.specs.FrameText.{text_of}
 use Rattle.frames.specs.FrameValue.{value_of}
-use Rattle.worker_engine.specs.Serving.{replies_in}
-use Rattle.worker_engine.proofs.Sessions.{session_hears}
+use Rattle.worker_replies.specs.Serving.{replies_in}
+use Rattle.worker_replies.proofs.Sessions.{session_hears}
 use Rattle.ports.proofs.EngineLines.{refused_left, bad_left, grew_then}
 use Rattle.ports.proofs.session.Session.hear_all.Goals as goal
 

@@ -1,5 +1,5 @@
 use Rattle.std.proofs.Common.{ℕ, List, Contains, subst}
-use Rattle.frames.specs.AnswerValue.{AnswerValue}
+use Rattle.links.specs.AnswerValue.{AnswerValue}
 use Rattle.round_theory.specs.Offers.{IsNamed}
 use Rattle.round_core.specs.BookValue.{BookValue, hearings, all_named}
 use Rattle.round_core.specs.Picks.{ArePicks}

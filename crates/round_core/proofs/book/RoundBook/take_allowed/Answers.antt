@@ -1,6 +1,6 @@
 use Rattle.std.proofs.Common.{◌≡◌, ◌<◌, ◌++◌, ◌∷◌, [], ℕ, length, true, None, sym, ap, subst, arith}
 use Rattle.std.specs.Prelude.{slice_set, vec_capacity}
-use Rattle.frames.specs.AnswerValue.{AnswerValue}
+use Rattle.links.specs.AnswerValue.{AnswerValue}
 use Rattle.round_core.specs.BookValue.{BookValue, refusal, IsBook}
 use Rattle.round_core.proofs.Full.{accepted, free_within, book_heard}
 use Rattle.round_core.proofs.book.RoundBook.take_allowed.Goals as goal

@@ -1,7 +1,7 @@
 use Rattle.std.proofs.Common.{◌≡◌, ℕ, ◌<◌, ◌-◌, length, map, get_or, None, sym, ap, ◌∙◌, subst, eqb-true, eq-eqb, arith}
 use Rattle.std.specs.Prelude.{List, Option}
 use Rattle.std.proofs.lemmas.List.{length-map}
-use Rattle.link_key.specs.declared.links.Link.{Link}
+use Rattle.links.specs.declared.links.Link.{Link}
 use Rattle.round_core.specs.Picks.{pick_of}
 use Rattle.round_core.specs.PickNumbers.{IsPickNumber, pick_in}
 use Rattle.round_core.proofs.PickNumbers.{pick_at, same_pick}

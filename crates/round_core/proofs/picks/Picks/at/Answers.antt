@@ -1,7 +1,7 @@
 use Rattle.std.proofs.Common.{◌≡◌, ◌<◌, length, map, get_or, None, sym, ap, ◌∙◌, subst, arith}
 use Rattle.std.specs.Prelude.{List, Option}
 use Rattle.std.proofs.lemmas.List.{length-map}
-use Rattle.link_key.specs.declared.links.Link.{Link}
+use Rattle.links.specs.declared.links.Link.{Link}
 use Rattle.round_core.specs.PickNumbers.{IsPickNumber, pick_in}
 use Rattle.round_core.proofs.PickNumbers.{pick_at}
 use Rattle.round_core.proofs.picks.Picks.at.Goals as goal

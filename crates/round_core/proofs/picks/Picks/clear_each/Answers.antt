@@ -1,7 +1,7 @@
 use Rattle.std.proofs.Common.{ℕ, map, sym, ◌∙◌, subst}
 use Rattle.std.specs.Prelude.{List, Option, All}
 use Rattle.std.proofs.lemmas.List.{with_items_is}
-use Rattle.link_key.specs.declared.links.Link.{Link}
+use Rattle.links.specs.declared.links.Link.{Link}
 use Rattle.round_core.specs.Picks.{AreNoPicks, HaveAllPicks}
 use Rattle.round_core.specs.PickNumbers.{IsPickNumber, AreCleared, pick_in}
 use Rattle.round_core.proofs.Clearing.{cleared_are_numbers, cleared_have_none}

@@ -1,6 +1,6 @@
 use Rattle.std.proofs.Common.{◌≡◌, List, take, get_or, ◌∙◌, subst, take_all, arith}
 use Rattle.std.proofs.lemmas.List.{get_or_default}
-use Rattle.link_key.specs.Offers.{Offer}
+use Rattle.links.specs.Offers.{Offer}
 use Rattle.round_core.specs.BookValue.{named_links}
 use Rattle.round_core.specs.Picks.{Counts}
 use Rattle.round_core.proofs.LookedUp.{each_next}

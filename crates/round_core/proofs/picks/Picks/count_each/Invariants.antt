@@ -1,7 +1,7 @@
 use Rattle.std.proofs.Common.{◌≡◌, ℕ, List, length, take}
-use Rattle.link_key.specs.declared.links.Link.{Link}
-use Rattle.link_key.specs.Labels.{AreLabels}
-use Rattle.link_key.specs.Offers.{Offer}
+use Rattle.links.specs.declared.links.Link.{Link}
+use Rattle.links.specs.Labels.{AreLabels}
+use Rattle.links.specs.Offers.{Offer}
 use Rattle.round_core.specs.BookValue.{named_links}
 use Rattle.round_core.specs.Picks.{Counts}
 use Rattle.round_core.specs.LookedUp.{AreLookedUp}

@@ -1,6 +1,6 @@
 use Rattle.std.proofs.Common.{◌≡◌, subst}
 use Rattle.std.specs.Prelude.{◌↔◌, List, Option, All}
-use Rattle.link_key.specs.declared.links.Link.{Link}
+use Rattle.links.specs.declared.links.Link.{Link}
 use Rattle.round_core.specs.PickNumbers.{no_pick}
 use Rattle.round_core.specs.Picks.{AreNoPicks}
 use Rattle.round_core.proofs.PickNumbers.{none_where_no_picks}

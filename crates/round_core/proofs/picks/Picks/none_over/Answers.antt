@@ -1,6 +1,6 @@
 use Rattle.std.proofs.Common.{inl, sym, subst}
 use Rattle.std.specs.Prelude.{List, Option}
-use Rattle.link_key.specs.declared.links.Link.{Link}
+use Rattle.links.specs.declared.links.Link.{Link}
 use Rattle.round_core.specs.Picks.{AreNoPicks}
 use Rattle.round_core.proofs.PickNumbers.{none_where_no_picks}
 use Rattle.round_core.proofs.picks.Picks.none_over.Goals as goal

@@ -1,7 +1,7 @@
 use Rattle.std.proofs.Common.{ℕ, List, length, map, sym, ap, ◌∙◌, subst}
 use Rattle.std.specs.Prelude.{Option, All}
 use Rattle.std.proofs.lemmas.List.{with_items_is}
-use Rattle.link_key.specs.declared.links.Link.{Link}
+use Rattle.links.specs.declared.links.Link.{Link}
 use Rattle.round_core.specs.Picks.{AreNoPicks}
 use Rattle.round_core.specs.PickNumbers.{IsPickNumber, pick_in}
 use Rattle.round_core.specs.OwnPicks.{IsOfferedIn, AreTakenFrom, AreOwnPicks}

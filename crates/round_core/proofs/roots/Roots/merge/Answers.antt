@@ -1,7 +1,7 @@
 use Rattle.std.proofs.Common.{arith, ◌≡◌, ◌<◌, List, ℕ, length, refl, sym, ap, ◌∙◌, subst}
 use Rattle.std.proofs.lemmas.List.{with_items_is}
-use Rattle.link_key.specs.Labels.{AreLabels}
-use Rattle.link_key.specs.Rounds.{renamed}
+use Rattle.links.specs.Labels.{AreLabels}
+use Rattle.links.specs.Labels.{renamed}
 use Rattle.round_theory.specs.Labelling.{IsRelabelling}
 use Rattle.round_theory.proofs.Steps.{relabelling_is_labels}
 use Rattle.round_core.specs.Picks.{Picked}

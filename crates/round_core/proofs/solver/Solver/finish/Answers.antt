@@ -1,9 +1,9 @@
 use Rattle.std.proofs.Common.{◌≡◌, List, None, sym, ap₂, ◌∙◌, subst}
 use Rattle.std.specs.Prelude.{All}
 use Rattle.std.specs.List.Sorted.{IsPermutation}
-use Rattle.link_key.specs.declared.links.Link.{Link}
-use Rattle.link_key.specs.Link.{EndsUpTo}
-use Rattle.link_key.specs.Cut.{joined}
+use Rattle.links.specs.declared.links.Link.{Link}
+use Rattle.links.specs.Link.{EndsUpTo}
+use Rattle.links.specs.Cut.{joined}
 use Rattle.round_core.specs.Solver.{Progress, vertices, missed, IsFinished}
 use Rattle.round_core.proofs.Missing.{finished, joined_ends}
 use Rattle.round_core.proofs.solver.Solver.finish.Goals as goal

@@ -1,7 +1,7 @@
 use Rattle.std.proofs.Common.{rules, ◌≡◌, length, None, sym, ap₂, ◌∙◌, subst}
 use Rattle.std.specs.Prelude.{All}
-use Rattle.link_key.specs.Link.{EndsUpTo}
-use Rattle.link_key.specs.Cut.{joined}
+use Rattle.links.specs.Link.{EndsUpTo}
+use Rattle.links.specs.Cut.{joined}
 use Rattle.round_core.specs.Solver.{Progress, vertices, missed, IsFinished}
 use Rattle.round_core.proofs.Missing.{finished, joined_ends}
 use Rattle.round_core.proofs.solver.Solver.finish_par.Goals as goal

@@ -1,6 +1,6 @@
 use Rattle.std.proofs.Common.{◌≡◌, sym, ap, subst}
 use Rattle.std.proofs.lemmas.Bool.{leb-true, le-leb}
-use Rattle.link_key.specs.Link.{EndsUpTo}
+use Rattle.links.specs.Link.{EndsUpTo}
 use Rattle.shard_scans.specs.Live.{KeptShardState}
 use Rattle.shard_scans.proofs.kept_shard.KeptShard.has_ends_up_to.Goals as goal
 

@@ -1,5 +1,5 @@
 use Rattle.std.proofs.Common.{ℕ, List, sym, subst}
-use Rattle.link_key.specs.Labels.{AreLabels}
+use Rattle.links.specs.Labels.{AreLabels}
 use Rattle.shard_scans.specs.Live.{AreLiveLinks, packed}
 use Rattle.shard_scans.specs.Numbers.{shown}
 use Rattle.shard_scans.proofs.Written.{live_ends}

@@ -1,7 +1,7 @@
 use Rattle.std.proofs.Common.{rules, arith}
 use Rattle.std.proofs.lemmas.List.Elements.{All-push}
 use Rattle.ports.specs.EngineLines.{line_of}
-use Rattle.ports.specs.Lines.{HasRoom}
+use Rattle.wires.specs.Lines.{HasRoom}
 use Rattle.worked_failures.proofs.tests.runs.two_workers.Goals as goal
 
 pub loop-worker-preserved : goal.loop-worker-preserved

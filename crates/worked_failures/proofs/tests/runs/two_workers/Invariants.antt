@@ -1,7 +1,7 @@
 use Rattle.std.proofs.Common.{◌≡◌, vec_len}
 use Rattle.std.specs.Prelude.{All}
 use Rattle.ports.specs.EngineLines.{line_of}
-use Rattle.ports.specs.Lines.{HasRoom}
+use Rattle.wires.specs.Lines.{HasRoom}
 use Rattle.worked_failures.proofs.tests.runs.two_workers.Given as goal
 
 abbrev pub invariant-loop-worker : goal.invariant-loop-worker

@@ -1,9 +1,9 @@
 use Rattle.std.proofs.Common.{◌≡◌, length, rules, arith, Global}
 use Rattle.std.proofs.lemmas.List.Elements.{All-push}
 use Rattle.ports.specs.declared.engine_line.EngineLine.{EngineLine}
-use Rattle.ports.specs.declared.wire.Wire.{Wire}
-use Rattle.forest_run.specs.Lanes.{IsIdle}
-use Rattle.forest_run.specs.declared.lane.Lane.{Lane}
+use Rattle.wires.specs.declared.wire.Wire.{Wire}
+use Rattle.port_rounds.specs.Lanes.{IsIdle}
+use Rattle.port_rounds.specs.declared.lane.Lane.{Lane}
 use Rattle.worked_runs.proofs.tests.passes.lanes.Goals as goal
 
 -- a lane to a worker in memory

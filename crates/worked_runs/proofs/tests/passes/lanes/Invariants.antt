@@ -1,6 +1,6 @@
 use Rattle.std.proofs.Common.{◌≡◌, vec_len}
 use Rattle.std.specs.Prelude.{All}
-use Rattle.forest_run.specs.Lanes.{IsIdle}
+use Rattle.port_rounds.specs.Lanes.{IsIdle}
 use Rattle.worked_runs.proofs.tests.passes.lanes.Given as goal
 
 abbrev pub invariant-loop-worker : goal.invariant-loop-worker

@@ -1,5 +1,5 @@
 use Rattle.std.proofs.Common.{refl, arith}
-use Rattle.worker_engine.proofs.Offering.{light_answer_is_lawful}
+use Rattle.worker_replies.proofs.Offering.{light_answer_is_lawful}
 use Rattle.worker_engine.proofs.engine.Ask.reply_with.Goals as goal
 
 pub returns-in-Some : goal.returns-in-Some

@@ -1,5 +1,5 @@
 use Rattle.std.proofs.Common.{ℕ, List, subst}
-use Rattle.link_key.specs.Labels.{Coarsens}
+use Rattle.links.specs.Labels.{Coarsens}
 use Rattle.frames.specs.declared.next_frame.NextFrame.{NextFrame}
 use Rattle.frames.specs.NextFrame.{SaysCoarser}
 use Rattle.worker_engine.proofs.Shelves.{under_coarser}

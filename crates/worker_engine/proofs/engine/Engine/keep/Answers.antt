@@ -1,7 +1,7 @@
 use Rattle.std.proofs.Common.{List, ap, ◌∙◌}
-use Rattle.link_key.specs.declared.links.Link.{Link}
+use Rattle.links.specs.declared.links.Link.{Link}
 use Rattle.frames.specs.FrameValue.{ShardFrame}
-use Rattle.worker_engine.specs.Serving.{ShelfList, shelf_of, shelf_with}
+use Rattle.worker_replies.specs.Serving.{ShelfList, shelf_of, shelf_with}
 use Rattle.worker_engine.proofs.Shelves.{shelf_inserted, under_inserted}
 use Rattle.worker_engine.proofs.engine.Engine.keep.Goals as goal
 

@@ -1,9 +1,0 @@
-use Rattle.std.proofs.Common.{◌≡◌}
-use Rattle.forest_run.specs.Passes.{RunsPasses}
-use Rattle.forest_run.proofs.lane.Lanes.ask_ports.Given as goal
-
-abbrev pub invariant-loop : goal.invariant-loop
-invariant-loop g l = record {
-  went : RunsPasses g.P.Port l.fn.book l.book l.fn.self.lanes.now l.self.lanes.now;
-  same_lanes : l.self.lanes.ghost_name ≡ l.fn.self.lanes.ghost_name;
-}

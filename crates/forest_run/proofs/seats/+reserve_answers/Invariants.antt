@@ -1,5 +1,0 @@
-use Rattle.std.proofs.Common.{length}
-use Rattle.forest_run.proofs.seats.+reserve_answers.Given as goal
-
-abbrev pub decreases-reserve_answers : goal.decreases-reserve_answers
-decreases-reserve_answers g l = length l.lanes.now

@@ -1,5 +1,0 @@
-use Rattle.std.proofs.Common.{length}
-use Rattle.forest_run.proofs.taking.+take_answers.Given as goal
-
-abbrev pub decreases-take_answers : goal.decreases-take_answers
-decreases-take_answers g l = length l.lanes.now

@@ -1,7 +1,0 @@
-use Rattle.std.proofs.Common.{◌≡◌, take}
-use Rattle.link_key.specs.Least.{sum_of_weights}
-use Rattle.link_key.proofs.forests.Forest.total.Given as goal
-
--- the links passed so far
-abbrev pub invariant-loop-link : goal.invariant-loop-link
-invariant-loop-link g l = l.total ≡ sum_of_weights (take l.link-index l.link-items)

@@ -1,9 +1,0 @@
-use Rattle.std.proofs.Common.{ℕ, ◌*◌, ◌<◌, ◌≤◌}
-use Rattle.link_key.specs.Labels.{IsLabelled}
-use Rattle.link_key.proofs.labellings.are_labels.Given as goal
-
-abbrev pub invariant-loop-i : goal.invariant-loop-i
-invariant-loop-i l = (u : ℕ) → 1 ≤ u → u ≤ 4 * l.i → IsLabelled l.labels u
-
-abbrev pub invariant-loop-v : goal.invariant-loop-v
-invariant-loop-v l = (u : ℕ) → 1 ≤ u → u < l.v → IsLabelled l.labels u

@@ -1,5 +1,0 @@
-use Rattle.link_key.proofs.Least.{forest_is_lightest}
-use Rattle.link_key.proofs.laws.forest_is_lightest.Goals as goal
-
-pub returns : goal.returns
-returns c = forest_is_lightest

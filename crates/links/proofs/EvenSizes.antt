@@ -1,0 +1,58 @@
+-- Sizes of the shards of an even cut: none has more than a bound just where the bound, as often as there are shards, holds all links.
+use Rattle.std.proofs.Common.{◌≡◌, ℕ, zero, suc, ◌+◌, ◌*◌, ◌/◌, ◌<◌, ◌≤◌, ◌⊎◌, ap, ◌∙◌, inl, inr, arith, Some}
+use Rattle.std.proofs.lemmas.Bool.{cases_lt}
+use Rattle.std.proofs.lemmas.Bool.Decides.{nat_tests}
+use Rattle.std.proofs.Math.Nat.{mul-div_cancel, mul_comm, suc-mul, add-mul, one-mul, zero-div, zero-mul, lt-div-mul-add, div-lt_iff_lt-mul}
+use Rattle.limits.specs.declared.TheConstants.{MAX_SHARD_LINKS}
+use Rattle.links.specs.declared.cuts.CutFault.TheVariants.{ShardTooLarge}
+use Rattle.links.specs.Cut.{even_size, even_refusal, HasLargeShard, RefusedForALargeShard}
+
+module _ (most count len : ℕ) (some : 0 < count) where
+  -- one of the first k shards is larger than the bound
+  abbrev LargeBefore : ℕ → Type 0
+  LargeBefore k = (i : ℕ) × (i < k) × (most < even_size len count i)
+
+  -- where none of the first k shards is, together they have at most k times the bound
+  large_or_few : (k : ℕ) → LargeBefore k ⊎ (k * len / count ≤ k * most)
+  large_or_few zero = inr (omega (arith, ap (λ x. x / count) (zero-mul len), zero-div count))
+  large_or_few (suc k) = elim (large_or_few k) [
+    | inl large ↦ inl (large.0, omega (arith, large.1), large.2)
+    | inr few ↦ elim (cases_lt most (even_size len count k)) [
+      | inl large ↦ inl (k, omega arith, large)
+      | inr small ↦ inr (
+          let next : suc k * len / count ≡ (k + 1) * len / count = ap (λ x. x * len / count) (omega arith) in
+          omega (arith, small, few, next, suc-mul k most))
+    ]
+  ]
+
+  -- so where all of them together don't hold the links, one is larger
+  pub one_is_large : most * count < len → LargeBefore count
+  one_is_large many = elim (large_or_few count) [
+    | inl large ↦ large
+    | inr few ↦ absurd (omega (arith, few, many, ap (λ x. x / count) (mul_comm count len), mul-div_cancel len some, mul_comm count most))
+  ]
+
+  -- and where they do, none is
+  pub none_is_large : len ≤ most * count → (i : ℕ) → even_size len count i ≤ most
+  none_is_large few i =
+      let before = i * len / count in
+      let next : (i + 1) * len ≡ i * len + len = add-mul i 1 len ∙ omega (arith, one-mul len) in
+      let room : (before + 1 + most) * count ≡ before * count + count + most * count =
+      add-mul (before + 1) most count ∙ omega (arith, add-mul before 1 count, one-mul count) in
+      let short : (i + 1) * len < (before + 1 + most) * count = omega (arith, next, room, few, lt-div-mul-add {a = i * len} some) in
+      let bound : (i + 1) * len / count < before + 1 + most = (div-lt_iff_lt-mul some).1 short in
+      omega (arith, bound)
+
+pub refused_for_a_large_shard : RefusedForALargeShard
+refused_for_a_large_shard len count some few = (to, from) where
+  to : even_refusal len count ≡ Some ShardTooLarge → HasLargeShard len count
+  to refused = elim (cases_lt (MAX_SHARD_LINKS * count) len) [
+    | inl many ↦ one_is_large MAX_SHARD_LINKS count len some many
+    | inr fits ↦ grind (arith, nat_tests, refused, fits, some, few)
+  ]
+
+  from : HasLargeShard len count → even_refusal len count ≡ Some ShardTooLarge
+  from (i, within, large) = elim (cases_lt (MAX_SHARD_LINKS * count) len) [
+    | inl many ↦ grind (arith, nat_tests, many, some, few)
+    | inr fits ↦ absurd (omega (arith, large, none_is_large MAX_SHARD_LINKS count len some fits i))
+  ]

@@ -1,0 +1,51 @@
+-- The forest of a list has no cycle and spans the list, and no smaller part of it spans.
+use Rattle.std.proofs.Common.{ℕ, zero, suc, ◌≤◌, List, length, Contains, subst, inl, inr, arith}
+use Rattle.links.specs.declared.links.Link.{Link}
+use Rattle.links.specs.Link.{IsBelow}
+use Rattle.links.specs.Walk.{Joins}
+use Rattle.links.specs.Forest.{LinksBelow, IsForestLink}
+use Rattle.links.proofs.Keys.{below_dec, below_irrefl, below_trans}
+use Rattle.links.proofs.Spanning.{spanning_part}
+use Rattle.links.proofs.Walks.{joins_link, joins_more, joins_replace, joins_dec}
+use Rattle.links.specs.LinkSet.{LinkSet, Either, IsPartOf, SameLinks, HasNoCycle, Spans}
+use Rattle.links.proofs.Sublists.{without_one}
+use Rattle.links.proofs.Cycles.{no_cycle_part, no_cycle_either}
+
+-- no link at all
+abbrev NoLink : LinkSet
+NoLink l = ⊥
+
+-- Forest links, taken in the order of their keys, never find their ends joined: that is what makes them forest links.
+pub forest_no_cycle : (links : List Link) → HasNoCycle (IsForestLink links)
+forest_no_cycle links =
+    no_cycle_part (IsForestLink links) (Either NoLink (IsForestLink links)) (λ l is_in. inr is_in)
+    (no_cycle_either NoLink (IsForestLink links) (λ l is_in joined. is_in)
+    (λ m is_forest Q each joined. is_forest.1 (joins_more (Either NoLink (Contains Q)) (LinksBelow links m) (to m Q each) m.low m.high joined)))
+  where
+    to : (m : Link) (Q : List Link) → ((q : Link) → Contains Q q → IsForestLink links q × IsBelow q m) → (k : Link) → Either NoLink (Contains Q) k → LinksBelow links m k
+    to m Q each k (inl none) = absurd none
+    to m Q each k (inr in_Q) = ((each k in_Q).0.0, (each k in_Q).1)
+
+-- The forest joins the ends of each link of the list. Either they are not joined by smaller links, and the link is in
+-- the forest; or they are, and each of those has its ends joined by the forest, since it is smaller. (The list
+-- `lower` has all links of the list that are below l; it gets shorter.)
+ends_joined : (links : List Link) (fuel : ℕ) (lower : List Link) → length lower ≤ fuel → (l : Link) → Contains links l → ((m : Link) → LinksBelow links l m → Contains lower m) → Joins (IsForestLink links) l.low l.high
+ends_joined links zero lower small l is_in has = elim (joins_dec (λ m. IsBelow m l) (λ m. below_dec m l) links l.low l.high) [
+  | inr apart ↦ joins_link (IsForestLink links) l (is_in, apart)
+  | inl joined ↦ joins_replace (LinksBelow links l) (IsForestLink links) (λ m below. let fewer = without_one lower m (has m below) in absurd (omega (arith, fewer.shorter))) l.low l.high joined
+]
+ends_joined links (suc fuel) lower small l is_in has = elim (joins_dec (λ m. IsBelow m l) (λ m. below_dec m l) links l.low l.high) [
+  | inr apart ↦ joins_link (IsForestLink links) l (is_in, apart)
+  | inl joined ↦ joins_replace (LinksBelow links l) (IsForestLink links) (λ m below.
+      let fewer = without_one lower m (has m below) in
+      let shorter : length fewer.rest ≤ fuel = omega (arith, fewer.shorter) in
+      ends_joined links fuel fewer.rest shorter m below.0 (λ k k_below.
+      fewer.keeps k (has k (k_below.0, below_trans k m l k_below.1 below.1)) (λ same. below_irrefl m (subst (λ x. IsBelow x m) same k_below.1)))) l.low l.high joined
+]
+
+pub forest_spans : (links : List Link) → Spans (IsForestLink links) links
+forest_spans links = joins_replace (Contains links) (IsForestLink links) (λ l is_in. ends_joined links (length links) links (omega arith) l is_in (λ m below. below.0))
+
+-- a part of the forest that spans the list is the forest
+pub spanning_part_is_forest : (links : List Link) (P : LinkSet) → IsPartOf P (IsForestLink links) → Spans P links → SameLinks P (IsForestLink links)
+spanning_part_is_forest = spanning_part

@@ -1,0 +1,9 @@
+-- What an answer says, without where its offers lie in memory.
+use Rattle.std.specs.Prelude.{ℕ, List}
+use Rattle.links.specs.Offers.{Offer}
+
+-- the round and the shard that were asked, and the offers
+pub record AnswerValue : Type 0 where
+  pub round : ℕ
+  pub shard : ℕ
+  pub offers : List Offer

@@ -1,0 +1,44 @@
+-- What a set of links weighs, and that no spanning forest weighs less than the minimum spanning forest.
+use Rattle.std.specs.Prelude.{◌≢◌, ◌≡◌, ℤ, pos, ◌+ℤ◌, List, Contains, AllPairs, fold}
+use Rattle.std.specs.Int.Signed.{◌≤ℤ◌}
+use Rattle.links.specs.declared.links.Link.{Link}
+use Rattle.links.specs.Forest.{IsForestOf}
+use Rattle.links.specs.LinkSet.{IsPartOf, SameLinks, HasNoCycle, Spans}
+
+-- the sum of the weights of the links of a list, in which each stands once or more
+abbrev pub sum_of_weights : List Link → ℤ
+sum_of_weights links = fold (λ sum l. sum +ℤ l.weight) (pos 0) links
+
+-- no link stands twice
+abbrev pub AreDistinct : List Link → Type 0
+AreDistinct links = AllPairs (λ l m. l ≢ m) links
+
+-- what the set of a list's links weighs: the sum of their weights, each link taken once, however often and in whatever order the list has them
+pub record IsTotalOf (links : List Link) (total : ℤ) : Type 0 where
+  pub once : List Link
+  pub distinct : AreDistinct once
+  pub members : SameLinks (Contains once) (Contains links)
+  pub total_is : total ≡ sum_of_weights once
+
+-- some of the links of a list, which close no cycle and join what the list joins
+pub record IsSpanningForestOf (links some : List Link) : Type 0 where
+  pub from_list : IsPartOf (Contains some) (Contains links)
+  pub no_cycle : HasNoCycle (Contains some)
+  pub spans : Spans (Contains some) links
+
+-- no spanning forest of the list weighs less
+abbrev pub IsLightest : List Link → ℤ → Type 0
+IsLightest links total = (other : List Link) (its : ℤ) → IsSpanningForestOf links other → IsTotalOf other its → total ≤ℤ its
+
+-- ---- the laws
+
+-- the forest of a list is a spanning forest of it, its links are distinct, and no spanning forest weighs less
+abbrev pub ForestIsLightest : Type 0
+ForestIsLightest =
+    (links forest : List Link) → IsForestOf links forest
+    → IsSpanningForestOf links forest × IsTotalOf forest (sum_of_weights forest) × IsLightest links (sum_of_weights forest)
+
+-- the forest of links that close no cycle is all of them
+abbrev pub NoCycleIsItsForest : Type 0
+NoCycleIsItsForest =
+    (links forest : List Link) → HasNoCycle (Contains links) → IsForestOf links forest → SameLinks (Contains forest) (Contains links)

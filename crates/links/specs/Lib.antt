@@ -1,0 +1,12 @@
+pub mod Arc
+pub mod Link
+pub mod Walk
+pub mod Forest
+pub mod Least
+pub mod Labels
+pub mod LinkSet
+pub mod Offers
+pub mod Cut
+pub mod AnswerValue
+pub mod PackedKey
+pub mod WideKey

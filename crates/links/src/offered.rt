@@ -1,0 +1,62 @@
+ghost use Rattle.std.specs.Prelude.{◌≡◌, ◌↔◌, IsSome, IfSome, IsTrue};
+ghost use Rattle.links.specs.Offers.{AreOffers};
+
+use std::alloc::{Allocator, Global};
+use std::marker::Model;
+
+/// The links that a scan offers: for each of some components, the place in the shard of the link that is offered
+/// for it, counted from 0. The components ascend strictly.
+#[derive(Drop)]
+pub struct Offers<A: Allocator = Global> {
+    pairs: Vec<(u32, u32), A>,
+}
+
+impl<A: Allocator> Model for Offers<A> {
+    ghost use Rattle.std.specs.Prelude.{List};
+    ghost use Rattle.links.specs.Offers.{Offer, AreOffers};
+
+    ghost Value = { List Offer };
+
+    ghost view = { λ s. s.pairs.items };
+
+    ghost invariant = { λ s. AreOffers s.pairs.items };
+}
+
+impl<A: Allocator> Offers<A> {
+    /// The offers of a list of pairs (component, place); none, and the list is dropped, where the components don't
+    /// ascend strictly. It looks at each pair once, takes no memory and keeps the list's.
+    pub fn of_pairs(pairs: Vec<(u32, u32), A>) -> Option<Self>
+        ensures exactly_ascending { IsSome result ↔ AreOffers pairs.items }
+        ensures same_pairs { IfSome result (λ offers. offers ≡ pairs.items) }
+    {
+        if are_offers(pairs.as_slice()) {
+            Some(Offers { pairs })
+        } else {
+            None
+        }
+    }
+
+    /// The offers of a list of pairs (component, place) whose components are known to ascend strictly: for a caller that made
+    /// the list in that order. It looks at none of them, takes no time and no memory, and keeps the list's.
+    pub fn of_known(pairs: Vec<(u32, u32), A>) -> Self
+        requires ascending { AreOffers pairs.items }
+        ensures same_pairs { result ≡ pairs.items }
+    {
+        Offers { pairs }
+    }
+
+    /// The pairs (component, place), in ascending order of the components.
+    pub fn pairs(&self) -> &[(u32, u32)]
+        ensures pairs { result.now ≡ self.now }
+        ensures ascending { AreOffers self.now }
+    {
+        self.pairs.as_slice()
+    }
+}
+
+// Whether each component is below the next, and so below all later ones.
+fn are_offers(pairs: &[(u32, u32)]) -> bool
+    ensures { IsTrue result ↔ AreOffers pairs.now }
+{
+    pairs.is_sorted_by(|earlier, later| earlier.0 < later.0)
+}

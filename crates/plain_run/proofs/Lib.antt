@@ -1,0 +1,5 @@
+pub mod KnownFiles
+pub mod FaultTexts
+pub mod PlainRunning
+pub mod Lengths
+pub mod Again

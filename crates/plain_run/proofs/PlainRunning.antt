@@ -1,0 +1,105 @@
+-- What a run did, by what its steps say; and what follows for bytes in memory.
+use Rattle.std.proofs.Common.{◌≡◌, ◌≤◌, ◌^◌, ℕ, List, [], length, inl, inr, Some, Ok, Err, refl, sym, subst, arith}
+use Rattle.limits.specs.declared.TheConstants.{MAX_BYTES}
+use Rattle.byte_streams.specs.Streams.{SourceState, SinkState, Gave, Took, HadNoFailure}
+use Rattle.byte_streams.proofs.Streaming.{gave_to_end, took_nothing, took_known}
+use Rattle.links.specs.Least.{sum_of_weights, IsLightest}
+use Rattle.links.specs.declared.links.Link.{Link}
+use Rattle.gr_text.specs.ForestText.{forest_text}
+use Rattle.gr_text.specs.Graph.{GraphValue}
+use Rattle.gr_text.specs.Sourced.{IsReadOf}
+use Rattle.gr_text.specs.Written.{PrefixWentOut}
+use Rattle.gr_text.specs.declared.faults.ReadFault.{ReadFault}
+use Rattle.gr_text.proofs.ForestSize.{few_are_exact}
+use Rattle.plain_run.proofs.KnownFiles.{reads_the_file}
+use Rattle.plain_run.specs.Files.{IsFileOf, HasForest, IsForestTextOf, IsFaultInMemory}
+use Rattle.plain_run.specs.Outcomes.{streams, IsDone, IsUnread, IsUnsolved, IsBrokenOff, IsLeast}
+use Rattle.plain_run.specs.PlainRun.{RanPlain, IsPlainReport, plain_report}
+use Rattle.plain_run.specs.declared.fault.RunFault.{RunFault}
+use Rattle.plain_run.specs.declared.report.Report.{Report}
+use Rattle.plain_run.specs.declared.fault.RunFault.TheVariants as fault
+
+-- a graph is read only of a whole file
+whole_file : (graph : GraphValue) (s t : SourceState) → IsReadOf MAX_BYTES (Ok graph) s t → (bytes : List ℕ) × Gave 0 1 bytes s t × IsFileOf bytes graph
+whole_file graph s t (inl whole) = (whole.bytes, whole.gave, record { within = whole.within; means = whole.read.1 })
+whole_file graph s t (inr (inl stopped)) = absurd stopped
+whole_file graph s t (inr (inr (line, is, broke))) = cc
+
+pub unread : (why : ReadFault) (s t : SourceState) (a : SinkState) → IsReadOf MAX_BYTES (Err why) s t → IsUnread why (streams s a) (streams t a)
+unread why s t a refused = record { refused = refused; nothing = took_nothing a }
+
+pub unsolved : (why : GraphValue → Type 0) (graph : GraphValue) (s t : SourceState) (a : SinkState) → IsReadOf MAX_BYTES (Ok graph) s t → why graph → IsUnsolved why (streams s a) (streams t a)
+unsolved why graph s t a read cause =
+    let (bytes, gave, file) = whole_file graph s t read in
+    record { bytes = bytes; graph = graph; read = gave; file = file; cause = cause; nothing = took_nothing a }
+
+pub done : (found says : GraphValue → List Link → Type 0) (graph : GraphValue) (forest : List Link) (n : ℕ) (s t : SourceState) (a b : SinkState)
+    → IsReadOf MAX_BYTES (Ok graph) s t → found graph forest → n ≡ graph.vertices → Took 0 (forest_text n forest) a b → says graph forest
+    → IsDone found says (streams s a) (streams t b)
+done found says graph forest n s t a b read found_is same took said =
+    let (bytes, gave, file) = whole_file graph s t read in
+    record {
+      bytes = bytes;
+      graph = graph;
+      forest = forest;
+      read = gave;
+      file = file;
+      found_is = found_is;
+      written = subst (λ (m : ℕ). Took 0 (forest_text m forest) a b) same took;
+      said = said;
+    }
+
+-- such a report is one of least links
+pub plainly : (graph : GraphValue) (forest : List Link) (report : Report) → IsLightest graph.links (sum_of_weights forest) → report ≡ plain_report graph forest
+    → IsPlainReport graph forest report
+plainly graph forest report least is = record { report_is = is; lightest = subst (λ (r : Report). IsLightest graph.links r.total) (sym is) least }
+
+-- a file has at most 2^30 arc lines, so what a failed write counts is the number of bytes itself
+pub broken_off : {X : Type 0} (found : GraphValue → List Link → Type 0) (says : GraphValue → List Link → X → Type 0) (answer : X) (written : ℕ) (graph : GraphValue) (forest : List Link) (n : ℕ) (s t : SourceState) (a b : SinkState)
+    → IsReadOf MAX_BYTES (Ok graph) s t → found graph forest → length forest ≤ 2 ^ 55 → n ≡ graph.vertices
+    → PrefixWentOut written (forest_text n forest) a b → says graph forest answer → IsBrokenOff found says written (streams s a) (streams t b)
+broken_off found says answer written graph forest n s t a b read found_is few same part said =
+    let (bytes, gave, file) = whole_file graph s t read in
+    record {
+      bytes = bytes;
+      graph = graph;
+      forest = forest;
+      read = gave;
+      file = file;
+      found_is = found_is;
+      part = few_are_exact written graph.vertices forest a b few (subst (λ (m : ℕ). PrefixWentOut written (forest_text m forest) a b) same part);
+      answer = answer;
+      said = said;
+    }
+
+-- ---- bytes in memory: a source of which they are known, and that it has no failure
+
+-- the file that was read is all that there was
+pub given_file : (bytes got : List ℕ) (s t : SourceState) → s.left ≡ Some bytes → Gave 0 1 got s t → got ≡ bytes
+given_file bytes got s t known gave = sym (gave_to_end 0 1 bytes got s t known (omega arith) gave)
+
+-- the forest of the file that was read is that of the bytes
+gives : (bytes got : List ℕ) (s t : SourceState) (graph : GraphValue) (forest : List Link) → s.left ≡ Some bytes → Gave 0 1 got s t → IsFileOf got graph → IsLeast graph forest
+    → HasForest bytes graph forest
+gives bytes got s t graph forest known gave file least =
+    record { file = subst (λ (xs : List ℕ). IsFileOf xs graph) (given_file bytes got s t known gave) file; least = least }
+
+pub fault_in_memory : (why : RunFault) (bytes : List ℕ) (s t : SourceState) (a b : SinkState)
+    → s.left ≡ Some bytes → HadNoFailure s t → RanPlain (Err why) (streams s a) (streams t b) → IsFaultInMemory bytes why
+fault_in_memory (fault.Read why) bytes s t a b known no_failure ran = reads_the_file bytes s t (Err why) known no_failure ran.refused
+fault_in_memory (fault.Cut why) bytes s t a b known no_failure ran = let cause = ran.cause in cc
+fault_in_memory (fault.Rounds round) bytes s t a b known no_failure ran = let cause = ran.cause in cc
+fault_in_memory (fault.Missed link) bytes s t a b known no_failure ran = let cause = ran.cause in cc
+fault_in_memory fault.Memory bytes s t a b known no_failure ran =
+    (ran.graph, subst (λ (xs : List ℕ). IsFileOf xs ran.graph) (given_file bytes ran.bytes s t known ran.read) ran.file)
+fault_in_memory (fault.Write written) bytes s t a b known no_failure ran =
+    let given = gives bytes ran.bytes s t ran.graph ran.forest known ran.read ran.file ran.found_is in
+    (forest_text ran.graph.vertices ran.forest, (ran.graph, ran.forest, given, refl), omega (arith, ran.part.within, ran.part.counted))
+
+pub text_in_memory : (says : GraphValue → List Link → Type 0) (bytes text : List ℕ) (s t : SourceState) (a b : SinkState)
+    → s.left ≡ Some bytes → a.held ≡ Some [] → b.held ≡ Some text → IsDone IsLeast says (streams s a) (streams t b) → IsForestTextOf bytes text
+text_in_memory says bytes text s t a b known empty held ran =
+    let given = gives bytes ran.bytes s t ran.graph ran.forest known ran.read ran.file ran.found_is in
+    let out = took_known 0 [] (forest_text ran.graph.vertices ran.forest) a b empty ran.written in
+    let same : text ≡ forest_text ran.graph.vertices ran.forest = cc in
+    (ran.graph, ran.forest, given, same)

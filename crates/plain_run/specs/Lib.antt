@@ -1,0 +1,5 @@
+pub mod Files
+pub mod Outcomes
+pub mod PlainRun
+pub mod ReportText
+pub mod FaultText

@@ -1,0 +1,55 @@
+use Rattle.std.proofs.Common.{List, ℕ, ◌+◌, refl, subst, arith}
+use Rattle.round_theory.specs.Offers.{IsNamed}
+use Rattle.round_core.specs.BookValue.{opened, hearings}
+use Rattle.round_core.specs.Picks.{ArePicks}
+use Rattle.port_rounds.specs.Rounds.{RunsRound}
+use Rattle.port_rounds.proofs.Eaches.{each_refl}
+use Rattle.port_rounds.proofs.Passing.{SamePort, passed_none}
+use Rattle.port_rounds.proofs.Running.{opened_round, same_still}
+use Rattle.port_rounds.proofs.Ending.{turn_asked}
+use Rattle.port_rounds.proofs.lane.Lanes.picks_of_round.Goals as goal
+
+pub run_round-requires-clause-round : goal.run_round-requires-clause-round
+run_round-requires-clause-round g c κs within =
+    rw (c.in_ok-book.ensures.opened, c.round.ensures.round, c.labels.ensures.labels)
+    (opened_round (c.args.solver.now.rounds + 1) c.args.cut.now c.args.solver.now.labels c.requires.some_shard c.requires.ends (omega arith))
+
+pub run_round-requires-clause-wide : goal.run_round-requires-clause-wide
+run_round-requires-clause-wide g c κs within = rw (c.in_ok-book.ensures.opened, c.round.ensures.round, c.labels.ensures.labels) c.requires.wide
+
+-- ---- what was asked, however the round ended
+
+pub returns-in_err-book-clause-asked : goal.returns-in_err-book-clause-asked
+returns-in_err-book-clause-asked g c =
+    let value = opened c.round.result c.args.cut.now c.labels.result.now in
+    turn_asked g.P.Port c.round.result c.args.cut.now c.labels.result.now c.args.solver.now value c.args.self.now.lanes.now c.args.self.now.lanes.now c.round.ensures.round c.labels.ensures.labels c.round.ensures.progress c.requires.ends c.requires.few_shards
+    (passed_none g.P.Port value c.args.self.now.lanes.now c.args.self.now.lanes.now (each_refl SamePort c.args.self.now.lanes.now (λ x. record { port = refl })))
+
+pub returns-in_err-alone-clause-asked : goal.returns-in_err-alone-clause-asked
+returns-in_err-alone-clause-asked g c =
+    let (middle, asked) = c.run_round.ensures.asked in
+    turn_asked g.P.Port c.round.result c.args.cut.now c.labels.result.now c.args.solver.now middle c.args.self.now.lanes.now c.run_round.new.self.lanes.now c.round.ensures.round c.labels.ensures.labels c.round.ensures.progress c.requires.ends c.requires.few_shards
+    (rw c.in_ok-book.ensures.opened at asked)
+
+pub returns-clause-asked : goal.returns-clause-asked
+returns-clause-asked g c =
+    let (middle, asked) = c.run_round.ensures.asked in
+    turn_asked g.P.Port c.round.result c.args.cut.now c.labels.result.now c.args.solver.now middle c.args.self.now.lanes.now c.run_round.new.self.lanes.now c.round.ensures.round c.labels.ensures.labels c.round.ensures.progress c.requires.ends c.requires.few_shards
+    (rw c.in_ok-book.ensures.opened at asked)
+
+-- ---- its picks
+
+pub returns-clause-picked : goal.returns-clause-picked
+returns-clause-picked g c =
+    let book = c.run_round.new.book in
+    let round = c.args.solver.now.rounds + 1 in
+    let labels = c.args.solver.now.labels in
+    let went : RunsRound g.P.Port (opened round c.args.cut.now labels) book c.args.self.now.lanes.now c.run_round.new.self.lanes.now c.in_ok-alone.alone =
+    rw (c.in_ok-book.ensures.opened, c.round.ensures.round, c.labels.ensures.labels) at c.in_ok-alone.ensures.went in
+    record {
+      book = book;
+      went = went;
+      value = c.close_par.ensures.value;
+      picked = subst (λ (ls : List ℕ). ArePicks ls (IsNamed (hearings book)) c.close_par.result)
+          (same_still g.P.Port round c.args.cut.now labels book c.args.self.now.lanes.now c.run_round.new.self.lanes.now c.in_ok-alone.alone went).labels c.close_par.ensures.picks;
+    }

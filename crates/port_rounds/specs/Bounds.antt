@@ -1,0 +1,28 @@
+-- What a round and its passes begin with.
+use Rattle.std.specs.Prelude.{◌≡◌, ◌+◌, ◌-◌, ◌<◌, ◌≤◌, ◌^◌, length, All}
+use Rattle.claim_board.specs.State.{BoardState}
+use Rattle.limits.specs.declared.TheConstants.{MAX_WORKERS}
+use Rattle.links.specs.Link.{EndsUpTo}
+use Rattle.round_core.specs.BookValue.{BookValue, missing}
+use Rattle.port_trait.specs.Ports.{PortState}
+
+-- a book whose shards may be asked for: there is one, its labels are those of all ends, and its round has a number
+pub record IsAskable (value : BookValue) : Type 0 where
+  pub some_shard : 0 < length value.cut
+  pub ends : All (EndsUpTo (length value.labels)) value.cut
+  pub round : 1 ≤ value.round
+
+-- a board of the shards of the book
+pub record IsBoardOf (board : BoardState) (value : BookValue) : Type 0 where
+  pub shards : board.shards ≡ length value.cut
+  pub seats : board.seats ≤ MAX_WORKERS
+
+-- a port of the book's cut that may be asked once for each shard
+pub record HasRoomForPass {P : Type 0} (state : P → PortState) (value : BookValue) (port : P) : Type 0 where
+  pub cut : (state port).cut ≡ value.cut
+  pub count : (state port).asks + length value.cut < 2 ^ 64 - 1
+
+-- a port of the book's cut whose count has room for the asks of all passes of a round: one for each shard that is missing, and one that closes it
+pub record HasRoomForRound {P : Type 0} (state : P → PortState) (value : BookValue) (port : P) : Type 0 where
+  pub cut : (state port).cut ≡ value.cut
+  pub count : (state port).asks + (missing value + length value.cut + 1) < 2 ^ 64 - 1

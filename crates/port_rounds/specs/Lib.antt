@@ -1,0 +1,13 @@
+pub mod Lanes
+pub mod Asks
+pub mod Bounds
+pub mod Ferries
+pub mod Seating
+pub mod Taking
+pub mod Passes
+pub mod Scanned
+pub mod Rounds
+pub mod Runs
+pub mod Chains
+pub mod Reports
+pub mod Solved

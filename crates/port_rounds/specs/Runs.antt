@@ -1,0 +1,86 @@
+-- What the rounds of a run do: to each lane, and to one book after another.
+use Rattle.std.specs.Prelude.{◌≡◌, ℕ, ◌+◌, ◌*◌, ◌<◌, ◌≤◌, ◌⊎◌, List, length, slice_index_or, All, Contains, Option}
+use Rattle.links.specs.declared.links.Link.{Link}
+use Rattle.links.specs.AnswerValue.{AnswerValue}
+use Rattle.round_theory.specs.Offers.{IsNamed}
+use Rattle.round_core.specs.BookValue.{BookValue, IsBookValue, opened, missing, hearings}
+use Rattle.port_trait.specs.declared.port.Port as Port
+use Rattle.port_trait.specs.Exchanges.{Exchange}
+use Rattle.port_rounds.specs.Lanes.{LaneState, ask_count, open_count}
+use Rattle.port_rounds.specs.Asks.{AnswersAsks, TakesExchange, ClosesPort, IsLight}
+use Rattle.port_rounds.specs.Passes.{AnswersOnce, KeepsHonestly}
+
+-- the book, as it was opened
+abbrev pub opened_book : BookValue → BookValue
+opened_book book = opened book.round book.cut book.labels
+
+-- an ask of one of the books, as it was opened, the last one of a port, brought no answer, or one that the book refuses
+abbrev pub ClosesPortIn : List BookValue → ℕ × ℕ → Option Exchange → Type 0
+ClosesPortIn books last refused = (book : BookValue) × Contains books book × ClosesPort (opened_book book) last refused
+
+-- an exchange of one of the books, as it was opened, whose answer it takes for the shard that was asked
+abbrev pub IsKeptIn : List BookValue → Exchange → Type 0
+IsKeptIn books exchange = (book : BookValue) × Contains books book × TakesExchange (opened_book book) exchange
+
+-- the ports of lanes before and after asks of these books, of which these answers were kept at each lane's place
+pub record PortsAnswer {P A : Type 0} (port : Port.Ghosts P A) (books : List BookValue)
+    (before after : List (LaneState P)) (answers_at : ℕ → List AnswerValue) : Type 0 where
+  pub same_lanes : length after ≡ length before
+  pub each : (i : ℕ) (d : LaneState P) → i < length before
+      → AnswersAsks port (IsKeptIn books) (ClosesPortIn books) (slice_index_or before i d).port (slice_index_or after i d).port (answers_at i)
+
+-- a lane kept the answer
+abbrev pub IsGivenBy : ℕ → (ℕ → List AnswerValue) → AnswerValue → Type 0
+IsGivenBy lanes answers_at answer = (i : ℕ) × (i < lanes) × Contains (answers_at i) answer
+
+-- one of the books has the answer
+abbrev pub IsAnswerIn : List BookValue → AnswerValue → Type 0
+IsAnswerIn books answer = (book : BookValue) × Contains books book × Contains book.answers answer
+
+-- the answer is light in a book that has it
+abbrev pub IsLightIn : List BookValue → AnswerValue → Type 0
+IsLightIn books answer = (book : BookValue) × Contains books book × Contains book.answers answer × IsLight book answer
+
+-- each answer of the books is light
+abbrev pub AreLightBooks : List BookValue → Type 0
+AreLightBooks books = All (λ book. All (IsLight book) book.answers) books
+
+-- the answers that lanes kept, beside the books that they went into
+pub record MatchesBooks {P : Type 0} (honest : P → Type 0) (before : List (LaneState P))
+    (books : List BookValue) (answers_at : ℕ → List AnswerValue) : Type 0 where
+  pub reached : (i : ℕ) (answer : AnswerValue) → i < length before → Contains (answers_at i) answer → IsAnswerIn books answer
+  -- each answer in a book is light, or a lane kept it
+  pub each_is : All (λ book. All (λ answer. IsLight book answer ⊎ IsGivenBy (length before) answers_at answer) book.answers) books
+  -- what a lane with an honest port kept is light
+  pub light_at : KeepsHonestly honest (IsLightIn books) before answers_at
+  pub once : AnswersOnce (length before) answers_at
+
+-- an answer that a book took names the link
+abbrev pub IsNamedIn : List BookValue → Link → Type 0
+IsNamedIn books l = (book : BookValue) × Contains books book × IsNamed (hearings book) l
+
+-- a whole book of the cut: each shard has one answer, and no other stands in it
+pub record IsFullBook (cut : List (List Link)) (book : BookValue) : Type 0 where
+  pub cut_is : book.cut ≡ cut
+  pub value : IsBookValue book
+  pub all : missing book ≡ 0
+
+-- lanes before and after whole rounds over books of a cut: the books have so many answers that lanes kept, and so many
+-- others, each of which is light: those the coordinator scanned itself
+pub record RunsRounds {P A : Type 0} (port : Port.Ghosts P A) (cut : List (List Link))
+    (before after : List (LaneState P)) (books : List BookValue) (answered alone : ℕ) : Type 0 where
+  pub whole : All (IsFullBook cut) books
+  pub answers_at : ℕ → List AnswerValue
+  pub ports : PortsAnswer port books before after answers_at
+  pub kept : MatchesBooks port.honest before books answers_at
+  pub few : (i : ℕ) → length (answers_at i) ≤ answered
+  -- each shard of each round has an answer that a lane kept, or another
+  pub counted : answered + alone ≡ length books * length cut
+  -- each ask brought an answer, but for those that closed a port
+  pub asks : ask_count port.state after + open_count port.state after
+      ≡ (ask_count port.state before + answered) + open_count port.state before
+  pub never_opened : open_count port.state after ≤ open_count port.state before
+  pub closed : 0 < alone → open_count port.state after ≡ 0
+  -- where the coordinator scanned nothing, each answer is one that a lane kept
+  pub given : alone ≡ 0 → All (λ book. All (IsGivenBy (length before) answers_at) book.answers) books
+  pub light : All (λ lane. port.honest lane.port) before → AreLightBooks books

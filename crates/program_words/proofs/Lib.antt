@@ -1,0 +1,2 @@
+pub mod WordMeanings
+pub mod Writing

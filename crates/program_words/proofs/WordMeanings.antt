@@ -1,0 +1,158 @@
+-- What a parse of the program's words gives: what each word sets, and numbers that passed the ranges of their arguments.
+use Rattle.std.proofs.Common.{◌≡◌, ◌⊎◌, ◌∙◌, ◌<◌, ℕ, true, false, List, [], ◌∷◌, length, Option, Some, None, Result, refl, sym, ap, subst, inl, inr, arith, codes, slice_index, ◌||◌}
+use Rattle.std.specs.Prelude.{pos}
+use Rattle.std.specs.List.{All, slice_index_or}
+use Rattle.std.specs.Str.{bytes_eq}
+use Rattle.std.specs.Borrow.{Bor}
+use Rattle.std.proofs.lemmas.Bool.{cases_lt}
+use Rattle.std.proofs.lemmas.Slice.Eq.{bytes_eq-Decides}
+use Rattle.std.proofs.lemmas.List.Elements.{All-get_or, All-push}
+use Rattle.clap.specs.Words.{Accepts, AddsArg, IsParsedFrom, IsSignedIn, SameRules, args_of, found_of, groups_of, matched_of, one_text, parser_of, reading_of, without_minus}
+use Rattle.clap.specs.Facts.{Entry, EntryPasses, ValuesPass, PassesArg, HasReading, parser_of_value}
+use Rattle.clap.specs.Built.{IsAuto}
+use Rattle.clap.proofs.CallerLemmas.{entry_by_id, added_plain}
+use Rattle.clap.specs.declared.builder.arg.Arg.{Arg}
+use Rattle.clap.specs.declared.builder.command.Command.{Command}
+use Rattle.clap.specs.declared.builder.value_parser.Reading.TheVariants as reading
+use Rattle.clap.specs.declared.builder.value_parser.ValueParser.{ValueParser}
+use Rattle.clap.specs.declared.builder.value_parser.ValueParser.TheVariants as vp
+use Rattle.clap.specs.declared.parser.matches.ArgMatches.{ArgMatches}
+use Rattle.clap.specs.declared.parser.matches.Found.{Found}
+use Rattle.clap.specs.declared.parser.matches.MatchedArg.{MatchedArg}
+use Rattle.clap.specs.Words.{App, FailsBy, HasMatchesOf, fault_of, first_of, first_value, is_simple, is_simple_and_free, matches_of, one_of, rows_of}
+use Rattle.clap.proofs.OnLiterals.{clap_on_literals}
+use Rattle.clap.proofs.WalkLemmas.{first_value-rows, one_text-rows}
+use Rattle.clap.specs.declared.error.Error.{Error}
+use Rattle.limits.specs.declared.TheConstants.{MAX_SHARDS, MAX_WORKERS}
+use Rattle.program_words.specs.Arguments.{TakesFrom, IsOwn, IsOwnArg, HoldsFrom, program, refusals, given, said}
+
+-- an argument takes what the caller's does
+takes_same : (name : List ℕ) (low high : ℕ) (a b : Arg) → SameRules a b → TakesFrom name low high a → TakesFrom name low high b
+takes_same name low high a b same takes named = same.parser _ (takes (ap (λ x. x.now) (sym same.id) ∙ named))
+
+-- one more argument of the program
+pub own_more : (old new : Command) (a : Arg) → AddsArg old a new → IsOwn old → IsOwnArg a → IsOwn new
+own_more old new a added own arg = record {
+  plain = added_plain old new a added own.plain arg.plain;
+  local = added.globals ∙ (ap (λ b. b || a.global) own.local ∙ ap (λ b. false || b) arg.local);
+  workers = rw added.args (All-push (TakesFrom (codes "workers") 0 MAX_WORKERS) (args_of old) added.arg own.workers (takes_same (codes "workers") 0 MAX_WORKERS a added.arg added.rules arg.workers));
+  shards = rw added.args (All-push (TakesFrom (codes "shards") 1 MAX_SHARDS) (args_of old) added.arg own.shards (takes_same (codes "shards") 1 MAX_SHARDS a added.arg added.rules arg.shards));
+}
+
+-- an argument of the built command with this name is the caller's, and takes such numbers
+built_takes : (c : Command) (m : ArgMatches) (p : IsParsedFrom c m) (name : List ℕ) (low high : ℕ) → All (TakesFrom name low high) (args_of c)
+    → ¬ (name ≡ codes "help") → ¬ (name ≡ codes "version")
+    → (j : ℕ) (x : Arg) → j < length (args_of p.built) → slice_index_or (args_of p.built) j x ≡ x → bytes_eq x.id.now name ≡ true
+    → parser_of x ≡ vp.Signed (pos low) (pos high)
+built_takes c m p name low high takes no_help no_version j x in_range at same =
+    let named : x.id.now ≡ name = (bytes_eq-Decides x.id.now name).0 same in
+    elim (cases_lt j (length (args_of c))) [
+      | inl under ↦
+          let rules = subst (λ w. SameRules (slice_index_or (args_of c) j x) w) at (p.from.kept j x under).1 in
+          ap parser_of_value (takes_same name low high _ x rules (takes j x under) named)
+      | inr over ↦
+          let auto = subst IsAuto at (p.from.extra j x over in_range) in
+          absurd (elim auto [ inl h ↦ no_help (sym named ∙ h) | inr h ↦ no_version (sym named ∙ h) ])
+    ]
+
+-- the values of an entry that is no group's
+values_of : (c : Command) (name : List ℕ) (x : MatchedArg) (e : Entry) → groups_of c ≡ [] → ¬ (name ≡ []) → e.1 ≡ x → e.0.now ≡ name → EntryPasses c e
+    → All (λ v. PassesArg c name v.now) x.vals.items × HasReading c name x.reading
+values_of c name x e no_groups named same_x key pass =
+    let no_group : e.1.is_group ≡ true → ⊥ = λ g. elim (pass.3 g) [
+      | inl empty ↦ named (sym key ∙ empty)
+      | inr lots ↦
+          let bad : 0 < 0 = rw no_groups at lots in
+          absurd (omega arith)
+    ] in (
+      elim pass.0 [
+        | inl g ↦ absurd (no_group g)
+        | inr vals ↦ subst (λ (w : List ℕ). All (λ v. PassesArg c w v.now) x.vals.items) key (rw same_x at vals)
+      ],
+      elim pass.4 [
+        | inl g ↦ absurd (no_group g)
+        | inr h ↦ subst (λ (w : List ℕ). HasReading c w x.reading) key (rw same_x at h)
+      ],
+    )
+
+-- what is found under a name whose arguments take such numbers
+pub holds_from : (c : Command) (f : Found) (name : List ℕ) (low high : ℕ) → ValuesPass c f → groups_of c ≡ [] → ¬ (name ≡ [])
+    → ((j : ℕ) (x : Arg) → j < length (args_of c) → slice_index_or (args_of c) j x ≡ x → bytes_eq x.id.now name ≡ true
+    → parser_of x ≡ vp.Signed (pos low) (pos high))
+    → (one_text f name ≡ None) ⊎ ((t : List ℕ) × (one_text f name ≡ Some (without_minus t)) × IsSignedIn (pos low) (pos high) t)
+holds_from c f name low high values no_groups named takes = go (matched_of f name) refl
+  where
+    first : (x : MatchedArg) (vs : List (Bor (List ℕ))) → matched_of f name ≡ Some x → x.vals.items ≡ vs → x.reading ≡ reading.WithoutMinus
+        → All (λ v. PassesArg c name v.now) vs
+        → (one_text f name ≡ None) ⊎ ((t : List ℕ) × (one_text f name ≡ Some (without_minus t)) × IsSignedIn (pos low) (pos high) t)
+    first x [] found is how all = inl (rw (found, is) refl)
+    first x (v ∷ vs) found is how all =
+        let (j, a, in_range, at, (same, accepts)) = All-get_or (λ v. PassesArg c name v.now) (v ∷ vs) 0 v (omega arith) all in
+        inr (
+          v.now,
+          rw (found, is, how) refl,
+          subst (λ (q : ValueParser). Accepts a.ignore_case q v.now) (takes j a in_range at same) accepts,
+        )
+
+    go : (o : Option MatchedArg) → matched_of f name ≡ o
+        → (one_text f name ≡ None) ⊎ ((t : List ℕ) × (one_text f name ≡ Some (without_minus t)) × IsSignedIn (pos low) (pos high) t)
+    go None found = inl (rw found refl)
+    go (Some x) found =
+        let (e, same_x, same_id, pass) = entry_by_id (EntryPasses c) f.entries.items name x values found in
+        let (all, (j, a, in_range, at, (same, reads))) = values_of c name x e no_groups named same_x ((bytes_eq-Decides e.0.now name).0 same_id) pass in
+        first x x.vals.items found refl (sym reads ∙ ap reading_of (takes j a in_range at same)) all
+
+-- what a parse of a command finds under such a name
+pub parsed_holds : (c : Command) (m : ArgMatches) (name : List ℕ) (low high : ℕ) → IsOwn c → IsParsedFrom c m → All (TakesFrom name low high) (args_of c)
+    → ¬ (name ≡ []) → ¬ (name ≡ codes "help") → ¬ (name ≡ codes "version") → HoldsFrom m name low high
+parsed_holds c m name low high own p takes named no_help no_version =
+    let parsed = p.parsed (p.from.globals ∙ own.local) in
+    holds_from p.built (found_of m) name low high parsed.values (p.from.plain own.plain).1 named (built_takes c m p name low high takes no_help no_version)
+
+-- texts that begin with different bytes differ
+apart : (a b : List ℕ) → ¬ (slice_index a 0 ≡ slice_index b 0) → ¬ (a ≡ b)
+apart a b differ same = differ (ap (λ (t : List ℕ). slice_index t 0) same)
+
+pub workers_hold : (c : Command) (m : ArgMatches) → IsOwn c → IsParsedFrom c m → HoldsFrom m (codes "workers") 0 MAX_WORKERS
+workers_hold c m own p =
+    parsed_holds c m (codes "workers") 0 MAX_WORKERS own p own.workers
+    (λ e. let bad : 119 ≡ slice_index [] 0 = ap (λ (t : List ℕ). slice_index t 0) e in absurd (omega arith))
+    (apart (codes "workers") (codes "help") (λ (e : 119 ≡ 104). absurd (omega arith)))
+    (apart (codes "workers") (codes "version") (λ (e : 119 ≡ 118). absurd (omega arith)))
+
+pub shards_hold : (c : Command) (m : ArgMatches) → IsOwn c → IsParsedFrom c m → HoldsFrom m (codes "shards") 1 MAX_SHARDS
+shards_hold c m own p =
+    parsed_holds c m (codes "shards") 1 MAX_SHARDS own p own.shards
+    (λ e. let bad : 115 ≡ slice_index [] 0 = ap (λ (t : List ℕ). slice_index t 0) e in absurd (omega arith))
+    (apart (codes "shards") (codes "help") (λ (e : 115 ≡ 104). absurd (omega arith)))
+    (apart (codes "shards") (codes "version") (λ (e : 115 ≡ 118). absurd (omega arith)))
+
+-- ---- what the words say
+
+program_simple : is_simple program ≡ true
+unfolding clap_on_literals
+program_simple = refl
+
+program_free : is_simple_and_free program ≡ true
+unfolding clap_on_literals
+program_free = refl
+
+-- the matches of a command that is the program are those of the program
+rows_are : (app : App) (words : List (List ℕ)) (m : ArgMatches) → app ≡ program → HasMatchesOf app words m
+    → rows_of (found_of m) ≡ matches_of program words
+rows_are app words m is has = (has (ap is_simple is ∙ program_simple)).0 ∙ ap (λ (a : App). matches_of a words) is
+
+-- what a getter reads under a name is what the words give there
+pub given_is : (app : App) (words : List (List ℕ)) (m : ArgMatches) (name : List ℕ) → app ≡ program → HasMatchesOf app words m
+    → one_text (found_of m) name ≡ given words name
+given_is app words m name is has = one_text-rows (found_of m) name ∙ ap (one_of name) (rows_are app words m is has)
+
+-- the first text under a name is what the words say there
+pub said_is : (app : App) (words : List (List ℕ)) (m : ArgMatches) (name : List ℕ) → app ≡ program → HasMatchesOf app words m
+    → first_value (found_of m) name ≡ said words name
+said_is app words m name is has = first_value-rows (found_of m) name ∙ ap (first_of name) (rows_are app words m is has)
+
+-- a parse fails as the words say
+pub fails_by_words : {T : Type 0} (app : App) (words : List (List ℕ)) (r : Result T Error) → app ≡ program
+    → (is_simple_and_free app ≡ true → FailsBy (fault_of app words) r) → FailsBy (refusals words) r
+fails_by_words {T} app words r is fails = subst (λ (a : App). FailsBy (fault_of a words) r) is (fails (ap is_simple_and_free is ∙ program_free))

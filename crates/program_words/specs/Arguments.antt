@@ -1,0 +1,136 @@
+-- The words of the command line: what the program takes, and what each word sets.
+use Rattle.std.specs.Prelude.{◌≡◌, ◌≢◌, ◌⊎◌, ℕ, ⊤, pos, true, false, if◌then◌else◌, List, [], ◌∷◌, Option, Some, None, Bool, Result, Err, codes}
+use Rattle.std.specs.List.{All}
+use Rattle.std.specs.Str.{bytes_eq}
+use Rattle.std.specs.Str.Parse.{digits_value, without_leading_plus}
+use Rattle.limits.specs.declared.TheConstants.{MAX_SHARDS, MAX_WORKERS}
+use Rattle.clap.specs.Words.{App, Rule, IsPlain, IsPlainArg, IsSignedIn, Kinds, args_of, fault_of, first_of, found_of, kind_of, matches_of, new_app, new_rule, one_of, one_text, with_rule, without_minus}
+use Rattle.clap.specs.declared.builder.action.ArgAction.TheVariants.{SetTrue}
+use Rattle.clap.specs.declared.builder.arg.Arg.{Arg}
+use Rattle.clap.specs.declared.builder.command.Command.{Command}
+use Rattle.clap.specs.declared.builder.command.Command.TheViews.{out-Command}
+use Rattle.clap.specs.declared.builder.value_parser.ValueParser.TheVariants as vp
+use Rattle.clap.specs.declared.error.Error.{Error}
+use Rattle.clap.specs.declared.error.kind.ErrorKind.{ErrorKind}
+use Rattle.clap.specs.declared.error.kind.ErrorKind.TheVariants.{DisplayHelp, DisplayVersion, OutOfMemory}
+use Rattle.clap.specs.declared.parser.matches.ArgMatches.{ArgMatches}
+use Rattle.program_words.specs.declared.chosen.OptionsFault.{OptionsFault}
+use Rattle.program_words.specs.declared.chosen.OptionsFault.TheVariants.{Usage, Memory}
+
+-- ---- what the program takes
+
+-- an option with a whole number from low to high
+abbrev pub number_rule : List ℕ → List ℕ → ℕ → ℕ → Rule
+number_rule name default low high = record (new_rule name) {
+  long = Some name;
+  value_names = 1;
+  defaults = default ∷ [];
+  parser = Some (vp.Signed (pos low) (pos high));
+}
+
+-- an option that is there or not
+abbrev pub flag_rule : List ℕ → Rule
+flag_rule name = record (new_rule name) { long = Some name; action = Some SetTrue }
+
+-- a word that is no option
+abbrev pub word_rule : List ℕ → Rule
+word_rule name = record (new_rule name) { value_names = 1 }
+
+-- a command that tells its version
+abbrev pub with_version : App → App
+with_version a = record a { top = record a.top { has_version = true } }
+
+-- the program: its version, two numbers, two flags, and a file
+abbrev pub program : App
+program =
+    with_rule
+    (with_rule
+    (with_rule
+    (with_rule
+    (with_rule (with_version (new_app (codes "boruvka"))) (number_rule (codes "workers") (codes "2") 0 MAX_WORKERS))
+    (number_rule (codes "shards") (codes "64") 1 MAX_SHARDS))
+    (flag_rule (codes "plain")))
+    (flag_rule (codes "report")))
+    (word_rule (codes "file"))
+
+-- ---- what words say to it, the program's name first
+
+-- what is wrong with the words, or that they ask for the help: nothing where the program takes them
+abbrev pub refusals : List (List ℕ) → Kinds
+refusals words = fault_of program words
+
+-- what the words give under a name, or else its default
+abbrev pub given : List (List ℕ) → List ℕ → Option (List ℕ)
+given words name = one_of name (matches_of program words)
+
+-- the first text under a name
+abbrev pub said : List (List ℕ) → List ℕ → Option (List ℕ)
+said words name = first_of name (matches_of program words)
+
+-- the file of a name: `-` is none, but the input
+abbrev pub file_of : Option (List ℕ) → Option (List ℕ)
+file_of None = None
+file_of (Some name) = if bytes_eq name (codes "-") then None else Some name
+
+-- the file that the words name
+abbrev pub file_named : List (List ℕ) → Option (List ℕ)
+file_named words = file_of (said words (codes "file"))
+
+-- the number that a text writes, or this one where there is no text
+abbrev pub number_of : Option (List ℕ) → ℕ → ℕ
+number_of None default = default
+number_of (Some text) default = digits_value 10 (without_leading_plus text)
+
+-- a text that sets a flag
+abbrev pub is_true : Option (List ℕ) → Bool
+is_true None = false
+is_true (Some text) = bytes_eq text (codes "true")
+
+-- whether the words set the flag of this name
+abbrev pub is_set : List (List ℕ) → List ℕ → Bool
+is_set words name = is_true (said words name)
+
+-- ---- why words ask for nothing
+
+-- what the program makes of an error of its words: want of memory is its own case, and every other stays as it is
+abbrev pub IsCauseOf : Error → OptionsFault → Type 0
+IsCauseOf error (Usage same) = (kind_of error ≢ OutOfMemory) × (same ≡ error)
+IsCauseOf error Memory = kind_of error ≡ OutOfMemory
+
+-- P of the error of words that aren't taken
+abbrev pub OnUsage : {T : Type 0} → Result T OptionsFault → (Error → Type 0) → Type 0
+OnUsage (Err (Usage error)) P = P error
+OnUsage other P = ⊤
+
+-- words of this kind are wrong: they ask neither for the help nor for the version
+abbrev pub IsMistake : ErrorKind → Type 0
+IsMistake kind = (kind ≢ DisplayHelp) × (kind ≢ DisplayVersion)
+
+-- ---- the numbers
+
+-- an argument of this name takes whole numbers from low to high
+abbrev pub TakesFrom : List ℕ → ℕ → ℕ → Arg → Type 0
+TakesFrom name low high a = a.id.now ≡ name → a.value_parser ≡ Some (vp.Signed (pos low) (pos high))
+
+-- an argument of the program: it excludes no other, and takes numbers in the range of its name
+pub record IsOwnArg (a : Arg) : Type 0 where
+  pub plain : IsPlainArg a
+  pub local : a.global ≡ false
+  pub workers : TakesFrom (codes "workers") 0 MAX_WORKERS a
+  pub shards : TakesFrom (codes "shards") 1 MAX_SHARDS a
+
+-- a command with such arguments alone
+pub record IsOwn (c : Command) : Type 0 where
+  pub plain : IsPlain c
+  pub local : (out-Command c).has_globals ≡ false
+  pub workers : All (TakesFrom (codes "workers") 0 MAX_WORKERS) (args_of c)
+  pub shards : All (TakesFrom (codes "shards") 1 MAX_SHARDS) (args_of c)
+
+-- a name of an argument that takes no number
+abbrev pub IsOtherName : List ℕ → Type 0
+IsOtherName name = ¬ (name ≡ codes "workers") × ¬ (name ≡ codes "shards")
+
+-- what was found under this name, if anything, is a number from low to high
+abbrev pub HoldsFrom : ArgMatches → List ℕ → ℕ → ℕ → Type 0
+HoldsFrom m name low high = (one_text (found_of m) name ≡ None)
+    ⊎ ((t : List ℕ) × (one_text (found_of m) name ≡ Some (without_minus t)) × IsSignedIn (pos low) (pos high) t)

@@ -1,0 +1,19 @@
+-- The status of a fault.
+use Rattle.std.specs.Prelude.{ℕ}
+use Rattle.links.specs.declared.cuts.CutFault.TheVariants as cut
+use Rattle.gr_text.specs.declared.faults.ReadFault.TheVariants as read
+use Rattle.plain_run.specs.declared.fault.RunFault.{RunFault}
+use Rattle.plain_run.specs.declared.fault.RunFault.TheVariants as fault
+
+-- the status of a fault: 1 the file's, or that it can't be cut so, 3 a stream's, 4 want of memory, 5 the workers'
+abbrev pub status_for : RunFault → ℕ
+status_for (fault.Read (read.Gr f)) = 1
+status_for (fault.Read read.TooLong) = 1
+status_for (fault.Read (read.Source number)) = 3
+status_for (fault.Write written) = 3
+status_for (fault.Read read.Memory) = 4
+status_for (fault.Cut cut.Memory) = 4
+status_for (fault.Cut refusal) = 1
+status_for (fault.Rounds round) = 5
+status_for (fault.Missed link) = 5
+status_for fault.Memory = 4

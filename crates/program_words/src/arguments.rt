@@ -1,0 +1,195 @@
+//! The words of the command line.
+ghost use Rattle.std.specs.Prelude.{◌≡◌, ◌≢◌, ◌<◌, ◌≤◌, ℕ, ◌^◌, [], map, option_map, Some, IfOk, OnOk, codes};
+ghost use Rattle.std.specs.String.{string_bytes};
+ghost use Rattle.clap.specs.Words.{IsAmong, app_of, first_value, found_of, kind_of, one_text, rule_of, with_rule};
+ghost use Rattle.clap.specs.declared.error.kind.ErrorKind.TheVariants.{OutOfMemory};
+ghost use Rattle.program_words.specs.Arguments.{program, number_rule, flag_rule, word_rule, refusals, given, file_named, number_of, is_true, is_set, OnUsage};
+ghost use Rattle.program_words.specs.Arguments.{file_of as the_file_of};
+ghost use Rattle.program_words.specs.Arguments.{IsOwn, IsOwnArg, IsOtherName, HoldsFrom};
+
+use crate::chosen::{Options, OptionsFault};
+use crate::version::VERSION;
+use clap::{Arg, ArgAction, ArgMatches, Command};
+use limits::{MAX_SHARDS, MAX_WORKERS};
+use std::alloc::{Alloc, AllocError, Global};
+use std::convert::AsStr;
+use std::env::{self, Env};
+use std::io;
+
+const ABOUT: &str = "Computes the minimum spanning forest of a graph in the .gr format.";
+
+const BEHIND_THE_HELP: &str = "Exit status:
+  0  Done
+  1  The file is refused, and its first fault is told; or it can't be cut so
+  2  Wrong arguments
+  3  FILE can't be opened, or a read or a write failed
+  4  No memory
+  5  What the workers answered makes no forest
+
+Over workers each round sends 4 bytes for each vertex and shard: 17 GB for 64
+shards of a graph of 67108864 vertices. --plain sends nothing. It is the fastest,
+and the one for files from strangers.
+
+Examples:
+  boruvka net.gr > forest.gr
+  gzip -dc net.gr.gz | boruvka --plain > forest.gr";
+
+fn workers_arg<'a>(alloc: Global) -> Arg<'a>
+    ensures own { IsOwnArg result }
+    ensures rule { rule_of result ≡ number_rule (codes "workers") (codes "2") 0 MAX_WORKERS }
+{
+    Arg::new(alloc, "workers")
+        .long("workers")
+        .value_name("N")
+        .help("How many workers scan the shards: 0 to 64")
+        .default_value("2")
+        .value_parser(clap::value_parser!(u32).range(0..=MAX_WORKERS as i64))
+}
+
+fn shards_arg<'a>(alloc: Global) -> Arg<'a>
+    ensures own { IsOwnArg result }
+    ensures rule { rule_of result ≡ number_rule (codes "shards") (codes "64") 1 MAX_SHARDS }
+{
+    Arg::new(alloc, "shards")
+        .long("shards")
+        .value_name("S")
+        .help("How many shards the links are cut into: 1 to 4096")
+        .default_value("64")
+        .value_parser(clap::value_parser!(u32).range(1..=MAX_SHARDS as i64))
+}
+
+fn flag<'a>(alloc: Global, name: &'a str, help: &'a str) -> Arg<'a>
+    requires { IsOtherName name.now }
+    ensures own { IsOwnArg result }
+    ensures rule { rule_of result ≡ flag_rule name.entry.now }
+{
+    Arg::new(alloc, name)
+        .long(name)
+        .help(help)
+        .action(ArgAction::SetTrue)
+}
+
+fn file_arg<'a>(alloc: Global) -> Arg<'a>
+    ensures own { IsOwnArg result }
+    ensures rule { rule_of result ≡ word_rule (codes "file") }
+{
+    Arg::new(alloc, "file")
+        .value_name("FILE")
+        .help("The graph; without it, or as -, standard input")
+}
+
+fn with<'a>(command: Command<'a>, arg: Arg<'a>) -> Result<Command<'a>, AllocError>
+    requires command { IsOwn command }
+    requires arg { IsOwnArg arg }
+    ensures own { IfOk result IsOwn }
+    ensures app { IfOk result (λ c. app_of c ≡ with_rule (app_of command.entry) (rule_of arg.entry)) }
+{
+    let longer = command.arg(arg)?;
+    Ok(longer)
+}
+
+fn the_command<'a>(alloc: Global) -> Result<Command<'a>, AllocError>
+    ensures own { IfOk result IsOwn }
+    ensures app { IfOk result (λ c. app_of c ≡ program) }
+{
+    let mut command = Command::new(alloc, "boruvka")
+        .version(VERSION)
+        .about(ABOUT)
+        .after_help(BEHIND_THE_HELP);
+    command = with(command, workers_arg(alloc))?;
+    command = with(command, shards_arg(alloc))?;
+    command = with(
+        command,
+        flag(alloc, "plain", "Solve in one thread, without workers"),
+    )?;
+    command = with(
+        command,
+        flag(alloc, "report", "Print what the run did to standard error"),
+    )?;
+    with(command, file_arg(alloc))
+}
+
+// The number under a name, or the default where there is none.
+fn number<'a>(matches: &ArgMatches<'a>, name: &str, default: u32) -> u32
+    ensures range { (low high : ℕ) → HoldsFrom matches.now name.now low high
+        → low ≤ default → default ≤ high → high < 2 ^ 32 → (low ≤ result) × (result ≤ high) }
+    ensures value { (low high : ℕ) → HoldsFrom matches.now name.now low high → high < 2 ^ 32
+        → result ≡ number_of (one_text (found_of matches.now) name.now) default }
+{
+    matches.get_one::<u32>(name).unwrap_or(default)
+}
+
+// Whether the flag of this name is set: clap keeps a flag as a text.
+fn is_set(matches: &ArgMatches<'_>, name: &str) -> bool
+    ensures { result ≡ is_true (first_value (found_of matches.now) name.now) }
+{
+    match matches.get_str(name) {
+        Some(text) => text == "true",
+        None => false,
+    }
+}
+
+// The file of a name: `-` is none, but standard input.
+fn file_of(alloc: Global, name: &str) -> Result<Option<String>, AllocError>
+    ensures { IfOk result (λ file. option_map string_bytes file ≡ the_file_of (Some name.now)) }
+{
+    if name == "-" {
+        return Ok(None);
+    }
+    let name = String::from_str(alloc, name)?;
+    Ok(Some(name))
+}
+
+/// All words of the command line, the program's name first.
+///
+/// The error's kind is `OutOfMemory` where memory was refused; else a word isn't UTF-8.
+pub fn all_words<R: Env + Alloc<A = Global>>(rt: &R) -> io::Result<Vec<String>> {
+    let words = env::args(rt)?.collect(rt.alloc())?;
+    Ok(words)
+}
+
+/// What the words ask for, the program's name first.
+///
+/// Words that the program doesn't take, those that ask for the help or the version, and numbers past their ranges are
+/// `Usage`. A FILE of the name `-` is none. What each word means is clap's to say; it is asked for the arguments above. In time and
+/// memory linear in the words.
+pub fn options<'a, S: AsStr>(alloc: Global, words: &'a [S]) -> Result<Options, OptionsFault>
+    // Words are taken only where nothing is wrong with them, and each sets what it names.
+    ensures lawful { OnOk result (refusals (map S.text words.entry.now) ≡ []) }
+    ensures workers { IfOk result (λ o.
+        o.workers ≡ number_of (given (map S.text words.entry.now) (codes "workers")) 2) }
+    ensures shards { IfOk result (λ o.
+        o.shards ≡ number_of (given (map S.text words.entry.now) (codes "shards")) 64) }
+    ensures plain { IfOk result (λ o.
+        o.plain ≡ is_set (map S.text words.entry.now) (codes "plain")) }
+    ensures report { IfOk result (λ o.
+        o.report ≡ is_set (map S.text words.entry.now) (codes "report")) }
+    ensures file { IfOk result (λ o.
+        option_map string_bytes o.file ≡ file_named (map S.text words.entry.now)) }
+
+    // The numbers are in their ranges.
+    ensures few_workers { IfOk result (λ o. o.workers ≤ MAX_WORKERS) }
+    ensures some_shards { IfOk result (λ o. 1 ≤ o.shards) }
+    ensures few_shards { IfOk result (λ o. o.shards ≤ MAX_SHARDS) }
+
+    // What is refused is refused for what is wrong with it; want of memory is answered as such.
+    ensures refused { OnUsage result (λ error.
+        IsAmong (kind_of error) (refusals (map S.text words.entry.now))) }
+    ensures memory { OnUsage result (λ error. kind_of error ≢ OutOfMemory) }
+{
+    let command = the_command(alloc)?;
+    let matches = command.try_get_matches_from(words)?;
+    let workers = number(&matches, "workers", 2);
+    let shards = number(&matches, "shards", 64);
+    let file = match matches.get_str("file") {
+        Some(name) => file_of(alloc, name)?,
+        None => None,
+    };
+    Ok(Options {
+        workers,
+        shards,
+        plain: is_set(&matches, "plain"),
+        report: is_set(&matches, "report"),
+        file,
+    })
+}

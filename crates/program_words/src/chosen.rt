@@ -1,0 +1,53 @@
+//! What the words of the command line ask for.
+ghost use Rattle.program_words.specs.Arguments.{IsCauseOf};
+
+use clap::error::ErrorKind;
+use std::alloc::AllocError;
+
+/// What the words ask for.
+#[derive(Debug, Drop)]
+pub struct Options {
+    /// How many workers scan the shards: 0 to 64.
+    pub workers: u32,
+    /// How many shards the links are cut into: 1 to 4,096.
+    pub shards: u32,
+    /// Whether the forest is found by one thread.
+    pub plain: bool,
+    /// Whether the report goes to standard error.
+    pub report: bool,
+    /// The file that is read; standard input where there is none.
+    pub file: Option<String>,
+}
+
+/// Why the words ask for nothing.
+#[derive(Debug, Drop)]
+pub enum OptionsFault {
+    /// They are none that the program takes, or they ask for the help; it has the text to print.
+    Usage(clap::Error),
+    /// Memory was refused, in judging the words or in keeping what they say.
+    Memory,
+}
+
+impl From<clap::Error> for OptionsFault {
+    ghost from_gives = { IsCauseOf };
+
+    fn from(error: clap::Error) -> Self
+        ensures { IsCauseOf error result }
+    {
+        if error.kind() == ErrorKind::OutOfMemory {
+            return OptionsFault::Memory;
+        }
+        OptionsFault::Usage(error)
+    }
+}
+
+impl From<AllocError> for OptionsFault {
+    ghost use Rattle.std.specs.Prelude.{◌≡◌};
+    ghost use Rattle.program_words.specs.declared.chosen.OptionsFault.TheVariants.{Memory};
+
+    ghost from_gives = { λ _ fault. fault ≡ Memory };
+
+    fn from(_error: AllocError) -> Self {
+        OptionsFault::Memory
+    }
+}

@@ -1,0 +1,28 @@
+//! The program's words, messages and statuses: what stands between a run and its user.
+//!
+//! ```text
+//!     words of the command line --options--> Options, or OptionsFault
+//!     Report, RunFault, FILE's name --write_report, write_fault, write_unopened--> a line on standard error
+//!     RunFault --status_of--> status
+//! ```
+//!
+//! What it promises:
+//! - Words are taken only if nothing is wrong with them, and each sets what it names; numbers are in their ranges.
+//! - A message is written whole, or up to the sink's first setback; a report and a fault have the texts that they are shown
+//!   as, and a fault has its status.
+//!
+//! Where to start a change: a new option, `arguments` and `chosen`, with the table in `specs/Arguments`; a message,
+//! `messages` and `specs/Messages`; a status, `statuses` and `specs/Statuses`.
+#![tactic(auto)]
+
+mod arguments;
+mod chosen;
+mod messages;
+mod statuses;
+mod version;
+
+pub use arguments::{all_words, options};
+pub use chosen::{Options, OptionsFault};
+pub use messages::{write_fault, write_no_text, write_report, write_text, write_unopened};
+pub use statuses::{ANSWERS, DEVICE, NO_MEMORY, USAGE, status_of};
+pub use version::VERSION;

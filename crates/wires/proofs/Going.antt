@@ -1,0 +1,41 @@
+-- What was sent and got over several calls.
+use Rattle.std.proofs.Common.{◌≡◌, ℕ, ◌+◌, List, [], ◌++◌, append-nil, sym, subst, arith}
+use Rattle.std.specs.Prelude.{Result, Ok, Err, IfErr}
+use Rattle.std.proofs.KnownBytes.{Appends-trans}
+use Rattle.port_trait.specs.declared.fault.PortFault.{PortFault}
+use Rattle.port_trait.specs.declared.fault.PortFault.TheVariants.{Down}
+use Rattle.wires.specs.Lines.{LineState, HasRoom, Transfers}
+use Rattle.wires.specs.Causes.{LineFailed, Receives, SendingFault}
+
+-- calls, and then more calls
+pub went_then : (f e f' e' : ℕ) (said came said' came' : List ℕ) (a b c : LineState)
+    → Transfers f e said came a b → Transfers f' e' said' came' b c → Transfers (f + f') (e + e') (said ++ said') (came ++ came') a c
+went_then f e f' e' said came said' came' a b c first second = record {
+  sent = λ no_failure. Appends-trans _ _ _ said said' (first.sent (omega (arith, no_failure))) (second.sent (omega (arith, no_failure)));
+  got = λ no_failure. Appends-trans _ _ _ came came' (first.got (omega (arith, no_failure))) (second.got (omega (arith, no_failure)));
+  failures = omega (arith, first.failures, second.failures);
+  ends = omega (arith, first.ends, second.ends);
+}
+
+-- calls that only got bytes, behind calls that sent some
+pub then_came : (a b c : LineState) (said came bytes : List ℕ) → Transfers 0 0 said came a b → Receives bytes b c → Transfers 0 0 said (came ++ bytes) a c
+then_came a b c said came bytes first second =
+    subst (λ (t : List ℕ). Transfers 0 0 t (came ++ bytes) a c) (append-nil said) (went_then 0 0 0 0 said came [] bytes a b c first second)
+
+-- room for one more count is kept by calls that pass
+pub room_kept : (a b : LineState) (said came : List ℕ) → HasRoom a → Transfers 0 0 said came a b → HasRoom b
+room_kept a b said came room went = record { failures = omega (arith, room.failures, went.failures); ends = omega (arith, room.ends, went.ends) }
+
+-- one failed call, whatever came before it
+pub failed_of : (a b : LineState) (said came : List ℕ) → Transfers 1 0 said came a b → LineFailed a b
+failed_of a b said came went = record { sent = λ no_failure. cc; got = λ no_failure. cc; failures = went.failures; ends = went.ends }
+
+pub then_failed : (a b c : LineState) (said came : List ℕ) → Transfers 0 0 said came a b → LineFailed b c → LineFailed a c
+then_failed a b c said came first second = failed_of a c (said ++ []) (came ++ []) (went_then 0 0 1 0 said came [] [] a b c first second)
+
+-- a part that wasn't put, behind one that was
+pub down_later : {T : Type 0} (r : Result T PortFault) (a b c : LineState) (said came : List ℕ) → Transfers 0 0 said came a b
+    → IfErr r (λ e. e ≡ Down) → IfErr r (λ e. SendingFault e b c) → IfErr r (λ e. SendingFault e a c)
+down_later (Ok put) a b c said came went down fault = tt
+down_later (Err e) a b c said came went down fault =
+    subst (λ (f : PortFault). SendingFault f a c) (sym down) (then_failed a b c said came went (subst (λ (f : PortFault). SendingFault f b c) down fault))

@@ -1,0 +1,270 @@
+-- A wire from call to call.
+use Rattle.std.proofs.Common.{◌≡◌, ◌≢◌, ℕ, ◌<◌, List, [], ◌∷◌, ◌++◌, length, Some, refl, sym, ap, subst, ◌∙◌, append_assoc, inl, inr, arith}
+use Rattle.std.specs.Prelude.{◌+◌, Option, None, IsSome, IfSome, true, false, if◌then◌else◌}
+use Rattle.std.proofs.lemmas.List.{length-append}
+use Rattle.std.proofs.lemmas.List.Elements.{All-nil}
+use Rattle.limits.specs.declared.TheConstants.{MAX_WORKERS}
+use Rattle.links.specs.declared.links.Link.{Link}
+use Rattle.links.specs.Link.{EndsUpTo}
+use Rattle.links.specs.Cut.{links_at}
+use Rattle.links.specs.AnswerValue.{AnswerValue}
+use Rattle.frames.specs.FrameValue.{FrameValue, HelloFrame, ShardFrame, AskFrame, AnswerFrame, FaultFrame}
+use Rattle.frames.specs.FrameText.{text_of}
+use Rattle.frames.specs.Lawful.{IsShard, IsAsk}
+use Rattle.port_trait.specs.declared.fault.PortFault.{PortFault}
+use Rattle.port_trait.specs.declared.fault.PortFault.TheVariants.{Down, Garbled, WrongHello, Gave, Memory, TooOld, Closed}
+use Rattle.shard_set.specs.Shards.{has_shard}
+use Rattle.wires.specs.Lines.{LineState, IsFresh, HasKnownBytes, Counted, ServesSoFar}
+use Rattle.port_trait.specs.Ports.{IsHonestAnswer, failure_of, want_of}
+use Rattle.wires.specs.Causes.{GoesDown, IsWanting, Cause, CountedFault, IsBlameless}
+use Rattle.port_trait.specs.Exchanges.{Exchange, exchange_of}
+use Rattle.wires.specs.Clients.{Client, ClientState, seen_client, shard_due, frames_put, Brings, EndsAfterAsk, AnswersOverLine, IsOfCut, MatchesLine}
+use Rattle.wires.specs.Wires.{WireState, last_ask, IsQuiet, IsCountedWire, IsFaultless, IsTrueSoFar, WireCause}
+use Rattle.wires.proofs.Asking.{all_brought, step_more, honest_answer, blameless}
+
+known_none : (known : Option (List ℕ)) → IsSome known → IfSome known (λ bytes. bytes ≡ []) → known ≡ Some []
+known_none None known none = cc
+known_none (Some bytes) known none = ap (λ t. Some t) none
+
+-- a client that said nothing yet, over a fresh line whose bytes are known
+pub fresh_step : (client : Client) → IsFresh client.line → HasKnownBytes client.line → client.version ≡ None → ((s : ℕ) → has_shard client.sent s ≡ false) → MatchesLine client [] []
+fresh_step client fresh known quiet none = record {
+  no_failure = fresh.failures;
+  sent = known_none client.line.sent known.sent fresh.sent;
+  lawful = tt;
+  only = All-nil (IsOfCut client.cut);
+  once = λ s. sym (ap (λ b. if b then 1 else 0) (none s));
+  needed = λ s there. absurd (let nothing = none s in cc);
+  asked = refl;
+  first = tt;
+  gave = record { got = rw quiet (known_none client.line.got known.got fresh.got); lawful = tt; known = rw quiet tt; silent = λ e. refl };
+  has = rw quiet refl;
+  shelves = λ s within. sym (ap (λ b. if b then Some (links_at client.cut s) else None) (none s));
+}
+
+-- the last ask of frames that end in one
+last_put : (last : ℕ × ℕ) (said : List FrameValue) (round shard : ℕ) (labels : List ℕ) → last_ask last (said ++ AskFrame round shard labels ∷ []) ≡ (round, shard)
+last_put last [] round shard labels = refl
+last_put last (AskFrame r s ls ∷ said) round shard labels = last_put (r, s) said round shard labels
+last_put last (HelloFrame v w ∷ said) round shard labels = last_put last said round shard labels
+last_put last (ShardFrame n ls ∷ said) round shard labels = last_put last said round shard labels
+last_put last (AnswerFrame a ∷ said) round shard labels = last_put last said round shard labels
+last_put last (FaultFrame r s c ∷ said) round shard labels = last_put last said round shard labels
+
+-- an ask that was open never ends with Closed
+pub not_closed : {L : Type 0} (state : L → LineState) (round shard : ℕ) (labels : List ℕ) (before after : ClientState L) (fault : PortFault) → Cause state fault round shard labels before after → fault ≢ Closed
+not_closed state round shard labels before after fault cause same = subst (λ (f : PortFault). Cause state f round shard labels before after) same cause
+
+-- ---- by what the line counts
+
+-- what was counted in two steps, none of it in the first
+quiet_first : (failed ended : ℕ) (a b c : LineState) → Counted 0 0 a b → Counted failed ended b c → Counted failed ended a c
+quiet_first failed ended a b c first behind = (omega (arith, first.0, behind.0), omega (arith, first.1, behind.1))
+
+down_counted : (before after : LineState) → GoesDown before after → CountedFault Down before after
+down_counted before after down = elim down [
+  | inl failed ↦ inl (failed.failures, failed.ends)
+  | inr ended ↦ inr (ended.2.failures, ended.2.ends)
+]
+
+module _ {L : Type 0} (state : L → LineState) (round shard : ℕ) (labels : List ℕ) (before after : ClientState L) where
+  brought_counted : (bytes : List ℕ) → Brings state round shard labels bytes before after → Counted 0 0 (state before.line) (state after.line)
+  brought_counted bytes brought = (let first = brought.sends.went in let behind = brought.came in (omega (arith, first.failures, behind.failures), omega (arith, first.ends, behind.ends)))
+
+  pub answer_counted : (a : AnswerValue) → AnswersOverLine state round shard labels a before after → Counted 0 0 (state before.line) (state after.line)
+  answer_counted a asked = brought_counted (text_of (AnswerFrame a)) asked.brought
+
+  ended_counted : (bytes : List ℕ) → EndsAfterAsk state round shard labels bytes before after → Counted 0 1 (state before.line) (state after.line)
+  ended_counted bytes ended = (let first = ended.sends.went in let behind = ended.came in (omega (arith, first.failures, behind.failures), omega (arith, first.ends, behind.ends)))
+
+  wanting_counted : IsWanting state round shard labels before after → Counted 0 0 (state before.line) (state after.line)
+  wanting_counted (IsWanting.InHello none) = (let went = none.1.2 in (went.failures, went.ends))
+  wanting_counted (IsWanting.InShard unsent put) = (put.1.went.failures, put.1.went.ends)
+  wanting_counted (IsWanting.InAsk put) = (put.1.went.failures, put.1.went.ends)
+  wanting_counted (IsWanting.InReply bytes none brought) = brought_counted bytes brought
+
+  -- each cause of a fault has its counts
+  pub cause_counted : (fault : PortFault) → Cause state fault round shard labels before after → CountedFault fault (state before.line) (state after.line)
+  cause_counted Down cause = elim cause [
+    | inl failed ↦ inl (failed.failures, failed.ends)
+    | inr ended ↦ elim ended [
+      | inl greeting ↦ down_counted (state before.line) (state after.line) greeting.1
+      | inr reply ↦ inr (ended_counted reply.0 reply.2)
+    ]
+  ]
+  cause_counted Garbled cause = elim cause [
+    | inl greeting ↦ let went = greeting.1.2 in (went.failures, went.ends)
+    | inr reply ↦ brought_counted reply.0 reply.2
+  ]
+  cause_counted WrongHello cause = (let went = cause.1.3 in (went.failures, went.ends))
+  cause_counted (Gave code) cause = brought_counted cause.0 cause.2
+  cause_counted Memory cause = wanting_counted cause
+  cause_counted TooOld cause = (cause.sends.went.failures, cause.sends.went.ends)
+  cause_counted Closed cause = cause
+
+module _ {L : Type 0} (state : L → LineState) (old new : WireState L) (start : LineState) (live : old.is_open ≡ true) where
+  -- one that is open is quiet
+  quiet_open : IsCountedWire state old start → IsQuiet state old start
+  quiet_open counted = elim counted [
+    | inl quiet ↦ quiet
+    | inr faulted ↦ (let closed = faulted.closed in cc)
+  ]
+
+  -- an ask of it that was answered, and one that wasn't
+  pub quiet_more : Counted 0 0 (state old.client.line) (state new.client.line) → new.failures ≡ old.failures → new.wants ≡ old.wants → IsCountedWire state old start → IsCountedWire state new start
+  quiet_more more failures wants counted =
+      let quiet = quiet_open counted in
+      inl (record { counted = quiet_first 0 0 start (state old.client.line) (state new.client.line) quiet.counted more; failures = failures ∙ quiet.failures; wants = wants ∙ quiet.wants })
+
+  pub faulted_more : (fault : PortFault) → CountedFault fault (state old.client.line) (state new.client.line) → new.is_open ≡ false → new.failures ≡ old.failures + failure_of fault → new.wants ≡ old.wants + want_of fault
+      → IsCountedWire state old start → IsCountedWire state new start
+  faulted_more fault more closed failures wants counted =
+      let quiet = quiet_open counted in
+      inr (record { closed = closed; fault = fault; counted = fault_since fault quiet.counted more; failures = omega (arith, failures, quiet.failures); wants = omega (arith, wants, quiet.wants) })
+    where
+      fault_since : (fault : PortFault) → Counted 0 0 start (state old.client.line) → CountedFault fault (state old.client.line) (state new.client.line) → CountedFault fault start (state new.client.line)
+      fault_since Down first behind = elim behind [
+        | inl failed ↦ inl (quiet_first 1 0 start (state old.client.line) (state new.client.line) first failed)
+        | inr ended ↦ inr (quiet_first 0 1 start (state old.client.line) (state new.client.line) first ended)
+      ]
+      fault_since Garbled first behind = quiet_first 0 0 start (state old.client.line) (state new.client.line) first behind
+      fault_since WrongHello first behind = quiet_first 0 0 start (state old.client.line) (state new.client.line) first behind
+      fault_since (Gave code) first behind = quiet_first 0 0 start (state old.client.line) (state new.client.line) first behind
+      fault_since Memory first behind = quiet_first 0 0 start (state old.client.line) (state new.client.line) first behind
+      fault_since TooOld first behind = quiet_first 0 0 start (state old.client.line) (state new.client.line) first behind
+      fault_since Closed first behind = behind
+
+module _ {L : Type 0} (state : L → LineState) where
+  -- a wire that was never asked
+  pub new_quiet : (wire : WireState L) → wire.failures ≡ 0 → wire.wants ≡ 0 → IsCountedWire state wire (state wire.client.line)
+  new_quiet wire failures wants = inl (record { counted = (omega arith, omega arith); failures = failures; wants = wants })
+
+  -- one that is shut keeps what it counted
+  pub counted_shut : (wire : WireState L) (start : LineState) → IsCountedWire state wire start → IsCountedWire state (record wire { is_open = false }) start
+  counted_shut wire start counted = elim counted [
+    | inl quiet ↦ inl (record { counted = quiet.counted; failures = quiet.failures; wants = quiet.wants })
+    | inr faulted ↦ inr (record { closed = refl; fault = faulted.fault; counted = faulted.counted; failures = faulted.failures; wants = faulted.wants })
+  ]
+
+module _ {L : Type 0} (state : L → LineState) where
+  -- a wire that asked nothing yet, over a fresh line whose bytes are known
+  pub fresh_faultless : (wire : WireState L) (ends : ℕ) → IsFresh (state wire.client.line) → HasKnownBytes (state wire.client.line) → (state wire.client.line).ends ≡ ends → wire.client.version ≡ None → ((s : ℕ) → has_shard wire.client.sent s ≡ false)
+      → wire.asks ≡ 0 → wire.failures ≡ 0 → wire.wants ≡ 0 → wire.last ≡ (0, 0) → IsFaultless state ends wire [] []
+  fresh_faultless wire ends fresh known ends_are quiet none asks failures wants last = record {
+    in_step = fresh_step (seen_client state wire.client) fresh known quiet none;
+    ends_are = ends_are;
+    asks = asks;
+    failures = failures;
+    wants = wants;
+    last = last;
+  }
+
+  -- one that is open is faultless
+  pub faultless_open : (kind : PortFault → Type 0) (wire : WireState L) (ends : ℕ) (exchanges : List Exchange) → wire.is_open ≡ true → IsTrueSoFar state kind wire ends exchanges
+      → (said : List FrameValue) × IsFaultless state ends wire said exchanges
+  faultless_open kind wire ends exchanges live went = elim went [
+    | inl faultless ↦ faultless
+    | inr failed ↦ cc
+  ]
+
+  -- one that is shut stays what it was
+  pub went_shut : (kind : PortFault → Type 0) (wire : WireState L) (ends : ℕ) (exchanges : List Exchange) → IsTrueSoFar state kind wire ends exchanges → IsTrueSoFar state kind (record wire { is_open = false }) ends exchanges
+  went_shut kind wire ends exchanges went = elim went [
+    | inl on ↦ let faultless = on.1 in
+        inl (on.0, record { in_step = faultless.in_step; ends_are = faultless.ends_are; asks = faultless.asks; failures = faultless.failures; wants = faultless.wants; last = faultless.last })
+    | inr off ↦ let failed = off.1 in
+        inr (
+          refl,
+          record {
+            before = failed.before;
+            said = failed.said;
+            faultless = failed.faultless;
+            was_open = failed.was_open;
+            same_cut = failed.same_cut;
+            same_worker = failed.same_worker;
+            fault = failed.fault;
+            is_kind = failed.is_kind;
+            in_cut = failed.in_cut;
+            labels = failed.labels;
+            cause = failed.cause;
+            asks = failed.asks;
+            failures = failed.failures;
+            wants = failed.wants;
+          },
+        )
+  ]
+
+  -- ---- one ask of an open wire
+
+  module _ (round shard : ℕ) (labels : List ℕ) (old new : WireState L) (in_cut : shard < length old.client.cut) (live : old.is_open ≡ true) (asks : new.asks ≡ old.asks + 1) (last : new.last ≡ (round, shard)) where
+    -- it was answered
+    module _ (is : IsShard shard (links_at old.client.cut shard)) (ask : IsAsk round shard labels) (a : AnswerValue) (asked : AnswersOverLine state round shard labels a old.client new.client) where
+      pub answered : (kind kind' : PortFault → Type 0) (ends : ℕ) (exchanges : List Exchange) → new.failures ≡ old.failures → new.wants ≡ old.wants → IsTrueSoFar state kind old ends exchanges
+          → IsTrueSoFar state kind' new ends (exchanges ++ exchange_of round shard labels a ∷ [])
+      answered kind kind' ends exchanges failures wants went =
+          let (said, faultless) = faultless_open kind old ends exchanges live went in
+          let first : List FrameValue = shard_due (has_shard old.client.sent shard) shard (links_at old.client.cut shard) in
+          inl (
+            said ++ frames_put (seen_client state old.client) round shard labels,
+            record {
+              in_step = step_more state round shard labels a old.client new.client asked in_cut is ask said exchanges faultless.in_step;
+              ends_are = omega (arith, (all_brought state round shard labels _ old.client new.client asked.brought).ends, faultless.ends_are);
+              asks = omega (arith, asks, faultless.asks, length-append exchanges (exchange_of round shard labels a ∷ []));
+              failures = failures ∙ faultless.failures;
+              wants = wants ∙ faultless.wants;
+              last = last ∙ sym (ap (last_ask (0, 0)) (sym (append_assoc said first (AskFrame round shard labels ∷ []))) ∙ last_put (0, 0) (said ++ first) round shard labels);
+            },
+          )
+
+    -- it wasn't
+    module _ (fault : PortFault) (cause : WireCause state fault round shard labels old new) where
+      pub failed : (kind kind' : PortFault → Type 0) (ends : ℕ) (exchanges : List Exchange) → kind' fault → new.is_open ≡ false → new.client.cut ≡ old.client.cut → new.client.worker ≡ old.client.worker
+          → new.failures ≡ old.failures + failure_of fault → new.wants ≡ old.wants + want_of fault → IsTrueSoFar state kind old ends exchanges → IsTrueSoFar state kind' new ends exchanges
+      failed kind kind' ends exchanges is_kind closed cut worker failures wants went =
+          let (said, faultless) = faultless_open kind old ends exchanges live went in
+          let round_is : round ≡ new.last.0 = ap (λ (p : ℕ × ℕ). p.0) (sym last) in
+          let shard_is : shard ≡ new.last.1 = ap (λ (p : ℕ × ℕ). p.1) (sym last) in
+          inr (
+            closed,
+            record {
+              before = old;
+              said = said;
+              faultless = faultless;
+              was_open = live;
+              same_cut = cut;
+              same_worker = worker;
+              fault = fault;
+              is_kind = is_kind;
+              in_cut = subst (λ (s : ℕ). s < length new.client.cut) shard_is (subst (λ (c : List (List Link)). shard < length c) (sym cut) in_cut);
+              labels = labels;
+              cause = subst (λ (r : ℕ). WireCause state fault r new.last.1 labels old new) round_is (subst (λ (s : ℕ). WireCause state fault round s labels old new) shard_is cause);
+              asks = asks;
+              failures = omega (arith, failures, faultless.failures);
+              wants = omega (arith, wants, faultless.wants);
+            },
+          )
+
+  -- ---- what a faithful line leads to, whatever the wire counts
+
+  module _ (round shard : ℕ) (labels : List ℕ) (old : WireState L) (new : ClientState L) (in_cut : shard < length old.client.cut) (live : old.is_open ≡ true) (is : IsShard shard (links_at old.client.cut shard)) (ask : IsAsk round shard labels)
+      (below : old.client.worker < MAX_WORKERS) (kind : PortFault → Type 0) where
+    -- what is known of the line by the end of the ask is enough
+    pub served_answer : (a : AnswerValue) → AnswersOverLine state round shard labels a old.client new → (ends : ℕ) (exchanges : List Exchange) → IsTrueSoFar state kind old ends exchanges → ServesSoFar old.client.worker (state new.line)
+        → IsHonestAnswer old.client.cut round shard labels a
+    served_answer a asked ends exchanges went serves =
+        let (said, faultless) = faultless_open kind old ends exchanges live went in
+        honest_answer state round shard labels old.client new said exchanges faultless.in_step below serves in_cut is ask a asked
+
+    module _ (line line' : ℕ → Type 0) (kept : (w : ℕ) → line w → line' w) (serves : (w : ℕ) → line' w → ServesSoFar w (state new.line)) (honest : line old.client.worker × ((ends : ℕ) × (exchanges : List Exchange) × IsTrueSoFar state kind old ends exchanges)) where
+      pub light_answer : (a : AnswerValue) → AnswersOverLine state round shard labels a old.client new → IsHonestAnswer old.client.cut round shard labels a
+      light_answer a asked =
+          let (carries, some) = honest in
+          let (ends, exchanges, went) = some in
+          served_answer a asked ends exchanges went (serves old.client.worker (kept old.client.worker carries))
+
+      pub blameless_fault : (fault : PortFault) → EndsUpTo (length labels) (links_at old.client.cut shard) → Cause state fault round shard labels old.client new → IsBlameless fault
+      blameless_fault fault ends cause =
+          let (carries, some) = honest in
+          let (found, exchanges, went) = some in
+          let (said, faultless) = faultless_open kind old found exchanges live went in
+          blameless state round shard labels old.client new said exchanges faultless.in_step below (serves old.client.worker (kept old.client.worker carries)) in_cut is ask fault ends cause

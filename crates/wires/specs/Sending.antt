@@ -1,0 +1,21 @@
+-- A shard that goes out by pieces.
+use Rattle.std.specs.Prelude.{◌≡◌, ◌+◌, ◌*◌, ◌≤◌, ℕ, min, List, ◌++◌, length, Vec, vec_len, vec_capacity}
+use Rattle.std.specs.List.{flat_map}
+use Rattle.links.specs.declared.links.Link.{Link}
+use Rattle.frames.specs.declared.encoding.TheConstants.{SHARD_HEAD}
+use Rattle.frames.specs.declared.spelling.Spelling.{Spelling}
+use Rattle.frames.specs.Spellings.{spelled_in, size_in, FitIn}
+use Rattle.wires.specs.Lines.{LineState}
+use Rattle.wires.specs.Causes.{Transmits}
+
+-- links that fit this spelling, and a text no longer than a shard's head, whose room is 64 KiB or that of a head and all these links
+pub record AwaitsLinks {A : Type 0} (s : Spelling) (links : List Link) (text : Vec ℕ A) : Type 0 where
+  pub fit : FitIn s links
+  pub begun : vec_len text ≤ SHARD_HEAD
+  pub room : min 65536 (SHARD_HEAD + size_in s * length links) ≤ vec_capacity text
+
+-- a text and the first of these links were put behind each other, and the rest of them is left
+pub record PutsSome (s : Spelling) (text : List ℕ) (links rest : List Link) (before after : LineState) : Type 0 where
+  pub first : List Link
+  pub parted : links ≡ first ++ rest
+  pub went : Transmits (text ++ flat_map (spelled_in s) first) before after

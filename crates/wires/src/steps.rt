@@ -1,0 +1,283 @@
+//! The steps of an ask over a line: hear the hello, send the shard by pieces, send the ask, hear the answer.
+ghost use Rattle.std.specs.Prelude.{◌≡◌, ℕ, ◌<◌, ◌≤◌, ◌==◌, ◌||◌, [], ◌++◌, length, Some, None, IfSome, IfOk, OnOk, IfErr};
+ghost use Rattle.std.specs.List.{flat_map};
+ghost use Rattle.frames.specs.FrameValue.{ShardFrame, AskFrame, AnswerFrame, value_of};
+ghost use Rattle.frames.specs.FrameText.{text_of};
+ghost use Rattle.frames.specs.Lawful.{IsVersion, IsAnswer, IsLawful};
+ghost use Rattle.frames.specs.FrameStream.{texts_of};
+ghost use Rattle.frames.specs.Spellings.{spelled_in, spelling_of};
+ghost use Rattle.shard_set.specs.Shards.{has_shard};
+ghost use Rattle.wires.specs.Lines.{HasRoom};
+ghost use Rattle.wires.specs.Causes.{Transmits, Receives, GreetingFault, SendingFault, LacksFrame, AnswerFault, FailsToRead, port_fault};
+ghost use Rattle.wires.specs.Clients.{HasFrames, hello_due, shard_put};
+ghost use Rattle.wires.specs.Sending.{AwaitsLinks, PutsSome};
+
+use crate::line::Line;
+use crate::line_source::LineSource;
+use frames::{
+    Answer, Frame, FrameFault, SHARD_HEAD, Spelling, VERSION, ask_parts, encode_ask_over,
+    fit_32_bits, put_links, read_frame, shard_head,
+};
+use limits::{MAX_SHARD_LINKS, MAX_SHARDS};
+use links::{Labels, Link, Shard};
+use port_trait::PortFault;
+use shard_set::ShardSet;
+use std::alloc::{AllocError, Allocator};
+
+// The version of the worker's hello; hears the hello, unless it came before, of the version `heard`.
+pub fn greet<L: Line, A: Allocator + Copy>(
+    alloc: A,
+    source: &mut LineSource<L>,
+    heard: Option<u16>,
+    worker: u32,
+) -> Result<u16, PortFault>
+    requires room { HasRoom (L.state source.old.line) }
+    requires known { IfSome heard IsVersion }
+    ensures went { IfOk result (λ version.
+        Receives (hello_due heard version worker) (L.state source.old.line) (L.state source.new.line)) }
+    ensures known { IfOk result (λ version. IsVersion version) }
+    ensures stays { IfOk result (λ version. (v : ℕ) → heard ≡ Some v → v ≡ version) }
+    ensures fault { IfErr result (λ e. (heard ≡ None)
+        × GreetingFault e worker (L.state source.old.line) (L.state source.new.line)) }
+    ensures faithful { (w : ℕ) → L.faithful source.old.line w → L.faithful source.new.line w }
+{
+    if let Some(version) = heard {
+        return Ok(version);
+    }
+    match hear(alloc, source) {
+        Ok(
+            Frame::Hello {
+                version,
+                worker: number,
+            },
+        ) => {
+            if number == worker {
+                Ok(version)
+            } else {
+                Err(PortFault::WrongHello)
+            }
+        }
+        Ok(_) => Err(PortFault::WrongHello),
+        Err(fault) => Err(fault_of(fault)),
+    }
+}
+
+// Whether a worker of this version has a frame for the shard, unless it was sent before.
+pub fn check_version(version: u16, sent: &ShardSet, part: &Shard) -> Result<(), PortFault>
+    requires { IsVersion version }
+    ensures has { OnOk result (HasFrames version (shard_put sent.now part.now.number part.now.links.now)) }
+    ensures fault { IfErr result (λ e. LacksFrame e version (has_shard sent.now part.now.number) part.now.links.now) }
+{
+    if version == VERSION || sent.has(part.number) || fit_32_bits(part.links) {
+        return Ok(());
+    }
+    Err(PortFault::TooOld)
+}
+
+// How many bytes of a shard go out by one put, at most.
+const MOST: usize = 1 << 16;
+
+// Sends the shard, unless it was sent before. It goes out by puts of at most 64 KiB, so that the worker makes links of
+// one while the next is made, and its text never stands in memory as a whole. A shard of few links is one put, for a
+// socket sends each at once, and two would wake the worker twice. Room for a put is taken in the text before the first.
+pub fn send_shard<L: Line, A: Allocator + Copy>(
+    line: &mut L,
+    text: &mut Vec<u8, A>,
+    sent: &mut ShardSet,
+    part: &Shard,
+) -> Result<(), PortFault>
+    requires can { HasRoom (L.state line.old) }
+    requires number { part.now.number < MAX_SHARDS }
+    requires count { length part.now.links.now ≤ MAX_SHARD_LINKS }
+    ensures went { OnOk result (Transmits (texts_of (shard_put sent.old part.now.number part.now.links.now))
+        (L.state line.old) (L.state line.new)) }
+    ensures sent { OnOk result ((s : ℕ)
+        → has_shard sent.new s ≡ (s == part.now.number || has_shard sent.old s)) }
+    ensures fault { IfErr result (λ e. SendingFault e (L.state line.old) (L.state line.new)) }
+    ensures faithful { (w : ℕ) → L.faithful line.old w → L.faithful line.new w }
+{
+    if sent.has(part.number) {
+        return Ok(());
+    }
+    let spelling = Spelling::of(part.links);
+    begin_shard(text, part, spelling)?;
+    send_links(line, text, spelling, part.links)?;
+    sent.insert(part.number);
+    Ok(())
+}
+
+// What stands before the links of a shard, in place of another text, and room for the links of a put.
+fn begin_shard<A: Allocator>(
+    text: &mut Vec<u8, A>,
+    part: &Shard,
+    spelling: Spelling,
+) -> Result<(), AllocError>
+    requires number { part.now.number < MAX_SHARDS }
+    requires count { length part.now.links.now ≤ MAX_SHARD_LINKS }
+    requires spelling { spelling_of part.now.links.now ≡ spelling }
+    ensures begun { OnOk result (text.new.items ++ flat_map (spelled_in spelling) part.now.links.now
+        ≡ text_of (ShardFrame part.now.number part.now.links.now)) }
+    ensures awaits { OnOk result (AwaitsLinks spelling part.now.links.now text.new) }
+{
+    let room = SHARD_HEAD + spelling.bytes_of(part.links.len());
+    text.clear();
+    text.reserve(room.min(MOST))?;
+    text.extend_from_slice(&shard_head(part, spelling))
+}
+
+// Sends what stands in the text, and the links behind it.
+fn send_links<L: Line, A: Allocator>(
+    line: &mut L,
+    text: &mut Vec<u8, A>,
+    spelling: Spelling,
+    links: &[Link],
+) -> Result<(), PortFault>
+    requires can { HasRoom (L.state line.old) }
+    requires awaits { AwaitsLinks spelling links.now text.old }
+    ensures went { OnOk result (Transmits (text.old.items ++ flat_map (spelled_in spelling) links.now)
+        (L.state line.old) (L.state line.new)) }
+    ensures fault { IfErr result (λ e. SendingFault e (L.state line.old) (L.state line.new)) }
+    ensures faithful { (w : ℕ) → L.faithful line.old w → L.faithful line.new w }
+{
+    let mut rest = send_piece(line, text, spelling, links)?;
+    while !rest.is_empty() {
+        rest = send_piece(line, text, spelling, rest)?;
+    }
+    Ok(())
+}
+
+// Sends what stands in the text, and as many links behind it as a put has room for. It answers the others.
+fn send_piece<'a, L: Line, A: Allocator>(
+    line: &mut L,
+    text: &mut Vec<u8, A>,
+    spelling: Spelling,
+    links: &'a [Link],
+) -> Result<&'a [Link], PortFault>
+    requires can { HasRoom (L.state line.old) }
+    requires awaits { AwaitsLinks spelling links.now text.old }
+    ensures went { IfOk result (λ rest. PutsSome spelling text.old.items links.now rest.now
+        (L.state line.old) (L.state line.new)) }
+    ensures fewer { IfOk result (λ rest. 0 < length links.now → length rest.now < length links.now) }
+    ensures emptied { OnOk result (text.new.items ≡ []) }
+    ensures awaits { IfOk result (λ rest. AwaitsLinks spelling rest.now text.new) }
+    ensures down { IfErr result (λ e. e ≡ PortFault.Down) }
+    ensures fault { IfErr result (λ e. SendingFault e (L.state line.old) (L.state line.new)) }
+    ensures faithful { (w : ℕ) → L.faithful line.old w → L.faithful line.new w }
+{
+    let most = spelling.links_in(MOST - SHARD_HEAD);
+    let (piece, rest) = links.split_at(links.len().min(most));
+    put_links(text, spelling, piece);
+    send(line, text.as_slice())?;
+    text.clear();
+    Ok(rest)
+}
+
+// From so many bytes of labels on an ask goes out by two puts.
+const LONG: usize = 1 << 16;
+
+// Sends the ask. Many labels that keep their bytes lend them to it, behind a put of what stands before them. Else its
+// text takes the place of that of the last one, and goes out by one put.
+pub fn send_ask<L: Line, A: Allocator + Copy>(
+    line: &mut L,
+    text: &mut Vec<u8, A>,
+    round: u32,
+    shard: u32,
+    labels: &Labels<A>,
+) -> Result<(), PortFault>
+    requires can { HasRoom (L.state line.old) }
+    requires shard { shard < MAX_SHARDS }
+    ensures went { OnOk result (Transmits (text_of (AskFrame round shard labels.now))
+        (L.state line.old) (L.state line.new)) }
+    ensures fault { IfErr result (λ e. SendingFault e (L.state line.old) (L.state line.new)) }
+    ensures faithful { (w : ℕ) → L.faithful line.old w → L.faithful line.new w }
+{
+    if let Some(parts) = ask_parts(round, shard, labels) {
+        if parts.1.len() >= LONG {
+            return send_both(line, &parts.0, parts.1);
+        }
+    }
+    encode_ask_over(text, round, shard, labels)?;
+    send(line, text.as_slice())
+}
+
+// Hears the answer, whatever it says.
+pub fn hear_answer<L: Line, A: Allocator + Copy>(
+    alloc: A,
+    source: &mut LineSource<L>,
+) -> Result<Answer<A>, PortFault>
+    requires { HasRoom (L.state source.old.line) }
+    ensures went { IfOk result (λ a.
+        Receives (text_of (AnswerFrame a)) (L.state source.old.line) (L.state source.new.line)) }
+    ensures lawful { IfOk result (λ a. IsAnswer a) }
+    ensures fault { IfErr result
+        (λ e. AnswerFault e (L.state source.old.line) (L.state source.new.line)) }
+    ensures faithful { (w : ℕ) → L.faithful source.old.line w → L.faithful source.new.line w }
+{
+    match hear(alloc, source) {
+        Ok(Frame::Answer(answer)) => Ok(answer),
+        Ok(
+            Frame::Fault {
+                round: _,
+                shard: _,
+                code,
+            },
+        ) => Err(PortFault::Gave(code)),
+        Ok(_) => Err(PortFault::Garbled),
+        Err(fault) => Err(fault_of(fault)),
+    }
+}
+
+// Hears the next frame. The one place that looks at what reads of a line keep true.
+fn hear<L: Line, A: Allocator + Copy>(
+    alloc: A,
+    source: &mut LineSource<L>,
+) -> Result<Frame<A>, FrameFault>
+    requires { HasRoom (L.state source.old.line) }
+    ensures went { IfOk result (λ f.
+        Receives (text_of (value_of f)) (L.state source.old.line) (L.state source.new.line)) }
+    ensures lawful { IfOk result (λ f. IsLawful (value_of f)) }
+    ensures broke { IfErr result
+        (λ fault. FailsToRead fault (L.state source.old.line) (L.state source.new.line)) }
+    ensures faithful { (w : ℕ) → L.faithful source.old.line w → L.faithful source.new.line w }
+{
+    read_frame(alloc, source)
+}
+
+// Sends a whole text by one put.
+fn send<L: Line>(line: &mut L, bytes: &[u8]) -> Result<(), PortFault>
+    requires { HasRoom (L.state line.old) }
+    ensures went { OnOk result (Transmits bytes.now (L.state line.old) (L.state line.new)) }
+    ensures fault { IfErr result (λ e. SendingFault e (L.state line.old) (L.state line.new)) }
+    ensures down { IfErr result (λ e. e ≡ PortFault.Down) }
+    ensures faithful { (w : ℕ) → L.faithful line.old w → L.faithful line.new w }
+{
+    match line.put(bytes) {
+        Ok(()) => Ok(()),
+        Err(_) => Err(PortFault::Down),
+    }
+}
+
+// Sends a text in two parts, by a put for each.
+fn send_both<L: Line>(line: &mut L, front: &[u8], rest: &[u8]) -> Result<(), PortFault>
+    requires { HasRoom (L.state line.old) }
+    ensures went { OnOk result (Transmits (front.now ++ rest.now) (L.state line.old) (L.state line.new)) }
+    ensures fault { IfErr result (λ e. SendingFault e (L.state line.old) (L.state line.new)) }
+    ensures faithful { (w : ℕ) → L.faithful line.old w → L.faithful line.new w }
+{
+    send(line, front)?;
+    send(line, rest)
+}
+
+// What a wire answers where no frame could be read.
+fn fault_of(fault: FrameFault) -> PortFault
+    ensures { result ≡ port_fault fault }
+{
+    match fault {
+        FrameFault::Ended | FrameFault::Torn | FrameFault::Device => PortFault::Down,
+        FrameFault::Memory => PortFault::Memory,
+        FrameFault::BadKind
+        | FrameFault::BadLength
+        | FrameFault::BadVersion
+        | FrameFault::BadField => PortFault::Garbled,
+    }
+}

@@ -1,5 +1,0 @@
-use Rattle.worker_engine.proofs.Replying.{prefix_has_prefix_replies}
-use Rattle.worker_engine.proofs.laws.prefix_has_prefix_replies.Goals as goal
-
-pub returns : goal.returns
-returns c = prefix_has_prefix_replies

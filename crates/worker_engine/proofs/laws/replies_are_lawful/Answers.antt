@@ -1,5 +1,0 @@
-use Rattle.worker_engine.proofs.Replying.{served_lawful}
-use Rattle.worker_engine.proofs.laws.replies_are_lawful.Goals as goal
-
-pub returns : goal.returns
-returns c = λ version worker stream out serves. (serves.replies, served_lawful version worker stream out serves, serves.written)

@@ -1,0 +1,5 @@
+pub mod Offering
+pub mod Versions
+pub mod Replying
+pub mod Sessions
+pub mod Worked

@@ -1,0 +1,59 @@
+-- The frames that a worker of a version hears.
+use Rattle.std.proofs.Common.{◌≡◌, ℕ, Bool, true, false, cond, List, [], ◌∷◌, ◌++◌, refl, sym, ap, subst, ◌∙◌, lit≤, le-leb}
+use Rattle.std.specs.Prelude.{nat_le, if◌then◌else◌}
+use Rattle.std.proofs.lemmas.List.Sums.{take_while-cons}
+use Rattle.frames.specs.FrameValue.{FrameValue, HelloFrame, ShardFrame, AskFrame, AnswerFrame, FaultFrame}
+use Rattle.frames.specs.declared.frame.TheConstants.{VERSION}
+use Rattle.frames.specs.FrameText.{are_narrow, version_of}
+use Rattle.frames.specs.Lawful.{IsVersion, IsLawful}
+use Rattle.frames.specs.FrameStream.{AreLawful}
+use Rattle.worker_replies.specs.Serving.{heard_by}
+
+pub this_version : IsVersion VERSION
+this_version = record { from_first = lit≤ tt; to_this = lit≤ tt }
+
+-- this version has each lawful frame
+has_each : (v : FrameValue) → IsLawful v → nat_le (version_of v) VERSION ≡ true
+has_each (ShardFrame number links) lawful = by (are_narrow links)
+  where
+    by : (narrow : Bool) → nat_le (if narrow then 1 else 2) VERSION ≡ true
+    by true = refl
+    by false = refl
+has_each (HelloFrame version worker) lawful = le-leb version VERSION lawful.version.to_this
+has_each (AskFrame round shard labels) lawful = refl
+has_each (AnswerFrame answer) lawful = refl
+has_each (FaultFrame round shard code) lawful = refl
+
+-- so a worker of this version hears all frames
+pub all_heard : (frames : List FrameValue) → AreLawful frames → heard_by VERSION frames ≡ frames
+all_heard [] lawful = refl
+all_heard (v ∷ frames) lawful =
+    take_while-cons (λ (f : FrameValue). nat_le (version_of f) VERSION) v frames
+    ∙ ap (λ (b : Bool). cond b (v ∷ heard_by VERSION frames) []) (has_each v lawful.0)
+    ∙ ap (λ (fs : List FrameValue). v ∷ fs) (all_heard frames lawful.1)
+
+-- the next frame is heard where the version has it, and else no more are
+heard_next : (version : ℕ) (v : FrameValue) (frames : List FrameValue) → heard_by version (v ∷ frames) ≡ cond (nat_le (version_of v) version) (v ∷ heard_by version frames) []
+heard_next version v frames = take_while-cons (λ (f : FrameValue). nat_le (version_of f) version) v frames
+
+-- what is heard of more frames begins with what is heard of the first of them
+pub heard_more : (version : ℕ) (some more : List FrameValue) → (tail : List FrameValue) × (heard_by version (some ++ more) ≡ heard_by version some ++ tail)
+heard_more version [] more = (heard_by version more, refl)
+heard_more version (v ∷ some) more =
+    let (tail, is) = heard_more version some more in
+    let (late, split) = go (nat_le (version_of v) version) tail is in
+    (late, heard_next version v (some ++ more) ∙ split ∙ ap (λ (fs : List FrameValue). fs ++ late) (sym (heard_next version v some)))
+  where
+    go : (has : Bool) (tail : List FrameValue) → heard_by version (some ++ more) ≡ heard_by version some ++ tail
+        → (late : List FrameValue) × (cond has (v ∷ heard_by version (some ++ more)) [] ≡ cond has (v ∷ heard_by version some) [] ++ late)
+    go true tail is = (tail, ap (λ (fs : List FrameValue). v ∷ fs) is)
+    go false tail is = ([], refl)
+
+-- of lawful frames those that are heard are lawful
+pub heard_lawful : (version : ℕ) (frames : List FrameValue) → AreLawful frames → AreLawful (heard_by version frames)
+heard_lawful version [] lawful = tt
+heard_lawful version (v ∷ frames) lawful = subst AreLawful (sym (heard_next version v frames)) (go (nat_le (version_of v) version) (heard_lawful version frames lawful.1))
+  where
+    go : (has : Bool) → AreLawful (heard_by version frames) → AreLawful (cond has (v ∷ heard_by version frames) [])
+    go true rest = (lawful.0, rest)
+    go false rest = tt
