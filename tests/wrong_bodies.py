@@ -1,7 +1,7 @@
 #!/usr/bin/env python3
 """Tries wrong bodies many at a time: each has to be refused by the prover.
 
-usage: tests/wrong_bodies.py [--jobs N] [--must-fail] [--self-test] [CRATE..]
+usage: tests/wrong_bodies.py [--jobs N] [--must-fail] [--self-test] [--since COMMIT] [CRATE..]
 
 Each `crates/NAME/wrong-bodies/*.edit` turns the body of a function. As many edits as touch different functions go
 into one copy of the crate, and one `rt check` of that copy has to tell each of these functions as not proved: a
@@ -16,6 +16,8 @@ is tried alone too before it counts as survived.
                 is free); where several go, the lines of a crate are printed once it is done
   --must-fail   the edits of must-fail/ too, in the same way (`rt must-fail` tries them one at a time)
   --self-test   puts one body that is right among the wrong ones of each crate, which has to be told as survived
+  --since COMMIT
+                only crates with a file that differs from that commit, as git tells it
   CRATE..       only these crates
 
 An edit has the form that `rt must-fail` takes, with a first line `why:` that says which clause refuses it and why
@@ -491,14 +493,28 @@ def passed_over(lines):
             yield from (f"{crate}/{part}/{name}" for name in files if name.endswith(".edit") and part.split("/")[0] != "out")
 
 
+def changed_since(commit, lines):
+    """The crates with a file that differs from the commit, new files too; None if git knows no such commit."""
+    found = []
+    for words in [["diff", "--name-only", commit, "--", "crates"], ["ls-files", "--others", "--exclude-standard", "crates"]]:
+        told = subprocess.run(["git", "-C", ROOT, *words], capture_output=True, text=True, check=False)
+        if told.returncode:
+            return None
+        found += told.stdout.splitlines()
+    changed = {it.split("/")[1] for it in found}
+    return [name for name in lines if name in changed]
+
+
 def main(words):
-    jobs, options, names = side_by_side(), set(), []
+    jobs, options, names, since = side_by_side(), set(), [], None
     while words:
         word = words.pop(0)
         if word == "--jobs" and words and words[0].isdigit() and int(words[0]):
             jobs = int(words.pop(0))
         elif word in ("--must-fail", "--self-test"):
             options.add(word)
+        elif word == "--since" and words:
+            since = words.pop(0)
         elif not word.startswith("-"):
             names.append(word)
         else:
@@ -509,6 +525,15 @@ def main(words):
         if name not in lines:
             print(f"tests/wrong_bodies.py: crates.txt has no crate {name}", file=sys.stderr)
             return 2
+    if since is not None:
+        changed = changed_since(since, lines)
+        if changed is None:
+            print(f"tests/wrong_bodies.py: git knows no commit {since}", file=sys.stderr)
+            return 2
+        names = [name for name in names or lines if name in changed]
+        if not names:
+            print(f"no crate changed since {since}\n0 wrong bodies refused, 0 survived")
+            return 0
     signal.signal(signal.SIGTERM, cut_off)
     lost = [] if names else sorted(passed_over(lines))
     folders = ["wrong-bodies"] + ["must-fail"] * ("--must-fail" in options)
