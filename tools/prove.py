@@ -10,12 +10,14 @@ where there is no .git), beside what was built below it. What it built goes into
 there; a crate that was proved before, and whose files are the same, takes a second. CRATE comes last, by `rt run` or
 `rt lib` where it lies. A run that was cut off is begun again by the same words: what was proved stays.
 
-  --jobs N    at most N checks side by side, and N processes for each (if not set: as many as there are processors, and
-              one for each 2.5 GB of memory that is free)
+  --jobs N    at most N checks side by side (if not set: as many as there are processors, and one for each 2.5 GB of
+              memory that is free). The check that the longest chain of others waits for gets N processes, and any other
+              one: more processes end it sooner, but take more processor time in all
   --dry-run   only shows in which order the crates would be proved, and how many processes each would have
 
-What it is at goes to standard error, when a crate begins and each half minute. Where a crate isn't proved, what `rt`
-said of it goes there too, and the status is 1. RT is the command that proves (`rt`, if not set).
+What it will do goes to standard error first, then how far it is: on a terminal one line that is written over, else a
+line each minute. If a crate isn't proved, what `rt` said of it goes there too, and the status is 1. RT is the command
+that proves (`rt`, if not set).
 """
 import contextlib
 import fcntl
@@ -37,7 +39,8 @@ EACH = 2_500_000_000  # bytes of free memory for each check
 PROCESS = 1_250_000_000  # and for each of its processes
 LARGE = 300  # lines of code and of proofs from which on more than one process serves
 LATER = ["nice", "-n", "5"]  # before a check that others stand on less, so that it fills what they leave
-SECONDS = 30  # from one line on what it is at to the next
+SECONDS = 60  # from one line on how far it is to the next, where it isn't written over
+ELSEWHERE = "10 to 30 minutes on four processors, once"
 PARTS = ("src", "specs", "proofs")
 
 
@@ -87,10 +90,9 @@ class Plan:
         found = [it for it in self.names[:-1] if it not in begun and all(name in done for name in self.below[it])]
         return sorted(found, key=lambda it: -self.chain[it])
 
-    def processes(self, name, taken):
-        """How many processes a check gets, where so many are taken: a check seldom keeps all of its own at work, so they are
-        more than there are processors, as far as memory goes."""
-        return min(self.most, max(1, self.room - taken)) if self.count[name] >= LARGE else 1
+    def processes(self, name, taken, is_ahead):
+        """How many processes a check gets when so many are taken, as far as memory goes."""
+        return min(self.most, max(1, self.room - taken)) if is_ahead and self.count[name] >= LARGE else 1
 
     def is_ahead(self, name, beside):
         """Whether the longest chain of others stands on it, of those side by side."""
@@ -98,22 +100,28 @@ class Plan:
 
 
 class Progress:
-    """Says which crates are under way."""
+    """Says how far it is."""
 
     def __init__(self, count):
-        self.count, self.begun, self.said, self.numbers = count, time.monotonic(), 0, {}
+        self.count, self.begun, self.said, self.is_open = count, time.monotonic(), None, False
+        self.shows = sys.stderr.isatty()
 
-    def tell(self, under_way):
-        for name in under_way:
-            self.numbers.setdefault(name, len(self.numbers) + 1)
-        named = [f"{it} ({self.numbers[it]} of {self.count})" for it in under_way]
-        text = " and ".join([", ".join(named[:-1])] * (len(named) > 1) + named[-1:])
-        print(f"proving {text}, {(time.monotonic() - self.begun) / 60:.0f} min", file=sys.stderr, flush=True)
-        self.said = time.monotonic()
+    def tell(self, done, under_way):
+        now = time.monotonic()
+        if self.said is not None and now - self.said < (1 if self.shows else SECONDS):
+            return
+        self.said = now
+        text = f"{done} of {self.count} crates proved, {(now - self.begun) / 60:.0f} min; at work on {', '.join(under_way)}"
+        if self.shows:
+            text = f"\r\x1b[K{text[: shutil.get_terminal_size().columns - 1]}"
+        print(text, end="" if self.shows else "\n", file=sys.stderr, flush=True)
+        self.is_open = self.shows
 
-    def tell_again(self, under_way):
-        if under_way and time.monotonic() - self.said >= SECONDS:
-            self.tell(under_way)
+    def end(self):
+        """Takes away the line that is written over."""
+        if self.is_open:
+            print("\r\x1b[K", end="", file=sys.stderr, flush=True)
+            self.is_open = False
 
 
 def linked(folder, to):
@@ -219,16 +227,15 @@ def prove_libraries(plan, progress):
                 begun = plan.ready({*running, *done}, done)[: plan.most - len(running)]
                 beside = [*running, *begun]
                 for name in begun:
-                    processes = plan.processes(name, sum(it.processes for it in running.values()))
+                    is_ahead = plan.is_ahead(name, beside)
+                    processes = plan.processes(name, sum(it.processes for it in running.values()), is_ahead)
                     running[name] = Room(name, plan, rooms)
-                    running[name].begin(processes, plan.is_ahead(name, beside))
-                if begun:
-                    progress.tell(running)
+                    running[name].begin(processes, is_ahead)
+                progress.tell(len(done), running)
                 time.sleep(0.2)
                 for name in [it for it in running if running[it].ended()]:
                     del running[name]
                     done.add(name)
-                progress.tell_again(running)
         finally:
             for it in running.values():
                 it.leave()
@@ -256,15 +263,14 @@ def prove_top(plan, progress):
     source = f"{folder}/stdin"
     log = f"{folder}/out/log"
     os.makedirs(f"{folder}/out", exist_ok=True)
-    progress.tell([plan.top])
     with open(source if os.path.isfile(source) else os.devnull, "rb") as given, open(log, "w+b") as said:
-        words = [*RT, "run" if is_program(plan.top) else "lib", "--jobs", str(plan.processes(plan.top, 0)), *words_of(folder)]
+        words = [*RT, "run" if is_program(plan.top) else "lib", "--jobs", str(plan.processes(plan.top, 0, True)), *words_of(folder)]
         process = subprocess.Popen(words, cwd=folder, stdin=given, stdout=said, stderr=said, start_new_session=True)
         try:
             while process.poll() is None:
+                progress.tell(len(plan.names) - 1, [plan.top])
                 with contextlib.suppress(subprocess.TimeoutExpired):
                     process.wait(0.2)
-                progress.tell_again([plan.top])
         finally:
             if process.poll() is None:
                 with contextlib.suppress(OSError):
@@ -285,8 +291,9 @@ def show_order(plan):
         beside = [*ends, *begun]
         for name in begun:
             number += 1
-            processes[name] = plan.processes(name, sum(processes[it] for it in ends))
-            others = f"beside {', '.join(ends) or 'none'}{'' if plan.is_ahead(name, beside) else ', later'}"
+            is_ahead = plan.is_ahead(name, beside)
+            processes[name] = plan.processes(name, sum(processes[it] for it in ends), is_ahead)
+            others = f"beside {', '.join(ends) or 'none'}{'' if is_ahead else ', later'}"
             print(f"{name} ({number} of {len(plan.names)}): {processes[name]} processes, {others}")
             ends[name] = now + plan.count[name]
         now = min(ends.values())
@@ -322,17 +329,20 @@ def main(words):
         print(f"To prove and build {top}, the Rattle toolchain's command `{RT[0]}` has to be on the PATH: see the README.", file=sys.stderr)
         return 1
     signal.signal(signal.SIGTERM, lambda *_: sys.exit(143))
-    print("proving and building; the first time this takes some minutes", file=sys.stderr, flush=True)
+    print(f"proves {len(plan.names)} crates, then builds; {ELSEWHERE}", file=sys.stderr, flush=True)
     progress = Progress(len(plan.names))
     try:
         prove_libraries(plan, progress)
         prove_top(plan, progress)
     except NotProved as error:
+        progress.end()
         print(error, file=sys.stderr)
         return 1
     except KeyboardInterrupt:
+        progress.end()
         print("cut off; the same words go on from here", file=sys.stderr)
         return 130
+    progress.end()
     return 0
 
 
