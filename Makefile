@@ -1,19 +1,32 @@
 # `make help` says what each target does.
 
 PREFIX ?= /usr/local
+BINDIR ?= $(PREFIX)/bin
+LIBDIR ?= $(PREFIX)/lib
+INCLUDEDIR ?= $(PREFIX)/include
+MANDIR ?= $(PREFIX)/share/man
+BASHDIR ?= $(PREFIX)/share/bash-completion/completions
+ZSHDIR ?= $(PREFIX)/share/zsh/site-functions
+FISHDIR ?= $(PREFIX)/share/fish/vendor_completions.d
 MINUTES ?= 5
 PROGRAM := crates/boruvka/out/boruvka
 BENCH := crates/bench/out/bench
 LIBRARY := crates/boruvka_c/out/libboruvka
 SOURCES := $(shell find crates -path '*/out' -prune -o -type f \( -name '*.rt' -o -name '*.antt' \) -print) crates.txt
-# (paths that may have a space, in single quotes for the shell)
-UNDER := '$(subst ','\'',$(DESTDIR)$(PREFIX))'
-BIN := $(UNDER)/bin
-MAN := $(UNDER)/share/man/man1
-INCLUDE := $(UNDER)/include
-LIB := $(UNDER)/lib
+VERSION := $(shell sed -n 's/^pub const VERSION: &str = "\(.*\)";$$/\1/p' crates/program_words/src/version.rt)
+MAJOR := $(firstword $(subst ., ,$(VERSION)))
+SHARED := libboruvka.so.$(VERSION)
+# (a path may have a space, so it stands in single quotes for the shell)
+quoted = '$(subst ','\'',$(1))'
+BIN = $(call quoted,$(DESTDIR)$(BINDIR))
+LIB = $(call quoted,$(DESTDIR)$(LIBDIR))
+INCLUDE = $(call quoted,$(DESTDIR)$(INCLUDEDIR))
+MAN = $(call quoted,$(DESTDIR)$(MANDIR))/man1
+BASH_COMPLETIONS = $(call quoted,$(DESTDIR)$(BASHDIR))
+ZSH_COMPLETIONS = $(call quoted,$(DESTDIR)$(ZSHDIR))
+FISH_COMPLETIONS = $(call quoted,$(DESTDIR)$(FISHDIR))
 
-.PHONY: help run lib test wrong soak install uninstall bench clean
+.PHONY: help run lib test wrong soak built install uninstall dist bench clean
 
 # Each of them goes side by side by itself, as far as the machine holds.
 .NOTPARALLEL:
@@ -22,13 +35,14 @@ help:
 	@echo 'make run        proves and builds the program, and runs it on examples/small.gr'
 	@echo 'make lib        proves and builds libboruvka.a and libboruvka.so, beside it; needs a C compiler and its ar'
 	@echo 'make test       the gate: all proofs, the wrong bodies of must-fail/, the tests, the program whole'
-	@echo 'make wrong      tries the wrong bodies of wrong-bodies/, many at a time'
+	@echo 'make wrong      tries the wrong bodies of wrong-bodies/, many at a time; SINCE=origin/main those of crates changed since'
 	@echo 'make soak       tries the program on drawn cases, MINUTES=$(MINUTES) long; needs Python 3 and a C compiler'
-	@echo 'make install    puts the proved program into PREFIX/bin, its manual page into PREFIX/share/man, the libraries into'
-	@echo '                PREFIX/lib with their boruvka.pc, the header into PREFIX/include (PREFIX=$(PREFIX))'
-	@echo 'make uninstall  takes them away'
+	@echo 'make install    copies the built program, libraries, header, manual page and completions below PREFIX=$(PREFIX);'
+	@echo '                BINDIR, LIBDIR, INCLUDEDIR and MANDIR name other folders, DESTDIR a root that stands before all'
+	@echo 'make uninstall  takes them away; it wants the same words'
+	@echo 'make dist       proves, builds and packs version $(VERSION) into dist/: a .tar.gz, and a .deb where dpkg-deb is'
 	@echo 'make bench      times it beside a C++ program; needs Python 3, a C++17 compiler and GNU time'
-	@echo 'make clean      removes what was built and what checks kept (out/ of each crate): the next run proves all anew'
+	@echo 'make clean      removes what was built and what checks kept (out/ of each crate), and dist/: the next run proves all anew'
 
 run: $(PROGRAM)
 	@$(PROGRAM) examples/small.gr
@@ -39,29 +53,47 @@ test:
 	@python3 tests/gate.py
 
 wrong:
-	@python3 tests/wrong_bodies.py
+	@python3 tests/wrong_bodies.py $(if $(SINCE),--since '$(SINCE)')
 
 soak: $(PROGRAM)
 	@python3 tests/soak.py --minutes $(MINUTES) $(PROGRAM)
 
-install: $(PROGRAM) lib
-	install -d $(BIN) $(MAN) $(INCLUDE) $(LIB)/pkgconfig
-	install -m 755 $(PROGRAM) $(BIN)/boruvka
-	install -m 644 man/boruvka.1 $(MAN)/boruvka.1
+# `install` proves and builds nothing: it often runs as another user.
+built:
+	@missing=; \
+	test -x $(call quoted,$(PROGRAM)) || { missing=1; echo 'The program is not built yet: `make run` proves and builds it.' >&2; }; \
+	test -f $(call quoted,$(LIBRARY).a) -a -f $(call quoted,$(dir $(LIBRARY))$(SHARED)) || \
+	{ missing=1; echo 'The libraries are not built yet: `make lib` proves and builds them.' >&2; }; \
+	test -z "$$missing"
+
+install: built
+	install -d $(BIN) $(LIB)/pkgconfig $(INCLUDE) $(MAN) $(BASH_COMPLETIONS) $(ZSH_COMPLETIONS) $(FISH_COMPLETIONS)
+	install -m 755 $(call quoted,$(PROGRAM)) $(BIN)/boruvka
+	install -m 644 $(call quoted,$(LIBRARY).a) $(LIB)/libboruvka.a
+	install -m 755 $(call quoted,$(dir $(LIBRARY))$(SHARED)) $(LIB)/$(SHARED)
+	ln -sf $(SHARED) $(LIB)/libboruvka.so.$(MAJOR)
+	ln -sf libboruvka.so.$(MAJOR) $(LIB)/libboruvka.so
+	python3 tools/stamp.py pc $(call quoted,$(PREFIX)) $(call quoted,$(LIBDIR)) $(call quoted,$(INCLUDEDIR)) > $(LIB)/pkgconfig/boruvka.pc
 	install -m 644 include/boruvka.h $(INCLUDE)/boruvka.h
-	install -m 644 $(LIBRARY).a $(LIB)/libboruvka.a
-	install -m 755 $(LIBRARY).so $(LIB)/libboruvka.so
-	{ printf 'prefix=%s\n' '$(subst ','\'',$(PREFIX))'; cat include/boruvka.pc; } > $(LIB)/pkgconfig/boruvka.pc
+	python3 tools/stamp.py page > $(MAN)/boruvka.1
+	chmod 644 $(LIB)/pkgconfig/boruvka.pc $(MAN)/boruvka.1
+	install -m 644 completions/boruvka.bash $(BASH_COMPLETIONS)/boruvka
+	install -m 644 completions/_boruvka $(ZSH_COMPLETIONS)/_boruvka
+	install -m 644 completions/boruvka.fish $(FISH_COMPLETIONS)/boruvka.fish
 
 uninstall:
-	rm -f $(BIN)/boruvka $(MAN)/boruvka.1 $(INCLUDE)/boruvka.h
-	rm -f $(LIB)/libboruvka.a $(LIB)/libboruvka.so $(LIB)/pkgconfig/boruvka.pc
+	rm -f $(BIN)/boruvka $(INCLUDE)/boruvka.h $(MAN)/boruvka.1
+	rm -f $(LIB)/libboruvka.a $(LIB)/libboruvka.so $(LIB)/libboruvka.so.$(MAJOR) $(LIB)/$(SHARED) $(LIB)/pkgconfig/boruvka.pc
+	rm -f $(BASH_COMPLETIONS)/boruvka $(ZSH_COMPLETIONS)/_boruvka $(FISH_COMPLETIONS)/boruvka.fish
+
+dist: $(PROGRAM) lib
+	@python3 tools/dist.py
 
 bench: $(PROGRAM) $(BENCH)
 	python3 benches/run.py $(PROGRAM) $(BENCH)
 
 clean:
-	rm -rf crates/*/out .git/rooms
+	rm -rf crates/*/out .git/rooms dist
 
 # What was built stays in out/ of each crate; which crates are under way goes to standard error.
 $(PROGRAM): $(SOURCES)
@@ -75,10 +107,14 @@ $(BENCH): $(SOURCES)
 # With the crate's own library the toolchain's few lines over malloc and free.
 $(LIBRARY).a: $(SOURCES)
 	@python3 tools/prove.py boruvka_c
-	@cd $(@D) && ar x "$$(dirname "$$(rt doc)")/c/liblibc_c.a" heap.pic.o && cp libboruvka_c.a made.a && ar qs made.a heap.pic.o
+	@cd $(@D) && ar x "$$(dirname "$$(rt doc)")/c/liblibc_c.a" heap.pic.o && cp libboruvka_c.a made.a && ar qsD made.a heap.pic.o
 	@cd $(@D) && mv made.a $(@F) && rm -f heap.pic.o
 
+# The loader looks for the name with the first number alone, the linker for the name without one.
 $(LIBRARY).so: $(LIBRARY).a
 	@echo '{ global: boruvka_*; local: *; };' > $(@D)/names
-	@$(CC) -shared -o $@ -Wl,--whole-archive $< -Wl,--no-whole-archive -Wl,--version-script=$(@D)/names -Wl,-soname,$(@F) -Wl,-z,defs
+	@rm -f $@ $@.*
+	@$(CC) -shared -o $(@D)/$(SHARED) -Wl,--whole-archive $< -Wl,--no-whole-archive -Wl,--version-script=$(@D)/names -Wl,-soname,$(@F).$(MAJOR) -Wl,-z,defs
+	@ln -s $(SHARED) $@.$(MAJOR)
+	@ln -s $(@F).$(MAJOR) $@
 	@rm -f $(@D)/names

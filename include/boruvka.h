@@ -1,3 +1,4 @@
+/* SPDX-License-Identifier: MIT OR Apache-2.0 */
 /* boruvka.h: minimum spanning forests in the caller's memory.
  *
  * What each call answers is proved, in the crate boruvka_c of the repository. A proof ends where C begins, so a caller

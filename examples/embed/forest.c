@@ -1,6 +1,20 @@
 /* The minimum spanning forest of a small net that lies in memory, written as `boruvka` writes it.
  *
- *     cc -o forest forest.c $(pkg-config --cflags --libs boruvka) && ./forest */
+ * If the libraries are installed where the system looks for them:
+ *
+ *     cc -o forest forest.c $(pkg-config --cflags --libs boruvka)
+ *     ./forest
+ *
+ * With the shared library of a PREFIX of your own, which the program finds there again:
+ *
+ *     export PKG_CONFIG_PATH=PREFIX/lib/pkgconfig
+ *     cc -o forest forest.c $(pkg-config --cflags --libs boruvka) -Wl,-rpath,PREFIX/lib
+ *     ./forest
+ *
+ * With the static library of that PREFIX, and without pkg-config:
+ *
+ *     cc -o forest -IPREFIX/include forest.c PREFIX/lib/libboruvka.a
+ *     ./forest */
 #include <boruvka.h>
 #include <inttypes.h>
 #include <stdio.h>

@@ -1,6 +1,10 @@
 """The minimum spanning forest of a small net that lies in memory, written as `boruvka` writes it.
 
-usage: python3 forest.py [PREFIX/lib/libboruvka.so]
+usage: python3 forest.py [LIBRARY]
+
+Without a word it takes the shared library that the system's loader finds. With the one of a PREFIX of your own:
+
+    python3 forest.py PREFIX/lib/libboruvka.so.1
 """
 import ctypes
 import sys
@@ -38,7 +42,7 @@ def main(words):
     net = [(17, 1, 2), (10, 1, 3), (2, 2, 4), (0, 3, 5), (0, 4, 3), (3, 4, 6), (0, 5, 2), (20, 5, 6)]
     # a link is two words of 64 bits: its weight, and its ends
     links = array("q", [word for weight, low, high in net for word in (weight, low | high << 32)])
-    found = forest(loaded(words[0] if words else "libboruvka.so"), 6, links)
+    found = forest(loaded(words[0] if words else "libboruvka.so.1"), 6, links)
     print(f"p sp 6 {len(found)}")
     for link in found:
         print(f"a {link.low} {link.high} {link.weight}")

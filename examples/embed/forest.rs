@@ -1,6 +1,9 @@
 //! The minimum spanning forest of a small net that lies in memory, written as `boruvka` writes it.
 //!
-//!     rustc --edition 2024 -L PREFIX/lib forest.rs && ./forest
+//! With the static library of the PREFIX that it is installed under:
+//!
+//!     rustc --edition 2024 -L PREFIX/lib forest.rs
+//!     ./forest
 use std::ffi::c_char;
 
 /// `struct boruvka_link`.

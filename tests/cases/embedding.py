@@ -2,12 +2,11 @@
 texts are compared with the program's answers and with the forests that are computed here."""
 import os
 import re
-import shlex
 import shutil
 import subprocess
 import sys
 
-from cases.running import ROOT, SMALL_FOREST, SMALL_NET, Program, case, drawn_graph, expect, ran, run, told_by
+from cases.running import ROOT, SMALL_FOREST, SMALL_NET, case, drawn_graph, expect, ran, run, told_by
 
 LIBRARIES = f"{ROOT}/crates/boruvka_c/out"
 INCLUDE = f"-I{ROOT}/include"
@@ -83,23 +82,6 @@ def the_examples_of_other_languages(room):
         expect(run(["rustc", "--edition", "2024", "-D", "warnings", "-L", LIBRARIES, "-o", f"{room}/of_rust", f"{embed}/forest.rs"]), 0, b"", b"")
         expect(run([f"{room}/of_rust"]), 0, SMALL_FOREST, b"")
     expect(run([sys.executable, "-B", f"{embed}/forest.py", shared]), 0, SMALL_FOREST, b"")
-
-
-@case
-def the_libraries_are_installed_and_taken_away(room):
-    libraries()
-    prefix = f"{room}/a prefix"
-    words = ["make", "-s", "-C", ROOT, "-o", Program.path, f"PROGRAM={Program.path}", f"PREFIX={prefix}"]
-    expect(run([*words, "install"], env=ENVIRONMENT), 0, b"", b"")
-    flags = [f"-I{prefix}/include", f"-L{prefix}/lib", f"-Wl,-rpath,{prefix}/lib", "-lboruvka"]
-    if shutil.which("pkg-config"):
-        env = {**ENVIRONMENT, "PKG_CONFIG_PATH": f"{prefix}/lib/pkgconfig"}
-        told = subprocess.run(["pkg-config", "--cflags", "--libs", "boruvka"], env=env, check=True, capture_output=True, text=True).stdout
-        expect((shlex.split(told), b"", b""), [flags[0], flags[1], flags[3]], b"", b"")
-    expect(run([compiler(), "-o", f"{room}/of_c", f"{ROOT}/examples/embed/forest.c", *flags]), 0, b"", b"")
-    expect(run([f"{room}/of_c"]), 0, SMALL_FOREST, b"")
-    expect(run([*words, "uninstall"], env=ENVIRONMENT), 0, b"", b"")
-    expect(([it for _, _, files in os.walk(prefix) for it in files], b"", b""), [], b"", b"")
 
 
 @case

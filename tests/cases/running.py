@@ -23,6 +23,10 @@ NOTHING_WRITTEN = b"boruvka: write failed after 0 bytes\n"
 CASES = []
 
 
+class Skipped(Exception):
+    """What a case tries isn't on this machine."""
+
+
 class Program:
     """The program that is tried; its path is set before the first case runs."""
 

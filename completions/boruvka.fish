@@ -1,0 +1,9 @@
+# Completion of boruvka's words in fish. `make install` puts it where fish looks for it.
+# To try it: source completions/boruvka.fish
+
+complete -c boruvka -l workers -x -a "0 1 2 4 8 16 32 64" -d "How many workers scan the shards, 0 to 64"
+complete -c boruvka -l shards -x -a "1 2 4 8 16 32 64 128 256 512 1024 2048 4096" -d "How many shards the links are cut into, 1 to 4096"
+complete -c boruvka -l plain -d "Solve in one thread, without workers"
+complete -c boruvka -l report -d "Print what the run did to standard error"
+complete -c boruvka -s h -l help -d "Print the help"
+complete -c boruvka -s V -l version -d "Print the version"

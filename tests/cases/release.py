@@ -1,0 +1,511 @@
+"""The version, `make install`, the heads of examples/embed, completions, and the packages of `make dist`, which are made
+out of the built program and libraries, unpacked into empty folders and tried there."""
+import gzip
+import hashlib
+import os
+import pty
+import re
+import select
+import shlex
+import shutil
+import signal
+import subprocess
+import sys
+import tarfile
+import time
+
+from cases.embedding import ENVIRONMENT, LIBRARIES, compiler, libraries
+from cases.running import ROOT, SMALL_FOREST, SMALL_NET, Program, Skipped, case, expect, ran, run, written
+
+sys.path.insert(0, f"{ROOT}/tools")
+
+from stamp import PAGE, PC, VERSION, text_of, version
+
+EMBED = f"{ROOT}/examples/embed"
+AT = 1_700_000_000  # 2023-11-14, in place of the commit's time
+SET = ("PREFIX", "BINDIR", "LIBDIR", "INCLUDEDIR", "MANDIR", "BASHDIR", "ZSHDIR", "FISHDIR", "PKG_CONFIG_PATH", "LD_LIBRARY_PATH")
+PLAIN = {it: word for it, word in ENVIRONMENT.items() if it not in SET}
+KIT = {**PLAIN, "SOURCE_DATE_EPOCH": str(AT), "RT": "echo a-kit"}  # what says `a-kit version`
+SHELLS = {"bash": "completions/boruvka.bash", "zsh": "completions/_boruvka", "fish": "completions/boruvka.fish"}
+NUMBERS = {"--workers": [str(2**it) for it in range(7)] + ["0"], "--shards": [str(2**it) for it in range(13)]}
+
+
+def is_so(found, wanted):
+    if found != wanted:
+        raise AssertionError(f"wanted {wanted!r:.900}\n    found  {found!r:.900}")
+
+
+def needs(name):
+    """The command of this name, without which the case is skipped."""
+    if not shutil.which(name):
+        raise Skipped(f"there is no {name}")
+    return name
+
+
+def major():
+    return version().split(".")[0]
+
+
+def files_below(root):
+    """What lies below a folder, without the folders: where links lead to, and None of files."""
+    found = {}
+    for at, _, files in os.walk(root):
+        for name in files:
+            path = f"{at}/{name}"
+            found[os.path.relpath(path, root)] = os.readlink(path) if os.path.islink(path) else None
+    return found
+
+
+def installed(bin_="bin", lib="lib", include="include", share="share", man="share/man", zsh="share/zsh/site-functions"):
+    """What an install puts below its prefix."""
+    return {
+        f"{bin_}/boruvka": None,
+        f"{lib}/libboruvka.a": None,
+        f"{lib}/libboruvka.so": f"libboruvka.so.{major()}",
+        f"{lib}/libboruvka.so.{major()}": f"libboruvka.so.{version()}",
+        f"{lib}/libboruvka.so.{version()}": None,
+        f"{lib}/pkgconfig/boruvka.pc": None,
+        f"{include}/boruvka.h": None,
+        f"{man}/man1/boruvka.1": None,
+        f"{share}/bash-completion/completions/boruvka": None,
+        f"{zsh}/_boruvka": None,
+        f"{share}/fish/vendor_completions.d/boruvka.fish": None,
+    }
+
+
+def make(*words, program=None, library=f"{LIBRARIES}/libboruvka"):
+    """Status, standard output and standard error of make, which has to prove and build nothing."""
+    names = [f"PROGRAM={os.path.relpath(program or Program.path, ROOT)}", f"LIBRARY={os.path.relpath(library, ROOT)}"]
+    told = run(["make", "-s", "-C", ROOT, *names, *words], env={**PLAIN, "RT": "false"})
+    if b"proving" in told[2]:
+        raise AssertionError(f"it proves: {told[2]!r:.300}")
+    return told
+
+
+def flags(folder, env=PLAIN):
+    """What pkg-config tells of the boruvka.pc of a folder, its paths in their plain form; and its version."""
+    env = {**env, "PKG_CONFIG_PATH": folder}
+    told = subprocess.run(["pkg-config", "--cflags", "--libs", "boruvka"], env=env, check=True, capture_output=True, text=True).stdout
+    number = subprocess.run(["pkg-config", "--modversion", "boruvka"], env=env, check=True, capture_output=True, text=True).stdout
+    is_so(number, f"{version()}\n")
+    return [it[:2] + os.path.normpath(it[2:]) if it[:2] in ("-I", "-L") else it for it in shlex.split(told)]
+
+
+def expect_example(room, include, lib):
+    """The C example compiles against this header and these libraries and runs, with the static and the shared one."""
+    source = f"{EMBED}/forest.c"
+    os.makedirs(room)
+    expect(run([compiler(), f"-I{include}", "-o", f"{room}/static", source, f"{lib}/libboruvka.a"]), 0, b"", b"")
+    expect(run([f"{room}/static"], env=PLAIN), 0, SMALL_FOREST, b"")
+    expect(run([compiler(), f"-I{include}", "-o", f"{room}/shared", source, f"-L{lib}", "-lboruvka"]), 0, b"", b"")
+    # the program names the library by its first number alone
+    with open(f"{room}/shared", "rb") as it:
+        is_so(f"\0libboruvka.so.{major()}\0".encode() in it.read(), True)
+    os.mkdir(f"{room}/lib")
+    os.symlink(f"{lib}/libboruvka.so.{version()}", f"{room}/lib/libboruvka.so.{major()}")
+    expect(run([f"{room}/shared"], env={**PLAIN, "LD_LIBRARY_PATH": f"{room}/lib"}), 0, SMALL_FOREST, b"")
+
+
+# The version
+
+
+@case
+def one_file_has_the_version(_room):
+    files = [f"{at}/{name}" for folder in ("include", "man", "completions", "tools", "examples/embed") for at, _, names in os.walk(f"{ROOT}/{folder}") for name in names]
+    for path in [*files, f"{ROOT}/Makefile"]:
+        with open(path, encoding="utf-8", errors="replace") as it:
+            if version() in it.read():
+                raise AssertionError(f"{path} has the version, which stands in {VERSION}")
+    is_so(re.search(r"^#define BORUVKA_VERSION (\d+) ", text_of("include/boruvka.h"), re.M)[1], major())
+
+
+@case
+def the_program_tells_the_version(_room):
+    for words in [["--version"], ["-V"], ["--plain", "--version"]]:
+        expect(ran(words, SMALL_NET), 0, f"boruvka {version()}\n".encode(), b"")
+
+
+@case
+def the_installed_page_has_the_version_and_the_date(room):
+    page = text_of(PAGE)
+    told = run([sys.executable, f"{ROOT}/tools/stamp.py", "page"], env={**PLAIN, "SOURCE_DATE_EPOCH": str(AT)})
+    expect((told[0], b"", told[2]), 0, b"", b"")
+    found = [(old, new) for old, new in zip(page.splitlines(), told[1].decode().splitlines(), strict=True) if old != new]
+    is_so(found, [('.TH BORUVKA 1 "" "boruvka" "User Commands"', f'.TH BORUVKA 1 "2023-11-14" "boruvka {version()}" "User Commands"')])
+    written(f"{room}/boruvka.1", told[1])
+    for path in [f"{ROOT}/{PAGE}", f"{room}/boruvka.1"]:
+        if shutil.which("groff"):
+            expect(run(["groff", "-man", "-Tutf8", "-ww", "-z", path]), 0, b"", b"")
+
+
+# make install
+
+
+@case
+def an_install_of_what_is_not_built(room):
+    libraries()
+    none = f"{room}/none"
+    program, libs = b"The program is not built yet: `make run` ", b"The libraries are not built yet: `make lib` "
+    for words, wanted in [
+        ({"program": none}, [True, False]),
+        ({"library": none}, [False, True]),
+        ({"program": none, "library": none}, [True, True]),
+    ]:
+        status, output, errors = make(f"PREFIX={room}/prefix", "install", **words)
+        is_so((status != 0, output, [it in errors for it in (program, libs)]), (True, b"", wanted))
+    is_so(os.listdir(room), [])
+    # the static library alone
+    shutil.copy(f"{LIBRARIES}/libboruvka.a", f"{room}/half.a")
+    status, _, errors = make(f"PREFIX={room}/prefix", "install", library=f"{room}/half")
+    is_so((status != 0, libs in errors, os.listdir(room)), (True, True, ["half.a"]))
+
+
+@case
+def an_install_copies_and_is_taken_away(room):
+    libraries()
+    prefix = f"{room}/a user's prefix"
+    # as old as can be: an install builds nothing anew
+    program = shutil.copy(Program.path, f"{room}/program")
+    os.utime(program, (0, 0))
+    expect(make(f"PREFIX={prefix}", "install", program=program), 0, b"", b"")
+    is_so(files_below(prefix), installed())
+    expect(run([f"{prefix}/bin/boruvka", "--plain"], SMALL_NET), 0, SMALL_FOREST, b"")
+    for path, of in [("include/boruvka.h", "include/boruvka.h"), ("share/zsh/site-functions/_boruvka", SHELLS["zsh"])]:
+        with open(f"{prefix}/{path}", encoding="utf-8") as it:
+            is_so(it.read(), text_of(of))
+    with open(f"{prefix}/share/man/man1/boruvka.1", encoding="utf-8") as it:
+        is_so(f'" "boruvka {version()}" "User' in it.readline(), True)
+    # once more over it, and a file of somebody else's
+    written(f"{prefix}/lib/libboruvka_other.so", b"")
+    expect(make(f"PREFIX={prefix}", "install", program=program), 0, b"", b"")
+    expect(make(f"PREFIX={prefix}", "uninstall"), 0, b"", b"")
+    is_so(files_below(prefix), {"lib/libboruvka_other.so": None})
+
+
+@case
+def an_install_into_folders_of_ones_own(room):
+    libraries()
+    words = ["PREFIX=/opt/b", "LIBDIR=/opt/b/lib/x86", "INCLUDEDIR=/srv/include", "MANDIR=/srv/man", "BINDIR=/b", f"DESTDIR={room}/root"]
+    expect(make(*words, "install"), 0, b"", b"")
+    wanted = installed("b", "opt/b/lib/x86", "srv/include", "opt/b/share", "srv/man", "opt/b/share/zsh/site-functions")
+    is_so(files_below(f"{room}/root"), wanted)
+    with open(f"{room}/root/opt/b/lib/x86/pkgconfig/boruvka.pc", encoding="utf-8") as it:
+        is_so(it.read().splitlines()[:3], ["prefix=${pcfiledir}/../../..", "libdir=${prefix}/lib/x86", "includedir=/srv/include"])
+    expect(make(*words, "uninstall"), 0, b"", b"")
+    is_so(files_below(f"{room}/root"), {})
+    # a LIBDIR that lies elsewhere says nothing of where PREFIX is
+    told = run([sys.executable, f"{ROOT}/tools/stamp.py", "pc", "/opt/b", "/usr/lib", "/opt/b/include"], env=PLAIN)
+    is_so(told[1].decode().splitlines()[:3], ["prefix=/opt/b", "libdir=/usr/lib", "includedir=${prefix}/include"])
+    told_too = run([sys.executable, f"{ROOT}/tools/stamp.py", "pc", "/a user/b", "/usr/lib", "/a user/b/include"], env=PLAIN)
+    is_so(told_too[1].decode().splitlines()[:3], ["prefix=/a\\ user/b", "libdir=/usr/lib", "includedir=${prefix}/include"])
+    is_so(text_of(PC).splitlines()[3:], [it.replace(version(), "@VERSION@") for it in told[1].decode().splitlines()[3:]])
+
+
+@case
+def an_installed_prefix_can_be_moved(room):
+    libraries()
+    needs("pkg-config")
+    # (pkg-config's older kin can't have a space there)
+    for old, new in [("first", "second")] + [("a prefix", "b prefix")] * bool(shutil.which("pkgconf")):
+        expect(make(f"PREFIX={room}/{old}", "install"), 0, b"", b"")
+        is_so(flags(f"{room}/{old}/lib/pkgconfig"), [f"-I{room}/{old}/include", f"-L{room}/{old}/lib", "-lboruvka"])
+        os.rename(f"{room}/{old}", f"{room}/{new}")
+        is_so(flags(f"{room}/{new}/lib/pkgconfig"), [f"-I{room}/{new}/include", f"-L{room}/{new}/lib", "-lboruvka"])
+        expect_example(f"{room}/of {new}", f"{room}/{new}/include", f"{room}/{new}/lib")
+
+
+@case
+def the_heads_of_the_examples_say_how_to_run_them(room):
+    """Each paragraph of commands in a head, run as it stands there, over a PREFIX."""
+    libraries()
+    prefix = f"{room}/prefix"
+    expect(make(f"PREFIX={prefix}", "install"), 0, b"", b"")
+    found = []
+    for name, mark, tools in [("forest.c", " * ", ["cc", "pkg-config"]), ("forest.rs", "//! ", ["rustc"]), ("forest.py", "", ["python3"])]:
+        head = re.split(r"^(?:#include|use|import) ", text_of(f"examples/embed/{name}").replace(" */\n", "\n"), flags=re.M)[0]
+        shown = [it[len(mark) + 4 :] if it.startswith(mark + "    ") else "" for it in head.splitlines()]
+        for number, commands in enumerate(filter(None, re.split(r"\n\n+", "\n".join(shown).strip("\n")))):
+            found.append(name)
+            if not all(shutil.which(it) for it in tools):
+                continue
+            here = f"{room}/{name}{number}"
+            os.makedirs(here)
+            shutil.copy(f"{EMBED}/{name}", here)
+            # where no PREFIX is named the system finds the libraries
+            env = PLAIN if "PREFIX" in commands else {**PLAIN, "PKG_CONFIG_PATH": f"{prefix}/lib/pkgconfig", "LD_LIBRARY_PATH": f"{prefix}/lib"}
+            expect(run(["sh", "-ec", commands.replace("PREFIX", prefix)], cwd=here, env=env), 0, SMALL_FOREST, b"")
+    is_so(found, ["forest.c"] * 3 + ["forest.rs", "forest.py"])
+
+
+# Completions
+
+
+@case
+def each_completion_has_the_options_of_the_help(_room):
+    table = ran(["--help"])[1].decode().split("\nOptions:\n")[1].split("\n\n")[0]
+    wanted = set(re.findall(r"(?:^|, )\s*(--?[A-Za-z]+)", table, re.M))
+    bash, zsh, fish = (text_of(SHELLS[it]) for it in ("bash", "zsh", "fish"))
+    is_so(set(re.search(r"for option in (.*); do", bash)[1].split()), wanted)
+    is_so(set(re.findall(r"(?<=['{,])--?\w+", zsh)), wanted)
+    is_so({f"-{it}" for it in re.findall(r" -s (\w)", fish)} | {f"--{it}" for it in re.findall(r" -l (\w+)", fish)}, wanted)
+
+
+@case
+def completions_of_bash(_room):
+    script = f'source "$1/{SHELLS["bash"]}"; shift; complete -p boruvka; COMP_WORDS=("$@"); COMP_CWORD=$(($# - 1)); _boruvka; printf "%s\\n" "${{COMPREPLY[@]}}"'
+    longs = ["--workers", "--shards", "--plain", "--report", "--help", "--version"]
+    for words, wanted in [
+        (["--"], longs),
+        (["-"], [*longs, "-h", "-V"]),
+        (["--sh"], ["--shards"]),
+        (["--workers", ""], NUMBERS["--workers"]),
+        (["--workers", "3"], ["32"]),
+        (["--workers", "="], NUMBERS["--workers"]),
+        (["--shards", "=", "10"], ["1024"]),
+        (["--plain", "--shards", ""], NUMBERS["--shards"]),
+        (["--workers", "=", "2", "--plain", "--"], ["--shards", "--report", "--help", "--version"]),
+        (["--workers", "x"], []),
+        (["--", "--"], []),
+        ([""], []),
+        (["net"], []),
+    ]:
+        told = run([needs("bash"), "--norc", "--noprofile", "-c", script, "-", ROOT, "boruvka", *words], env=PLAIN)
+        expect((told[0], b"", told[2]), 0, b"", b"")
+        first, *found = told[1].decode().split("\n")
+        is_so((words, first, sorted(filter(None, found))), (words, "complete -o default -F _boruvka boruvka", sorted(wanted)))
+
+
+def shown_by_zsh(room, line, wanted):
+    """What zsh shows once TAB is pressed after a line, until all that is wanted is there or 20 seconds went by."""
+    env = {**PLAIN, "TERM": "xterm", "HOME": room, "ZDOTDIR": room, "LC_ALL": "C"}
+    child, terminal = pty.fork()
+    if not child:
+        try:
+            os.execvpe("zsh", ["zsh", "-f", "-i"], env)
+        finally:
+            os._exit(127)
+    found, ends = b"", time.monotonic() + 20
+
+    def wait_for(texts):
+        nonlocal found
+        found = b""
+        while not all(it.encode() in found for it in texts) and time.monotonic() < ends:
+            if select.select([terminal], [], [], 0.2)[0]:
+                found += os.read(terminal, 65536)
+
+    try:
+        setup = f"fpath=({shlex.quote(ROOT)}/completions $fpath); autoload -Uz compinit && compinit -u -D; LISTMAX=0; PS1=; print rea''dy\n"
+        os.write(terminal, setup.encode())
+        wait_for(["ready\r\n"])
+        os.write(terminal, f"{line}\t".encode())
+        wait_for(wanted)
+    except OSError:
+        pass
+    finally:
+        os.kill(child, signal.SIGKILL)
+        os.waitpid(child, 0)
+        os.close(terminal)
+    return found.decode(errors="replace")
+
+
+@case
+def completions_of_zsh(room):
+    needs("zsh")
+    for line, wanted in [
+        ("boruvka --", ["--workers", "--shards", "--plain", "--report", "--help", "--version", "0 to 64", "1 to 4096"]),
+        ("boruvka --plain -", ["--workers", "-V", "-h"]),
+        ("boruvka --workers ", ["16", "32", "64"]),
+        ("boruvka --workers=", ["16", "32", "64"]),
+        ("boruvka --shards 1", ["16", "128", "1024"]),
+    ]:
+        found = shown_by_zsh(room, line, wanted)
+        is_so((line, [it for it in wanted if it not in found]), (line, []))
+
+
+@case
+def completions_of_fish(room):
+    longs = ["--workers", "--shards", "--plain", "--report", "--help", "--version"]
+    for line, wanted in [
+        ("boruvka --", longs),
+        ("boruvka -", [*longs, "-h", "-V"]),
+        ("boruvka --workers ", NUMBERS["--workers"]),
+        ("boruvka --shards=10", ["--shards=1024"]),
+        ("boruvka --sh", ["--shards"]),
+        ("boruvka net", ["net.gr"]),
+    ]:
+        written(f"{room}/net.gr", SMALL_NET)
+        words = [needs("fish"), "--no-config", "-c", f"source {shlex.quote(ROOT)}/{SHELLS['fish']}; complete -C {shlex.quote(line)}"]
+        told = run(words, cwd=room, env={**PLAIN, "HOME": room})
+        is_so((line, told[0], sorted(it.split("\t")[0] for it in told[1].decode().splitlines())), (line, 0, sorted(wanted)))
+
+
+# make dist
+
+
+def packed(into, env=KIT, **more):
+    """Makes the packages, and answers their bytes by their names."""
+    libraries()
+    words = [sys.executable, f"{ROOT}/tools/dist.py", "--program", Program.path, "--libraries", LIBRARIES, into]
+    status, output, errors = run(words, env=env, **more)
+    expect((status, b"", errors), 0, b"", b"" if shutil.which("dpkg-deb") else b"dpkg-deb is not there, so no .deb was made\n")
+    found = {}
+    for name in os.listdir(into):
+        with open(f"{into}/{name}", "rb") as it:
+            found[name] = it.read()
+    is_so(output.decode(), "".join(f"{hashlib.sha256(found[it]).hexdigest()}  {it}\n" for it in sorted(found, key=lambda it: it.endswith(".deb"))))
+    return found
+
+
+def expect_proved(path):
+    """PROVED.txt tells the version, the commit, the kit and the gate."""
+    shape = r"boruvka (\S+)\ncommit: ([0-9a-f]{40,}|not known)(, with changes that no commit has)?\nkit: a-kit version\ngate \(make test\): (not known to have )?passed"
+    with open(path, encoding="utf-8") as it:
+        text = it.read()
+    if not re.match(shape, text) or text.split()[1] != version():
+        raise AssertionError(f"{path}: {text!r:.600}")
+
+
+@case
+def the_same_files_make_the_same_packages(room):
+    first = packed(f"{room}/first")
+    is_so(len(first), 2 if shutil.which("dpkg-deb") else 1)
+    # other modes, another place and zone, another install's folders, and a second later
+    time.sleep(1.1)
+    other = {**KIT, "TZ": "Asia/Tokyo", "LC_ALL": "C", "LIBDIR": "/elsewhere", "TMPDIR": f"{room}/longer"}
+    os.mkdir(f"{room}/longer")
+    is_so(packed(f"{room}/second", env=other, umask=0o077) == first, True)
+    # the time is the commit's, or the one that is set
+    later = packed(f"{room}/third", env={**KIT, "SOURCE_DATE_EPOCH": str(AT + 86400)})
+    is_so([it for it in first if later[it] == first[it]], [])
+
+
+@case
+def the_packed_folder_is_whole_and_runs(room):
+    name = f"boruvka-{version()}-x86_64-linux"
+    content = packed(f"{room}/packed")[f"{name}.tar.gz"]
+    # a head without a name and a time
+    is_so((content[:4], content[4:8]), (b"\x1f\x8b\x08\x00", bytes(4)))
+    os.mkdir(f"{room}/empty")
+    with tarfile.open(f"{room}/packed/{name}.tar.gz") as tar:
+        members = tar.getmembers()
+        tar.extractall(f"{room}/empty")
+    is_so([it.name for it in members], sorted((it.name for it in members), key=lambda it: it.split("/")))
+    is_so({(it.uid, it.gid, it.uname, it.gname, it.mtime) for it in members}, {(0, 0, "root", "root", AT)})
+    run_by = {f"{name}/bin/boruvka", f"{name}/lib/libboruvka.so.{version()}"}
+    is_so({it.name for it in members if it.isfile() and it.mode == 0o755}, run_by)
+    is_so({it.mode for it in members if it.isfile() and it.name not in run_by} | {it.mode + 1 for it in members if it.isdir()}, {0o644, 0o756})
+    root = f"{room}/empty/{name}"
+    more = ["README.md", "LICENSE", "PROVED.txt", "SHA256SUMS", "examples/small.gr", *(f"examples/embed/forest.{it}" for it in ("c", "py", "rs"))]
+    is_so(files_below(root), {**installed(), **dict.fromkeys(more)})
+    with open(f"{root}/SHA256SUMS", encoding="utf-8") as it:
+        told = dict(reversed(line.split()) for line in it)
+    found = {}
+    for path in [it for it, to in files_below(root).items() if to is None and it != "SHA256SUMS"]:
+        with open(f"{root}/{path}", "rb") as it:
+            found[path] = hashlib.sha256(it.read()).hexdigest()
+    is_so(told, found)
+    expect_proved(f"{root}/PROVED.txt")
+    expect(run([f"{root}/bin/boruvka", "--plain", f"{root}/examples/small.gr"], env=PLAIN), 0, SMALL_FOREST, b"")
+    expect(run([f"{root}/bin/boruvka"], SMALL_NET, env=PLAIN), 0, SMALL_FOREST, b"")
+    expect_example(f"{room}/of_c", f"{root}/include", f"{root}/lib")
+    expect(run([sys.executable, "-B", f"{root}/examples/embed/forest.py", f"{root}/lib/libboruvka.so.{major()}"], env=PLAIN), 0, SMALL_FOREST, b"")
+    if shutil.which("pkg-config"):
+        is_so(flags(f"{root}/lib/pkgconfig"), [f"-I{root}/include", f"-L{root}/lib", "-lboruvka"])
+
+
+@case
+def the_package_of_debian_is_whole_and_runs(room):
+    needs("dpkg-deb")
+    name = f"boruvka_{version()}_amd64.deb"
+    packed(f"{room}/packed")
+    path, root, lib = f"{room}/packed/{name}", f"{room}/empty", "usr/lib/x86_64-linux-gnu"
+    os.mkdir(root)
+    expect(run(["dpkg-deb", "-x", path, root]), 0, b"", b"")
+    expect(run(["dpkg-deb", "-e", path, f"{room}/control"]), 0, b"", b"")
+    wanted = installed("usr/bin", lib, "usr/include", "usr/share", "usr/share/man", "usr/share/zsh/vendor-completions")
+    wanted["usr/share/man/man1/boruvka.1.gz"] = wanted.pop("usr/share/man/man1/boruvka.1")
+    doc = ["README.md", "copyright", "PROVED.txt", "examples/small.gr", *(f"examples/embed/forest.{it}" for it in ("c", "py", "rs"))]
+    is_so(files_below(root), {**wanted, **{f"usr/share/doc/boruvka/{it}": None for it in doc}})
+    listed = run(["dpkg-deb", "-c", path], env={**PLAIN, "TZ": "UTC"})[1].decode().splitlines()
+    is_so({tuple(it.split()[1:2] + it.split()[3:5]) for it in listed}, {("root/root", "2023-11-14", "22:13")})
+    fields = dict(it.split(": ", 1) for it in run(["dpkg-deb", "-f", path])[1].decode().splitlines() if not it.startswith(" "))
+    is_so([fields[it] for it in ("Package", "Version", "Architecture")], ["boruvka", version(), "amd64"])
+    is_so(re.match(r"libc6 \(>= 2\.\d+\)", fields["Depends"]) is not None, True)
+    with open(f"{room}/control/md5sums", encoding="utf-8") as it:
+        is_so({line.split()[1] for line in it}, {path for path, to in files_below(root).items() if to is None})
+    expect((run(["md5sum", "--quiet", "-c", f"{room}/control/md5sums"], cwd=root)), 0, b"", b"")
+    with gzip.open(f"{root}/usr/share/man/man1/boruvka.1.gz", "rt", encoding="utf-8") as it:
+        is_so(it.readline(), f'.TH BORUVKA 1 "2023-11-14" "boruvka {version()}" "User Commands"\n')
+    expect_proved(f"{root}/usr/share/doc/boruvka/PROVED.txt")
+    expect(run([f"{root}/usr/bin/boruvka", "--plain", f"{root}/usr/share/doc/boruvka/examples/small.gr"], env=PLAIN), 0, SMALL_FOREST, b"")
+    expect_example(f"{room}/of_c", f"{root}/usr/include", f"{root}/{lib}")
+    if shutil.which("pkg-config"):
+        is_so(flags(f"{root}/{lib}/pkgconfig"), [f"-I{root}/usr/include", f"-L{root}/{lib}", "-lboruvka"])
+
+
+@case
+def a_package_tells_what_the_gate_passed(room):
+    """In a small repository: the record of a pass counts for its commit alone."""
+    needs("git")
+    libraries()
+    top = f"{room}/top"
+    for name in ["Makefile", "README.md", "LICENSE", "tools", "include", "man", "completions", "examples", VERSION]:
+        copy = shutil.copytree if os.path.isdir(f"{ROOT}/{name}") else shutil.copy
+        os.makedirs(os.path.dirname(f"{top}/{name}"), exist_ok=True)
+        copy(f"{ROOT}/{name}", f"{top}/{name}")
+    shutil.copy(f"{ROOT}/.gitignore", top)
+    git = ["git", "-C", top, "-c", "user.name=a name", "-c", "user.email=", "-c", "commit.gpgsign=false"]
+    expect(run([*git, "init", "-q"]), 0, b"", b"")
+
+    def committed(text):
+        written(f"{top}/note", text)
+        expect(run([*git, "add", "-A"]), 0, b"", b"")
+        expect(run([*git, "commit", "-q", "-m", "a note"]), 0, b"", b"")
+
+    def gate(between="pass"):
+        code = f"import sys; sys.path.insert(0, 'tools'); import record; gate = record.Gate(); {between}; gate.keep(['1 passed, 0 failed'])"
+        expect(run([sys.executable, "-B", "-c", code], cwd=top, env=KIT), 0, b"", b"")
+
+    def told():
+        code = "import sys; sys.path.insert(0, 'tools'); import dist; print(*dist.Release('', '').proved(), sep='\\n')"
+        status, output, errors = run([sys.executable, "-B", "-c", code], cwd=top, env=KIT)
+        expect((status, b"", errors), 0, b"", b"")
+        return output.decode().splitlines()
+
+    committed(b"one\n")
+    first = run([*git, "rev-parse", "HEAD"])[1].decode().strip()
+    head = [f"boruvka {version()}", f"commit: {first}", "kit: a-kit version"]
+    passed = ["gate (make test): passed on this commit, with a-kit version", "    1 passed, 0 failed"]
+    unknown = ["gate (make test): not known to have passed on this commit"]
+    is_so(told(), head + unknown)
+    gate()
+    is_so(told(), head + passed)
+    # a package has it, and the commit's time
+    os.makedirs(f"{top}/crates/boruvka_c/out")
+    shutil.copy(Program.path, f"{top}/crates/boruvka/out/boruvka")
+    for name in ("libboruvka.a", f"libboruvka.so.{version()}"):
+        shutil.copy(f"{LIBRARIES}/{name}", f"{top}/crates/boruvka_c/out/{name}")
+    status, output, _ = run([sys.executable, "-B", f"{top}/tools/dist.py"], env={it: word for it, word in KIT.items() if it != "SOURCE_DATE_EPOCH"})
+    is_so((status, output.count(b"\n")), (0, 2 if shutil.which("dpkg-deb") else 1))
+    name = f"boruvka-{version()}-x86_64-linux"
+    with tarfile.open(f"{top}/dist/{name}.tar.gz") as tar:
+        member = tar.getmember(f"{name}/PROVED.txt")
+        is_so(str(member.mtime), run([*git, "log", "-1", "--format=%ct"])[1].decode().strip())
+        is_so(tar.extractfile(member).read().decode().splitlines(), head + passed)
+    # files that no commit has, and another commit
+    written(f"{top}/note", b"two\n")
+    is_so(told(), [head[0], f"{head[1]}, with changes that no commit has", head[2], *unknown])
+    committed(b"two\n")
+    is_so(told()[3:], unknown)
+    gate()
+    is_so(told()[3:], passed)
+    # a gate that didn't end, one over such files, and one while which the commit changed
+    expect(run([sys.executable, "-B", "-c", "import sys; sys.path.insert(0, 'tools'); import record; record.Gate()"], cwd=top), 0, b"", b"")
+    is_so(told()[3:], unknown)
+    written(f"{top}/note", b"three\n")
+    gate()
+    written(f"{top}/note", b"two\n")
+    is_so(told()[3:], unknown)
+    gate("open('note', 'w').write('four')")
+    written(f"{top}/note", b"two\n")
+    is_so(told()[3:], unknown)

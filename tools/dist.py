@@ -1,0 +1,224 @@
+#!/usr/bin/env python3
+"""Packs what was built into a release: a .tar.gz, and a .deb if dpkg-deb is there.
+
+usage: tools/dist.py [--program FILE] [--libraries FOLDER] [INTO]
+
+It proves and builds nothing: `make dist` does that before it. FILE is the program, FOLDER has the libraries, and INTO
+gets the packages: dist/, if none is named. What goes into them is what `make install` copies, with the README, the
+licence, the examples, the sums of all files, and PROVED.txt: the commit, the kit, and the last lines of the gate if it
+has passed on this commit.
+
+The same files give the same bytes: names are sorted, owners are root, and each time is that of the commit, or
+SOURCE_DATE_EPOCH if that is set. Each package's sum goes to standard output.
+"""
+import gzip
+import hashlib
+import io
+import os
+import re
+import shutil
+import subprocess
+import sys
+import tarfile
+import tempfile
+
+sys.dont_write_bytecode = True
+
+import record
+from crates import ROOT
+from stamp import git, seconds, text_of, version
+
+PROGRAM = f"{ROOT}/crates/boruvka/out/boruvka"
+LIBRARIES = f"{ROOT}/crates/boruvka_c/out"
+EXAMPLES = ["examples/small.gr", "examples/embed/forest.c", "examples/embed/forest.py", "examples/embed/forest.rs"]
+# Where an install puts what, if the environment says so; for a package it doesn't count.
+FOLDERS = ("BINDIR", "LIBDIR", "INCLUDEDIR", "MANDIR", "BASHDIR", "ZSHDIR", "FISHDIR")
+# The package of Debian that has a shared library.
+PACKAGES = {"libc.so.6": "libc6", "libm.so.6": "libc6", "libpthread.so.0": "libc6", "libdl.so.2": "libc6", "ld-linux-x86-64.so.2": "libc6", "libgcc_s.so.1": "libgcc-s1"}
+CONTROL = """\
+Package: boruvka
+Version: {version}
+Architecture: amd64
+Maintainer: the authors of Borůvka
+Installed-Size: {size}
+Depends: {depends}
+Section: math
+Priority: optional
+Description: minimum spanning forests of weighted graphs
+ The program boruvka reads a weighted graph in the .gr format and writes its
+ minimum spanning forest. A shared and a static library compute the forest of
+ links that lie in the memory of a program in C, Rust or Python.
+"""
+
+
+class NotPacked(Exception):
+    pass
+
+
+class Release:
+    """What goes into each package, and the time that all of it has."""
+
+    def __init__(self, program, libraries):
+        self.program, self.libraries = program, libraries
+        self.version, self.seconds = version(), seconds()
+        if self.seconds is None:
+            raise NotPacked("the time of the commit isn't known: set SOURCE_DATE_EPOCH")
+
+    def install(self, root, prefix, **folders):
+        """What `make install` copies, below a root."""
+        env = {it: word for it, word in os.environ.items() if it not in ("MAKEFLAGS", "MAKELEVEL", "MFLAGS", *FOLDERS)}
+        # (as make names its targets, which can't have a space: the path of a checkout may)
+        program, library = os.path.relpath(self.program, ROOT), os.path.relpath(f"{self.libraries}/libboruvka", ROOT)
+        words = [f"PROGRAM={program}", f"LIBRARY={library}", f"DESTDIR={root}", f"PREFIX={prefix}"]
+        words += [f"{name}={folder}" for name, folder in folders.items()]
+        ended = subprocess.run(["make", "-s", "-C", ROOT, *words, "install"], env=env, capture_output=True, text=True, check=False)
+        if ended.returncode:
+            raise NotPacked(ended.stderr.strip())
+
+    def proved(self):
+        """What was proved, for PROVED.txt."""
+        head, gate = git("rev-parse", "HEAD"), record.kept()
+        changed = ", with changes that no commit has" if head and not record.commit() else ""
+        yield f"boruvka {self.version}"
+        yield f"commit: {head or 'not known'}{changed}"
+        yield f"kit: {record.kit() or 'not known'}"
+        if gate:
+            yield f"gate (make test): passed on this commit, with {gate['kit'] or 'a kit that is not known'}"
+            yield from [f"    {it}" for it in gate["lines"]]
+        else:
+            yield "gate (make test): not known to have passed on this commit"
+
+    def settle(self, root):
+        """Gives all below a folder the modes and the time that they have in a package."""
+        for at, folders, files in os.walk(root, topdown=False):
+            for name in [*files, *folders]:
+                os.utime(f"{at}/{name}", (self.seconds, self.seconds), follow_symlinks=False)
+            os.chmod(at, 0o755)
+            os.utime(at, (self.seconds, self.seconds))
+
+
+def put(path, content):
+    os.makedirs(os.path.dirname(path), exist_ok=True)
+    with open(path, "wb") as it:
+        it.write(content.encode() if isinstance(content, str) else content)
+    os.chmod(path, 0o644)
+
+
+def read(path):
+    with open(path, "rb") as it:
+        return it.read()
+
+
+def files_below(root):
+    """The regular files below a folder, by their names from there, sorted."""
+    found = [f"{at}/{name}" for at, _, files in os.walk(root) for name in files]
+    return sorted(os.path.relpath(it, root) for it in found if not os.path.islink(it))
+
+
+def sums(root, kind):
+    """The lines that sha256sum or md5sum writes of all files below a folder."""
+    return "".join(f"{hashlib.new(kind, read(f'{root}/{it}')).hexdigest()}  {it}\n" for it in files_below(root))
+
+
+def gzipped(content):
+    """The content as gzip packs it, without a name and a time."""
+    packed = io.BytesIO()
+    with gzip.GzipFile(filename="", mode="wb", fileobj=packed, mtime=0) as out:
+        out.write(content)
+    return packed.getvalue()
+
+
+def tarball(release, room):
+    name = f"boruvka-{release.version}-x86_64-linux"
+    root = f"{room}/{name}"
+    release.install(root, "")
+    for path in ["README.md", "LICENSE", *EXAMPLES]:
+        put(f"{root}/{path}", text_of(path))
+    put(f"{root}/PROVED.txt", "\n".join(release.proved()) + "\n")
+    put(f"{root}/SHA256SUMS", sums(root, "sha256"))
+    release.settle(root)
+    packed = io.BytesIO()
+    with tarfile.open(fileobj=packed, mode="w", format=tarfile.USTAR_FORMAT) as tar:
+        # (it adds what is below a folder in the order of the names)
+        tar.add(root, name, filter=owned_by_root)
+    return f"{name}.tar.gz", gzipped(packed.getvalue())
+
+
+def owned_by_root(member):
+    member.uid = member.gid = 0
+    member.uname = member.gname = "root"
+    return member
+
+
+def depends(files):
+    """The packages that these programs and libraries need, with the least version of the C library."""
+    code = b"".join(map(read, files))
+    wanted = {it.decode() for it in re.findall(rb"\0((?:lib|ld-)[\w+-]+\.so\.\d+)(?=\0)", code) if not it.startswith(b"libboruvka.")}
+    if not wanted <= PACKAGES.keys():
+        raise NotPacked(f"no package is known for {', '.join(sorted(wanted - PACKAGES.keys()))}")
+    least = max(tuple(map(int, it.split(b"."))) for it in re.findall(rb"\0GLIBC_(\d+\.\d+(?:\.\d+)?)(?=\0)", code))
+    packages = {PACKAGES[it] for it in wanted} | {"libc6"}
+    return ", ".join(f"libc6 (>= {'.'.join(map(str, least))})" if it == "libc6" else it for it in sorted(packages))
+
+
+def debian(release, room):
+    root = f"{room}/root"
+    lib = "/usr/lib/x86_64-linux-gnu"
+    release.install(root, "/usr", LIBDIR=lib, ZSHDIR="/usr/share/zsh/vendor-completions")
+    page = f"{root}/usr/share/man/man1/boruvka.1"
+    put(f"{page}.gz", gzipped(read(page)))
+    os.remove(page)
+    # a shared library isn't run
+    os.chmod(f"{root}{lib}/libboruvka.so.{release.version}", 0o644)
+    share = f"{root}/usr/share/doc/boruvka"
+    put(f"{share}/copyright", text_of("LICENSE"))
+    put(f"{share}/README.md", text_of("README.md"))
+    put(f"{share}/PROVED.txt", "\n".join(release.proved()) + "\n")
+    for path in EXAMPLES:
+        put(f"{share}/{path}", text_of(path))
+    put(f"{root}/DEBIAN/md5sums", sums(root, "md5"))
+    put(f"{root}/DEBIAN/triggers", "activate-noawait ldconfig\n")
+    blocks = sum(-(-os.path.getsize(f"{root}/{it}") // 1024) for it in files_below(root))
+    needs = depends([f"{root}/usr/bin/boruvka", f"{root}{lib}/libboruvka.so.{release.version}"])
+    put(f"{root}/DEBIAN/control", CONTROL.format(version=release.version, size=blocks, depends=needs))
+    release.settle(root)
+    made = f"{room}/made.deb"
+    words = ["dpkg-deb", "--root-owner-group", "--uniform-compression", "-Zgzip", "-z9", "--build", root, made]
+    ended = subprocess.run(words, env={**os.environ, "SOURCE_DATE_EPOCH": str(release.seconds)}, capture_output=True, text=True, check=False)
+    if ended.returncode or ended.stderr:
+        raise NotPacked(ended.stderr.strip())
+    return f"boruvka_{release.version}_amd64.deb", read(made)
+
+
+def main(words):
+    program, libraries, into = PROGRAM, LIBRARIES, []
+    while words:
+        word = words.pop(0)
+        if word == "--program" and words:
+            program = os.path.realpath(words.pop(0))
+        elif word == "--libraries" and words:
+            libraries = os.path.realpath(words.pop(0))
+        elif word.startswith("-") or into:
+            print(__doc__, end="", file=sys.stderr)
+            return 2
+        else:
+            into.append(os.path.realpath(word))
+    folder = into[0] if into else f"{ROOT}/dist"
+    try:
+        release = Release(program, libraries)
+        for pack in [tarball, debian]:
+            if pack is debian and not shutil.which("dpkg-deb"):
+                print("dpkg-deb is not there, so no .deb was made", file=sys.stderr)
+                continue
+            with tempfile.TemporaryDirectory(prefix="boruvka-dist-") as room:
+                name, content = pack(release, room)
+            put(f"{folder}/{name}", content)
+            print(f"{hashlib.sha256(content).hexdigest()}  {name}")
+    except NotPacked as error:
+        print(f"tools/dist.py: {error}", file=sys.stderr)
+        return 1
+    return 0
+
+
+if __name__ == "__main__":
+    sys.exit(main(sys.argv[1:]))

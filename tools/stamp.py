@@ -1,0 +1,100 @@
+#!/usr/bin/env python3
+"""Prints a file as it is installed: with the version in it, and with what depends on the folders.
+
+usage: tools/stamp.py page
+       tools/stamp.py pc PREFIX LIBDIR INCLUDEDIR
+
+`page` is the manual page. Its date is that of the commit, or of SOURCE_DATE_EPOCH if that is set, and it is left out
+if neither is known. `pc` is boruvka.pc for these folders. It names its prefix by its own place if LIBDIR lies below
+PREFIX, so that the whole PREFIX can be moved. A folder that lies elsewhere is named by its full path.
+"""
+import os
+import re
+import subprocess
+import sys
+import time
+
+sys.dont_write_bytecode = True
+
+from crates import ROOT
+
+VERSION = "crates/program_words/src/version.rt"
+PAGE = "man/boruvka.1"
+PC = "include/boruvka.pc.in"
+
+
+def text_of(path):
+    with open(f"{ROOT}/{path}", encoding="utf-8") as it:
+        return it.read()
+
+
+def version():
+    """The number of the version."""
+    return re.search(r'^pub const VERSION: &str = "(\d+\.\d+\.\d+)";$', text_of(VERSION), re.M)[1]
+
+
+def git(*words):
+    """What git says of this checkout, or None if it says nothing: there may be no git, or no checkout."""
+    if not os.path.exists(f"{ROOT}/.git"):
+        return None
+    try:
+        ended = subprocess.run(["git", "-C", ROOT, *words], capture_output=True, text=True, check=False)
+    except OSError:
+        return None
+    return None if ended.returncode else ended.stdout.strip()
+
+
+def seconds():
+    """The time that the release is of, in seconds since 1970, or None if it isn't known."""
+    told = os.environ.get("SOURCE_DATE_EPOCH") or git("log", "-1", "--format=%ct")
+    return int(told) if told else None
+
+
+def page():
+    """The manual page, whose first line has the date and the version."""
+    at = seconds()
+    date = "" if at is None else time.strftime("%Y-%m-%d", time.gmtime(at))
+    made, count = re.subn(r'^\.TH BORUVKA 1 "" "boruvka" ', f'.TH BORUVKA 1 "{date}" "boruvka {version()}" ', text_of(PAGE), flags=re.M)
+    if count != 1:
+        sys.exit(f"tools/stamp.py: {PAGE} has no line for the date and the version")
+    return made
+
+
+def full(folder):
+    """The full path of a folder, as boruvka.pc writes it."""
+    return os.path.abspath(folder or "/").replace(" ", "\\ ")
+
+
+def place(folder, prefix):
+    """How boruvka.pc names a folder: from its prefix on, if it lies there."""
+    below = os.path.relpath(folder or "/", prefix or "/")
+    return full(folder) if below.split("/")[0] == ".." else "${prefix}/" + below.replace(" ", "\\ ")
+
+
+def pc(prefix, libdir, includedir):
+    """The file by which pkg-config finds the libraries."""
+    lib = place(libdir, prefix)
+    # from LIBDIR/pkgconfig, which has the file
+    up = os.path.relpath(prefix or "/", f"{libdir}/pkgconfig")
+    values = {
+        "PREFIX": f"${{pcfiledir}}/{up}" if lib.startswith("${prefix}") else full(prefix),
+        "LIBDIR": lib,
+        "INCLUDEDIR": place(includedir, prefix),
+        "VERSION": version(),
+    }
+    return re.sub("@([A-Z]+)@", lambda it: values[it[1]], text_of(PC))
+
+
+def main(words):
+    if words == ["page"]:
+        print(page(), end="")
+    elif len(words) == 4 and words[0] == "pc":
+        print(pc(*words[1:]), end="")
+    else:
+        print(__doc__, end="", file=sys.stderr)
+        return 2
+    return 0
+
+
+if __name__ == "__main__":
+    sys.exit(main(sys.argv[1:]))
