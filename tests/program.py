@@ -5,10 +5,11 @@ usage: tests/program.py [PROGRAM]
 
 PROGRAM is crates/boruvka/out/boruvka if none is named. The cases stand in tests/cases, by subject; running.py there
 says how they run the program. Memory is refused, and calls of the system fail, by small libraries that are preloaded
-(tests/refusing.c and tests/failing.c, built by cc into a temporary folder). What docs/RECIPES.md and the manual page
-show is run as it stands; a picture is drawn only where `dot` is there. The last cases try tests/wrong_bodies.py,
-tests/gate.py and tools/prove.py, with small programs in the place of what these run. Else Python's standard library,
-make, a shell with its usual tools and a C compiler are all that it needs. The last line is `N passed, M failed`, and the
+(tests/refusing.c and tests/failing.c, built by cc into a temporary folder). What README.md, docs/RECIPES.md and the
+manual page show is run as it stands; a picture is drawn only where `dot` is there. A case for a shell, or for another
+command, is skipped if that isn't there. The last cases try tests/wrong_bodies.py, tests/gate.py and tools/prove.py,
+with small programs in the place of what these run. Else Python's standard library, make, a shell with its usual tools
+and a C compiler are all that it needs. The last line is `N passed, M failed`, without those that were skipped, and the
 status is 0 only where none failed.
 """
 import os
@@ -19,8 +20,8 @@ import time
 
 sys.dont_write_bytecode = True
 
-from cases import words, streams, workers, sockets, pairs, calls, memory, embedding, documents, headline, wrong_bodies, gate, proving  # noqa: F401, I001 (they run in this order)
-from cases.running import CASES, Program
+from cases import words, streams, workers, sockets, pairs, calls, memory, embedding, release, documents, headline, machinery  # noqa: F401, I001 (they run in this order)
+from cases.running import CASES, Program, Skipped
 
 
 def main(arguments):
@@ -29,7 +30,7 @@ def main(arguments):
         print(f"tests/program.py: there is no program {Program.path}: `make run` builds it", file=sys.stderr)
         print(f"0 passed, {len(CASES)} failed")
         return 1
-    failed = 0
+    failed = skipped = 0
     with tempfile.TemporaryDirectory(prefix="boruvka-program-") as folder:
         for number, function in enumerate(CASES):
             name = function.__name__.replace("_", " ")
@@ -39,10 +40,13 @@ def main(arguments):
             try:
                 function(room)
                 print(f"program: {name}: ok, {time.monotonic() - begun:.1f} s", flush=True)
+            except Skipped as why:
+                skipped += 1
+                print(f"program: {name}: skipped: {why}", flush=True)
             except (AssertionError, OSError, subprocess.SubprocessError) as error:
                 failed += 1
                 print(f"program: {name}: FAILED: {error}", flush=True)
-    print(f"{len(CASES) - failed} passed, {failed} failed")
+    print(f"{len(CASES) - failed - skipped} passed, {failed} failed")
     return 1 if failed else 0
 
 

@@ -1,0 +1,372 @@
+"""The programs around the proofs, over small repositories with stand-ins for `rt`: that the gate fails if a part of it ends
+ill, what it keeps for a release, that nothing is proved over a crate that isn't, and which wrong bodies are counted as
+refused."""
+import json
+import os
+import re
+import shutil
+import stat
+import subprocess
+import sys
+
+from cases.running import ROOT, SECONDS, TESTS, Skipped, case
+
+
+def expect(found, wanted):
+    if found != wanted:
+        raise AssertionError(f"wanted {wanted}\n    found  {found}")
+
+
+class Folder:
+    """A small repository."""
+
+    def __init__(self, room, copied):
+        self.room = room
+        for path in copied:
+            os.makedirs(os.path.dirname(f"{room}/{path}"), exist_ok=True)
+            shutil.copy(f"{ROOT}/{path}", f"{room}/{path}")
+
+    def put(self, path, text):
+        os.makedirs(os.path.dirname(f"{self.room}/{path}"), exist_ok=True)
+        with open(f"{self.room}/{path}", "w", encoding="utf-8") as it:
+            it.write(text)
+
+    def put_program(self, path, text):
+        self.put(path, f"#!/bin/sh\n{text}\n")
+        os.chmod(f"{self.room}/{path}", stat.S_IRWXU)
+
+    def read(self, path):
+        with open(f"{self.room}/{path}", encoding="utf-8") as it:
+            return it.read()
+
+    def commit(self):
+        """Commits all of it, and answers the commit."""
+        git = ["git", "-C", self.room, "-c", "user.name=a name", "-c", "user.email=", "-c", "commit.gpgsign=false"]
+        for words in [["init", "-q"], ["add", "-A"], ["commit", "-q", "-m", "all"]]:
+            subprocess.run([*git, *words], check=True, timeout=SECONDS)
+        return subprocess.run([*git, "rev-parse", "HEAD"], check=True, capture_output=True, text=True, timeout=SECONDS).stdout.strip()
+
+
+# ---- the gate
+
+
+class Gated(Folder):
+    """One with the gate alone, and a program that was built."""
+
+    def __init__(self, room):
+        super().__init__(room, ["tests/gate.py", "tools/record.py", "tools/stamp.py", "tools/crates.py"])
+        self.put_program("crates/boruvka/out/boruvka", "exit 1")
+
+    def run(self, of_ci, of_program):
+        """Status and lines of the gate, when `rt` prints these lines and ends with this status, and then tests/program.py."""
+        shown = " ".join(f"'{it}'" for it in of_ci[1:])
+        self.put_program("bin/rt", f"[ \"$*\" = ci ] || exit 9\nprintf '%s\\n' {shown}\nexit {of_ci[0]}")
+        self.put("tests/program.py", f"print({chr(10).join(of_program[1:])!r})\nraise SystemExit({of_program[0]})\n")
+        env = {**os.environ, "PATH": f"{self.room}/bin:{os.environ['PATH']}"}
+        words = [sys.executable, f"{self.room}/tests/gate.py"]
+        ended = subprocess.run(words, env=env, stdin=subprocess.DEVNULL, capture_output=True, text=True, timeout=SECONDS, check=False)
+        return ended.returncode, ended.stdout.splitlines()
+
+    def expect(self, of_ci, of_program, status, last):
+        """The status and the last line, and no line of results before it but tests/program.py's."""
+        found = self.run(of_ci, of_program)
+        results = [it for it in found[1] if re.fullmatch(r"\d+ passed, \d+ failed", it)]
+        before = [it for it in of_program[1:] if re.fullmatch(r"\d+ passed, \d+ failed", it)]
+        if found[0] != status or found[1][-1:] != [last] or len(results) > 1 + len(before) or of_ci[-1] in results[:-1]:
+            raise AssertionError(f"wanted {status} and {last}, found {found}")
+        return found[1]
+
+
+@case
+def the_gate_fails_if_a_part_ends_ill_or_tells_nothing(room):
+    it = Gated(room)
+    passed, program = ["0", "rt: all is proved", "12 passed, 0 failed"], ["0", "3 passed, 0 failed"]
+    expect(it.expect(passed, program, 0, "15 passed, 0 failed")[:1], ["rt: all is proved"])
+    for of_ci, of_program, last in [
+        (["1", "11 passed, 1 failed"], program, "14 passed, 1 failed"),
+        (["3", "12 passed, 0 failed"], program, "15 passed, 1 failed"),
+        (["0", "rt: all is proved"], program, "3 passed, 1 failed"),
+        (["0", "12 passed, 0 failed, 1 skipped"], program, "3 passed, 1 failed"),
+        (passed, ["1", "2 passed, 1 failed"], "14 passed, 1 failed"),
+        (passed, ["0", "a word"], "12 passed, 1 failed"),
+        (passed, ["1", "3 passed, 0 failed"], "15 passed, 1 failed"),
+    ]:
+        it.expect(of_ci, of_program, 1, last)
+
+
+@case
+def the_gate_keeps_what_a_commit_passed(room):
+    if not shutil.which("git"):
+        raise Skipped("there is no git")
+    it = Gated(room)
+    it.put(".gitignore", "out/\nbin/\ntests/program.py\n")
+    head, record = it.commit(), "crates/boruvka/out/gate.json"
+    passed, program = ["0", "12 passed, 0 failed"], ["0", "3 passed, 0 failed"]
+    it.expect(passed, program, 0, "15 passed, 0 failed")
+    found = json.loads(it.read(record))
+    lines = ["rt ci: 12 passed, 0 failed", "tests/program.py: 3 passed, 0 failed", "15 passed, 0 failed"]
+    expect((found["commit"], found["lines"]), (head, lines))
+    it.expect(passed, ["1", "2 passed, 1 failed"], 1, "14 passed, 1 failed")
+    expect(os.path.exists(f"{room}/{record}"), False)
+
+
+# ---- what is proved before what
+
+# It notes each call in CALLS: its words and its crate. A crate is proved where what stands below it was built beside it, and
+# BAD doesn't name it; then it has out/rlib. Where MEET names crates, each of those waits until all of them are under way.
+# `run` writes what it is given to out/ran.
+RT = r"""
+import os, re, sys, time
+crate, calls = os.path.basename(os.getcwd()), os.environ["CALLS"]
+with open(calls, "a", encoding="utf-8") as it:
+    it.write(f"{' '.join(sys.argv[1:])}: {crate}\n")
+with open("../../crates.txt", encoding="utf-8") as it:
+    below = next(line.partition(":")[2].split() for line in it if re.match(rf"{crate}\b", line))
+meet = os.environ.get("MEET", "").split()
+for _ in range(200):
+    with open(calls, encoding="utf-8") as it:
+        begun = {line.split()[-1] for line in it}
+    if crate not in meet or begun >= set(meet):
+        break
+    time.sleep(0.1)
+else:
+    sys.exit(f"{crate}: alone")
+for name in below:
+    if not os.path.isfile(f"../{name}/out/rlib/{name}"):
+        sys.exit(f"{crate}: {name} was not built")
+if crate in os.environ.get("BAD", "").split():
+    print("a goal is left")
+    sys.exit(1)
+os.makedirs("out/rlib", exist_ok=True)
+if sys.argv[1] == "run":
+    with open("out/ran", "w", encoding="utf-8") as it:
+        it.write(" ".join(sys.argv[2:]) + "\n" + sys.stdin.read())
+open(f"out/rlib/{crate}", "w").close()
+"""
+CRATES = "# a comment\nlow:\nleft: low\nright: low\nprogram: left right\narchive staticlib: left\nother: low\n"
+
+
+class Chain(Folder):
+    """One with a program and a static library over three libraries, and one more."""
+
+    def __init__(self, room):
+        super().__init__(room, ["tools/prove.py", "tools/crates.py"])
+        self.put("rt.py", RT)
+        self.put("crates.txt", CRATES)
+        for crate in ("low", "left", "right", "archive", "other"):
+            self.put(f"crates/{crate}/src/lib.rt", f"// {crate}\n")
+        self.put("crates/program/src/main.rt", "// program\n")
+        self.put("crates/program/args", "--one\ntwo words\n")
+        self.put("crates/program/stdin", "what it reads\n")
+
+    def run(self, words, **more):
+        """Status, standard error, and each call of `rt`, without the number of its processes."""
+        self.put("calls", "")
+        env = {**os.environ, "RT": f"'{sys.executable}' '{self.room}/rt.py'", "CALLS": f"{self.room}/calls", **more}
+        words = [sys.executable, f"{self.room}/tools/prove.py", "--jobs", "2", *words]
+        ended = subprocess.run(words, env=env, capture_output=True, text=True, timeout=SECONDS, check=False)
+        expect(ended.stdout, "")
+        calls = [line.split() for line in self.read("calls").splitlines()]
+        return ended.returncode, ended.stderr, [" ".join([it[0], it[-1]]) for it in calls]
+
+    def built(self):
+        """The crates that have been built, where they stand; and that no room is left."""
+        crates = f"{self.room}/crates"
+        expect([it for it, folders, _ in os.walk(self.room) if "rooms" in folders], [])
+        return {it for it in os.listdir(crates) if os.path.isfile(f"{crates}/{it}/out/rlib/{it}")}
+
+
+@case
+def a_program_and_a_static_library_come_after_what_they_stand_on(room):
+    it = Chain(room)
+    status, told, calls = it.run(["program"], MEET="left right")
+    expect((status, calls[:1], sorted(calls[1:3]), calls[3:]), (0, ["lib low"], ["lib left", "lib right"], ["run program"]))
+    expect(it.built(), {"low", "left", "right", "program"})
+    ran = it.read("crates/program/out/ran").split("\n", 1)
+    expect((ran[0].partition(" -- ")[2], ran[1]), ("--one two words", "what it reads\n"))
+    said = told.splitlines()
+    expect(said[:2], ["proves 4 crates, then builds; 10 to 30 minutes on four processors, once", "0 of 4 crates proved, 0 min; at work on low"])
+    status, _, calls = it.run(["archive"])
+    expect((status, calls[-1:], "archive" in it.built()), (0, ["lib archive"], True))
+
+
+@case
+def nothing_is_proved_over_a_crate_that_is_not(room):
+    it = Chain(room)
+    status, told, calls = it.run(["program"], BAD="left", MEET="left right")
+    expect((status, sorted(calls)), (1, ["lib left", "lib low", "lib right"]))
+    expect(told.endswith("a goal is left\nleft is not proved, so nothing was built\n"), True)
+    expect(it.built() & {"left", "program"}, set())
+    # what was proved stays, and the next run goes on
+    expect("low" in it.built(), True)
+    expect(it.run(["program"])[0], 0)
+    expect(it.built(), {"low", "left", "right", "program"})
+    status, told, _ = it.run(["program"], BAD="program")
+    expect((status, told.endswith("a goal is left\nprogram is not proved, or its run failed\n")), (1, True))
+    for name in ("other", "nothing"):
+        expect(it.run([name]), (2, f"tools/prove.py: crates.txt has no program or static library {name}\n", []))
+
+
+# ---- wrong bodies
+
+# It judges each function of src/lib.rt by its body: right is `give(N)`, where its clause says N. It notes each check in
+# CALLS. Of a copy, it ends as ENDS says (a status and a last line).
+PROVER = r"""
+import os, re, sys
+is_copy, wrong = "/wrong-bodies-" in os.getcwd(), False
+with open(os.environ["CALLS"], "a", encoding="utf-8") as calls:
+    calls.write(f"{os.getpid()} {os.path.basename(os.getcwd())}\n")
+with open("src/lib.rt", encoding="utf-8") as it:
+    text = it.read()
+if is_copy and "ENDS" in os.environ:
+    status, last = os.environ["ENDS"].split(" ", 1)
+    print(last)
+    sys.exit(int(status))
+for it in re.finditer(r"fn (\w+)\(\) -> u8\n    ensures \|it\| it == (\d),\n\{\n    (.*)\n\}", text):
+    name, number, value = it.groups()
+    line = text.count("\n", 0, it.start(3)) + 1
+    if value == "noted()":
+        print(f"note: src/lib.rt:{line}:5: it is not proved at first that the clause holds")
+    if value in (f"give({number})", "passes()", "noted()"):
+        continue
+    wrong = True
+    if value == "gone()":
+        print(f"proofs/{name}/body.oantt:1:1: error: `gone` is not in scope")
+    elif value == "told()":
+        print(f"fn small::{name}: not proved: `auto` did not prove it")
+    elif value == "elsewhere()":
+        print("src/lib.rt:4:5: error: it is not proved that the clause holds")
+        print("proofs/one/body.oantt:1:1: error: a goal is left")
+        print("fn small::one: not proved: `auto` did not prove it")
+    elif value != "waits()":
+        print(f"src/lib.rt:{line}:5: error: it is not proved that the clause holds")
+print("logic=not-proved functions=1" if wrong else "logic=proved functions=1")
+sys.exit(wrong)
+"""
+GOAL = "error: it is not proved that the clause holds"
+
+
+def function(name, number, before=""):
+    return f"{before}pub fn {name}() -> u8\n    ensures |it| it == {number},\n{{\n    give({number})\n}}\n"
+
+
+def turned(old, new, why="why: `one`: its clause refuses it\n", file="src/lib.rt"):
+    return f"{why}file: {file}\nold: {old}\nnew: {new}\n"
+
+
+class Bodies(Folder):
+    """One with the crates `small`, of three functions, and `other`, of one."""
+
+    def __init__(self, room):
+        super().__init__(room, ["tests/wrong_bodies.py", "tools/crates.py"])
+        self.put("crates.txt", "small:\nother: small\n")
+        self.put("prover.py", PROVER)
+        self.put("crates/small/src/lib.rt", function("one", 1) + function("two", 2) + function("three", 3))
+        self.put("crates/other/src/lib.rt", function("four", 4))
+
+    def put_edit(self, name, text, crate="small", folder="wrong-bodies"):
+        self.put(f"crates/{crate}/{folder}/{name}.edit", text)
+
+    def expect(self, status, lines, checks, words=("--jobs", "1"), **more):
+        """Runs it: its status, its lines but the one of its times (in any order, but the last), and the number of checks."""
+        self.put("calls", "")
+        env = {**os.environ, "RT": f"'{sys.executable}' '{self.room}/prover.py'", "CALLS": f"{self.room}/calls", **more}
+        words = [sys.executable, f"{self.room}/tests/wrong_bodies.py", *words]
+        ended = subprocess.run(words, env=env, stdin=subprocess.DEVNULL, stdout=subprocess.PIPE, stderr=subprocess.STDOUT, text=True, timeout=SECONDS, check=False)
+        said = [it for it in ended.stdout.splitlines() if not it.endswith(" s of processor time")]
+        found = ended.returncode, sorted(said[:-1]), said[-1:], len(self.read("calls").splitlines())
+        expect(found, (status, sorted(lines[:-1]), lines[-1:], checks))
+
+
+@case
+def wrong_bodies_of_several_functions_share_a_copy(room):
+    it = Bodies(room)
+    it.put_edit("a", turned("give(1)", "give(7)"))
+    it.put_edit("b", turned("give(2)", "told()"))
+    it.put_edit("c", turned("give(3)", "give(7)"), folder="must-fail")
+    it.put_edit("d", turned("give(4)", "give(7)"), crate="other")
+    own = "fn small::two: not proved: `auto` did not prove it"
+    small = [f"small/a: refused: src/lib.rt:4:5: {GOAL}", f"small/b: refused: {own}"]
+    other = [f"other/d: refused: src/lib.rt:4:5: {GOAL}"]
+    # a check of each crate, then one of each copy
+    it.expect(0, [*small, *other, "3 wrong bodies refused, 0 survived"], 4)
+    it.expect(0, [*small, *other, "3 wrong bodies refused, 0 survived"], 4, ["--jobs", "2"])
+    it.expect(0, [*small, "2 wrong bodies refused, 0 survived"], 2, ["--jobs", "1", "small"])
+    third = f"small/c: refused: src/lib.rt:14:5: {GOAL}"
+    it.expect(0, [*small, third, "3 wrong bodies refused, 0 survived"], 2, ["--jobs", "1", "--must-fail", "small"])
+
+
+@case
+def a_body_that_is_proved_survives(room):
+    it = Bodies(room)
+    it.put_edit("a", turned("give(1)", "give(7)"))
+    it.put_edit("b", turned("give(2)", "passes()"))
+    # it is tried once more, alone
+    it.expect(1, [f"small/a: refused: src/lib.rt:4:5: {GOAL}", "small/b: SURVIVED", "1 wrong bodies refused, 1 survived"], 3)
+    # what is said beside a verdict that all is proved refuses nothing
+    it.put_edit("a", turned("give(1)", "noted()"))
+    os.remove(f"{room}/crates/small/wrong-bodies/b.edit")
+    it.expect(1, ["small/a: SURVIVED", "0 wrong bodies refused, 1 survived"], 2)
+
+
+@case
+def a_body_is_refused_for_a_reason_of_its_own(room):
+    it = Bodies(room)
+    it.put_edit("a", turned("give(2)", "elsewhere()"))
+    it.put_edit("b", turned("give(3)", "waits()"))
+    it.expect(1, ["small/a: SURVIVED", "small/b: SURVIVED", "0 wrong bodies refused, 2 survived"], 4)
+    it.put_edit("a", turned("give(2)", "gone()"))
+    it.put_edit("b", turned("give(3)", "give(7)"))
+    named = "small/a: refused (SUSPICIOUS: only a proof file's names are missing; turn a value in its place): proofs/two/body.oantt:1:1: error: `gone` is not in scope"
+    it.expect(0, [f"small/b: refused: src/lib.rt:14:5: {GOAL}", named, "2 wrong bodies refused, 0 survived"], 3)
+
+
+@case
+def a_wrong_body_that_cannot_be_tried_is_told(room):
+    it = Bodies(room)
+    right = turned("give(1)", "give(7)")
+    for name, text, why in [
+        ("a", turned("give(9)", "give(7)"), "an old text doesn't stand once in its file"),
+        ("b", turned("give", "take"), "an old text doesn't stand once in its file"),
+        ("c", turned("give(1)", "give(7)", why=""), "it has no line that says why"),
+        ("d", turned("give(1)", "give(7)", file="src/gone.rt"), "there is no file src/gone.rt of code"),
+        ("e", "why: `one`: its clause\nfile: src/lib.rt\nnew: give(7)\n", "a new text has no old one before it"),
+        ("f", "why: `one`: its clause\nfile: src/lib.rt\nold: give(1)\n", "it has no pair of an old and a new text"),
+    ]:
+        it.put_edit(name, text)
+        it.expect(1, [f"small/wrong-bodies/{name}.edit: BAD EDIT: {why}", "1 could not be tried", "0 wrong bodies refused, 0 survived"], 1)
+        os.remove(f"{room}/crates/small/wrong-bodies/{name}.edit")
+    it.put("crates/small/wrong-bodies/a.edits", right)
+    it.put_edit("b", right, folder="wrong_bodies")
+    it.put_edit("c", right, crate="third")
+    told = ["small/wrong-bodies/a.edits: BAD EDIT: its name doesn't end in .edit"]
+    told += [f"{it}.edit: BAD EDIT: it stands in no folder whose edits are tried" for it in ("small/wrong_bodies/b", "third/wrong-bodies/c")]
+    it.expect(1, [*told, "3 could not be tried", "0 wrong bodies refused, 0 survived"], 1)
+    it.expect(2, ["tests/wrong_bodies.py: crates.txt has no crate third"], 0, ["third"])
+
+
+@case
+def a_check_without_a_verdict_refuses_nothing(room):
+    it = Bodies(room)
+    it.put_edit("a", turned("give(1)", "give(7)"))
+    for ends in ["2 logic=not-proved functions=1", "0 logic=not-proved functions=1", "1 logic=proved functions=1", "1 error: killed", "0 done"]:
+        bad = f"small/a: BAD EDIT: it did not reach the prover: {ends[2:]}"
+        it.expect(1, [bad, "1 could not be tried", "0 wrong bodies refused, 0 survived"], 2, ENDS=ends)
+    it.put("crates/small/src/lib.rt", function("one", 1) + function("two", 2).replace("give", "take"))
+    it.expect(1, ["small: the crate itself is not proved, so nothing was tried", "1 could not be tried", "0 wrong bodies refused, 0 survived"], 1)
+
+
+@case
+def the_crates_that_changed_since_a_commit_are_tried(room):
+    if not shutil.which("git"):
+        raise Skipped("there is no git")
+    it = Bodies(room)
+    it.put_edit("a", turned("give(1)", "give(7)"))
+    it.put_edit("b", turned("give(4)", "give(7)"), crate="other")
+    it.put(".gitignore", "calls\n")
+    head = it.commit()
+    it.expect(0, ["no crate changed since " + head, "0 wrong bodies refused, 0 survived"], 0, ["--since", head])
+    it.put_edit("c", turned("give(4)", "give(8)"), crate="other")
+    refused = [f"other/{name}: refused: src/lib.rt:4:5: {GOAL}" for name in "bc"]
+    it.expect(0, [*refused, "2 wrong bodies refused, 0 survived"], 3, ["--jobs", "1", "--since", head])
+    it.expect(2, ["tests/wrong_bodies.py: git knows no commit nowhere"], 0, ["--since", "nowhere"])
