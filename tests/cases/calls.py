@@ -1,6 +1,6 @@
 """Each call of the system that the program makes failed once, at each place up to the last, by each of many errors.
 
-A place is the number of a call among those of its name in one run. What a failed call may cost is what README.md says
+A place is the number of a call among those of its name in one run. A failed call may cost what the manual page says
 of it: FILE or a stream a status and a line, a worker nothing but that worker, and a close nothing.
 """
 import re

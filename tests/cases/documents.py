@@ -1,13 +1,14 @@
-"""What docs/RECIPES.md and the manual page show, run as it stands there; README's call of a library; what the manual
-page names; make install."""
+"""What README, docs/RECIPES.md and the manual page show, run as it stands there; the session that docs/PROTOCOL.md
+shows; README's call of a library; what the manual page names; how long pages and their parts are."""
 import os
 import re
 import shutil
+import struct
 import subprocess
 import sys
 
 from cases.embedding import libraries
-from cases.running import ROOT, SECONDS, SMALL_FOREST, SMALL_NET, Program, case, expect, ran, run
+from cases.running import ROOT, SECONDS, Components, Program, case, expect, ran, run
 
 sys.path.insert(0, f"{ROOT}/tools")
 
@@ -19,28 +20,31 @@ def text_of(name):
         return it.read()
 
 
-def shown(block):
-    """The commands of a block, each with what it writes: `$ ` begins a command and `> ` goes on with it."""
-    commands = []
-    for line in block.splitlines():
-        if line.startswith("$ "):
-            commands.append([line[2:] + "\n", ""])
-        elif line.startswith("> "):
-            commands[-1][0] += line[2:] + "\n"
-        else:
-            commands[-1][1] += line + "\n"
-    return commands
+def blocks_of(name):
+    """The fenced blocks of a page, each with its language."""
+    return re.findall(r"^```(\w*)\n(.*?)^```$", text_of(name), re.M | re.S)
+
+
+def shown(language, block):
+    """The commands of a block, each with what it writes. A `sh` block is one command, which writes nothing; in a `console`
+    block `$ ` begins a command, of one line."""
+    if language == "sh":
+        return [(block, "")]
+    if language != "console" or not block.startswith("$ "):
+        raise AssertionError(f"a block that isn't run, of the language {language!r}: {block:.80}")
+    commands = [it.partition("\n") for it in re.split(r"^\$ ", block, flags=re.M)[1:]]
+    return [(f"{command}\n", output) for command, _, output in commands]
 
 
 def expect_shown(room, blocks):
-    """Runs each command of the blocks in a copy of the repository's top that has the examples alone."""
+    """Runs each command of the blocks, in their order, in a copy of the repository's top that has the examples alone."""
     shutil.copytree(f"{ROOT}/examples", f"{room}/examples")
     os.mkdir(f"{room}/bin")
     os.symlink(Program.path, f"{room}/bin/boruvka")
     env = {**os.environ, "PATH": f"{room}/bin:{os.environ['PATH']}", "LC_ALL": "C"}
     count = 0
-    for block in blocks:
-        for command, output in shown(block):
+    for language, block in blocks:
+        for command, output in shown(language, block):
             if command.startswith("dot ") and not shutil.which("dot"):
                 continue
             ended = subprocess.run(["sh", "-c", command], cwd=room, env=env, stdin=subprocess.DEVNULL, stdout=subprocess.PIPE, stderr=subprocess.STDOUT, timeout=SECONDS)
@@ -52,9 +56,16 @@ def expect_shown(room, blocks):
 
 
 @case
+def the_first_screen_of_the_readme(room):
+    count = expect_shown(room, [it for it in blocks_of("README.md") if it[0] == "console"])
+    if count != 2:
+        raise AssertionError(f"{count} commands were found")
+
+
+@case
 def the_recipes(room):
-    count = expect_shown(room, re.findall(r"^```console\n(.*?)^```$", text_of("docs/RECIPES.md"), re.M | re.S))
-    if count < 10:
+    count = expect_shown(room, blocks_of("docs/RECIPES.md"))
+    if count < 20:
         raise AssertionError(f"only {count} commands were found")
     if shutil.which("dot"):
         with open(f"{room}/roads.svg", encoding="utf-8") as it:
@@ -70,9 +81,61 @@ def the_recipes(room):
 def the_examples_of_the_manual_page(room):
     page = text_of("man/boruvka.1").replace("\\-", "-").replace("\\e", "\\")
     blocks = [it for it in re.findall(r"^\.EX\n(.*?)^\.EE$", page, re.M | re.S) if it.startswith("$ ")]
-    count = expect_shown(room, blocks)
+    count = expect_shown(room, [("console", it) for it in blocks])
     if count != 3:
         raise AssertionError(f"{count} examples were found")
+
+
+def frame(kind, head, *numbers):
+    """A frame whose body has these two bytes first, or none, and then numbers of four bytes."""
+    body = head + struct.pack(f">{len(numbers)}I", *(it % 2**32 for it in numbers))
+    return struct.pack(">BI", kind, len(body)) + body
+
+
+def offers_of(links, labels):
+    """What a worker offers: for each component that a link leaves, in order, the first place of the least such link."""
+    least = {}
+    for index in sorted(range(len(links)), key=lambda it: (links[it], it)):
+        _, low, high = links[index]
+        for one, other in [(labels[low], labels[high]), (labels[high], labels[low])]:
+            if one != other:
+                least.setdefault(one, index)
+    return sorted(least.items())
+
+
+def session_of(n, links):
+    """The frames of a run over one worker and one shard, whose weights fit 32 bits, each with the end that sends it."""
+    yield "<", frame(1, bytes([0, 2]), 0)
+    yield ">", frame(2, b"", 0, len(links), *(it for weight, low, high in links for it in (low, high, weight)))
+    components, offers, number = Components(n), [None], 0
+    while offers:
+        number += 1
+        roots = [components.root(v) for v in range(n + 1)]
+        labels = [roots.index(it) for it in roots]
+        offers = offers_of(links, labels)
+        yield ">", frame(3, b"", number, 0, n, *labels[1:])
+        yield "<", frame(4, b"", number, 0, len(offers), *(it for offer in offers for it in offer))
+        for _, index in offers:
+            components.join(*links[index][1:])
+
+
+@case
+def the_session_of_the_protocol(_room):
+    graph, session = [text for language, text in blocks_of("docs/PROTOCOL.md") if language == "text"][-2:]
+    arcs = [[int(it) for it in line.split()[1:]] for line in graph.splitlines() if line.startswith("a ")]
+    n = int(graph.split()[2])
+    found = []
+    for line in session.splitlines():
+        shape = re.match(r"([<>])((?: +(?:[0-9a-f]{8}|[0-9a-f]{4}|[0-9a-f]{2})\b)+)(?:   |$)", line)
+        if not shape:
+            raise AssertionError(f"no bytes are shown: {line}")
+        # a line that goes on with a frame is indented
+        if line[2] != " ":
+            found.append([shape[1], b""])
+        found[-1][1] += bytes.fromhex(shape[2])
+    wanted = [list(it) for it in session_of(n, [(weight, u, v) for u, v, weight in arcs])]
+    if found != wanted or len(found) < 6:
+        raise AssertionError(f"wanted {wanted}\n    found  {found}")
 
 
 @case
@@ -91,7 +154,7 @@ def the_call_of_a_library_is_proved(room):
     with open(f"{room}/crates.txt", "w", encoding="utf-8") as out:
         out.write("".join(lines[it] for it in names) + f"{name}: {library}\n")
     with open(f"{room}/crates/{name}/src/lib.rt", "w", encoding="utf-8") as out:
-        out.write(f"#![tactic(auto)]\n\n{code}")
+        out.write(code)
     ended = run(["rt", "check"], seconds=10 * SECONDS, cwd=f"{room}/crates/{name}")
     if ended[0] or b"logic=proved" not in ended[1] + ended[2]:
         raise AssertionError(f"{name}: {(ended[1] + ended[2])[-900:]!r}")
@@ -115,17 +178,83 @@ def the_manual_page_names_what_the_help_does(_room):
         expect(run(["groff", "-man", "-Tutf8", "-ww", "-z", f"{ROOT}/man/boruvka.1"]), 0, b"", b"")
 
 
+# how many words a document may have, without what it shows word for word
+MOST_WORDS = {
+    "README.md": 900,
+    "man/boruvka.1": 1000,
+    "docs/RECIPES.md": 700,
+    "docs/GR_FORMAT.md": 550,
+    "docs/PROTOCOL.md": 800,
+    "SECURITY.md": 250,
+    "docs/PROMISES.md": 1800,
+    "docs/HEADLINE.md": 500,
+    "docs/ARCHITECTURE.md": 1400,
+    "docs/DECISIONS.md": 2000,
+    "docs/PERFORMANCE.md": 700,
+    "CONTRIBUTING.md": 800,
+    "CHANGELOG.md": 250,
+}
+# and how many a paragraph, a bullet or a cell of a table, and how many a sentence
+MOST_AT_ONCE = 60
+MOST_IN_A_SENTENCE = 30
+
+
+def prose_of(name):
+    """What a document tells: its text without fenced blocks, without the synopsis and the examples of the manual page,
+    and without the table in which docs/HEADLINE.md names definitions in place of quoting them."""
+    text = text_of(name)
+    if name.endswith(".1"):
+        return re.sub(r"^\.EX\n.*?^\.EE$|^\.SH SYNOPSIS\n.*?(?=^\.SH)", "", text, flags=re.M | re.S)
+    text = re.sub(r"^ *```.*?^ *```$", "", text, flags=re.M | re.S)
+    return re.sub(r"^\|.*\n", "", text, flags=re.M) if name == "docs/HEADLINE.md" else text
+
+
+def thoughts(name):
+    """The paragraphs, bullets and cells of a document, each as one text."""
+    macro = r"\.(SH|SS|PP|P|LP|TP|IP|RS|RE|EX|EE)\b" if name.endswith(".1") else None
+    found, now = [], []
+    for line in [*prose_of(name).splitlines(), ""]:
+        line = line.strip()
+        begins = re.match(macro or r"([-*+]|\d+\.) ", line)
+        if begins or not line or (not macro and line[0] in "#|"):
+            found.append(" ".join(now))
+            now = []
+        if not macro and line.startswith("|"):
+            found += [] if re.fullmatch(r"[-:| ]+", line) else line.strip("|").split("|")
+        elif not (macro and begins) and not (not macro and line.startswith("#")):
+            now.append(line)
+    return [it for it in found if it.strip()]
+
+
 @case
-def the_program_and_its_manual_page_are_installed_and_taken_away(room):
-    prefix = f"{room}/a prefix"
-    words = ["make", "-s", "-C", ROOT, "-o", Program.path, f"PROGRAM={Program.path}", f"PREFIX={prefix}"]
-    env = {it: word for it, word in os.environ.items() if it not in ("MAKEFLAGS", "MAKELEVEL", "MFLAGS", "DESTDIR")}
-    expect(run([*words, "install"], env=env), 0, b"", b"")
-    expect(run([f"{prefix}/bin/boruvka", "--plain"], SMALL_NET), 0, SMALL_FOREST, b"")
-    with open(f"{prefix}/share/man/man1/boruvka.1", encoding="utf-8") as it:
-        if it.read() != text_of("man/boruvka.1"):
-            raise AssertionError("another manual page was installed")
-    expect(run([*words, "uninstall"], env=env), 0, b"", b"")
-    left = [it for _, _, files in os.walk(prefix) for it in files]
-    if left:
-        raise AssertionError(f"left behind: {left}")
+def the_documents_are_short(_room):
+    long = []
+    for name, most in MOST_WORDS.items():
+        count, parts = len(prose_of(name).split()), thoughts(name)
+        if count > most:
+            long.append(f"{name} has {count} words, and may have {most}")
+        if len(parts) < 5:
+            long.append(f"of {name} only {len(parts)} paragraphs, bullets and cells were found")
+        sentences = [sentence for it in parts for sentence in re.split(r"(?<=[.?!:])\s", it)]
+        for what, texts, limit in [("at once", parts, MOST_AT_ONCE), ("in a sentence", sentences, MOST_IN_A_SENTENCE)]:
+            long += [f"{name} has {len(it.split())} words {what}: {it:.90}" for it in texts if len(it.split()) > limit]
+    if long:
+        raise AssertionError("\n    ".join(long))
+
+
+@case
+def the_promises_name_what_stands(_room):
+    """Each function, definition and clause that docs/PROMISES.md names stands in the file that it links."""
+    missed, count = [], 0
+    for row in re.findall(r"^\| .* \| (\[.*) \|$", text_of("docs/PROMISES.md"), re.M):
+        for name, path, clauses in re.findall(r"\[`([^`]+)`\]\(\.\./([^)]+)\)(: `[^\[;]*`)?", row):
+            if not os.path.isfile(f"{ROOT}/{path}"):
+                missed.append(f"{name}: there is no {path}")
+                continue
+            text, count = text_of(path), count + 1
+            last = name.rpartition("::")[2]
+            if last != "laws" and not re.search(rf"\b(fn|struct|trait|record|abbrev pub) {last}\b", text):
+                missed.append(f"{path} has no {name}")
+            missed += [f"{path} has no clause {it}" for it in re.findall(r"`(\w+)`", clauses) if f"ensures {it} " not in text]
+    if missed or count < 80:
+        raise AssertionError(f"{count} were looked at\n    " + "\n    ".join(missed))

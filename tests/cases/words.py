@@ -196,7 +196,16 @@ def a_word_that_is_not_utf_8(_room):
 def a_file_that_cannot_be_opened(room):
     expect(ran(["--plain", "none.gr"], SMALL_NET, cwd=room), 3, b"", b"boruvka: cannot open none.gr\n")
     expect(ran(["--plain", ""], SMALL_NET, cwd=room), 3, b"", b"boruvka: cannot open \n")
-    expect(ran(["--plain", "-"], SMALL_NET, cwd=room), 3, b"", b"boruvka: cannot open -\n")
+    expect(ran(["--plain", "./-"], SMALL_NET, cwd=room), 3, b"", b"boruvka: cannot open ./-\n")
+
+
+@case
+def a_minus_is_standard_input(room):
+    with open(f"{room}/-", "wb") as it:
+        it.write(b"no graph")
+    expect(ran(["--plain", "-"], SMALL_NET, cwd=room), 0, SMALL_FOREST, b"")
+    expect(ran(["--workers", "1", "--", "-"], SMALL_NET, cwd=room), 0, SMALL_FOREST, b"")
+    expect(ran(["--plain", "./-"], SMALL_NET, cwd=room), 1, b"", b"boruvka: line 1: UnknownLine\n")
 
 
 @case
