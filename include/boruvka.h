@@ -56,11 +56,15 @@ struct boruvka_fault {
 int64_t boruvka_forest(uint32_t n, struct boruvka_link *links, size_t m);
 
 /* Puts the text of the minimum spanning forest of a .gr text into `into`, and answers how many bytes it has. Where that
- * is more than `room`, the first `room` bytes are there. A refusal stands in `fault` too, and leaves `into` as it was. */
+ * is more than `room`, the first `room` bytes are there. No 0 ends them. A refusal stands in `fault` too, and leaves
+ * `into` as it was. If the text has more than 2^40 bytes, the call reads 2^40 of them before it answers
+ * BORUVKA_TOO_LONG. A faulty line among these, or want of memory, is answered instead. */
 int64_t boruvka_forest_text(const uint8_t *text, size_t length, uint8_t *into, size_t room, struct boruvka_fault *fault);
 
-/* Puts the text of a refusal, and a 0 behind it, into `into`, as far as there is room, and answers its length without
- * the 0: at most 19 today. Of any other number the text is `no refusal`. */
+/* Puts the text of a refusal into `into`, as snprintf does: a 0 ends it, and what has no room before the 0 is left out.
+ * The bytes after the 0 stay as they were. If `room` is 0, nothing is written. The answer is the length of the whole text
+ * without the 0, in any room: at most 19 today. So the text was cut if the answer is `room` or more. Any other number
+ * has the text `no refusal`. */
 size_t boruvka_fault_text(int64_t kind, char *into, size_t room);
 
 uint32_t boruvka_version(void);

@@ -7,18 +7,33 @@
  *     embedding threads         four threads at once, each over lists of its own
  *     embedding many            ten million links
  *     embedding memory          a list and a text; where memory is refused, it says so and looks that nothing changed
+ *     embedding again           each call 10,000 times with each of its ends, after which the process holds no more
+ *                               memory than after the first hundred
  *
  * A wrong answer ends it by status 1, and says what was wrong. */
 #define _GNU_SOURCE
 #include <boruvka.h>
+#include <fcntl.h>
 #include <inttypes.h>
 #include <pthread.h>
 #include <stdio.h>
 #include <stdlib.h>
 #include <string.h>
 #include <sys/mman.h>
+#include <sys/resource.h>
+#include <unistd.h>
 
 #define CHECK(holds) ((holds) ? (void)0 : wrong(#holds, __LINE__))
+
+/* A small net and its forest, as a text and as links. */
+static const char given_text[] = "p sp 6 8\na 1 2 17\na 1 3 10\na 2 4 2\na 3 5 0\na 4 3 0\na 4 6 3\na 5 2 0\na 5 6 20\n";
+static const char found_text[] = "p sp 6 5\na 2 5 0\na 3 4 0\na 3 5 0\na 4 6 3\na 1 3 10\n";
+static const struct boruvka_link net[] = {{17, 1, 2}, {10, 1, 3}, {2, 2, 4}, {0, 3, 5}, {0, 4, 3}, {3, 4, 6}, {0, 5, 2}, {20, 5, 6}};
+static const struct boruvka_link forest[] = {{0, 2, 5}, {0, 3, 4}, {0, 3, 5}, {3, 4, 6}, {10, 1, 3}};
+
+/* Links between the most vertices that there may be, whose higher ends don't ascend: a table of all vertices is wanted. */
+static const struct boruvka_link wide[] = {{INT64_MAX, BORUVKA_MAX_VERTICES, 1}, {INT64_MIN, 1, BORUVKA_MAX_VERTICES}, {0, 2, BORUVKA_MAX_VERTICES}};
+static const char wide_text[] = "p sp 67108864 3\na 67108864 1 9\na 1 67108864 -9\na 2 67108864 0\n";
 
 static void wrong(const char *what, int line) {
     fprintf(stderr, "embedding.c, line %d: not so: %s\n", line, what);
@@ -106,13 +121,13 @@ static void compare(uint64_t seed, uint32_t n, size_t m, uint64_t weights) {
     struct boruvka_link *given = draw(seed, n, m, weights), *links = taken(m, sizeof *links);
     memcpy(links, given, m * sizeof *links);
     size_t count;
-    struct boruvka_link *forest = kruskal(n, given, m, &count);
+    struct boruvka_link *first = kruskal(n, given, m, &count);
     CHECK(boruvka_forest(n, links, m) == (int64_t)count);
-    CHECK(are_same(links, forest, count));
+    CHECK(are_same(links, first, count));
     CHECK(are_same(links + count, given + count, m - count));
     free(given);
     free(links);
-    free(forest);
+    free(first);
 }
 
 static void expect_refusal(uint32_t n, const struct boruvka_link *given, size_t m, int64_t why) {
@@ -120,6 +135,12 @@ static void expect_refusal(uint32_t n, const struct boruvka_link *given, size_t 
     memcpy(links, given, m * sizeof *links);
     CHECK(boruvka_forest(n, links, m) == why);
     CHECK(!memcmp(links, given, m * sizeof *links));
+}
+
+/* One link more than there may be, of which no page is ever touched; or none. */
+static struct boruvka_link *too_many(void) {
+    void *links = mmap(0, (BORUVKA_MAX_LINKS + (size_t)1) * sizeof net[0], PROT_READ | PROT_WRITE, MAP_PRIVATE | MAP_ANONYMOUS | MAP_NORESERVE, -1, 0);
+    return links == MAP_FAILED ? 0 : links;
 }
 
 static void limits(void) {
@@ -136,17 +157,16 @@ static void limits(void) {
     expect_refusal(0, loops, 3, BORUVKA_BAD_END);
     expect_refusal(BORUVKA_MAX_VERTICES + 1, ends[0], 2, BORUVKA_TOO_MANY_VERTICES);
     expect_refusal(UINT32_MAX, loops, 3, BORUVKA_TOO_MANY_VERTICES);
-    /* too many links by one, of which no page is ever touched */
-    const size_t most = (size_t)BORUVKA_MAX_LINKS + 1;
-    struct boruvka_link *many = mmap(0, most * sizeof *many, PROT_READ | PROT_WRITE, MAP_PRIVATE | MAP_ANONYMOUS | MAP_NORESERVE, -1, 0);
-    if (many != MAP_FAILED) {
-        CHECK(boruvka_forest(1, many, most) == BORUVKA_TOO_MANY_LINKS);
-        munmap(many, most * sizeof *many);
+    struct boruvka_link *many = too_many();
+    if (many) {
+        CHECK(boruvka_forest(1, many, (size_t)BORUVKA_MAX_LINKS + 1) == BORUVKA_TOO_MANY_LINKS);
+        munmap(many, ((size_t)BORUVKA_MAX_LINKS + 1) * sizeof *many);
     }
-    struct boruvka_link wide[] = {{INT64_MAX, BORUVKA_MAX_VERTICES, 1}, {INT64_MIN, 1, BORUVKA_MAX_VERTICES}, {0, 2, BORUVKA_MAX_VERTICES}};
-    CHECK(boruvka_forest(BORUVKA_MAX_VERTICES, wide, 3) == 2);
-    CHECK(wide[0].weight == INT64_MIN && wide[0].low == 1 && wide[0].high == BORUVKA_MAX_VERTICES);
-    CHECK(wide[1].weight == 0 && wide[1].low == 2 && wide[1].high == BORUVKA_MAX_VERTICES);
+    struct boruvka_link links[3];
+    memcpy(links, wide, sizeof wide);
+    CHECK(boruvka_forest(BORUVKA_MAX_VERTICES, links, 3) == 2);
+    CHECK(links[0].weight == INT64_MIN && links[0].low == 1 && links[0].high == BORUVKA_MAX_VERTICES);
+    CHECK(links[1].weight == 0 && links[1].low == 2 && links[1].high == BORUVKA_MAX_VERTICES);
     for (uint64_t seed = 1; seed <= 300; seed++) {
         compare(seed, 1 + seed % 60, seed * 7 % 400, seed % 3 ? 1 + seed % 40 : 0);
     }
@@ -154,14 +174,18 @@ static void limits(void) {
     for (int64_t kind = -20; kind <= 3; kind++) {
         const size_t length = boruvka_fault_text(kind, text, sizeof text);
         CHECK(length > 0 && length <= 19 && length == strlen(text));
-        for (size_t room = 0; room <= length; room++) {
-            char less[32];
-            memset(less, '*', sizeof less);
-            CHECK(boruvka_fault_text(kind, less, room) == length);
-            CHECK(!memcmp(less, text, room) && less[room] == '*');
+        for (size_t room = 0; room <= sizeof text; room++) {
+            char found[sizeof text + 1], wanted[sizeof text + 1];
+            memset(found, '*', sizeof found);
+            memset(wanted, '*', sizeof wanted);
+            CHECK(boruvka_fault_text(kind, found, room) == length);
+            CHECK(snprintf(wanted, room, "%s", text) == (int)length);
+            CHECK(!memcmp(found, wanted, sizeof found));
         }
         printf("%" PRId64 " %s\n", kind, text);
     }
+    memset(text, '*', sizeof text);
+    CHECK(boruvka_fault_text(BORUVKA_BAD_END, text, 7) == 19 && !memcmp(text, "an end\0*", 8));
 }
 
 static void *thread(void *seed) {
@@ -233,10 +257,6 @@ static void text(size_t room) {
 
 /* Takes no memory itself. */
 static void memory(void) {
-    static const char given[] = "p sp 6 8\na 1 2 17\na 1 3 10\na 2 4 2\na 3 5 0\na 4 3 0\na 4 6 3\na 5 2 0\na 5 6 20\n";
-    static const char found[] = "p sp 6 5\na 2 5 0\na 3 4 0\na 3 5 0\na 4 6 3\na 1 3 10\n";
-    const struct boruvka_link net[] = {{17, 1, 2}, {10, 1, 3}, {2, 2, 4}, {0, 3, 5}, {0, 4, 3}, {3, 4, 6}, {0, 5, 2}, {20, 5, 6}};
-    const struct boruvka_link forest[] = {{0, 2, 5}, {0, 3, 4}, {0, 3, 5}, {3, 4, 6}, {10, 1, 3}};
     struct boruvka_link links[8];
     memcpy(links, net, sizeof net);
     const int64_t count = boruvka_forest(6, links, 8);
@@ -244,12 +264,150 @@ static void memory(void) {
     CHECK(count == 5 ? are_same(links, forest, 5) && are_same(links + 5, net + 5, 3) : are_same(links, net, 8));
     uint8_t into[64] = {0};
     struct boruvka_fault fault = {1, 1};
-    const int64_t length = boruvka_forest_text((const uint8_t *)given, sizeof given - 1, into, sizeof into, &fault);
-    CHECK(length == BORUVKA_NO_MEMORY || length == (int64_t)sizeof found - 1);
+    const int64_t length = boruvka_forest_text((const uint8_t *)given_text, sizeof given_text - 1, into, sizeof into, &fault);
+    CHECK(length == BORUVKA_NO_MEMORY || length == (int64_t)sizeof found_text - 1);
     CHECK(fault.kind == (length < 0 ? length : 0) && fault.line == 0);
-    CHECK(length < 0 ? into[0] == 0 : !memcmp(into, found, sizeof found));
+    CHECK(length < 0 ? into[0] == 0 : !memcmp(into, found_text, sizeof found_text));
     static const char some[] = "some refused\n", all[] = "answered\n";
     fputs(count < 0 || length < 0 ? some : all, stdout);
+}
+
+/* The memory that the process holds now, in KiB, without the pages of files: these come and go by themselves. The kernel
+ * counts the pages for this; its other figures may be out of date. */
+static long held(void) {
+    static char told[1 << 12];
+    const int file = open("/proc/self/smaps_rollup", O_RDONLY);
+    const ssize_t length = file < 0 ? -1 : read(file, told, sizeof told - 1);
+    CHECK(length > 0 && !close(file));
+    told[length] = 0;
+    const char *at = strstr(told, "\nAnonymous:");
+    CHECK(at != 0);
+    return strtol(at + sizeof "\nAnonymous:" - 1, 0, 10);
+}
+
+/* Calls it 100 times and then 10,000 times, which take no more memory. */
+static void repeat(const char *what, void (*once)(void)) {
+    for (int i = 0; i < 100; i++) {
+        once();
+    }
+    const long before = held();
+    for (int i = 0; i < 10000; i++) {
+        once();
+    }
+    const long after = held();
+    if (after > before) {
+        fprintf(stderr, "embedding.c: %s: %ld KiB are held after 100 times, %ld KiB after 10,100\n", what, before, after);
+        exit(1);
+    }
+}
+
+#define REPEAT(once) repeat(#once, once)
+
+static void a_small_list(void) {
+    struct boruvka_link links[8];
+    memcpy(links, net, sizeof net);
+    CHECK(boruvka_forest(6, links, 8) == 5 && are_same(links, forest, 5) && are_same(links + 5, net + 5, 3));
+}
+
+/* What is made once, before the calls that are repeated: a list, its forest, and more links than there may be. */
+static struct boruvka_link *drawn_links, *drawn_forest, *many_links;
+static size_t drawn_count;
+enum { DRAWN_VERTICES = 300, DRAWN_LINKS = 1000 };
+
+static void a_drawn_list(void) {
+    static struct boruvka_link links[DRAWN_LINKS];
+    memcpy(links, drawn_links, sizeof links);
+    CHECK(boruvka_forest(DRAWN_VERTICES, links, DRAWN_LINKS) == (int64_t)drawn_count && are_same(links, drawn_forest, drawn_count));
+}
+
+static void a_list_with_a_bad_end(void) {
+    expect_refusal(3, net, 4, BORUVKA_BAD_END);
+}
+
+static void a_list_of_too_many_vertices(void) {
+    expect_refusal(BORUVKA_MAX_VERTICES + 1, net, 4, BORUVKA_TOO_MANY_VERTICES);
+}
+
+static void a_list_of_too_many_links(void) {
+    CHECK(boruvka_forest(6, many_links, (size_t)BORUVKA_MAX_LINKS + 1) == BORUVKA_TOO_MANY_LINKS);
+}
+
+static void a_list_without_memory(void) {
+    expect_refusal(BORUVKA_MAX_VERTICES, wide, 3, BORUVKA_NO_MEMORY);
+}
+
+static void a_text(void) {
+    uint8_t into[sizeof found_text] = {0};
+    struct boruvka_fault fault = {1, 1};
+    CHECK(boruvka_forest_text((const uint8_t *)given_text, sizeof given_text - 1, into, sizeof into, &fault) == (int64_t)sizeof found_text - 1);
+    CHECK(!memcmp(into, found_text, sizeof found_text) && fault.kind == 0 && fault.line == 0);
+}
+
+static void expect_fault(const char *given, int64_t kind, uint64_t line) {
+    uint8_t into[8] = {0};
+    struct boruvka_fault fault = {1, 1};
+    CHECK(boruvka_forest_text((const uint8_t *)given, strlen(given), into, sizeof into, &fault) == kind);
+    CHECK(fault.kind == kind && fault.line == line && into[0] == 0);
+}
+
+/* Each fault of a line, most of them after links that were taken. */
+static void faulty_texts(void) {
+    expect_fault("p sp 3 2\na 1 2 5\nx\n", BORUVKA_UNKNOWN_LINE, 3);
+    expect_fault("c\na 1 2 5\n", BORUVKA_NO_PROBLEM_YET, 2);
+    expect_fault("p sp 3 2\na 1 2 5\np sp 3 2\n", BORUVKA_SECOND_PROBLEM, 3);
+    expect_fault("p sp three 2\n", BORUVKA_BAD_PROBLEM, 1);
+    expect_fault("p sp 67108865 2\n", BORUVKA_TOO_LARGE, 1);
+    expect_fault("p sp 3 2\na 1 2 5\na 1 2\n", BORUVKA_BAD_ARC, 3);
+    expect_fault("p sp 3 2\na 1 2 5\na 1 4 5\n", BORUVKA_END_OUT_OF_RANGE, 3);
+    expect_fault("p sp 3 2\na 1 2 5\na 1 2 9223372036854775808\n", BORUVKA_WEIGHT_OUT_OF_RANGE, 3);
+    expect_fault("p sp 3 1\na 1 2 5\na 1 3 5\n", BORUVKA_TOO_MANY_ARCS, 3);
+    expect_fault("", BORUVKA_MISSING_PROBLEM, 1);
+    expect_fault("p sp 3 2\na 1 2 5\n", BORUVKA_MISSING_ARCS, 3);
+}
+
+static void a_text_without_memory(void) {
+    expect_fault(wide_text, BORUVKA_NO_MEMORY, 0);
+}
+
+static void a_refusals_text(void) {
+    char into[32];
+    CHECK(boruvka_fault_text(BORUVKA_NO_MEMORY, into, sizeof into) == 9 && !strcmp(into, "no memory"));
+}
+
+static void no_refusals_text(void) {
+    char into[32];
+    CHECK(boruvka_fault_text(BORUVKA_MISSING_ARCS - 1, into, sizeof into) == 10 && !strcmp(into, "no refusal"));
+}
+
+static void the_version(void) {
+    CHECK(boruvka_version() == BORUVKA_VERSION);
+}
+
+/* Each call with each of its ends, but a text of more than 2^40 bytes, which can't be had. */
+static void again(void) {
+    drawn_links = draw(7, DRAWN_VERTICES, DRAWN_LINKS, 50);
+    drawn_forest = kruskal(DRAWN_VERTICES, drawn_links, DRAWN_LINKS, &drawn_count);
+    many_links = too_many();
+    REPEAT(a_small_list);
+    REPEAT(a_drawn_list);
+    REPEAT(a_list_with_a_bad_end);
+    REPEAT(a_list_of_too_many_vertices);
+    if (many_links) {
+        REPEAT(a_list_of_too_many_links);
+        munmap(many_links, ((size_t)BORUVKA_MAX_LINKS + 1) * sizeof *many_links);
+    }
+    REPEAT(a_text);
+    REPEAT(faulty_texts);
+    REPEAT(a_refusals_text);
+    REPEAT(no_refusals_text);
+    REPEAT(the_version);
+    /* with so little a table of the most vertices is refused, which is asked for after memory for the links */
+    const struct rlimit few = {64 << 20, 64 << 20};
+    CHECK(!setrlimit(RLIMIT_AS, &few));
+    REPEAT(a_list_without_memory);
+    REPEAT(a_text_without_memory);
+    free(drawn_links);
+    free(drawn_forest);
 }
 
 int main(int count, char **words) {
@@ -268,6 +426,8 @@ int main(int count, char **words) {
         compare(5, 1000000, 10000000, 1000000);
     } else if (!strcmp(what, "memory")) {
         memory();
+    } else if (!strcmp(what, "again")) {
+        again();
     } else {
         wrong("a word that it has", __LINE__);
     }

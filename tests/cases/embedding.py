@@ -6,7 +6,7 @@ import shutil
 import subprocess
 import sys
 
-from cases.running import ROOT, SMALL_FOREST, SMALL_NET, case, drawn_graph, expect, ran, run, told_by
+from cases.running import ROOT, SMALL_FOREST, SMALL_NET, Skipped, case, drawn_graph, expect, ran, run, told_by
 
 LIBRARIES = f"{ROOT}/crates/boruvka_c/out"
 INCLUDE = f"-I{ROOT}/include"
@@ -118,6 +118,13 @@ def calls_at_their_limits(room):
 def ten_million_links_and_four_threads(room):
     expect(run([caller(room), "threads"]), 0, b"", b"")
     expect(run([caller(room), "many"], seconds=300), 0, b"", b"")
+
+
+@case
+def ten_thousand_calls_hold_no_more_memory(room):
+    if not os.path.exists("/proc/self/smaps_rollup"):
+        raise Skipped("no /proc/self/smaps_rollup tells how much memory is held")
+    expect(run([caller(room), "again"]), 0, b"", b"")
 
 
 @case

@@ -1,5 +1,5 @@
 -- Texts in the caller's memory.
-use Rattle.std.specs.Prelude.{◌≡◌, ◌≢◌, ℕ, ℤ, pos, ◌≤ℤ◌, ◌⊎◌, List, [], ◌∷◌, ◌++◌, take, drop, length, codes}
+use Rattle.std.specs.Prelude.{◌≡◌, ◌≢◌, ℕ, ◌-◌, ℤ, pos, ◌≤ℤ◌, ◌⊎◌, List, [], ◌∷◌, ◌++◌, take, drop, length, codes}
 use Rattle.gr_text.specs.Fault.{IsFirstFault}
 use Rattle.gr_text.specs.declared.faults.GrKind.{GrKind}
 use Rattle.gr_text.specs.declared.faults.ReadFault.TheVariants as read
@@ -14,6 +14,10 @@ use Rattle.boruvka_c.specs.Refusals.{code_of, text_of}
 -- a room once these bytes were put into it, as many as it has room for
 abbrev pub filled : List ℕ → List ℕ → List ℕ
 filled bytes room = take (length room) bytes ++ drop (length bytes) room
+
+-- a room once this text was put into it with a 0 behind it, cut so that the 0 fits; an empty room stays empty
+abbrev pub filled_with_text : List ℕ → List ℕ → List ℕ
+filled_with_text text room = filled (take (length room - 1) text ++ 0 ∷ []) room
 
 -- ---- what C gets of a refusal
 
@@ -35,11 +39,11 @@ abbrev pub IsTextOfCode : ℤ → List ℕ → Type 0
 IsTextOfCode code text = ((why : Refusal) × (code ≡ code_of why) × (text ≡ text_of why))
     ⊎ (((why : Refusal) → code ≢ code_of why) × (text ≡ codes "no refusal"))
 
--- the code's text with a 0 behind it was put into the room, and the answer is how long the text is
+-- the code's text was put into the room with a 0 behind it, and the answer is how long the whole text is
 pub record GivesTextOf (code : ℤ) (before after : List ℕ) (answer : ℕ) : Type 0 where
   pub text : List ℕ
   pub text_is : IsTextOfCode code text
-  pub put : after ≡ filled (text ++ 0 ∷ []) before
+  pub put : after ≡ filled_with_text text before
   pub counted : answer ≡ length text
 
 -- ---- the forest of a text

@@ -1,9 +1,9 @@
 //! What C learns of a refusal.
-ghost use Rattle.std.specs.Prelude.{◌≡◌, ℕ, List, [], ◌∷◌, ◌++◌};
+ghost use Rattle.std.specs.Prelude.{◌≡◌};
 ghost use Rattle.boruvka_c.specs.Texts.{fault_of, IsTextOfCode, GivesTextOf};
 
 use crate::refusals::Refusal;
-use crate::room::fill;
+use crate::room::fill_with_text;
 use gr_text::ReadFault;
 use plain_run::RunFault;
 
@@ -36,23 +36,24 @@ impl Fault {
     }
 }
 
-// The text of a refusal's code, or of a number that is none, and a 0.
+// The text of a refusal's code, or of a number that is none.
 fn text_of_number(code: i64) -> &'static [u8]
-    ensures { (text : List ℕ) × IsTextOfCode code text × (result.now ≡ text ++ 0 ∷ []) }
+    ensures { IsTextOfCode code result.now }
 {
     match Refusal::of_code(code) {
         Some(why) => why.text(),
-        None => b"no refusal\0",
+        None => b"no refusal",
     }
 }
 
-/// Puts the text of a refusal's code, and a 0 behind it, into the caller's room, as far as it has room, and answers how
-/// many bytes the text has. Of a number that is no such code the text is `no refusal`. It takes no memory.
+/// Puts the text of a refusal's code into the caller's room, as `snprintf` does: a 0 ends it, and what doesn't fit before
+/// the 0 is left out. An empty room stays as it is. The answer is how many bytes the whole text has, without the 0. A
+/// number that is no such code has the text `no refusal`. It takes no memory.
 #[unsafe(no_mangle)]
 pub extern "C" fn boruvka_fault_text(kind: i64, into: &mut [u8]) -> usize
     ensures { GivesTextOf kind into.old into.new result }
 {
     let text = text_of_number(kind);
-    fill(into, text);
-    text.len() - 1
+    fill_with_text(into, text);
+    text.len()
 }

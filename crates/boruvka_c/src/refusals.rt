@@ -1,5 +1,5 @@
 //! Why a call gives no forest, each reason with a code and a text.
-ghost use Rattle.std.specs.Prelude.{◌≡◌, ◌≢◌, ◌++◌, [], ◌∷◌, MatchOption};
+ghost use Rattle.std.specs.Prelude.{◌≡◌, ◌≢◌, MatchOption};
 ghost use Rattle.boruvka_c.specs.declared.refusals.Refusal.{Refusal};
 ghost use Rattle.boruvka_c.specs.Refusals.{code_of, text_of};
 
@@ -41,22 +41,22 @@ fn code_of_line(kind: GrKind) -> i64
     }
 }
 
-// The name of what is wrong with a line, and a 0.
+// The name of what is wrong with a line.
 fn text_of_line(kind: GrKind) -> &'static [u8]
-    ensures { result.now ≡ text_of (Refusal.Line kind) ++ 0 ∷ [] }
+    ensures { result.now ≡ text_of (Refusal.Line kind) }
 {
     match kind {
-        GrKind::UnknownLine => b"UnknownLine\0",
-        GrKind::NoProblemYet => b"NoProblemYet\0",
-        GrKind::SecondProblem => b"SecondProblem\0",
-        GrKind::BadProblem => b"BadProblem\0",
-        GrKind::TooLarge => b"TooLarge\0",
-        GrKind::BadArc => b"BadArc\0",
-        GrKind::EndOutOfRange => b"EndOutOfRange\0",
-        GrKind::WeightOutOfRange => b"WeightOutOfRange\0",
-        GrKind::TooManyArcs => b"TooManyArcs\0",
-        GrKind::MissingProblem => b"MissingProblem\0",
-        GrKind::MissingArcs => b"MissingArcs\0",
+        GrKind::UnknownLine => b"UnknownLine",
+        GrKind::NoProblemYet => b"NoProblemYet",
+        GrKind::SecondProblem => b"SecondProblem",
+        GrKind::BadProblem => b"BadProblem",
+        GrKind::TooLarge => b"TooLarge",
+        GrKind::BadArc => b"BadArc",
+        GrKind::EndOutOfRange => b"EndOutOfRange",
+        GrKind::WeightOutOfRange => b"WeightOutOfRange",
+        GrKind::TooManyArcs => b"TooManyArcs",
+        GrKind::MissingProblem => b"MissingProblem",
+        GrKind::MissingArcs => b"MissingArcs",
     }
 }
 
@@ -100,16 +100,16 @@ impl Refusal {
         })
     }
 
-    // Its text, and a 0.
+    // Its text.
     pub(crate) fn text(self) -> &'static [u8]
-        ensures { result.now ≡ text_of self ++ 0 ∷ [] }
+        ensures { result.now ≡ text_of self }
     {
         match self {
-            Refusal::NoMemory => b"no memory\0",
-            Refusal::BadEnd => b"an end is no vertex\0",
-            Refusal::TooManyVertices => b"too many vertices\0",
-            Refusal::TooManyLinks => b"too many links\0",
-            Refusal::TooLong => b"file is too long\0",
+            Refusal::NoMemory => b"no memory",
+            Refusal::BadEnd => b"an end is no vertex",
+            Refusal::TooManyVertices => b"too many vertices",
+            Refusal::TooManyLinks => b"too many links",
+            Refusal::TooLong => b"file is too long",
             Refusal::Line(kind) => text_of_line(kind),
         }
     }
