@@ -5,7 +5,8 @@
  * FAIL_NUMBER the number of the first that fails, from 1, and FAIL_LAST that of the last (none: the first alone).
  * FAIL_ERROR is the number of the error that it fails by (none: one that stands at the call), or 0, by which a recv
  * or a read gives 0 bytes, and a send or a write takes none. A read or a write is one of a file or a stream here, and
- * a recv or a send one of a socket. A close that fails has closed all the same, as Linux does.
+ * a recv or a send one of a socket. A close that fails has closed all the same, as Linux does; under the name "unclosed"
+ * one of a socket fails and leaves it open.
  * A listen under the name "stranger" passes, but somebody else then connects first. A poll under the name "hangup"
  * passes and tells that the connection has ended, though its socket names no error; under the name "getsockopt" it does
  * too, and then the call fails that asks for the error.
@@ -125,6 +126,9 @@ int open(const char *path, int flags, ...) {
 }
 
 int close(int fd) {
+    if (is_socket(fd) && fails("unclosed", EIO)) {
+        return -1;
+    }
     int is_failing = fails("close", EIO), error = errno, answer = REAL(close)(fd);
     if (is_failing) {
         errno = error;
@@ -212,6 +216,8 @@ int accept(int fd, struct sockaddr *name, socklen_t *size) {
 int accept4(int fd, struct sockaddr *name, socklen_t *size, int flags) {
     return fails("accept", ECONNABORTED) ? -1 : REAL(accept4)(fd, name, size, flags);
 }
+
+int shutdown(int fd, int how) { return fails("shutdown", ENOTCONN) ? -1 : REAL(shutdown)(fd, how); }
 
 ssize_t recv(int fd, void *into, size_t count, int flags) {
     return fails("recv", ECONNRESET) ? failed() : REAL(recv)(fd, into, at_most(count), flags);

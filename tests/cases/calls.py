@@ -7,7 +7,7 @@ import re
 from errno import EAGAIN, ECONNRESET, EINPROGRESS, EINTR, EIO, EMFILE, ENOMEM, ENOSPC, EPIPE, errorcode
 
 from cases.running import NOTHING_WRITTEN, SMALL_FOREST, SMALL_NET, Program, Report, case, drawn_graph, told_by, written
-from cases.sockets import NOTHING
+from cases.sockets import FAR, NOTHING
 from cases.streams import LEAST_PIECE, READ_ROOM
 from cases.workers import over
 
@@ -86,13 +86,13 @@ class Run:
             raise AssertionError(f"{self.what}: {left} workers are left and {threads} threads: {self.threads}, {vars(report)}")
 
 
-def each_place(room, command, source, call, errors):
-    """Fails a call of this name at one place after another, by these errors in turn, until none is left to fail, and
-    answers these runs. In the last no call failed."""
+def each_place(room, command, source, call, errors, in_turn=1):
+    """Fails a call of this name, or so many in turn, at one place after another, by these errors in turn, until none is
+    left to fail, and answers these runs. In the last no call failed."""
     runs = []
     while not runs or runs[-1].failed:
         number = len(runs) + 1
-        runs.append(Run(room, command, source, call, number, errors[number % len(errors)]))
+        runs.append(Run(room, command, source, call, number, errors[number % len(errors)], number + in_turn - 1))
     return runs
 
 
@@ -131,8 +131,24 @@ def each_call_that_makes_a_worker_fails_by_each_error(room):
 
 
 @case
+def a_pair_is_tried_again_after_up_to_four_strangers(room):
+    # somebody else connects first to so many listeners in turn
+    for file, text in graphs():
+        for size in OVER_WORKERS:
+            command = [Program.path, *words_for(size), "--report"]
+            for strangers in [1, 4, 5]:
+                runs = each_place(room, command, file, "stranger", [0], strangers)
+                expect_places(runs, size[0])
+                for run in runs[:-1]:
+                    if run.failed != strangers:
+                        raise AssertionError(f"{run.what}: {run.failed} strangers connected, and not {strangers}")
+                    run.expect_workers(text, size, size[0] - (strangers > 4))
+                runs[-1].expect_workers(text, size, size[0])
+
+
+@case
 def no_socket_and_no_thread_by_one_thread(room):
-    for call in [*MAKING, "recv", "send", "thread"]:
+    for call in [*MAKING, "recv", "send", "shutdown", "thread"]:
         for runs in each_error(room, PLAIN, (SMALL_NET, SMALL_FOREST), call, [ENOMEM]):
             expect_places(runs, 0)
             runs[0].expect_workers(SMALL_FOREST, PLAIN, 0)
@@ -161,6 +177,32 @@ def each_close_fails_by_each_error(room):
                 expect_places(runs, 1 if size == PLAIN else 2 + 3 * size[0])
                 for run in runs:
                     run.expect_workers(text, size, size[0])
+
+
+@case
+def each_shutdown_fails_by_each_error(room):
+    # of both ends of each line, which are closed then all the same
+    for graph in graphs():
+        for size in OVER_WORKERS:
+            for runs in each_error(room, size, graph, "shutdown", ERRORS):
+                expect_places(runs, 2 * size[0])
+                for run in runs:
+                    run.expect_workers(graph[1], size, size[0])
+
+
+@case
+def a_close_that_leaves_its_socket_open_keeps_nobody_waiting(room):
+    # of each listener and of both ends of each line: one of these, and then all
+    for file, text in graphs():
+        for size in OVER_WORKERS:
+            command = [Program.path, *words_for(size), "--report"]
+            runs = each_place(room, command, file, "unclosed", [EIO])
+            expect_places(runs, 3 * size[0])
+            runs.append(Run(room, command, file, "unclosed", 1, EIO, FAR))
+            if runs[-1].failed != 3 * size[0]:
+                raise AssertionError(f"{runs[-1].what}: {runs[-1].failed} calls failed")
+            for run in runs:
+                run.expect_workers(text, size, size[0])
 
 
 @case

@@ -2,7 +2,9 @@
 //! end of its stream is closed: drop the lines, and then call [`Workers::join`].
 //!
 //! ```text
-//!   Workers::start ── for each worker a listener on 127.0.0.1, and over it
+//!   Workers::start ── for each worker
+//!         │
+//!     own_pair ── a listener on 127.0.0.1, and over it, or over a new one after a stranger
 //!         │
 //!       pair ──► TcpLine (near end) ══ a connection ══ TcpStream (far end)
 //!                   │                                       │ in a thread of its own
@@ -14,7 +16,8 @@
 //!   socket, which are for the system to say, and is never known to be faithful.
 //! - [`Workers::start`] gives at most as many lines as were asked for, unused ones, and there are just as many threads.
 //! - Only tested: a call fails only where its stream did, what one end writes the other reads, [`pair`] refuses a
-//!   stranger, and a worker's number, by clauses below [`limits::MAX_WORKERS`], is the place of its line.
+//!   stranger, [`own_pair`] tries again after one, a line that is dropped ends its stream, and a worker's number, by
+//!   clauses below [`limits::MAX_WORKERS`], is the place of its line.
 //!
 //! Where to start a change: `line` for what a line does, `pairs` for how a connection is made, `workers` for the
 //! threads and the numbers of workers.
@@ -25,5 +28,5 @@ mod pairs;
 mod workers;
 
 pub use line::TcpLine;
-pub use pairs::{PairFault, pair};
+pub use pairs::{PairFault, own_pair, pair};
 pub use workers::Workers;

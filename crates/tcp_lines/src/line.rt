@@ -6,17 +6,34 @@ ghost use Rattle.tcp_lines.specs.Lines.{line_of, unused};
 
 use byte_streams::{Source, put};
 use std::marker::Model;
-use std::net::TcpStream;
+use std::net::{Shutdown, TcpStream};
 use wires::{Line, LineFault};
 
-/// A line over a TCP connection, which it owns and closes where it is dropped.
+/// A line over a TCP connection, which it owns, and shuts down and closes where it is dropped.
 ///
 /// It takes no memory. A call that finds the connection broken fails, and so does an interrupted one.
-#[derive(Drop)]
 pub struct TcpLine {
     stream: TcpStream,
     failures: u64,
     ends: u64,
+}
+
+impl Drop for TcpLine {
+    // It is shut down first, so that a reader at the far end meets the end of the stream, even where the `close` that
+    // follows fails and leaves the socket open.
+    fn drop(self) {
+        let TcpLine {
+            stream,
+            failures: _,
+            ends: _,
+        } = self;
+        shut_down(&stream);
+    }
+}
+
+// Both directions of a connection end here. One that is broken already can't be shut down, and needn't.
+pub(crate) fn shut_down(stream: &TcpStream) {
+    let _ended = stream.shutdown(Shutdown::Both);
 }
 
 impl Model for TcpLine {

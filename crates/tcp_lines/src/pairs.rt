@@ -1,14 +1,17 @@
 //! Two ends of a connection.
-ghost use Rattle.std.specs.Prelude.{◌≡◌, IfOk};
+ghost use Rattle.std.specs.Prelude.{◌≡◌, IfOk, IfSome};
 ghost use Rattle.tcp_lines.specs.Lines.{unused};
 
 use crate::line::TcpLine;
-use std::net::{Net, TcpListener, TcpStream};
+use std::net::{Ipv4Addr, Net, TcpListener, TcpStream};
 use std::time::Duration;
 use thiserror::Error;
 
 // A listener of this machine answers at once, unless strangers have filled its queue: then waiting longer seldom helps.
 const PATIENCE_SECONDS: u64 = 1;
+
+// How often a pair is tried again after a stranger.
+const MORE_TRIES: u32 = 4;
 
 /// Why there is no pair.
 #[derive(Clone, Copy, Debug, PartialEq, Eq, Error)]
@@ -47,4 +50,25 @@ pub fn pair<R: Net<Listener = TcpListener, Stream = TcpStream>>(
     }
     far.set_nodelay(true).map_err(|_| PairFault::NoAccept)?;
     Ok((TcpLine::new(near), far))
+}
+
+/// A pair over a listener of its own on the loopback address, at a port that the system picks; none where it can't be
+/// made.
+///
+/// The listener is open from just before the connect until the pair is made, so that others have little time to find
+/// it or to fill its queue. Where a stranger connected before, it tries again over a new listener, up to four times.
+/// Any other fault would most likely come again, and ends it. Each try takes about a second at most.
+pub fn own_pair<R: Net<Listener = TcpListener, Stream = TcpStream>>(
+    rt: &R,
+) -> Option<(TcpLine, TcpStream)>
+    ensures { IfSome result (λ ends. ends.0 ≡ unused) }
+{
+    for _ in 0..=MORE_TRIES {
+        let listener = TcpListener::bind(rt, (Ipv4Addr::LOCALHOST, 0)).ok()?;
+        match pair(rt, &listener) {
+            Err(PairFault::Stranger) => {}
+            made => return made.ok(),
+        }
+    }
+    None
 }

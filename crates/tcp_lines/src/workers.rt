@@ -1,15 +1,15 @@
 //! Workers in threads of this process, each at the far end of a line.
-ghost use Rattle.std.specs.Prelude.{◌≡◌, ◌<◌, ◌≤◌, All, IfOk, IfSome, length, vec_len};
+ghost use Rattle.std.specs.Prelude.{◌≡◌, ◌<◌, ◌≤◌, All, IfOk, length, vec_len};
 ghost use Rattle.limits.specs.declared.TheConstants.{MAX_WORKERS};
 ghost use Rattle.tcp_lines.specs.Lines.{unused};
 
-use crate::line::TcpLine;
-use crate::pairs::pair;
+use crate::line::{TcpLine, shut_down};
+use crate::pairs::own_pair;
 use byte_streams::Uncounted;
 use limits::MAX_WORKERS;
 use std::alloc::{AllocError, Global};
 use std::marker::Model;
-use std::net::{Ipv4Addr, Net, TcpListener, TcpStream};
+use std::net::{Net, TcpListener, TcpStream};
 use std::thread::{self, JoinHandle, Threads};
 use worker_engine::serve;
 
@@ -31,9 +31,9 @@ impl Workers {
     /// Starts workers in threads of their own, at most `count`, and gives the lines to them: the line at each
     /// place is to the worker of that number.
     ///
-    /// For each it listens on the loopback address, at a port that the system picks, until that connection is made. A
-    /// worker whose connection can't be made, or whose thread can't be started, is left out. An error is want of
-    /// memory for the two lists, and comes before anything is started. A worker's shards take memory of `Global`.
+    /// The connection of each is made by [`own_pair`]. A worker whose connection can't be made, or whose thread can't be
+    /// started, is left out. An error is want of memory for the two lists, and comes before anything is started. A
+    /// worker's shards take memory of `Global`.
     pub fn start<R>(
         rt: &R,
         alloc: Global,
@@ -70,18 +70,7 @@ impl Workers {
     }
 }
 
-// A pair over a listener of its own, which only this machine can connect to: it is open from just before its connect
-// until the pair is made, so that others have little time to fill its queue, and a stranger costs one worker alone.
-fn own_pair<R: Net<Listener = TcpListener, Stream = TcpStream>>(
-    rt: &R,
-) -> Option<(TcpLine, TcpStream)>
-    ensures { IfSome result (λ ends. ends.0 ≡ unused) }
-{
-    let listener = TcpListener::bind(rt, (Ipv4Addr::LOCALHOST, 0)).ok()?;
-    pair(rt, &listener).ok()
-}
-
-// A thread that serves the stream as the worker of this number, and closes it at the end.
+// A thread that serves the stream as the worker of this number, and shuts it down and closes it at the end.
 fn start_one<R: Threads + Sync + Copy + Send + 'static>(
     rt: &R,
     alloc: Global,
@@ -101,6 +90,7 @@ fn start_one<R: Threads + Sync + Copy + Send + 'static>(
             &mut Uncounted(&stream),
             &mut Uncounted(&stream),
         );
+        shut_down(&stream);
     };
     thread::spawn(rt, serves).ok()
 }

@@ -5,12 +5,13 @@ ghost use Rattle.tcp_lines.specs.Lines.{line_of};
 
 use super::same::expect_same;
 use ports::{Line, LineFault};
+use std::cell::Cell;
 use std::io;
 use std::io::{Read, Write};
-use std::net::{Ipv4Addr, Net, TcpListener, TcpStream};
+use std::net::{Ipv4Addr, Net, SocketAddr, TcpListener, TcpStream};
 use std::process::Abort;
 use std::time::{Duration, Instant};
-use tcp_lines::{PairFault, TcpLine, pair};
+use tcp_lines::{PairFault, TcpLine, own_pair, pair};
 
 fn listen(rt: &impl Net<Listener = TcpListener, Stream = TcpStream>) -> io::Result<TcpListener> {
     TcpListener::bind(rt, (Ipv4Addr::LOCALHOST, 0))
@@ -62,6 +63,21 @@ fn a_line_whose_connection_is_broken_fails(rt: HostRuntime) {
     expect_same(&rt, line.put(b"more"), Err(LineFault::Failed));
 }
 
+// Another descriptor keeps the socket open after the line's own is closed, as a `close` that closes nothing would.
+#[test]
+fn a_line_ends_its_stream_where_its_socket_stays_open(rt: HostRuntime) {
+    let listener = listen(&rt).expect(&rt, "a listener");
+    let address = listener.local_addr().expect(&rt, "an address");
+    let near = TcpStream::connect(&rt, address).expect(&rt, "a connection");
+    let (mut far, _) = listener.accept().expect(&rt, "a connection");
+    far.set_read_timeout(Some(Duration::from_secs(10)))
+        .expect(&rt, "a connection");
+    let _open = near.try_clone().expect(&rt, "a descriptor");
+    drop(TcpLine::new(near));
+    let mut got = [0u8; 1];
+    expect_same(&rt, far.read(&mut got).ok(), Some(0));
+}
+
 #[test]
 fn a_stranger_who_connected_before_is_refused(rt: HostRuntime) {
     let listener = listen(&rt).expect(&rt, "a listener");
@@ -72,6 +88,57 @@ fn a_stranger_who_connected_before_is_refused(rt: HostRuntime) {
     drop(stranger);
     let another = listen(&rt).expect(&rt, "a listener");
     expect_same(&rt, pair(&rt, &another).is_ok(), true);
+}
+
+// A network on which somebody else connects first to so many of the listeners that are made next.
+#[derive(Drop)]
+struct Crowded<'a, R> {
+    rt: &'a R,
+    strangers: Cell<u32>,
+}
+
+impl<R: Net<Listener = TcpListener, Stream = TcpStream>> Net for Crowded<'_, R> {
+    type Stream = TcpStream;
+
+    type Listener = TcpListener;
+
+    fn bind(&self, addr: SocketAddr) -> io::Result<TcpListener> {
+        let listener = self.rt.bind(addr)?;
+        let left = self.strangers.get();
+        if left > 0 {
+            self.strangers.set(left - 1);
+            let _stranger = self.rt.connect(listener.local_addr()?)?;
+        }
+        Ok(listener)
+    }
+
+    fn connect(&self, addr: SocketAddr) -> io::Result<TcpStream> {
+        self.rt.connect(addr)
+    }
+
+    fn connect_timeout(&self, addr: SocketAddr, timeout: Duration) -> io::Result<TcpStream> {
+        self.rt.connect_timeout(addr, timeout)
+    }
+}
+
+#[test]
+fn a_pair_of_its_own_is_tried_again_after_up_to_four_strangers(rt: HostRuntime) {
+    for strangers in [0, 1, 4] {
+        let crowded = Crowded {
+            rt: &rt,
+            strangers: Cell::new(strangers),
+        };
+        let (mut line, mut far) = own_pair(&crowded).expect(&rt, "a pair");
+        expect_same(&rt, crowded.strangers.get(), 0);
+        far.write_all(b"!").expect(&rt, "bytes sent");
+        expect_byte(&rt, &mut line, b'!');
+    }
+    let crowded = Crowded {
+        rt: &rt,
+        strangers: Cell::new(6),
+    };
+    expect_same(&rt, own_pair(&crowded).is_none(), true);
+    expect_same(&rt, crowded.strangers.get(), 1);
 }
 
 // A listener whose queue strangers have filled answers nobody, and isn't waited for.
