@@ -1,6 +1,7 @@
 """Words, files and what is told of them: statuses 0 to 3 by the words, FILE and what the file says."""
 import os
 import random
+import unicodedata
 
 from cases.running import (
     SMALL_FOREST,
@@ -212,6 +213,16 @@ def a_minus_is_standard_input(room):
 def a_name_of_300_bytes_that_cannot_be_opened(room):
     name = "n" * 300
     expect(ran(["--plain", name], SMALL_NET, cwd=room), 3, b"", f"boruvka: cannot open {name}\n".encode())
+
+
+@case
+def control_characters_of_a_name_that_cannot_be_opened(room):
+    # which they are is Unicode's table; a word has no 0
+    around = "".join(map(chr, range(1, 0x180)))
+    for name in ["a.gr\nboruvka: done\x1b[2K\r", "\u009b1A\\x1b\u20ac\U0001f600", around, "\x1b" * 5000, "\u20ac" * 3000]:
+        shown = "".join("".join(map("\\x{:02x}".format, it.encode())) if unicodedata.category(it) == "Cc" else it for it in name)
+        expect(ran(["--plain", name.encode()], SMALL_NET, cwd=room), 3, b"", f"boruvka: cannot open {shown}\n".encode())
+    expect(ran(["\x1b[2K"], SMALL_NET, cwd=room), 3, b"", b"boruvka: cannot open \\x1b[2K\n")
 
 
 @case

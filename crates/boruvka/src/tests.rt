@@ -444,19 +444,50 @@ fn expect_one_write(
 
 #[test]
 fn prints_a_long_name_in_one_write(rt: HostRuntime) {
-    for length in [200, 300, 4095, 4096] {
+    for length in [200, 300, 4095, 4096, 4178] {
         let name = "n".repeat(rt.alloc(), length).expect(&rt, "memory");
         let line = format!(in rt.alloc(); "boruvka: cannot open {name}\n").expect(&rt, "memory");
         expect_one_write(&rt, name.as_str(), line.as_str());
     }
 }
 
+// A name whose line is longer goes out in several writes, and whole.
 #[test]
-fn prints_the_control_bytes_of_a_name_as_they_are(rt: HostRuntime) {
+fn prints_each_byte_of_a_longer_name(rt: HostRuntime) {
+    for (part, escaped) in [("n", "n"), ("\u{1b}", "\\x1b"), ("\u{20ac}", "\u{20ac}")] {
+        for length in [4162, 4163, 4164, 9000] {
+            let name = part.repeat(rt.alloc(), length).expect(&rt, "memory");
+            let shown = escaped.repeat(rt.alloc(), length).expect(&rt, "memory");
+            let line = format!(in rt.alloc(); "boruvka: cannot open {shown}\n").expect(
+                &rt, "memory",
+            );
+            let words = ["boruvka", "--plain", name.as_str()];
+            expect(&rt, &words, SMALL_NET, 3, b"", line.as_bytes());
+        }
+    }
+}
+
+#[test]
+fn escapes_the_control_characters_of_a_name(rt: HostRuntime) {
     expect_one_write(
         &rt,
-        "no/such\n\tfile\u{1}\u{7f}",
-        "boruvka: cannot open no/such\n\tfile\u{1}\u{7f}\n",
+        "no/such\n\tfile\u{0}\u{1}\u{1f}\u{7f}",
+        "boruvka: cannot open no/such\\x0a\\x09file\\x00\\x01\\x1f\\x7f\n",
+    );
+    expect_one_write(
+        &rt,
+        "\u{1b}[2K\r\u{9b}A\u{80}\u{9f}",
+        "boruvka: cannot open \\x1b[2K\\x0d\\xc2\\x9bA\\xc2\\x80\\xc2\\x9f\n",
+    );
+}
+
+// So do a backslash, and the neighbours of control characters.
+#[test]
+fn prints_all_other_characters_of_a_name_as_they_are(rt: HostRuntime) {
+    expect_one_write(
+        &rt,
+        "no/such \\x1b~\u{a0}\u{f9}\u{20ac}\u{1f600}",
+        "boruvka: cannot open no/such \\x1b~\u{a0}\u{f9}\u{20ac}\u{1f600}\n",
     );
 }
 

@@ -1,5 +1,8 @@
 -- The lines that say what a run did, or what went wrong, and what it is to write them.
-use Rattle.std.specs.Prelude.{ℕ, ◌⊎◌, List, [], ◌∷◌, ◌++◌, codes}
+use Rattle.std.specs.Prelude.{◌≡◌, ℕ, ◌/◌, ◌%◌, ◌⊎◌, if◌then◌else◌, List, [], ◌∷◌, ◌++◌, codes}
+use Rattle.std.specs.Char.{digit_char, encode_utf8, is_control}
+use Rattle.std.specs.List.{flat_map}
+use Rattle.std.specs.Str.{chars}
 use Rattle.byte_streams.specs.Streams.{SinkState, Took, WentOut}
 use Rattle.plain_run.specs.FaultText.{fault_text}
 use Rattle.plain_run.specs.ReportText.{report_text}
@@ -9,6 +12,10 @@ use Rattle.plain_run.specs.declared.report.Report.{Report}
 -- all of a text was written, or a first part of it and then came a setback
 abbrev pub IsWritten : List ℕ → SinkState → SinkState → Type 0
 IsWritten text before after = Took 0 text before after ⊎ ((written : ℕ) × WentOut 0 written text before after)
+
+-- a first part of a text was written, and this is left of it
+abbrev pub IsPartWritten : List ℕ → List ℕ → SinkState → SinkState → Type 0
+IsPartWritten text left before after = (gone : List ℕ) × Took 0 gone before after × (text ≡ gone ++ left)
 
 -- a report as a line
 abbrev pub report_line : Report → List ℕ
@@ -26,6 +33,18 @@ no_text_line = message_line (codes "a word is not UTF-8")
 abbrev pub fault_line : RunFault → List ℕ
 fault_line why = message_line (fault_text why)
 
+-- a byte as `\x` and two hex digits
+abbrev pub hex_of : ℕ → List ℕ
+hex_of byte = codes "\\x" ++ digit_char (byte / 16) ∷ digit_char (byte % 16) ∷ []
+
+-- a character in UTF-8, with its bytes in hex digits if it is a control character: U+0000 to U+001F, and U+007F to U+009F
+abbrev pub escaped_char : ℕ → List ℕ
+escaped_char c = if is_control c then flat_map hex_of (encode_utf8 c) else encode_utf8 c
+
+-- a text with its control characters in hex digits
+abbrev pub escaped : List ℕ → List ℕ
+escaped text = flat_map escaped_char (chars text)
+
 -- the line of a file of this name that can't be opened
 abbrev pub unopened_line : List ℕ → List ℕ
-unopened_line name = message_line (codes "cannot open " ++ name)
+unopened_line name = message_line (codes "cannot open " ++ escaped name)

@@ -10,13 +10,15 @@
 //! - Words are taken only if nothing is wrong with them, and each sets what it names; numbers are in their ranges.
 //! - A message is written whole, or up to the sink's first setback; a report and a fault have the texts that they are shown
 //!   as, and a fault has its status.
+//! - A file's name stands in its message with its control characters escaped.
 //!
 //! Where to start a change: a new option, `arguments` and `chosen`, with the table in `specs/Arguments`; a message,
-//! `messages` and `specs/Messages`; a status, `statuses` and `specs/Statuses`.
+//! `messages` and `specs/Messages`, with `escapes` for names; a status, `statuses` and `specs/Statuses`.
 #![tactic(auto)]
 
 mod arguments;
 mod chosen;
+mod escapes;
 mod messages;
 mod statuses;
 mod version;

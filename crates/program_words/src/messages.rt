@@ -1,9 +1,13 @@
 //! Lines for the user on standard error, written without taking memory. A failed write is ignored.
-ghost use Rattle.std.specs.Prelude.{◌++◌};
-ghost use Rattle.program_words.specs.Messages.{IsWritten, report_line, fault_line, no_text_line, unopened_line};
+ghost use Rattle.std.specs.Prelude.{◌<◌, ◌++◌, OnOk, IfErr};
+ghost use Rattle.arrayvec.specs.ArrayString.{array_string_len};
+ghost use Rattle.byte_streams.specs.Streams.{WentOut};
+ghost use Rattle.program_words.specs.Messages.{IsWritten, IsPartWritten, escaped_char};
+ghost use Rattle.program_words.specs.Messages.{report_line, fault_line, no_text_line, unopened_line};
 
+use crate::escapes::{ESCAPED_ROOM, NAMED_LINE_ROOM, push_escaped};
 use arrayvec::ArrayString;
-use byte_streams::{Sink, put};
+use byte_streams::{PutFault, Sink, put};
 use plain_run::{LINE_ROOM, Report, RunFault};
 
 /// Writes a text, up to the sink's first setback.
@@ -52,43 +56,44 @@ pub fn write_no_text<S: Sink>(sink: &mut S)
     write_text(sink, b"boruvka: a word is not UTF-8\n");
 }
 
-// A file's name has fewer bytes.
-const LONGEST_NAME: usize = 4096;
-
-// The room for a line with a name.
-const NAMED_LINE_ROOM: usize = 4200;
-
-// Writes three texts, one behind the other, up to the first setback.
-fn write_three<S: Sink>(sink: &mut S, first: &[u8], second: &[u8], third: &[u8])
+// Appends a character to a line, escaped. If there may be no room for it, what stands in the line is written first.
+fn push_or_write<S: Sink>(
+    sink: &mut S,
+    line: &mut ArrayString<NAMED_LINE_ROOM>,
+    c: char,
+) -> Result<(), PutFault>
     requires { S.can_write sink.old }
-    ensures { IsWritten (first.now ++ second.now ++ third.now) (S.state sink.old) (S.state sink.new) }
+    ensures went { OnOk result (IsPartWritten (line.old.bytes ++ escaped_char c) line.new.bytes
+        (S.state sink.old) (S.state sink.new)) }
+    ensures room { OnOk result (array_string_len line.new < NAMED_LINE_ROOM) }
+    ensures again { OnOk result (S.can_write sink.new) }
+    ensures part { IfErr result (λ fault. WentOut 0 fault.written line.old.bytes
+        (S.state sink.old) (S.state sink.new)) }
 {
-    match put(sink, 0, first) {
-        Ok(_) => {}
-        Err(_) => return,
+    if line.remaining_capacity() <= ESCAPED_ROOM {
+        put(sink, 0, line.as_str().as_bytes())?;
+        line.clear();
     }
-    match put(sink, 0, second) {
-        Ok(_) => {}
-        Err(_) => return,
-    }
-    write_text(sink, third);
+    push_escaped(line, c);
+    Ok(())
 }
 
-/// Writes that a file can't be opened, in one write.
+/// Writes that a file can't be opened, in one write if the line has at most 4200 bytes.
 ///
-/// The name stands there byte for byte, control bytes and line feeds too. A name that is longer than any
-/// file's is written in a write of its own.
+/// Control characters of the name could fake a line on a terminal, so they are escaped: each of their bytes is written
+/// as `\x` and two hex digits. All other characters stay as they are, a backslash too.
 pub fn write_unopened<S: Sink>(sink: &mut S, name: &str)
     requires { S.can_write sink.old }
     ensures { IsWritten (unopened_line name.now) (S.state sink.old) (S.state sink.new) }
 {
-    if name.len() > LONGEST_NAME {
-        write_three(sink, b"boruvka: cannot open ", name.as_bytes(), b"\n");
-        return;
-    }
     let mut line = ArrayString::<NAMED_LINE_ROOM>::new();
     line.push_str("boruvka: cannot open ");
-    line.push_str(name);
+    for c in name.chars() {
+        match push_or_write(sink, &mut line, c) {
+            Ok(()) => {}
+            Err(_) => return,
+        }
+    }
     line.push_str("\n");
     write_text(sink, line.as_str().as_bytes());
 }
