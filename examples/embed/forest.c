@@ -1,6 +1,6 @@
 /* The minimum spanning forest of a small net that lies in memory, written as `boruvka` writes it.
  *
- * If the libraries are installed where the system looks for them:
+ * If the libraries are installed where the system looks for them, and `ldconfig` has run since:
  *
  *     cc -o forest forest.c $(pkg-config --cflags --libs boruvka)
  *     ./forest

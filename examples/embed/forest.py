@@ -2,7 +2,7 @@
 
 usage: python3 forest.py [LIBRARY]
 
-Without a word it takes the shared library that the system's loader finds. With the one of a PREFIX of your own:
+Without a word it takes the shared library that the system's loader finds (after `ldconfig`, once it is installed). With the one of a PREFIX of your own:
 
     python3 forest.py PREFIX/lib/libboruvka.so.1
 """
