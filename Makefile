@@ -105,7 +105,9 @@ $(BENCH): $(SOURCES)
 	@touch $(BENCH)
 
 # With the crate's own library the toolchain's few lines over malloc and free.
+# (`rt` writes through no symbolic link, so the three names of the shared library are one file here)
 $(LIBRARY).a: $(SOURCES)
+	@rm -f $(LIBRARY).so $(LIBRARY).so.*
 	@python3 tools/prove.py boruvka_c
 	@cd $(@D) && ar x "$$(dirname "$$(rt doc)")/c/liblibc_c.a" heap.pic.o && cp libboruvka_c.a made.a && ar qsD made.a heap.pic.o
 	@cd $(@D) && mv made.a $(@F) && rm -f heap.pic.o
@@ -115,6 +117,6 @@ $(LIBRARY).so: $(LIBRARY).a
 	@echo '{ global: boruvka_*; local: *; };' > $(@D)/names
 	@rm -f $@ $@.*
 	@$(CC) -shared -o $(@D)/$(SHARED) -Wl,--whole-archive $< -Wl,--no-whole-archive -Wl,--version-script=$(@D)/names -Wl,-soname,$(@F).$(MAJOR) -Wl,-z,defs
-	@ln -s $(SHARED) $@.$(MAJOR)
-	@ln -s $(@F).$(MAJOR) $@
+	@ln $(@D)/$(SHARED) $@.$(MAJOR)
+	@ln $(@D)/$(SHARED) $@
 	@rm -f $(@D)/names
