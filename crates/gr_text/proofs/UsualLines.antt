@@ -1,14 +1,13 @@
 -- A usual arc line: its fields, its bytes, and that it is read whole.
-use Rattle.std.proofs.Common.{◌≡◌, ◌≢◌, ℕ, suc, ◌+◌, ◌-◌, ◌%◌, ◌^◌, ◌<◌, ◌≤◌, inl, inr, List, [], ◌∷◌, ◌++◌, refl, ap, sym, ◌∙◌, subst, arith, append_assoc, append-nil, codes, length, take, drop, get_or}
+use Rattle.std.proofs.Common.{◌≡◌, ◌≢◌, ℕ, suc, ◌+◌, ◌-◌, ◌%◌, ◌^◌, ◌<◌, ◌≤◌, inl, inr, List, [], ◌∷◌, ◌++◌, refl, ap, sym, ◌∙◌, subst, arith, append_assoc, codes, length, take, drop, get_or}
 use Rattle.std.specs.List.{AllByRecursion}
 use Rattle.std.proofs.lemmas.List.{length-take-le, take_more, take-append-drop, drop-append-le, take_rest}
 use Rattle.std.proofs.Math.Nat.{pow-le-pow_right}
 use Rattle.std.proofs.Math.Seq.{take-append-add}
 use Rattle.gr_text.specs.Lines.{line_feed, IsLine, ended}
 use Rattle.gr_text.specs.Fields.{IsFieldByte, BeginsBlank, AreFields, IsDigit, number_of}
-use Rattle.gr_text.specs.Word.{KeepsSigned}
 use Rattle.gr_text.specs.PartialLine.{IsWhole}
-use Rattle.gr_text.specs.UsualArc.{IsShort, IsShortSigned, IsUsualArc, BeginsWithShort, HasShortBefore, HasNoShort}
+use Rattle.gr_text.specs.UsualArc.{IsShort, IsShortSigned, IsLineEnd, IsUsualArc, BeginsWithShort, BeginsWithShortSigned, HasShortBefore, HasNoShort, HasNoLast, HasNoShortSigned}
 use Rattle.gr_text.specs.declared.words.LineFields.TheVariants.{ArcWhole}
 use Rattle.gr_text.specs.declared.words.Signed.{Signed}
 use Rattle.gr_text.proofs.Alls.{All-both, All-parts}
@@ -49,17 +48,27 @@ behind_space : (field after : List ℕ) (others : List (List ℕ)) → IsInner f
 behind_space field after others inner begins are =
     (32 ∷ [], after, (inl refl, tt), inner.some, all_as Inner IsFieldByte field_of_inner field inner.all, refl, begins, are)
 
+-- the end of a line is blank, and has no line feed
+blank_end : (end : List ℕ) → IsLineEnd end → BeginsBlank end × AreFields end []
+blank_end end (inl none) = subst (λ (xs : List ℕ). BeginsBlank xs × AreFields xs []) (sym none) (tt, tt)
+blank_end end (inr one) = subst (λ (xs : List ℕ). BeginsBlank xs × AreFields xs []) (sym one) (inr (inr refl), (inr (inr refl), tt))
+
+line_end : (end : List ℕ) → IsLineEnd end → IsLine end
+line_end end (inl none) = subst IsLine (sym none) tt
+line_end end (inr one) = subst IsLine (sym one) ((λ (e : 13 ≡ line_feed). omega arith), tt)
+
 usual_fields : (line : List ℕ) → (usual : IsUsualArc line) → AreFields line (codes "a" ∷ usual.tail ∷ usual.head ∷ usual.weight ∷ [])
 usual_fields line usual =
     let tail = usual.tail in
     let head = usual.head in
     let weight = usual.weight in
-    let last : AreFields (32 ∷ weight) (weight ∷ []) = subst (λ (xs : List ℕ). AreFields (32 ∷ xs) (weight ∷ [])) (append-nil weight)
-    (behind_space weight [] [] (inner_of_signed weight usual.short_weight) tt tt) in
-    let two = behind_space head (32 ∷ weight) (weight ∷ []) (inner_of_short head usual.short_head) (inl refl) last in
-    let three = behind_space tail (32 ∷ (head ++ 32 ∷ weight)) (head ∷ weight ∷ []) (inner_of_short tail usual.short_tail) (inl refl) two in
+    let end = usual.end in
+    let blank = blank_end end usual.ends in
+    let last = behind_space weight end [] (inner_of_signed weight usual.short_weight) blank.0 blank.1 in
+    let two = behind_space head (32 ∷ (weight ++ end)) (weight ∷ []) (inner_of_short head usual.short_head) (inl refl) last in
+    let three = behind_space tail (32 ∷ (head ++ 32 ∷ (weight ++ end))) (head ∷ weight ∷ []) (inner_of_short tail usual.short_tail) (inl refl) two in
     subst (λ (xs : List ℕ). AreFields xs (codes "a" ∷ tail ∷ head ∷ weight ∷ [])) (sym usual.spelled)
-    ([], 32 ∷ (tail ++ 32 ∷ (head ++ 32 ∷ weight)), tt, (λ (e : codes "a" ≡ []). cc), (field_of_inner 97 (omega arith), tt), refl, inl refl, three)
+    ([], 32 ∷ (tail ++ 32 ∷ (head ++ 32 ∷ (weight ++ end))), tt, (λ (e : codes "a" ≡ []). cc), (field_of_inner 97 (omega arith), tt), refl, inl refl, three)
 
 -- it has no line feed
 pub usual_is_line : (line : List ℕ) → IsUsualArc line → IsLine line
@@ -68,39 +77,43 @@ usual_is_line line usual =
     let no_feed : (field : List ℕ) → IsInner field → AllByRecursion P field = λ field inner. all_as Inner P no_feed_of_inner field inner.all in
     let space : P 32 = λ e. omega arith in
     let letter : P 97 = λ e. omega arith in
-    let last = no_feed usual.weight (inner_of_signed usual.weight usual.short_weight) in
-    let two = All-both P usual.head (32 ∷ usual.weight) (no_feed usual.head (inner_of_short usual.head usual.short_head)) (space, last) in
-    let three = All-both P usual.tail (32 ∷ (usual.head ++ 32 ∷ usual.weight)) (no_feed usual.tail (inner_of_short usual.tail usual.short_tail)) (space, two) in
+    let weight = usual.weight ++ usual.end in
+    let last = All-both P usual.weight usual.end (no_feed usual.weight (inner_of_signed usual.weight usual.short_weight)) (line_end usual.end usual.ends) in
+    let two = All-both P usual.head (32 ∷ weight) (no_feed usual.head (inner_of_short usual.head usual.short_head)) (space, last) in
+    let three = All-both P usual.tail (32 ∷ (usual.head ++ 32 ∷ weight)) (no_feed usual.tail (inner_of_short usual.tail usual.short_tail)) (space, two) in
     subst (AllByRecursion P) (sym usual.spelled) (letter, (space, three))
 
 -- how it begins a text
-usual_spelled : (line rest tail head weight : List ℕ) → line ≡ codes "a " ++ (tail ++ 32 ∷ (head ++ 32 ∷ weight))
-    → ended line ++ rest ≡ codes "a " ++ (tail ++ 32 ∷ (head ++ 32 ∷ (weight ++ line_feed ∷ rest)))
-usual_spelled line rest tail head weight is =
+usual_spelled : (line rest tail head weight end : List ℕ) → line ≡ codes "a " ++ (tail ++ 32 ∷ (head ++ 32 ∷ (weight ++ end)))
+    → ended line ++ rest ≡ codes "a " ++ (tail ++ 32 ∷ (head ++ 32 ∷ (weight ++ (end ++ line_feed ∷ rest))))
+usual_spelled line rest tail head weight end is =
     append_assoc line (line_feed ∷ []) rest ∙ ap (λ (xs : List ℕ). xs ++ line_feed ∷ rest) is
-    ∙ ap (λ (xs : List ℕ). 97 ∷ 32 ∷ xs) (append_assoc tail (32 ∷ (head ++ 32 ∷ weight)) (line_feed ∷ rest)
-    ∙ ap (λ (xs : List ℕ). tail ++ 32 ∷ xs) (append_assoc head (32 ∷ weight) (line_feed ∷ rest)))
+    ∙ ap (λ (xs : List ℕ). 97 ∷ 32 ∷ xs) (append_assoc tail (32 ∷ (head ++ 32 ∷ (weight ++ end))) (line_feed ∷ rest)
+    ∙ ap (λ (xs : List ℕ). tail ++ 32 ∷ xs) (append_assoc head (32 ∷ (weight ++ end)) (line_feed ∷ rest)
+    ∙ ap (λ (xs : List ℕ). head ++ 32 ∷ xs) (append_assoc weight end (line_feed ∷ rest))))
 
 -- What is read is such a line.
 pub usual_found : (bytes fields second third rest : List ℕ) (u v : ℕ) (w : Signed) → bytes ≡ 97 ∷ 32 ∷ fields → BeginsWithShort u 32 fields second → BeginsWithShort v 32 second third
-    → ((field : List ℕ) × IsShortSigned field × KeepsSigned w field × (third ≡ field ++ line_feed ∷ rest))
+    → BeginsWithShortSigned w third rest
     → (line : List ℕ) × IsUsualArc line × IsWhole (ArcWhole u v w) line × (bytes ≡ ended line ++ rest)
-usual_found bytes fields second third rest u v w begins (tail, short_tail, keeps_tail, is_tail) (head, short_head, keeps_head, is_head) (weight, short_weight, keeps_weight, is_weight) =
-    let line : List ℕ = codes "a " ++ (tail ++ 32 ∷ (head ++ 32 ∷ weight)) in
+usual_found bytes fields second third rest u v w begins (tail, short_tail, keeps_tail, is_tail) (head, short_head, keeps_head, is_head) (weight, short_weight, keeps_weight, (end, ends, is_weight)) =
+    let line : List ℕ = codes "a " ++ (tail ++ 32 ∷ (head ++ 32 ∷ (weight ++ end))) in
     let usual : IsUsualArc line = record {
       tail = tail;
       head = head;
       weight = weight;
+      end = end;
       spelled = refl;
       short_tail = short_tail;
       short_head = short_head;
       short_weight = short_weight;
+      ends = ends;
     } in (
       line,
       usual,
       (codes "a" ∷ tail ∷ head ∷ weight ∷ [], usual_fields line usual, (tail, head, weight, refl, keeps_tail, keeps_head, keeps_weight)),
       begins ∙ ap (λ (xs : List ℕ). 97 ∷ 32 ∷ xs) (is_tail ∙ ap (λ (xs : List ℕ). tail ++ 32 ∷ xs) (is_head ∙ ap (λ (xs : List ℕ). head ++ 32 ∷ xs) is_weight))
-          ∙ sym (usual_spelled line rest tail head weight refl),
+          ∙ sym (usual_spelled line rest tail head weight end refl),
     )
 
 space_no_digit : ¬ (IsDigit 32)
@@ -112,29 +125,45 @@ behind kept stop bytes after field rest no_digit (field', short', keeps, is') sh
     let both = prefix_unique IsDigit field' field (stop ∷ after) (stop ∷ rest) short'.digits short.digits no_digit no_digit (sym is' ∙ is) in
     let tails : stop ∷ after ≡ stop ∷ rest = both.1 in cc
 
+-- No short number ends a line: none stands before a line feed, nor before a carriage return that one follows.
+pub never_last : (bytes : List ℕ) → HasNoShort line_feed bytes → ((field rest : List ℕ) → IsShort field → bytes ≢ field ++ 13 ∷ line_feed ∷ rest) → HasNoLast bytes
+never_last bytes no_feed no_return field rest short (end, inl none, is) = no_feed field rest short (is ∙ ap (λ (xs : List ℕ). field ++ (xs ++ line_feed ∷ rest)) none)
+never_last bytes no_feed no_return field rest short (end, inr one, is) = no_return field rest short (is ∙ ap (λ (xs : List ℕ). field ++ (xs ++ line_feed ∷ rest)) one)
+
+return_no_digit : ¬ (IsDigit 13)
+return_no_digit digit = omega (arith, digit.0)
+
+pub never_feed : (kept : ℕ) (bytes after : List ℕ) → BeginsWithShort kept 13 bytes after → ((rest : List ℕ) → after ≢ line_feed ∷ rest)
+    → (field rest : List ℕ) → IsShort field → bytes ≢ field ++ 13 ∷ line_feed ∷ rest
+never_feed kept bytes after begins other field rest short is = other rest (behind kept 13 bytes after field (line_feed ∷ rest) return_no_digit begins short is)
+
 -- what follows the letter of a usual line
 behind_letter : (bytes fields line rest : List ℕ) → (usual : IsUsualArc line) → bytes ≡ 97 ∷ 32 ∷ fields → bytes ≡ ended line ++ rest
-    → fields ≡ usual.tail ++ 32 ∷ (usual.head ++ 32 ∷ (usual.weight ++ line_feed ∷ rest))
+    → fields ≡ usual.tail ++ 32 ∷ (usual.head ++ 32 ∷ (usual.weight ++ (usual.end ++ line_feed ∷ rest)))
 behind_letter bytes fields line rest usual begins is =
-    let whole : 97 ∷ 32 ∷ fields ≡ 97 ∷ 32 ∷ (usual.tail ++ 32 ∷ (usual.head ++ 32 ∷ (usual.weight ++ line_feed ∷ rest))) =
-    sym begins ∙ is ∙ usual_spelled line rest usual.tail usual.head usual.weight usual.spelled in
+    let whole : 97 ∷ 32 ∷ fields ≡ 97 ∷ 32 ∷ (usual.tail ++ 32 ∷ (usual.head ++ 32 ∷ (usual.weight ++ (usual.end ++ line_feed ∷ rest)))) =
+    sym begins ∙ is ∙ usual_spelled line rest usual.tail usual.head usual.weight usual.end usual.spelled in
     cc
 
 -- No usual line begins bytes in which a field of it is missing.
 pub never_head : (bytes fields second : List ℕ) (u : ℕ) → bytes ≡ 97 ∷ 32 ∷ fields → BeginsWithShort u 32 fields second
     → ((field rest : List ℕ) → IsShort field → second ≢ field ++ 32 ∷ rest) → (line rest : List ℕ) → IsUsualArc line → bytes ≢ ended line ++ rest
 never_head bytes fields second u begins tail never line rest usual is =
-    never usual.head (usual.weight ++ line_feed ∷ rest) usual.short_head
-    (behind u 32 fields second usual.tail (usual.head ++ 32 ∷ (usual.weight ++ line_feed ∷ rest)) space_no_digit tail usual.short_tail
+    let last = usual.weight ++ (usual.end ++ line_feed ∷ rest) in
+    never usual.head last usual.short_head
+    (behind u 32 fields second usual.tail (usual.head ++ 32 ∷ last) space_no_digit tail usual.short_tail
     (behind_letter bytes fields line rest usual begins is))
 
 pub never_weight : (bytes fields second third : List ℕ) (u v : ℕ) → bytes ≡ 97 ∷ 32 ∷ fields → BeginsWithShort u 32 fields second → BeginsWithShort v 32 second third
-    → ((field rest : List ℕ) → IsShortSigned field → third ≢ field ++ line_feed ∷ rest) → (line rest : List ℕ) → IsUsualArc line → bytes ≢ ended line ++ rest
+    → HasNoShortSigned third → (line rest : List ℕ) → IsUsualArc line → bytes ≢ ended line ++ rest
 never_weight bytes fields second third u v begins tail head never line rest usual is =
-    never usual.weight rest usual.short_weight
-    (behind v 32 second third usual.head (usual.weight ++ line_feed ∷ rest) space_no_digit head usual.short_head
-    (behind u 32 fields second usual.tail (usual.head ++ 32 ∷ (usual.weight ++ line_feed ∷ rest)) space_no_digit tail usual.short_tail
-    (behind_letter bytes fields line rest usual begins is)))
+    let last = usual.weight ++ (usual.end ++ line_feed ∷ rest) in
+    never usual.weight rest usual.short_weight (
+      usual.end,
+      usual.ends,
+      behind v 32 second third usual.head last space_no_digit head usual.short_head
+          (behind u 32 fields second usual.tail (usual.head ++ 32 ∷ last) space_no_digit tail usual.short_tail (behind_letter bytes fields line rest usual begins is)),
+    )
 
 -- A place in bytes.
 pub at_place : (xs : List ℕ) (i : ℕ) → i < length xs → xs ≡ take i xs ++ get_or xs i 0 ∷ drop (i + 1) xs
@@ -172,6 +201,26 @@ never_other stop xs i no_digit within all other none field rest short is =
     let same : get_or xs i 0 ≡ stop = cc in
     let zero : i ≡ 0 = none same in
     short.some (sym both.0 ∙ ap (λ (k : ℕ). take k xs) zero)
+
+-- Bytes that begin with one aren't none.
+pub never_empty : (bytes : List ℕ) (b : ℕ) (rest : List ℕ) → length bytes < 1 → bytes ≢ b ∷ rest
+never_empty [] b rest none is = cc
+never_empty (x ∷ xs) b rest none is = omega (arith, none)
+
+-- No number ends a line with or without a minus.
+pub never_minus : (bytes digits : List ℕ) → bytes ≡ 45 ∷ digits → HasNoLast digits → HasNoShortSigned bytes
+never_minus bytes digits begins none field rest (inl short) (end, ends, is) =
+    elim field as (λ f. IsShort f → bytes ≡ f ++ (end ++ line_feed ∷ rest) → ⊥) [
+      | [] ↦ λ it same. it.some refl
+      | b ∷ others ↦ λ it same. (let minus : b ≡ 45 = cc in omega (arith, it.digits.0))
+    ] short is
+never_minus bytes digits begins none field rest (inr (others, minus, short)) (end, ends, is) =
+    none others rest short (end, ends, let whole : 45 ∷ digits ≡ 45 ∷ (others ++ (end ++ line_feed ∷ rest)) = sym begins ∙ is ∙ ap (λ (xs : List ℕ). xs ++ (end ++ line_feed ∷ rest)) minus in cc)
+
+pub never_plus : (bytes : List ℕ) → ((digits : List ℕ) → bytes ≢ 45 ∷ digits) → HasNoLast bytes → HasNoShortSigned bytes
+never_plus bytes other none field rest (inl short) ends = none field rest short ends
+never_plus bytes other none field rest (inr (digits, minus, short)) (end, ends, is) =
+    absurd (other (digits ++ (end ++ line_feed ∷ rest)) (is ∙ ap (λ (xs : List ℕ). xs ++ (end ++ line_feed ∷ rest)) minus))
 
 -- bytes by their first ones
 pub begins_one : (xs : List ℕ) (a : ℕ) → 1 ≤ length xs → get_or xs 0 0 ≡ a → xs ≡ a ∷ take (length xs - 1) (drop 1 xs)

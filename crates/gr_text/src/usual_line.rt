@@ -1,7 +1,7 @@
 //! The usual form of an arc line, `a U V W`, which is read at once.
 ghost use Rattle.std.specs.Prelude.{◌≤◌, length, MatchOption};
 ghost use Rattle.gr_text.specs.Fields.{IsDigit};
-ghost use Rattle.gr_text.specs.UsualArc.{BeginsWithShort, BeginsWithShortSigned, BeginsWithUsualArc, HasNoShort, HasNoShortSigned, HasNoUsualArc, HasShortBefore};
+ghost use Rattle.gr_text.specs.UsualArc.{BeginsWithLast, BeginsWithShort, BeginsWithShortSigned, BeginsWithUsualArc, HasNoLast, HasNoShort, HasNoShortSigned, HasNoUsualArc, HasShortBefore};
 
 use crate::words::{LineFields, Signed};
 
@@ -10,7 +10,7 @@ const MOST_BYTES: usize = 20;
 
 /// The line that the bytes begin with, where it is a usual arc line and its line feed is among them, and the bytes
 /// behind that: `a`, one space, one to nineteen digits, one space, one to nineteen digits, one space, a minus or none,
-/// and one to nineteen digits. The time is linear in that line.
+/// one to nineteen digits, and a carriage return or none. The time is linear in that line.
 #[inline(always)]
 pub(crate) fn usual_arc(bytes: &[u8]) -> Option<(LineFields, &[u8])>
     ensures { MatchOption result (HasNoUsualArc bytes.now) (λ found. BeginsWithUsualArc found.0 bytes.now found.1.now) }
@@ -24,7 +24,7 @@ pub(crate) fn usual_arc(bytes: &[u8]) -> Option<(LineFields, &[u8])>
     Some((LineFields::ArcWhole(tail, head, weight), rest))
 }
 
-// The weight that the bytes before the first line feed write, where they are one to nineteen digits or a minus and
+// The weight that the bytes before the end of the line write, where they are one to nineteen digits or a minus and
 // such; and the bytes behind the line feed.
 #[inline(always)]
 fn short_weight(bytes: &[u8]) -> Option<(Signed, &[u8])>
@@ -32,11 +32,27 @@ fn short_weight(bytes: &[u8]) -> Option<(Signed, &[u8])>
         (λ found. BeginsWithShortSigned found.0 bytes.now found.1.now) }
 {
     if let [b'-', digits @ ..] = bytes {
-        let (size, rest) = short_number(digits, b'\n')?;
+        let (size, rest) = last_number(digits)?;
         return Some((Signed::Minus(size), rest));
     }
-    let (size, rest) = short_number(bytes, b'\n')?;
+    let (size, rest) = last_number(bytes)?;
     Some((Signed::Plus(size), rest))
+}
+
+// The number that the bytes before the end of the line write, where they are one to nineteen digits; and the bytes behind
+// the line feed. A line that ends in a carriage return too costs a second look at this number.
+#[inline(always)]
+fn last_number(bytes: &[u8]) -> Option<(u64, &[u8])>
+    ensures { MatchOption result (HasNoLast bytes.now) (λ found. BeginsWithLast found.0 bytes.now found.1.now) }
+{
+    if let Some(found) = short_number(bytes, b'\n') {
+        return Some(found);
+    }
+    let (number, rest) = short_number(bytes, b'\r')?;
+    if rest.is_empty() || rest[0] != b'\n' {
+        return None;
+    }
+    Some((number, &rest[1..]))
 }
 
 // The number that the bytes before the first `stop` write, where they are one to nineteen digits; and the bytes behind

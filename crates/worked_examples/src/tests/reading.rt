@@ -147,6 +147,28 @@ fn reads_two_pieces_cut_anywhere(rt: HostRuntime) {
     }
 }
 
+// As some systems write it: a carriage return is a blank, and doesn't end a line alone.
+#[test]
+fn reads_lines_that_end_in_carriage_return_and_line_feed(rt: HostRuntime) {
+    let text =
+        b"c a small net\r\np sp 6 8\r\na 1 2 17\r\nc the usual shape\r\na 1 3 10\r\na 2 4 2\r\na 3 5 0\r\na 4 3 0\r\na 4 6 3\r\na 5 2 -0\r\na 5 6 20\r\n";
+    for at in 0..=text.len() {
+        let mut reader = GrReader::new(rt.alloc(), MAX_BYTES);
+        expect_same(&rt, reader.feed(&text[..at]), Ok(()));
+        expect_same(&rt, reader.feed(&text[at..]), Ok(()));
+        expect_same(&rt, reader.line(), 12);
+        expect_small_net(&rt, reader.finish());
+    }
+    let graph = parse(rt.alloc(), b"p sp 2 1\na 1 2 -5\r\r\n").ok();
+    let graph = graph.expect(&rt, "a graph");
+    expect_same(&rt, are_links(graph.links(), &[(1, 2, -5)]), true);
+    let rows = [b"p sp 3 1\na 1 2 5\r6\n", b"p sp 3 1\na 1 2\r\n 5\n"];
+    for text in rows {
+        let found = parse(rt.alloc(), text).err();
+        expect_same(&rt, found, Some(fault(2, GrKind::BadArc)));
+    }
+}
+
 // Nine bytes are too few for ten and ten are enough, wherever the text is cut: also where a piece begins at the limit.
 #[test]
 fn takes_no_more_than_its_limit(rt: HostRuntime) {
