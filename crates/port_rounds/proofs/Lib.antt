@@ -9,6 +9,7 @@ pub mod Seated
 pub mod Passing
 pub mod Lasting
 pub mod Scanning
+pub mod ClosedBy
 pub mod Running
 pub mod Reporting
 pub mod Solving

@@ -17,10 +17,11 @@ use Rattle.port_rounds.specs.Taking.{with_answers}
 use Rattle.port_rounds.specs.Passes.{AnswersOnce, RunsPasses}
 use Rattle.port_rounds.specs.Scanned.{ScansShards}
 use Rattle.port_rounds.specs.Rounds.{RunsRound}
-use Rattle.port_rounds.specs.Runs.{opened_book, ClosesPortIn, IsKeptIn, IsGivenBy, IsLightIn, IsFullBook, MatchesBooks, RunsRounds}
+use Rattle.port_rounds.specs.Runs.{opened_book, ClosesPortIn, IsKeptIn, HasScanned, ClosesBy, AllCloseBy, IsGivenBy, IsLightIn, IsFullBook, MatchesBooks, RunsRounds}
 use Rattle.port_rounds.proofs.AsksThen.{ComeFirst, stayed, asks_then}
 use Rattle.port_rounds.proofs.Once.{once_then}
 use Rattle.port_rounds.proofs.Passing.{SameRound, same_round, asks_more}
+use Rattle.port_rounds.proofs.ClosedBy.{none_open, still_closed, now_closed}
 
 pub one : {X : Type 0} (P : X → Type 0) (x : X) → P x → All P (x ∷ [])
 one P x p zero d b = p
@@ -182,6 +183,10 @@ kept_then {P} honest xs ys books new at bt same stays values value earlier u v =
           absurd (omega arith)));
     }
 
+-- what no lane kept, none had kept before
+scanned_before : (book : BookValue) (at bt : ℕ → List AnswerValue) (lanes : ℕ) → HasScanned lanes (λ i. at i ++ bt i) book → HasScanned lanes at book
+scanned_before book at bt lanes (t, has, alone) = (t, has, λ g. alone (g.0, g.1, Contains-append_left (at g.0) (bt g.0) t g.2))
+
 module _ {P A : Type 0} (port : Port.Ghosts P A) where
   pub rounds_none : (cut : List (List Link)) (xs : List (LaneState P)) → RunsRounds port cut xs xs [] 0 0
   rounds_none cut xs = record {
@@ -194,6 +199,7 @@ module _ {P A : Type 0} (port : Port.Ghosts P A) where
     asks = omega arith;
     never_opened = omega arith;
     closed = λ some. absurd (omega arith);
+    closed_by = λ i d b. absurd (omega arith);
     given = λ none i d b. absurd (omega arith);
     light = λ h i d b. absurd (omega arith);
   }
@@ -244,6 +250,24 @@ module _ {P A : Type 0} (port : Port.Ghosts P A) where
           | inl none ↦ (let a = u.closed (omega arith) in let b = v.never_opened in omega arith)
           | inr scanned ↦ r.closed scanned
         ];
+        closed_by =
+            All-append (λ (book : BookValue). HasScanned (length xs) at book → AllCloseBy port.state book.round xs zs) books (new ∷ [])
+            (All-weaker (λ (book : BookValue). HasScanned (length xs) u.answers_at book → AllCloseBy port.state book.round xs ys)
+            (λ (book : BookValue). HasScanned (length xs) at book → AllCloseBy port.state book.round xs zs)
+            (λ book by scanned i d b.
+            still_closed port (TakesExchange old) (ClosesPort old) book.round (get_or xs i d).port (get_or ys i d).port (get_or zs i d).port (v.answers_at i)
+            (by (scanned_before book u.answers_at v.answers_at (length xs) scanned) i d b) (v.each i d (let e = u.ports.same_lanes in omega arith)))
+            books u.closed_by)
+            (one (λ (book : BookValue). HasScanned (length xs) at book → AllCloseBy port.state book.round xs zs) new
+            (λ (t, has, alone) i d b. (
+            let some : 0 < k = elim (Contains-append_cases v.answers w.answers t (subst (λ (ts : List AnswerValue). Contains ts t) answers has)) [
+              | inl c ↦ (let q = v.given t c in absurd (alone (q.0, (let e = u.ports.same_lanes in let l = q.1 in omega arith), Contains-append_right (u.answers_at q.0) (v.answers_at q.0) t q.2)))
+              | inr c ↦ (let some = c.1 in let e = w.count_is in omega arith)
+            ] in
+            let within : i < length ys = (let e = u.ports.same_lanes in omega arith) in
+            let shut = none_open port.state zs (r.closed some) i d (let e = v.same_lanes in omega arith) in
+            subst (λ (n : ℕ). ClosesBy n (port.state (get_or xs i d).port) (port.state (get_or zs i d).port)) (sym same.round)
+            (now_closed port books old (get_or xs i d).port (get_or ys i d).port (get_or zs i d).port (u.answers_at i) (v.answers_at i) earlier (u.ports.each i d b) (v.each i d within) shut))));
         given = λ none.
             All-append (λ (book : BookValue). All (IsGivenBy (length xs) at) book.answers) books (new ∷ [])
             (All-weaker (λ (book : BookValue). All (IsGivenBy (length xs) u.answers_at) book.answers) (λ (book : BookValue). All (IsGivenBy (length xs) at) book.answers)

@@ -1,10 +1,11 @@
 -- What the rounds of a run do: to each lane, and to one book after another.
-use Rattle.std.specs.Prelude.{◌≡◌, ℕ, ◌+◌, ◌*◌, ◌<◌, ◌≤◌, ◌⊎◌, List, length, slice_index_or, All, Contains, Option}
+use Rattle.std.specs.Prelude.{◌≡◌, ℕ, ◌+◌, ◌*◌, ◌<◌, ◌≤◌, ◌⊎◌, true, false, List, length, slice_index_or, All, Contains, Option}
 use Rattle.links.specs.declared.links.Link.{Link}
 use Rattle.links.specs.AnswerValue.{AnswerValue}
 use Rattle.round_theory.specs.Offers.{IsNamed}
 use Rattle.round_core.specs.BookValue.{BookValue, IsBookValue, opened, missing, hearings}
 use Rattle.port_trait.specs.declared.port.Port as Port
+use Rattle.port_trait.specs.Ports.{PortState}
 use Rattle.port_trait.specs.Exchanges.{Exchange}
 use Rattle.port_rounds.specs.Lanes.{LaneState, ask_count, open_count}
 use Rattle.port_rounds.specs.Asks.{AnswersAsks, TakesExchange, ClosesPort, IsLight}
@@ -32,6 +33,19 @@ pub record PortsAnswer {P A : Type 0} (port : Port.Ghosts P A) (books : List Boo
 -- a lane kept the answer
 abbrev pub IsGivenBy : ℕ → (ℕ → List AnswerValue) → AnswerValue → Type 0
 IsGivenBy lanes answers_at answer = (i : ℕ) × (i < lanes) × Contains (answers_at i) answer
+
+-- no lane kept one of the book's answers: the coordinator scanned that shard itself
+abbrev pub HasScanned : ℕ → (ℕ → List AnswerValue) → BookValue → Type 0
+HasScanned lanes answers_at book = (answer : AnswerValue) × Contains book.answers answer × ¬ (IsGivenBy lanes answers_at answer)
+
+-- a port that was open before is closed after, and its last ask was of this round or an earlier one
+abbrev pub ClosesBy : ℕ → PortState → PortState → Type 0
+ClosesBy round before after = before.is_open ≡ true → (after.is_open ≡ false) × (after.last.0 ≤ round)
+
+-- the same of the port of each lane
+abbrev pub AllCloseBy : {P : Type 0} → (P → PortState) → ℕ → List (LaneState P) → List (LaneState P) → Type 0
+AllCloseBy {P} state round before after = (i : ℕ) (d : LaneState P) → i < length before
+    → ClosesBy round (state (slice_index_or before i d).port) (state (slice_index_or after i d).port)
 
 -- one of the books has the answer
 abbrev pub IsAnswerIn : List BookValue → AnswerValue → Type 0
@@ -81,6 +95,8 @@ pub record RunsRounds {P A : Type 0} (port : Port.Ghosts P A) (cut : List (List 
       ≡ (ask_count port.state before + answered) + open_count port.state before
   pub never_opened : open_count port.state after ≤ open_count port.state before
   pub closed : 0 < alone → open_count port.state after ≡ 0
+  -- in each round: where the coordinator scanned a shard, every port was closed by then, and none was asked in a later round
+  pub closed_by : All (λ book. HasScanned (length before) answers_at book → AllCloseBy port.state book.round before after) books
   -- where the coordinator scanned nothing, each answer is one that a lane kept
   pub given : alone ≡ 0 → All (λ book. All (IsGivenBy (length before) answers_at) book.answers) books
   pub light : All (λ lane. port.honest lane.port) before → AreLightBooks books
