@@ -38,9 +38,10 @@ def shown(language, block):
 
 def expect_shown(room, blocks):
     """Runs each command of the blocks, in their order, in a copy of the repository's top that has the examples alone."""
-    shutil.copytree(f"{ROOT}/examples", f"{room}/examples")
-    os.mkdir(f"{room}/bin")
-    os.symlink(Program.path, f"{room}/bin/boruvka")
+    if not os.path.isdir(f"{room}/bin"):
+        shutil.copytree(f"{ROOT}/examples", f"{room}/examples")
+        os.mkdir(f"{room}/bin")
+        os.symlink(Program.path, f"{room}/bin/boruvka")
     env = {**os.environ, "PATH": f"{room}/bin:{os.environ['PATH']}", "LC_ALL": "C"}
     count = 0
     for language, block in blocks:
@@ -64,7 +65,8 @@ def the_first_screen_of_the_readme(room):
 
 @case
 def the_recipes(room):
-    count = expect_shown(room, blocks_of("docs/RECIPES.md"))
+    *blocks, last = blocks_of("docs/RECIPES.md")
+    count = expect_shown(room, blocks)
     if count < 20:
         raise AssertionError(f"only {count} commands were found")
     if shutil.which("dot"):
@@ -75,6 +77,11 @@ def the_recipes(room):
             counts = picture.count('class="node"'), picture.count('class="edge"'), picture.count('stroke-width="3"')
             if counts != (10, 13, 8):
                 raise AssertionError(f"villages, roads and roads of the forest: {counts}")
+    # the last block takes away whatever the others left
+    expect_shown(room, [last])
+    left = sorted(os.listdir(room)), sorted(os.listdir(f"{room}/examples"))
+    if left != (["bin", "examples"], sorted(os.listdir(f"{ROOT}/examples"))):
+        raise AssertionError(f"the recipes leave {left}")
 
 
 @case
