@@ -1,5 +1,6 @@
 """What README, docs/RECIPES.md and the manual page show, run as it stands there; the session that docs/PROTOCOL.md
-shows; README's call of a library; what the manual page names; how long pages and their parts are."""
+shows; README's call of a library; what the manual page, the promises and the map name; how long pages and their parts are."""
+import glob
 import os
 import re
 import shutil
@@ -263,5 +264,29 @@ def the_promises_name_what_stands(_room):
             if last != "laws" and not re.search(rf"\b(fn|struct|trait|record|abbrev pub) {last}\b", text):
                 missed.append(f"{path} has no {name}")
             missed += [f"{path} has no clause {it}" for it in re.findall(r"`(\w+)`", clauses) if f"ensures {it} " not in text]
+    if missed or count < 80:
+        raise AssertionError(f"{count} were looked at\n    " + "\n    ".join(missed))
+
+
+@case
+def the_map_names_what_stands(_room):
+    """docs/ARCHITECTURE.md names each crate, and lists those of the product after all that they stand on. Each module and
+    each file of specs/ that its table names stands in the crate that is named before it."""
+    text, lines = text_of("docs/ARCHITECTURE.md"), crate_lines()
+    section = text.split("\n## Crates\n")[1].split("\n## ")[0]
+    listed = re.findall(r"^- `(\w+)`: ", section, re.M)
+    cells = re.findall(r"^\| .* \| (.*) \|$", text.split("\n| Subject | ")[1], re.M)
+    rows = [(*re.findall(r"`(\w+)`", it), it.partition(":")[2]) for cell in cells for it in cell.split(";")]
+    rows = [(crate, modules, re.findall(r"\b[A-Z]\w+", told)) for crate, *modules, told in filter(lambda it: len(it) > 1, rows)]
+    missed = [f"{it} isn't named" for it in lines if f"`{it}`" not in section]
+    missed += [f"there is no crate {it}" for it in [*listed, *(row[0] for row in rows)] if it not in lines]
+    for place, name in enumerate(listed):
+        later = [it for it in below(name, lines) if it in listed[place:]] if name in lines else []
+        missed += [f"{name} stands on {it}, which is listed after it" for it in later]
+    count = 0
+    for crate, modules, specs in rows:
+        files = [f"src/**/{it}.rt" for it in modules] + [f"specs/{it}.antt" for it in specs]
+        missed += [f"{crate} has no {it}" for it in files if not glob.glob(f"{ROOT}/crates/{crate}/{it}", recursive=True)]
+        count += len(files)
     if missed or count < 80:
         raise AssertionError(f"{count} were looked at\n    " + "\n    ".join(missed))
