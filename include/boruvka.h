@@ -4,8 +4,8 @@
  * What each call answers is proved, in the crate boruvka_c of the repository. A proof ends where C begins, so a caller
  * has to see to this:
  * - A pointer is never null, not even one to no elements, and points to as many elements as the number behind it says, aligned
- *   as their type is. Each may be read and written by the call, and is touched by nothing else meanwhile; what two
- *   parameters point to doesn't overlap. `text` alone is only read, and may be shared.
+ *   as their type is. What isn't `const` may be read and written by the call, is touched by nothing else meanwhile, and
+ *   overlaps nothing that another parameter points to. What is `const` is only read, and may be shared.
  * - malloc, realloc and free are of one allocator, and a block of theirs is aligned to each power of two up to 16 that
  *   divides its size.
  * - No call is made from a signal handler, or from the forked child of a process with threads.
@@ -31,16 +31,18 @@ struct boruvka_link {
     uint32_t low, high;
 };
 
-/* Why there is no forest: negative answers. From -6 on a line of a text has the fault of that name (docs/GR_FORMAT.md). */
+/* Why there is no answer: negative ones. From -6 to -16 a line of a text has the fault of that name (docs/GR_FORMAT.md). */
 enum boruvka_refusal {
     BORUVKA_NO_MEMORY = -1,
-    BORUVKA_BAD_END = -2, /* an end of a link is 0, or greater than n */
+    BORUVKA_BAD_END = -2, /* an end is no vertex */
     BORUVKA_TOO_MANY_VERTICES = -3,
     BORUVKA_TOO_MANY_LINKS = -4,
     BORUVKA_TOO_LONG = -5, /* a text has more than 2^40 bytes */
     BORUVKA_UNKNOWN_LINE = -6, BORUVKA_NO_PROBLEM_YET = -7, BORUVKA_SECOND_PROBLEM = -8, BORUVKA_BAD_PROBLEM = -9,
     BORUVKA_TOO_LARGE = -10, BORUVKA_BAD_ARC = -11, BORUVKA_END_OUT_OF_RANGE = -12, BORUVKA_WEIGHT_OUT_OF_RANGE = -13,
-    BORUVKA_TOO_MANY_ARCS = -14, BORUVKA_MISSING_PROBLEM = -15, BORUVKA_MISSING_ARCS = -16
+    BORUVKA_TOO_MANY_ARCS = -14, BORUVKA_MISSING_PROBLEM = -15, BORUVKA_MISSING_ARCS = -16,
+    BORUVKA_LENGTHS_DIFFER = -17, /* u, v and w are not of one length */
+    BORUVKA_TOO_FEW_PLACES = -18  /* there is no room for the places of all links of the forest */
 };
 
 /* What boruvka_forest_text puts there: its refusal and the line, from 1, of a faulty text, else 0. Both are 0 at a forest. */
@@ -54,6 +56,26 @@ struct boruvka_fault {
  * were. They may come in any order, with their ends in either order, as loops and more than once. Too many vertices are
  * refused first, then too many links, then an end; a refusal leaves all links as they were. */
 int64_t boruvka_forest(uint32_t n, struct boruvka_link *links, size_t m);
+
+/* Writes the places, from 0 on, of the links of the minimum spanning forest among arcs over the first of `places`, in the
+ * order of the links, and answers how many they are. The arc at place i leads from u[i] to v[i] and weighs w[i]; the
+ * vertices are base up to base + n - 1. If several arcs are one link, either way, it is the place of the first. Arcs may
+ * come in any order, as loops and more than once. What stood in `places` behind them stays.
+ *
+ * Columns of different lengths are refused first, then what boruvka_forest refuses, in its order, then a room that is
+ * smaller than the forest; a refusal leaves `places` as it was. m or n - 1 places are always enough, the less of the two.
+ *
+ * The time for a look-up is constant on average. Somebody who chooses the arcs for it can make it that of a pass over the
+ * forest. */
+int64_t boruvka_places_in(uint32_t n, uint32_t base, const uint32_t *u, size_t u_count, const uint32_t *v, size_t v_count,
+                          const int64_t *w, size_t w_count, uint32_t *places, size_t room);
+
+/* The same for m arcs. `places` has room for m or n - 1 numbers, the less of the two. */
+static inline int64_t boruvka_places(uint32_t n, uint32_t base, const uint32_t *u, const uint32_t *v, const int64_t *w, size_t m,
+                                     uint32_t *places) {
+    const size_t most = n > 0 ? n - 1 : 0;
+    return boruvka_places_in(n, base, u, m, v, m, w, m, places, m < most ? m : most);
+}
 
 /* Puts the text of the minimum spanning forest of a .gr text into `into`, and answers how many bytes it has. Where that
  * is more than `room`, the first `room` bytes are there. No 0 ends them. A refusal stands in `fault` too, and leaves

@@ -3,6 +3,7 @@
  *     embedding list            links on standard input, as `n m` and then m times `low high weight`: their forest's text
  *     embedding text ROOM       a .gr text on standard input: so much of its forest's text as ROOM bytes have room for,
  *                               and to standard error `answer kind line` and the text of the kind
+ *     embedding places BASE     the same list as arcs whose vertices are numbered from BASE on: the places of the forest
  *     embedding limits          empty lists, loops alone, each refusal of links, the largest n, rooms of all sizes
  *     embedding threads         four threads at once, each over lists of its own
  *     embedding many            ten million links
@@ -30,6 +31,11 @@ static const char given_text[] = "p sp 6 8\na 1 2 17\na 1 3 10\na 2 4 2\na 3 5 0
 static const char found_text[] = "p sp 6 5\na 2 5 0\na 3 4 0\na 3 5 0\na 4 6 3\na 1 3 10\n";
 static const struct boruvka_link net[] = {{17, 1, 2}, {10, 1, 3}, {2, 2, 4}, {0, 3, 5}, {0, 4, 3}, {3, 4, 6}, {0, 5, 2}, {20, 5, 6}};
 static const struct boruvka_link forest[] = {{0, 2, 5}, {0, 3, 4}, {0, 3, 5}, {3, 4, 6}, {10, 1, 3}};
+
+/* The net's arcs as columns whose vertices are 0 to 5, and the places of its forest, with what is behind them. */
+static const uint32_t tails[] = {0, 0, 1, 2, 3, 3, 4, 4}, heads[] = {1, 2, 3, 4, 2, 5, 1, 5};
+static const int64_t weights[] = {17, 10, 2, 0, 0, 3, 0, 20};
+static const uint32_t forest_places[] = {6, 4, 3, 5, 1, 9, 9, 9}, no_places[] = {9, 9, 9, 9, 9, 9, 9, 9};
 
 /* Links between the most vertices that there may be, whose higher ends don't ascend: a table of all vertices is wanted. */
 static const struct boruvka_link wide[] = {{INT64_MAX, BORUVKA_MAX_VERTICES, 1}, {INT64_MIN, 1, BORUVKA_MAX_VERTICES}, {0, 2, BORUVKA_MAX_VERTICES}};
@@ -130,6 +136,143 @@ static void compare(uint64_t seed, uint32_t n, size_t m, uint64_t weights) {
     free(first);
 }
 
+/* The arcs of links in columns, their vertices from `base` on; what is behind them in `places` stays as it was. */
+struct columns {
+    uint32_t *u, *v, *places;
+    int64_t *w;
+};
+
+enum { BEHIND = 3 };
+static const uint32_t untouched = 0xabababab;
+
+static struct columns columns_of(const struct boruvka_link *given, size_t m, uint32_t base) {
+    struct columns of = {taken(m, sizeof *of.u), taken(m, sizeof *of.v), taken(m + BEHIND, sizeof *of.places), taken(m, sizeof *of.w)};
+    for (size_t i = 0; i < m; i++) {
+        of.u[i] = given[i].low - 1 + base;
+        of.v[i] = given[i].high - 1 + base;
+        of.w[i] = given[i].weight;
+    }
+    for (size_t i = 0; i < m + BEHIND; i++) {
+        of.places[i] = untouched;
+    }
+    return of;
+}
+
+static void free_columns(struct columns of) {
+    free(of.u);
+    free(of.v);
+    free(of.w);
+    free(of.places);
+}
+
+/* The columns say what they said before. */
+static int are_those_of(const struct columns *of, const struct boruvka_link *given, size_t m, uint32_t base) {
+    for (size_t i = 0; i < m; i++) {
+        if (of->u[i] != given[i].low - 1 + base || of->v[i] != given[i].high - 1 + base || of->w[i] != given[i].weight) {
+            return 0;
+        }
+    }
+    return 1;
+}
+
+/* A link with the place of its arc. */
+struct placed {
+    struct boruvka_link link;
+    uint32_t place;
+};
+
+static int by_key_and_place(const void *one, const void *other) {
+    const struct placed *a = one, *b = other;
+    const int keys = by_key(&a->link, &b->link);
+    return keys ? keys : (a->place > b->place) - (a->place < b->place);
+}
+
+/* The first of sorted links that is this one. */
+static const struct placed *first_of(const struct placed *all, size_t m, const struct boruvka_link *link) {
+    size_t from = 0, to = m;
+    while (from < to) {
+        const size_t middle = from + (to - from) / 2;
+        if (by_key(&all[middle].link, link) < 0) {
+            from = middle + 1;
+        } else {
+            to = middle;
+        }
+    }
+    return from < m && !by_key(&all[from].link, link) ? all + from : 0;
+}
+
+/* The places of a drawn list's forest, beside those that sorting finds; the columns and what is behind stay. */
+static void compare_places(uint64_t seed, uint32_t n, size_t m, uint64_t weights, uint32_t base) {
+    struct boruvka_link *given = draw(seed, n, m, weights);
+    struct columns of = columns_of(given, m, base);
+    size_t count;
+    struct boruvka_link *forest = kruskal(n, given, m, &count);
+    struct placed *all = taken(m, sizeof *all);
+    for (size_t i = 0; i < m; i++) {
+        all[i].place = (uint32_t)i;
+        all[i].link.weight = given[i].weight;
+        all[i].link.low = given[i].low < given[i].high ? given[i].low : given[i].high;
+        all[i].link.high = given[i].low < given[i].high ? given[i].high : given[i].low;
+    }
+    qsort(all, m, sizeof *all, by_key_and_place);
+    CHECK(boruvka_places(n, base, of.u, of.v, of.w, m, of.places) == (int64_t)count);
+    for (size_t i = 0; i < count; i++) {
+        const struct placed *first = first_of(all, m, forest + i);
+        CHECK(first != 0 && of.places[i] == first->place);
+    }
+    for (size_t i = count; i < m + BEHIND; i++) {
+        CHECK(of.places[i] == untouched);
+    }
+    CHECK(are_those_of(&of, given, m, base));
+    if (count > 0) {
+        for (size_t i = 0; i < count; i++) {
+            of.places[i] = untouched;
+        }
+        CHECK(boruvka_places_in(n, base, of.u, m, of.v, m, of.w, m, of.places, count - 1) == BORUVKA_TOO_FEW_PLACES);
+        CHECK(of.places[0] == untouched && of.places[count - 1] == untouched && are_those_of(&of, given, m, base));
+        CHECK(boruvka_places_in(n, base, of.u, m, of.v, m, of.w, m, of.places, count) == (int64_t)count);
+    }
+    free_columns(of);
+    free(given);
+    free(forest);
+    free(all);
+}
+
+static void expect_places_refused(uint32_t n, uint32_t base, const uint32_t *u, const uint32_t *v, size_t m, int64_t why) {
+    static const int64_t w[4] = {5, 4, 3, 2};
+    uint32_t places[4] = {untouched, untouched, untouched, untouched};
+    CHECK(boruvka_places(n, base, u, v, w, m, places) == why);
+    CHECK(places[0] == untouched && places[1] == untouched && places[2] == untouched && places[3] == untouched);
+}
+
+static void limits_of_places(void) {
+    const uint32_t u[] = {7, 8, 9, 7}, v[] = {8, 9, 7, 7};
+    const int64_t w[] = {3, 2, 1, 0};
+    uint32_t places[] = {untouched, untouched, untouched};
+    CHECK(boruvka_places(0, 7, u, v, w, 0, places) == 0 && boruvka_places(3, 7, u, v, w, 0, places) == 0 && places[0] == untouched);
+    CHECK(boruvka_places(3, 7, u, v, w, 4, places) == 2 && places[0] == 2 && places[1] == 1 && places[2] == untouched);
+    expect_places_refused(3, 6, u, v, 4, BORUVKA_BAD_END);
+    expect_places_refused(3, 8, u, v, 4, BORUVKA_BAD_END);
+    expect_places_refused(2, 7, u, v, 4, BORUVKA_BAD_END);
+    expect_places_refused(0, 7, u, v, 4, BORUVKA_BAD_END);
+    expect_places_refused(BORUVKA_MAX_VERTICES + 1, 8, u, v, 4, BORUVKA_TOO_MANY_VERTICES);
+    expect_places_refused(UINT32_MAX, 0, u, v, 4, BORUVKA_TOO_MANY_VERTICES);
+    /* vertices whose last numbers are past those of 32 bits: none of them is 0 */
+    const uint32_t first[] = {UINT32_MAX, UINT32_MAX - 1}, wrapped[] = {0, UINT32_MAX};
+    expect_places_refused(3, UINT32_MAX - 1, first, wrapped, 2, BORUVKA_BAD_END);
+    expect_places_refused(BORUVKA_MAX_VERTICES, UINT32_MAX - 1, wrapped, first, 2, BORUVKA_BAD_END);
+    CHECK(boruvka_places(3, UINT32_MAX - 1, first + 1, wrapped + 1, w, 1, places) == 1 && places[0] == 0);
+    for (size_t i = 0; i < 3; i++) {
+        places[i] = untouched;
+        const size_t lengths[3] = {4 - (i == 0), 4 - (i == 1), 4 - (i == 2)};
+        CHECK(boruvka_places_in(UINT32_MAX, 7, u, lengths[0], v, lengths[1], w, lengths[2], places, 3) == BORUVKA_LENGTHS_DIFFER);
+        CHECK(places[i] == untouched);
+    }
+    for (uint64_t seed = 1; seed <= 300; seed++) {
+        compare_places(seed, 1 + seed % 60, seed * 7 % 400, seed % 3 ? 1 + seed % 40 : 0, seed % 2 ? 0 : seed % 5 ? 1 : UINT32_MAX - 100);
+    }
+}
+
 static void expect_refusal(uint32_t n, const struct boruvka_link *given, size_t m, int64_t why) {
     struct boruvka_link links[4];
     memcpy(links, given, m * sizeof *links);
@@ -170,6 +313,7 @@ static void limits(void) {
     for (uint64_t seed = 1; seed <= 300; seed++) {
         compare(seed, 1 + seed % 60, seed * 7 % 400, seed % 3 ? 1 + seed % 40 : 0);
     }
+    limits_of_places();
     char text[32];
     for (int64_t kind = -20; kind <= 3; kind++) {
         const size_t length = boruvka_fault_text(kind, text, sizeof text);
@@ -191,6 +335,7 @@ static void limits(void) {
 static void *thread(void *seed) {
     for (uint64_t round = 0; round < 40; round++) {
         compare(*(uint64_t *)seed * 1000 + round, 1000, 20000, round % 2 ? 0 : 100);
+        compare_places(*(uint64_t *)seed * 1000 + round, 1000, 20000, round % 2 ? 0 : 100, (uint32_t)round);
     }
     return 0;
 }
@@ -237,6 +382,24 @@ static void list(void) {
     free(links);
 }
 
+static void places(uint32_t base) {
+    uint32_t n;
+    size_t m;
+    CHECK(scanf("%" SCNu32 " %zu", &n, &m) == 2);
+    struct boruvka_link *given = taken(m, sizeof *given);
+    for (size_t i = 0; i < m; i++) {
+        CHECK(scanf("%" SCNu32 " %" SCNu32 " %" SCNd64, &given[i].low, &given[i].high, &given[i].weight) == 3);
+    }
+    struct columns of = columns_of(given, m, base);
+    const int64_t count = boruvka_places(n, base, of.u, of.v, of.w, m, of.places);
+    CHECK(count >= 0 && are_those_of(&of, given, m, base));
+    for (int64_t i = 0; i < count; i++) {
+        printf("%" PRIu32 "\n", of.places[i]);
+    }
+    free_columns(of);
+    free(given);
+}
+
 static void text(size_t room) {
     size_t length;
     uint8_t *given = all_of_input(&length), *into = taken(room + 64, 1);
@@ -268,8 +431,13 @@ static void memory(void) {
     CHECK(length == BORUVKA_NO_MEMORY || length == (int64_t)sizeof found_text - 1);
     CHECK(fault.kind == (length < 0 ? length : 0) && fault.line == 0);
     CHECK(length < 0 ? into[0] == 0 : !memcmp(into, found_text, sizeof found_text));
+    uint32_t places[8];
+    memcpy(places, no_places, sizeof places);
+    const int64_t placed = boruvka_places(6, 0, tails, heads, weights, 8, places);
+    CHECK(placed == BORUVKA_NO_MEMORY || placed == 5);
+    CHECK(!memcmp(places, placed < 0 ? no_places : forest_places, sizeof places));
     static const char some[] = "some refused\n", all[] = "answered\n";
-    fputs(count < 0 || length < 0 ? some : all, stdout);
+    fputs(count < 0 || length < 0 || placed < 0 ? some : all, stdout);
 }
 
 /* The memory that the process holds now, in KiB, without the pages of files: these come and go by themselves. The kernel
@@ -336,6 +504,30 @@ static void a_list_without_memory(void) {
     expect_refusal(BORUVKA_MAX_VERTICES, wide, 3, BORUVKA_NO_MEMORY);
 }
 
+static void a_small_lists_places(void) {
+    uint32_t places[8];
+    memcpy(places, no_places, sizeof places);
+    CHECK(boruvka_places(6, 0, tails, heads, weights, 8, places) == 5 && !memcmp(places, forest_places, sizeof places));
+}
+
+static void places_refused(void) {
+    uint32_t places[8];
+    memcpy(places, no_places, sizeof places);
+    CHECK(boruvka_places(5, 0, tails, heads, weights, 8, places) == BORUVKA_BAD_END);
+    CHECK(boruvka_places(BORUVKA_MAX_VERTICES + 1, 0, tails, heads, weights, 8, places) == BORUVKA_TOO_MANY_VERTICES);
+    CHECK(boruvka_places_in(6, 0, tails, 8, heads, 8, weights, 7, places, 8) == BORUVKA_LENGTHS_DIFFER);
+    CHECK(boruvka_places_in(6, 0, tails, 8, heads, 8, weights, 8, places, 4) == BORUVKA_TOO_FEW_PLACES);
+    CHECK(!memcmp(places, no_places, sizeof places));
+}
+
+static void places_without_memory(void) {
+    static const uint32_t from[] = {BORUVKA_MAX_VERTICES, 1, 2}, to[] = {1, BORUVKA_MAX_VERTICES, BORUVKA_MAX_VERTICES};
+    static const int64_t weight[] = {9, -9, 0};
+    uint32_t places[3] = {9, 9, 9};
+    CHECK(boruvka_places(BORUVKA_MAX_VERTICES, 1, from, to, weight, 3, places) == BORUVKA_NO_MEMORY);
+    CHECK(places[0] == 9 && places[1] == 9 && places[2] == 9);
+}
+
 static void a_text(void) {
     uint8_t into[sizeof found_text] = {0};
     struct boruvka_fault fault = {1, 1};
@@ -396,6 +588,8 @@ static void again(void) {
         REPEAT(a_list_of_too_many_links);
         munmap(many_links, ((size_t)BORUVKA_MAX_LINKS + 1) * sizeof *many_links);
     }
+    REPEAT(a_small_lists_places);
+    REPEAT(places_refused);
     REPEAT(a_text);
     REPEAT(faulty_texts);
     REPEAT(a_refusals_text);
@@ -405,6 +599,7 @@ static void again(void) {
     const struct rlimit few = {64 << 20, 64 << 20};
     CHECK(!setrlimit(RLIMIT_AS, &few));
     REPEAT(a_list_without_memory);
+    REPEAT(places_without_memory);
     REPEAT(a_text_without_memory);
     free(drawn_links);
     free(drawn_forest);
@@ -418,12 +613,15 @@ int main(int count, char **words) {
         list();
     } else if (!strcmp(what, "text") && count > 2) {
         text(strtoul(words[2], 0, 10));
+    } else if (!strcmp(what, "places") && count > 2) {
+        places((uint32_t)strtoul(words[2], 0, 10));
     } else if (!strcmp(what, "limits")) {
         limits();
     } else if (!strcmp(what, "threads")) {
         threads();
     } else if (!strcmp(what, "many")) {
         compare(5, 1000000, 10000000, 1000000);
+        compare_places(5, 1000000, 10000000, 1000000, 1);
     } else if (!strcmp(what, "memory")) {
         memory();
     } else if (!strcmp(what, "again")) {

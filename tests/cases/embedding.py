@@ -10,7 +10,7 @@ from cases.running import ROOT, SMALL_FOREST, SMALL_NET, Skipped, case, drawn_gr
 
 LIBRARIES = f"{ROOT}/crates/boruvka_c/out"
 INCLUDE = f"-I{ROOT}/include"
-NAMES = {"boruvka_fault_text", "boruvka_forest", "boruvka_forest_text", "boruvka_version"}
+NAMES = {"boruvka_fault_text", "boruvka_forest", "boruvka_forest_text", "boruvka_places_in", "boruvka_version"}
 MINUTES = 90  # it took 19 where nothing had been built before
 ENVIRONMENT = {it: word for it, word in os.environ.items() if it not in ("MAKEFLAGS", "MAKELEVEL", "MFLAGS", "DESTDIR")}
 # What is wrong with each of these texts, by the names of docs/GR_FORMAT.md, and where.
@@ -49,6 +49,16 @@ def listed(source):
     arcs = [it[1:] for it in lines if it and it[0] == "a"]
     vertices = next(it[2] for it in lines if it and it[0] == "p")
     return "".join(" ".join(it) + "\n" for it in [[vertices, str(len(arcs))], *arcs]).encode()
+
+
+def worked():
+    """The worked graphs: how many vertices, the arcs and the links of the forest of each, made by hand."""
+    with open(f"{ROOT}/crates/worked_graphs/src/lib.rt", encoding="utf-8") as it:
+        told = re.findall(r": Worked = Worked \{\n    n: ([\d_]+),(.*?)\n\};", it.read(), re.DOTALL)
+    rows = [[re.findall(r"\(([\d_]+), ([\d_]+), (-?[\d_]+|i64::M\w+)\)", part) for part in re.split("\n    forest: ", text)] for _, text in told]
+    extremes = {"i64::MIN": -2**63, "i64::MAX": 2**63 - 1}
+    numbers = [[[(int(u), int(v), extremes[w] if w in extremes else int(w)) for u, v, w in it] for it in parts] for parts in rows]
+    return [(int(n), *parts) for (n, _), parts in zip(told, numbers)]
 
 
 def expect_text(room, source, forest):
@@ -96,6 +106,18 @@ def lists_and_texts_have_the_programs_forests(room):
 
 
 @case
+def places_are_those_of_the_worked_forests(room):
+    graphs = worked()
+    expect((len(graphs) > 7, b"", b""), True, b"", b"")
+    for vertices, arcs, forest in graphs:
+        links = [(min(u, v), max(u, v), weight) for u, v, weight in arcs]
+        places = "".join(f"{links.index(it)}\n" for it in forest).encode()
+        source = "".join(" ".join(map(str, it)) + "\n" for it in [(vertices, len(arcs)), *arcs]).encode()
+        for base in (0, 1, 2**32 - 1 - vertices):
+            expect(run([caller(room), "places", str(base)], source), 0, places, b"")
+
+
+@case
 def faulty_texts_are_told_as_the_program_tells_them(room):
     with open(f"{ROOT}/include/boruvka.h", encoding="utf-8") as it:
         codes = {name.replace("_", "").lower(): int(code) for name, code in re.findall(r"BORUVKA_(\w+) = (-\d+)", it.read())}
@@ -110,8 +132,8 @@ def calls_at_their_limits(room):
     status, output, errors = run([caller(room), "limits"])
     expect((status, b"", errors), 0, b"", b"")
     texts = dict(it.split(" ", 1) for it in output.decode().splitlines())
-    kinds = [str(-it) for it in range(1, 17)]
-    expect((len({texts[it] for it in kinds}), "no refusal" in {texts[it] for it in kinds}, texts["-1"]), 16, False, "no memory")
+    kinds = [str(-it) for it in range(1, 19)]
+    expect((len({texts[it] for it in kinds}), "no refusal" in {texts[it] for it in kinds}, texts["-1"]), 18, False, "no memory")
 
 
 @case

@@ -1,9 +1,10 @@
 -- Links as C gives them, one after the other.
-use Rattle.std.proofs.Common.{◌≡◌, ◌≢◌, ℕ, ◌+◌, ◌<◌, ◌≤◌, List, [], ◌∷◌, ◌++◌, map, take, drop, length, get_or, set, ap, sym, ◌∙◌, arith, add-one, append_assoc}
-use Rattle.std.proofs.lemmas.List.{map-append, length-map, length-take-le}
+use Rattle.std.proofs.Common.{◌≡◌, ◌≢◌, true, false, ℕ, ◌+◌, ◌<◌, ◌≤◌, List, [], ◌∷◌, ◌++◌, map, take, drop, length, get_or, set, ap, sym, ◌∙◌, arith, add-one, append_assoc}
+use Rattle.std.proofs.lemmas.List.{map-append, length-map, length-take-le, take_more}
 use Rattle.std.proofs.Math.Seq.{take-suc, drop-cons, set-append_seam}
 use Rattle.std.proofs.lemmas.Bool.Decides.{nat_tests}
-use Rattle.links.specs.Link.{key_of, arc_key, AreLinksOf}
+use Rattle.links.specs.Arc.{Arc}
+use Rattle.links.specs.Link.{key_of, arc_key, is_no_loop, AreLinksOf}
 use Rattle.links.specs.declared.links.Link.{Link}
 use Rattle.gr_text.proofs.Steps.{AreLinksOf-loop, AreLinksOf-link}
 use Rattle.boruvka_c.specs.declared.given.GivenLink.{GivenLink}
@@ -41,3 +42,12 @@ put_one_more given before links i link new lt few is at new_is =
     ap (λ (k : ℕ). map given_of (take k links)) (add-one i) ∙ ap (map given_of) (take-suc links i link lt)
     ∙ map-append given_of (take i links) (get_or links i link ∷ []) ∙ ap (λ (l : Link). first ++ given_of l ∷ []) (sym at) ∙ ap (λ (g : GivenLink). first ++ g ∷ []) (sym new_is) in
     written ∙ simp (grown, append_assoc)
+
+-- the links of arcs with that of one more, which is a loop or not
+pub more_loop : (arcs : List Arc) (i : ℕ) (d : Arc) (links : List Link) → i < length arcs → AreLinksOf (take i arcs) links → is_no_loop (get_or arcs i d) ≡ false
+    → AreLinksOf (take (i + 1) arcs) links
+more_loop arcs i d links lt are loop = rw (take_more arcs i d lt) (AreLinksOf-loop (take i arcs) links (get_or arcs i d) are loop)
+
+pub more_link : (arcs : List Arc) (i : ℕ) (d : Arc) (links : List Link) (l : Link) → i < length arcs → AreLinksOf (take i arcs) links → is_no_loop (get_or arcs i d) ≡ true
+    → key_of l ≡ arc_key (get_or arcs i d) → AreLinksOf (take (i + 1) arcs) (links ++ l ∷ [])
+more_link arcs i d links l lt are no_loop key = rw (take_more arcs i d lt) (AreLinksOf-link (take i arcs) links (get_or arcs i d) l are no_loop key)

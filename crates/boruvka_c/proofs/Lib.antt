@@ -1,2 +1,5 @@
 mod Givens
+mod Columns
+mod Chains
+mod FirstPlaces
 mod FirstFaults

@@ -1,3 +1,6 @@
+pub mod Arcs
+pub mod Index
 pub mod Links
+pub mod Places
 pub mod Refusals
 pub mod Texts

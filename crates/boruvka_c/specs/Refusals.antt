@@ -2,9 +2,9 @@
 use Rattle.std.specs.Prelude.{ℕ, ℤ, negsuc, List, codes}
 use Rattle.gr_text.specs.declared.faults.GrKind.TheVariants.{UnknownLine, NoProblemYet, SecondProblem, BadProblem, TooLarge, BadArc, EndOutOfRange, WeightOutOfRange, TooManyArcs, MissingProblem, MissingArcs}
 use Rattle.boruvka_c.specs.declared.refusals.Refusal.{Refusal}
-use Rattle.boruvka_c.specs.declared.refusals.Refusal.TheVariants.{NoMemory, BadEnd, TooManyVertices, TooManyLinks, TooLong, Line}
+use Rattle.boruvka_c.specs.declared.refusals.Refusal.TheVariants.{NoMemory, BadEnd, TooManyVertices, TooManyLinks, TooLong, Line, LengthsDiffer, TooFewPlaces}
 
--- the codes -1 to -16, as the header has them (`negsuc k` is -(k + 1))
+-- the codes -1 to -18, as the header has them (`negsuc k` is -(k + 1))
 abbrev pub code_of : Refusal → ℤ
 code_of NoMemory = negsuc 0
 code_of BadEnd = negsuc 1
@@ -22,6 +22,8 @@ code_of (Line WeightOutOfRange) = negsuc 12
 code_of (Line TooManyArcs) = negsuc 13
 code_of (Line MissingProblem) = negsuc 14
 code_of (Line MissingArcs) = negsuc 15
+code_of LengthsDiffer = negsuc 16
+code_of TooFewPlaces = negsuc 17
 
 -- their texts; of a faulty line the name that the program gives it
 abbrev pub text_of : Refusal → List ℕ
@@ -41,3 +43,5 @@ text_of (Line WeightOutOfRange) = codes "WeightOutOfRange"
 text_of (Line TooManyArcs) = codes "TooManyArcs"
 text_of (Line MissingProblem) = codes "MissingProblem"
 text_of (Line MissingArcs) = codes "MissingArcs"
+text_of LengthsDiffer = codes "lengths differ"
+text_of TooFewPlaces = codes "too few places"

@@ -1,26 +1,30 @@
-//! The forest for programs in C, and in whatever calls C: a static library of four calls over [`link_key::forest_of`]
-//! and [`plain_run::plain_text`], in the caller's memory. `include/boruvka.h` is its header.
+//! The forest for programs in C, and in whatever calls C: a static library of calls over [`link_key::forest_of`] and
+//! [`plain_run::plain_text`], in the caller's memory. `include/boruvka.h` is its header.
 //!
 //! ```text
-//!   links  --given-->  Vec<Link>  --forest_of-->  Forest  --given-->  the first of the links     boruvka_forest
-//!   text   --plain_run::plain_text-->  the forest's text  --room-->  the caller's room         boruvka_forest_text
-//!   a code --refusals-->  its text  --room-->  the caller's room                                boruvka_fault_text
+//!   links    --given-->  Vec<Link>  --forest_of-->  Forest  --given-->  the first of the links   boruvka_forest
+//!   columns  --arcs-->  Vec<Link>  --forest_of-->  Forest  --index-->  the caller's places       boruvka_places_in
+//!   text     --plain_run::plain_text-->  the forest's text  --room-->  the caller's room         boruvka_forest_text
+//!   a code   --refusals-->  its text  --room-->  the caller's room                               boruvka_fault_text
 //! ```
 //!
 //! What it promises:
 //! - A call answers exactly the forest, as its definition in `link_key` and `plain_run` says, or a refusal with its
-//!   cause; where it refuses, the caller's links and room stay as they were.
+//!   cause; where it refuses, the caller's links, places and room stay as they were.
 //! - Nothing is written past what a caller gave.
 //!
-//! Where to start a change: a call's meaning, `specs/Links` and `specs/Texts`; a refusal, its code and its text,
-//! `specs/Refusals`, then `refusals`, and the header; whatever C could see of a change, `VERSION` too.
+//! Where to start a change: a call's meaning, `specs/Links`, `specs/Places` and `specs/Texts`; a refusal, its code and
+//! its text, `specs/Refusals`, then `refusals`, and the header; what C sees change its meaning, `VERSION` too.
 #![tactic(auto)]
 
 ghost use Rattle.std.specs.Prelude.{◌≡◌};
 
+mod arcs;
 mod faults;
 mod forests;
 mod given;
+mod index;
+mod places;
 mod refusals;
 mod room;
 mod texts;
@@ -28,6 +32,7 @@ mod texts;
 pub use faults::{Fault, boruvka_fault_text};
 pub use forests::boruvka_forest;
 pub use given::GivenLink;
+pub use places::boruvka_places_in;
 pub use refusals::Refusal;
 pub use texts::boruvka_forest_text;
 

@@ -20,6 +20,10 @@ pub enum Refusal {
     TooLong,
     /// A line of a text has a fault.
     Line(GrKind),
+    /// Columns of arcs are of different lengths.
+    LengthsDiffer,
+    /// The forest has more links than there is room for places.
+    TooFewPlaces,
 }
 
 // The code of what is wrong with a line.
@@ -72,6 +76,8 @@ impl Refusal {
             Refusal::TooManyLinks => -4,
             Refusal::TooLong => -5,
             Refusal::Line(kind) => code_of_line(kind),
+            Refusal::LengthsDiffer => -17,
+            Refusal::TooFewPlaces => -18,
         }
     }
 
@@ -96,6 +102,8 @@ impl Refusal {
             -14 => Refusal::Line(GrKind::TooManyArcs),
             -15 => Refusal::Line(GrKind::MissingProblem),
             -16 => Refusal::Line(GrKind::MissingArcs),
+            -17 => Refusal::LengthsDiffer,
+            -18 => Refusal::TooFewPlaces,
             _ => return None,
         })
     }
@@ -111,6 +119,8 @@ impl Refusal {
             Refusal::TooManyLinks => b"too many links",
             Refusal::TooLong => b"file is too long",
             Refusal::Line(kind) => text_of_line(kind),
+            Refusal::LengthsDiffer => b"lengths differ",
+            Refusal::TooFewPlaces => b"too few places",
         }
     }
 }

@@ -1,0 +1,110 @@
+//! Arcs as C gives them: three columns.
+ghost use Rattle.std.specs.Prelude.{◌≡◌, ℕ, ◌↔◌, ◌<◌, ◌≤◌, ◌+◌, ◌-◌, length, slice_index_or, All, IsTrue, IsSome, IsNone, IfSome, IfOk};
+ghost use Rattle.limits.specs.declared.TheConstants.{MAX_VERTICES, MAX_ARCS};
+ghost use Rattle.links.specs.Arc.{Arc};
+ghost use Rattle.links.specs.Link.{AreLinksOf, EndsUpTo, arc_key, key_of, is_no_loop};
+ghost use Rattle.gr_text.specs.Graph.{HasEnds};
+ghost use Rattle.boruvka_c.specs.Arcs.{AreColumns, arcs_in, vertex_from};
+
+use limits::MAX_VERTICES;
+use links::Link;
+use std::alloc::{AllocError, Global};
+use std::marker::Model;
+
+/// Arcs in three columns of one length. Their vertices are numbered from `base` on.
+#[derive(Drop)]
+pub(crate) struct Arcs<'a> {
+    base: u32,
+    tails: &'a [u32],
+    heads: &'a [u32],
+    weights: &'a [i64],
+}
+
+impl<'a> Model for Arcs<'a> {
+    ghost use Rattle.std.specs.Prelude.{List};
+    ghost use Rattle.links.specs.Arc.{Arc};
+    ghost use Rattle.boruvka_c.specs.Arcs.{AreColumns, arcs_in};
+
+    ghost Value = { List Arc };
+
+    ghost view = { λ a. arcs_in a.base a.tails.now a.heads.now a.weights.now };
+
+    ghost invariant = { λ a. AreColumns a.tails.now a.heads.now a.weights.now };
+}
+
+impl<'a> Arcs<'a> {
+    // The arcs of three columns, if these are equally long.
+    pub(crate) fn of_columns(
+        base: u32,
+        tails: &'a [u32],
+        heads: &'a [u32],
+        weights: &'a [i64],
+    ) -> Option<Self>
+        ensures columns { IsSome result ↔ AreColumns tails.now heads.now weights.now }
+        ensures arcs { IfSome result (λ arcs. arcs ≡ arcs_in base tails.now heads.now weights.now) }
+    {
+        if heads.len() != tails.len() || weights.len() != tails.len() {
+            return None;
+        }
+        Some(Arcs {
+            base,
+            tails,
+            heads,
+            weights,
+        })
+    }
+
+    // How many they are.
+    pub(crate) fn len(&self) -> usize
+        ensures { result ≡ length self.now }
+    {
+        self.tails.len()
+    }
+
+    // Whether both ends of each arc are vertices of a graph of n vertices.
+    pub(crate) fn have_ends(&self, n: u32) -> bool
+        ensures { IsTrue result ↔ All (HasEnds n) self.now }
+    {
+        are_vertices(n, self.base, self.tails) && are_vertices(n, self.base, self.heads)
+    }
+
+    // The link of the arc at a place, between the vertices 1 to n; none for a loop.
+    #[inline]
+    pub(crate) fn link(&self, n: u32, place: usize) -> Option<Link>
+        requires few_vertices { n ≤ MAX_VERTICES }
+        requires ends { All (HasEnds n) self.now }
+        requires in_range { place < length self.now }
+        ensures none_for_a_loop { (d : Arc) → IsSome result ↔ IsTrue (is_no_loop (slice_index_or self.now place d)) }
+        ensures key { IfSome result (λ l. (d : Arc) → key_of l ≡ arc_key (slice_index_or self.now place d)) }
+        ensures end { IfSome result (λ l. l.high ≤ n) }
+    {
+        let base = self.base;
+        let tail = self.tails[place] - base + 1;
+        let head = self.heads[place] - base + 1;
+        Link::of_arc(tail, head, self.weights[place])
+    }
+
+    // The links of the arcs, in their order; a loop has none.
+    pub(crate) fn links(&self, alloc: Global, n: u32) -> Result<Vec<Link>, AllocError>
+        requires few_vertices { n ≤ MAX_VERTICES }
+        requires ends { All (HasEnds n) self.now }
+        ensures links { IfOk result (λ links. AreLinksOf self.now links.items) }
+        ensures few { IfOk result (λ links. length links.items ≤ length self.now) }
+        ensures ends { IfOk result (λ links. EndsUpTo n links.items) }
+    {
+        let mut links = Vec::with_capacity(alloc, self.len())?;
+        for place in 0..self.len() {
+            if let Some(link) = self.link(n, place) {
+                links.push(link)?;
+            }
+        }
+        Ok(links)
+    }
+}
+
+// Whether each of these is one of the n vertices that are numbered from base on.
+fn are_vertices(n: u32, base: u32, ends: &[u32]) -> bool
+    ensures { IsTrue result ↔ All (λ v. (base ≤ v) × (v < base + n)) ends.now }
+{
+    ends.iter().all(|v| base <= *v && *v - base < n)
+}

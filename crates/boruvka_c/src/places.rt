@@ -1,0 +1,110 @@
+//! The places of the forest's links among arcs in the caller's memory.
+ghost use Rattle.std.specs.Prelude.{◌≡◌, ℕ, ◌<◌, ◌≤◌, ◌≤ℤ◌, pos, drop, length, slice_index, slice_index_or, All, IfOk, IfErr, OnOk, OnErr};
+ghost use Rattle.std.specs.Int.Signed.{◌<ℤ◌};
+ghost use Rattle.limits.specs.declared.TheConstants.{MAX_VERTICES, MAX_ARCS};
+ghost use Rattle.links.specs.Link.{IsAscending};
+ghost use Rattle.links.specs.declared.links.Link.{Link};
+ghost use Rattle.gr_text.specs.Graph.{HasEnds};
+ghost use Rattle.boruvka_c.specs.Arcs.{AreColumns, AreRightArcs, arcs_in};
+ghost use Rattle.boruvka_c.specs.Places.{IsAmong, IsFirstFrom, HoldsPlaces, IsArcsRefusal, FindsPlaces, RefusesPlaces};
+
+use crate::arcs::Arcs;
+use crate::index::LinkIndex;
+use crate::refusals::Refusal;
+use limits::{MAX_ARCS, MAX_VERTICES};
+use link_key::forest_of;
+use std::alloc::Global;
+
+// Writes the place of the first arc of each link of the index, in their order. It goes over the arcs from the last one to
+// the first, and writes each place over that of a later arc.
+fn put_first_places(n: u32, arcs: &Arcs<'_>, index: &LinkIndex<'_>, places: &mut [u32])
+    requires few_vertices { n ≤ MAX_VERTICES }
+    requires few_arcs { length arcs.now ≤ MAX_ARCS }
+    requires ends { All (HasEnds n) arcs.now }
+    requires ascending { IsAscending index.now }
+    requires among { All (IsAmong arcs.now) index.now }
+    requires room { length index.now ≤ length places.old }
+    ensures first { (i : ℕ) (d : Link) → i < length index.now
+        → IsFirstFrom 0 arcs.now (slice_index_or index.now i d) (slice_index places.new i) }
+    ensures rest { drop (length index.now) places.new ≡ drop (length index.now) places.old }
+{
+    for place in (0..arcs.len()).rev() {
+        if let Some(link) = arcs.link(n, place) {
+            if let Some(i) = index.place_of(&link) {
+                places[i] = place as u32;
+            }
+        }
+    }
+}
+
+// Writes the places of the forest's links over the first of the caller's, and says how many they are.
+fn find_places(alloc: Global, n: u32, arcs: &Arcs<'_>, places: &mut [u32]) -> Result<usize, Refusal>
+    ensures right { OnOk result (AreRightArcs n arcs.now) }
+    ensures found { IfOk result (λ count. HoldsPlaces arcs.now places.old places.new count) }
+    ensures few { IfOk result (λ count. count ≤ MAX_ARCS) }
+    ensures refused { IfErr result (λ why. IsArcsRefusal n arcs.now (length places.old) why) }
+    ensures untouched { OnErr result (places.new ≡ places.old) }
+{
+    if n > MAX_VERTICES {
+        return Err(Refusal::TooManyVertices);
+    }
+    if arcs.len() > MAX_ARCS as usize {
+        return Err(Refusal::TooManyLinks);
+    }
+    if !arcs.have_ends(n) {
+        return Err(Refusal::BadEnd);
+    }
+    let Ok(list) = arcs.links(alloc, n) else {
+        return Err(Refusal::NoMemory);
+    };
+    let Ok(forest) = forest_of(alloc, n, list) else {
+        return Err(Refusal::NoMemory);
+    };
+    let links = forest.links();
+    if links.len() > places.len() {
+        return Err(Refusal::TooFewPlaces);
+    }
+    let Ok(index) = LinkIndex::of_links(alloc, links) else {
+        return Err(Refusal::NoMemory);
+    };
+    put_first_places(n, arcs, &index, places);
+    Ok(links.len())
+}
+
+/// Writes the places, from 0 on, of the forest's links among the arcs over the first of `places`, in the order of the
+/// links' keys, and answers how many they are; or answers the code of a [`Refusal`], which is negative. If several arcs
+/// are one link, it is the first one's place.
+///
+/// The arc at a place leads from `u` to `v` there, and has the weight `w` there; the vertices are `base` up to
+/// `base + n - 1`. Arcs may come in any order, either way, as loops and more than once. For m arcs no more than m or
+/// n - 1 places are needed, whichever is less.
+///
+/// It takes the time of [`forest_of`], two passes over the arcs before it, and one behind it, which looks each arc up among
+/// the forest's links: in constant time on average, but in that of a pass over the forest if somebody chose the links so
+/// that many share a slot. Memory: that of [`forest_of`], 16 bytes an arc for the list that it works in, and once it is
+/// done 20 bytes for each link of the forest.
+#[unsafe(no_mangle)]
+pub extern "C" fn boruvka_places_in(
+    alloc: Global,
+    n: u32,
+    base: u32,
+    u: &[u32],
+    v: &[u32],
+    w: &[i64],
+    places: &mut [u32],
+) -> i64
+    ensures columns { pos 0 ≤ℤ result → AreColumns u.now v.now w.now }
+    ensures found { pos 0 ≤ℤ result → FindsPlaces n (arcs_in base u.now v.now w.now) places.old places.new result }
+
+    // Columns of different lengths, or else what `boruvka_forest` refuses, in its order, or else too few places.
+    ensures refused { result <ℤ pos 0 → RefusesPlaces n base u.now v.now w.now (length places.old) result }
+    ensures untouched { result <ℤ pos 0 → places.new ≡ places.old }
+{
+    let Some(arcs) = Arcs::of_columns(base, u, v, w) else {
+        return Refusal::LengthsDiffer.code();
+    };
+    match find_places(alloc, n, &arcs, places) {
+        Ok(count) => count as i64,
+        Err(why) => why.code(),
+    }
+}
