@@ -51,6 +51,12 @@ struct boruvka_fault {
     uint64_t line;
 };
 
+/* A sum of weights in two words: it is high times 2^64, and low. */
+struct boruvka_sum {
+    int64_t high;
+    uint64_t low;
+};
+
 /* Writes the minimum spanning forest of these m links between the vertices 1 to n over the first of them, in order, each
  * with its lower end first, and answers how many links it has. What stood there is lost; the links behind stay as they
  * were. They may come in any order, with their ends in either order, as loops and more than once. Too many vertices are
@@ -76,6 +82,9 @@ static inline int64_t boruvka_places(uint32_t n, uint32_t base, const uint32_t *
     const size_t most = n > 0 ? n - 1 : 0;
     return boruvka_places_in(n, base, u, m, v, m, w, m, places, m < most ? m : most);
 }
+
+/* Writes the sum of the weights of k links, each as often as it stands there, whatever its ends are. It is exact. */
+void boruvka_total(const struct boruvka_link *links, size_t k, struct boruvka_sum *total);
 
 /* Puts the text of the minimum spanning forest of a .gr text into `into`, and answers how many bytes it has. Where that
  * is more than `room`, the first `room` bytes are there. No 0 ends them. A refusal stands in `fault` too, and leaves

@@ -273,6 +273,45 @@ static void limits_of_places(void) {
     }
 }
 
+/* The sum of the weights of links, beside that in words of 32 bits each. */
+static void compare_total(const struct boruvka_link *links, size_t k) {
+    int64_t high = 0, low = 0;
+    for (size_t i = 0; i < k; i++) {
+        /* -2^63 is -2^31 times 2^32 */
+        const int64_t rest = (int64_t)(uint32_t)links[i].weight;
+        high += (links[i].weight - rest) / ((int64_t)1 << 32);
+        low += rest;
+    }
+    high += low >> 32;
+    struct boruvka_sum total = {1, 1};
+    boruvka_total(links, k, &total);
+    CHECK(total.low == ((uint64_t)high << 32 | (uint32_t)low));
+    CHECK(total.high == high / ((int64_t)1 << 32) - (high % ((int64_t)1 << 32) < 0));
+}
+
+static void limits_of_total(void) {
+    struct boruvka_link links[] = {{INT64_MIN, 0, 7}, {INT64_MIN, 7, 7}, {INT64_MIN, 1, 2}, {INT64_MAX, 1, 2}, {INT64_MAX, 3, 4}, {INT64_MAX, 3, 4}, {3, 1, 2}};
+    struct boruvka_sum total = {1, 1};
+    boruvka_total(links, 0, &total);
+    CHECK(total.high == 0 && total.low == 0);
+    boruvka_total(links, 1, &total);
+    CHECK(total.high == -1 && total.low == (uint64_t)1 << 63);
+    boruvka_total(links, 3, &total); /* -3 times 2^63 is -2 times 2^64, and 2^63 */
+    CHECK(total.high == -2 && total.low == (uint64_t)1 << 63);
+    boruvka_total(links, 7, &total);
+    CHECK(total.high == 0 && total.low == 0);
+    boruvka_total(links + 3, 3, &total); /* 3 times 2^63, less 3 */
+    CHECK(total.high == 1 && total.low == ((uint64_t)1 << 63) - 3);
+    boruvka_total(forest, 5, &total);
+    CHECK(total.high == 0 && total.low == 13);
+    for (size_t k = 0; k <= 7; k++) {
+        compare_total(links, k);
+    }
+    struct boruvka_link *many = draw(3, 9, 100000, 0);
+    compare_total(many, 100000);
+    free(many);
+}
+
 static void expect_refusal(uint32_t n, const struct boruvka_link *given, size_t m, int64_t why) {
     struct boruvka_link links[4];
     memcpy(links, given, m * sizeof *links);
@@ -314,6 +353,7 @@ static void limits(void) {
         compare(seed, 1 + seed % 60, seed * 7 % 400, seed % 3 ? 1 + seed % 40 : 0);
     }
     limits_of_places();
+    limits_of_total();
     char text[32];
     for (int64_t kind = -20; kind <= 3; kind++) {
         const size_t length = boruvka_fault_text(kind, text, sizeof text);
@@ -510,6 +550,12 @@ static void a_small_lists_places(void) {
     CHECK(boruvka_places(6, 0, tails, heads, weights, 8, places) == 5 && !memcmp(places, forest_places, sizeof places));
 }
 
+static void a_total(void) {
+    struct boruvka_sum total = {1, 1};
+    boruvka_total(forest, 5, &total);
+    CHECK(total.high == 0 && total.low == 13);
+}
+
 static void places_refused(void) {
     uint32_t places[8];
     memcpy(places, no_places, sizeof places);
@@ -568,7 +614,7 @@ static void a_refusals_text(void) {
 
 static void no_refusals_text(void) {
     char into[32];
-    CHECK(boruvka_fault_text(BORUVKA_MISSING_ARCS - 1, into, sizeof into) == 10 && !strcmp(into, "no refusal"));
+    CHECK(boruvka_fault_text(INT64_MIN, into, sizeof into) == 10 && !strcmp(into, "no refusal"));
 }
 
 static void the_version(void) {
@@ -590,6 +636,7 @@ static void again(void) {
     }
     REPEAT(a_small_lists_places);
     REPEAT(places_refused);
+    REPEAT(a_total);
     REPEAT(a_text);
     REPEAT(faulty_texts);
     REPEAT(a_refusals_text);

@@ -1,5 +1,5 @@
 -- Links in the caller's memory, and what becomes of them.
-use Rattle.std.specs.Prelude.{◌≡◌, ℕ, ℤ, pos, ◌<◌, ◌≤◌, List, ◌++◌, map, drop, length, All}
+use Rattle.std.specs.Prelude.{◌≡◌, ℕ, ℤ, pos, ◌+ℤ◌, ◌*ℤ◌, ◌^◌, ◌<◌, ◌≤◌, List, ◌++◌, map, drop, length, fold, All}
 use Rattle.limits.specs.declared.TheConstants.{MAX_ARCS, MAX_VERTICES}
 use Rattle.links.specs.Arc.{Arc}
 use Rattle.links.specs.Link.{AreLinksOf}
@@ -8,6 +8,7 @@ use Rattle.links.specs.Least.{sum_of_weights, IsLightest}
 use Rattle.links.specs.declared.links.Link.{Link}
 use Rattle.gr_text.specs.Graph.{HasEnds}
 use Rattle.boruvka_c.specs.declared.given.GivenLink.{GivenLink}
+use Rattle.boruvka_c.specs.declared.totals.Sum.{Sum}
 use Rattle.boruvka_c.specs.declared.refusals.Refusal.{Refusal}
 use Rattle.boruvka_c.specs.declared.refusals.Refusal.TheVariants.{NoMemory, BadEnd, TooManyVertices, TooManyLinks}
 use Rattle.boruvka_c.specs.Refusals.{code_of}
@@ -57,3 +58,13 @@ FindsForest n before after answer = AreRight n before × ((count : ℕ) × (answ
 -- the answer is the code of why there is none
 abbrev pub RefusesLinks : ℕ → List GivenLink → ℤ → Type 0
 RefusesLinks n given answer = (why : Refusal) × (answer ≡ code_of why) × IsLinksRefusal n given why
+
+-- ---- what links weigh
+
+-- the sum of the weights of given links, each as often as it is given
+abbrev pub sum_of_given : List GivenLink → ℤ
+sum_of_given given = fold (λ sum l. sum +ℤ l.weight) (pos 0) given
+
+-- the number whose two words these are
+abbrev pub number_of : Sum → ℤ
+number_of sum = sum.high *ℤ pos (2 ^ 64) +ℤ pos sum.low

@@ -1,10 +1,10 @@
 //! Arcs as C gives them: three columns.
-ghost use Rattle.std.specs.Prelude.{◌≡◌, ℕ, ◌↔◌, ◌<◌, ◌≤◌, ◌+◌, ◌-◌, length, slice_index_or, All, IsTrue, IsSome, IsNone, IfSome, IfOk};
-ghost use Rattle.limits.specs.declared.TheConstants.{MAX_VERTICES, MAX_ARCS};
+ghost use Rattle.std.specs.Prelude.{◌≡◌, ◌↔◌, ◌<◌, ◌≤◌, ◌+◌, length, slice_index_or, All, IsTrue, IsSome, IfSome, IfOk};
+ghost use Rattle.limits.specs.declared.TheConstants.{MAX_VERTICES};
 ghost use Rattle.links.specs.Arc.{Arc};
 ghost use Rattle.links.specs.Link.{AreLinksOf, EndsUpTo, arc_key, key_of, is_no_loop};
 ghost use Rattle.gr_text.specs.Graph.{HasEnds};
-ghost use Rattle.boruvka_c.specs.Arcs.{AreColumns, arcs_in, vertex_from};
+ghost use Rattle.boruvka_c.specs.Arcs.{AreColumns, arcs_in};
 
 use limits::MAX_VERTICES;
 use links::Link;

@@ -2,9 +2,8 @@
 //!
 //! Links that share a slot are in a chain. A chain is short unless somebody chose the links for it, and nothing else stands
 //! on the slots.
-ghost use Rattle.std.specs.Prelude.{◌≡◌, ℕ, ◌<◌, ◌≤◌, ◌^◌, length, slice_index, slice_index_or, EachIndex, MatchOption, Contains, IfOk};
+ghost use Rattle.std.specs.Prelude.{◌≡◌, ◌<◌, ◌≤◌, ◌^◌, length, slice_index, EachIndex, MatchOption, Contains, IfOk};
 ghost use Rattle.limits.specs.declared.TheConstants.{MAX_ARCS};
-ghost use Rattle.links.specs.declared.links.Link.{Link};
 ghost use Rattle.boruvka_c.specs.Index.{slot_of, AreChained, IsIndexed, IsFoundAt};
 
 use links::Link;
@@ -12,7 +11,7 @@ use std::alloc::{AllocError, Global};
 use std::marker::Model;
 
 // So many slots there are for each link.
-const SLOTS: usize = 4;
+const SLOTS: usize = 2;
 
 /// Links of a list, each found by the slot of its ends. A slot's last link stands in `heads`, and the one before a link in
 /// its slot in `next`: as 1 more than its place, or 0 if there is none.
@@ -36,7 +35,7 @@ impl<'a> Model for LinkIndex<'a> {
 }
 
 impl<'a> LinkIndex<'a> {
-    // The index of these links: 20 bytes a link.
+    // The index of these links: 12 bytes a link.
     pub(crate) fn of_links(alloc: Global, links: &'a [Link]) -> Result<Self, AllocError>
         requires { length links.now ≤ MAX_ARCS }
         ensures { IfOk result (λ index. index ≡ links.now) }

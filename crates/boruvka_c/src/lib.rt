@@ -4,6 +4,7 @@
 //! ```text
 //!   links    --given-->  Vec<Link>  --forest_of-->  Forest  --given-->  the first of the links   boruvka_forest
 //!   columns  --arcs-->  Vec<Link>  --forest_of-->  Forest  --index-->  the caller's places       boruvka_places_in
+//!   links    --totals-->  their sum in two words                                                 boruvka_total
 //!   text     --plain_run::plain_text-->  the forest's text  --room-->  the caller's room         boruvka_forest_text
 //!   a code   --refusals-->  its text  --room-->  the caller's room                               boruvka_fault_text
 //! ```
@@ -28,6 +29,7 @@ mod places;
 mod refusals;
 mod room;
 mod texts;
+mod totals;
 
 pub use faults::{Fault, boruvka_fault_text};
 pub use forests::boruvka_forest;
@@ -35,6 +37,7 @@ pub use given::GivenLink;
 pub use places::boruvka_places_in;
 pub use refusals::Refusal;
 pub use texts::boruvka_forest_text;
+pub use totals::{Sum, boruvka_total};
 
 /// The version of these calls: another one where a call, a code or a struct means something else.
 pub const VERSION: u32 = 1;

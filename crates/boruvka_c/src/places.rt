@@ -82,7 +82,7 @@ fn find_places(alloc: Global, n: u32, arcs: &Arcs<'_>, places: &mut [u32]) -> Re
 /// It takes the time of [`forest_of`], two passes over the arcs before it, and one behind it, which looks each arc up among
 /// the forest's links: in constant time on average, but in that of a pass over the forest if somebody chose the links so
 /// that many share a slot. Memory: that of [`forest_of`], 16 bytes an arc for the list that it works in, and once it is
-/// done 20 bytes for each link of the forest.
+/// done 12 bytes for each link of the forest.
 #[unsafe(no_mangle)]
 pub extern "C" fn boruvka_places_in(
     alloc: Global,
