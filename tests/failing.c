@@ -15,7 +15,9 @@
  * With COUNTED an 'R' goes there for each read that asks for 64 KiB, an 'r' for each other, and a 'w' for each write.
  * Where a socket listens on more than the loopback address, an 'A' goes there.
  * Where the program ends and a thread that it started wasn't joined, a 'J' goes there; with JOINED a 'j' too, for each
- * that was.
+ * that was. STARTED is how many of the threads that the first one starts are workers, as its first ones are: a 'w' goes
+ * there for each thread that one of them started, or one that it started, an 's' for each other thread that is started,
+ * and at the end an 'a' for each of those that lived at once, at the most. With GREETED an 'H' for each send of a hello.
  * Where words for the user (a forest, a report, a fault) are written to a socket, or a socket is read as a file, a
  * 'T' goes to TOLD. It takes no memory itself. */
 #define _GNU_SOURCE
@@ -40,9 +42,22 @@
 
 static const char *chosen = "";
 static unsigned long first, last, chosen_error;
-static atomic_ulong counted, started, joined;
-static int told = -1, is_short, is_counted, processors;
+static atomic_ulong counted, started, joined, most_alive;
+static int told = -1, is_short, is_counted, tells_started, tells_hellos, processors;
 static _Thread_local int is_hung_up;
+
+/* a thread that was started: what it runs, and the number of the thread of the first one's that it comes from, from 1 */
+struct start {
+    void *(*run)(void *);
+    void *with;
+    unsigned long line;
+};
+
+enum { STARTS = 1 << 14 };
+static struct start starts[STARTS];
+static unsigned long workers;
+static atomic_ulong placed, lines;
+static _Thread_local unsigned long line;
 
 static unsigned long number(const char *name, unsigned long otherwise) {
     const char *text = getenv(name);
@@ -55,6 +70,9 @@ __attribute__((constructor)) static void begin(void) {
     last = number("FAIL_LAST", first);
     is_short = getenv("SHORT") != 0;
     is_counted = getenv("COUNTED") != 0;
+    tells_started = getenv("STARTED") != 0;
+    workers = number("STARTED", 0);
+    tells_hellos = getenv("GREETED") != 0;
     processors = (int)number("PROCESSORS", 0);
     chosen_error = number("FAIL_ERROR", NO_ERROR_CHOSEN);
     chosen = getenv("FAIL_CALL") ? getenv("FAIL_CALL") : chosen;
@@ -225,6 +243,9 @@ ssize_t recv(int fd, void *into, size_t count, int flags) {
 
 ssize_t send(int fd, const void *bytes, size_t count, int flags) {
     look(fd, bytes, count);
+    if (tells_hellos && count >= 5 && !memcmp(bytes, "\1\0\0\0\6", 5)) {
+        tell("H");
+    }
     return fails("send", ECONNRESET) ? failed() : REAL(send)(fd, bytes, at_most(count), flags);
 }
 
@@ -271,9 +292,41 @@ long sysconf(int name) {
     return processors && name == _SC_NPROCESSORS_ONLN ? processors : REAL(sysconf)(name);
 }
 
+/* how many threads live, where this one was started now */
+static void count_alive(void) {
+    unsigned long alive = started - joined, most = most_alive;
+    while (alive > most && !atomic_compare_exchange_weak(&most_alive, &most, alive)) {
+    }
+}
+
+static void *begin_thread(void *at) {
+    struct start *it = at;
+    line = it->line;
+    return it->run(it->with);
+}
+
+/* the next thread's place, and to whom it belongs */
+static struct start *place(void *(*run)(void *), void *with) {
+    unsigned long at = atomic_fetch_add(&placed, 1);
+    if (at >= STARTS) {
+        REAL(_exit)(97);
+    }
+    starts[at].run = run;
+    starts[at].with = with;
+    starts[at].line = line ? line : atomic_fetch_add(&lines, 1) + 1;
+    return &starts[at];
+}
+
 int pthread_create(pthread_t *made, const pthread_attr_t *how_made, void *(*run)(void *), void *with) {
-    int answer = fails("thread", EAGAIN) ? errno : REAL(pthread_create)(made, how_made, run, with);
-    started += !answer;
+    struct start *it = place(run, with);
+    int answer = fails("thread", EAGAIN) ? errno : REAL(pthread_create)(made, how_made, begin_thread, it);
+    if (!answer) {
+        started++;
+        count_alive();
+        if (tells_started) {
+            tell(line && line <= workers ? "w" : "s");
+        }
+    }
     return answer;
 }
 
@@ -286,6 +339,9 @@ int pthread_join(pthread_t which, void **answered) {
 static void tell_threads(void) {
     for (unsigned long at = 0; getenv("JOINED") && at < joined; at++) {
         tell("j");
+    }
+    for (unsigned long at = 0; tells_started && at < most_alive; at++) {
+        tell("a");
     }
     if (joined != started) {
         tell("J");

@@ -173,21 +173,60 @@ def few_descriptors(_room):
 # Sizes that no proved test has the time for, at which something might give up
 
 
+def forty_times(seed, vertices, arcs):
+    """A file with forty times the links of a drawn graph, and the text of its forest, which is the same."""
+    file, text = drawn_graph(seed, vertices, arcs)
+    return b"p sp %d %d\n" % (vertices, 40 * arcs) + file.partition(b"\n")[2] * 40, text
+
+
+def started_by(room, file, text, workers, shards, processors):
+    """The report of a run on so many processors, and what was told of the threads that it started."""
+    words = [Program.path, *over(workers, shards), "--report"]
+    found, told = told_by(room, words, file, {"PROCESSORS": str(processors), "STARTED": str(workers)})
+    if b"J" in told:
+        raise AssertionError(f"{workers} workers: a thread was not joined")
+    return healthy_report(found, text, workers, shards), told
+
+
 @case
 def a_list_halved_three_times(room):
-    # forty times the same links are forty times as many, and the forest is the same; on eight processors a scan of all
-    # of them is by eight threads, one of which was there
-    file, text = drawn_graph(13, 600, 30_000)
-    more = b"p sp 600 1200000\n" + file.partition(b"\n")[2] * 40
+    # on eight processors a scan of all of them is by eight threads, one of which was there
+    file, text = forty_times(13, 600, 30_000)
     for workers, shards in [(0, 1), (1, 1)]:
-        words = [Program.path, *over(workers, shards), "--report"]
-        found, told = told_by(room, words, more, {"PROCESSORS": "8", "JOINED": "1"})
-        report = healthy_report(found, text, workers, shards)
-        # each round scans all of them without a worker, and the end looks for a missed one; a worker, in a thread of its
-        # own, scans so in the first
-        threads = len(told)
-        if told.strip(b"j") or (threads < 8 if workers else threads != 7 * (report.rounds + 2)):
+        report, told = started_by(room, file, text, workers, shards, 8)
+        # each round scans all of them without a worker, and the end looks for a missed one; a worker scans so in the first
+        own, others = told.count(b"w"), told.count(b"s")
+        if own < 7 if workers else others != 7 * (report.rounds + 2):
             raise AssertionError(f"{workers} workers: told {told!r}: {vars(report)}")
+
+
+@case
+def no_more_threads_at_once_than_processors(room):
+    # but for the worker's, which waits, or whose part the coordinator waits for
+    file, text = forty_times(13, 600, 30_000)
+    for processors, workers in [(1, 0), (3, 0), (16, 0), (16, 1)]:
+        _, told = started_by(room, file, text, workers, 1, processors)
+        most = told.count(b"a")
+        if most > workers + processors - 1 or processors > 1 and most < workers + 1:
+            raise AssertionError(f"{processors} processors, {workers} workers: {most} threads at once: told {told!r}")
+
+
+@case
+def each_worker_that_is_asked_for_is_started(room):
+    # each says one hello, and has a thread; another thread begins for each lane of a round but one
+    for workers in [1, 3, 63, 64]:
+        words = [Program.path, *over(workers, 4), "--report"]
+        found, told = told_by(room, words, SMALL_NET, {"PROCESSORS": "4", "STARTED": str(workers), "GREETED": "1"})
+        report = healthy_report(found, SMALL_FOREST, workers, 4)
+        threads = workers + (report.rounds + 1) * (workers - 1)
+        if (told.count(b"H"), told.count(b"s")) != (workers, threads):
+            raise AssertionError(f"{workers} workers: wanted {threads} threads: told {told!r}")
+
+
+@case
+def shards_past_255_of_more_than_4096_links(_room):
+    file, text = forty_times(13, 600, 30_000)
+    expect_healthy([], file, text, 2, 280)
 
 
 @case
