@@ -4,7 +4,7 @@ A place is the number of a call among those of its name in one run. A failed cal
 of it: FILE or a stream a status and a line, a worker nothing but that worker, and a close nothing.
 """
 import re
-from errno import EAGAIN, ECONNRESET, EINPROGRESS, EINTR, EIO, EMFILE, ENOMEM, ENOSPC, EPIPE, errorcode
+from errno import EAGAIN, ECONNRESET, EINPROGRESS, EINTR, EIO, EMFILE, ENOMEM, ENOSPC, EPIPE, ETIMEDOUT, errorcode
 
 from cases.running import NOTHING_WRITTEN, SMALL_FOREST, SMALL_NET, Program, Report, case, drawn_graph, told_by, written
 from cases.sockets import FAR, NOTHING
@@ -211,7 +211,7 @@ def each_read_and_write_of_a_line_fails_by_each_error(room):
     for graph in graphs():
         for size in OVER_WORKERS:
             for call in ["recv", "send"]:
-                for runs in each_error(room, size, graph, call, [*ERRORS, NOTHING]):
+                for runs in each_error(room, size, graph, call, [*ERRORS, ETIMEDOUT, NOTHING]):
                     reports = [it.expect_report(graph[1], size) for it in runs]
                     for run, report in zip(runs, reports):
                         if report.alone or report.closed > run.failed:
@@ -219,6 +219,22 @@ def each_read_and_write_of_a_line_fails_by_each_error(room):
                     closed = sum(it.closed for it in reports)
                     if len(runs) < 15 or closed < len(runs) // 2:
                         raise AssertionError(f"{call}: {len(runs) - 1} calls failed, and {closed} lines were closed")
+
+
+@case
+def a_worker_whose_session_ended_ill_begins_no_other(room):
+    # a hello begins each session
+    for call in ["recv", "send"]:
+        number = failed = 1
+        while failed:
+            environment = {"FAIL_CALL": call, "FAIL_NUMBER": str(number), "GREETED": "1"}
+            found, told = told_by(room, [Program.path, *over(2, 4)], SMALL_NET, environment, seconds=20)
+            failed = told.count(b"x")
+            if found != (0, SMALL_FOREST, b"") or told.count(b"H") != 2:
+                raise AssertionError(f"{call} {number}: told {told!r}: {found!r:.600}")
+            number += 1
+        if number < 20:
+            raise AssertionError(f"only {number - 2} calls of {call} failed")
 
 
 @case
@@ -271,7 +287,7 @@ def each_read_of_a_file_and_of_standard_input_fails(room):
         for size in [PLAIN, *OVER_WORKERS]:
             for shell in ['exec "$@" "$0"', 'exec "$@" < "$0"']:
                 command = ["sh", "-c", shell, name, Program.path, *words_for(size)]
-                for error in [*ERRORS, EIO]:
+                for error in [*ERRORS, EIO, ETIMEDOUT]:
                     runs = each_place(room, command, b"", "read", [error])
                     expect_places(runs, reads)
                     for run in runs[:-1]:

@@ -1,7 +1,7 @@
 """Calls of sockets and starts of threads that fail for good, and what else sockets do: the same bytes go out, and the
 report tells it. What one failed call costs is in calls.py."""
 import sys
-from errno import EAGAIN, ECONNRESET, EINTR
+from errno import EAGAIN, ECONNRESET, EINTR, ETIMEDOUT
 
 from cases.running import SMALL_FOREST, SMALL_NET, Program, Report, case, drawn_graph, expect, told_by
 from cases.workers import over
@@ -96,7 +96,7 @@ def a_stranger_connects_first(room):
 
 @case
 def each_read_and_write_of_a_socket_fails_for_good(room):
-    for error in [ECONNRESET, NOTHING]:
+    for error in [ECONNRESET, ETIMEDOUT, NOTHING]:
         all_lost_from_there(room, SMALL_NET, SMALL_FOREST, error)
     file, text = drawn_graph(7, 3000, 10_000)
     all_lost_from_there(room, file, text, ECONNRESET)
@@ -104,7 +104,7 @@ def each_read_and_write_of_a_socket_fails_for_good(room):
 
 @case
 def a_failed_read_or_write_of_a_socket_is_not_tried_again(room):
-    for error in [ECONNRESET, EINTR, EAGAIN]:
+    for error in [ECONNRESET, EINTR, EAGAIN, ETIMEDOUT]:
         how = {"FAIL_ERROR": str(error)}
         for call, last in [("recv", 4), ("send", 0)]:
             number, passed = 1, []
