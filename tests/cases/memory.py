@@ -157,6 +157,27 @@ def little_address_space(_room):
 
 
 @case
+def no_more_memory_than_is_documented(room):
+    # of the table in docs/PERFORMANCE.md what `--plain` takes, and a run over workers, of which there is none: bytes a
+    # link, bytes a vertex, and what is taken beside. Threads take room for their stacks too: of 2^20 vertices alone there
+    # are some, whose stacks are small.
+    rows = [(["--plain"], 45, 12), (over(0, 1), 32 + 12, 75)]
+    beside = least_space_for_help() + 1_300_000
+    one = b"p sp 1048576 1\na 1 1048576 7\n"
+    graphs = [(2**20, 1, (one, one)), *((n, m, drawn_graph(21, n, m)) for n, m in [(900, 132_000), (10_000, 67_000)])]
+    for words, each_link, each_vertex in rows:
+        for vertices, arcs, (file, text) in graphs:
+            space = beside + each_link * arcs + each_vertex * vertices
+
+            def limit(space=space):
+                resource.setrlimit(resource.RLIMIT_AS, (space, space))
+                resource.setrlimit(resource.RLIMIT_STACK, (1 << 20, 1 << 20))
+
+            found, _ = told_by(room, [Program.path, *words], file, {"PROCESSORS": "1"}, preexec_fn=limit)
+            expect(found, 0, text, b"")
+
+
+@case
 def little_address_space_for_workers(_room):
     file, text = drawn_graph(7, 3000, 10_000)
     for size in grown_space(1 << 30):

@@ -201,14 +201,23 @@ def a_list_halved_three_times(room):
 
 
 @case
-def no_more_threads_at_once_than_processors(room):
-    # but for the worker's, which waits, or whose part the coordinator waits for
+def a_scan_has_no_more_threads_than_processors(room):
+    # but for the worker's, for whom the coordinator waits, and the other way round
     file, text = forty_times(13, 600, 30_000)
     for processors, workers in [(1, 0), (3, 0), (16, 0), (16, 1)]:
         _, told = started_by(room, file, text, workers, 1, processors)
         most = told.count(b"a")
         if most > workers + processors - 1 or processors > 1 and most < workers + 1:
             raise AssertionError(f"{processors} processors, {workers} workers: {most} threads at once: told {told!r}")
+
+
+@case
+def no_step_starts_more_threads_than_sixteen_processors(room):
+    # of so many vertices each step is by threads; each but the first thread is started
+    for vertices, arcs in [(60_000, 90_000), (2**17 + 1, 2**17)]:
+        _, told = started_by(room, *drawn_graph(22, vertices, arcs), 0, 1, 16)
+        if not 2 <= told.count(b"a") < 16:
+            raise AssertionError(f"{vertices} vertices: told {told!r}")
 
 
 @case
