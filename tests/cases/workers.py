@@ -5,7 +5,7 @@ import random
 import resource
 import time
 
-from cases.running import SMALL_FOREST, SMALL_NET, Program, Report, case, drawn_graph, expect, file_of, forest_text, ran, told_by, written
+from cases.running import SMALL_FOREST, SMALL_NET, Program, Report, case, drawn_graph, expect, ran, told_by, written
 
 
 def over(workers, shards):
@@ -271,16 +271,27 @@ def a_session_of_more_than_65536_frames(room):
         raise AssertionError(f"wanted 15 rounds and 65,536 asks: {vars(report)}")
 
 
+def write_path(name, vertices, numbers):
+    """A file of these links of a path, by the lower ends: each weighs as much as there are zeros behind its end's bits."""
+    with open(name, "wb") as it:
+        it.write(b"p sp %d %d\n" % (vertices, vertices - 1))
+        for ends in numbers:
+            it.write("".join([f"a {v} {v + 1} {(v & -v).bit_length() - 1}\n" for v in ends]).encode())
+    return name
+
+
 @case
-def as_many_rounds_as_a_million_vertices_can_have(room):
-    # the same path, twenty times halved: from 2^20 components to one
-    vertices = 2**20
-    arcs = [(it, it + 1, (it & -it).bit_length() - 1) for it in range(1, vertices)]
-    name = written(f"{room}/path.gr", file_of(vertices, arcs))
-    text = forest_text(vertices, sorted((weight, low, high) for low, high, weight in arcs))
-    report = expect_healthy([name], b"", text, 2, 3)
-    if (report.rounds, report.asked) != (20, 63):
-        raise AssertionError(f"wanted 20 rounds and 63 asks: {vars(report)}")
+def as_many_rounds_as_two_million_vertices_can_have(room):
+    # the same path, halved 21 times: from 2^21 components to one. Its forest has the links of each weight in turn
+    vertices = 2**21
+    file = write_path(f"{room}/path.gr", vertices, [range(1, vertices)])
+    forest = write_path(f"{room}/forest.gr", vertices, [range(1 << weight, vertices, 2 << weight) for weight in range(21)])
+    with open(f"{room}/found.gr", "wb") as output:
+        status, _, errors = ran([*over(2, 2), "--report", file], output=output)
+    line = b"vertices=2097152 links=2097151 rounds=21 shards=2 asked=44 answered=44 alone=0 closed=0 total=2097130\n"
+    expect((status, b"", errors), 0, b"", line)
+    if not filecmp.cmp(f"{room}/found.gr", forest, shallow=False):
+        raise AssertionError("the forest of a path is the path")
 
 
 @case
