@@ -3,7 +3,9 @@
  * REFUSE_FIRST is the number of the first allocation that is refused, from 1, and REFUSE_LAST that of the last (none:
  * all from the first on). With COUNT_FROM only those of so many bytes or more have a number. With REFUSE_ABOVE each of
  * more bytes than so many is refused too. For each that is refused a byte goes to the descriptor REFUSED, so that
- * whoever started the program sees whether one was. It takes no memory itself. */
+ * whoever started the program sees whether one was: an 'x', or a 't' in another thread than the first. It takes no
+ * memory itself. */
+#define _GNU_SOURCE
 #include <errno.h>
 #include <stdatomic.h>
 #include <stdlib.h>
@@ -44,7 +46,7 @@ static int refuses(size_t size) {
     if (!is_next_chosen(size) && size <= above) {
         return 0;
     }
-    if (told >= 0 && write(told, "x", 1) < 0) {
+    if (told >= 0 && write(told, gettid() == getpid() ? "x" : "t", 1) < 0) {
         _exit(99);
     }
     errno = ENOMEM;

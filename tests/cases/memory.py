@@ -88,6 +88,25 @@ def each_allocation_of_a_run_over_workers_refused(room):
 
 
 @case
+def a_worker_that_finds_no_memory_is_given_up(room):
+    # each allocation of its thread is refused alone: its line is closed, but for the few that a scan does without, and
+    # the run goes on. One by one the allocations of both threads have other numbers from run to run
+    words = [Program.path, *over(1, 1), "--report"]
+    closed, number, told = [], 1, b"x"
+    while told:
+        environment = {"REFUSE_FIRST": str(number), "REFUSE_LAST": str(number)}
+        found, told = told_by(room, words, SMALL_NET, environment, library="refusing")
+        if told == b"t":
+            expect(found, 0, SMALL_FOREST, found[2])
+            report = Report(found[2])
+            report.expect_equations(1, 1)
+            closed.append(report.closed)
+        number += 1
+    if sum(closed) < 10 or closed.count(0) > sum(closed) // 2:
+        raise AssertionError(f"of a worker's allocations that were refused each closed so many lines: {closed}")
+
+
+@case
 def each_large_allocation_of_a_run_by_threads_refused(room):
     # (so many vertices that two threads begin, and so many links of the forest that threads pack their keys)
     file, text = drawn_graph(11, 2**17 + 1, 90_000)
