@@ -3,8 +3,8 @@
  * REFUSE_FIRST is the number of the first allocation that is refused, from 1, and REFUSE_LAST that of the last (none:
  * all from the first on). With COUNT_FROM only those of so many bytes or more have a number. With REFUSE_ABOVE each of
  * more bytes than so many is refused too. For each that is refused a byte goes to the descriptor REFUSED, so that
- * whoever started the program sees whether one was: an 'x', or a 't' in another thread than the first. It takes no
- * memory itself. */
+ * whoever started the program sees whether one was: an 'x', or with THREADS a 't' in another thread than the first. It
+ * takes no memory itself. */
 #define _GNU_SOURCE
 #include <errno.h>
 #include <stdatomic.h>
@@ -18,7 +18,7 @@ void *__libc_memalign(size_t align, size_t size);
 
 static unsigned long first, last, above, counted;
 static atomic_ulong asked;
-static int told = -1;
+static int told = -1, tells_threads;
 
 static unsigned long number(const char *name, unsigned long otherwise) {
     const char *text = getenv(name);
@@ -31,6 +31,7 @@ __attribute__((constructor)) static void begin(void) {
     above = number("REFUSE_ABOVE", (unsigned long)-1);
     counted = number("COUNT_FROM", 0);
     first = number("REFUSE_FIRST", 0);
+    tells_threads = getenv("THREADS") != 0;
 }
 
 /* whether the next allocation, of so many bytes, is one of those numbers */
@@ -46,7 +47,7 @@ static int refuses(size_t size) {
     if (!is_next_chosen(size) && size <= above) {
         return 0;
     }
-    if (told >= 0 && write(told, gettid() == getpid() ? "x" : "t", 1) < 0) {
+    if (told >= 0 && write(told, tells_threads && gettid() != getpid() ? "t" : "x", 1) < 0) {
         _exit(99);
     }
     errno = ENOMEM;

@@ -90,11 +90,11 @@ def each_allocation_of_a_run_over_workers_refused(room):
 @case
 def a_worker_that_finds_no_memory_is_given_up(room):
     # each allocation of its thread is refused alone: its line is closed, but for the few that a scan does without, and
-    # the run goes on. One by one the allocations of both threads have other numbers from run to run
+    # the run goes on (which number an allocation has differs from run to run)
     words = [Program.path, *over(1, 1), "--report"]
     closed, number, told = [], 1, b"x"
     while told:
-        environment = {"REFUSE_FIRST": str(number), "REFUSE_LAST": str(number)}
+        environment = {"REFUSE_FIRST": str(number), "REFUSE_LAST": str(number), "THREADS": "1"}
         found, told = told_by(room, words, SMALL_NET, environment, library="refusing")
         if told == b"t":
             expect(found, 0, SMALL_FOREST, found[2])

@@ -53,7 +53,7 @@ def ran(words, source=b"", output=subprocess.PIPE, **more):
 def told_by(room, words, source, environment, library="failing", **more):
     """What was run with tests/failing.c preloaded did, and what that library told: an `x` for each call that failed,
     a `T` for each text for the user that went to a socket, and a `J` where a thread wasn't joined at the end. With
-    tests/refusing.c it is an `x` or a `t` for each allocation that was refused, in the first thread or another."""
+    tests/refusing.c it is an `x` for each allocation that was refused."""
     reader, writer = os.pipe()
     env = {**os.environ, "LD_PRELOAD": built(room, library), "TOLD": str(writer), "REFUSED": str(writer), **environment}
     try:
