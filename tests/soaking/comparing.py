@@ -30,11 +30,11 @@ class Found:
 
 
 def found_by(room, case):
-    """What the program did."""
+    """What the program did. (A FILE `-` is standard input.)"""
     if case.given == "piped":
         return found_of(room, case, case.text)
     path = written(f"{room}/{case.given}", case.text)
-    if case.is_named:
+    if case.is_named and case.given != "-":
         return found_of(room, case, b"")
     with open(path, "rb") as it:
         return found_of(room, case, it)
