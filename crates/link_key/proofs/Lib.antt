@@ -8,3 +8,6 @@ pub mod Stages
 pub mod Opened
 pub mod Filling
 pub mod Parts
+mod Firsts
+mod Acyclic
+mod Once

@@ -1,3 +1,4 @@
 pub mod Rounds
 pub mod OpenLinks
 pub mod Parts
+pub mod Components

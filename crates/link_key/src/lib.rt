@@ -8,9 +8,11 @@
 //! What it promises:
 //! - [`forest_of`], and [`plain_forest`] on a copy, gives exactly the forest, the links whose ends aren't joined by
 //!   smaller ones; no spanning forest weighs less.
+//! - [`components_of`] labels each vertex by the least one of its component under links that close no cycle, and gives no
+//!   labels where they close one.
 //!
 //! Where to start a change: `sequential` is the solver, with its rounds; what stands while it works is said in
-//! `specs/Rounds` and `OpenLinks`. What a forest is stands in `links`.
+//! `specs/Rounds` and `OpenLinks`, and what components are in `specs/Components`. What a forest is stands in `links`.
 #![tactic(auto)]
 
 pub mod sequential;
@@ -18,4 +20,4 @@ pub mod sequential;
 pub use links::{
     Answer, Cut, CutFault, Forest, Labels, Link, Offers, Shard, check_even, check_places, laws,
 };
-pub use sequential::{forest_of, plain_forest};
+pub use sequential::{components_of, forest_of, plain_forest};

@@ -1,6 +1,9 @@
 //! The sequential solver: the forest of a list, by one thread, which goes over the list in Borůvka's rounds. `solver` has
-//! the whole way from a list to its forest, `rounds` the rounds between numbered components.
+//! the whole way from a list to its forest, `rounds` the rounds between numbered components, and `components` the labels of
+//! vertices by those rounds.
+mod components;
 mod rounds;
 mod solver;
 
+pub use components::components_of;
 pub use solver::{forest_of, plain_forest};

@@ -1,0 +1,106 @@
+//! The components that the links of a forest join, by the solver's rounds.
+ghost use Rattle.std.specs.Prelude.{◌≡◌, ◌≢◌, ℕ, ◌+◌, ◌<◌, ◌≤◌, ◌↔◌, length, slice_index, All, Contains, IfOk, IfSome, IsSome, IsTrue};
+ghost use Rattle.limits.specs.declared.TheConstants.{MAX_VERTICES, MAX_ARCS};
+ghost use Rattle.links.specs.Labels.{label_of};
+ghost use Rattle.links.specs.Link.{EndsUpTo, IsAscending};
+ghost use Rattle.links.specs.LinkSet.{HasNoCycle};
+ghost use Rattle.link_key.specs.OpenLinks.{AreAllNumbers};
+ghost use Rattle.link_key.specs.Components.{IsAcyclic, AreLeastVertices, AreComponents, IsFirstWith};
+
+use super::rounds::{Renaming, join, open_vertices};
+use links::forests::is_ascending;
+use links::sorting::put_in_key_order;
+use links::{Labels, Link};
+use std::alloc::{AllocError, Allocator};
+
+/// Labels each of the vertices 1 to `n` by the least vertex of its component under these links, which may stand in any
+/// order; none if a link stands twice or the links close a cycle.
+///
+/// The components are joined in Borůvka's rounds, as [`super::forest_of`] joins them. For k links it costs
+/// O(k log k + n log n) time. Memory beside the list: at most 13 bytes a link and 12 a vertex, and before that 8 bytes a
+/// link, or 24 for at most 65,536 of them, to put the links in order. The only error is want of memory.
+pub fn components_of<A: Allocator + Copy>(
+    alloc: A,
+    n: u32,
+    links: Vec<Link, A>,
+) -> Result<Option<Labels<A>>, AllocError>
+    requires few_vertices { n ≤ MAX_VERTICES }
+    requires few_links { length links.items ≤ MAX_ARCS }
+    requires ends { EndsUpTo n links.items }
+    ensures acyclic { IfOk result (λ found. IsSome found ↔ IsAcyclic links.items) }
+    ensures least { IfOk result (λ found. IfSome found (AreLeastVertices n (Contains links.items))) }
+{
+    let mut links = links;
+    put_in_key_order(alloc, links.as_mut_slice())?;
+    if !is_ascending(links.as_slice()) {
+        return Ok(None);
+    }
+    let (components, acyclic) = components_in_order(alloc, n, links.as_slice())?;
+    if !acyclic {
+        return Ok(None);
+    }
+    let labels = first_vertices(alloc, components.count, components.numbers.as_slice())?;
+    Ok(Some(Labels::of_known(labels)))
+}
+
+// Numbers the components of the vertices 1 to n under links in the order of their keys, and says whether these close no
+// cycle: whether the rounds take each of them.
+fn components_in_order<A: Allocator + Copy>(
+    alloc: A,
+    n: u32,
+    links: &[Link],
+) -> Result<(Renaming<A>, bool), AllocError>
+    requires few_vertices { n ≤ MAX_VERTICES }
+    requires few_links { length links.now ≤ MAX_ARCS }
+    requires ends { EndsUpTo n links.now }
+    requires ascending { IsAscending links.now }
+    ensures len { IfOk result (λ found. length found.0.numbers.items ≡ n + 1) }
+    ensures numbers { IfOk result (λ found. AreAllNumbers found.0.count found.0.numbers.items) }
+    ensures components { IfOk result (λ found. AreComponents (Contains links.now) found.0.numbers.items) }
+    ensures acyclic { IfOk result (λ found. IsTrue found.1 ↔ HasNoCycle (Contains links.now)) }
+{
+    let candidates = open_vertices(alloc, links)?;
+    let mut marks = vec![in alloc; false; links.len()]?;
+    let components = join(alloc, n, candidates, marks.as_mut_slice())?;
+    let taken = are_all_marked(marks.as_slice());
+    Ok((components, taken))
+}
+
+// Whether all are marked.
+fn are_all_marked(marks: &[bool]) -> bool
+    ensures { IsTrue result ↔ All IsTrue marks.now }
+{
+    marks.iter().all(|mark| *mark)
+}
+
+// The first vertex that has its number, vertex by vertex from 1 on.
+fn first_vertices<A: Allocator + Copy>(
+    alloc: A,
+    count: u32,
+    numbers: &[u32],
+) -> Result<Vec<u32, A>, AllocError>
+    requires few { length numbers.now ≤ MAX_VERTICES + 1 }
+    requires numbers { AreAllNumbers count numbers.now }
+    ensures number { IfOk result (λ labels. length labels.items + 1 ≡ length numbers.now) }
+    ensures first { IfOk result (λ labels. (v : ℕ) → 1 ≤ v → v < length numbers.now
+        → IsFirstWith numbers.now (slice_index numbers.now v) (label_of labels.items v)) }
+{
+    let mut table = vec![in alloc; 0; count as usize + 1]?;
+    let firsts = table.as_mut_slice();
+    let mut labels = Vec::with_capacity(alloc, numbers.len() - 1)?;
+    for v in 1..numbers.len() {
+        let number = numbers[v] as usize;
+        let first = first_or(firsts[number], v as u32);
+        firsts[number] = first;
+        labels.push(first)?;
+    }
+    Ok(labels)
+}
+
+// The first vertex that was found, or else this one; 0 is none.
+fn first_or(found: u32, v: u32) -> u32
+    ensures new { found ≡ 0 → result ≡ v }
+    ensures old { found ≢ 0 → result ≡ found }
+{
+    if found == 0 { v } else { found }
+}
