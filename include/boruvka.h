@@ -42,7 +42,8 @@ enum boruvka_refusal {
     BORUVKA_TOO_LARGE = -10, BORUVKA_BAD_ARC = -11, BORUVKA_END_OUT_OF_RANGE = -12, BORUVKA_WEIGHT_OUT_OF_RANGE = -13,
     BORUVKA_TOO_MANY_ARCS = -14, BORUVKA_MISSING_PROBLEM = -15, BORUVKA_MISSING_ARCS = -16,
     BORUVKA_LENGTHS_DIFFER = -17, /* u, v and w are not of one length */
-    BORUVKA_TOO_FEW_PLACES = -18  /* there is no room for the places of all links of the forest */
+    BORUVKA_TOO_FEW_PLACES = -18, /* there is no room for the places of all links of the forest */
+    BORUVKA_CYCLE = -19           /* links close a cycle: a loop, a link given twice, or one whose ends others join */
 };
 
 /* What boruvka_forest_text puts there: its refusal and the line, from 1, of a faulty text, else 0. Both are 0 at a forest. */
@@ -81,6 +82,17 @@ static inline int64_t boruvka_places(uint32_t n, uint32_t base, const uint32_t *
                                      uint32_t *places) {
     const size_t most = n > 0 ? n - 1 : 0;
     return boruvka_places_in(n, base, u, m, v, m, w, m, places, m < most ? m : most);
+}
+
+/* Writes the least vertex of each vertex's component under these k links between the vertices 1 to n, that of vertex v to
+ * label[v - 1], and answers n. The links may come in any order, with their ends in either order, but close no cycle, as
+ * the links of a forest and any part of them. What boruvka_forest refuses is refused in its order, then a cycle; a refusal
+ * leaves `label` as it was. */
+int64_t boruvka_labels_in(const struct boruvka_link *links, size_t k, uint32_t *label, size_t n);
+
+/* The same, where `label` has room for n numbers. */
+static inline int64_t boruvka_labels(uint32_t n, const struct boruvka_link *links, size_t k, uint32_t *label) {
+    return boruvka_labels_in(links, k, label, n);
 }
 
 /* Writes the sum of the weights of k links, each as often as it stands there, whatever its ends are. It is exact. */

@@ -273,6 +273,93 @@ static void limits_of_places(void) {
     }
 }
 
+/* The least vertex of each vertex's component, by going from each link's higher root to its lower one. */
+static uint32_t *least_vertices(uint32_t n, const struct boruvka_link *links, size_t k) {
+    uint32_t *parents = taken((size_t)n + 1, sizeof *parents);
+    for (uint32_t v = 0; v <= n; v++) {
+        parents[v] = v;
+    }
+    for (size_t i = 0; i < k; i++) {
+        const uint32_t u = root(parents, links[i].low), v = root(parents, links[i].high);
+        parents[u > v ? u : v] = u > v ? v : u;
+    }
+    for (uint32_t v = 1; v <= n; v++) {
+        parents[v] = root(parents, v);
+    }
+    return parents;
+}
+
+static void expect_cycle(uint32_t n, const struct boruvka_link *links, size_t k, uint32_t *label) {
+    for (uint32_t v = 0; v < n; v++) {
+        label[v] = untouched;
+    }
+    CHECK(boruvka_labels(n, links, k, label) == BORUVKA_CYCLE);
+    for (uint32_t v = 0; v < n; v++) {
+        CHECK(label[v] == untouched);
+    }
+}
+
+/* The labels by parts of a drawn list's forest, in a drawn order and with ends turned, beside those of union-find; and of
+ * all of it with one link more. */
+static void compare_labels(uint64_t seed, uint32_t n, size_t m, uint64_t weights) {
+    struct boruvka_link *given = draw(seed, n, m, weights);
+    size_t count;
+    struct boruvka_link *links = kruskal(n, given, m, &count);
+    uint32_t *label = taken((size_t)n + BEHIND, sizeof *label);
+    for (size_t i = 0; i < count; i++) {
+        const size_t j = i + drawn(&seed) % (count - i);
+        const struct boruvka_link other = links[j];
+        links[j] = links[i];
+        links[i] = other;
+        if (drawn(&seed) % 2) {
+            links[i].low = other.high;
+            links[i].high = other.low;
+        }
+    }
+    for (size_t part = 0; part <= 4; part++) {
+        const size_t k = count * part / 4;
+        uint32_t *least = least_vertices(n, links, k);
+        for (size_t v = 0; v < (size_t)n + BEHIND; v++) {
+            label[v] = untouched;
+        }
+        CHECK(boruvka_labels(n, links, k, label) == (int64_t)n);
+        CHECK(!memcmp(label, least + 1, n * sizeof *label));
+        CHECK(label[n] == untouched && label[n + BEHIND - 1] == untouched);
+        free(least);
+    }
+    struct boruvka_link *more = taken(count + 1, sizeof *more);
+    memcpy(more, links, count * sizeof *more);
+    for (size_t i = 0; i < m && i < 5; i++) {
+        more[count] = given[i]; /* a loop, a link of the forest, or one whose ends it joins */
+        expect_cycle(n, more, count + 1, label);
+    }
+    free(more);
+    free(label);
+    free(given);
+    free(links);
+}
+
+static void limits_of_labels(void) {
+    uint32_t label[4] = {untouched, untouched, untouched, untouched};
+    CHECK(boruvka_labels(0, forest, 0, label) == 0 && label[0] == untouched);
+    CHECK(boruvka_labels(3, forest, 0, label) == 3 && label[0] == 1 && label[1] == 2 && label[2] == 3 && label[3] == untouched);
+    const struct boruvka_link bad[][2] = {{{1, 2, 1}, {1, 0, 1}}, {{1, 1, 2}, {1, 4, 3}}};
+    label[0] = untouched;
+    for (size_t i = 0; i < sizeof bad / sizeof *bad; i++) {
+        CHECK(boruvka_labels(3, bad[i], 2, label) == BORUVKA_BAD_END && label[0] == untouched);
+    }
+    CHECK(boruvka_labels(0, bad[0], 1, label) == BORUVKA_BAD_END);
+    /* of one weight or of two, a triangle and a pair of links between the same vertices are cycles */
+    const struct boruvka_link triangle[] = {{1, 1, 2}, {1, 2, 3}, {1, 3, 1}}, pair[] = {{1, 1, 2}, {2, 2, 1}}, same[] = {{1, 1, 2}, {5, 3, 2}, {1, 2, 1}}, loop[] = {{1, 3, 3}};
+    expect_cycle(3, triangle, 3, label);
+    expect_cycle(3, pair, 2, label);
+    expect_cycle(3, same, 3, label);
+    expect_cycle(3, loop, 1, label);
+    for (uint64_t seed = 1; seed <= 300; seed++) {
+        compare_labels(seed, 1 + seed % 60, seed * 7 % 400, seed % 3 ? 1 + seed % 40 : 0);
+    }
+}
+
 /* The sum of the weights of links, beside that in words of 32 bits each. */
 static void compare_total(const struct boruvka_link *links, size_t k) {
     int64_t high = 0, low = 0;
@@ -353,6 +440,7 @@ static void limits(void) {
         compare(seed, 1 + seed % 60, seed * 7 % 400, seed % 3 ? 1 + seed % 40 : 0);
     }
     limits_of_places();
+    limits_of_labels();
     limits_of_total();
     char text[32];
     for (int64_t kind = -20; kind <= 3; kind++) {
@@ -376,6 +464,7 @@ static void *thread(void *seed) {
     for (uint64_t round = 0; round < 40; round++) {
         compare(*(uint64_t *)seed * 1000 + round, 1000, 20000, round % 2 ? 0 : 100);
         compare_places(*(uint64_t *)seed * 1000 + round, 1000, 20000, round % 2 ? 0 : 100, (uint32_t)round);
+        compare_labels(*(uint64_t *)seed * 1000 + round, 1000, 20000, round % 2 ? 0 : 100);
     }
     return 0;
 }
@@ -476,8 +565,12 @@ static void memory(void) {
     const int64_t placed = boruvka_places(6, 0, tails, heads, weights, 8, places);
     CHECK(placed == BORUVKA_NO_MEMORY || placed == 5);
     CHECK(!memcmp(places, placed < 0 ? no_places : forest_places, sizeof places));
+    uint32_t label[6] = {9, 9, 9, 9, 9, 9};
+    const int64_t labelled = boruvka_labels(6, forest, 3, label);
+    CHECK(labelled == BORUVKA_NO_MEMORY || labelled == 6);
+    CHECK(labelled == 6 ? label[0] == 1 && label[4] == 2 && label[5] == 6 : label[0] == 9 && label[4] == 9 && label[5] == 9);
     static const char some[] = "some refused\n", all[] = "answered\n";
-    fputs(count < 0 || length < 0 || placed < 0 ? some : all, stdout);
+    fputs(count < 0 || length < 0 || placed < 0 || labelled < 0 ? some : all, stdout);
 }
 
 /* The memory that the process holds now, in KiB, without the pages of files: these come and go by themselves. The kernel
@@ -548,6 +641,13 @@ static void a_small_lists_places(void) {
     uint32_t places[8];
     memcpy(places, no_places, sizeof places);
     CHECK(boruvka_places(6, 0, tails, heads, weights, 8, places) == 5 && !memcmp(places, forest_places, sizeof places));
+}
+
+static void labels(void) {
+    uint32_t label[6] = {9, 9, 9, 9, 9, 9};
+    CHECK(boruvka_labels(6, net, 8, label) == BORUVKA_CYCLE);
+    CHECK(boruvka_labels(5, forest, 5, label) == BORUVKA_BAD_END && label[0] == 9 && label[5] == 9);
+    CHECK(boruvka_labels(6, forest, 3, label) == 6 && label[0] == 1 && label[1] == 2 && label[4] == 2 && label[5] == 6);
 }
 
 static void a_total(void) {
@@ -636,6 +736,7 @@ static void again(void) {
     }
     REPEAT(a_small_lists_places);
     REPEAT(places_refused);
+    REPEAT(labels);
     REPEAT(a_total);
     REPEAT(a_text);
     REPEAT(faulty_texts);
@@ -669,6 +770,7 @@ int main(int count, char **words) {
     } else if (!strcmp(what, "many")) {
         compare(5, 1000000, 10000000, 1000000);
         compare_places(5, 1000000, 10000000, 1000000, 1);
+        compare_labels(5, 1000000, 10000000, 1000000);
     } else if (!strcmp(what, "memory")) {
         memory();
     } else if (!strcmp(what, "again")) {

@@ -10,7 +10,7 @@ from cases.running import ROOT, SMALL_FOREST, SMALL_NET, Skipped, case, drawn_gr
 
 LIBRARIES = f"{ROOT}/crates/boruvka_c/out"
 INCLUDE = f"-I{ROOT}/include"
-NAMES = {"boruvka_fault_text", "boruvka_forest", "boruvka_forest_text", "boruvka_places_in", "boruvka_total",
+NAMES = {"boruvka_fault_text", "boruvka_forest", "boruvka_forest_text", "boruvka_labels_in", "boruvka_places_in", "boruvka_total",
          "boruvka_version"}
 MINUTES = 90  # it took 19 where nothing had been built before
 ENVIRONMENT = {it: word for it, word in os.environ.items() if it not in ("MAKEFLAGS", "MAKELEVEL", "MFLAGS", "DESTDIR")}
@@ -133,8 +133,8 @@ def calls_at_their_limits(room):
     status, output, errors = run([caller(room), "limits"])
     expect((status, b"", errors), 0, b"", b"")
     texts = dict(it.split(" ", 1) for it in output.decode().splitlines())
-    kinds = [str(-it) for it in range(1, 19)]
-    expect((len({texts[it] for it in kinds}), "no refusal" in {texts[it] for it in kinds}, texts["-1"]), 18, False, "no memory")
+    kinds = [str(-it) for it in range(1, 20)]
+    expect((len({texts[it] for it in kinds}), "no refusal" in {texts[it] for it in kinds}, texts["-1"]), 19, False, "no memory")
 
 
 @case

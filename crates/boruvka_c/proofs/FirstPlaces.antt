@@ -1,5 +1,5 @@
 -- The first places of links among arcs, from the last arc on.
-use Rattle.std.proofs.Common.{◌≡◌, ℕ, ◌+◌, ◌<◌, ◌≤◌, ◌⊎◌, ◌==◌, ◌&&◌, Bool, true, false, List, Contains, length, get_or, set, min, max, refl, sym, ap, ◌∙◌, subst, inl, inr, get_or-set_same, get_or-set_other, arith}
+use Rattle.std.proofs.Common.{◌≡◌, ℕ, ◌+◌, ◌<◌, ◌≤◌, ◌⊎◌, ◌==◌, ◌&&◌, Bool, true, false, List, [], ◌∷◌, map, drop, ap₂, Contains, length, get_or, set, min, max, refl, sym, ap, ◌∙◌, subst, inl, inr, get_or-set_same, get_or-set_other, arith}
 use Rattle.std.specs.List.{filter}
 use Rattle.std.specs.Ordering.{int_eq}
 use mathlib.Core.Bool.{false≢true}
@@ -141,3 +141,12 @@ pub none_of : (arcs : List Arc) (links : List Link) (start : ℕ) (link : Link) 
 none_of arcs links start link none key l l_in found =
     let arc : Arc = record { tail = 0; head = 0; weight = link.weight } in
     none (subst (Contains links) (one_key l link (sym (found arc) ∙ sym (key arc))) l_in)
+
+-- lists of links with the same keys are one list
+pub same_keys : (links others : List Link) → map key_of links ≡ map key_of others → links ≡ others
+same_keys [] [] same = refl
+same_keys [] (m ∷ others) same = absurd (omega (arith, ap length same))
+same_keys (l ∷ links) [] same = absurd (omega (arith, ap length same))
+same_keys (l ∷ links) (m ∷ others) same =
+    ap₂ (λ (k : Link) (ks : List Link). k ∷ ks) (one_key l m (ap (λ (keys : List Key). get_or keys 0 (key_of l)) same))
+    (same_keys links others (ap (λ (keys : List Key). drop 1 keys) same))

@@ -1,5 +1,6 @@
 pub mod Arcs
 pub mod Index
+pub mod Labels
 pub mod Links
 pub mod Places
 pub mod Refusals

@@ -4,6 +4,7 @@
 //! ```text
 //!   links    --given-->  Vec<Link>  --forest_of-->  Forest  --given-->  the first of the links   boruvka_forest
 //!   columns  --arcs-->  Vec<Link>  --forest_of-->  Forest  --index-->  the caller's places       boruvka_places_in
+//!   links    --given-->  Vec<Link>  --components_of-->  Labels  -->  the caller's labels          boruvka_labels_in
 //!   links    --totals-->  their sum in two words                                                 boruvka_total
 //!   text     --plain_run::plain_text-->  the forest's text  --room-->  the caller's room         boruvka_forest_text
 //!   a code   --refusals-->  its text  --room-->  the caller's room                               boruvka_fault_text
@@ -11,11 +12,11 @@
 //!
 //! What it promises:
 //! - A call answers exactly the forest, as its definition in `link_key` and `plain_run` says, or a refusal with its
-//!   cause; where it refuses, the caller's links, places and room stay as they were.
+//!   cause; where it refuses, the caller's links, places, labels and room stay as they were.
 //! - Nothing is written past what a caller gave.
 //!
-//! Where to start a change: a call's meaning, `specs/Links`, `specs/Places` and `specs/Texts`; a refusal, its code and
-//! its text, `specs/Refusals`, then `refusals`, and the header; what C sees change its meaning, `VERSION` too.
+//! Where to start a change: a call's meaning, `specs/Links`, `Places`, `Labels` and `Texts`; a refusal, its code and its
+//! text, `specs/Refusals`, then `refusals`, and the header; what C sees change its meaning, `VERSION` too.
 #![tactic(auto)]
 
 ghost use Rattle.std.specs.Prelude.{◌≡◌};
@@ -25,6 +26,7 @@ mod faults;
 mod forests;
 mod given;
 mod index;
+mod labels;
 mod places;
 mod refusals;
 mod room;
@@ -34,6 +36,7 @@ mod totals;
 pub use faults::{Fault, boruvka_fault_text};
 pub use forests::boruvka_forest;
 pub use given::GivenLink;
+pub use labels::boruvka_labels_in;
 pub use places::boruvka_places_in;
 pub use refusals::Refusal;
 pub use texts::boruvka_forest_text;

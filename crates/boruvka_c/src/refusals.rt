@@ -24,6 +24,8 @@ pub enum Refusal {
     LengthsDiffer,
     /// The forest has more links than there is room for places.
     TooFewPlaces,
+    /// Links close a cycle: one of them is a loop, stands twice, or joins what others join.
+    Cycle,
 }
 
 // The code of what is wrong with a line.
@@ -78,6 +80,7 @@ impl Refusal {
             Refusal::Line(kind) => code_of_line(kind),
             Refusal::LengthsDiffer => -17,
             Refusal::TooFewPlaces => -18,
+            Refusal::Cycle => -19,
         }
     }
 
@@ -104,6 +107,7 @@ impl Refusal {
             -16 => Refusal::Line(GrKind::MissingArcs),
             -17 => Refusal::LengthsDiffer,
             -18 => Refusal::TooFewPlaces,
+            -19 => Refusal::Cycle,
             _ => return None,
         })
     }
@@ -121,6 +125,7 @@ impl Refusal {
             Refusal::Line(kind) => text_of_line(kind),
             Refusal::LengthsDiffer => b"lengths differ",
             Refusal::TooFewPlaces => b"too few places",
+            Refusal::Cycle => b"a cycle",
         }
     }
 }

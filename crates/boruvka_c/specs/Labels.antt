@@ -1,0 +1,40 @@
+-- Labels of vertices by the components that links in the caller's memory join.
+use Rattle.std.specs.Prelude.{◌≡◌, ◌≢◌, ℕ, ℤ, ◌<◌, ◌≤◌, List, length, All, Contains}
+use Rattle.limits.specs.declared.TheConstants.{MAX_ARCS, MAX_VERTICES}
+use Rattle.links.specs.Link.{AreLinksOf}
+use Rattle.links.specs.declared.links.Link.{Link}
+use Rattle.link_key.specs.Components.{IsAcyclic, AreLeastVertices}
+use Rattle.boruvka_c.specs.Links.{AreRight, HaveEnds, arcs_of}
+use Rattle.boruvka_c.specs.declared.given.GivenLink.{GivenLink}
+use Rattle.boruvka_c.specs.declared.refusals.Refusal.{Refusal}
+use Rattle.boruvka_c.specs.declared.refusals.Refusal.TheVariants.{NoMemory, BadEnd, TooManyVertices, TooManyLinks, Cycle}
+use Rattle.boruvka_c.specs.Refusals.{code_of}
+
+-- the ends of each link differ
+abbrev pub HaveNoLoop : List GivenLink → Type 0
+HaveNoLoop given = All (λ l. l.low ≢ l.high) given
+
+-- links that close no cycle: none is a loop, and none is given twice
+pub record CloseNoCycle (given : List GivenLink) : Type 0 where
+  pub no_loop : HaveNoLoop given
+  pub links : List Link
+  pub are_links : AreLinksOf (arcs_of given) links
+  pub acyclic : IsAcyclic links
+
+-- each of the vertices 1 to n is labelled by the least of those that the links join with it
+pub record AreLabelsBy (n : ℕ) (given : List GivenLink) (label : List ℕ) : Type 0 where
+  pub no_cycle : CloseNoCycle given
+  pub least : AreLeastVertices n (Contains no_cycle.links) label
+
+-- why vertices aren't labelled: the first of these causes, or want of memory if none of the first three is
+abbrev pub IsLabelsRefusal : ℕ → List GivenLink → Refusal → Type 0
+IsLabelsRefusal n given TooManyVertices = MAX_VERTICES < n
+IsLabelsRefusal n given TooManyLinks = (n ≤ MAX_VERTICES) × (MAX_ARCS < length given)
+IsLabelsRefusal n given BadEnd = (n ≤ MAX_VERTICES) × (length given ≤ MAX_ARCS) × ¬ (HaveEnds n given)
+IsLabelsRefusal n given NoMemory = AreRight n given
+IsLabelsRefusal n given Cycle = AreRight n given × ¬ (CloseNoCycle given)
+IsLabelsRefusal n given other = ⊥
+
+-- the answer is the code of why they aren't
+abbrev pub RefusesLabels : ℕ → List GivenLink → ℤ → Type 0
+RefusesLabels n given answer = (why : Refusal) × (answer ≡ code_of why) × IsLabelsRefusal n given why
