@@ -96,6 +96,26 @@ def the_examples_of_other_languages(room):
 
 
 @case
+def calls_over_spans(room):
+    archive, _ = libraries()
+    compilers = [it for it in ("g++", "clang++") if shutil.which(it)]
+    if not compilers:
+        raise Skipped("no g++ or clang++ is there")
+    words = ["-pedantic", "-Wall", "-Wextra", "-Werror", INCLUDE]
+    for it in compilers:
+        if run([it, "-std=c++20", "-fsyntax-only", "-x", "c++", "-"], b"#include <span>\n")[0]:
+            raise Skipped(f"{it} has no C++20")
+        expect(run([it, "-std=c++20", *words, "-o", f"{room}/of_spans", f"{ROOT}/examples/embed/forest.cpp", archive]), 0, b"", b"")
+        expect(run([f"{room}/of_spans"]), 0, SMALL_FOREST, b"")
+        modes = [["-std=c++20"]]
+        if run([it, "-std=c++23", "-fsyntax-only", "-x", "c++", "-"], b"#include <expected>\nstd::expected<int, int> one = 1;\n")[0] == 0:
+            modes.append(["-std=c++23", "-DBORUVKA_EXPECTED"])
+        for mode in modes:
+            expect(run([it, *mode, *words, "-o", f"{room}/spans", f"{ROOT}/tests/cases/embedding.cpp", archive]), 0, b"", b"")
+            expect(run([f"{room}/spans"]), 0, b"", b"")
+
+
+@case
 def lists_and_texts_have_the_programs_forests(room):
     expect(run([caller(room), "list"], listed(SMALL_NET)), 0, SMALL_FOREST, b"")
     expect_text(room, SMALL_NET, SMALL_FOREST)

@@ -1,0 +1,88 @@
+/* SPDX-License-Identifier: MIT OR Apache-2.0 */
+/* boruvka.hpp: the calls of boruvka.h over spans, for C++20.
+ *
+ * A refusal is thrown as boruvka::refused; with BORUVKA_EXPECTED defined, and C++23, it is answered in a std::expected.
+ * What boruvka.h asks of pointers and lengths is seen to here; that no other thread touches a span meanwhile isn't. */
+#ifndef BORUVKA_HPP
+#define BORUVKA_HPP
+
+#include <algorithm>
+#include <cstdint>
+#include <span>
+#include <stdexcept>
+#include <string>
+#include <type_traits>
+#include <vector>
+#ifdef BORUVKA_EXPECTED
+#include <expected>
+#endif
+
+#include "boruvka.h"
+
+namespace boruvka {
+
+using link = boruvka_link;
+
+/* Why there is no answer: an enum boruvka_refusal, and its text. */
+struct refused : std::runtime_error {
+    std::int64_t why;
+
+    explicit refused(std::int64_t code) : std::runtime_error(text_of(code)), why(code) {}
+
+    static std::string text_of(std::int64_t code) {
+        char text[64];
+        return std::string(text, std::min(boruvka_fault_text(code, text, sizeof text), sizeof text - 1));
+    }
+};
+
+#ifdef BORUVKA_EXPECTED
+template <class T> using answer = std::expected<T, refused>;
+template <class T> answer<T> refuse(std::int64_t code) { return std::unexpected(refused(code)); }
+#else
+template <class T> using answer = T;
+template <class T> T refuse(std::int64_t code) { throw refused(code); }
+#endif
+
+/* An empty span may have a null pointer, which no call takes. */
+template <class T> T *first_of(std::span<T> all) {
+    static std::remove_const_t<T> none{};
+    return all.empty() ? &none : all.data();
+}
+
+/* The minimum spanning forest of links between the vertices 1 to n, which stands first among them then. */
+inline answer<std::span<link>> forest(std::uint32_t n, std::span<link> links) {
+    const std::int64_t count = boruvka_forest(n, first_of(links), links.size());
+    if (count < 0) return refuse<std::span<link>>(count);
+    return links.first(static_cast<std::size_t>(count));
+}
+
+/* The places of its links among the arcs from u[i] to v[i] of weight w[i], between the vertices base to base + n - 1. */
+inline answer<std::vector<std::uint32_t>> places(std::uint32_t n, std::uint32_t base, std::span<const std::uint32_t> u,
+                                                 std::span<const std::uint32_t> v, std::span<const std::int64_t> w) {
+    std::vector<std::uint32_t> found(std::min<std::size_t>(u.size(), n > 0 ? n - 1 : 0));
+    const std::int64_t count = boruvka_places_in(n, base, first_of(u), u.size(), first_of(v), v.size(), first_of(w), w.size(),
+                                                 first_of(std::span(found)), found.size());
+    if (count < 0) return refuse<std::vector<std::uint32_t>>(count);
+    found.resize(static_cast<std::size_t>(count));
+    return found;
+}
+
+/* The least vertex of each vertex's component under links that close no cycle, that of vertex v at v - 1. */
+inline answer<std::vector<std::uint32_t>> labels(std::uint32_t n, std::span<const link> links) {
+    if (n > BORUVKA_MAX_VERTICES) return refuse<std::vector<std::uint32_t>>(BORUVKA_TOO_MANY_VERTICES);
+    std::vector<std::uint32_t> found(n);
+    const std::int64_t count = boruvka_labels(n, first_of(links), links.size(), first_of(std::span(found)));
+    if (count < 0) return refuse<std::vector<std::uint32_t>>(count);
+    return found;
+}
+
+/* The sum of the links' weights. */
+inline boruvka_sum total(std::span<const link> links) {
+    boruvka_sum sum;
+    boruvka_total(first_of(links), links.size(), &sum);
+    return sum;
+}
+
+} // namespace boruvka
+
+#endif
