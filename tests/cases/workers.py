@@ -212,14 +212,6 @@ def a_scan_has_no_more_threads_than_processors(room):
 
 
 @case
-def no_step_starts_more_threads_than_sixteen_processors(room):
-    # of so many vertices each step is by threads; each but the first thread is started
-    _, told = started_by(room, *drawn_graph(22, 2**17 + 1, 2**17), 0, 1, 16)
-    if not 2 <= told.count(b"a") < 16:
-        raise AssertionError(f"told {told!r}")
-
-
-@case
 def each_worker_that_is_asked_for_is_started(room):
     # each says one hello, and has a thread; another thread begins for each lane of a round but one
     for workers in [1, 3, 63, 64]:
