@@ -47,7 +47,7 @@ fn expect_put(rt: &impl Abort, alloc: Global, answer: &Answer, at_a_time: usize,
 
 #[test]
 fn answers_made_by_pieces(rt: HostRuntime) {
-    for count in [0, 1, 8_191, 8_192, 8_193, 20_000] {
+    for count in [0, 1, 8_191, 8_192, 8_193, 12_288, 20_000] {
         let (pairs, numbers) = answer_of(&rt, rt.alloc(), count);
         let bytes = frame_bytes(&rt, rt.alloc(), 4, numbers.as_slice());
         let answer = Answer {
@@ -81,7 +81,7 @@ fn expect_read(rt: &impl Abort, alloc: Global, count: u32) {
 
 #[test]
 fn answers_by_pieces(rt: HostRuntime) {
-    for count in [0, 1, 8_191, 8_192, 8_193, 20_000] {
+    for count in [0, 1, 8_191, 8_192, 8_193, 12_288, 20_000] {
         expect_read(&rt, rt.alloc(), count);
     }
 }

@@ -193,9 +193,15 @@ fn expect_read(
 // fills: the links of a shard, and the offers of an answer, here such as are refused then.
 #[test]
 fn a_list_keeps_no_room_that_it_does_not_fill(rt: HostRuntime) {
-    let shards = [(5_461, 1), (5_462, 3), (10_922, 2), (10_923, 4)];
+    let shards = [(5_461, 1), (5_462, 3), (8_191, 3), (10_922, 2), (10_923, 4)];
     expect_read(&rt, rt.alloc(), 2, &[0], &[1, 2, 5], &shards, None);
-    let answers = [(8_192, 1), (8_193, 3), (16_384, 2), (16_385, 4)];
+    let answers = [
+        (8_192, 1),
+        (8_193, 3),
+        (12_288, 3),
+        (16_384, 2),
+        (16_385, 4),
+    ];
     let bad = Some(FrameFault::BadField);
     expect_read(&rt, rt.alloc(), 4, &[1, 0], &[1, 2], &answers, bad);
 }
