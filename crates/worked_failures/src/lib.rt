@@ -9,9 +9,12 @@
 //!   texts             files that are read whole, in pieces and from a source; sinks that are made
 //!   frame_texts       frames that are read and written
 //!   workers           scans, what a worker hears, its sessions
+//!   asks_again        sessions that hear many asks
 //!   wire_asks         a worker in memory, and asks over a wire to it
 //!   rounds            the board of claims, the book of a round, the solver
+//!   lanes             rounds over lanes to workers
 //!   runs              whole runs
+//!   lost_lines        whole runs that go on without a worker that finds no memory
 //!   streams           a source and a sink, one of which fails at a byte
 //!   files, sessions   such streams, at each byte: of a run, and of a worker's session
 //! ```

@@ -1,7 +1,10 @@
+mod asks_again;
 mod files;
 mod frame_texts;
 mod in_turn;
+mod lanes;
 mod lists;
+mod lost_lines;
 mod rounds;
 mod runs;
 mod same;

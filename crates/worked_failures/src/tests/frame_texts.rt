@@ -38,6 +38,9 @@ const NEEDLESS: [u8; 29] = [
     6, 0, 0, 0, 24, 0, 0, 0, 0, 0, 0, 0, 1, 0, 0, 0, 1, 0, 0, 0, 2, 0, 0, 0, 0, 0, 0, 0, 5,
 ];
 
+// A shard of no links, as if one had a weight past 32 bits.
+const EMPTY_SHARD64: [u8; 13] = [6, 0, 0, 0, 8, 0, 0, 0, 0, 0, 0, 0, 0];
+
 // The ask of round 1 for it, each vertex a component by itself.
 pub(crate) const ASK: [u8; 29] = [
     3, 0, 0, 0, 24, 0, 0, 0, 1, 0, 0, 0, 0, 0, 0, 0, 3, 0, 0, 0, 1, 0, 0, 0, 2, 0, 0, 0, 3,
@@ -249,7 +252,8 @@ fn expect_refused(rt: &impl Abort, memory: Memory, bytes: &[u8], fault: FrameFau
     expect_same(rt, memory.live(), 0);
 }
 
-// A frame that is no lawful one is refused for its own reason, or for want of memory.
+// A frame that is no lawful one is refused for its own reason, or for want of memory: labels, a kind, a version, a worker,
+// components that descend, a code, and 64 bits that no weight needs; and frames that are torn.
 #[test]
 fn frames_that_are_refused(rt: HostRuntime) {
     let mut cut = ASK;
@@ -258,12 +262,23 @@ fn frames_that_are_refused(rt: HostRuntime) {
     kind[0] = 7;
     let mut version = HELLO;
     version[6] = 3;
-    let refused: [(&[u8], FrameFault); 6] = [
+    let mut worker = HELLO;
+    worker[10] = 64;
+    let mut order = ANSWER;
+    order[20] = 2;
+    order[28] = 1;
+    let mut code = NO_MEMORY;
+    code[13] = 4;
+    let refused: [(&[u8], FrameFault); 10] = [
         (&cut, FrameFault::BadField),
         (&ASK[..20], FrameFault::Torn),
         (&kind, FrameFault::BadKind),
         (&version, FrameFault::BadVersion),
+        (&worker, FrameFault::BadField),
+        (&order, FrameFault::BadField),
+        (&code, FrameFault::BadField),
         (&NEEDLESS, FrameFault::BadField),
+        (&EMPTY_SHARD64, FrameFault::BadField),
         (&SHARD64[..60], FrameFault::Torn),
     ];
     for (bytes, fault) in refused {

@@ -76,6 +76,30 @@ fn expect_claims(rt: &impl Abort, memory: &Memory) -> Result<(), AllocError> {
     Ok(())
 }
 
+// One seat and one shard: what the seat gave back it claims again.
+fn expect_claims_of_one(rt: &impl Abort, memory: &Memory) -> Result<(), AllocError> {
+    let (board, mut seats) = match Board::open(memory, 1, 1) {
+        Ok(it) => it,
+        Err(fault) => {
+            expect_same(rt, fault, BoardFault::Memory);
+            return Err(AllocError);
+        }
+    };
+    let first = claim(&board, &mut seats, 0, 0);
+    let held = claim(&board, &mut seats, 0, 0);
+    let gave = give_back(&board, &mut seats, 0, 0);
+    let last = claim(&board, &mut seats, 0, 0);
+    let claims = (first, held, last);
+    expect_same(rt, claims, (Claim::Won, Claim::Held(0), Claim::Won));
+    let owners = or_refused(rt, board.close(seats), BoardFault::Memory)?;
+    expect_same(
+        rt,
+        (gave, owners.of(0), owners.of(1)),
+        (true, Some(0), None),
+    );
+    Ok(())
+}
+
 // A book of the first round over the cut.
 fn opened<'a, 'b>(
     rt: &impl Abort,
@@ -412,6 +436,11 @@ fn boards_books_and_solvers(rt: HostRuntime) {
         &rt,
         rt.alloc(),
         |memory: &Memory| -> Result<(), AllocError> { expect_claims(&rt, memory) },
+    );
+    expect_each(
+        &rt,
+        rt.alloc(),
+        |memory: &Memory| -> Result<(), AllocError> { expect_claims_of_one(&rt, memory) },
     );
     for (call, graph, count) in CALLS {
         expect_each(

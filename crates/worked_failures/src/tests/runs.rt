@@ -1,5 +1,5 @@
-// Whole runs over the small net, also with weights past 32 bits. (Rounds over lanes come with the run over workers: lanes
-// in memory that is borrowed are refused by the borrow checker today.)
+// Whole runs over the small net, also with weights past 32 bits, and over the triangle where stored bytes stand in place
+// of a worker.
 ghost use Rattle.std.specs.Prelude.{◌≤◌, length, All, IfOk};
 ghost use Rattle.ports.specs.EngineLines.{line_of};
 ghost use Rattle.wires.specs.Lines.{HasRoom};
@@ -11,16 +11,16 @@ use byte_streams::{FusedSink, Sink, Source};
 use forest_run::{Cutting, Report, RunFault, run_lines, run_plain};
 use gr_text::ReadFault;
 use limits::MAX_WORKERS;
-use link_key::CutFault;
+use link_key::{CutFault, Link};
 use ports::{EngineLine, Line, ScriptLine};
 use std::alloc::{AllocError, Allocator, Global};
 use std::process::Abort;
 use std::sync::Wait;
 use std::thread::Threads;
-use worked_graphs::{SMALL_NET, WIDE_WEIGHTS, Worked};
+use worked_graphs::{EQUAL_WEIGHTS, SMALL_NET, WIDE_WEIGHTS, Worked};
 
 // Whether a run that ended so wanted memory.
-fn wants_memory(fault: RunFault) -> bool {
+pub(crate) fn wants_memory(fault: RunFault) -> bool {
     fault == RunFault::Memory
         || fault == RunFault::Read(ReadFault::Memory)
         || fault == RunFault::Cut(CutFault::Memory)
@@ -135,11 +135,72 @@ fn expect_over_an_old_worker<R: Threads + Wait + Sync + Abort>(
     Ok(())
 }
 
+/// Stored bytes in place of a worker of the triangle in one shard: an answer of another round, which is refused; one that
+/// hides all links; and two of one link each, where three vertices can't have a second merging round.
+#[derive(Clone, Copy)]
+enum Script {
+    Stale,
+    Hiding,
+    PastBound,
+}
+
+// Its bytes, behind the worker's hello.
+fn answers_of(script: Script) -> &'static [u8] {
+    match script {
+        Script::Stale => &[4, 0, 0, 0, 12, 0, 0, 0, 0, 0, 0, 0, 0, 0, 0, 0, 0],
+        Script::Hiding => &[4, 0, 0, 0, 12, 0, 0, 0, 1, 0, 0, 0, 0, 0, 0, 0, 0],
+        Script::PastBound => &[
+            4, 0, 0, 0, 20, 0, 0, 0, 1, 0, 0, 0, 0, 0, 0, 0, 1, 0, 0, 0, 1, 0, 0, 0, 0, 4, 0, 0, 0,
+            20, 0, 0, 0, 2, 0, 0, 0, 0, 0, 0, 0, 1, 0, 0, 0, 3, 0, 0, 0, 1,
+        ],
+    }
+}
+
+// The fault of a run over them, if it ends by one.
+fn fault_of(script: Script) -> Option<RunFault> {
+    match script {
+        Script::Stale => None,
+        Script::Hiding => match Link::of_arc(1, 2, 5) {
+            Some(link) => Some(RunFault::Missed { link }),
+            None => None,
+        },
+        Script::PastBound => Some(RunFault::Rounds { round: 2 }),
+    }
+}
+
+// Over such bytes. A run whose wire wants memory, or whose answer is refused, goes on without the line.
+fn expect_over_a_script<R: Threads + Wait + Sync + Abort>(
+    rt: &R,
+    alloc: Global,
+    memory: &Memory,
+    script: Script,
+) -> Result<(), AllocError> {
+    let mut bytes = FIRST_HELLO.to_vec(memory)?;
+    bytes.extend_from_slice(answers_of(script))?;
+    let mut lines = Vec::new(memory);
+    lines.push(ScriptLine::new(bytes))?;
+    let mut source = EQUAL_WEIGHTS.file;
+    let mut sink = FusedSink::new(alloc, 100, 7).expect(rt, "memory");
+    let (ended, _) = run_over(rt, lines, 1, &mut source, &mut sink);
+    let expected = fault_of(script);
+    if let Err(fault) = ended {
+        if expected == Some(fault) {
+            expect_same(rt, sink.held().is_empty(), true);
+            return Ok(());
+        }
+    }
+    let report = expect_ended(rt, memory, &EQUAL_WEIGHTS, ended, sink.held())?;
+    let is_lost = expected.is_none() || was_refused(memory);
+    expect_same(rt, (report.closed, is_lost), (1, true));
+    Ok(())
+}
+
 #[derive(Clone, Copy)]
 enum Call {
     RunPlain(Worked),
     RunLines(Worked),
     OldWorker,
+    Script(Script),
 }
 
 #[test]
@@ -150,6 +211,9 @@ fn whole_runs(rt: HostRuntime) {
         Call::RunLines(SMALL_NET),
         Call::RunLines(WIDE_WEIGHTS),
         Call::OldWorker,
+        Call::Script(Script::Stale),
+        Call::Script(Script::Hiding),
+        Call::Script(Script::PastBound),
     ] {
         expect_any(
             &rt,
@@ -159,6 +223,7 @@ fn whole_runs(rt: HostRuntime) {
                     Call::RunPlain(graph) => expect_plain(&rt, rt.alloc(), memory, graph),
                     Call::RunLines(graph) => expect_over_workers(&rt, rt.alloc(), memory, graph),
                     Call::OldWorker => expect_over_an_old_worker(&rt, rt.alloc(), memory),
+                    Call::Script(script) => expect_over_a_script(&rt, rt.alloc(), memory, script),
                 }
             },
         );

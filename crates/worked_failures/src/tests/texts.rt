@@ -153,3 +153,48 @@ fn expect_ten_bytes(
     expect_same(rt, memory.asked(), asked);
     Ok(())
 }
+
+// A text whose last line has no end: an arc's link finds its first room once the text is known to end there, and before
+// that where the line has its end.
+const LAST_LINES: [(&[u8], Result<(), ReadFault>); 2] = [
+    (b"p sp 2 1\na 1 2 3", Ok(())),
+    (b"p sp 2 1\na 1 2 3\n", Err(ReadFault::Memory)),
+];
+
+// The text is read as a graph of this link.
+fn expect_link(rt: &impl Abort, read: Result<Graph<&Memory>, ReadFault>) -> Result<(), AllocError> {
+    let graph = or_refused(rt, read, ReadFault::Memory)?;
+    let link = Link::of_arc(1, 2, 3).expect(rt, "a link");
+    expect_same(rt, graph.links(), [link].as_slice());
+    Ok(())
+}
+
+// The reader is fed the text by these pieces.
+fn read_pieces<'a>(memory: &'a Memory, pieces: &[&[u8]]) -> Result<Graph<&'a Memory>, ReadFault> {
+    let mut reader = GrReader::new(memory, MAX_BYTES);
+    for piece in pieces {
+        reader.feed(piece)?;
+    }
+    reader.finish()
+}
+
+#[test]
+fn a_last_line_without_its_end(rt: HostRuntime) {
+    for (text, fed) in LAST_LINES {
+        expect_each(
+            &rt,
+            rt.alloc(),
+            |memory: &Memory| -> Result<(), AllocError> {
+                let mut source = text;
+                expect_link(&rt, parse(memory, text))?;
+                expect_link(&rt, read_graph(memory, &mut source))?;
+                let (first, second) = text.split_at(text.len() / 2);
+                expect_link(&rt, read_pieces(memory, &[first, second]))
+            },
+        );
+        let memory = Refusing::new(rt.alloc(), Refusals::since(1));
+        let mut reader = GrReader::new(&memory, MAX_BYTES);
+        expect_same(&rt, reader.feed(text), fed);
+        expect_same(&rt, reader.finish().err(), Some(ReadFault::Memory));
+    }
+}

@@ -10,7 +10,7 @@ use std::alloc::{AllocError, Global};
 use std::process::Abort;
 use std::thread::Threads;
 use worked_graphs::{EQUAL_WEIGHTS, Row, have_labels};
-use worker_engine::{Engine, ServeFault, Served, scan, scan_par, serve_upto};
+use worker_engine::{Engine, ServeFault, Served, scan, scan_par, serve, serve_upto};
 
 #[derive(Clone, Copy)]
 enum By {
@@ -159,11 +159,12 @@ fn scans_and_engines(rt: HostRuntime) {
     }
 }
 
-/// A session over a shard and the ask, at its limit of frames: how it ends, and what it writes behind its hello.
+/// A session over a shard and the ask, at its limit of frames, if it has one: how it ends, and what it writes behind its
+/// hello.
 #[derive(Clone, Copy)]
 struct Session {
     shard: &'static [u8],
-    limit: u64,
+    limit: Option<u64>,
     end: Result<Served, ServeFault>,
     answer: &'static [u8],
 }
@@ -178,7 +179,10 @@ fn expect_session(
     let heard = joined(rt, alloc, session.shard, &ASK);
     let mut source = heard.as_slice();
     let mut sink = Vec::new(alloc);
-    let end = serve_upto(rt, memory, 0, &mut source, &mut sink, session.limit);
+    let end = match session.limit {
+        Some(limit) => serve_upto(rt, memory, 0, &mut source, &mut sink, limit),
+        None => serve(rt, memory, 0, &mut source, &mut sink),
+    };
     let (hello, replied) = sink.split_at(sink.len().min(HELLO.len()));
     if end == session.end && replied == session.answer {
         expect_same(rt, hello, HELLO.as_slice());
@@ -203,7 +207,7 @@ fn expect_session(
     Err(AllocError)
 }
 
-// Without a limit that is reached, and with one of 1 and of 2 frames, over either triangle.
+// Without a limit, with one that isn't reached, and with one of 1 and of 2 frames, over either triangle.
 #[test]
 fn sessions_over_the_triangle(rt: HostRuntime) {
     let served = Ok(Served {
@@ -212,11 +216,12 @@ fn sessions_over_the_triangle(rt: HostRuntime) {
         faults: 0,
     });
     let too_many = Err(ServeFault::TooMany);
-    let limits: [(u64, Result<Served, ServeFault>, &[u8]); 4] = [
-        (u64::MAX, served, &ANSWER),
-        (3, served, &ANSWER),
-        (2, too_many, &ANSWER),
-        (1, too_many, &[]),
+    let limits: [(Option<u64>, Result<Served, ServeFault>, &[u8]); 5] = [
+        (None, served, &ANSWER),
+        (Some(u64::MAX), served, &ANSWER),
+        (Some(3), served, &ANSWER),
+        (Some(2), too_many, &ANSWER),
+        (Some(1), too_many, &[]),
     ];
     for shard in [SHARD.as_slice(), &SHARD64] {
         for (limit, end, answer) in limits {
