@@ -17,7 +17,8 @@
  * Where the program ends and a thread that it started wasn't joined, a 'J' goes there; with JOINED a 'j' too, for each
  * that was. STARTED is how many of the threads that the first one starts are workers, as its first ones are: a 'w' goes
  * there for each thread that one of them started, or one that it started, an 's' for each other thread that is started,
- * and at the end an 'a' for each of those that lived at once, at the most. With GREETED an 'H' for each send of a hello.
+ * and at the end an 'a' for each of those that weren't joined yet at once, at the most. With GREETED an 'H' for each send
+ * of a hello.
  * Where words for the user (a forest, a report, a fault) are written to a socket, or a socket is read as a file, a
  * 'T' goes to TOLD. It takes no memory itself. */
 #define _GNU_SOURCE
@@ -42,7 +43,7 @@
 
 static const char *chosen = "";
 static unsigned long first, last, chosen_error;
-static atomic_ulong counted, started, joined, most_alive;
+static atomic_ulong counted, started, joined, most_unjoined;
 static int told = -1, is_short, is_counted, tells_started, tells_hellos, processors;
 static _Thread_local int is_hung_up;
 
@@ -292,10 +293,10 @@ long sysconf(int name) {
     return processors && name == _SC_NPROCESSORS_ONLN ? processors : REAL(sysconf)(name);
 }
 
-/* how many threads live, where this one was started now */
-static void count_alive(void) {
-    unsigned long alive = started - joined, most = most_alive;
-    while (alive > most && !atomic_compare_exchange_weak(&most_alive, &most, alive)) {
+/* how many threads wait to be joined, where this one was started now */
+static void count_unjoined(void) {
+    unsigned long unjoined = started - joined, most = most_unjoined;
+    while (unjoined > most && !atomic_compare_exchange_weak(&most_unjoined, &most, unjoined)) {
     }
 }
 
@@ -322,7 +323,7 @@ int pthread_create(pthread_t *made, const pthread_attr_t *how_made, void *(*run)
     int answer = fails("thread", EAGAIN) ? errno : REAL(pthread_create)(made, how_made, begin_thread, it);
     if (!answer) {
         started++;
-        count_alive();
+        count_unjoined();
         if (tells_started) {
             tell(line && line <= workers ? "w" : "s");
         }
@@ -340,7 +341,7 @@ static void tell_threads(void) {
     for (unsigned long at = 0; getenv("JOINED") && at < joined; at++) {
         tell("j");
     }
-    for (unsigned long at = 0; tells_started && at < most_alive; at++) {
+    for (unsigned long at = 0; tells_started && at < most_unjoined; at++) {
         tell("a");
     }
     if (joined != started) {
