@@ -1,0 +1,71 @@
+"""The calls of libboruvka over numpy arrays, by ctypes.
+
+It is the library that BORUVKA_LIBRARY names, or the one that the wheel put beside this file, or the one that the
+system's loader finds.
+"""
+
+from __future__ import annotations
+
+import ctypes
+import os
+
+import numpy as np
+from numpy.typing import NDArray
+
+MAX_VERTICES = 1 << 26
+MAX_LINKS = 1 << 30
+
+_VERSION = 1
+_NO_MEMORY = -1
+_NAME = f"libboruvka.so.{_VERSION}"
+_BESIDE = os.path.join(os.path.dirname(os.path.abspath(__file__)), _NAME)
+_ARRAY = (ctypes.c_void_p, ctypes.c_size_t)
+_CALLS = {
+    "boruvka_places_in": (ctypes.c_int64, [ctypes.c_uint32, ctypes.c_uint32, *_ARRAY, *_ARRAY, *_ARRAY, *_ARRAY]),
+    "boruvka_fault_text": (ctypes.c_size_t, [ctypes.c_int64, ctypes.c_char_p, ctypes.c_size_t]),
+}
+
+
+def _loaded() -> ctypes.CDLL:
+    path = os.environ.get("BORUVKA_LIBRARY") or (_BESIDE if os.path.exists(_BESIDE) else _NAME)
+    try:
+        library = ctypes.CDLL(path)
+        library.boruvka_version.restype = ctypes.c_uint32
+        if library.boruvka_version() != _VERSION:
+            raise ImportError(f"{path} has version {library.boruvka_version()} of the calls, and {_VERSION} is needed")
+        for name, (result, parameters) in _CALLS.items():
+            call = getattr(library, name)
+            call.restype, call.argtypes = result, parameters
+    except (OSError, AttributeError) as error:
+        raise ImportError(f"no libboruvka can be used: {error}; BORUVKA_LIBRARY may name one") from error
+    return library
+
+
+_library = _loaded()
+
+
+def places(n: int, u: NDArray[np.uint32], v: NDArray[np.uint32], w: NDArray[np.int64]) -> NDArray[np.uint32]:
+    """The places of the forest's links among the arcs between the vertices 0 to n - 1, in the order of their keys.
+
+    n is at most MAX_VERTICES; u, v and w have one length, at most MAX_LINKS. An end that is no vertex is a ValueError.
+    """
+    found = np.empty(min(len(w), max(n - 1, 0)), np.uint32)
+    count = _library.boruvka_places_in(n, 0, *_passed(u), *_passed(v), *_passed(w), *_passed(found))
+    return found[: _judged(count)]
+
+
+def _passed(array: np.ndarray) -> tuple[int, int]:
+    """An array as C takes it: its first byte, and how many elements it has."""
+    assert array.flags.c_contiguous and array.flags.aligned and array.dtype.isnative
+    return array.ctypes.data, len(array)
+
+
+def _judged(answer: int) -> int:
+    """The answer of a call, if it is no refusal."""
+    if answer >= 0:
+        return answer
+    if answer == _NO_MEMORY:
+        raise MemoryError("no memory for the forest")
+    text = ctypes.create_string_buffer(64)
+    _library.boruvka_fault_text(answer, text, len(text))
+    raise ValueError(f"libboruvka refuses it: {text.value.decode()}")

@@ -1,0 +1,352 @@
+"""Single linkage and clusters, out of minimum spanning forests.
+
+`spanning_tree` finds the tree of points, and `labels` cuts it into clusters. The edges of the tree, in ascending order,
+are the merges of single linkage, which `single_linkage` and `merges` list. Numpy is all that they need. If scipy is
+there, many points in two or three dimensions have their tree found in their Delaunay triangulation.
+"""
+
+from __future__ import annotations
+
+import operator
+import warnings
+from typing import SupportsIndex
+
+import numpy as np
+from numpy.typing import ArrayLike, NDArray
+
+from boruvka import _library
+from boruvka._forest import Forest, minimum_spanning_forest, vertices
+
+__all__ = ["labels", "merges", "single_linkage", "spanning_tree"]
+
+# the two ends of each of some edges
+Ends = tuple[NDArray[np.intp], NDArray[np.intp]]
+# up to so many points a dimension, all pairs are looked at sooner than a triangulation is made
+_FEW = 50
+
+
+def single_linkage(y: ArrayLike) -> NDArray[np.float64]:
+    """Cluster points by single linkage, as `scipy.cluster.hierarchy.linkage(y, "single")` does.
+
+    Parameters
+    ----------
+    y : array_like, shape (n, d) or (n (n - 1) / 2,)
+        Points, a row each, or the distances between all pairs: those of vertex 0 to 1, 2, .., then those of 1 to 2, ..
+
+    Returns
+    -------
+    ndarray of doubles, shape (n - 1, 4)
+        A linkage matrix that all of `scipy.cluster.hierarchy` takes. Row i merges the clusters Z[i, 0] < Z[i, 1] into
+        the cluster n + i. They are Z[i, 2] apart, and together have Z[i, 3] points.
+
+    Raises
+    ------
+    ValueError
+        If a coordinate or a distance isn't finite, a distance is negative, there is no point, no n has so many pairs, or
+        there are more than 2^30 pairs to look at.
+    TypeError
+        If coordinates or distances are no numbers.
+
+    Notes
+    -----
+    The distances are scipy's, those of points but for rounding. Of equal distances another may be merged first.
+
+    Cost: that of `spanning_tree`, and a Python loop of about 1 microsecond a merge.
+
+    Examples
+    --------
+    >>> from boruvka.linkage import single_linkage
+    >>> single_linkage([[0.0], [1.0], [5.0], [7.0]])
+    array([[0., 1., 1., 2.],
+           [2., 3., 2., 2.],
+           [4., 5., 4., 4.]])
+    """
+    tree = spanning_tree(y)
+    return merges(len(tree.w) + 1, tree)
+
+
+def spanning_tree(y: ArrayLike) -> Forest:
+    """Find the minimum spanning tree of points, by their Euclidean distances, or of given distances.
+
+    Parameters
+    ----------
+    y : array_like, shape (n, d) or (n (n - 1) / 2,)
+        Points or distances, as `single_linkage` takes them.
+
+    Returns
+    -------
+    Forest
+        n - 1 edges between the vertices 0 to n - 1, in ascending order of their lengths. `index` is the place of each
+        among the distances between all pairs.
+
+    Raises
+    ------
+    ValueError, TypeError
+        As `single_linkage` does.
+
+    Notes
+    -----
+    Cost: time about n log n for points in one dimension, and in two or three if scipy is there: their tree is found
+    among the edges of their Delaunay triangulation. Others, and distances, take all n (n - 1) / 2 pairs: about 40 bytes
+    and 100 nanoseconds a pair. For distances, scipy's own linkage is several times as fast.
+
+    Examples
+    --------
+    >>> from boruvka.linkage import spanning_tree
+    >>> spanning_tree([[0, 0], [3, 4], [0, 1]]).w
+    array([1.        , 4.24264069])
+    """
+    given = _numbers(y)
+    if given.ndim == 1:
+        return _of_distances(given)
+    if given.ndim != 2 or not len(given):
+        raise ValueError(f"y has the shape {given.shape}: points are rows, and distances have one dimension")
+    if not np.isfinite(given).all():
+        raise ValueError("a coordinate isn't finite")
+    with np.errstate(over="ignore"):
+        if not np.isfinite(_lengths(np.ptp(given, axis=0)[np.newaxis])).all():
+            raise ValueError("points are so far apart that doubles don't hold their distances")
+    if _are_distances(given):
+        warnings.warn("y is square, symmetric and 0 on its diagonal: its rows are taken as points, not as distances", stacklevel=2)
+    return _of_points(given)
+
+
+def merges(n: SupportsIndex, forest: Forest) -> NDArray[np.float64]:
+    """Turn a spanning tree into the linkage matrix of its merges.
+
+    Parameters
+    ----------
+    n : int
+        The number of vertices.
+    forest : Forest
+        Their n - 1 edges, as `spanning_tree` or `minimum_spanning_forest` answers them.
+
+    Returns
+    -------
+    ndarray of doubles, shape (n - 1, 4)
+        The matrix that `single_linkage` answers.
+
+    Raises
+    ------
+    ValueError
+        If the edges don't connect all n vertices.
+    TypeError
+        If n is no whole number, or `forest` is no Forest.
+
+    Examples
+    --------
+    >>> from boruvka import minimum_spanning_forest
+    >>> from boruvka.linkage import merges
+    >>> merges(3, minimum_spanning_forest(3, [0, 1, 2], [1, 2, 0], [4, 3, 9]))
+    array([[1., 2., 3., 2.],
+           [0., 3., 4., 3.]])
+    """
+    count = operator.index(n)
+    _expect_forest(forest)
+    if len(forest.w) != count - 1:
+        raise ValueError(f"{len(forest.w)} edges don't make one tree of {count} vertices")
+    u, v = vertices(count, forest.u, "forest.u"), vertices(count, forest.v, "forest.v")
+    # the cluster that took a cluster up, or itself
+    taker, sizes = list(range(2 * count - 1)), [1] * count
+    lower, higher = [], []
+    for one, other in zip(u.tolist(), v.tolist()):
+        one, other = _newest(taker, one), _newest(taker, other)
+        if one == other:
+            raise ValueError("the edges close a cycle")
+        taker[one] = taker[other] = len(sizes)
+        sizes.append(sizes[one] + sizes[other])
+        lower.append(min(one, other))
+        higher.append(max(one, other))
+    return np.column_stack([np.array(it, np.float64) for it in (lower, higher, forest.w, sizes[count:])])
+
+
+def labels(
+    n: SupportsIndex, forest: Forest, *, clusters: SupportsIndex | None = None, height: float | None = None
+) -> NDArray[np.intp]:
+    """Cut a forest into clusters: leave its heaviest edges out, and number what still hangs together.
+
+    Parameters
+    ----------
+    n : int
+        The number of vertices.
+    forest : Forest
+        Their forest, as `spanning_tree` or `minimum_spanning_forest` answers it.
+    clusters : int, optional
+        How many clusters there shall be: from the number of the forest's components to n.
+    height : float, optional
+        The weight up to which edges count. Give either this or `clusters`.
+
+    Returns
+    -------
+    ndarray of intp, shape (n,)
+        The number of the cluster of each vertex, from 0. Clusters are numbered by their least vertices.
+
+    Raises
+    ------
+    ValueError
+        If there can't be so many clusters, the height is NaN, or the forest closes a cycle or has other vertices.
+    TypeError
+        If not just one of `clusters` and `height` is given, n or `clusters` is no whole number, or `forest` is no Forest.
+
+    Notes
+    -----
+    How many clusters there are is often seen in the last weights, `forest.w[-10:]`: where they leap, clusters lie apart.
+    Of equally heavy edges `clusters` leaves out those that come last in the forest. `height` treats them alike.
+
+    Cost: time about that of going over the edges ten times; 40 bytes an edge and 16 a vertex.
+
+    Examples
+    --------
+    >>> from boruvka.linkage import labels, spanning_tree
+    >>> tree = spanning_tree([[0, 0], [9, 9], [0, 1], [9, 8]])
+    >>> labels(4, tree, clusters=2)
+    array([0, 1, 0, 1])
+    >>> labels(4, tree, height=0.5)
+    array([0, 1, 2, 3])
+    """
+    count = operator.index(n)
+    if not 0 <= count <= _library.MAX_VERTICES:
+        raise ValueError(f"n is {count}, and has to be from 0 to 2^26")
+    _expect_forest(forest)
+    if clusters is not None and height is None:
+        kept = count - operator.index(clusters)
+    elif height is not None and clusters is None:
+        kept = _up_to(forest, height)
+    else:
+        raise TypeError("give either `clusters` or `height`")
+    if not 0 <= kept <= len(forest.w):
+        raise ValueError(f"{clusters} clusters can't be cut: there may be {count - len(forest.w)} to {count}")
+    u, v = vertices(count, forest.u[:kept], "forest.u"), vertices(count, forest.v[:kept], "forest.v")
+    least = _least_vertices(count, u, v)
+    is_first = least == np.arange(count)
+    if is_first.sum() != count - kept:
+        raise ValueError("the edges close a cycle")
+    return (np.cumsum(is_first) - 1)[least]
+
+
+def _expect_forest(given: object) -> None:
+    if not isinstance(given, Forest):
+        raise TypeError(f"a {type(given).__name__} is no Forest, as `spanning_tree` or `minimum_spanning_forest` answers it")
+
+
+def _up_to(forest: Forest, height: float) -> int:
+    """How many edges weigh at most so much."""
+    if np.isnan(height):
+        raise ValueError("the height is NaN")
+    return int(np.searchsorted(forest.w, height, side="right"))
+
+
+def _least_vertices(n: int, u: NDArray[np.uint32], v: NDArray[np.uint32]) -> NDArray[np.intp]:
+    """The least vertex of the component of each vertex, under these edges."""
+    least = np.arange(n)
+    while len(u):
+        one, other = least[u], least[v]
+        # each label is one of a lower vertex, or its own vertex, and the greater of two takes over the lesser
+        np.minimum.at(least, np.maximum(one, other), np.minimum(one, other))
+        while (least[least] != least).any():
+            least = least[least]
+        apart = least[u] != least[v]
+        u, v = u[apart], v[apart]
+    return least
+
+
+def _newest(taker: list[int], cluster: int) -> int:
+    """The cluster that holds this one and was taken up by no other; the way there is halved."""
+    while taker[cluster] != cluster:
+        taker[cluster] = cluster = taker[taker[cluster]]
+    return cluster
+
+
+def _numbers(y: ArrayLike) -> NDArray[np.float64]:
+    given = np.asarray(y)
+    if given.dtype.kind not in "biuf":
+        raise TypeError(f"y has the dtype {given.dtype}, and has to be real numbers")
+    return given.astype(np.float64, copy=False)
+
+
+def _are_distances(points: NDArray[np.float64]) -> bool:
+    """Whether it looks like a square matrix of distances, which is a mistake that is easily made."""
+    return points.shape[0] == points.shape[1] > 1 and not points.diagonal().any() and bool((points == points.T).all())
+
+
+def _of_distances(distances: NDArray[np.float64]) -> Forest:
+    n = (1 + round((1 + 8 * len(distances)) ** 0.5)) // 2
+    if n * (n - 1) // 2 != len(distances):
+        raise ValueError(f"{len(distances)} distances aren't those between all pairs of any number of points")
+    if not np.isfinite(distances).all() or (distances < 0).any():
+        raise ValueError("a distance isn't finite, or is negative")
+    return minimum_spanning_forest(n, *_pairs(n), distances)
+
+
+def _of_points(points: NDArray[np.float64]) -> Forest:
+    n, dimensions = points.shape
+    near = _neighbours(points) if dimensions in (1, 2, 3) and n > _FEW * dimensions else None
+    if near is None:
+        return minimum_spanning_forest(n, *_pairs(n), _all_distances(points))
+    u, v = near
+    tree = minimum_spanning_forest(n, u, v, _lengths(points[u] - points[v]))
+    return tree._replace(index=_place_of_pair(n, tree.u, tree.v))
+
+
+def _lengths(steps: NDArray[np.float64]) -> NDArray[np.float64]:
+    return np.sqrt(np.einsum("ij,ij->i", steps, steps))
+
+
+def _all_distances(points: NDArray[np.float64]) -> NDArray[np.float64]:
+    """The distances between all pairs, in the order of `_pairs`."""
+    return np.concatenate([np.empty(0), *(_lengths(points[i + 1 :] - points[i]) for i in range(len(points) - 1))])
+
+
+def _place_of_pair(n: int, u: NDArray[np.intp], v: NDArray[np.intp]) -> NDArray[np.intp]:
+    """Where the distance of u < v stands among those between all pairs."""
+    return u * n - u * (u + 1) // 2 + v - u - 1
+
+
+def _pairs(n: int) -> tuple[NDArray[np.int32], NDArray[np.int32]]:
+    """The ends of all pairs, in the order in which their distances stand."""
+    if n * (n - 1) // 2 > _library.MAX_LINKS:
+        raise ValueError(f"{n} points have more than 2^30 pairs")
+    first = np.arange(n, dtype=np.int64)
+    low = np.repeat(first.astype(np.int32), n - 1 - first)
+    high = np.arange(len(low), dtype=np.int32)
+    high -= np.repeat((_place_of_pair(n, first, first + 1) - first - 1).astype(np.int32), n - 1 - first)
+    return low, high
+
+
+def _neighbours(points: NDArray[np.float64]) -> Ends | None:
+    """Edges among which is a minimum spanning tree of points in one, two or three dimensions, or None if none are found."""
+    # equal points are one here, and each hangs on the first of them
+    places, first, same = np.unique(points, axis=0, return_index=True, return_inverse=True)
+    near = _in_line(len(places)) if points.shape[1] == 1 else _triangulated(places)
+    if near is None:
+        return None
+    rest = np.setdiff1d(np.arange(len(points)), first)
+    return np.concatenate([first[near[0]], rest]), np.concatenate([first[near[1]], first[same.ravel()[rest]]])
+
+
+def _in_line(n: int) -> Ends:
+    """The edges between each of n points in their order and the next."""
+    return np.arange(n - 1), np.arange(1, n)
+
+
+def _triangulated(points: NDArray[np.float64]) -> Ends | None:
+    """The edges of the Delaunay triangulation.
+
+    None if scipy isn't there, all points lie in one line or plane, or rounding kept a point out of the triangulation.
+    """
+    try:
+        from scipy.spatial import Delaunay, QhullError
+    except ImportError:
+        return None
+    try:
+        # (from the origin, so that rounding loses the least)
+        mesh = Delaunay(points - points.min(axis=0))
+    except QhullError:
+        return None
+    if len(mesh.coplanar):
+        return None
+    starts, others = mesh.vertex_neighbor_vertices
+    ends = np.repeat(np.arange(len(points)), np.diff(starts))
+    # each edge stands there from both its ends
+    once = ends < others
+    return ends[once], others[once]

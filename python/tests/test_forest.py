@@ -1,0 +1,228 @@
+"""`minimum_spanning_forest`, over the graphs of the documents, at its limits, and over drawn graphs."""
+
+import math
+import threading
+import unittest
+
+import numpy as np
+
+import boruvka
+from boruvka import minimum_spanning_forest
+from graphs import KINDS, Graph, by_key
+
+try:
+    from scipy import sparse
+    from scipy.sparse import csgraph
+except ImportError:
+    sparse = None
+
+# examples/small.gr, whose forest README.md shows, with its vertices from 0
+SMALL = ([0, 0, 1, 2, 3, 3, 4, 4], [1, 2, 3, 4, 2, 5, 1, 5], [17, 10, 2, 0, 0, 3, 0, 20])
+SMALL_FOREST = [[1, 2, 2, 3, 0], [4, 3, 4, 5, 2], [0, 0, 0, 3, 10], [6, 4, 3, 5, 1]]
+
+
+def listed(forest):
+    return [it.tolist() for it in forest]
+
+
+class Documented(unittest.TestCase):
+    def test_the_small_net(self):
+        forest = minimum_spanning_forest(6, *SMALL)
+        self.assertEqual(listed(forest), SMALL_FOREST)
+        self.assertEqual(forest._fields, ("u", "v", "w", "index"))
+        self.assertEqual([it.dtype for it in forest], [np.intp, np.intp, np.int64, np.intp])
+
+    def test_ties_go_by_the_ends_and_then_by_the_place(self):
+        forest = minimum_spanning_forest(4, [3, 2, 1, 0, 3, 1, 0], [2, 3, 2, 3, 1, 0, 1], [5] * 7)
+        self.assertEqual(listed(forest), [[0, 0, 1], [1, 3, 2], [5, 5, 5], [5, 3, 2]])
+
+    def test_loops_are_left_out_and_the_lightest_parallel_counts(self):
+        forest = minimum_spanning_forest(3, [1, 0, 1, 0, 2], [1, 1, 0, 1, 2], [-9, 4, 3, 3, -9])
+        self.assertEqual(listed(forest), [[0], [1], [3], [2]])
+
+    def test_components_stay_apart(self):
+        forest = minimum_spanning_forest(6, [0, 5, 3], [1, 4, 4], [2.5, 1.5, 0.5])
+        self.assertEqual(listed(forest), [[3, 4, 0], [4, 5, 1], [0.5, 1.5, 2.5], [2, 1, 0]])
+
+
+class Limits(unittest.TestCase):
+    def test_no_edges(self):
+        for n in (0, 1, 7, 2**26):
+            for none in ([], np.empty(0, np.int64), np.empty(0, np.float32)):
+                self.assertEqual(listed(minimum_spanning_forest(n, [], [], none)), [[]] * 4)
+
+    def test_the_last_of_2_to_the_26_vertices(self):
+        n = 2**26
+        self.assertEqual(listed(minimum_spanning_forest(n, [n - 1], [0], [1])), [[0], [n - 1], [1], [0]])
+
+    def test_the_ends_of_64_bits(self):
+        forest = minimum_spanning_forest(3, [0, 1, 2], [1, 2, 0], [2**63 - 1, -(2**63), 2**63 - 2])
+        self.assertEqual(listed(forest), [[1, 0], [2, 2], [-(2**63), 2**63 - 2], [1, 2]])
+
+    def test_natural_numbers_up_to_2_to_the_63(self):
+        weights = np.array([2**63 - 1, 2**53 + 1, 2**53], np.uint64)
+        forest = minimum_spanning_forest(3, [0, 1, 2], [1, 2, 0], weights)
+        self.assertEqual(listed(forest)[2:], [[2**53, 2**53 + 1], [2, 1]])
+        self.assertEqual(forest.w.dtype, np.uint64)
+
+    def test_infinities_and_zeros_of_either_sign(self):
+        weights = [math.inf, 0.0, -0.0, -math.inf, math.inf]
+        forest = minimum_spanning_forest(5, [3, 2, 1, 0, 4], [4, 3, 2, 1, 3], weights)
+        self.assertEqual(listed(forest)[3], [3, 2, 1, 0])
+        self.assertEqual([math.copysign(1, it) for it in forest.w], [-1, -1, 1, 1])
+
+    def test_doubles_that_differ_in_their_last_bit(self):
+        least, one = 5e-324, 1.0
+        weights = [np.nextafter(one, 2), one, least, -least, 0.0, -one, np.nextafter(-one, -2)]
+        forest = minimum_spanning_forest(8, range(7), range(1, 8), weights)
+        self.assertEqual(listed(forest)[3], [6, 5, 3, 4, 2, 1, 0])
+
+
+class Refused(unittest.TestCase):
+    def expect(self, error, words, *given):
+        with self.assertRaisesRegex(error, words):
+            minimum_spanning_forest(*given)
+
+    def test_ends_that_are_no_vertices(self):
+        for end, dtype in [(3, np.int64), (-1, np.int64), (-1, np.int8), (-2, np.int32), (2**32, np.int64), (2**32 + 1, np.uint64), (2**32 - 1, np.uint32), (2**63, np.uint64), (-(2**63), np.int64)]:
+            wrong = np.array([1, end], dtype)
+            self.expect(ValueError, rf"^u\[1\] is {end}, ", 3, wrong, [1, 2], [1, 1])
+            self.expect(ValueError, rf"^v\[1\] is {end}, ", 3, [1, 2], wrong, [1, 1])
+        self.expect(ValueError, r"^u\[0\] is 0, .*n = 0$", 0, [0], [0], [1])
+
+    def test_numbers_of_vertices_are_not_cut(self):
+        for n in (-1, 2**26 + 1, 2**32, 2**32 + 3, 2**64 + 3):
+            self.expect(ValueError, f"^n is {n}, ", n, [0], [1], [1])
+            self.expect(ValueError, f"^n is {n}, ", n, [], [], [])
+        for n in (3.0, "3", None):
+            self.expect(TypeError, "integer", n, [0], [1], [1])
+
+    def test_weights_without_an_order(self):
+        for dtype in (np.float16, np.float32, np.float64):
+            self.expect(ValueError, r"^w\[1\] is NaN", 3, [0, 1], [1, 2], np.array([1, math.nan], dtype))
+            self.expect(ValueError, r"^w\[0\] is NaN", 3, [0, 1], [1, 2], np.array([-math.nan, 1], dtype))
+        many = np.ones(100_000)
+        many[77_777] = math.nan
+        self.expect(ValueError, r"^w\[77777\] is NaN", 1, np.zeros(100_000, int), np.zeros(100_000, int), many)
+        self.expect(ValueError, rf"^w\[1\] is {2**63}, ", 3, [0, 1], [1, 2], np.array([1, 2**63], np.uint64))
+        for weights in ([1j, 2], ["a", "b"], [None, 1], [2**64, 1], np.array([1, 2], np.longdouble), np.array([1, 2], "M8[s]")):
+            self.expect(TypeError, "^w has the dtype ", 3, [0, 1], [1, 2], weights)
+
+    def test_ends_that_are_no_whole_numbers(self):
+        for wrong in ([0.0, 1.0], [True, False], ["0", "1"], [None, 1], [2**64, 1]):
+            self.expect(TypeError, "^u has the dtype ", 3, wrong, [1, 2], [1, 1])
+            self.expect(TypeError, "^v has the dtype ", 3, [1, 2], wrong, [1, 1])
+
+    def test_shapes(self):
+        for wrong in (0, [[0, 1]], np.zeros((2, 1), int)):
+            for place, name in enumerate("uvw"):
+                given = [[0, 1], [1, 2], [1, 1]]
+                given[place] = wrong
+                self.expect(ValueError, f"^{name} has [02] dimensions", 3, *given)
+        for given in ([[0], [1, 2], [1, 2]], [[0, 1], [1], [1, 2]], [[0, 1], [1, 2], [1]], [[], [], [1]]):
+            self.expect(ValueError, "^u, v and w differ in length: ", 3, *given)
+
+
+class Arrays(unittest.TestCase):
+    def test_columns_of_a_table(self):
+        table = np.array([SMALL[0], [9] * 8, SMALL[1], SMALL[2]]).T
+        self.assertEqual(listed(minimum_spanning_forest(6, table[:, 0], table[:, 2], table[:, 3])), SMALL_FOREST)
+        turned = [np.array(it)[::-1] for it in SMALL]
+        self.assertEqual(minimum_spanning_forest(6, *turned).index.tolist(), [7 - it for it in SMALL_FOREST[3]])
+
+    def test_fields_of_a_record_that_are_not_aligned(self):
+        packed = np.zeros(8, np.dtype([("mark", "u1"), ("u", "u4"), ("v", "i4"), ("w", "i8")]))
+        packed["u"], packed["v"], packed["w"] = SMALL
+        self.assertEqual(listed(minimum_spanning_forest(6, packed["u"], packed["v"], packed["w"])), SMALL_FOREST)
+        whole = np.frombuffer(b"x" + np.array(SMALL[2], "i8").tobytes(), "i8", offset=1)
+        self.assertEqual(listed(minimum_spanning_forest(6, *SMALL[:2], whole)), SMALL_FOREST)
+
+    def test_one_array_for_both_ends(self):
+        ends = np.arange(5, dtype=np.uint32)
+        self.assertEqual(listed(minimum_spanning_forest(5, ends, ends, np.ones(5, np.int64))), [[]] * 4)
+        table = np.array([0, 1, 2, 3], np.uint32)
+        self.assertEqual(listed(minimum_spanning_forest(4, table[:-1], table[1:], np.array([3, 2, 1]))), [[2, 1, 0], [3, 2, 1], [1, 2, 3], [2, 1, 0]])
+
+    def test_what_is_given_is_only_read(self):
+        for ends in (np.uint32, np.int32, np.int64):
+            for weights in (np.int64, np.float64, np.int32):
+                given = [np.array(SMALL[0], ends), np.array(SMALL[1], ends), np.array(SMALL[2], weights)]
+                for it in given:
+                    it.flags.writeable = False
+                forest = minimum_spanning_forest(6, *given)
+                self.assertEqual(listed(forest), SMALL_FOREST)
+                self.assertEqual([it.tolist() for it in given], [list(it) for it in SMALL])
+                self.assertFalse(any(np.shares_memory(one, other) for one in forest for other in given))
+
+
+class Drawn(unittest.TestCase):
+    def test_a_thousand_graphs_against_kruskal_and_scipy(self):
+        kinds = set()
+        for seed in range(1000):
+            graph = Graph(seed)
+            kinds.add(graph.kind)
+            before = [it.tobytes() for it in graph.held]
+            with self.subTest(seed=seed, kind=graph.kind):
+                forest, wanted = minimum_spanning_forest(graph.n, *graph.held), by_key(graph)
+                self.assertEqual(forest.index.tolist(), wanted)
+                ends = [(min(graph.u[i], graph.v[i]), max(graph.u[i], graph.v[i])) for i in wanted]
+                self.assertEqual(list(zip(forest.u.tolist(), forest.v.tolist())), ends)
+                self.assertEqual(forest.w.tobytes(), graph.held[2][wanted].tobytes())
+                self.assertEqual([it.tobytes() for it in graph.held], before)
+                if sparse:
+                    self.expect_scipys(graph, forest)
+        self.assertEqual(kinds, set(KINDS))
+
+    def expect_scipys(self, graph, forest):
+        """As many edges as scipy finds components to join, and as heavy one by one, as far as doubles tell."""
+        weights = np.array(graph.w, np.float64)
+        # (scipy keeps no edge of weight 0, and adds up parallel ones unless they stand in a csr_matrix by hand)
+        order = np.argsort(graph.u, kind="stable")
+        starts = np.concatenate([[0], np.cumsum(np.bincount(graph.u, minlength=graph.n))]) if graph.u else np.zeros(graph.n + 1, int)
+        matrix = sparse.csr_matrix((weights[order], np.array(graph.v, int)[order], starts), shape=(graph.n, graph.n))
+        self.assertEqual(len(forest.w), graph.n - csgraph.connected_components(matrix, directed=False)[0])
+        found = forest.w.astype(np.float64)
+        self.assertEqual(sorted(found[found != 0]), sorted(csgraph.minimum_spanning_tree(matrix).data))
+
+    def test_a_larger_one_of_each_dtype(self):
+        draw = np.random.default_rng(1)
+        n, m = 3000, 20000
+        u, v = draw.integers(0, n, m), draw.integers(0, n, m)
+        for dtype in "b B h H i I l L e f d ?".split():
+            graph = Graph(0)
+            graph.n, graph.u, graph.v = n, u.tolist(), v.tolist()
+            weights = draw.integers(0, 2 if dtype == "?" else 100, m).astype(dtype)
+            graph.w = weights.tolist()
+            with self.subTest(dtype=dtype):
+                self.assertEqual(minimum_spanning_forest(n, u, v, weights).index.tolist(), by_key(graph))
+
+
+class Threads(unittest.TestCase):
+    def test_four_at_once_over_the_same_arrays(self):
+        graphs = [Graph(seed) for seed in range(40)]
+        wanted = [by_key(it) for it in graphs]
+        found = [[] for _ in range(4)]
+        together = threading.Barrier(4)
+
+        def run(into):
+            together.wait()
+            for _ in range(5):
+                into += [minimum_spanning_forest(it.n, *it.held).index.tolist() for it in graphs]
+
+        threads = [threading.Thread(target=run, args=[it]) for it in found]
+        for it in threads:
+            it.start()
+        for it in threads:
+            it.join()
+        self.assertEqual(found, [wanted * 5] * 4)
+
+
+class Names(unittest.TestCase):
+    def test_each_public_name_says_what_it_is(self):
+        self.assertEqual(boruvka.__all__, ["Forest", "minimum_spanning_forest"])
+        for it in (boruvka, boruvka.Forest, boruvka.minimum_spanning_forest):
+            self.assertGreater(len(it.__doc__), 80)
+
+
+if __name__ == "__main__":
+    unittest.main()

@@ -1,0 +1,208 @@
+"""Single linkage and clusters, by worked examples, beside scipy's, and over drawn graphs."""
+
+import unittest
+import warnings
+from unittest import mock
+
+import numpy as np
+from graphs import Components, Graph
+
+from boruvka import Forest, minimum_spanning_forest
+from boruvka.linkage import labels, merges, single_linkage, spanning_tree
+
+try:
+    from scipy.cluster import hierarchy
+    from scipy.spatial.distance import pdist
+except ImportError:
+    hierarchy = None
+
+# the vertices, roads and clusters of docs/RECIPES.md, with the vertices from 0
+ROADS = minimum_spanning_forest(10, [1, 6, 0, 3, 4, 8, 4, 2], [2, 7, 1, 4, 5, 9, 6, 3], [2, 2, 3, 3, 4, 6, 9, 11])
+
+
+def clouds(draw, n, dimensions):
+    """Points of several kinds, the first in no special place."""
+    apart = draw.normal(size=(n, dimensions))
+    yield apart
+    yield draw.integers(0, 5, (n, dimensions))
+    yield draw.integers(-3, 4, (n, 1)) * np.arange(1, dimensions + 1)
+    yield 1e6 + apart
+    yield 1e12 + apart
+    # rounding keeps some of these out of the triangulation
+    yield draw.integers(0, 5, (n, dimensions)) + 1e-12 * apart
+    yield np.repeat(apart[: 1 + n // 3], 3, axis=0)
+    yield np.zeros((n, dimensions))
+
+
+class Worked(unittest.TestCase):
+    def test_points_of_a_line(self):
+        wanted = [[0, 1, 1, 2], [2, 3, 2, 2], [4, 5, 4, 4]]
+        self.assertEqual(single_linkage([[0.0], [1.0], [5.0], [7.0]]).tolist(), wanted)
+        self.assertEqual(single_linkage([1, 5, 7, 4, 6, 2]).tolist(), wanted)
+
+    def test_a_tree_knows_the_pair_of_each_edge(self):
+        draw = np.random.default_rng(2)
+        for n, dimensions in [(2, 3), (9, 4), (400, 1), (400, 2), (400, 3)]:
+            for points in clouds(draw, n, dimensions):
+                tree = spanning_tree(points)
+                lower, higher = np.triu_indices(len(points), 1)
+                self.assertEqual((tree.u.tolist(), tree.v.tolist()), (lower[tree.index].tolist(), higher[tree.index].tolist()))
+                self.assertTrue((np.diff(tree.w) >= 0).all())
+
+    def test_the_clusters_of_the_roads(self):
+        # (by RECIPES' awk: each vertex beside the least of its cluster)
+        self.assertEqual(labels(10, ROADS, clusters=4).tolist(), [0, 0, 0, 1, 1, 1, 2, 2, 3, 3])
+        self.assertEqual(labels(10, ROADS, clusters=10).tolist(), list(range(10)))
+        self.assertEqual(labels(10, ROADS, clusters=2).tolist(), [0] * 8 + [1] * 2)
+        self.assertEqual(labels(10, ROADS, height=4).tolist(), [0, 0, 0, 1, 1, 1, 2, 2, 3, 4])
+        self.assertEqual(labels(10, ROADS, height=np.inf).tolist(), [0] * 8 + [1] * 2)
+        self.assertEqual(labels(10, ROADS, height=1.9).tolist(), list(range(10)))
+
+    def test_few_points(self):
+        for one in ([[3.0, 4.0]], np.empty((1, 0)), []):
+            self.assertEqual(single_linkage(one).shape, (0, 4))
+        self.assertEqual(single_linkage([[0, 0], [3, 4]]).tolist(), [[0, 1, 5, 2]])
+        self.assertEqual(labels(0, minimum_spanning_forest(0, [], [], []), height=1).tolist(), [])
+        self.assertEqual(labels(1, minimum_spanning_forest(1, [], [], []), clusters=1).tolist(), [0])
+
+
+class Refused(unittest.TestCase):
+    def test_points_and_distances(self):
+        for wrong, words in [
+            (np.empty((0, 2)), "shape"),
+            (3.0, "shape"),
+            (np.zeros((2, 2, 2)), "shape"),
+            ([1.0, 2.0], "^2 distances"),
+            ([[np.nan, 0], [1, 1]], "coordinate"),
+            ([[np.inf], [0]], "coordinate"),
+            ([1, np.inf, 2], "distance isn't finite"),
+            ([1, np.nan, 2], "distance isn't finite"),
+            ([1, -1, 2], "negative"),
+        ]:
+            for call in (single_linkage, spanning_tree):
+                with self.assertRaisesRegex(ValueError, words):
+                    call(wrong)
+        with self.assertRaisesRegex(ValueError, "far apart"):
+            spanning_tree([[1e200, 0], [0, 1], [0, 2]])
+        for wrong in (["a"], [[1j, 2], [3, 4]], [[None]]):
+            with self.assertRaises(TypeError):
+                single_linkage(wrong)
+        with self.assertRaisesRegex(ValueError, "2\\^30"):
+            spanning_tree(np.zeros((50_000, 5)))
+
+    def test_what_looks_like_a_matrix_of_distances_is_told(self):
+        with self.assertWarnsRegex(UserWarning, "square"):
+            single_linkage([[0, 1, 2], [1, 0, 3], [2, 3, 0]])
+        with warnings.catch_warnings():
+            warnings.simplefilter("error")
+            single_linkage([[0, 1], [2, 0]])
+            single_linkage([[0]])
+
+    def test_clusters_that_cannot_be(self):
+        for clusters in (-1, 0, 1, 11):
+            with self.assertRaisesRegex(ValueError, f"^{clusters} clusters .* 2 to 10$"):
+                labels(10, ROADS, clusters=clusters)
+        for given in ({}, {"clusters": 3, "height": 2}, {"clusters": 2.5}):
+            with self.assertRaises(TypeError):
+                labels(10, ROADS, **given)
+        with self.assertRaisesRegex(ValueError, "NaN"):
+            labels(10, ROADS, height=np.nan)
+        for n in (-1, 2**26 + 1, 2**32 + 10):
+            with self.assertRaisesRegex(ValueError, f"^n is {n}, "):
+                labels(n, ROADS, height=1)
+
+    def test_what_is_no_forest(self):
+        cycle = Forest(np.array([0, 1, 0]), np.array([1, 2, 2]), np.array([1, 2, 3]), np.arange(3))
+        for wrong in (cycle, cycle._replace(u=np.array([0, 0, 0]), v=np.array([1, 1, 2])), cycle._replace(v=np.array([0, 2, 3]))):
+            with self.assertRaises(ValueError):
+                labels(4, wrong, height=3)
+            with self.assertRaises(ValueError):
+                merges(4, wrong)
+        for end in (-1, 4, 2**32, 2**32 + 1):
+            for wrong in (cycle._replace(u=np.array([0, 1, end])), cycle._replace(v=np.array([end, 2, 3]))):
+                with self.assertRaisesRegex(ValueError, f"is {end}, "):
+                    labels(4, wrong, height=3)
+                with self.assertRaisesRegex(ValueError, f"is {end}, "):
+                    merges(4, wrong)
+        for call in (lambda it: labels(3, it, clusters=2), lambda it: merges(3, it)):
+            with self.assertRaisesRegex(TypeError, "^a ndarray is no Forest"):
+                call(single_linkage([[0], [1], [3]]))
+        with self.assertRaisesRegex(ValueError, "one tree"):
+            merges(10, ROADS)
+
+
+class Drawn(unittest.TestCase):
+    def test_labels_of_drawn_forests(self):
+        for seed in range(200):
+            graph = Graph(seed)
+            forest = minimum_spanning_forest(graph.n, *graph.held)
+            k = len(forest.w)
+            for kept in {0, k // 2, k}:
+                with self.subTest(seed=seed, kept=kept):
+                    components = Components(graph.n)
+                    for u, v in zip(forest.u[:kept].tolist(), forest.v[:kept].tolist()):
+                        components.join(u, v)
+                    roots = [components.root(it) for it in range(graph.n)]
+                    wanted = [sorted(set(roots)).index(it) for it in roots]
+                    self.assertEqual(labels(graph.n, forest, clusters=graph.n - kept).tolist(), wanted)
+                    backwards = Forest(*(it[:kept][::-1] for it in forest))
+                    self.assertEqual(labels(graph.n, backwards, clusters=graph.n - kept).tolist(), wanted)
+
+
+@unittest.skipUnless(hierarchy, "there is no scipy")
+class Scipys(unittest.TestCase):
+    def test_drawn_points(self):
+        draw = np.random.default_rng(3)
+        for n, dimensions in [(2, 1), (3, 2), (40, 5), (60, 2), (160, 1), (160, 2), (160, 3), (300, 2)]:
+            for kind, points in enumerate(clouds(draw, n, dimensions)):
+                with self.subTest(n=n, dimensions=dimensions, kind=kind):
+                    self.expect_scipys(single_linkage(points), pdist(points), kind == 0)
+
+    def test_drawn_distances(self):
+        draw = np.random.default_rng(4)
+        for n in (2, 3, 10, 60):
+            for distances in (draw.random(n * (n - 1) // 2), draw.integers(0, 4, n * (n - 1) // 2).astype(float)):
+                found = single_linkage(distances)
+                self.expect_scipys(found, distances, len(set(distances)) == len(distances))
+                self.assertEqual(found[:, 2].tolist(), hierarchy.linkage(distances, "single")[:, 2].tolist())
+
+    def expect_scipys(self, found, distances, is_exact):
+        """Scipy's matrix if no two distances are equal; else the same clusters at each height."""
+        wanted = hierarchy.linkage(distances, "single")
+        self.assertTrue(hierarchy.is_valid_linkage(found))
+        np.testing.assert_allclose(found[:, 2], wanted[:, 2], rtol=1e-9, atol=1e-9)
+        if is_exact:
+            self.assertEqual(found[:, [0, 1, 3]].tolist(), wanted[:, [0, 1, 3]].tolist())
+        np.testing.assert_allclose(hierarchy.cophenet(found), hierarchy.cophenet(wanted), rtol=1e-9, atol=1e-9)
+
+    def test_clusters_of_points(self):
+        draw = np.random.default_rng(5)
+        points = draw.normal(size=(500, 2))
+        tree, matrix = spanning_tree(points), hierarchy.linkage(points, "single")
+        for clusters in (1, 2, 7, 100, 500):
+            self.expect_same_parts(labels(500, tree, clusters=clusters), hierarchy.cut_tree(matrix, clusters)[:, 0])
+        for height in (0.01, 0.1, 0.3, 2.0):
+            self.expect_same_parts(labels(500, tree, height=height), hierarchy.fcluster(matrix, height, "distance"))
+
+    def expect_same_parts(self, one, other):
+        pairs = set(zip(one.tolist(), other.tolist()))
+        self.assertEqual((len(pairs), len(pairs)), (len(set(one.tolist())), len(set(other.tolist()))))
+
+    def test_the_triangulation_and_all_pairs_find_trees_of_one_length(self):
+        draw = np.random.default_rng(6)
+        for dimensions in (1, 2, 3):
+            for points in clouds(draw, 400, dimensions):
+                found = spanning_tree(points)
+                with mock.patch("boruvka.linkage._neighbours", lambda _: None):
+                    wanted = spanning_tree(points)
+                np.testing.assert_allclose(found.w, wanted.w, rtol=1e-9, atol=1e-9)
+
+    def test_without_scipy(self):
+        points = np.random.default_rng(7).normal(size=(200, 2))
+        wanted = single_linkage(points)
+        with mock.patch.dict("sys.modules", {"scipy": None, "scipy.spatial": None}):
+            np.testing.assert_allclose(single_linkage(points), wanted, rtol=1e-12)
+
+
+if __name__ == "__main__":
+    unittest.main()

@@ -1,0 +1,95 @@
+"""The stand-in for scipy's function over sparse matrices, beside scipy's own."""
+
+import unittest
+
+import numpy as np
+from graphs import Graph
+
+try:
+    from scipy import sparse
+    from scipy.sparse import csgraph
+except ImportError:
+    sparse = None
+else:
+    from boruvka.sparse import minimum_spanning_tree
+
+# the graph of scipy's own example, and the answer that its documentation shows
+EXAMPLE = [[0, 8, 0, 3], [0, 0, 2, 5], [0, 0, 0, 6], [0, 0, 0, 0]]
+ANSWER = [[0, 0, 0, 3], [0, 0, 2, 5], [0, 0, 0, 0], [0, 0, 0, 0]]
+
+
+def matrix_of(graph, weights):
+    """The edges as entries, of which several may stand at one place."""
+    order = np.argsort(graph.u, kind="stable").astype(int)
+    starts = np.concatenate([[0], np.cumsum(np.bincount(np.array(graph.u, int), minlength=graph.n))])
+    return sparse.csr_matrix((np.array(weights, float)[order], np.array(graph.v, int)[order], starts), shape=(graph.n, graph.n))
+
+
+@unittest.skipUnless(sparse, "there is no scipy")
+class Sparse(unittest.TestCase):
+    def expect_scipys(self, given, is_exact):
+        """Scipy's answer: entry by entry if all weights differ, else as heavy."""
+        wanted, found = csgraph.minimum_spanning_tree(given), minimum_spanning_tree(given)
+        self.assertIs(type(found), type(wanted))
+        self.assertEqual((found.shape, found.dtype, found.indptr.dtype), (wanted.shape, wanted.dtype, wanted.indptr.dtype))
+        if is_exact:
+            self.assertEqual((found != wanted).nnz, 0)
+            self.assertEqual(found.indices.tolist(), wanted.indices.tolist())
+        self.assertEqual(sorted(found.data), sorted(wanted.data))
+        found.check_format()
+
+    def test_the_documented_example_in_each_form(self):
+        dense = np.array(EXAMPLE)
+        for given in [EXAMPLE, dense, dense.astype(np.float32), np.asfortranarray(dense), np.ma.masked_equal(np.where(dense, dense, 1), 1)]:
+            self.assertEqual(minimum_spanning_tree(given).toarray().tolist(), ANSWER)
+        for form in ("csr", "csc", "coo", "lil", "dok", "bsr"):
+            given = sparse.csr_matrix(dense).asformat(form)
+            self.assertEqual(minimum_spanning_tree(given).toarray().tolist(), ANSWER)
+            self.assertEqual(minimum_spanning_tree(given, overwrite=True).toarray().tolist(), ANSWER)
+
+    def test_what_is_no_edge(self):
+        inf, nan = np.inf, np.nan
+        self.expect_scipys(np.array([[0, inf, 4], [nan, 0, 0], [0, 7, 0]]), True)
+        # an entry that is stored as 0 takes part, and isn't in the answer; a stored infinity is an edge
+        stored = sparse.csr_matrix(([0.0, 5.0, inf], [1, 2, 3], [0, 2, 2, 3, 3]), shape=(4, 4))
+        self.expect_scipys(stored, True)
+        self.assertEqual(minimum_spanning_tree(stored).data.tolist(), [5, inf])
+        for empty in (np.zeros((3, 3)), sparse.csr_matrix((3, 3)), sparse.csr_matrix((1, 1))):
+            self.expect_scipys(empty, True)
+
+    def test_the_lighter_of_two_directions_counts_where_it_stands(self):
+        given = [[0, 4, 1], [3, 0, 0], [2, 6, 0]]
+        self.assertEqual(minimum_spanning_tree(given).toarray().tolist(), [[0, 0, 1], [3, 0, 0], [0, 0, 0]])
+        self.expect_scipys(np.array(given), True)
+
+    def test_a_matrix_with_room_behind_its_entries(self):
+        given = sparse.csr_matrix(np.array(EXAMPLE, float))
+        given.data, given.indices = np.append(given.data, [99.0, 99.0]), np.append(given.indices, [0, 1]).astype(np.int32)
+        self.assertEqual(minimum_spanning_tree(given).toarray().tolist(), ANSWER)
+
+    def test_drawn_graphs(self):
+        for seed in range(300):
+            graph = Graph(seed, ("ties", "doubles", "special doubles", "natural"))
+            with self.subTest(seed=seed):
+                given = matrix_of(graph, graph.w)
+                before = [it.tobytes() for it in (given.data, given.indices, given.indptr)]
+                self.expect_scipys(given, len(set(graph.w)) == len(graph.w))
+                self.assertEqual([it.tobytes() for it in (given.data, given.indices, given.indptr)], before)
+                given.sum_duplicates()
+                if not np.isnan(given.data).any():
+                    self.expect_scipys(given.toarray(), False)
+                    self.expect_scipys(given, False)
+
+    def test_refused(self):
+        for wrong in (np.ones((2, 3)), sparse.csr_matrix((2, 3))):
+            with self.assertRaisesRegex(ValueError, "square"):
+                minimum_spanning_tree(wrong)
+        for wrong in (np.ones(3), 1.0):
+            with self.assertRaises(ValueError):
+                minimum_spanning_tree(wrong)
+        with self.assertRaisesRegex(ValueError, "NaN"):
+            minimum_spanning_tree(sparse.csr_matrix(([np.nan], [1], [0, 1, 1]), shape=(2, 2)))
+
+
+if __name__ == "__main__":
+    unittest.main()
