@@ -1,0 +1,132 @@
+"""The examples of the docstrings, of README.md, and of examples/, as they stand there."""
+
+import contextlib
+import csv
+import doctest
+import io
+import os
+import subprocess
+import sys
+import tempfile
+import unittest
+
+import numpy as np
+
+import boruvka
+from boruvka import _forest, linkage
+
+TOP = os.path.dirname(os.path.dirname(os.path.abspath(__file__)))
+EXAMPLES = f"{TOP}/examples"
+PNG = b"\x89PNG\r\n\x1a\n"
+
+
+def there(*names):
+    """Whether all of these packages are there."""
+    for name in names:
+        try:
+            __import__(name)
+        except ImportError:
+            return False
+    return True
+
+
+def printed(name, *words):
+    """The lines that an example prints."""
+    path = [os.path.dirname(os.path.dirname(boruvka.__file__)), *filter(None, [os.environ.get("PYTHONPATH")])]
+    env = {**os.environ, "PYTHONPATH": os.pathsep.join(path)}
+    ended = subprocess.run([sys.executable, "-B", f"{EXAMPLES}/{name}.py", *words], env=env, capture_output=True, text=True, timeout=60, check=False)
+    if ended.returncode:
+        raise AssertionError(ended.stderr)
+    return ended.stdout.splitlines()
+
+
+class Docstrings(unittest.TestCase):
+    def expect_examples(self, module, least):
+        told = io.StringIO()
+        with contextlib.redirect_stdout(told):
+            failed, tried = doctest.testmod(module, verbose=False)
+        self.assertEqual((failed, told.getvalue()), (0, ""))
+        self.assertGreaterEqual(tried, least)
+
+    def test_modules(self):
+        self.expect_examples(_forest, 5)
+        self.expect_examples(linkage, 10)
+        if there("scipy"):
+            from boruvka import sparse
+
+            self.expect_examples(sparse, 2)
+
+    def test_each_public_function_has_parameters_returns_and_raises(self):
+        for it in (boruvka.minimum_spanning_forest, linkage.single_linkage, linkage.spanning_tree, linkage.merges, linkage.labels):
+            for part in ("Parameters", "Returns", "Raises", "Examples"):
+                self.assertIn(f"    {part}\n    ---", it.__doc__, it.__name__)
+
+
+class Readme(unittest.TestCase):
+    def test_what_it_shows(self):
+        """Each line after `>>>`, in a folder that has its points.csv; what needs scipy or networkx is left out without them."""
+        names = [it for it in ("scipy", "networkx") if not there(it)]
+        with open(f"{TOP}/README.md", encoding="utf-8") as it:
+            blocks = it.read().split("```")[1::2]
+        shown = [it.removeprefix("pycon\n") for it in blocks if it.startswith("pycon\n")]
+        kept = "\n".join(it for it in shown if not any(name in it for name in names))
+        self.assertGreaterEqual(len(shown), 3)
+        test = doctest.DocTestParser().get_doctest(kept, {}, "README.md", "README.md", 0)
+        told, here = io.StringIO(), os.getcwd()
+        with tempfile.TemporaryDirectory() as folder:
+            np.savetxt(f"{folder}/points.csv", [[0, 0], [1, 0], [0, 1.5], [9, 9], [9, 8], [10, 9.5]], delimiter=",")
+            os.chdir(folder)
+            try:
+                doctest.DocTestRunner(verbose=False).run(test, out=told.write)
+            finally:
+                os.chdir(here)
+        self.assertEqual(told.getvalue(), "")
+        self.assertGreaterEqual(len(test.examples), 5)
+
+
+class Examples(unittest.TestCase):
+    def expect_picture(self, name, wanted, *packages):
+        """The lines that it prints; and the same with a picture, if its packages are there."""
+        self.assertEqual(printed(name), wanted)
+        if there("matplotlib", *packages):
+            with tempfile.TemporaryDirectory() as folder:
+                self.assertEqual(printed(name, f"{folder}/picture.png"), wanted)
+                with open(f"{folder}/picture.png", "rb") as it:
+                    picture = it.read()
+            self.assertEqual(picture[:8], PNG)
+            self.assertGreater(len(picture), 20_000)
+
+    def test_towns_fall_into_archipelagos(self):
+        with open(f"{EXAMPLES}/towns.csv", encoding="utf-8") as it:
+            rows = list(csv.DictReader(it))
+        islands = dict.fromkeys(it["archipelago"] for it in rows)
+        self.assertEqual(list(islands), ["Azores", "Madeira", "Canaries", "Cape Verde"])
+        self.expect_picture("towns", [", ".join(it["town"] for it in rows if it["archipelago"] == name) for name in islands])
+
+    def test_points_fall_into_their_places(self):
+        # (as many as were drawn around each place)
+        self.expect_picture("dendrogram", ["12 9 15 6"], "scipy")
+
+    @unittest.skipUnless(there("sklearn"), "there is no scikit-learn")
+    def test_moons_fall_apart_as_dbscan_has_them(self):
+        from sklearn.cluster import DBSCAN
+
+        sys.path.insert(0, EXAMPLES)
+        self.addCleanup(sys.path.remove, EXAMPLES)
+        import mutual_reachability
+
+        points = mutual_reachability.drawn_points()
+        found = DBSCAN(eps=mutual_reachability.HEIGHT, min_samples=mutual_reachability.NEAREST).fit(points)
+        core = found.core_sample_indices_
+        # what reaches no five points is noise in the tree, at the border of a cluster in DBSCAN
+        wanted = np.full(len(points), -1)
+        wanted[core] = found.labels_[core]
+        tree, cluster = mutual_reachability.clustered(points)
+        self.assertEqual(len(tree.w), len(points) - 1)
+        self.assertEqual(cluster.tolist(), wanted.tolist())
+        sizes = sorted(np.bincount(wanted[core]), reverse=True)
+        self.expect_picture("mutual_reachability", [f"clusters of {' '.join(map(str, sizes))}", f"noise {(wanted < 0).sum()}"])
+
+
+if __name__ == "__main__":
+    unittest.main()
