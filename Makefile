@@ -40,7 +40,7 @@ help:
 	@echo 'make install    copies the built program, libraries, header, manual page and completions below PREFIX=$(PREFIX);'
 	@echo '                BINDIR, LIBDIR, INCLUDEDIR and MANDIR name other folders, DESTDIR a root that stands before all'
 	@echo 'make uninstall  takes them away; it wants the same words'
-	@echo 'make dist       proves, builds and packs version $(VERSION) into dist/: a .tar.gz, and a .deb where dpkg-deb is'
+	@echo 'make dist       proves, builds and packs version $(VERSION) into dist/: a .tar.gz, a wheel for Python, and a .deb where dpkg-deb is'
 	@echo 'make bench      times it beside a C++ program; needs Python 3, a C++17 compiler and GNU time'
 	@echo 'make clean      removes what was built and what checks kept (out/ of each crate), and dist/: the next run proves all anew'
 

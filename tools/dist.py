@@ -1,26 +1,30 @@
 #!/usr/bin/env python3
-"""Packs what was built into a release: a .tar.gz, and a .deb if dpkg-deb is there.
+"""Packs what was built into a release: a .tar.gz, a wheel for Python, and a .deb if dpkg-deb is there.
 
 usage: tools/dist.py [--program FILE] [--libraries FOLDER] [INTO]
 
 It proves and builds nothing: `make dist` does that before it. FILE is the program, FOLDER has the libraries, and INTO
 gets the packages: dist/, if none is named. What goes into them is what `make install` copies, with the README, the
 licence, the examples, the sums of all files, and PROVED.txt: the commit, the kit, and the last lines of the gate if it
-has passed on this commit.
+has passed on this commit. The wheel has the package of python/boruvka and the shared library; no compiler made it.
 
 The same files give the same bytes: names are sorted, owners are root, and each time is that of the commit, or
 SOURCE_DATE_EPOCH if that is set. Each package's sum goes to standard output.
 """
+import base64
 import gzip
 import hashlib
 import io
 import os
 import re
 import shutil
+import stat
 import subprocess
 import sys
 import tarfile
 import tempfile
+import time
+import zipfile
 
 sys.dont_write_bytecode = True
 
@@ -48,6 +52,38 @@ Description: minimum spanning forests of weighted graphs
  The program boruvka reads a weighted graph in the .gr format and writes its
  minimum spanning forest. A shared and a static library compute the forest of
  links that lie in the memory of a program in C, Rust or Python.
+"""
+# What any Linux of the wheel's tag has: the policy manylinux2014 (PEP 599).
+TAG = "py3-none-manylinux2014_x86_64"
+MOST_GLIBC = (2, 17)
+OF_MANYLINUX = {"libc.so.6", "libm.so.6", "libpthread.so.0", "libdl.so.2", "libgcc_s.so.1", "ld-linux-x86-64.so.2"}
+METADATA = """\
+Metadata-Version: 2.1
+Name: boruvka
+Version: {version}
+Summary: Minimum spanning forests of numpy arrays, by a library whose calls are proved
+Author: the authors of Borůvka
+License: MIT OR Apache-2.0
+Classifier: Operating System :: POSIX :: Linux
+Classifier: Programming Language :: Python :: 3
+Classifier: Topic :: Scientific/Engineering :: Mathematics
+Classifier: Typing :: Typed
+Requires-Python: >=3.9
+Requires-Dist: numpy>=1.21
+Provides-Extra: scipy
+Requires-Dist: scipy>=1.8; extra == "scipy"
+Provides-Extra: networkx
+Requires-Dist: networkx>=3.2; extra == "networkx"
+Description-Content-Type: text/markdown
+
+{readme}"""
+WHEEL = f"Wheel-Version: 1.0\nGenerator: tools/dist.py\nRoot-Is-Purelib: false\nTag: {TAG}\n"
+ENTRY_POINTS = """\
+[networkx.backends]
+boruvka = boruvka.networkx_backend
+
+[networkx.backend_info]
+boruvka = boruvka.networkx_backend:info
 """
 
 
@@ -150,15 +186,64 @@ def owned_by_root(member):
     return member
 
 
+def libraries_of(code):
+    """The names of the shared libraries that some code needs."""
+    return {it.decode() for it in re.findall(rb"\0((?:lib|ld-)[\w+-]+\.so\.\d+)(?=\0)", code) if not it.startswith(b"libboruvka.")}
+
+
+def least_glibc(code):
+    """The least version of the C library that has all that some code asks of it."""
+    return max(tuple(map(int, it.split(b"."))) for it in re.findall(rb"\0GLIBC_(\d+\.\d+(?:\.\d+)?)(?=\0)", code))
+
+
 def depends(files):
     """The packages that these programs and libraries need, with the least version of the C library."""
     code = b"".join(map(read, files))
-    wanted = {it.decode() for it in re.findall(rb"\0((?:lib|ld-)[\w+-]+\.so\.\d+)(?=\0)", code) if not it.startswith(b"libboruvka.")}
+    wanted = libraries_of(code)
     if not wanted <= PACKAGES.keys():
         raise NotPacked(f"no package is known for {', '.join(sorted(wanted - PACKAGES.keys()))}")
-    least = max(tuple(map(int, it.split(b"."))) for it in re.findall(rb"\0GLIBC_(\d+\.\d+(?:\.\d+)?)(?=\0)", code))
     packages = {PACKAGES[it] for it in wanted} | {"libc6"}
-    return ", ".join(f"libc6 (>= {'.'.join(map(str, least))})" if it == "libc6" else it for it in sorted(packages))
+    least = ".".join(map(str, least_glibc(code)))
+    return ", ".join(f"libc6 (>= {least})" if it == "libc6" else it for it in sorted(packages))
+
+
+def wheel(release, _room):
+    """The package for Python, as PEP 427 lays it out, with the shared library in it."""
+    library = read(f"{release.libraries}/libboruvka.so.{release.version}")
+    if least_glibc(library) > MOST_GLIBC or not libraries_of(library) <= OF_MANYLINUX:
+        raise NotPacked(f"the shared library needs more than {TAG} says: {least_glibc(library)}, {sorted(libraries_of(library))}")
+    package, about = "boruvka", f"boruvka-{release.version}.dist-info"
+    sources = sorted(it for it in os.listdir(f"{ROOT}/python/{package}") if it.endswith((".py", ".typed")))
+    files = {f"{package}/{it}": read(f"{ROOT}/python/{package}/{it}") for it in sources}
+    # (without the last number Python would take it for a module)
+    files[f"{package}/libboruvka.so.{release.version.split('.')[0]}"] = library
+    texts = {
+        "METADATA": METADATA.format(version=release.version, readme=text_of("python/README.md")),
+        "WHEEL": WHEEL,
+        "entry_points.txt": ENTRY_POINTS,
+        "LICENSE": text_of("LICENSE"),
+        "PROVED.txt": "\n".join(release.proved()) + "\n",
+    }
+    files.update({f"{about}/{name}": text.encode() for name, text in texts.items()})
+    record = [f"{path},sha256={digest(content)},{len(content)}\n" for path, content in sorted(files.items())]
+    files[f"{about}/RECORD"] = "".join([*record, f"{about}/RECORD,,\n"]).encode()
+    return f"{package}-{release.version}-{TAG}.whl", zipped(files, release.seconds)
+
+
+def digest(content):
+    """A file's sum, as a wheel records it."""
+    return base64.urlsafe_b64encode(hashlib.sha256(content).digest()).decode().rstrip("=")
+
+
+def zipped(files, seconds):
+    """Files by their paths as a .zip, which has them in their order; all have one time."""
+    packed = io.BytesIO()
+    with zipfile.ZipFile(packed, "w") as out:
+        for path, content in files.items():
+            entry = zipfile.ZipInfo(path, time.gmtime(seconds)[:6])
+            entry.create_system, entry.external_attr = 3, (stat.S_IFREG | 0o644) << 16
+            out.writestr(entry, content, zipfile.ZIP_DEFLATED, 9)
+    return packed.getvalue()
 
 
 def debian(release, room):
@@ -206,7 +291,7 @@ def main(words):
     folder = into[0] if into else f"{ROOT}/dist"
     try:
         release = Release(program, libraries)
-        for pack in [tarball, debian]:
+        for pack in [tarball, wheel, debian]:
             if pack is debian and not shutil.which("dpkg-deb"):
                 print("dpkg-deb is not there, so no .deb was made", file=sys.stderr)
                 continue

@@ -352,7 +352,8 @@ def packed(into, env=KIT, **more):
     for name in os.listdir(into):
         with open(f"{into}/{name}", "rb") as it:
             found[name] = it.read()
-    is_so(output.decode(), "".join(f"{hashlib.sha256(found[it]).hexdigest()}  {it}\n" for it in sorted(found, key=lambda it: it.endswith(".deb"))))
+    made_in_turn = sorted(found, key=lambda it: [".gz", ".whl", ".deb"].index(os.path.splitext(it)[1]))
+    is_so(output.decode(), "".join(f"{hashlib.sha256(found[it]).hexdigest()}  {it}\n" for it in made_in_turn))
     return found
 
 
@@ -368,7 +369,7 @@ def expect_proved(path):
 @case
 def the_same_files_make_the_same_packages(room):
     first = packed(f"{room}/first")
-    is_so(len(first), 2 if shutil.which("dpkg-deb") else 1)
+    is_so(len(first), 3 if shutil.which("dpkg-deb") else 2)
     # other modes, another place and zone, another install's folders, and a second later
     time.sleep(1.1)
     other = {**KIT, "TZ": "Asia/Tokyo", "LC_ALL": "C", "LIBDIR": "/elsewhere", "TMPDIR": f"{room}/longer"}
@@ -449,7 +450,7 @@ def a_package_tells_what_the_gate_passed(room):
     needs("git")
     libraries()
     top = f"{room}/top"
-    for name in ["Makefile", "README.md", "LICENSE", "tools", "include", "man", "completions", "examples", VERSION]:
+    for name in ["Makefile", "README.md", "LICENSE", "tools", "include", "man", "completions", "examples", "python", VERSION]:
         copy = shutil.copytree if os.path.isdir(f"{ROOT}/{name}") else shutil.copy
         os.makedirs(os.path.dirname(f"{top}/{name}"), exist_ok=True)
         copy(f"{ROOT}/{name}", f"{top}/{name}")
@@ -486,7 +487,7 @@ def a_package_tells_what_the_gate_passed(room):
     for name in ("libboruvka.a", f"libboruvka.so.{version()}"):
         shutil.copy(f"{LIBRARIES}/{name}", f"{top}/crates/boruvka_c/out/{name}")
     status, output, _ = run([sys.executable, "-B", f"{top}/tools/dist.py"], env={it: word for it, word in KIT.items() if it != "SOURCE_DATE_EPOCH"})
-    is_so((status, output.count(b"\n")), (0, 2 if shutil.which("dpkg-deb") else 1))
+    is_so((status, output.count(b"\n")), (0, 3 if shutil.which("dpkg-deb") else 2))
     name = f"boruvka-{version()}-x86_64-linux"
     with tarfile.open(f"{top}/dist/{name}.tar.gz") as tar:
         member = tar.getmember(f"{name}/PROVED.txt")

@@ -1,0 +1,157 @@
+"""The package for Python: what its wheel has, that pip installs it, and its own tests over the wheel. They are run by a
+Python that has numpy, and are skipped where there is none; so is a part that wants one more package than is there."""
+import base64
+import csv
+import hashlib
+import io
+import os
+import re
+import shutil
+import subprocess
+import sys
+import time
+import zipfile
+
+from cases.embedding import LIBRARIES
+from cases.release import AT, PLAIN, expect_proved, is_so, major, packed, version
+from cases.running import ROOT, Skipped, case, expect, run, written
+
+PACKAGE = f"{ROOT}/python"
+PYTHONS = (sys.executable, "/usr/bin/python3", "/usr/local/bin/python3")
+USED = ("numpy", "scipy", "networkx", "sklearn", "matplotlib")
+WITHOUT = {it: word for it, word in PLAIN.items() if it != "BORUVKA_LIBRARY"}
+
+
+def python():
+    """The Python that has numpy and the most of the other packages."""
+    code = "import importlib.util, sys; print(*(importlib.util.find_spec(it) is not None for it in sys.argv[1:]))"
+    found = []
+    for path in filter(os.path.exists, PYTHONS):
+        told = run([path, "-c", code, *USED], env=WITHOUT)[1].decode().split()
+        if told[:1] == ["True"]:
+            found.append((told.count("True"), path))
+    if not found:
+        raise Skipped("no Python has numpy")
+    return max(found, key=lambda it: it[0])[1]
+
+
+def wheel(room):
+    """The path of the wheel; packed once."""
+    folder = f"{os.path.dirname(room)}/wheel"
+    if not os.path.exists(folder):
+        packed(f"{room}/packed")
+        os.mkdir(folder)
+        for name in os.listdir(f"{room}/packed"):
+            if name.endswith(".whl"):
+                shutil.copy(f"{room}/packed/{name}", folder)
+    (name,) = os.listdir(folder)
+    return f"{folder}/{name}"
+
+
+def expect_tests(room, *names):
+    """These of the package's tests pass over the wheel, unpacked. If all of them are skipped, so is the case."""
+    with zipfile.ZipFile(wheel(room)) as it:
+        it.extractall(f"{room}/site")
+    path = os.pathsep.join([f"{room}/site", *filter(None, [os.environ.get("PYTHONPATH")])])
+    env = {**WITHOUT, "PYTHONPATH": path, "PYTHONDONTWRITEBYTECODE": "1", "MPLCONFIGDIR": os.path.dirname(room)}
+    status, _, told = run([python(), "-m", "unittest", "-v", *names], env=env, cwd=f"{PACKAGE}/tests", seconds=300)
+    shape = re.search(r"^Ran (\d+) tests? in .*\n\nOK(?: \(skipped=(\d+)\))?\s*$", told.decode(), re.M)
+    if status or not shape or shape[1] == "0":
+        raise AssertionError(told.decode()[-3000:])
+    if shape[1] == shape[2]:
+        raise Skipped(re.search(r"\.\.\. skipped ['\"](.*)['\"]$", told.decode(), re.M)[1])
+
+
+@case
+def the_wheel_is_whole(room):
+    path = wheel(room)
+    is_so(os.path.basename(path), f"boruvka-{version()}-py3-none-manylinux2014_x86_64.whl")
+    with zipfile.ZipFile(path) as it:
+        files = {entry.filename: it.read(entry) for entry in it.infolist()}
+        is_so({(entry.date_time, entry.external_attr >> 16) for entry in it.infolist()}, {(time.gmtime(AT)[:6], 0o100644)})
+    about = f"boruvka-{version()}.dist-info"
+    modules = {f"boruvka/{it}" for it in os.listdir(f"{PACKAGE}/boruvka") if it.endswith(".py")}
+    kept = {f"{about}/{it}" for it in ("METADATA", "WHEEL", "RECORD", "LICENSE", "PROVED.txt", "entry_points.txt")}
+    library = f"libboruvka.so.{major()}"
+    is_so(set(files), modules | kept | {"boruvka/py.typed", f"boruvka/{library}"})
+    for name in [*modules, f"boruvka/{library}"]:
+        with open(f"{LIBRARIES}/{library}" if name.endswith(library) else f"{PACKAGE}/{name}", "rb") as it:
+            is_so(files[name] == it.read(), True)
+    rows = list(csv.reader(io.StringIO(files[f"{about}/RECORD"].decode())))
+    is_so(sorted(it[0] for it in rows), sorted(files))
+    for name, told, size in rows:
+        found = base64.urlsafe_b64encode(hashlib.sha256(files[name]).digest()).decode().rstrip("=")
+        is_so((told, size), ("", "") if name.endswith("RECORD") else (f"sha256={found}", str(len(files[name]))))
+    head, _, readme = files[f"{about}/METADATA"].decode().partition("\n\n")
+    fields = [tuple(it.split(": ", 1)) for it in head.splitlines()]
+    is_so([it for it in fields if it[0] in ("Name", "Version")], [("Name", "boruvka"), ("Version", version())])
+    is_so([it[1] for it in fields if it[0] == "Requires-Dist" and ";" not in it[1]], ["numpy>=1.21"])
+    with open(f"{PACKAGE}/README.md", encoding="utf-8") as it:
+        is_so(readme, it.read())
+    written(f"{room}/PROVED.txt", files[f"{about}/PROVED.txt"])
+    expect_proved(f"{room}/PROVED.txt")
+
+
+@case
+def the_wheel_asks_for_no_more_than_its_tag_says(_room):
+    """By the symbols of the library: manylinux2014 has the C library of the version 2.17."""
+    if not shutil.which("objdump"):
+        raise Skipped("there is no objdump")
+    shared = f"{LIBRARIES}/libboruvka.so"
+    symbols = subprocess.run(["objdump", "-T", shared], check=True, capture_output=True, text=True).stdout
+    versions = {tuple(map(int, it.split("."))) for it in re.findall(r"\(?GLIBC_([\d.]+)", symbols)}
+    heads = subprocess.run(["objdump", "-p", shared], check=True, capture_output=True, text=True).stdout
+    is_so((bool(versions), {it for it in versions if it > (2, 17)}), (True, set()))
+    is_so(re.findall(r"NEEDED +(\S+)", heads), ["libc.so.6"])
+
+
+@case
+def a_fresh_environment_installs_the_wheel(room):
+    """By pip and without a network, over a system that has numpy."""
+    made = run([python(), "-m", "venv", "--system-site-packages", f"{room}/fresh"], env=WITHOUT)
+    if made[0]:
+        raise Skipped("this Python makes no environment with pip")
+    pip = [f"{room}/fresh/bin/python", "-m", "pip", "--disable-pip-version-check", "--quiet"]
+    env = {it: word for it, word in WITHOUT.items() if not it.startswith(("PIP_", "PYTHON"))}
+    expect(run([*pip, "install", "--no-index", wheel(room)], env=env), 0, b"", b"")
+    code = "import boruvka; print(boruvka.__file__); print(boruvka.minimum_spanning_forest(3, [0, 1, 2], [1, 2, 0], [3, 1, 2]).index)"
+    status, output, errors = run([f"{room}/fresh/bin/python", "-c", code], env=env, cwd=room)
+    expect((status, output.split(b"\n")[1:], errors), 0, [b"[1 2]", b""], b"")
+    is_so(output.startswith(f"{os.path.realpath(room)}/fresh/".encode()), True)
+    expect(run([*pip, "uninstall", "--yes", "boruvka"], env=env), 0, b"", b"")
+    is_so(run([f"{room}/fresh/bin/python", "-c", "import boruvka"], env=env, cwd=room)[0], 1)
+
+
+@case
+def forests_of_arrays(room):
+    expect_tests(room, "test_forest")
+
+
+@case
+def linkage_and_clusters(room):
+    expect_tests(room, "test_linkage.Worked", "test_linkage.Refused", "test_linkage.Drawn")
+
+
+@case
+def linkage_beside_scipys(room):
+    expect_tests(room, "test_linkage.Scipys")
+
+
+@case
+def sparse_matrices_beside_scipys(room):
+    expect_tests(room, "test_sparse")
+
+
+@case
+def graphs_of_networkx_beside_its_own(room):
+    expect_tests(room, "test_networkx.Functions")
+
+
+@case
+def networkx_finds_the_backend(room):
+    expect_tests(room, "test_networkx.Found")
+
+
+@case
+def docstrings_readme_and_pictures(room):
+    expect_tests(room, "test_documents")
