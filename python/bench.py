@@ -1,0 +1,105 @@
+"""Times the package beside scipy and networkx, and prints the table of README.md.
+
+usage: python3 bench.py
+
+Each time is processor time of this process, the least of five calls in turns with the other's. The machine should do
+nothing else. It takes some minutes and 4 GB, and needs scipy and networkx.
+"""
+
+import gc
+import time
+
+import networkx as nx
+import numpy as np
+from scipy.cluster.hierarchy import linkage
+from scipy.sparse import coo_matrix, csgraph
+from scipy.spatial.distance import pdist
+
+from boruvka import minimum_spanning_forest, networkx_backend
+from boruvka.linkage import single_linkage
+from boruvka.sparse import minimum_spanning_tree
+
+EDGES = [10_000, 100_000, 1_000_000, 4_000_000]
+TURNS = 5
+
+
+def least(*calls):
+    """The least milliseconds of each of these calls, in turns."""
+    found = [[] for _ in calls]
+    for _ in range(TURNS):
+        for call, times in zip(calls, found):
+            gc.collect()
+            begun = time.process_time()
+            call()
+            times.append(1000 * (time.process_time() - begun))
+    return [min(it) for it in found]
+
+
+def brief(number):
+    """Two digits of a number."""
+    return f"{float(f'{number:.2g}'):,g}"
+
+
+def row(what, size, other, times):
+    """A line of the table for each of ours, whose times come before the other's."""
+    for name, ours in zip(what, times):
+        print(f"| {name} | {size} | {brief(ours)} | {other} | {brief(times[-1])} | {brief(ours / times[-1])} |", flush=True)
+
+
+def drawn(m):
+    """As many edges between a quarter as many vertices."""
+    draw = np.random.default_rng(m)
+    n = m // 4
+    return n, draw.integers(0, n, m, dtype=np.int32), draw.integers(0, n, m, dtype=np.int32), draw.random(m)
+
+
+def arrays(m):
+    n, u, v, w = drawn(m)
+    whole = (w * 1_000_000).astype(np.int64)
+    # (weights of 0 aren't in a sparse matrix)
+    matrix = coo_matrix((w + 1, (u, v)), shape=(n, n)).tocsr()
+    times = least(
+        lambda: minimum_spanning_forest(n, u, v, w),
+        lambda: minimum_spanning_forest(n, u, v, whole),
+        lambda: minimum_spanning_tree(matrix),
+        lambda: csgraph.minimum_spanning_tree(matrix),
+    )
+    row(["edges, float64", "edges, int64", "`boruvka.sparse`"], f"{m:,}", "scipy, csr", times)
+
+
+def graphs(m):
+    n, u, v, w = drawn(m)
+    graph = nx.Graph()
+    graph.add_weighted_edges_from(zip(u.tolist(), v.tolist(), w.tolist()))
+    kept = networkx_backend.convert_from_nx(graph)
+    list(networkx_backend.minimum_spanning_edges(kept))
+    times = least(
+        lambda: list(networkx_backend.minimum_spanning_edges(graph)),
+        lambda: list(networkx_backend.minimum_spanning_edges(kept)),
+        lambda: list(nx.minimum_spanning_edges(graph)),
+    )
+    row(["networkx, first call", "networkx, later"], f"{m:,}", "its own Kruskal", times)
+
+
+def points(n):
+    given = np.random.default_rng(n).random((n, 2))
+    row(["points of a plane"], f"{n:,}", "scipy's linkage", least(lambda: single_linkage(given), lambda: linkage(given, "single")))
+
+
+def distances(n):
+    given = pdist(np.random.default_rng(n).random((n, 5)))
+    row([f"distances of {n:,} points"], f"{len(given):,}", "scipy's linkage", least(lambda: single_linkage(given), lambda: linkage(given, "single")))
+
+
+def main():
+    print("| What | Size | ms | Beside | ms | Ratio |")
+    print("|---|---|---|---|---|---|")
+    for m in EDGES:
+        arrays(m)
+    graphs(100_000)
+    points(10_000)
+    distances(2_000)
+
+
+if __name__ == "__main__":
+    main()
