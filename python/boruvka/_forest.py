@@ -93,8 +93,8 @@ def minimum_spanning_forest(n: SupportsIndex, u: ArrayLike, v: ArrayLike, w: Arr
     if not len(tails) == len(heads) == len(weights):
         raise ValueError(f"u, v and w differ in length: {len(tails)}, {len(heads)} and {len(weights)}")
     index = places(count, tails, heads, weights)
-    one, other = tails[index].astype(np.intp), heads[index].astype(np.intp)
-    return Forest(np.minimum(one, other), np.maximum(one, other), weights[index], index)
+    one, other = tails.take(index).astype(np.intp), heads.take(index).astype(np.intp)
+    return Forest(np.minimum(one, other), np.maximum(one, other), weights.take(index), index)
 
 
 def places(n: int, tails: np.ndarray, heads: np.ndarray, weights: np.ndarray) -> NDArray[np.intp]:

@@ -31,7 +31,10 @@ def _of_floats(weights: np.ndarray) -> NDArray[np.int64]:
         bits = keys[start : start + _PIECE]
         doubles = bits.view(np.float64)
         np.add(weights[start : start + _PIECE], 0.0, out=doubles)
-        if np.isnan(doubles).any():
+        # (which is NaN if one of them is)
+        least = doubles.min()
+        if np.isnan(least):
             raise ValueError(f"w[{start + np.isnan(doubles).argmax()}] is NaN")
-        bits ^= (bits >> 63) & _MOST
+        if least < 0:
+            bits ^= (bits >> 63) & _MOST
     return keys
