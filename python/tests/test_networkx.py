@@ -163,6 +163,18 @@ class Found(unittest.TestCase):
         with self.assertRaises(nx.NetworkXNotImplemented):
             nx.minimum_spanning_tree(nx.DiGraph([(1, 2)]), backend="boruvka")
 
+    def test_as_the_first_choice_for_all_calls(self):
+        if not hasattr(getattr(nx, "config", None), "backend_priority"):
+            self.skipTest("this networkx has no such choice")
+        draw = np.random.default_rng(2)
+        for weights in (draw.random(900).tolist(), [fractions.Fraction(it, 7) for it in draw.integers(0, 9, 900).tolist()]):
+            graph = nx.MultiGraph()
+            graph.add_weighted_edges_from(zip(draw.integers(0, 99, 900).tolist(), draw.integers(0, 99, 900).tolist(), weights))
+            own = list(nx.maximum_spanning_edges(graph)), whole(nx.minimum_spanning_tree(graph))
+            with nx.config(backend_priority=["boruvka"]):
+                self.assertEqual((list(nx.maximum_spanning_edges(graph)), whole(nx.minimum_spanning_tree(graph))), own)
+            self.assertIn("boruvka", graph.__networkx_cache__["backends"])
+
     def test_told_by_networkx(self):
         self.assertEqual(nx.utils.backends.backend_info["boruvka"]["backend_name"], "boruvka")
 

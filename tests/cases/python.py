@@ -102,7 +102,7 @@ def the_wheel_asks_for_no_more_than_its_tag_says(_room):
     versions = {tuple(map(int, it.split("."))) for it in re.findall(r"\(?GLIBC_([\d.]+)", symbols)}
     heads = subprocess.run(["objdump", "-p", shared], check=True, capture_output=True, text=True).stdout
     is_so((bool(versions), {it for it in versions if it > (2, 17)}), (True, set()))
-    is_so(re.findall(r"NEEDED +(\S+)", heads), ["libc.so.6"])
+    is_so(set(re.findall(r"NEEDED +(\S+)", heads)) - {"libc.so.6", "ld-linux-x86-64.so.2"}, set())
 
 
 @case
