@@ -64,17 +64,18 @@ class Docstrings(unittest.TestCase):
 
 class Readme(unittest.TestCase):
     def test_what_it_shows(self):
-        """Each line after `>>>`, in a folder that has its points.csv; what needs scipy or networkx is left out without them."""
-        names = [it for it in ("scipy", "networkx") if not there(it)]
+        """Each line after `>>>`, in a folder that has its points.csv; what needs scipy is left out where it isn't there."""
         with open(f"{TOP}/README.md", encoding="utf-8") as it:
             blocks = it.read().split("```")[1::2]
         shown = [it.removeprefix("pycon\n") for it in blocks if it.startswith("pycon\n")]
-        kept = "\n".join(it for it in shown if not any(name in it for name in names))
+        kept = "\n".join(it for it in shown if "boruvka.sparse" not in it or there("scipy"))
+        (points,) = [it.removeprefix("text\n") for it in blocks if it.startswith("text\n")]
         self.assertGreaterEqual(len(shown), 3)
         test = doctest.DocTestParser().get_doctest(kept, {}, "README.md", "README.md", 0)
         told, here = io.StringIO(), os.getcwd()
         with tempfile.TemporaryDirectory() as folder:
-            np.savetxt(f"{folder}/points.csv", [[0, 0], [1, 0], [0, 1.5], [9, 9], [9, 8], [10, 9.5]], delimiter=",")
+            with open(f"{folder}/points.csv", "w", encoding="utf-8") as it:
+                it.write(points)
             os.chdir(folder)
             try:
                 doctest.DocTestRunner(verbose=False).run(test, out=told.write)
