@@ -1,6 +1,7 @@
 """The package for Python: what its wheel has, that pip installs it, and its own tests over the wheel. They are run by a
 Python that has numpy, and are skipped where there is none; so is a part that wants one more package than is there."""
 import base64
+import configparser
 import csv
 import hashlib
 import io
@@ -88,6 +89,13 @@ def the_wheel_is_whole(room):
     is_so([it[1] for it in fields if it[0] == "Requires-Dist" and ";" not in it[1]], ["numpy>=1.21"])
     with open(f"{PACKAGE}/README.md", encoding="utf-8") as it:
         is_so(readme, it.read())
+    # by these networkx finds the backend, and what it tells of it
+    entries = configparser.ConfigParser()
+    entries.read_string(files[f"{about}/entry_points.txt"].decode())
+    found = {(section, *it) for section in entries.sections() for it in entries.items(section)}
+    backend = "boruvka.networkx_backend"
+    is_so(found, {("networkx.backends", "boruvka", backend), ("networkx.backend_info", "boruvka", f"{backend}:info")})
+    is_so(b"\ndef info()" in files["boruvka/networkx_backend.py"], True)
     written(f"{room}/PROVED.txt", files[f"{about}/PROVED.txt"])
     expect_proved(f"{room}/PROVED.txt")
 
