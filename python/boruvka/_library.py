@@ -14,6 +14,8 @@ from numpy.typing import NDArray
 
 MAX_VERTICES = 1 << 26
 MAX_LINKS = 1 << 30
+#: `struct boruvka_link` of boruvka.h, whose vertices are numbered from 1
+LINK = np.dtype([("weight", np.int64), ("low", np.uint32), ("high", np.uint32)])
 
 _VERSION = 1
 _NO_MEMORY = -1
@@ -22,6 +24,7 @@ _BESIDE = os.path.join(os.path.dirname(os.path.abspath(__file__)), _NAME)
 _ARRAY = (ctypes.c_void_p, ctypes.c_size_t)
 _CALLS = {
     "boruvka_places_in": (ctypes.c_int64, [ctypes.c_uint32, ctypes.c_uint32, *_ARRAY, *_ARRAY, *_ARRAY, *_ARRAY]),
+    "boruvka_labels_in": (ctypes.c_int64, [*_ARRAY, *_ARRAY]),
     "boruvka_fault_text": (ctypes.c_size_t, [ctypes.c_int64, ctypes.c_char_p, ctypes.c_size_t]),
 }
 
@@ -52,6 +55,16 @@ def places(n: int, u: NDArray[np.uint32], v: NDArray[np.uint32], w: NDArray[np.i
     found = np.empty(min(len(w), max(n - 1, 0)), np.uint32)
     count = _library.boruvka_places_in(n, 0, *_passed(u), *_passed(v), *_passed(w), *_passed(found))
     return found[: _judged(count)]
+
+
+def labels(n: int, links: np.ndarray) -> NDArray[np.uint32]:
+    """The least vertex, from 1, of the component of each of the vertices 1 to n, under links that close no cycle.
+
+    Links of the dtype LINK that close a cycle, and an end that is no vertex, are a ValueError.
+    """
+    found = np.empty(n, np.uint32)
+    _judged(_library.boruvka_labels_in(*_passed(links), *_passed(found)))
+    return found
 
 
 def _passed(array: np.ndarray) -> tuple[int, int]:
