@@ -74,7 +74,7 @@ install: built
 	ln -sf $(SHARED) $(LIB)/libboruvka.so.$(MAJOR)
 	ln -sf libboruvka.so.$(MAJOR) $(LIB)/libboruvka.so
 	python3 tools/stamp.py pc $(call quoted,$(PREFIX)) $(call quoted,$(LIBDIR)) $(call quoted,$(INCLUDEDIR)) > $(LIB)/pkgconfig/boruvka.pc
-	install -m 644 include/boruvka.h $(INCLUDE)/boruvka.h
+	install -m 644 include/boruvka.h include/boruvka.hpp $(INCLUDE)
 	python3 tools/stamp.py page > $(MAN)/boruvka.1
 	chmod 644 $(LIB)/pkgconfig/boruvka.pc $(MAN)/boruvka.1
 	install -m 644 completions/boruvka.bash $(BASH_COMPLETIONS)/boruvka
@@ -82,7 +82,7 @@ install: built
 	install -m 644 completions/boruvka.fish $(FISH_COMPLETIONS)/boruvka.fish
 
 uninstall:
-	rm -f $(BIN)/boruvka $(INCLUDE)/boruvka.h $(MAN)/boruvka.1
+	rm -f $(BIN)/boruvka $(INCLUDE)/boruvka.h $(INCLUDE)/boruvka.hpp $(MAN)/boruvka.1
 	rm -f $(LIB)/libboruvka.a $(LIB)/libboruvka.so $(LIB)/libboruvka.so.$(MAJOR) $(LIB)/$(SHARED) $(LIB)/pkgconfig/boruvka.pc
 	rm -f $(BASH_COMPLETIONS)/boruvka $(ZSH_COMPLETIONS)/_boruvka $(FISH_COMPLETIONS)/boruvka.fish
 

@@ -4,7 +4,7 @@
 usage: tools/dist.py [--program FILE] [--libraries FOLDER] [INTO]
 
 It proves and builds nothing: `make dist` does that before it. FILE is the program, FOLDER has the libraries, and INTO
-gets the packages: dist/, if none is named. What goes into them is what `make install` copies, with the README, the
+gets the packages: dist/, if none is named. What goes into them is what `make install` copies, with documents, the
 licence, the examples, the sums of all files, and PROVED.txt: the commit, the kit, and the last lines of the gate if it
 has passed on this commit. The wheel has the package of python/boruvka and the shared library; no compiler made it.
 
@@ -34,7 +34,9 @@ from stamp import git, seconds, text_of, version
 
 PROGRAM = f"{ROOT}/crates/boruvka/out/boruvka"
 LIBRARIES = f"{ROOT}/crates/boruvka_c/out"
-EXAMPLES = ["examples/small.gr", "examples/embed/forest.c", "examples/embed/forest.py", "examples/embed/forest.rs"]
+EXAMPLES = ["examples/small.gr", "examples/roads.gr", *(f"examples/embed/forest.{it}" for it in ("c", "cpp", "py", "rs"))]
+# What the README sends its reader to, as far as it isn't code.
+DOCUMENTS = ["README.md", "SECURITY.md", "CHANGELOG.md", *(f"docs/{it}.md" for it in ("GR_FORMAT", "RECIPES", "PROTOCOL", "PROMISES", "PERFORMANCE"))]
 # Where an install puts what, if the environment says so; for a package it doesn't count.
 FOLDERS = ("BINDIR", "LIBDIR", "INCLUDEDIR", "MANDIR", "BASHDIR", "ZSHDIR", "FISHDIR")
 # The package of Debian that has a shared library.
@@ -168,7 +170,7 @@ def tarball(release, room):
     name = f"boruvka-{release.version}-x86_64-linux"
     root = f"{room}/{name}"
     release.install(root, "")
-    for path in ["README.md", "LICENSE", *EXAMPLES]:
+    for path in ["LICENSE", *DOCUMENTS, *EXAMPLES]:
         put(f"{root}/{path}", text_of(path))
     put(f"{root}/PROVED.txt", "\n".join(release.proved()) + "\n")
     put(f"{root}/SHA256SUMS", sums(root, "sha256"))
@@ -257,9 +259,8 @@ def debian(release, room):
     os.chmod(f"{root}{lib}/libboruvka.so.{release.version}", 0o644)
     share = f"{root}/usr/share/doc/boruvka"
     put(f"{share}/copyright", text_of("LICENSE"))
-    put(f"{share}/README.md", text_of("README.md"))
     put(f"{share}/PROVED.txt", "\n".join(release.proved()) + "\n")
-    for path in EXAMPLES:
+    for path in [*DOCUMENTS, *EXAMPLES]:
         put(f"{share}/{path}", text_of(path))
     put(f"{root}/DEBIAN/md5sums", sums(root, "md5"))
     put(f"{root}/DEBIAN/triggers", "activate-noawait ldconfig\n")

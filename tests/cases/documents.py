@@ -201,6 +201,7 @@ MOST_WORDS = {
     "docs/PERFORMANCE.md": 700,
     "CONTRIBUTING.md": 800,
     "CHANGELOG.md": 250,
+    "python/README.md": 700,
 }
 # and how many a paragraph, a bullet or a cell of a table, and how many a sentence
 MOST_AT_ONCE = 60

@@ -22,6 +22,11 @@ sys.path.insert(0, f"{ROOT}/tools")
 from stamp import PAGE, PC, VERSION, text_of, version
 
 EMBED = f"{ROOT}/examples/embed"
+# the documents and examples of a package
+TEXTS = [
+    "README.md", "SECURITY.md", "CHANGELOG.md", *(f"docs/{it}.md" for it in ("GR_FORMAT", "RECIPES", "PROTOCOL", "PROMISES", "PERFORMANCE")),
+    "examples/small.gr", "examples/roads.gr", *(f"examples/embed/forest.{it}" for it in ("c", "cpp", "py", "rs")),
+]
 AT = 1_700_000_000  # 2023-11-14, in place of the commit's time
 SET = ("PREFIX", "BINDIR", "LIBDIR", "INCLUDEDIR", "MANDIR", "BASHDIR", "ZSHDIR", "FISHDIR", "PKG_CONFIG_PATH", "LD_LIBRARY_PATH")
 PLAIN = {it: word for it, word in ENVIRONMENT.items() if it not in SET}
@@ -66,6 +71,7 @@ def installed(bin_="bin", lib="lib", include="include", share="share", man="shar
         f"{lib}/libboruvka.so.{version()}": None,
         f"{lib}/pkgconfig/boruvka.pc": None,
         f"{include}/boruvka.h": None,
+        f"{include}/boruvka.hpp": None,
         f"{man}/man1/boruvka.1": None,
         f"{share}/bash-completion/completions/boruvka": None,
         f"{zsh}/_boruvka": None,
@@ -170,7 +176,7 @@ def an_install_copies_and_is_taken_away(room):
     expect(make(f"PREFIX={prefix}", "install", program=program), 0, b"", b"")
     is_so(files_below(prefix), installed())
     expect(run([f"{prefix}/bin/boruvka", "--plain"], SMALL_NET), 0, SMALL_FOREST, b"")
-    for path, of in [("include/boruvka.h", "include/boruvka.h"), ("share/zsh/site-functions/_boruvka", SHELLS["zsh"])]:
+    for path, of in [("include/boruvka.h", "include/boruvka.h"), ("include/boruvka.hpp", "include/boruvka.hpp"), ("share/zsh/site-functions/_boruvka", SHELLS["zsh"])]:
         with open(f"{prefix}/{path}", encoding="utf-8") as it:
             is_so(it.read(), text_of(of))
     with open(f"{prefix}/share/man/man1/boruvka.1", encoding="utf-8") as it:
@@ -221,7 +227,7 @@ def the_heads_of_the_examples_say_how_to_run_them(room):
     prefix = f"{room}/prefix"
     expect(make(f"PREFIX={prefix}", "install"), 0, b"", b"")
     found = []
-    for name, mark, tools in [("forest.c", " * ", ["cc", "pkg-config"]), ("forest.rs", "//! ", ["rustc"]), ("forest.py", "", ["python3"])]:
+    for name, mark, tools in [("forest.c", " * ", ["cc", "pkg-config"]), ("forest.cpp", " * ", ["c++"]), ("forest.rs", "//! ", ["rustc"]), ("forest.py", "", ["python3"])]:
         head = re.split(r"^(?:#include|use|import) ", text_of(f"examples/embed/{name}").replace(" */\n", "\n"), flags=re.M)[0]
         shown = [it[len(mark) + 4 :] if it.startswith(mark + "    ") else "" for it in head.splitlines()]
         for number, commands in enumerate(filter(None, re.split(r"\n\n+", "\n".join(shown).strip("\n")))):
@@ -234,7 +240,7 @@ def the_heads_of_the_examples_say_how_to_run_them(room):
             # where no PREFIX is named the system finds the libraries
             env = PLAIN if "PREFIX" in commands else {**PLAIN, "PKG_CONFIG_PATH": f"{prefix}/lib/pkgconfig", "LD_LIBRARY_PATH": f"{prefix}/lib"}
             expect(run(["sh", "-ec", commands.replace("PREFIX", prefix)], cwd=here, env=env), 0, SMALL_FOREST, b"")
-    is_so(found, ["forest.c"] * 3 + ["forest.rs", "forest.py"])
+    is_so(found, ["forest.c"] * 3 + ["forest.cpp", "forest.rs", "forest.py"])
 
 
 # Completions
@@ -396,7 +402,7 @@ def the_packed_folder_is_whole_and_runs(room):
     is_so({it.name for it in members if it.isfile() and it.mode == 0o755}, run_by)
     is_so({it.mode for it in members if it.isfile() and it.name not in run_by} | {it.mode + 1 for it in members if it.isdir()}, {0o644, 0o756})
     root = f"{room}/empty/{name}"
-    more = ["README.md", "LICENSE", "PROVED.txt", "SHA256SUMS", "examples/small.gr", *(f"examples/embed/forest.{it}" for it in ("c", "py", "rs"))]
+    more = ["LICENSE", "PROVED.txt", "SHA256SUMS", *TEXTS]
     is_so(files_below(root), {**installed(), **dict.fromkeys(more)})
     with open(f"{root}/SHA256SUMS", encoding="utf-8") as it:
         told = dict(reversed(line.split()) for line in it)
@@ -425,7 +431,7 @@ def the_package_of_debian_is_whole_and_runs(room):
     expect(run(["dpkg-deb", "-e", path, f"{room}/control"]), 0, b"", b"")
     wanted = installed("usr/bin", lib, "usr/include", "usr/share", "usr/share/man", "usr/share/zsh/vendor-completions")
     wanted["usr/share/man/man1/boruvka.1.gz"] = wanted.pop("usr/share/man/man1/boruvka.1")
-    doc = ["README.md", "copyright", "PROVED.txt", "examples/small.gr", *(f"examples/embed/forest.{it}" for it in ("c", "py", "rs"))]
+    doc = ["copyright", "PROVED.txt", *TEXTS]
     is_so(files_below(root), {**wanted, **{f"usr/share/doc/boruvka/{it}": None for it in doc}})
     listed = run(["dpkg-deb", "-c", path], env={**PLAIN, "TZ": "UTC"})[1].decode().splitlines()
     is_so({tuple(it.split()[1:2] + it.split()[3:5]) for it in listed}, {("root/root", "2023-11-14", "22:13")})
@@ -450,7 +456,7 @@ def a_package_tells_what_the_gate_passed(room):
     needs("git")
     libraries()
     top = f"{room}/top"
-    for name in ["Makefile", "README.md", "LICENSE", "tools", "include", "man", "completions", "examples", "python", VERSION]:
+    for name in ["Makefile", "README.md", "SECURITY.md", "CHANGELOG.md", "LICENSE", "docs", "tools", "include", "man", "completions", "examples", "python", VERSION]:
         copy = shutil.copytree if os.path.isdir(f"{ROOT}/{name}") else shutil.copy
         os.makedirs(os.path.dirname(f"{top}/{name}"), exist_ok=True)
         copy(f"{ROOT}/{name}", f"{top}/{name}")
