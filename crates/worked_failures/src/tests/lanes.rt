@@ -1,13 +1,12 @@
 // Whole runs over lanes to two workers in memory, of the small net in two shards.
-ghost use Rattle.std.specs.Prelude.{◌≡◌, ◌<◌, ◌≤◌, length, All, IfOk};
-ghost use Rattle.links.specs.Link.{EndsUpTo};
+ghost use Rattle.std.specs.Prelude.{◌≡◌, ◌<◌, IfOk};
 ghost use Rattle.port_rounds.specs.Lanes.{IsIdle};
 
 use super::in_turn::{Memory, expect_any, or_refused, was_refused};
 use super::lists::{even_cut, expect_forest, few_links};
 use super::same::expect_same;
-use port_rounds::{Lane, solve};
 use link_key::Cut;
+use port_rounds::{Lane, solve};
 use ports::{EngineLine, Wire};
 use round_core::SolveFault;
 use std::alloc::{AllocError, Global};
