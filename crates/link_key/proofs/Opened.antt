@@ -1,12 +1,11 @@
 -- Links with the labels of their ends: what a new numbering of the labels leaves of them.
-use Rattle.std.proofs.Common.{◌≡◌, ℕ, ◌+◌, ◌<◌, ◌≤◌, ◌==◌, pos, true, false, not, List, [], ◌∷◌, map, Contains, length, get_or, is_lt, refl, sym, ap, ap₂, ◌∙◌, subst, inl, inr, arith}
+use Rattle.std.proofs.Common.{◌≡◌, ℕ, ◌+◌, ◌<◌, ◌≤◌, ◌==◌, pos, true, not, List, [], ◌∷◌, map, Contains, length, get_or, is_lt, refl, sym, ap, ap₂, ◌∙◌, subst, inl, inr, arith}
 use Rattle.std.specs.List.{filter, All}
 use Rattle.std.specs.List.Sorted.{IsSorted}
 use Rattle.std.proofs.lemmas.Int.{ints}
 use Rattle.std.proofs.lemmas.List.{same_lists, get_or-map, get_or_default, length-map, get_or_past}
 use Rattle.std.proofs.lemmas.Bool.{cases_lt}
 use Rattle.std.proofs.lemmas.List.Elements.{All-contains, All-filter, All-map}
-use Rattle.std.proofs.lemmas.List.Filters.{length-filter_both}
 use Rattle.std.proofs.lemmas.List.Kept.{IsSortedBy-filter}
 use Rattle.std.proofs.lemmas.List.Sorted.{ranks_by}
 use Rattle.std.proofs.lemmas.Bool.Decides.{nat_tests}
@@ -15,10 +14,10 @@ use Rattle.link_key.specs.declared.sequential.rounds.Open.{Open}
 use Rattle.links.specs.Link.{key_cmp}
 use Rattle.link_key.specs.Rounds.{HasOneLabel}
 use Rattle.links.specs.Labels.{renamed}
-use Rattle.link_key.specs.OpenLinks.{link_of, links_of, open_cmp, renumbered, is_open, AreOpened, IsLabelled, AreLabelled, AreOpenOf, IsBetween, AreBetween, AreAllNumbers, AreFilled, HaveFirst}
+use Rattle.link_key.specs.OpenLinks.{link_of, links_of, open_cmp, renumbered, is_open, AreOpened, IsLabelled, AreLabelled, AreOpenOf, IsBetween, AreBetween, AreAllNumbers}
 use Rattle.links.proofs.Members.{contains_cases, contains_head, contains_tail, contains_none}
 use Rattle.links.proofs.Keys.{key_cmp_total}
-use Rattle.link_key.proofs.Stages.{kept_fewer, renamed_to, renamed_len}
+use Rattle.link_key.proofs.Stages.{renamed_to, renamed_len}
 use Rattle.links.proofs.Kept.{kept_in, kept_if}
 
 in_map : {X Y : Type 0} (f : X → Y) (xs : List X) (x : X) → Contains xs x → Contains (map f xs) (f x)
@@ -117,24 +116,6 @@ module _ (numbers : List ℕ) (candidates : List Open) where
           let next = get_or-map (renumbered numbers) candidates (k + 1) o o to' in
           rw (here, next) (order k o from to')
 
-  -- the first link's labels have one number, so it goes
-  fewer : HaveFirst numbers candidates → 0 < length candidates → length (filter is_open (map (renumbered numbers) candidates)) < length candidates
-  fewer first some =
-      let len = length-map candidates (renumbered numbers) in
-      subst (λ n. length (filter is_open (map (renumbered numbers) candidates)) < n) len (kept_fewer is_open (map (renumbered numbers) candidates) closed (subst (λ n. 0 < n) (sym len) some))
-    where
-      closed : (d : Open) → is_open (get_or (map (renumbered numbers) candidates) 0 d) ≡ false
-      closed d = ap is_open (get_or-map (renumbered numbers) candidates 0 d d some) ∙ shut (get_or numbers (get_or candidates 0 d).low 0) (get_or numbers (get_or candidates 0 d).high 0) (first d some).2
-        where
-          shut : (a b : ℕ) → a ≡ b → not (a == b) ≡ false
-          shut a b same = grind (arith, nat_tests)
-
-  pub left_fewer : HaveFirst numbers candidates → 0 < length (filter is_open (map (renumbered numbers) candidates)) → length (filter is_open (map (renumbered numbers) candidates)) < length candidates
-  left_fewer first some =
-      let few = length-filter_both is_open (λ o. not (is_open o)) (λ o. refl) (map (renumbered numbers) candidates) in
-      let len = length-map candidates (renumbered numbers) in
-      fewer first (omega (arith, few, len, some))
-
   -- their labels are numbers
   pub left_between : {bound len last : ℕ} → AreBetween bound len candidates → length numbers ≡ bound → AreAllNumbers last numbers → AreBetween (last + 1) len (filter is_open (map (renumbered numbers) candidates))
   left_between {bound} {len} {last} ends same all =
@@ -225,35 +206,7 @@ renamed_numbers {count} {last} {numbers} {further} are len few all = record {
   few = let many = are.few in let same = renamed_len further numbers in omega (arith, many, same, few);
 }
 
--- where one component is left, each label but 0 gets the number 1
-pub renamed_to_one : {left : ℕ} {numbers further now : List ℕ} → AreAllNumbers left numbers → length further ≡ left + 1 → AreAllNumbers 1 further → length now ≡ length numbers → get_or now 0 0 ≡ 0 → ((k : ℕ) → 0 < k → k < length now → get_or now k 0 ≡ 1) → now ≡ renamed further numbers
-renamed_to_one {left} {numbers} {further} {now} are len all same zero ones = same_lists now (renamed further numbers) (same ∙ sym (renamed_len further numbers)) (λ k d lt.
-    get_or_default now k d 0 lt ∙ at k lt ∙ sym (renamed_at numbers further k all.none) ∙ get_or_default (renamed further numbers) k 0 d (subst (λ n. k < n) (same ∙ sym (renamed_len further numbers)) lt))
-  where
-    one : (n : ℕ) → n ≤ 1 → 0 < n → 1 ≡ n
-    one n most some = omega (arith, most, some)
-
-    at : (k : ℕ) → k < length now → get_or now k 0 ≡ get_or further (get_or numbers k 0) 0
-    at k lt = elim (cases_lt 0 k) [
-      | inl from_one ↦
-          let had = are.some k from_one (subst (λ n. k < n) same lt) in
-          let most = are.at_most k in
-          let label = get_or numbers k 0 in
-          ones k from_one lt ∙ one (get_or further label 0) (all.at_most label) (all.some label had (omega (arith, most, len)))
-      | inr none ↦
-          let is : 0 ≡ k = omega (arith, none) in
-          subst (λ j. get_or now j 0 ≡ get_or further (get_or numbers j 0) 0) is (zero ∙ sym all.none ∙ ap (λ j. get_or further j 0) (sym are.none))
-    ]
-
 -- nothing is left
 pub none_left : {X : Type 0} (xs : List X) → length xs ≡ 0 → xs ≡ []
 none_left [] none = refl
 none_left (x ∷ xs) none = absurd (omega (arith, none))
-
--- the first link's labels have their one number when all have one
-pub filled_first : {numbers filled : List ℕ} (candidates : List Open) → AreFilled numbers filled → HaveFirst numbers candidates → HaveFirst filled candidates
-filled_first {numbers} {filled} candidates are first d some =
-    let had = first d some in
-    let low = are.kept (get_or candidates 0 d).low had.0 in
-    let high = are.kept (get_or candidates 0 d).high had.1 in
-    (subst (λ k. 0 < k) (sym low) had.0, subst (λ k. 0 < k) (sym high) had.1, low ∙ had.2 ∙ sym high)

@@ -11,21 +11,14 @@ use Rattle.links.specs.declared.links.Link.{Link}
 use Rattle.links.specs.Link.{IsBelow, key_cmp}
 use Rattle.links.specs.Walk.{Joins}
 use Rattle.link_key.specs.Rounds.{HasOneLabel}
-use Rattle.link_key.specs.declared.sequential.rounds.Open.{Open}
 use Rattle.link_key.specs.Rounds.{LeavesLabel, IsLeastOut, AreJoinedWhereOne}
 use Rattle.link_key.specs.OpenLinks.{AreNumbers, ShareNumber, AreTouched, number_of, zeros}
 use Rattle.links.proofs.Members.{contains_none}
 use Rattle.links.proofs.Keys.{key_cmp_total}
 use Rattle.links.proofs.Walks.{joins_link, joins_symm, joins_trans, joins_more}
 
--- What the first touches of the first i links leave: nothing where there are none, else the first link's labels have one
--- number.
-pub record AreFirst (i : ℕ) (numbers : List ℕ) (candidates : List Open) : Type 0 where
-  pub fresh : i ≡ 0 → (c : ℕ) → get_or numbers c 0 ≡ 0
-  pub first : (d : Open) → 0 < i → (0 < get_or numbers (get_or candidates 0 d).low 0) × (0 < get_or numbers (get_or candidates 0 d).high 0) × (get_or numbers (get_or candidates 0 d).low 0 ≡ get_or numbers (get_or candidates 0 d).high 0)
-
 -- a table without numbers has none past its end either
-none_anywhere : (numbers : List ℕ) → ((c : ℕ) → c < length numbers → get_or numbers c 0 ≡ 0) → (c : ℕ) → get_or numbers c 0 ≡ 0
+pub none_anywhere : (numbers : List ℕ) → ((c : ℕ) → c < length numbers → get_or numbers c 0 ≡ 0) → (c : ℕ) → get_or numbers c 0 ≡ 0
 none_anywhere numbers none c = elim (cases_lt c (length numbers)) [
   | inl inside ↦ none c inside
   | inr past ↦ get_or_past numbers c 0 past
@@ -47,12 +40,6 @@ numbers_none numbers none = record {
   at_most = λ c. let at = none_anywhere numbers none c in omega (arith, at);
   none = none_anywhere numbers none 0;
   few = let few = zeros_few numbers in omega (arith, few);
-}
-
-pub first_none : (numbers : List ℕ) (candidates : List Open) → ((c : ℕ) → c < length numbers → get_or numbers c 0 ≡ 0) → AreFirst 0 numbers candidates
-first_none numbers candidates none = record {
-  fresh = λ _. none_anywhere numbers none;
-  first = λ d some. absurd (omega (arith, some));
 }
 
 pub touched_none : (labels : List ℕ) (rest : List Link) (numbers : List ℕ) (before : List Link) → ((c : ℕ) → c < length numbers → get_or numbers c 0 ≡ 0) → AreTouched labels rest [] numbers before before
@@ -133,39 +120,6 @@ module _ {a b last last' : ℕ} {numbers numbers' : List ℕ} (share : ShareNumb
 leaves_end : (labels : List ℕ) (m : Link) (c : ℕ) → LeavesLabel labels m c → (get_or labels m.low 0 ≡ c) ⊎ (get_or labels m.high 0 ≡ c)
 leaves_end labels m c (inl (at, _)) = inl at
 leaves_end labels m c (inr (_, at)) = inr at
-
--- One more link: it was touched before, or its labels get one number.
-pub first_passed : {i : ℕ} {numbers : List ℕ} {candidates : List Open} (x : Open) → 0 < get_or numbers x.low 0 → AreFirst i numbers candidates → AreFirst (i + 1) numbers candidates
-first_passed {i} {numbers} x had so_far = record {
-  fresh = λ none. absurd (omega (arith, none));
-  first = λ d some. elim (cases_lt 0 i) [
-    | inl more ↦ so_far.first d more
-    | inr alone ↦ let none = so_far.fresh (omega (arith, alone)) x.low in absurd (omega (arith, none, had))
-  ];
-}
-
-pub first_taken : {i last last' : ℕ} {numbers numbers' : List ℕ} {candidates : List Open} (x : Open) → i < length candidates → x ≡ get_or candidates i x → ShareNumber x.low x.high last numbers last' numbers' → AreFirst i numbers candidates → AreFirst (i + 1) numbers' candidates
-first_taken {i} {last} {last'} {numbers} {numbers'} {candidates} x in_range is share so_far = record {
-  fresh = λ none. absurd (omega (arith, none));
-  first = λ d some. elim (cases_lt 0 i) [
-    | inl more ↦
-        let had = so_far.first d more in
-        let low = number_stays share (get_or candidates 0 d).low had.0 in
-        let high = number_stays share (get_or candidates 0 d).high had.1 in (
-          subst (λ k. 0 < k) (sym low) had.0,
-          subst (λ k. 0 < k) (sym high) had.1,
-          low ∙ had.2 ∙ sym high,
-        )
-    | inr alone ↦ subst (λ (o : Open). (0 < get_or numbers' o.low 0) × (0 < get_or numbers' o.high 0) × (get_or numbers' o.low 0 ≡ get_or numbers' o.high 0)) (at d (omega (arith, alone))) (
-      subst (λ k. 0 < k) (sym share.first) (shared_some share),
-      subst (λ k. 0 < k) (sym share.second) (shared_some share),
-      share.first ∙ sym share.second,
-    )
-  ];
-}
-  where
-    at : (d : Open) → i ≡ 0 → x ≡ get_or candidates 0 d
-    at d none = is ∙ get_or_default candidates i x d in_range ∙ ap (λ k. get_or candidates k d) none
 
 -- The link that is looked at next, and its ends' labels.
 pub record Next (labels : List ℕ) (rest seen : List Link) (x : Link) : Type 0 where

@@ -105,13 +105,6 @@ pub record AreTouched (labels : List ℕ) (rest seen : List Link) (numbers : Lis
   pub joined : AreJoinedWhereOne labels before → (u v : ℕ) → u < length labels → v < length labels
       → 0 < number_of labels numbers u → number_of labels numbers u ≡ number_of labels numbers v → Joins (Contains after) u v
 
--- the labels of the first link have numbers, which are one
-abbrev pub HaveFirst : List ℕ → List Open → Type 0
-HaveFirst numbers candidates =
-    (d : Open) → 0 < length candidates
-    → (0 < slice_index numbers (slice_index_or candidates 0 d).low) × (0 < slice_index numbers (slice_index_or candidates 0 d).high)
-    × (slice_index numbers (slice_index_or candidates 0 d).low ≡ slice_index numbers (slice_index_or candidates 0 d).high)
-
 -- the labels of all have numbers
 abbrev pub HaveNumbers : List ℕ → List Open → Type 0
 HaveNumbers numbers candidates = All (λ (o : Open). (0 < slice_index numbers o.low) × (0 < slice_index numbers o.high)) candidates

@@ -1,16 +1,14 @@
 -- The order of keys is total, and links with equal keys are one link; so an ascending list is its members.
-use Rattle.std.proofs.Common.{◌≡◌, ℕ, ◌+◌, ◌<◌, ◌≤◌, ◌^◌, ◌==◌, ◌&&◌, not, Bool, true, false, IsTrue, is_lt, ◌⊎◌, ◌↔◌, List, ◌∷◌, Contains, get_or, Ordering, Less, Equal, Greater, int_cmp, nat_cmp, refl, ap, ◌∙◌, subst, inl, inr, arith}
-use Rattle.std.specs.Ordering.{int_eq, ordering_then, ordering_reverse}
+use Rattle.std.proofs.Common.{◌≡◌, ◌+◌, ◌<◌, ◌≤◌, ◌^◌, Bool, true, false, IsTrue, is_lt, ◌⊎◌, ◌↔◌, List, ◌∷◌, Contains, get_or, Ordering, Less, Equal, Greater, int_cmp, nat_cmp, refl, ap, ◌∙◌, subst, inl, inr, arith}
+use Rattle.std.specs.Ordering.{ordering_then, ordering_reverse}
 use Rattle.std.specs.List.{IsAllAdjacentAnswer}
 use Rattle.std.specs.List.Sorted.{IsSorted}
 use Rattle.std.specs.Prelude.{FitsSigned}
 use Rattle.std.specs.Int.{w64}
 use Rattle.std.specs.Cmp.{IsTotalOrder}
-use Rattle.std.proofs.lemmas.Bool.Decides.{nat_tests, Decides-int_eq}
 use Rattle.std.proofs.lemmas.Cmp.{int_cmp_total, nat_cmp_total, on_total, then_total, tied_itself}
 use Rattle.std.proofs.lemmas.Map.Lookups.{exact_signed, exact_unsigned, exact_pairs}
 use Rattle.std.proofs.Math.Bridge.{le_prop}
-use mathlib.Core.Bool.{false≢true}
 use mathlib.Core.HLevel.{is_prop→PathP}
 use Rattle.links.specs.declared.links.Link.{Link}
 use Rattle.links.specs.Link.{key_cmp, IsBelow, IsAscending}
@@ -48,21 +46,6 @@ equal_keys l m tied =
     (m.weight, (m.low, m.high))
     tied in
     link_eq l m (ap (λ key. key.0) same) (ap (λ key. key.1.0) same) (ap (λ key. key.1.1) same)
-
--- so are links that the test for equality finds equal
-pub equal_links : (l m : Link) → false ≡ not (int_eq l.weight m.weight && ((l.low == m.low) && (l.high == m.high))) → l ≡ m
-equal_links l m found =
-    let all = all_of (int_eq l.weight m.weight) (l.low == m.low) (l.high == m.high) found in
-    link_eq l m ((Decides-int_eq l.weight m.weight).0 all.0) (same l.low m.low all.1) (same l.high m.high all.2)
-  where
-    all_of : (a b c : Bool) → false ≡ not (a && (b && c)) → (a ≡ true) × (b ≡ true) × (c ≡ true)
-    all_of true true true found = (refl, refl, refl)
-    all_of true true false found = absurd (false≢true found)
-    all_of true false c found = absurd (false≢true found)
-    all_of false b c found = absurd (false≢true found)
-
-    same : (x y : ℕ) → (x == y) ≡ true → x ≡ y
-    same x y is = grind (arith, nat_tests, is)
 
 pub below_trans : (k l m : Link) → IsBelow k l → IsBelow l m → IsBelow k m
 below_trans k l m = key_cmp_total.trans k l m

@@ -8,7 +8,6 @@ pub mod Coarser
 pub mod WideKeys
 pub mod Spans
 pub mod EvenSizes
-pub mod Fetched
 pub mod Greatest
 pub mod Spanning
 pub mod Sublists
@@ -17,7 +16,5 @@ pub mod ForestSpans
 pub mod Least
 pub mod Distinct
 pub mod InPlace
-pub mod Halved
-pub mod Rising
 pub mod Kept
 pub mod LightFirst

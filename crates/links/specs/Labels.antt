@@ -1,6 +1,5 @@
 -- Labels of the vertices of a graph.
-use Rattle.std.specs.Prelude.{◌≡◌, ℕ, ◌+◌, ◌-◌, ◌<◌, ◌≤◌, List, length, map, slice_index, slice_index_or}
-use Rattle.std.specs.Int.{w32, to_be_bytes}
+use Rattle.std.specs.Prelude.{◌≡◌, ℕ, ◌-◌, ◌≤◌, List, length, map, slice_index}
 use Rattle.limits.specs.declared.TheConstants.{MAX_VERTICES}
 
 -- the label of vertex v: the labels stand in the order of the vertices, which are numbered from 1
@@ -28,11 +27,6 @@ pub record Coarsens (labels finer : List ℕ) : Type 0 where
   pub vertices : length labels ≡ length finer
   pub together : (u v : ℕ) → 1 ≤ u → u ≤ length finer → 1 ≤ v → v ≤ length finer
       → label_of finer u ≡ label_of finer v → label_of labels u ≡ label_of labels v
-
--- the first so many cells have the bytes of the labels from place `start` on
-abbrev pub HasBytesFrom : List ℕ → ℕ → ℕ → List (List ℕ) → Type 0
-HasBytesFrom labels start many cells =
-    (k : ℕ) (d : List ℕ) → k < many → slice_index_or cells k d ≡ to_be_bytes w32 (slice_index labels (start + k))
 
 -- its number in the place of each label
 abbrev pub renamed : List ℕ → List ℕ → List ℕ

@@ -8,5 +8,4 @@ pub mod LinkSet
 pub mod Offers
 pub mod Cut
 pub mod AnswerValue
-pub mod PackedKey
 pub mod WideKey

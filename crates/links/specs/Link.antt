@@ -1,5 +1,5 @@
 -- Links, their keys and the order of keys.
-use Rattle.std.specs.Prelude.{◌≡◌, ℕ, ◌<◌, ◌≤◌, ℤ, Bool, not, ◌==◌, min, max, List, map, filter, All, AllPairs}
+use Rattle.std.specs.Prelude.{◌≡◌, ℕ, ◌≤◌, ℤ, Bool, not, ◌==◌, min, max, List, map, filter, All, AllPairs}
 use Rattle.std.specs.Ordering.{nat_cmp, int_cmp, ordering_then}
 use Rattle.std.specs.declared.cmp.Ordering.{Ordering}
 use Rattle.std.specs.declared.cmp.Ordering.TheVariants.{Less}
@@ -41,7 +41,3 @@ IsAscending links = AllPairs IsBelow links
 -- the ends of the links are vertices of a graph with the vertices 1 to n
 abbrev pub EndsUpTo : ℕ → List Link → Type 0
 EndsUpTo n links = All (λ l. l.high ≤ n) links
-
--- the higher ends ascend strictly: each link leads to a vertex above all that stand before it
-abbrev pub HighEndsAscend : List Link → Type 0
-HighEndsAscend links = AllPairs (λ l m. l.high < m.high) links

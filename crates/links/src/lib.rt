@@ -17,11 +17,10 @@
 //!
 //! Where to start a change: what is meant stands in `specs/` (`Link`, `Walk`, `Forest`, `Least`, `Labels`, `Offers`, `Cut`).
 //! `labellings` and `offered` say which lists are labels and offers, `cuts` where a list is cut; `sorting` puts links in
-//! the order of their keys, which many threads do in `by_threads`, and `of_distinct` those that are a forest's already.
+//! the order of their keys, and `of_distinct` those that are a forest's already.
 #![tactic(auto)]
 
 mod answers;
-mod by_threads;
 pub mod cuts;
 pub mod forests;
 pub mod labellings;

@@ -9,7 +9,7 @@ ghost use Rattle.link_key.specs.Components.{IsAcyclic, AreLeastVertices, AreComp
 
 use super::rounds::{Renaming, join, open_vertices};
 use links::forests::is_ascending;
-use links::sorting::put_in_key_order;
+use links::sorting::sort;
 use links::{Labels, Link};
 use std::alloc::{AllocError, Allocator};
 
@@ -17,8 +17,8 @@ use std::alloc::{AllocError, Allocator};
 /// order; none if a link stands twice or the links close a cycle.
 ///
 /// The components are joined in Borůvka's rounds, as [`super::forest_of`] joins them. For k links it costs
-/// O(k log k + n log n) time. Memory beside the list: at most 13 bytes a link and 12 a vertex, and before that 8 bytes a
-/// link, or 24 for at most 65,536 of them, to put the links in order. The only error is want of memory.
+/// O(k log k + n log n) time. Memory beside the list: at most 13 bytes a link and 12 a vertex. The only error is want of
+/// memory.
 pub fn components_of<A: Allocator + Copy>(
     alloc: A,
     n: u32,
@@ -31,7 +31,7 @@ pub fn components_of<A: Allocator + Copy>(
     ensures least { IfOk result (λ found. IfSome found (AreLeastVertices n (Contains links.items))) }
 {
     let mut links = links;
-    put_in_key_order(alloc, links.as_mut_slice())?;
+    sort(links.as_mut_slice());
     if !is_ascending(links.as_slice()) {
         return Ok(None);
     }

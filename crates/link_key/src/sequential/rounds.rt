@@ -3,15 +3,14 @@
 //! Of links in ascending order the first that touches a component is the least that leaves it. So a round goes over
 //! the links once: it marks a link where the component at one of its ends wasn't touched before, and both components
 //! have one number then. What nothing touched gets a new number of its own, so that the next round has a table of
-//! the components that are left, and no vertex is looked at before the rounds are over. What is marked in the end, in
-//! the order of keys, is taken. That a round marks as many links as it can is promised by no contract: the time stands
-//! on it, and the forest doesn't.
+//! the components that are left. What is marked in the end, in the order of keys, is taken. That a round marks as many
+//! links as it can is promised by no contract: the time stands on it, and the forest doesn't.
 ghost use Rattle.std.specs.Prelude.{◌≡◌, false, ◌+◌, ◌<◌, ◌≤◌, [], ◌++◌, map, take, drop, length, slice_index, EachIndex, IfOk, OnOk, IsTrue};
 ghost use Rattle.std.specs.List.{filter};
 ghost use Rattle.limits.specs.declared.TheConstants.{MAX_VERTICES};
 ghost use Rattle.link_key.specs.Rounds.{is_apart};
 ghost use Rattle.links.specs.Labels.{renamed};
-ghost use Rattle.link_key.specs.OpenLinks.{renumbered, is_open, AreOpened, AreBetween, AreNumbers, AreAllNumbers, ShareNumber, AreFilled, HaveFirst, HaveNumbers, MarkTouched, StayOpen, LeadsOn, zeros};
+ghost use Rattle.link_key.specs.OpenLinks.{renumbered, is_open, AreOpened, AreBetween, AreNumbers, AreAllNumbers, ShareNumber, AreFilled, HaveNumbers, MarkTouched, StayOpen, LeadsOn, zeros};
 
 use limits::MAX_VERTICES;
 use links::Link;
@@ -153,7 +152,7 @@ fn mark_first_touches(
     requires ends { AreBetween (length numbers.old) (length marks.old) candidates.old }
     requires fresh { EachIndex numbers.old (λ c. slice_index numbers.old c ≡ 0) }
     ensures numbers { AreNumbers result.0 numbers.new }
-    ensures first { HaveFirst numbers.new candidates.old }
+    ensures fewer { 0 < length candidates.new → result.1 < length candidates.new }
     ensures given { HaveNumbers numbers.new candidates.old }
     ensures kept { take result.1 candidates.new ≡ filter is_open (map (renumbered numbers.new) candidates.old) }
     ensures touched { MarkTouched candidates.old marks.old numbers.new marks.new }
@@ -193,27 +192,11 @@ fn number_rest(numbers: &mut [u32], last: u32) -> u32
 }
 
 // Puts its number in the place of each label.
-fn rename(labels: &mut [u32], numbers: &[u32])
+pub(crate) fn rename(labels: &mut [u32], numbers: &[u32])
     ensures { labels.new ≡ renamed numbers.now labels.old }
 {
     for label in labels.iter_mut() {
         *label = entry(numbers, *label);
-    }
-}
-
-// Puts its further number in the place of each number, of 1 to `left`. Where one component is left none is looked up.
-pub(crate) fn renumber<A: Allocator>(numbers: &mut [u32], left: u32, further: &Renaming<A>)
-    requires numbers { AreAllNumbers left numbers.old }
-    requires len { length further.now.numbers.items ≡ left + 1 }
-    requires further { AreAllNumbers further.now.count further.now.numbers.items }
-    ensures { numbers.new ≡ renamed further.now.numbers.items numbers.old }
-{
-    if further.count == 1 {
-        for label in 1..numbers.len() {
-            numbers[label] = 1;
-        }
-    } else {
-        rename(numbers, further.numbers.as_slice());
     }
 }
 
@@ -243,9 +226,9 @@ fn round<A: Allocator + Copy>(
     Ok(Renaming { numbers, count })
 }
 
-// Marks the forest's links among these, between the components 1 to `count`, and returns the new numbers of the
-// components. While more than half of them are left, the numbers that a round gives are looked up at once and let go, so
-// that a table kept beside another has at most half its entries: they take at most 8 bytes a component.
+// Marks the forest's links among these, between the components 1 to `count`, round after round, and returns the new
+// numbers of the components. A round's numbers are looked up at once and let go: there are two tables at the most, of 4
+// bytes a component.
 pub(crate) fn join<A: Allocator + Copy>(
     alloc: A,
     count: u32,
@@ -263,21 +246,13 @@ pub(crate) fn join<A: Allocator + Copy>(
     let first = round(alloc, count, &mut candidates, marks)?;
     let mut numbers = first.numbers;
     let mut left = first.count;
-    while left > count / 2 && !candidates.is_empty() {
+    while !candidates.is_empty() {
         let further = round(alloc, left, &mut candidates, marks)?;
         rename(numbers.as_mut_slice(), further.numbers.as_slice());
         left = further.count;
     }
-    if candidates.is_empty() {
-        return Ok(Renaming {
-            numbers,
-            count: left,
-        });
-    }
-    let further = join(alloc, left, candidates, marks)?;
-    renumber(numbers.as_mut_slice(), left, &further);
     Ok(Renaming {
         numbers,
-        count: further.count,
+        count: left,
     })
 }

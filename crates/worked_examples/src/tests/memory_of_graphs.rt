@@ -65,28 +65,16 @@ fn arcs_take_it_as_they_come(rt: HostRuntime) {
     expect_same(&rt, asked > 6, true);
 }
 
-// How many blocks a list of a thousand links and their forest take, whose weights are so far apart. Their ends tell
-// twenty binary digits: ten of the lower one, and ten of how far the other is from it.
-fn blocks_of_forest(rt: &impl Abort, alloc: Global, spread: u64) -> u64 {
-    let memory = Refusing::new(alloc, Refusals::none());
-    let mut links = Vec::with_capacity(&memory, 1000).expect(rt, "memory");
-    for low in 1..1001u32 {
-        let above = if low % 2 == 0 { 0 } else { spread };
-        let weight = i64::MIN.wrapping_add(above.cast_signed());
-        let link = Link::of_arc(low, 2 * low + 1, weight).expect(rt, "a link");
-        links.push(link).expect(rt, "memory");
-    }
-    assert!(rt; have_lows_ascending(links.as_slice()));
-    drop(Forest::of_distinct(&memory, links).expect(rt, "memory"));
-    memory.given()
-}
-
-// Beside the list there is one block where the keys fit 64 binary digits, those of weights with 44 too, and else two.
+// A thousand distinct links are put in the order of their keys in their list, with no block beside it.
 #[test]
-fn keys_that_fit_take_one_block(rt: HostRuntime) {
-    let spreads = [(999, 2), ((1 << 44) - 1, 2), (1 << 44, 3), (u64::MAX, 3)];
-    for (spread, blocks) in spreads {
-        let found = blocks_of_forest(&rt, rt.alloc(), spread);
-        expect_same(&rt, (spread, found), (spread, blocks));
+fn distinct_links_take_none(rt: HostRuntime) {
+    let memory = Refusing::new(rt.alloc(), Refusals::none());
+    let mut links = Vec::with_capacity(&memory, 1000).expect(&rt, "memory");
+    for low in 1..1001u32 {
+        let link = Link::of_arc(low, 2 * low + 1, i64::from(low).wrapping_neg());
+        links.push(link.expect(&rt, "a link")).expect(&rt, "memory");
     }
+    assert!(&rt; have_lows_ascending(links.as_slice()));
+    let forest = Forest::of_distinct(&memory, links).expect(&rt, "memory");
+    expect_same(&rt, (forest.links().len(), memory.given()), (1000, 1));
 }

@@ -14,14 +14,14 @@ use std::process::Abort;
 use std::thread::Threads;
 use worked_graphs::Row;
 
-// How many vertices a path has. Labels are looked at by 4 and by 256, a sample has 256 links, and 65,536 links are put
-// in order at once; a path has a link less than vertices, and with long keys there are two more.
+// How many vertices a path has. A sample has 256 links; a path has a link less than vertices, and with weights from the
+// least to the greatest there are two more.
 const SIZES: [u32; 19] = [
     0, 1, 2, 3, 4, 5, 6, 254, 255, 256, 257, 10_001, 65_533, 65_534, 65_535, 65_536, 65_537,
     65_538, 200_003,
 ];
 
-// The vertex that the lightest links of lists with long keys lead to.
+// The vertex that the lightest links of lists with weights so far apart lead to.
 const LAST: u32 = 1 << 20;
 
 // As many vertices as there may be.
@@ -81,10 +81,10 @@ fn forests_of_paths(rt: HostRuntime) {
     }
 }
 
-// Keys that don't fit 64 bits: beside the path there are two of the lightest links, and the heaviest beside one of them,
-// which closes a cycle.
+// Weights from the least to the greatest: beside the path there are two of the lightest links, and the heaviest beside
+// one of them, which closes a cycle.
 #[test]
-fn forests_of_links_with_long_keys(rt: HostRuntime) {
+fn forests_of_links_with_weights_far_apart(rt: HostRuntime) {
     for n in SIZES {
         let mut wanted = Vec::new(rt.alloc());
         wanted.push((1, LAST, i64::MIN)).expect(&rt, "memory");
@@ -134,8 +134,8 @@ fn tree(rt: &impl Abort, alloc: Global, n: u32) -> Vec<Row> {
     arcs
 }
 
-// All of these links are the forest, and the list is only put in order. With one link more to the last vertex, which
-// closes a cycle where there are three vertices or more, it isn't.
+// All of these links are the forest. With one link more to the last vertex, which closes a cycle where there are three
+// vertices or more, the forest is the same.
 #[test]
 fn forests_of_trees_in_order(rt: HostRuntime) {
     for n in SIZES {
@@ -243,8 +243,7 @@ fn expect_distinct(rt: &(impl Abort + Threads + Sync), alloc: Global, n: u32, we
     expect_same(rt, by_threads.links(), wanted.as_slice());
 }
 
-// Weights of three digits, whose keys fit 64 bits; of all 64, which leave no room for the ends where there are two links
-// or more; and of 41, with which the first digits of keys are often the same.
+// Weights of three digits, of all 64 binary ones, and of 41.
 #[test]
 fn distinct_links(rt: HostRuntime) {
     for n in SIZES {

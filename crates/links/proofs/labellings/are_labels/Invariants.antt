@@ -1,9 +1,6 @@
-use Rattle.std.proofs.Common.{ℕ, ◌*◌, ◌<◌, ◌≤◌}
+use Rattle.std.proofs.Common.{ℕ, ◌<◌, ◌≤◌}
 use Rattle.links.specs.Labels.{IsLabelled}
 use Rattle.links.proofs.labellings.are_labels.Given as goal
-
-abbrev pub invariant-loop-i : goal.invariant-loop-i
-invariant-loop-i l = (u : ℕ) → 1 ≤ u → u ≤ 4 * l.i → IsLabelled l.labels u
 
 abbrev pub invariant-loop-v : goal.invariant-loop-v
 invariant-loop-v l = (u : ℕ) → 1 ≤ u → u < l.v → IsLabelled l.labels u

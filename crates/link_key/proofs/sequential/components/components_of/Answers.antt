@@ -25,8 +25,8 @@ module _ (links now : List Link) (moved : IsPermutation links now) where
 pub returns-then-not-is_ascending-clause-acyclic : goal.returns-then-not-is_ascending-clause-acyclic
 returns-then-not-is_ascending-clause-acyclic g c =
     let links = c.args.links in
-    let now = c.put_in_key_order.new.links in
-    let sorted = c.in_ok-put_in_key_order.ensures in
+    let now = c.sort.new.links in
+    let sorted = c.sort.ensures in
     let put = whole_of links.len links.items c.as_mut_slice.result.now now links.ok.0 c.as_mut_slice.ensures.value sorted.same in
     let shown : c.as_slice.result.now ≡ now = c.as_slice.ensures.value ∙ put.1 in (
       λ never. absurd (false≢true never),
@@ -36,15 +36,15 @@ returns-then-not-is_ascending-clause-acyclic g c =
 pub components_in_order-requires-clause-ends : goal.components_in_order-requires-clause-ends
 components_in_order-requires-clause-ends g c =
     let links = c.args.links in
-    let now = c.put_in_key_order.new.links in
-    let put = whole_of links.len links.items c.as_mut_slice.result.now now links.ok.0 c.as_mut_slice.ensures.value c.in_ok-put_in_key_order.ensures.same in
+    let now = c.sort.new.links in
+    let put = whole_of links.len links.items c.as_mut_slice.result.now now links.ok.0 c.as_mut_slice.ensures.value c.sort.ensures.same in
     subst (EndsUpTo c.args.n) (sym (c.as_slice-2.ensures.value ∙ put.1)) (All-permutation (λ (l : Link). l.high ≤ c.args.n) links.items now put.0 c.requires.ends)
 
 pub returns-then-not-acyclic-clause-acyclic : goal.returns-then-not-acyclic-clause-acyclic
 returns-then-not-acyclic-clause-acyclic g c =
     let links = c.args.links in
-    let now = c.put_in_key_order.new.links in
-    let put = whole_of links.len links.items c.as_mut_slice.result.now now links.ok.0 c.as_mut_slice.ensures.value c.in_ok-put_in_key_order.ensures.same in
+    let now = c.sort.new.links in
+    let put = whole_of links.len links.items c.as_mut_slice.result.now now links.ok.0 c.as_mut_slice.ensures.value c.sort.ensures.same in
     let shown : c.as_slice-2.result.now ≡ now = c.as_slice-2.ensures.value ∙ put.1 in (
       λ never. absurd (false≢true never),
       λ acyclic. sym c.if-not-acyclic.true ∙ c.in_ok-components.ensures.acyclic.1 (subst (λ (xs : List Link). HasNoCycle (Contains xs)) (sym shown) (to_now links.items now put.0 acyclic.1)),
@@ -59,8 +59,8 @@ of_known-requires g c =
 pub returns-clause-acyclic : goal.returns-clause-acyclic
 returns-clause-acyclic g c =
     let links = c.args.links in
-    let now = c.put_in_key_order.new.links in
-    let put = whole_of links.len links.items c.as_mut_slice.result.now now links.ok.0 c.as_mut_slice.ensures.value c.in_ok-put_in_key_order.ensures.same in
+    let now = c.sort.new.links in
+    let put = whole_of links.len links.items c.as_mut_slice.result.now now links.ok.0 c.as_mut_slice.ensures.value c.sort.ensures.same in
     let up : IsAscending now = subst IsAscending (c.as_slice.ensures.value ∙ put.1) (c.is_ascending.ensures.0 c.if-not-is_ascending.false) in
     let none = subst (λ (xs : List Link). HasNoCycle (Contains xs)) (c.as_slice-2.ensures.value ∙ put.1) (c.in_ok-components.ensures.acyclic.0 c.if-not-acyclic.false) in (
       λ yes. (distinct_permuted now links.items (IsPermutation-sym links.items now put.0) (ascending_distinct now up), from_now links.items now put.0 none),
@@ -70,8 +70,8 @@ returns-clause-acyclic g c =
 pub returns-clause-least : goal.returns-clause-least
 returns-clause-least g c =
     let links = c.args.links in
-    let now = c.put_in_key_order.new.links in
-    let put = whole_of links.len links.items c.as_mut_slice.result.now now links.ok.0 c.as_mut_slice.ensures.value c.in_ok-put_in_key_order.ensures.same in
+    let now = c.sort.new.links in
+    let put = whole_of links.len links.items c.as_mut_slice.result.now now links.ok.0 c.as_mut_slice.ensures.value c.sort.ensures.same in
     let found = c.in_ok-components in
     let table = c.as_slice-3.result.now in
     let table_is : table ≡ found.components.numbers.items = c.as_slice-3.ensures.value in

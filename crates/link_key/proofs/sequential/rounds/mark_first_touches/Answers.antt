@@ -1,5 +1,6 @@
 use Rattle.std.proofs.Common.{rules, ◌≡◌, ℕ, ◌+◌, ◌<◌, ◌≤◌, List, ◌++◌, ◌==◌, not, length, get_or, take, set, take_all, get_or-set_other, refl, sym, ap, ap₂, ◌∙◌, subst, inl, inr, arith}
 use mir.Val.{bool_byte}
+use Rattle.std.proofs.lemmas.Bool.{cases_lt}
 use Rattle.std.proofs.lemmas.List.{length-map, length-set, get_or-map, get_or_default}
 use Rattle.links.specs.declared.links.Link.{Link}
 use Rattle.link_key.specs.declared.sequential.rounds.Open.{Open}
@@ -7,7 +8,7 @@ use Rattle.link_key.specs.OpenLinks.{link_of, links_of, marked, renumbered, IsLa
 use Rattle.link_key.proofs.Keeping.{kept_of, kept_same, kept_closed, kept_passed, given_more, closed, counted}
 use Rattle.link_key.proofs.Marks.{mark_one}
 use Rattle.link_key.proofs.Opened.{sorted_links}
-use Rattle.link_key.proofs.Touching.{Next, next_of, seen_with, numbers_none, first_none, first_passed, first_taken, touched_none, touched_passed, touched_taken, touched_same, shared_numbers, shared_some, number_stays, some_stays}
+use Rattle.link_key.proofs.Touching.{Next, next_of, seen_with, none_anywhere, numbers_none, touched_none, touched_passed, touched_taken, touched_same, shared_numbers, shared_some, number_stays, some_stays}
 use Rattle.link_key.proofs.sequential.rounds.mark_first_touches.Goals as goal
 use Rattle.link_key.proofs.sequential.rounds.mark_first_touches.Goals.{then-touch, else-touch}
 
@@ -49,7 +50,8 @@ loop-i-init c = record {
   kept = refl;
   given = λ k o lt. absurd (omega (arith, lt));
   numbers = numbers_none c.args.numbers.now c.requires.fresh;
-  first = first_none c.args.numbers.now c.args.candidates.now c.requires.fresh;
+  fresh = λ none. none_anywhere c.args.numbers.now c.requires.fresh;
+  fewer = λ some. absurd (omega (arith, some));
   touched = λ d links before labels fits are. touched_none labels (links_of d links c.args.candidates.now) c.args.numbers.now (before ++ marked links c.args.marks.now) c.requires.fresh;
 }
 
@@ -80,7 +82,8 @@ loop-i-preserved c =
             kept = rw (w.kept-is, w.candidates-is) kept;
             given = given_more numbers' start x i_in is (subst (λ k. 0 < k) (sym share.first) some, subst (λ k. 0 < k) (sym share.second) some) (λ k o lt. let had = l.invariant.given k o lt in (some_stays share (get_or (take i start) k o).low had.0, some_stays share (get_or (take i start) k o).high had.1));
             numbers = shared_numbers share ends.0 ends.2 (c.touch.ensures.fewer w.if-touch.true) l.invariant.numbers;
-            first = first_taken x i_in is share l.invariant.first;
+            fresh = λ none. absurd (omega (arith, none));
+            fewer = λ some. let same = w.kept-is in let few = l.invariant.few in omega (arith, same, few);
             touched = λ d links before labels fits are.
                 let share' : ShareNumber (get_or labels (link_of d links x).low 0) (get_or labels (link_of d links x).high 0) l.last l.numbers c.touch.new.last numbers' = rw ((at d links labels are).1, (at d links labels are).2) share in
                 let r_in : x.rank < length links = let last = ends.4 in omega (arith, last, fits) in
@@ -97,6 +100,11 @@ loop-i-preserved c =
           let high_is : w.entry-high.result ≡ get_or l.numbers x.high 0 = w.entry-high.ensures ∙ ap (λ (ks : List ℕ). get_or ks x.high 0) same in
           let now : c.if-touch.candidates ≡ set l.candidates l.kept (renumbered l.numbers x) = w.candidates-is ∙ ap₂ (λ (a b : ℕ). set l.candidates l.kept (record { low = a; high = b; rank = x.rank })) low_is high_is in
           let count = counted (get_or l.numbers x.low 0) (get_or l.numbers x.high 0) l.kept c.if-touch.kept (w.kept-is ∙ ap₂ (λ (a b : ℕ). l.kept + bool_byte (not (a == b))) low_is high_is) in
+          let seen : 0 < i = elim (cases_lt 0 i) [
+            | inl some ↦ some
+            | inr none ↦ let at = l.invariant.fresh (omega (arith, none)) x.low in absurd (omega (arith, at, had_low))
+          ] in
+          let less = l.invariant.fewer seen in
           rw (c.touch.ensures.same_last w.if-touch.false) (record {
             len = ap length now ∙ length-set l.candidates l.kept (renumbered l.numbers x) ∙ l.invariant.len;
             ahead = λ k o lt. ap (λ (xs : List Open). get_or xs k o) now ∙ get_or-set_other l.candidates l.kept k (renumbered l.numbers x) o (let few = l.invariant.few in λ is'. omega (arith, is', few, lt)) ∙ l.invariant.ahead k o (omega (arith, lt));
@@ -104,15 +112,21 @@ loop-i-preserved c =
             kept = rw (now, same) (kept_passed l.numbers start x i_in is l.candidates kept_in l.invariant.kept count);
             given = rw same (given_more l.numbers start x i_in is (had_low, had_high) l.invariant.given);
             numbers = rw same l.invariant.numbers;
-            first = rw same (first_passed x had_low l.invariant.first);
+            fresh = λ none. absurd (omega (arith, none));
+            fewer = λ some. elim count [ inl (is', _) ↦ omega (arith, is', less) | inr (is', _) ↦ omega (arith, is', less) ];
             touched = λ d links before labels fits are.
                 rw (w.marks-is, same) (subst (λ (seen : List Link). AreTouched labels (links_of d links start) seen l.numbers (before ++ marked links c.args.marks.now) (before ++ marked links l.marks)) (sym (seen_with (links_of d links start) i (link_of d links x) (i_in' d links) (link_is d links)))
                 (touched_passed (next d links labels are) (l.invariant.touched d links before labels fits are) (subst (λ k. 0 < get_or l.numbers k 0) (sym (at d links labels are).1) had_low) (subst (λ k. 0 < get_or l.numbers k 0) (sym (at d links labels are).2) had_high)));
           })
     ]
 
-pub returns-clause-first : goal.returns-clause-first
-returns-clause-first c d some = c.loop-i.invariant.first.first d (let end = c.loop-i-test.false in omega (arith, end, some))
+pub returns-clause-fewer : goal.returns-clause-fewer
+returns-clause-fewer c some =
+    let end = c.loop-i-test.false in
+    let len = c.loop-i.invariant.len in
+    let less = c.loop-i.invariant.fewer (omega (arith, end, len, some)) in
+    let most = c.loop-i.auto.i-end in
+    omega (arith, less, most, len)
 
 pub returns-clause-given : goal.returns-clause-given
 returns-clause-given c =

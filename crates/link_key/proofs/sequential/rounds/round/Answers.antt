@@ -1,10 +1,11 @@
-use Rattle.std.proofs.Common.{◌≡◌, ℕ, ◌+◌, ◌<◌, ◌++◌, List, take, drop, length, sym, ap, ◌∙◌, subst}
+use Rattle.std.proofs.Common.{◌≡◌, ℕ, ◌+◌, ◌++◌, List, take, drop, length, sym, ap, ◌∙◌, subst, arith}
+use Rattle.std.proofs.lemmas.List.{length-take}
 use Rattle.link_key.specs.declared.sequential.rounds.Open.{Open}
 use Rattle.link_key.specs.Rounds.{IsStage}
 use Rattle.links.specs.Labels.{renamed}
-use Rattle.link_key.specs.OpenLinks.{links_of, marked, AreOpenOf, AreBetween, HaveFirst, HaveNumbers, MarkTouched}
+use Rattle.link_key.specs.OpenLinks.{links_of, marked, AreOpenOf, AreBetween, HaveNumbers, MarkTouched}
 use Rattle.link_key.proofs.Keeping.{kept_of, kept_same}
-use Rattle.link_key.proofs.Opened.{left_sorted, left_fewer, left_between, left_labelled, left_in, left_if, filled_first}
+use Rattle.link_key.proofs.Opened.{left_sorted, left_between, left_labelled, left_in, left_if}
 use Rattle.links.proofs.InPlace.{written}
 use Rattle.link_key.proofs.Stages.{round_stage}
 use Rattle.link_key.proofs.sequential.rounds.round.Given as given
@@ -40,11 +41,14 @@ returns-clause-ends g c =
 
 pub returns-clause-fewer : goal.returns-clause-fewer
 returns-clause-fewer g c some =
-    let candidates = c.args.candidates.now.items in
-    let numbers = c.number_rest-count.new.numbers in
-    let first : HaveFirst c.mark_first_touches-last.new.numbers candidates = subst (HaveFirst c.mark_first_touches-last.new.numbers) c.as_mut_slice.ensures.value c.mark_first_touches-last.ensures.first in
-    subst (λ (xs : List Open). length xs < length candidates) (sym (left_of g c))
-    (left_fewer numbers candidates (filled_first candidates c.number_rest-count.ensures.filled first) (subst (λ (xs : List Open). 0 < length xs) (left_of g c) some))
+    let candidates = c.args.candidates.now in
+    let kept = c.mark_first_touches-last.result.1 in
+    let new = c.mark_first_touches-last.new.candidates in
+    let len : length new ≡ length candidates.items = c.mark_first_touches-last.auto.candidates ∙ ap length c.as_mut_slice.ensures.value in
+    let is : c.truncate.new.self.items ≡ take kept new = c.truncate.ensures.items ∙ ap (take kept) (written candidates.len new candidates.items len candidates.ok.0) in
+    let short = ap length is ∙ length-take kept new in
+    let less = c.mark_first_touches-last.ensures.fewer (omega (arith, some, short)) in
+    omega (arith, less, short, len)
 
 pub returns-clause-labelled : goal.returns-clause-labelled
 returns-clause-labelled g c d links labels are =

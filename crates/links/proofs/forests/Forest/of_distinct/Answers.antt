@@ -8,12 +8,12 @@ use Rattle.links.proofs.forests.Forest.of_distinct.Goals as goal
 pub of_ascending-requires : goal.of_ascending-requires
 of_ascending-requires g c =
     let links = c.args.links in
-    let put = c.in_ok-put_in_key_order.ensures in
-    let whole = whole_of links.len links.items _ c.put_in_key_order.new.links links.ok.0 c.as_mut_slice.ensures.value put.same in
-    subst IsAscending (sym whole.1) (ascending_once links.items c.put_in_key_order.new.links c.requires.distinct whole.0 put.sorted)
+    let put = c.sort.ensures in
+    let whole = whole_of links.len links.items _ c.sort.new.links links.ok.0 c.as_mut_slice.ensures.value put.same in
+    subst IsAscending (sym whole.1) (ascending_once links.items c.sort.new.links c.requires.distinct whole.0 put.sorted)
 
 pub returns-clause-same : goal.returns-clause-same
 returns-clause-same g c =
     let links = c.args.links in
-    let whole = whole_of links.len links.items _ c.put_in_key_order.new.links links.ok.0 c.as_mut_slice.ensures.value c.in_ok-put_in_key_order.ensures.same in
+    let whole = whole_of links.len links.items _ c.sort.new.links links.ok.0 c.as_mut_slice.ensures.value c.sort.ensures.same in
     subst (IsPermutation links.items) (sym (c.of_ascending.ensures ∙ whole.1)) whole.0
