@@ -4,7 +4,6 @@ pub mod Scans
 pub mod Outdone
 pub mod Laid
 pub mod Written
-pub mod Ahead
 pub mod Merging
 pub mod Tables
 pub mod Packed
@@ -13,4 +12,3 @@ pub mod ByNumbers
 pub mod Relisting
 pub mod NextScan
 pub mod Ends
-pub mod NamesByGaps

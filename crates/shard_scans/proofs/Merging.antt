@@ -7,13 +7,7 @@ use Rattle.round_theory.proofs.Leaving.{leaves_apart}
 use Rattle.round_theory.specs.Labelling.{IsVertex}
 use Rattle.shard_scans.specs.declared.scanning.Best.{Best}
 use Rattle.shard_scans.specs.Scanning.{NoneLeavesIn, IsBest, no_best, Says, Keeps, KeepsLesser, best_of, AreBest}
-use Rattle.std.specs.Borrow.{Bor}
-use Rattle.std.specs.Prelude.{IfSome}
-use Rattle.shard_scans.specs.Parts.{SayPlaces, count_in, place_in}
-use Rattle.shard_scans.specs.declared.live.LiveLink.{LiveLink}
-use Rattle.shard_scans.specs.Live.{AreLive, AreLiveLinks, places_of}
-use Rattle.shard_scans.proofs.BestSoFar.{best_first}
-use Rattle.shard_scans.proofs.Laid.{live_first, live_end, live_ascends, front_is_quiet}
+use Rattle.shard_scans.specs.Parts.{SayPlaces}
 use Rattle.shard_scans.proofs.Scans.{kept_place, kept_none, kept_at, keeps_out}
 
 -- what a table keeps says the short key of the weight of the link at its place
@@ -91,40 +85,3 @@ module _ (links : List Link) (labels : List ℕ) (from at to : ℕ) where
 
         elsewhere : (c : ℕ) → IsVertex (length labels) c → c ≢ i + 1 → best_of (set table i after) c ≡ best_of table c
         elsewhere c c_vertex other = get_or-set_other table i (c - 1) after no_best (λ same. other (omega (arith, same, c_vertex)))
-
--- links before the first place that leave no label change nothing
-keeps_front : (links : List Link) (labels : List ℕ) (from at to c : ℕ) (kept : Best) → from ≤ at → NoneLeavesIn links labels from at c → Keeps links labels at to c kept → Keeps links labels from to c kept
-keeps_front links labels from at to c kept le none keeps = record { best = keeps.best; says = keeps.says; is = go keeps.best keeps.is }
-  where
-    go : (best : Option ℕ) → IsBest links labels at to c best → IsBest links labels from to c best
-    go None is = λ q l from_start before_end in_list read leaves. elim (cases_lt q at) [
-      | inl lt ↦ none q l from_start lt in_list read leaves
-      | inr later ↦ is q l later before_end in_list read leaves
-    ]
-    go (Some p) is = best_first links labels c from at to p le is none
-
--- a pass over all live places has seen all that leave a label
-pub bests_live : (links : List Link) (labels : List ℕ) (places : List ℕ) (table : List Best) → AreLive links labels 0 (length links) places
-    → AreBest links labels (get_or places 0 (length links)) (get_or places (length places) (length links)) table → AreBest links labels 0 (length links) table
-bests_live links labels places table live are =
-    let first = get_or places 0 (length links) in
-    let (le, aside) = live_first links labels 0 (length links) places live in
-    let whole = subst (λ k. AreBest links labels first k table) (live_end links labels (length links) places) are in
-    record {
-      each_vertex = are.each_vertex;
-      best = λ c vertex. keeps_front links labels 0 first (length links) c (best_of table c) le
-          (λ q l from_start before_end in_list read leaves. leaves_apart labels l c leaves (front_is_quiet links labels first aside q l before_end read).one_label) (whole.best c vertex);
-    }
-
--- so has a pass over all links
-pub bests_whole : (links : List Link) (labels : List ℕ) (live : Option (Bor (List LiveLink))) (table : List Best) → IfSome live (λ listed. AreLiveLinks links labels listed.now)
-    → AreBest links labels (place_in links live 0) (place_in links live (count_in links live)) table → AreBest links labels 0 (length links) table
-bests_whole links labels None table live_links are = are
-bests_whole links labels (Some listed) table live_links are =
-    bests_live links labels (places_of listed.now) table live_links.places (subst (λ k. AreBest links labels (get_or (places_of listed.now) 0 (length links)) (get_or (places_of listed.now) k (length links)) table) (sym (length-map listed.now (λ (l : LiveLink). l.place))) are)
-
--- places that are scanned ascend
-pub place_ascends : (links : List Link) (labels : List ℕ) (live : Option (Bor (List LiveLink))) (i j : ℕ) → IfSome live (λ listed. AreLiveLinks links labels listed.now) → i ≤ j
-    → place_in links live i ≤ place_in links live j
-place_ascends links labels None i j live_links le = le
-place_ascends links labels (Some listed) i j live_links le = live_ascends links labels 0 (length links) (places_of listed.now) i j live_links.places le

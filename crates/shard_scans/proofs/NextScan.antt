@@ -1,19 +1,17 @@
 -- The next scan of links that are listed by numbers.
-use Rattle.std.proofs.Common.{◌≡◌, ℕ, ◌+◌, ◌<◌, ◌≤◌, List, length, get_or, take, replicate, All, sym, ap, ◌∙◌, subst, inl, inr, arith}
-use Rattle.std.proofs.lemmas.List.{get_or-map, length-map, take_all}
+use Rattle.std.proofs.Common.{◌≡◌, ℕ, ◌+◌, ◌<◌, ◌≤◌, List, length, get_or, map, replicate, All, sym, ap, ◌∙◌, subst, inl, inr, arith}
+use Rattle.std.proofs.lemmas.List.{get_or-map, length-map, same_lists}
 use Rattle.links.specs.declared.links.Link.{Link}
 use Rattle.links.specs.Labels.{label_of}
 use Rattle.shard_scans.specs.declared.scanning.Best.{Best}
 use Rattle.shard_scans.specs.declared.live.LiveLink.{LiveLink}
 use Rattle.shard_scans.specs.declared.numbers.Word.{Word}
 use Rattle.shard_scans.specs.Scanning.{no_best, AreBestUpTo}
-use Rattle.shard_scans.specs.Live.{AreParallel, places_of, AreLiveLinks, relabelled}
-use Rattle.shard_scans.specs.Batches.{CanBeTakenIn, TakesInAll}
+use Rattle.shard_scans.specs.Live.{AreParallel, places_of, AreLiveLinks, CanBeTakenIn, TakesInLive, relabelled}
 use Rattle.shard_scans.specs.Numbers.{marks_of, IsMarked, marked_in, number_of, numbered, numbered_labels, shown, HasItsName, HasNumbers, AreByNumbers, AreLiveByNumbers, AreNumbered, HaveNames}
 use Rattle.shard_scans.proofs.Scans.{best_of_none}
 use Rattle.shard_scans.proofs.Laid.{live_or_aside}
-use Rattle.shard_scans.proofs.Written.{place_in_list, live_ends, live_links_coarser, bests_none, bests_all}
-use Rattle.shard_scans.proofs.Ahead.{takes_live}
+use Rattle.shard_scans.proofs.Written.{place_in_list, live_ends, live_links_coarser}
 use Rattle.shard_scans.proofs.Numbering.{number_within_names}
 use Rattle.shard_scans.proofs.ByNumbers.{own_label, own_coarsens}
 use Rattle.shard_scans.proofs.Relisting.{number_at, by_numbers_long, shown_again, have_names}
@@ -81,26 +79,27 @@ module _ (links : List Link) (labels marks names : List ℕ) (by_labels live : L
         ]
   ]
 
-  -- once all are taken in, the best places are kept
-  pub next_best : (count : ℕ) (table table' : List Best) → table ≡ replicate count no_best → TakesInAll links (take (length live) live) table table'
-      → AreBestUpTo count links (numbered_labels marks labels) 0 (length links) table'
-  next_best count table table' none takes =
+  -- by the numbers of all labels they are written with their own
+  written_own : live ≡ map (relabelled (numbered_labels marks labels)) by_labels
+  written_own =
       let mine = numbered_labels marks labels in
-      let coarser = live_links_coarser links mine labels by_labels (own_coarsens marks labels) are in
-      let long = by_numbers_long marks names within by_labels live by in
-      let all : TakesInAll links live table table' = subst (λ t. TakesInAll links t table table') (take_all (length live) live (omega arith)) takes in
-      bests_all links mine by_labels coarser count (0 + length live) table' (omega (arith, long))
-      (takes_live links mine by_labels coarser count 0 live 0 table table' (omega (arith, long)) (λ j later. omega arith)
-      (λ k d lt.
-      let in_labels : k < length by_labels = omega (arith, lt, long) in
+      by.numbered_are
+      ∙ same_lists (map (numbered marks) by_labels) (map (relabelled mine) by_labels) (length-map by_labels (numbered marks) ∙ sym (length-map by_labels (relabelled mine))) (λ k d lt.
+      let in_labels : k < length by_labels = omega (arith, lt, length-map by_labels (numbered marks)) in
       let e : LiveLink = get_or by_labels k d in
       let ends = live_ends links labels by_labels are k d in_labels in
       let low : number_of marks e.low ≡ label_of mine e.low = ap (number_of marks) (ap (λ (x : LiveLink). x.low) (sym (own k d in_labels))) ∙ sym (own_label marks labels e.low ends.0) in
       let high : number_of marks e.high ≡ label_of mine e.high = ap (number_of marks) (ap (λ (x : LiveLink). x.high) (sym (own k d in_labels))) ∙ sym (own_label marks labels e.high ends.1) in
       let same : numbered marks e ≡ relabelled mine e = λ j. record { low = low j; high = high j; place = e.place } in
-      let here : k ≡ 0 + k = omega arith in
-      number_at marks names within by_labels live by k d in_labels ∙ same ∙ ap (λ j. relabelled mine (get_or by_labels j d)) here)
-      all (bests_none links mine by_labels coarser count table (subst (AreBestUpTo count links mine 0 0) (sym none) (best_of_none count links mine 0))))
+      get_or-map (numbered marks) by_labels k d d in_labels ∙ same ∙ sym (get_or-map (relabelled mine) by_labels k d d in_labels))
+
+  -- once all are taken in, the best places are kept
+  pub next_best : (count : ℕ) (table table' : List Best) → table ≡ replicate count no_best → TakesInLive links live table table'
+      → AreBestUpTo count links (numbered_labels marks labels) 0 (length links) table'
+  next_best count table table' none takes =
+      let mine = numbered_labels marks labels in
+      takes count mine by_labels (live_links_coarser links mine labels by_labels (own_coarsens marks labels) are) written_own
+      (subst (AreBestUpTo count links mine 0 0) (sym none) (best_of_none count links mine 0))
 
 -- live links by labels that stand for themselves, and what is written of them by numbers
 module _ (links : List Link) (labels : List ℕ) (row live : List LiveLink) (row_are : AreLiveLinks links labels row) (own : All (λ e. relabelled labels e ≡ e) row)

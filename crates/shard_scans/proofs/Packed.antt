@@ -8,8 +8,7 @@ use Rattle.round_theory.specs.Labelling.{IsVertex}
 use Rattle.shard_scans.specs.declared.live.LiveLink.{LiveLink}
 use Rattle.shard_scans.specs.Live.{IsInside, AreLive, IsEntryOf, places_of, AreLiveLinks, relabelled, packed}
 use Rattle.shard_scans.proofs.Laid.{live_without}
-use Rattle.shard_scans.proofs.Written.{relabelled_written, live_ends}
-use Rattle.shard_scans.proofs.Ahead.{relabelled_stands}
+use Rattle.shard_scans.proofs.Written.{relabelled_written, relabelled_stands, live_ends}
 
 -- what holds of all holds of the first and of the others
 pub all_head : {X : Type 0} (P : X → Type 0) (x : X) (xs : List X) → All P (x ∷ xs) → P x

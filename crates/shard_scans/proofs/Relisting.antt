@@ -45,17 +45,6 @@ module _ (marks names : List ℕ) (within : (c : ℕ) → IsMarked marks c → n
         subst (λ (e : LiveLink). IsVertex (length names) e.low × IsVertex (length names) e.high) (sym (number_at k d in_labels))
         ((omega arith, within (get_or by_labels k d).low is.0), (omega arith, within (get_or by_labels k d).high is.1))
 
--- links that are written by numbers one by one
-pub all_by_numbers : (marks names : List ℕ) (by_labels live : List LiveLink) → length live ≡ length by_labels
-    → ((k : ℕ) (d : LiveLink) → k < length by_labels → get_or live k d ≡ numbered marks (get_or by_labels k d))
-    → All (AreBothMarked marks) by_labels → ((k : ℕ) (d : LiveLink) → k < length by_labels → AreBothNamed marks names (get_or by_labels k d)) → AreByNumbers marks names by_labels live
-all_by_numbers marks names by_labels live size each marked named_are = record {
-  numbered_are = same_lists live (map (numbered marks) by_labels) (size ∙ sym (length-map by_labels (numbered marks)))
-      (λ k d lt. let within : k < length by_labels = omega (arith, lt, size) in each k d within ∙ sym (get_or-map (numbered marks) by_labels k d d within));
-  marked = marked;
-  named_are = named_are;
-}
-
 -- the next list
 module _ (labels marks names names' changed : List ℕ) (marked : HaveMarks labels marks names)
     (number_is : (i : ℕ) → i < length names → get_or changed i 0 ≡ number_of marks (new_name labels (get_or names i 0)))
@@ -119,24 +108,3 @@ module _ (labels marks names names' changed : List ℕ) (marked : HaveMarks labe
           let x = have k d in_live in
           let v = subst Vertices is (ends k d lt) in
           subst (λ (e : LiveLink). Facts l.low e.low × Facts l.high e.high) (sym is) (at_end l.low x.0 v.0, at_end l.high x.1 v.1)
-
--- where there are no names a list shows what is written
-pub shown_plain : (names : List ℕ) (live : List LiveLink) → names ≡ [] → shown names live ≡ live
-shown_plain names live none = ap (λ (t : List ℕ). shown t live) none ∙ plain live
-  where
-    plain : (live : List LiveLink) → shown [] live ≡ live
-    plain [] = refl
-    plain (l ∷ live) = ap (λ (t : List LiveLink). l ∷ t) (plain live)
-
--- so it does with the live links
-pub plain_live : (links : List Link) (labels names : List ℕ) (live : List LiveLink) → names ≡ [] → AreLiveLinks links labels live → AreLiveLinks links labels (shown names live)
-plain_live links labels names live none are = subst (AreLiveLinks links labels) (sym (shown_plain names live none)) are
-
--- a list of no length is empty
-nothing_left : {X : Type 0} (xs : List X) → length xs ≡ 0 → xs ≡ []
-nothing_left [] none = refl
-nothing_left (x ∷ xs) none = absurd (omega (arith, none))
-
--- where there are no names, a list shows its own links
-pub shown_unnamed : {Z : Type 0} (names : Vec ℕ Z) (live : List LiveLink) → (names.len == 0) ≡ true → shown names.items live ≡ live
-shown_unnamed names live none = shown_plain names.items live (nothing_left names.items (omega (arith, names.ok, eqb-true names.len 0 none)))

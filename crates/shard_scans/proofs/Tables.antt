@@ -1,4 +1,4 @@
--- A table by blocks and parts of labels, some of which were touched.
+-- A table of what is kept for each label, and the offers that it gives.
 use Rattle.std.proofs.Common.{◌≡◌, ◌≢◌, ℕ, ◌+◌, ◌-◌, ◌*◌, ◌/◌, ◌<◌, ◌≤◌, ◌^◌, Bool, true, false, List, [], ◌∷◌, ◌++◌, length, get_or, set, replicate, Contains, sym, ap, ◌∙◌, subst, inl, inr, arith}
 use Rattle.std.proofs.lemmas.Bool.{cases_eq, cases_lt}
 use Rattle.std.proofs.Math.Nat.{mul-div-le, lt-mul-div-succ, mul_comm}
@@ -17,66 +17,9 @@ use Rattle.round_theory.proofs.Lists.{set_ends}
 use Rattle.round_theory.proofs.OfferSteps.{left_label_is_vertex}
 use Rattle.shard_scans.specs.declared.scanning.Best.{Best}
 use Rattle.shard_scans.specs.Scanning.{no_best, IsBestPlace, best_of, AreBest}
-use Rattle.shard_scans.specs.Tables.{HaveNotes, AreNone, KeepNoMore, IsKept, ArePlacesBelow, ArePlaces}
+use Rattle.shard_scans.specs.Tables.{IsKept, ArePlacesBelow, ArePlaces}
 use Rattle.shard_scans.proofs.BestSoFar.{best_is_light, none_leaves}
 use Rattle.shard_scans.proofs.Scans.{kept_place, kept_none}
-
-module _ (width : ℕ) (some : 0 < width) where
-  -- the labels of a note are those behind so many
-  of_note : (before note : ℕ) → width * note ≤ before → before < width * (note + 1) → before / width ≡ note
-  of_note before note low high = omega (arith, le-div note before width some (omega (arith, low, mul_comm note width)), div_below before width (note + 1) some (omega (arith, high, mul_comm (note + 1) width)))
-
-  at_note : (before note : ℕ) → before / width ≡ note → (width * note ≤ before) × (before < width * (note + 1))
-  at_note before note same = subst (λ n. (width * n ≤ before) × (before < width * (n + 1))) same (mul-div-le before width, lt-mul-div-succ before some)
-
-  -- nothing is kept for the labels of a note that isn't set
-  pub unset_none : (bests : List Best) (notes : List Bool) (note : ℕ) → HaveNotes width bests notes → get_or notes note true ≡ false → AreNone bests (width * note) (width * (note + 1))
-  unset_none bests notes note noted off before low high = elim (cases_lt before (length bests)) [
-    | inl within ↦ noted.unset before within (subst (λ n. get_or notes n true ≡ false) (sym (of_note before note low high)) off)
-    | inr past ↦ get_or_past bests before no_best past
-  ]
-
-  -- a note whose labels are cleared needn't be set
-  pub unset_note : (bests : List Best) (notes : List Bool) (note : ℕ) → HaveNotes width bests notes → AreNone bests (width * note) (width * (note + 1)) → HaveNotes width bests (set notes note false)
-  unset_note bests notes note noted none = record {
-    room = subst (λ n. length bests ≤ width * n) (sym (length-set notes note false)) noted.room;
-    unset = λ before within off. elim (cases_eq (before / width) note) [
-      | inl same ↦ let at = at_note before note same in none before at.0 at.1
-      | inr other ↦ noted.unset before within (sym (get_or-set_other notes note (before / width) false true other) ∙ off)
-    ];
-  }
-
-  -- where no more is kept the notes hold
-  pub notes_stay : (old new : List Best) (notes : List Bool) → length new ≡ length old → KeepNoMore old new → HaveNotes width old notes → HaveNotes width new notes
-  notes_stay old new notes long no_more noted = record {
-    room = omega (arith, long, noted.room);
-    unset = λ before within off. no_more before (noted.unset before (omega (arith, within, long)) off);
-  }
-
--- labels in a row, and those behind them
-pub none_on : (bests : List Best) (from at to : ℕ) → AreNone bests from at → AreNone bests at to → AreNone bests from to
-none_on bests from at to front back before low high = elim (cases_lt before at) [ inl lt ↦ front before low lt | inr le ↦ back before le high ]
-
--- one label is cleared
-pub clears : (bests : List Best) (at : ℕ) → at < length bests → AreNone (set bests at no_best) at (at + 1)
-clears bests at within before low high =
-    subst (λ k. get_or (set bests at no_best) k no_best ≡ no_best) (omega (arith, low, high)) (get_or-set_same bests at no_best no_best within)
-
-pub clears_alone : (bests : List Best) (at : ℕ) → KeepNoMore bests (set bests at no_best)
-clears_alone bests at before none = elim (cases_eq before at) [
-  | inl same ↦ elim (cases_lt at (length bests)) [
-    | inl within ↦ subst (λ k. get_or (set bests at no_best) k no_best ≡ no_best) (sym same) (get_or-set_same bests at no_best no_best within)
-    | inr past ↦ get_or_past (set bests at no_best) before no_best (omega (arith, same, past, length-set bests at no_best))
-  ]
-  | inr other ↦ get_or-set_other bests at before no_best no_best other ∙ none
-]
-
-pub all_none : (bests : List Best) (count : ℕ) → length bests ≡ count → AreNone bests 0 count → bests ≡ replicate count no_best
-all_none bests count long none =
-    ext_get_or no_best bests (replicate count no_best) (long ∙ sym (length-replicate count no_best))
-    (λ i lt. let within : i < count = omega (arith, lt, long) in none i (omega arith) within ∙ sym (get_or-replicate count i no_best no_best within))
-
--- ---- the places that are kept
 
 pub places_none : (bests : List Best) → ArePlacesBelow bests 1 []
 places_none bests = record {
@@ -84,26 +27,22 @@ places_none bests = record {
   exact = λ label place. (λ is_in. absurd (contains_none (label, place) is_in), λ (lt, kept). absurd (omega (arith, lt, kept.from_one)));
 }
 
--- no place is kept for the next labels
-pub places_skip : (bests : List Best) (from to : ℕ) (pairs : List Offer) → from ≤ to
-    → ((before : ℕ) → from ≤ before → before < to → (get_or bests before no_best).place ≡ no_best.place)
-    → ArePlacesBelow bests (from + 1) pairs → ArePlacesBelow bests (to + 1) pairs
-places_skip bests from to pairs le none are = record {
+-- no place is kept for the next label
+pub places_skip : (bests : List Best) (before : ℕ) (pairs : List Offer) → (get_or bests before no_best).place ≡ no_best.place
+    → ArePlacesBelow bests (before + 1) pairs → ArePlacesBelow bests (before + 1 + 1) pairs
+places_skip bests before pairs none are = record {
   ascending = are.ascending;
   exact = λ label place. (
-    λ is_in. let had = (are.exact label place).0 is_in in (omega (arith, had.0, le), had.1),
+    λ is_in. let had = (are.exact label place).0 is_in in (omega (arith, had.0), had.1),
     λ (lt, kept). (are.exact label place).1 (
-      elim (cases_lt label (from + 1)) [
+      elim (cases_lt label (before + 1)) [
         | inl below ↦ below
-        | inr past ↦ absurd (kept.some (sym kept.here ∙ none (label - 1) (omega (arith, past)) (omega (arith, lt, past))))
+        | inr past ↦ absurd (kept.some (sym kept.here ∙ subst (λ k. (get_or bests k no_best).place ≡ no_best.place) (omega (arith, past, lt)) none))
       ],
       kept,
     ),
   );
 }
-
-pub places_skip_none : (bests : List Best) (from to : ℕ) (pairs : List Offer) → from ≤ to → AreNone bests from to → ArePlacesBelow bests (from + 1) pairs → ArePlacesBelow bests (to + 1) pairs
-places_skip_none bests from to pairs le none are = places_skip bests from to pairs le (λ before low high. ap (λ (b : Best). b.place) (none before low high)) are
 
 -- or a place is kept for the next label
 pub places_push : (bests : List Best) (before place : ℕ) (pairs : List Offer) → (get_or bests before no_best).place ≡ place → place ≢ no_best.place

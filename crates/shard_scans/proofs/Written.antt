@@ -4,16 +4,16 @@ use Rattle.std.specs.Prelude.{IfSome}
 use Rattle.std.proofs.lemmas.List.{get_or_default, get_or-map, map-append, length-map}
 use Rattle.std.proofs.lemmas.List.Elements.{All-append, All-cons, All-nil}
 use Rattle.links.specs.declared.links.Link.{Link}
+use Rattle.links.specs.Link.{EndsUpTo}
 use Rattle.links.specs.Labels.{label_of, AreLabels, Coarsens}
 use Rattle.round_theory.specs.Labelling.{IsVertex}
 use Rattle.shard_scans.specs.declared.scanning.Best.{Best}
 use Rattle.shard_scans.specs.declared.live.LiveLink.{LiveLink}
 use Rattle.shard_scans.specs.Scanning.{AreBestUpTo, TakesIn}
-use Rattle.shard_scans.specs.Batches.{written_at}
-use Rattle.shard_scans.specs.Live.{AreLive, HaveOneLabel, IsEntryOf, places_of, AreLiveLinks, StayLive, relabelled, KeptShardState, IsLive}
+use Rattle.shard_scans.specs.Live.{AreLive, HaveOneLabel, IsEntryOf, places_of, AreLiveLinks, StayLive, relabelled, written_at, CanBeTakenIn, KeptShardState, IsLive}
 use Rattle.shard_scans.proofs.Laid.{one_label_coarser, live_coarser, live_first, live_next, live_within, live_end, live_push, front_is_quiet}
 use Rattle.shard_scans.proofs.BestSoFar.{one_read}
-use Rattle.shard_scans.proofs.Scans.{bests_stay}
+use Rattle.shard_scans.proofs.Scans.{bests_stay, end_at}
 use Rattle.shard_scans.proofs.Outdone.{bests_over}
 
 -- what is written of a link stays right under labels that coarsen
@@ -70,6 +70,17 @@ places_count live = length-map live (λ (l : LiveLink). l.place)
 pub link_at : (links : List Link) (p : ℕ) → p < length links → (l : Link) × (l ≡ get_or links p l)
 link_at [] p within = absurd (omega (arith, within))
 link_at (x ∷ links) p within = (get_or (x ∷ links) p x, get_or_default (x ∷ links) p x (get_or (x ∷ links) p x) within)
+
+-- it can be taken in by its labels
+pub link_can_be_taken_in : (links : List Link) (labels : List ℕ) (n place : ℕ) (l : Link) → n ≡ length labels → AreLabels labels → EndsUpTo (length labels) links → place < length links
+    → l ≡ get_or links place l → CanBeTakenIn links n (written_at labels l place)
+link_can_be_taken_in links labels n place l size labelled ends within read =
+    let high : l.high ≤ length labels = end_at (length labels) links place l ends within read in
+    record {
+      low = subst (λ m. IsVertex m (label_of labels l.low)) (sym size) (label_vertex labels labelled l.low (l.from_one, omega (arith, l.ascending, high)));
+      high = subst (λ m. IsVertex m (label_of labels l.high)) (sym size) (label_vertex labels labelled l.high (omega (arith, l.from_one, l.ascending), high));
+      in_list = within;
+    }
 
 module _ (links : List Link) (labels : List ℕ) where
   module _ (old : List LiveLink) (are : AreLiveLinks links labels old) where
@@ -152,3 +163,12 @@ module _ (links : List Link) (labels : List ℕ) where
   -- or left out
   pub written_left_out : (place : ℕ) (live : List LiveLink) → AreWrittenBefore place live → StayLive links labels live place → AreWrittenBefore (place + 1) live
   written_left_out place live before stay = record { places = stay before.places; written = before.written; own = before.own }
+
+-- labels stand for themselves
+pub relabelled_stands : (labels : List ℕ) (next l : LiveLink) → AreLabels labels → IsVertex (length labels) l.low → IsVertex (length labels) l.high → next ≡ relabelled labels l → relabelled labels next ≡ next
+relabelled_stands labels next l are low high next_is =
+    let own_low : label_of labels (label_of labels l.low) ≡ label_of labels l.low = (are.labelled l.low low.0 low.1).own in
+    let own_high : label_of labels (label_of labels l.high) ≡ label_of labels l.high = (are.labelled l.high high.0 high.1).own in
+    ap (relabelled labels) next_is
+    ∙ (λ k. record { low = own_low k; high = own_high k; place = l.place })
+    ∙ sym next_is

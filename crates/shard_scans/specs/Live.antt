@@ -8,7 +8,8 @@ use Rattle.links.specs.Offers.{Offer}
 use Rattle.round_theory.specs.Labelling.{IsVertex}
 use Rattle.round_theory.specs.Offers.{AreLightOffers}
 use Rattle.shard_scans.specs.declared.live.LiveLink.{LiveLink}
-use Rattle.shard_scans.specs.Scanning.{ComesFirst}
+use Rattle.shard_scans.specs.declared.scanning.Best.{Best}
+use Rattle.shard_scans.specs.Scanning.{ComesFirst, AreBestUpTo}
 
 -- two vertices of one label
 abbrev pub HaveOneLabel : List ℕ → ℕ → ℕ → Type 0
@@ -70,6 +71,21 @@ StayLive links labels live place = AreLive links labels 0 place (places_of live)
 -- what is written of a live link, with labels in place of its vertices
 abbrev pub relabelled : List ℕ → LiveLink → LiveLink
 relabelled labels l = record { low = label_of labels l.low; high = label_of labels l.high; place = l.place }
+
+-- a link, written by its own labels and its place
+abbrev pub written_at : List ℕ → Link → ℕ → LiveLink
+written_at labels l place = record { low = label_of labels l.low; high = label_of labels l.high; place = place }
+
+-- what is written of a link has labels of so many, and a place of the list
+pub record CanBeTakenIn (links : List Link) (labels : ℕ) (written : LiveLink) : Type 0 where
+  pub low : IsVertex labels written.low
+  pub high : IsVertex labels written.high
+  pub in_list : written.place < length links
+
+-- a table of no links took in live ones that are written with their labels, and keeps the best place of all links for each label
+abbrev pub TakesInLive : List Link → List LiveLink → List Best → List Best → Type 0
+TakesInLive links written old new = (count : ℕ) (labels : List ℕ) (live : List LiveLink) → AreLiveLinks links labels live
+    → written ≡ map (relabelled labels) live → AreBestUpTo count links labels 0 0 old → AreBestUpTo count links labels 0 (length links) new
 
 -- so all live links, without those whose ends fall together
 abbrev pub packed : List ℕ → List LiveLink → List LiveLink

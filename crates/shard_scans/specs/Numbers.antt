@@ -60,7 +60,7 @@ AreBothNamed marks names l = HasItsName marks names l.low × HasItsName marks na
 abbrev pub name_of : List ℕ → ℕ → ℕ
 name_of names number = slice_index_or names (number - 1) number
 
--- what is written by numbers, with the names of these in place of them; where there are no names it stands
+-- what is written by numbers, with the names of these in place of them
 abbrev pub named : List ℕ → LiveLink → LiveLink
 named names l = record { low = name_of names l.low; high = name_of names l.high; place = l.place }
 
@@ -83,10 +83,6 @@ new_name labels name = slice_index_or labels (name - 1) 1
 -- what is listed of live links, by labels of vertices
 abbrev pub shown : List ℕ → List LiveLink → List LiveLink
 shown names live = map (named names) live
-
--- they are written with labels, where there are no names, or with numbers that have names
-abbrev pub IsListed : List ℕ → List LiveLink → Type 0
-IsListed names live = (names ≡ []) ⊎ HaveNames names live
 
 -- the labels of both ends are marked, and stand by their numbers among the names
 pub record HasNumbers (labels marks names : List ℕ) (l : Link) : Type 0 where

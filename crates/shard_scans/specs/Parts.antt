@@ -1,6 +1,5 @@
 -- Parts of a shard's links, which are scanned side by side.
-use Rattle.std.specs.Prelude.{◌≢◌, ℕ, ◌<◌, ◌≤◌, List, length, slice_index_or, Option, None, Some, IfSome}
-use Rattle.std.specs.Borrow.{Bor}
+use Rattle.std.specs.Prelude.{◌≢◌, ℕ, ◌<◌, ◌≤◌, List, length, slice_index_or, Some}
 use Rattle.limits.specs.declared.TheConstants.{MAX_SHARD_LINKS}
 use Rattle.links.specs.declared.links.Link.{Link}
 use Rattle.links.specs.Link.{EndsUpTo}
@@ -8,41 +7,22 @@ use Rattle.links.specs.Labels.{AreLabels}
 use Rattle.shard_scans.specs.declared.scanning.Best.{Best}
 use Rattle.shard_scans.specs.declared.scanning.TheConstants.{NO_PLACE}
 use Rattle.shard_scans.specs.Scanning.{Says, AreBest}
-use Rattle.shard_scans.specs.declared.live.LiveLink.{LiveLink}
 use Rattle.shard_scans.specs.declared.parts.Scanned.{Scanned}
 use Rattle.shard_scans.specs.declared.parts.Part.{Part}
-use Rattle.shard_scans.specs.Live.{AreLiveLinks, live_place}
 
 -- links that a scan may pass over, and the live ones where these are listed
 pub record CanScan (scanned : Scanned) : Type 0 where
   pub few_links : length scanned.links.now ≤ MAX_SHARD_LINKS
   pub ends : EndsUpTo (length scanned.labels.now) scanned.links.now
   pub labelled : AreLabels scanned.labels.now
-  pub live_links : IfSome scanned.live (λ listed. AreLiveLinks scanned.links.now scanned.labels.now listed.now)
-
--- how many links it passes over
-abbrev pub count_in : List Link → Option (Bor (List LiveLink)) → ℕ
-count_in links None = length links
-count_in links (Some listed) = length listed.now
-
-abbrev pub count_of : Scanned → ℕ
-count_of scanned = count_in scanned.links.now scanned.live
-
--- the place of the next of them; the end of the list behind the last
-abbrev pub place_in : List Link → Option (Bor (List LiveLink)) → ℕ → ℕ
-place_in links None i = i
-place_in links (Some listed) i = live_place links listed.now i
-
-abbrev pub place_at : Scanned → ℕ → ℕ
-place_at scanned i = place_in scanned.links.now scanned.live i
 
 -- the part is one of them
 abbrev pub IsPartOf : Scanned → Part → Type 0
-IsPartOf scanned part = part.to ≤ count_of scanned
+IsPartOf scanned part = part.to ≤ length scanned.links.now
 
 -- a table keeps the best place for each label, of the links of a part
 abbrev pub AreBestOf : Scanned → Part → List Best → Type 0
-AreBestOf scanned part table = AreBest scanned.links.now scanned.labels.now (place_at scanned part.from) (place_at scanned part.to) table
+AreBestOf scanned part table = AreBest scanned.links.now scanned.labels.now part.from part.to table
 
 -- a table of the links before a place takes in a table of those from it on
 abbrev pub Merges : List Link → List Best → List Best → List Best → Type 0

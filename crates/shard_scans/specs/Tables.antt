@@ -1,29 +1,9 @@
--- A table of what is kept for each label, and notes of which labels were touched.
-use Rattle.std.specs.Prelude.{◌≡◌, ◌≢◌, ℕ, ◌*◌, ◌/◌, ◌<◌, ◌≤◌, ◌↔◌, Bool, true, false, List, length, slice_index_or, set, Contains}
+-- A table of what is kept for each label.
+use Rattle.std.specs.Prelude.{◌≡◌, ◌≢◌, ℕ, ◌<◌, ◌≤◌, ◌↔◌, List, slice_index_or, set, Contains}
 use Rattle.links.specs.declared.links.Link.{Link}
 use Rattle.links.specs.Offers.{Offer, AreOffers}
 use Rattle.shard_scans.specs.declared.scanning.Best.{Best}
-use Rattle.shard_scans.specs.declared.table.TheConstants.{BLOCK, PART}
 use Rattle.shard_scans.specs.Scanning.{no_best, KeepsLesser, best_of}
-
--- notes, each of so many labels in a row: each label has one, and nothing is kept for a label whose note isn't set
-pub record HaveNotes (width : ℕ) (bests : List Best) (notes : List Bool) : Type 0 where
-  pub room : length bests ≤ width * length notes
-  pub unset : (before : ℕ) → before < length bests → slice_index_or notes (before / width) true ≡ false
-      → slice_index_or bests before no_best ≡ no_best
-
--- nothing is kept for the labels of a block that wasn't touched, nor for those of a part that wasn't
-pub record AreNoted (bests : List Best) (blocks parts : List Bool) : Type 0 where
-  pub by_block : HaveNotes BLOCK bests blocks
-  pub by_part : HaveNotes PART bests parts
-
--- nothing is kept for the labels behind so many of them and not behind `to`
-abbrev pub AreNone : List Best → ℕ → ℕ → Type 0
-AreNone bests from to = (before : ℕ) → from ≤ before → before < to → slice_index_or bests before no_best ≡ no_best
-
--- nothing is kept for a label for which nothing was kept
-abbrev pub KeepNoMore : List Best → List Best → Type 0
-KeepNoMore old new = (before : ℕ) → slice_index_or old before no_best ≡ no_best → slice_index_or new before no_best ≡ no_best
 
 -- behind so many labels the lesser of the next one and of what was kept there is kept, and all else stands
 pub record KeepsAt (links : List Link) (next : Best) (before : ℕ) (old new : List Best) : Type 0 where

@@ -8,8 +8,8 @@ ghost use Rattle.round_theory.specs.Offers.{AreLightOffers};
 ghost use Rattle.shard_scans.specs.Scanning.{no_best, AreBestUpTo};
 ghost use Rattle.shard_scans.specs.Numbers.{marks_of, marked_in, AreCounted, AreNumbered, AreLiveByNumbers, numbered_labels, offered};
 
-use crate::batches::keep_each;
 use crate::listed::Listed;
+use crate::live::keep_all;
 use crate::numbers::Numbers;
 use crate::table::Table;
 use links::{Link, Offers};
@@ -31,8 +31,7 @@ pub(crate) fn offers_of_listed<A: Allocator + Copy>(
     requires live { AreLiveByNumbers links.now labels.now (marks_of numbers.now) listed.now.names.items listed.now.links.items }
     ensures light { IfOk result (AreLightOffers links.now labels.now) }
 {
-    let live = listed.links.as_slice();
-    keep_each(links, live, live.len(), table);
+    keep_all(links, listed.links.as_slice(), table);
     offers_by_numbers(links, labels, numbers, listed.names.as_slice(), table)
 }
 

@@ -1,13 +1,11 @@
 //! A shard that is kept, and which of its links are live.
-ghost use Rattle.std.specs.Prelude.{◌≡◌, ◌≤◌, ◌↔◌, length, IfSome, IfOk, IsTrue};
-ghost use Rattle.std.specs.Option.{option_map};
+ghost use Rattle.std.specs.Prelude.{◌≡◌, ◌≤◌, ◌↔◌, length, IfOk, IsTrue};
 ghost use Rattle.links.specs.Link.{EndsUpTo};
 ghost use Rattle.round_theory.specs.Offers.{AreLightOffers};
 ghost use Rattle.shard_scans.specs.Live.{IsLive, IsAllLive, IsGreatestEnd, AreOffersOf};
-ghost use Rattle.shard_scans.specs.Numbers.{shown, IsListed};
 
-use crate::kept_list::KeptList;
 use crate::listed::Listed;
+use crate::parallel::halvings_of;
 use crate::scanning::Scanner;
 use limits::MAX_SHARD_LINKS;
 use links::{Labels, Link, Offers};
@@ -15,35 +13,37 @@ use std::alloc::{AllocError, Allocator, Global};
 use std::marker::Model;
 use std::thread::Threads;
 
-/// A shard that is scanned again and again under labels that coarsen. At the first scan the live links are listed, and scans
-/// pass over the list alone: links that leave no label are laid aside, and so is a link where the one listed before it lies
-/// between the same two labels and is no greater. A scan by threads lists them once some link leaves no label, or where more
-/// than a quarter lie between the ends of the link before them and are no less. Contracts see the links and the live ones, if
-/// these are listed; where they aren't, all are live.
+/// A shard that is scanned again and again under labels that coarsen. The first scan lists the live links, and later scans
+/// pass over the list alone: links that leave no label are laid aside, and so is a link if the one listed before it lies
+/// between the same two labels and is no greater. A first scan by threads lists nothing, and the next one does. Contracts see
+/// the links and the live ones, if these are listed; if they aren't, all are live.
 ///
-/// It keeps the links' memory. The list takes 12 bytes for each link while it is made, then for each that is live; where there
-/// is no memory for it, all links stay live. Where it is by numbers it takes 4 bytes for the label of each. Between two scans
-/// that is at most 2, where there is memory for it, the labels are 4,096 or more, and the greatest is at most 255 times as
-/// many above the least.
+/// It keeps the links' memory. The list takes 12 bytes for each link while it is made, then for each that is live, and 4 bytes
+/// for each label that live links have.
 #[derive(Drop)]
 pub struct KeptShard<A: Allocator = Global> {
     links: Vec<Link, A>,
     // at an end of a link; 0 where there is none
     greatest: u32,
     // none where all are live
-    live: Option<KeptList<A>>,
+    live: Option<Listed<A>>,
+    // whether they were scanned since all were made live
+    scanned: bool,
 }
 
 impl<A: Allocator> Model for KeptShard<A> {
-    ghost use Rattle.std.specs.Prelude.{◌≤◌, length};
+    ghost use Rattle.std.specs.Prelude.{◌≤◌, length, IfSome};
+    ghost use Rattle.std.specs.Option.{option_map};
     ghost use Rattle.limits.specs.declared.TheConstants.{MAX_SHARD_LINKS};
     ghost use Rattle.shard_scans.specs.Live.{KeptShardState, IsGreatestEnd};
+    ghost use Rattle.shard_scans.specs.Numbers.{shown, HaveNames};
 
     ghost Value = { KeptShardState };
 
-    ghost view = { λ h. record { links = h.links.items; live = h.live } };
+    ghost view = { λ h. record { links = h.links.items; live = option_map (λ it. shown it.names.items it.links.items) h.live } };
 
-    ghost invariant = { λ h. (length h.links.items ≤ MAX_SHARD_LINKS) × IsGreatestEnd h.links.items h.greatest };
+    ghost invariant = { λ h. (length h.links.items ≤ MAX_SHARD_LINKS) × IsGreatestEnd h.links.items h.greatest
+        × IfSome h.live (λ it. HaveNames it.names.items it.links.items) };
 }
 
 impl<A: Allocator + Copy> KeptShard<A> {
@@ -59,6 +59,7 @@ impl<A: Allocator + Copy> KeptShard<A> {
             links,
             greatest,
             live: None,
+            scanned: false,
         }
     }
 
@@ -66,12 +67,10 @@ impl<A: Allocator + Copy> KeptShard<A> {
     /// greater than the number of labels. Under these labels the links that aren't live have to offer nothing: so it is
     /// where all are live, and where the labels coarsen those of the offers before ([`laws`](crate::laws)).
     ///
-    /// For m live links of n vertices O(m + n) time. Where the list is made, of n / 2 live links or more, or has no memory, it
-    /// scans by the labels themselves, over a table of 8 bytes and a bit a vertex. Else it scans by numbers of its own for the
-    /// labels that live links have: the scanner's table takes 8 bytes and a bit for each of these, its marks a quarter of a
-    /// byte a vertex. Beside them it takes the list, 8 bytes for each offer, and at most 6 for the label of each number; once
-    /// links are listed by numbers, 8 more for each number that they had before, until it returns. The only error is want of
-    /// memory, and the shard can be asked again after it.
+    /// For m live links of n vertices O(m + n) time. The links are scanned by numbers of the shard's own for the labels that
+    /// live links have: the scanner's table takes 8 bytes for each of these, its marks a quarter of a byte a vertex. Beside
+    /// them it takes the list and 8 bytes for each offer, and until it returns 8 bytes for each number that the links had
+    /// before. The only error is want of memory, and the shard can be asked again after it.
     pub fn offers(
         &mut self,
         scanner: &mut Scanner<A>,
@@ -101,22 +100,22 @@ impl<A: Allocator + Copy> KeptShard<A> {
         ensures links { self.new.links ≡ self.old.links }
         ensures live { IsLive labels.now self.new }
     {
-        if let Some(list) = &mut self.live {
-            return list.scan(scanner, self.links.as_slice(), labels);
+        if let Some(listed) = &mut self.live {
+            return scanner.scan_listed(self.links.as_slice(), listed, labels);
         }
         let (offers, listed) = scanner.scan_and_list(self.links.as_slice(), labels)?;
-        self.live = kept(listed);
+        self.live = Some(listed);
+        self.scanned = true;
         Ok(offers)
     }
 }
 
 impl<A: Allocator + Copy + Send + Sync> KeptShard<A> {
-    /// The same offers as [`offers`](KeptShard::offers) gives, by threads, as [`scan_par`](crate::scan_par) has it.
+    /// The same offers as [`offers`](KeptShard::offers) gives; the first ones, since all links were made live, by threads, if
+    /// the links are worth them, as [`scan_par`](crate::scan_par) has it. Those lay no link aside.
     ///
-    /// Where 131,072 links or more, at least twice as many as vertices, are to be scanned, it scans by the labels
-    /// themselves, each part over a table of 8 bytes and a bit a vertex; live links that were listed by numbers are scanned
-    /// by these in one thread, and a shorter list in one as [`offers`](KeptShard::offers) has it. The only error is want of
-    /// memory, and the shard can be asked again after it.
+    /// A scan by threads takes 8 bytes a vertex for each part. The only error is want of memory, and the shard can be asked
+    /// again after it.
     pub fn offers_par<R: Threads + Sync>(
         &mut self,
         rt: &R,
@@ -148,11 +147,11 @@ impl<A: Allocator + Copy + Send + Sync> KeptShard<A> {
         ensures links { self.new.links ≡ self.old.links }
         ensures live { IsLive labels.now self.new }
     {
-        if let Some(list) = &mut self.live {
-            return list.scan_par(rt, scanner, self.links.as_slice(), labels);
+        if self.scanned || halvings_of(rt, self.links.len(), labels.as_slice().len()) == 0 {
+            return self.scan(scanner, labels);
         }
-        let (offers, listed) = scanner.scan_and_list_par(rt, self.links.as_slice(), labels)?;
-        self.live = kept(listed);
+        let offers = scanner.scan_par(rt, self.links.as_slice(), labels)?;
+        self.scanned = true;
         Ok(offers)
     }
 }
@@ -172,17 +171,7 @@ impl<A: Allocator> KeptShard<A> {
         ensures live { IsAllLive self.new }
     {
         self.live = None;
-    }
-}
-
-// The list, if there is one, as it is kept.
-fn kept<A: Allocator + Copy>(listed: Option<Listed<A>>) -> Option<KeptList<A>>
-    requires { IfSome listed (λ it. IsListed it.names.items it.links.items) }
-    ensures { result ≡ option_map (λ it. shown it.names.items it.links.items) listed }
-{
-    match listed {
-        Some(listed) => Some(KeptList::of(listed)),
-        None => None,
+        self.scanned = false;
     }
 }
 

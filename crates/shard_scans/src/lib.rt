@@ -2,11 +2,12 @@
 //! scanned again and again under labels that coarsen, over fewer and fewer links.
 //!
 //! ```text
-//!   links, Labels ── Scanner::scan, scan_par ──────► Offers
-//!                      │ batch by batch ──► Table      ▲
-//!   links ── KeptShard::new ──► KeptShard ── offers ───┘
+//!   links, Labels ── Scanner::scan ─────────────────────► Offers
+//!                      │ live links, by numbers ► Table      ▲
+//!                    scan_par by threads, by labels ─────────┤
+//!   links ── KeptShard::new ──► KeptShard ── offers ─────────┘
 //!                                │   ▲
-//!                         live links, listed by labels, and then by numbers of these
+//!                         live links, by numbers of their labels
 //! ```
 //!
 //! What it promises:
@@ -15,18 +16,13 @@
 //!   no label it gives none.
 //! - What is live under labels is so under those that coarsen them ([`laws`]).
 //!
-//! Where to start a change: `scanning` has the pass over the links (`specs/Scanning`), `table` what is kept for each label
-//! (`specs/Tables`), `batches` what is looked up before it is kept (`specs/Batches`), `live` the passes over live links
-//! (`specs/Live`), `parallel` those over `parts` of the links (`specs/Parts`). `numbers` numbers a shard's labels
-//! (`specs/Numbers`), `by_numbers` passes by these, `listed` lists live links, `end_labels` looks up the labels of their ends,
-//! `kept_list` keeps the list between two scans, its names by `gaps` (`specs/Gaps`), `kept_shard` the shard with its list.
+//! Where to start a change: `live` writes the live links of a shard (`specs/Live`), `numbers` numbers their labels
+//! (`specs/Numbers`), `listed` keeps them by these, and `by_numbers` gives their offers. `table` has what is kept for each
+//! number (`specs/Tables`), `scanning` the scans and how one link is kept (`specs/Scanning`). `parallel` scans `parts` of the
+//! links by threads, by the labels themselves (`specs/Parts`). `kept_shard` is the shard with its list.
 #![tactic(auto)]
 
-mod batches;
 mod by_numbers;
-mod end_labels;
-mod gaps;
-mod kept_list;
 mod kept_shard;
 pub mod laws;
 mod listed;

@@ -6,21 +6,27 @@
 //! others a label of each end is written, and the place, in 12 bytes. Under labels that coarsen, the label of such a label is
 //! that of the end itself, so a pass in order over what is written looks up labels of labels alone, of which there are fewer
 //! and fewer. The weight is read where the link itself stands: places ascend, so that is a walk in order too.
-ghost use Rattle.std.specs.Prelude.{◌≡◌, ◌<◌, ◌≤◌, length, take, replicate, All, Some, IfOk, IsTrue, IsFalse};
+ghost use Rattle.std.specs.Prelude.{◌≡◌, ◌<◌, ◌≤◌, length, take, All, Some, IfOk, IsTrue, IsFalse};
 ghost use Rattle.limits.specs.declared.TheConstants.{MAX_SHARD_LINKS};
 ghost use Rattle.links.specs.Link.{EndsUpTo};
-ghost use Rattle.links.specs.Labels.{AreLabels};
+ghost use Rattle.links.specs.Labels.{label_of, AreLabels};
 ghost use Rattle.round_theory.specs.Labelling.{IsVertex};
-ghost use Rattle.shard_scans.specs.Scanning.{no_best, Says, AreBest};
-ghost use Rattle.shard_scans.specs.Live.{AreParallel, AreLiveLinks, StayLive, live_place, relabelled, packed};
+ghost use Rattle.shard_scans.specs.Scanning.{Says};
+ghost use Rattle.shard_scans.specs.Live.{AreParallel, AreLiveLinks, StayLive, CanBeTakenIn, TakesInLive, relabelled, packed};
 
-use crate::batches::{BATCH, NOTHING, keep_each, look_up_live};
-use crate::end_labels::EndLabels;
-use crate::parts::Part;
-use crate::scanning::{Best, short_key};
+use crate::scanning::{Best, keep_next, short_key};
 use crate::table::Table;
 use links::Link;
 use std::alloc::{AllocError, Allocator};
+
+// The label of a vertex.
+#[inline]
+pub(crate) fn label_at(labels: &[u32], vertex: u32) -> u32
+    requires { IsVertex (length labels.now) vertex }
+    ensures { result ≡ label_of labels.now vertex }
+{
+    labels[vertex as usize - 1]
+}
 
 // What is written of a link: a label of its lower end, or that label's number, the same of its higher end, and its place.
 #[derive(Clone, Copy)]
@@ -39,8 +45,8 @@ impl LiveLink {
         ensures { result ≡ relabelled labels.now self }
     {
         LiveLink {
-            low: labels[self.low as usize - 1],
-            high: labels[self.high as usize - 1],
+            low: label_at(labels, self.low),
+            high: label_at(labels, self.high),
             place: self.place,
         }
     }
@@ -71,46 +77,15 @@ impl LiveLink {
     }
 }
 
-// The pass over a part of the live links, a batch at a time. The others leave no label.
-pub(crate) fn find_best_live<A: Allocator + Copy>(
-    links: &[Link],
-    live: &[LiveLink],
-    labels: &[u32],
-    part: Part,
-    table: &mut Table<A>,
-)
+// Takes live links into a table, one after another, by what is written of them.
+pub(crate) fn keep_all<A: Allocator + Copy>(links: &[Link], live: &[LiveLink], table: &mut Table<A>)
     requires few_links { length links.now ≤ MAX_SHARD_LINKS }
-    requires labels { AreLabels labels.now }
-    requires live { AreLiveLinks links.now labels.now live.now }
-    requires in_list { part.to ≤ length live.now }
-    requires none_yet { table.old ≡ replicate (length labels.now) no_best }
-    ensures best { AreBest links.now labels.now (live_place links.now live.now part.from) (live_place links.now live.now part.to) table.new }
+    requires next { All (CanBeTakenIn links.now (length table.old)) live.now }
+    ensures taken { TakesInLive links.now live.now table.old table.new }
 {
-    let mut batch = [NOTHING; BATCH];
-    let mut at = part.from;
-    while at < part.to {
-        let next = at + BATCH.min(part.to - at);
-        look_up_live(live, labels, at, next, &mut batch);
-        keep_each(links, &batch, next - at, table);
-        at = next;
+    for i in 0..live.len() {
+        keep_next(links, live[i], table);
     }
-}
-
-// The pass over all live links, whose labels stand for themselves.
-pub(crate) fn keep_live<A: Allocator + Copy>(
-    links: &[Link],
-    live: &[LiveLink],
-    labels: &[u32],
-    table: &mut Table<A>,
-)
-    requires few_links { length links.now ≤ MAX_SHARD_LINKS }
-    requires labels { AreLabels labels.now }
-    requires live { AreLiveLinks links.now labels.now live.now }
-    requires own { All (λ e. relabelled labels.now e ≡ e) live.now }
-    requires none_yet { table.old ≡ replicate (length labels.now) no_best }
-    ensures best { AreBest links.now labels.now 0 (length links.now) table.new }
-{
-    keep_each(links, live, live.len(), table);
 }
 
 // Writes the new labels of all live links, and moves those that aren't quiet to the front, in order. It says how many
@@ -133,15 +108,15 @@ pub(crate) fn pack(live: &mut [LiveLink], labels: &[u32]) -> usize
 
 // Whether two links are parallel.
 #[inline]
-fn are_parallel(labels: EndLabels, earlier: Link, link: Link) -> bool
-    requires earlier { earlier.high ≤ length labels.labels.now }
-    requires link { link.high ≤ length labels.labels.now }
-    ensures { IsTrue result → AreParallel labels.entry.labels.now earlier link }
+fn are_parallel(labels: &[u32], earlier: Link, link: Link) -> bool
+    requires earlier { earlier.high ≤ length labels.now }
+    requires link { link.high ≤ length labels.now }
+    ensures { IsTrue result → AreParallel labels.now earlier link }
 {
-    let low = labels.of(earlier.low);
-    let high = labels.of(earlier.high);
-    let other_low = labels.of(link.low);
-    let other_high = labels.of(link.high);
+    let low = label_at(labels, earlier.low);
+    let high = label_at(labels, earlier.high);
+    let other_low = label_at(labels, link.low);
+    let other_high = label_at(labels, link.high);
     if low == other_low {
         return high == other_high;
     }
@@ -150,10 +125,10 @@ fn are_parallel(labels: EndLabels, earlier: Link, link: Link) -> bool
 
 // Whether the link at a place is outdone by the one that is listed last.
 #[inline]
-fn is_outdone(links: &[Link], labels: EndLabels, live: &[LiveLink], place: usize) -> bool
-    requires ends { EndsUpTo (length labels.labels.now) links.now }
+fn is_outdone(links: &[Link], labels: &[u32], live: &[LiveLink], place: usize) -> bool
+    requires ends { EndsUpTo (length labels.now) links.now }
     requires in_list { place < length links.now }
-    ensures { IsTrue result → StayLive links.now labels.entry.labels.now live.now place }
+    ensures { IsTrue result → StayLive links.now labels.now live.now place }
 {
     if live.is_empty() {
         return false;
@@ -168,24 +143,23 @@ fn is_outdone(links: &[Link], labels: EndLabels, live: &[LiveLink], place: usize
 
 // Whether the next link is to be listed behind those that are: it isn't quiet, and not outdone by the last of them.
 #[inline]
-pub(crate) fn is_live(links: &[Link], labels: EndLabels, live: &[LiveLink], place: usize) -> bool
-    requires ends { EndsUpTo (length labels.labels.now) links.now }
+pub(crate) fn is_live(links: &[Link], labels: &[u32], live: &[LiveLink], place: usize) -> bool
+    requires ends { EndsUpTo (length labels.now) links.now }
     requires in_list { place < length links.now }
-    ensures { IsFalse result → StayLive links.now labels.entry.labels.now live.now place }
+    ensures { IsFalse result → StayLive links.now labels.now live.now place }
 {
     let link = links[place];
-    if labels.of(link.low) == labels.of(link.high) {
+    if label_at(labels, link.low) == label_at(labels, link.high) {
         return false;
     }
     !is_outdone(links, labels, live, place)
 }
 
-// The live links of a shard, with room for so many to begin with; room that is left is given back.
+// The live links of a shard, by labels. Room that is left is given back.
 pub(crate) fn write_live<A: Allocator + Copy>(
     alloc: A,
     links: &[Link],
     labels: &[u32],
-    room: usize,
 ) -> Result<Vec<LiveLink, A>, AllocError>
     requires few_links { length links.now ≤ MAX_SHARD_LINKS }
     requires ends { EndsUpTo (length labels.now) links.now }
@@ -193,14 +167,13 @@ pub(crate) fn write_live<A: Allocator + Copy>(
     ensures live { IfOk result (λ live. AreLiveLinks links.now labels.now live.items) }
     ensures own { IfOk result (λ live. All (λ e. relabelled labels.now e ≡ e) live.items) }
 {
-    let ends = EndLabels::new(labels);
-    let mut live = Vec::with_capacity(alloc, room)?;
+    let mut live = Vec::with_capacity(alloc, links.len())?;
     for place in 0..links.len() {
-        if is_live(links, ends, live.as_slice(), place) {
+        if is_live(links, labels, live.as_slice(), place) {
             let link = links[place];
             live.push(LiveLink {
-                low: ends.of(link.low),
-                high: ends.of(link.high),
+                low: label_at(labels, link.low),
+                high: label_at(labels, link.high),
                 place: place as u32,
             })?;
         }

@@ -4,7 +4,7 @@
 //! processor's cache where one of what is kept for each label of the graph doesn't. So the labels that live
 //! links have are marked, a bit each, and numbered in their order: the number of a label is one more than there are marked
 //! labels below it, which are counted a word of bits at a time.
-ghost use Rattle.std.specs.Prelude.{◌≡◌, ℕ, ◌+◌, ◌-◌, ◌*◌, ◌/◌, ◌^◌, ◌<◌, ◌≤◌, ◌⊎◌, [], length, All, slice_index, slice_index_or, replicate, set, count_ones, OnOk};
+ghost use Rattle.std.specs.Prelude.{◌≡◌, ℕ, ◌+◌, ◌-◌, ◌*◌, ◌/◌, ◌^◌, ◌<◌, ◌≤◌, ◌⊎◌, [], length, map, All, slice_index, replicate, set, count_ones, OnOk};
 ghost use Rattle.links.specs.Labels.{AreLabels};
 ghost use Rattle.round_theory.specs.Labelling.{IsVertex};
 ghost use Rattle.shard_scans.specs.declared.live.LiveLink.{LiveLink};
@@ -145,26 +145,23 @@ pub(crate) fn mark_each<A: Allocator + Copy>(live: &[LiveLink], numbers: &mut Nu
     }
 }
 
-// Writes the numbers of the labels of so many links in place of the labels, and the names of these numbers.
+// Writes the numbers of the labels of links in place of the labels, and the names of these numbers.
 pub(crate) fn number_each<A: Allocator + Copy>(
     numbers: &Numbers<A>,
     names: &mut [u32],
-    batch: &mut [LiveLink],
-    count: usize,
+    live: &mut [LiveLink],
 )
     requires counted { AreCounted numbers.now }
-    requires in_batch { count ≤ length batch.old }
-    requires marked { (k : ℕ) (d : LiveLink) → k < count → AreBothMarked (marks_of numbers.now) (slice_index_or batch.old k d) }
+    requires marked { All (AreBothMarked (marks_of numbers.now)) live.old }
     requires names { length names.old ≡ marked_in (marks_of numbers.now) (length numbers.now) }
-    ensures numbered { (k : ℕ) (d : LiveLink) → k < count → slice_index_or batch.new k d ≡ numbered (marks_of numbers.now) (slice_index_or batch.old k d) }
-    ensures named { (k : ℕ) (d : LiveLink) → k < count → AreBothNamed (marks_of numbers.now) names.new (slice_index_or batch.old k d) }
-    ensures more { (c : ℕ) → IsMarked (marks_of numbers.now) c → HasItsName (marks_of numbers.now) names.old c → HasItsName (marks_of numbers.now) names.new c }
+    ensures numbered { live.new ≡ map (numbered (marks_of numbers.now)) live.old }
+    ensures named { All (AreBothNamed (marks_of numbers.now) names.new) live.old }
 {
-    for i in 0..count {
-        let link = batch[i];
+    for i in 0..live.len() {
+        let link = live[i];
         let low = numbers.name(link.low, names);
         let high = numbers.name(link.high, names);
-        batch[i] = link.between(low, high);
+        live[i] = link.between(low, high);
     }
 }
 

@@ -2,9 +2,8 @@
 ghost use Rattle.std.specs.Prelude.{◌≡◌, ◌<◌, ◌≤◌, length, IfOk};
 ghost use denote.Param.Send.{IsSync, IsSend, Frees};
 ghost use Rattle.shard_scans.specs.Scanning.{AreBest};
-ghost use Rattle.shard_scans.specs.Parts.{CanScan, count_of, IsPartOf, AreBestOf, SayPlaces, Merges};
+ghost use Rattle.shard_scans.specs.Parts.{CanScan, IsPartOf, AreBestOf, SayPlaces, Merges};
 
-use crate::live::find_best_live;
 use crate::parts::{Part, Scanned};
 use crate::scanning::{Best, NO_PLACE, find_best};
 use crate::table::Table;
@@ -28,16 +27,6 @@ pub(crate) fn halvings_of<R: Threads>(rt: &R, count: usize, labels: usize) -> us
     parts.ilog2() as usize
 }
 
-// How many links are to be scanned.
-fn how_many(scanned: Scanned) -> usize
-    ensures { result ≡ count_of scanned.entry }
-{
-    match scanned.live {
-        Some(listed) => listed.len(),
-        None => scanned.links.len(),
-    }
-}
-
 // What a table keeps for all links to be scanned.
 pub(crate) fn best_of_all<R: Threads + Sync, A: Allocator + Copy + Send + Sync>(
     rt: &R,
@@ -48,8 +37,10 @@ pub(crate) fn best_of_all<R: Threads + Sync, A: Allocator + Copy + Send + Sync>(
     requires can { CanScan scanned }
     ensures best { IfOk result (AreBest scanned.entry.links.now scanned.entry.labels.now 0 (length scanned.entry.links.now)) }
 {
-    let count = how_many(scanned);
-    let whole = Part { from: 0, to: count };
+    let whole = Part {
+        from: 0,
+        to: scanned.links.len(),
+    };
     best_between(rt, alloc, scanned, whole, halvings)
 }
 
@@ -104,19 +95,9 @@ fn best_alone<A: Allocator + Copy>(
     requires part { IsPartOf scanned part }
     ensures best { IfOk result (AreBestOf scanned.entry part) }
 {
-    let Scanned {
-        links,
-        live,
-        labels,
-    } = scanned;
     let mut table = Table::new(alloc);
-    table.clear(labels.len())?;
-    match live {
-        Some(listed) => find_best_live(links, listed, labels, part, &mut table),
-        None => {
-            let _ = find_best(links, labels, part, &mut table);
-        }
-    }
+    table.clear(scanned.labels.len())?;
+    find_best(scanned.links, scanned.labels, part, &mut table);
     Ok(table)
 }
 

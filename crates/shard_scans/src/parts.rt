@@ -1,14 +1,12 @@
-//! What a scan passes over, and parts of it.
+//! What a scan by threads passes over, and parts of it.
 ghost use Rattle.std.specs.Prelude.{◌≤◌};
 
-use crate::live::LiveLink;
 use links::Link;
 
-// A shard's links that are to be scanned under labels: all of them, or the live ones alone where these are listed.
+// A shard's links that are to be scanned under labels.
 #[derive(Clone, Copy)]
-pub(crate) struct Scanned<'a, 'l> {
+pub(crate) struct Scanned<'a> {
     pub(crate) links: &'a [Link],
-    pub(crate) live: Option<&'l [LiveLink]>,
     pub(crate) labels: &'a [u32],
 }
 

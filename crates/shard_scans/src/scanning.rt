@@ -1,17 +1,15 @@
 //! The light offers of a shard, in one pass over its links.
-ghost use Rattle.std.specs.Prelude.{◌≡◌, ◌≢◌, ℕ, ◌+◌, ◌-◌, ◌<◌, ◌≤◌, ◌↔◌, [], length, replicate, Some, All, IfSome, IfOk, OnOk, IsTrue};
+ghost use Rattle.std.specs.Prelude.{◌≡◌, ◌≤◌, length, replicate, Some, IfOk};
 ghost use Rattle.links.specs.Link.{EndsUpTo};
 ghost use Rattle.links.specs.Labels.{AreLabels};
 ghost use Rattle.round_theory.specs.Offers.{AreLightOffers};
 ghost use Rattle.shard_scans.specs.Scanning.{short_key, no_best, Says, KeepsLesser, AreBest, TakesIn};
-ghost use Rattle.shard_scans.specs.Live.{AreLiveLinks, relabelled};
-ghost use Rattle.shard_scans.specs.Batches.{CanBeTakenIn};
-ghost use Rattle.shard_scans.specs.Numbers.{HaveNames, shown, IsListed};
+ghost use Rattle.shard_scans.specs.Live.{AreLiveLinks, CanBeTakenIn};
+ghost use Rattle.shard_scans.specs.Numbers.{HaveNames, shown};
 
-use crate::batches::{BATCH, NOTHING, keep_each, look_up};
 use crate::by_numbers::offers_of_listed;
-use crate::listed::{Listed, list_by_labels};
-use crate::live::{LiveLink, keep_live, write_live};
+use crate::listed::Listed;
+use crate::live::{LiveLink, label_at, write_live};
 use crate::numbers::{Numbers, mark_each, mark_names};
 use crate::parallel::{best_of_all, halvings_of};
 use crate::parts::{Part, Scanned};
@@ -19,7 +17,6 @@ use crate::table::Table;
 use limits::MAX_SHARD_LINKS;
 use links::{Labels, Link, Offers};
 use std::alloc::{AllocError, Allocator, Global};
-use std::marker::Model;
 use std::thread::Threads;
 
 // What a table keeps for a label: of the links so far that leave it, a short key of the least one's weight, and the first
@@ -38,9 +35,9 @@ pub(crate) const NO_PLACE: u32 = u32::MAX;
 /// The light offers of a shard's links under the labels: for each label that has a link with exactly one end under
 /// it, the least such link, by the first place where it stands.
 ///
-/// One pass over the links, and one over a table of the labels: for m links of n vertices O(m + n) time, 8 bytes and
-/// a bit a vertex for the table and 8 bytes for each offer. For scan after scan a [`Scanner`] keeps the table. The only
-/// error is want of memory.
+/// It lists the links that leave a label, and numbers the labels that they leave. For m such links of n vertices it takes
+/// O(m + n) time, 12 bytes for each link of the shard, 12 for each of these labels, 8 for each offer, and a quarter of a byte a
+/// vertex. For scan after scan a [`Scanner`] keeps what is as long as there are labels. The only error is want of memory.
 pub fn scan<A: Allocator + Copy, B: Allocator>(
     alloc: A,
     links: &[Link],
@@ -56,9 +53,9 @@ pub fn scan<A: Allocator + Copy, B: Allocator>(
 /// The same offers as [`scan`] gives, by threads: the links are halved, at most as often as there are processors for, each
 /// part is scanned over a table of its own, and the tables are taken together.
 ///
-/// For m links of n vertices in p parts O(m / p + n p) time, and 8 bytes and a bit a vertex for each part's table. A part
-/// has at least as many links as there are vertices, and a list of few links, or one for which no thread can be made, is
-/// scanned by the caller's. The only error is want of memory.
+/// For m links of n vertices in p parts O(m / p + n p) time, and 8 bytes a vertex for each part's table. A part has at least
+/// as many links as there are vertices. Fewer than 131,072 links, or a list for which no thread can be made, are scanned by
+/// the caller's. The only error is want of memory.
 pub fn scan_par<R: Threads + Sync, A: Allocator + Copy + Send + Sync, B: Allocator>(
     rt: &R,
     alloc: A,
@@ -72,38 +69,25 @@ pub fn scan_par<R: Threads + Sync, A: Allocator + Copy + Send + Sync, B: Allocat
     Scanner::new(alloc).scan_par(rt, links, labels)
 }
 
-/// Scans one shard after another, each over the table of the one before, so that only the first one, or one of more
-/// labels, asks for memory for it; a scan by threads makes a table for each part. Contracts see how many labels the table
-/// has: those of the last scan. After the offers of a kept shard it has a place for each number of that shard's labels, or,
-/// where it was scanned by labels, for each label.
+/// Scans one shard after another, each in the room of the one before, so that only the first one, or one of more labels,
+/// asks for memory for it; a scan by threads makes a table for each part.
 #[derive(Drop)]
 pub struct Scanner<A: Allocator = Global> {
     table: Table<A>,
     numbers: Numbers<A>,
 }
 
-impl<A: Allocator> Model for Scanner<A> {
-    ghost use Rattle.std.specs.Prelude.{ℕ, length};
-
-    ghost Value = { ℕ };
-
-    ghost view = { λ s. length s.table };
-}
-
 impl<A: Allocator + Copy> Scanner<A> {
     /// A scanner that has scanned nothing. It takes no memory.
-    pub fn new(alloc: A) -> Self
-        ensures no_labels { result ≡ 0 }
-    {
+    pub fn new(alloc: A) -> Self {
         Scanner {
             table: Table::new(alloc),
             numbers: Numbers::new(alloc),
         }
     }
 
-    /// The light offers of a shard's links under the labels, as [`scan`] gives them, whatever was scanned before: for m
-    /// links of n vertices O(m + n) time, and 8 bytes for each offer. The only error is want of memory, and a scanner
-    /// goes on after it as before.
+    /// The light offers of a shard's links under the labels, as [`scan`] gives them, whatever was scanned before. The only
+    /// error is want of memory, and a scanner goes on after it as before.
     pub fn scan<B: Allocator>(
         &mut self,
         links: &[Link],
@@ -112,148 +96,36 @@ impl<A: Allocator + Copy> Scanner<A> {
         requires few_links { length links.now ≤ MAX_SHARD_LINKS }
         requires ends { EndsUpTo (length labels.now) links.now }
         ensures light { IfOk result (AreLightOffers links.now labels.now) }
-        ensures table { OnOk result (self.new ≡ length labels.now) }
     {
-        let (offers, _) = self.scan_and_count(links, labels)?;
+        let (offers, _) = self.scan_and_list(links, labels)?;
         Ok(offers)
     }
 
-    // The same offers, and how many links leave a label.
-    pub(crate) fn scan_and_count<B: Allocator>(
-        &mut self,
-        links: &[Link],
-        labels: &Labels<B>,
-    ) -> Result<(Offers<A>, usize), AllocError>
-        requires few_links { length links.now ≤ MAX_SHARD_LINKS }
-        requires ends { EndsUpTo (length labels.now) links.now }
-        ensures light { IfOk result (λ scanned. AreLightOffers links.now labels.now scanned.0) }
-        ensures table { OnOk result (self.new ≡ length labels.now) }
-    {
-        let labels = labels.as_slice();
-        self.table.clear(labels.len())?;
-        let all = Part {
-            from: 0,
-            to: links.len(),
-        };
-        let leaving = find_best(links, labels, all, &mut self.table);
-        let offers = offers_of(links, labels, &self.table)?;
-        Ok((offers, leaving))
-    }
-
-    // The same offers, and the live links, which are listed first, so that the labels of ends are looked up once; none where
-    // there is no memory for a list, and then all links are scanned by labels.
+    // The same offers, and the live links, which are listed first, so that the labels of ends are looked up once.
     pub(crate) fn scan_and_list<B: Allocator>(
         &mut self,
         links: &[Link],
         labels: &Labels<B>,
-    ) -> Result<(Offers<A>, Option<Listed<A>>), AllocError>
+    ) -> Result<(Offers<A>, Listed<A>), AllocError>
         requires few_links { length links.now ≤ MAX_SHARD_LINKS }
         requires ends { EndsUpTo (length labels.now) links.now }
         ensures light { IfOk result (λ scanned. AreLightOffers links.now labels.now scanned.0) }
-        ensures live { IfOk result (λ scanned. IfSome scanned.1 (λ listed. AreLiveLinks links.now labels.now (shown listed.names.items listed.links.items))) }
-        ensures listed { IfOk result (λ scanned. IfSome scanned.1 (λ listed. IsListed listed.names.items listed.links.items)) }
-    {
-        let alloc = self.table.allocator();
-        let Ok(live) = write_live(alloc, links, labels.as_slice(), links.len()) else {
-            let offers = self.scan(links, labels)?;
-            return Ok((offers, None));
-        };
-        let mut listed = Listed::by_labels(live);
-        let offers = self.scan_new_list(links, &mut listed, labels)?;
-        Ok((offers, Some(listed)))
-    }
-
-    // The same offers, by live links that are listed by these labels. Where they are half as many as the labels or more, and
-    // spread over them, most labels stand at one, and a table of numbers would be hardly smaller than one of labels: by these
-    // the list is scanned as it stands. Fewer links are numbered.
-    fn scan_new_list<B: Allocator>(
-        &mut self,
-        links: &[Link],
-        listed: &mut Listed<A>,
-        labels: &Labels<B>,
-    ) -> Result<Offers<A>, AllocError>
-        requires few_links { length links.now ≤ MAX_SHARD_LINKS }
-        requires ends { EndsUpTo (length labels.now) links.now }
-        requires by_labels { listed.old.names.items ≡ [] }
-        requires live { AreLiveLinks links.now labels.now listed.old.links.items }
-        requires own { All (λ e. relabelled labels.now e ≡ e) listed.old.links.items }
-        ensures light { IfOk result (AreLightOffers links.now labels.now) }
-        ensures live { AreLiveLinks links.now labels.now (shown listed.new.names.items listed.new.links.items) }
-        ensures listed { IsListed listed.new.names.items listed.new.links.items }
-    {
-        if listed.links.len() < labels.as_slice().len().div_ceil(2) {
-            return self.scan_and_number(links, listed, labels);
-        }
-        self.scan_by_labels(links, listed.links.as_slice(), labels)
-    }
-
-    // The same offers, by live links with these labels, as they stand.
-    fn scan_by_labels<B: Allocator>(
-        &mut self,
-        links: &[Link],
-        live: &[LiveLink],
-        labels: &Labels<B>,
-    ) -> Result<Offers<A>, AllocError>
-        requires few_links { length links.now ≤ MAX_SHARD_LINKS }
-        requires ends { EndsUpTo (length labels.now) links.now }
-        requires live { AreLiveLinks links.now labels.now live.now }
-        requires own { All (λ e. relabelled labels.now e ≡ e) live.now }
-        ensures light { IfOk result (AreLightOffers links.now labels.now) }
+        ensures live { IfOk result (λ scanned. AreLiveLinks links.now labels.now (shown scanned.1.names.items scanned.1.links.items)) }
+        ensures have_names { IfOk result (λ scanned. HaveNames scanned.1.names.items scanned.1.links.items) }
     {
         let labels = labels.as_slice();
-        self.table.clear(labels.len())?;
-        keep_live(links, live, labels, &mut self.table);
-        offers_of(links, labels, &self.table)
-    }
-
-    // The same offers, by live links that are listed by these labels, which are numbered.
-    fn scan_and_number<B: Allocator>(
-        &mut self,
-        links: &[Link],
-        listed: &mut Listed<A>,
-        labels: &Labels<B>,
-    ) -> Result<Offers<A>, AllocError>
-        requires few_links { length links.now ≤ MAX_SHARD_LINKS }
-        requires ends { EndsUpTo (length labels.now) links.now }
-        requires by_labels { listed.old.names.items ≡ [] }
-        requires live { AreLiveLinks links.now labels.now listed.old.links.items }
-        requires own { All (λ e. relabelled labels.now e ≡ e) listed.old.links.items }
-        ensures light { IfOk result (AreLightOffers links.now labels.now) }
-        ensures live { AreLiveLinks links.now labels.now (shown listed.new.names.items listed.new.links.items) }
-        ensures listed { IsListed listed.new.names.items listed.new.links.items }
-    {
-        let labels = labels.as_slice();
+        let live = write_live(self.table.allocator(), links, labels)?;
         self.numbers.clear(labels.len())?;
-        mark_each(listed.links.as_slice(), &mut self.numbers);
+        mark_each(live.as_slice(), &mut self.numbers);
         let count = self.numbers.count();
         self.table.clear(count)?;
-        listed.number(&self.numbers, count)?;
-        offers_of_listed(links, labels, listed, &self.numbers, &mut self.table)
+        let listed = Listed::new(live, &self.numbers, count)?;
+        let offers = offers_of_listed(links, labels, &listed, &self.numbers, &mut self.table)?;
+        Ok((offers, listed))
     }
 
     // The same offers, by the live links alone, of which those that are quiet under the labels are laid aside.
     pub(crate) fn scan_listed<B: Allocator>(
-        &mut self,
-        links: &[Link],
-        listed: &mut Listed<A>,
-        labels: &Labels<B>,
-    ) -> Result<Offers<A>, AllocError>
-        requires few_links { length links.now ≤ MAX_SHARD_LINKS }
-        requires ends { EndsUpTo (length labels.now) links.now }
-        requires live { AreLiveLinks links.now labels.now (shown listed.old.names.items listed.old.links.items) }
-        requires listed { IsListed listed.old.names.items listed.old.links.items }
-        ensures light { IfOk result (AreLightOffers links.now labels.now) }
-        ensures live { AreLiveLinks links.now labels.now (shown listed.new.names.items listed.new.links.items) }
-        ensures listed { IsListed listed.new.names.items listed.new.links.items }
-    {
-        if listed.names.is_empty() {
-            self.scan_older_list(links, listed, labels)
-        } else {
-            self.scan_by_numbers(links, listed, labels)
-        }
-    }
-
-    fn scan_by_numbers<B: Allocator>(
         &mut self,
         links: &[Link],
         listed: &mut Listed<A>,
@@ -275,27 +147,6 @@ impl<A: Allocator + Copy> Scanner<A> {
         listed.renumber(labels, &self.numbers, count)?;
         offers_of_listed(links, labels, listed, &self.numbers, &mut self.table)
     }
-
-    // The same offers, where all links are written with labels of an earlier scan: those that are quiet are laid aside, and the
-    // others are numbered, however many they are. Once components have joined, half of the labels or more stand at no link,
-    // and all later scans pass over the numbers.
-    fn scan_older_list<B: Allocator>(
-        &mut self,
-        links: &[Link],
-        listed: &mut Listed<A>,
-        labels: &Labels<B>,
-    ) -> Result<Offers<A>, AllocError>
-        requires few_links { length links.now ≤ MAX_SHARD_LINKS }
-        requires ends { EndsUpTo (length labels.now) links.now }
-        requires by_labels { listed.old.names.items ≡ [] }
-        requires live { AreLiveLinks links.now labels.now listed.old.links.items }
-        ensures light { IfOk result (AreLightOffers links.now labels.now) }
-        ensures live { AreLiveLinks links.now labels.now (shown listed.new.names.items listed.new.links.items) }
-        ensures listed { IsListed listed.new.names.items listed.new.links.items }
-    {
-        listed.lay_aside(labels.as_slice());
-        self.scan_and_number(links, listed, labels)
-    }
 }
 
 impl<A: Allocator + Copy + Send + Sync> Scanner<A> {
@@ -310,118 +161,31 @@ impl<A: Allocator + Copy + Send + Sync> Scanner<A> {
         requires few_links { length links.now ≤ MAX_SHARD_LINKS }
         requires ends { EndsUpTo (length labels.now) links.now }
         ensures light { IfOk result (AreLightOffers links.now labels.now) }
-        ensures table { OnOk result (self.new ≡ length labels.now) }
-    {
-        let (offers, _) = self.scan_and_count_par(rt, links, labels)?;
-        Ok(offers)
-    }
-
-    // The same offers, and how many links leave a label.
-    pub(crate) fn scan_and_count_par<'a, R: Threads + Sync, B: Allocator>(
-        &mut self,
-        rt: &R,
-        links: &'a [Link],
-        labels: &'a Labels<B>,
-    ) -> Result<(Offers<A>, usize), AllocError>
-        requires few_links { length links.now ≤ MAX_SHARD_LINKS }
-        requires ends { EndsUpTo (length labels.now) links.now }
-        ensures light { IfOk result (λ scanned. AreLightOffers links.now labels.now scanned.0) }
-        ensures table { OnOk result (self.new ≡ length labels.now) }
     {
         let halvings = halvings_of(rt, links.len(), labels.as_slice().len());
         if halvings == 0 {
-            return self.scan_and_count(links, labels);
+            return self.scan(links, labels);
         }
-        let labels = labels.as_slice();
-        let alloc = self.table.allocator();
-        let scanned = Scanned {
-            links,
-            live: None,
-            labels,
-        };
-        self.table = best_of_all(rt, alloc, scanned, halvings)?;
-        let offers = offers_of(links, labels, &self.table)?;
-        Ok((offers, count_leaving(links, labels)))
+        self.scan_halved(rt, links, labels, halvings)
     }
 
-    // The same as `scan_and_list`, by threads; they scan by labels.
-    pub(crate) fn scan_and_list_par<'a, R: Threads + Sync, B: Allocator>(
-        &mut self,
+    // The same offers, by the labels themselves, of links that are halved so many times.
+    fn scan_halved<'a, R: Threads + Sync, B: Allocator>(
+        &self,
         rt: &R,
         links: &'a [Link],
         labels: &'a Labels<B>,
-    ) -> Result<(Offers<A>, Option<Listed<A>>), AllocError>
-        requires few_links { length links.now ≤ MAX_SHARD_LINKS }
-        requires ends { EndsUpTo (length labels.now) links.now }
-        ensures light { IfOk result (λ scanned. AreLightOffers links.now labels.now scanned.0) }
-        ensures live { IfOk result (λ scanned. IfSome scanned.1 (λ listed. AreLiveLinks links.now labels.now (shown listed.names.items listed.links.items))) }
-        ensures listed { IfOk result (λ scanned. IfSome scanned.1 (λ listed. IsListed listed.names.items listed.links.items)) }
-    {
-        if halvings_of(rt, links.len(), labels.as_slice().len()) == 0 {
-            return self.scan_and_list(links, labels);
-        }
-        let (offers, leaving) = self.scan_and_count_par(rt, links, labels)?;
-        let alloc = self.table.allocator();
-        Ok((
-            offers,
-            list_by_labels(alloc, links, labels.as_slice(), leaving),
-        ))
-    }
-
-    // The same as `scan_listed`, by threads where the links are written with labels.
-    pub(crate) fn scan_listed_par<'a, R: Threads + Sync, B: Allocator>(
-        &mut self,
-        rt: &R,
-        links: &'a [Link],
-        listed: &mut Listed<A>,
-        labels: &'a Labels<B>,
+        halvings: usize,
     ) -> Result<Offers<A>, AllocError>
         requires few_links { length links.now ≤ MAX_SHARD_LINKS }
         requires ends { EndsUpTo (length labels.now) links.now }
-        requires live { AreLiveLinks links.now labels.now (shown listed.old.names.items listed.old.links.items) }
-        requires listed { IsListed listed.old.names.items listed.old.links.items }
         ensures light { IfOk result (AreLightOffers links.now labels.now) }
-        ensures live { AreLiveLinks links.now labels.now (shown listed.new.names.items listed.new.links.items) }
-        ensures listed { IsListed listed.new.names.items listed.new.links.items }
     {
-        if listed.names.is_empty() {
-            self.scan_live_par(rt, links, listed, labels)
-        } else {
-            self.scan_by_numbers(links, listed, labels)
-        }
-    }
-
-    // The same offers, where all links are written with labels: those that are quiet are laid aside first. A list that
-    // isn't worth threads is scanned as by one.
-    pub(crate) fn scan_live_par<'a, R: Threads + Sync, B: Allocator>(
-        &mut self,
-        rt: &R,
-        links: &'a [Link],
-        listed: &mut Listed<A>,
-        labels: &'a Labels<B>,
-    ) -> Result<Offers<A>, AllocError>
-        requires few_links { length links.now ≤ MAX_SHARD_LINKS }
-        requires ends { EndsUpTo (length labels.now) links.now }
-        requires by_labels { listed.old.names.items ≡ [] }
-        requires live { AreLiveLinks links.now labels.now listed.old.links.items }
-        ensures light { IfOk result (AreLightOffers links.now labels.now) }
-        ensures live { AreLiveLinks links.now labels.now (shown listed.new.names.items listed.new.links.items) }
-        ensures listed { IsListed listed.new.names.items listed.new.links.items }
-    {
-        let halvings = halvings_of(rt, listed.links.len(), labels.as_slice().len());
-        if halvings == 0 {
-            return self.scan_older_list(links, listed, labels);
-        }
         let labels = labels.as_slice();
-        listed.lay_aside(labels);
         let alloc = self.table.allocator();
-        let scanned = Scanned {
-            links,
-            live: Some(listed.links.as_slice()),
-            labels,
-        };
-        self.table = best_of_all(rt, alloc, scanned, halvings)?;
-        offers_of(links, labels, &self.table)
+        let scanned = Scanned { links, labels };
+        let table = best_of_all(rt, alloc, scanned, halvings)?;
+        offers_of(links, labels, &table)
     }
 }
 
@@ -440,69 +204,46 @@ fn offers_of<A: Allocator + Copy>(
     Ok(Offers::of_known(table.gather()?))
 }
 
-// The pass over a part of the links, a batch at a time. It says how many of them leave a label, on which no answer rests:
-// room for so many live ones is asked for.
+// The pass over a part of the links.
 pub(crate) fn find_best<A: Allocator + Copy>(
     links: &[Link],
     labels: &[u32],
     part: Part,
     table: &mut Table<A>,
-) -> usize
+)
     requires few_links { length links.now ≤ MAX_SHARD_LINKS }
     requires ends { EndsUpTo (length labels.now) links.now }
     requires labels { AreLabels labels.now }
     requires in_list { part.to ≤ length links.now }
     requires none_yet { table.old ≡ replicate (length labels.now) no_best }
     ensures best { AreBest links.now labels.now part.from part.to table.new }
-    ensures leaving { result ≤ part.to - part.from }
 {
-    let mut batch = [NOTHING; BATCH];
-    let mut leaving = 0;
-    let mut at = part.from;
-    while at < part.to {
-        let next = at + BATCH.min(part.to - at);
-        look_up(links, labels, at, next, &mut batch);
-        leaving += keep_each(links, &batch, next - at, table);
-        at = next;
+    for place in part.from..part.to {
+        let link = links[place];
+        let next = LiveLink {
+            low: label_at(labels, link.low),
+            high: label_at(labels, link.high),
+            place: place as u32,
+        };
+        keep_next(links, next, table);
     }
-    leaving
-}
-
-// How many links leave a label.
-fn count_leaving(links: &[Link], labels: &[u32]) -> usize
-    requires ends { EndsUpTo (length labels.now) links.now }
-    ensures { result ≤ length links.now }
-{
-    let mut leaving = 0;
-    for link in links {
-        if labels[link.low as usize - 1] != labels[link.high as usize - 1] {
-            leaving += 1;
-        }
-    }
-    leaving
 }
 
 // Takes the next link into the table by the labels that are written of its ends: where they differ it leaves both, and else
-// none. It says which.
+// none.
 #[inline]
-pub(crate) fn keep_next<A: Allocator + Copy>(
-    links: &[Link],
-    next: LiveLink,
-    table: &mut Table<A>,
-) -> bool
+pub(crate) fn keep_next<A: Allocator + Copy>(links: &[Link], next: LiveLink, table: &mut Table<A>)
     requires few_links { length links.now ≤ MAX_SHARD_LINKS }
     requires next { CanBeTakenIn links.now (length table.old) next }
     ensures best { TakesIn links.now next.low next.high next.place table.old table.new }
     ensures size { length table.new ≡ length table.old }
-    ensures leaves { IsTrue result ↔ (next.low ≢ next.high) }
 {
     if next.low == next.high {
-        return false;
+        return;
     }
     let best = next.best(links);
     table.keep(next.low as usize - 1, links, best);
     table.keep(next.high as usize - 1, links, best);
-    true
 }
 
 // A key of 32 bits: the weight cut off at 2^30 either way, plus its 2^33rd part rounded down. A greater weight has no lesser

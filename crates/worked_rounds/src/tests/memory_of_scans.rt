@@ -61,15 +61,18 @@ fn blocks_of_scans(
     (by_one, by_threads, memory.live())
 }
 
-// A table is three blocks. Links are scanned by threads wherever there are processors for it, and a part has at least as
-// many links as there are vertices, so that its table costs no more than its links.
+// One thread takes a block each for the list, the marks, the table and the names, and threads one for the table of each part.
+// Links are scanned by threads wherever there are processors for it, and a part has at least as many links as there are
+// vertices, so that its table costs no more than its links.
 #[test]
 fn a_table_for_each_part(rt: HostRuntime) {
     let alloc = rt.alloc();
     for (n, count, most) in PARTS {
         let (by_one, by_threads, live) = blocks(&rt, alloc, n, count);
-        let more = parts(&rt, most).wrapping_sub(1).wrapping_mul(3);
-        let blocks = by_one.wrapping_add(more);
+        let blocks = match parts(&rt, most) {
+            1 => by_one,
+            parts => by_one.wrapping_sub(4).wrapping_add(parts),
+        };
         expect_same(&rt, (n, count, by_threads, live), (n, count, blocks, 0));
     }
 }
@@ -88,30 +91,30 @@ fn scan_none<A: Allocator + Copy>(
     expect_offers(rt, &scanner.scan(&[], &labels).expect(rt, "memory"), &[]);
 }
 
-// A scanner asks for its table once, and again only where there are more labels. The block of notes of the parts that
-// 7 labels take has room for those of 100.
+// A scanner asks for its marks once, and again only where there are more labels than they have room for. Those of 7 labels have
+// room for 100.
 #[test]
-fn the_table_of_a_scan_is_used_again(rt: HostRuntime) {
+fn the_marks_of_a_scan_are_used_again(rt: HostRuntime) {
     let memory = Refusing::new(rt.alloc(), Refusals::none());
     let mut scanner = Scanner::new(&memory);
-    expect_tables(&rt, rt.alloc(), &memory, &mut scanner)
+    expect_marks(&rt, rt.alloc(), &memory, &mut scanner)
 }
 
-fn expect_tables<'a>(
+fn expect_marks<'a>(
     rt: &impl Abort,
     alloc: Global,
     memory: &'a Memory,
     scanner: &mut Scanner<&'a Memory>,
 ) {
     for (n, given) in [
-        (7, 3),
-        (7, 3),
-        (3, 3),
-        (0, 3),
-        (7, 3),
-        (100, 5),
-        (50, 5),
-        (1000, 8),
+        (7, 1),
+        (7, 1),
+        (3, 1),
+        (0, 1),
+        (7, 1),
+        (100, 1),
+        (50, 1),
+        (1000, 2),
     ] {
         scan_none(rt, alloc, scanner, n);
         expect_same(rt, (n, memory.given()), (n, given));
@@ -197,14 +200,14 @@ fn blocks_of_ask<'a>(
     taken
 }
 
-const BY_ONE: [Ask; 4] = [(2, 5), (1, 1), (1, 0), (2, 2)];
+const BY_ONE: [Ask; 4] = [(2, 5), (1, 2), (1, 2), (2, 3)];
 
-const BY_HALVES: [Ask; 4] = [(2, 7), (1, 6), (1, 1), (2, 7)];
+const BY_HALVES: [Ask; 4] = [(2, 3), (1, 2), (1, 0), (2, 3)];
 
 // An answer that offers something takes one block. By one thread the first ask lists the links, in one block, and so does one
-// whose labels make all links live again. They are scanned by labels, over a table of three blocks that is used again. By
-// threads, which scan by labels too, each part makes a table. Under the labels of one component all links are laid aside at
-// the first ask of a list, so that no number has a name: there is one block for the marks, which is used again.
+// whose labels make all links live again: with one for the names, and at first one each for the marks and the table, which are
+// used again. By threads each part makes a table, and nothing is listed. The next ask lists no link under the labels of one
+// component, so that no number has a name. A list that has names takes two blocks for them at each later ask.
 #[test]
 fn links_laid_aside_are_scanned_no_more(rt: HostRuntime) {
     let memory = Refusing::new(rt.alloc(), Refusals::none());
@@ -220,8 +223,8 @@ fn links_laid_aside_are_scanned_no_more(rt: HostRuntime) {
 // Both directions of a link, beside each other.
 const DIRECTIONS: [Row; 2] = [(1, 2, 3), (2, 1, 3)];
 
-// A list of the first of them is made before the first scan, in a block for both that is given back for a smaller one: before
-// three blocks of the table and one of the offers.
+// A list of the first of them is made before the first scan, in a block for both that is given back for a smaller one: before a
+// block each for the marks, the table, the names and the offers.
 #[test]
 fn links_of_both_directions_are_listed_at_once(rt: HostRuntime) {
     let memory = Refusing::new(rt.alloc(), Refusals::none());
@@ -241,14 +244,14 @@ type CoarserAsk = ([u32; 3], u64);
 type Asked = (u32, [CoarserAsk; 4]);
 
 // A worker is asked for links between three vertices, under the labels of each by itself, twice under those of two
-// components, and under those of one. It answers as a scan does each time. How many blocks were asked for before.
+// components, and under those of one. It answers as a scan does each time.
 fn expect_coarser_asks(
     rt: &(impl Abort + Threads + Sync),
     alloc: Global,
     memory: &Memory,
     by: By,
     asked: &Asked,
-) -> u64 {
+) {
     let mut worker = Worker::new(memory, by);
     expect_coarser_asks_of(rt, alloc, memory, &mut worker, asked)
 }
@@ -259,17 +262,15 @@ fn expect_coarser_asks_of<'a>(
     memory: &'a Memory,
     worker: &mut Worker<&'a Memory>,
     asked: &Asked,
-) -> u64 {
+) {
     let (count, asks) = asked;
     let count = *count;
     worker.keep(rt, 0, falling(rt, memory, 3, 0, count));
-    let before = memory.asked();
     for (list, blocks) in asks {
         let (offers, taken) = answered(rt, memory, worker, list);
         expect_same(rt, (count, taken), (count, *blocks));
         expect_scanned(rt, alloc, &offers, count, list);
     }
-    before
 }
 
 // The offers are those of a scan of the worker's links, of which there are so many, under these labels.
@@ -288,12 +289,12 @@ fn expect_scanned<A: Allocator>(
     expect_offers(rt, offers, expected.pairs());
 }
 
-// Less than half as many links as vertices, more than that, and many more.
+// Fewer links than vertices, and more.
 const LISTED: [Asked; 3] = [
     (
         1,
         [
-            ([1, 2, 3], 7),
+            ([1, 2, 3], 5),
             ([1, 1, 3], 2),
             ([1, 1, 3], 2),
             ([1, 1, 1], 2),
@@ -319,174 +320,16 @@ const LISTED: [Asked; 3] = [
     ),
 ];
 
-// The live links are listed, in one block, before the first scan. Where they are less than half as many as the labels they are
-// numbered then, else at the next ask: in one block for the marks, three of the table, which are used again, and one for the names, and at
-// each later ask in one more for what becomes of the names, and where links are laid aside and others stay, in a smaller one for the list.
-// Each answer that offers something takes one.
+// The live links are listed, in one block, before the first scan, and numbered: in one block for the marks and one of the table,
+// which are used again, and one for the names. Each later ask takes one for the names and one for what becomes of them, and where
+// links are laid aside and others stay, a smaller one for the list. Each answer that offers something takes one.
 #[test]
 fn live_links_are_listed_once(rt: HostRuntime) {
     for by in [By::OneThread, By::Threads] {
         for asked in &LISTED {
             let memory = Refusing::new(rt.alloc(), Refusals::none());
-            let _before = expect_coarser_asks(&rt, rt.alloc(), &memory, by, asked);
+            expect_coarser_asks(&rt, rt.alloc(), &memory, by, asked);
         }
-    }
-}
-
-// How many blocks were asked for before the first ask of a worker that is asked so.
-fn blocks_before(rt: &(impl Abort + Threads + Sync), alloc: Global, by: By, asked: &Asked) -> u64 {
-    let memory = Refusing::new(alloc, Refusals::none());
-    expect_coarser_asks(rt, alloc, &memory, by, asked)
-}
-
-const NOT_LISTED_FIRST: [Asked; 2] = [
-    (
-        2,
-        [
-            ([1, 2, 3], 5),
-            ([1, 1, 3], 5),
-            ([1, 1, 3], 3),
-            ([1, 1, 1], 2),
-        ],
-    ),
-    (
-        2000,
-        [
-            ([1, 2, 3], 5),
-            ([1, 1, 3], 3),
-            ([1, 1, 3], 3),
-            ([1, 1, 1], 2),
-        ],
-    ),
-];
-
-// The block of the list is the first ask's first one, behind the one for its labels. Where it is refused all links are scanned
-// by labels, and the next ask asks for it again: then some links are laid aside, and the block is given back for a smaller one.
-#[test]
-fn live_links_are_listed_at_the_next_ask(rt: HostRuntime) {
-    for by in [By::OneThread, By::Threads] {
-        for (at_once, later) in [
-            (&LISTED[1], &NOT_LISTED_FIRST[0]),
-            (&LISTED[2], &NOT_LISTED_FIRST[1]),
-        ] {
-            let before = blocks_before(&rt, rt.alloc(), by, at_once);
-            let memory = Refusing::new(rt.alloc(), Refusals::only(before.wrapping_add(2)));
-            let _before = expect_coarser_asks(&rt, rt.alloc(), &memory, by, later);
-        }
-    }
-}
-
-/// How many blocks were asked for so far, and how many are live.
-type Blocks = (u64, u64);
-
-// The blocks of three asks for these links between n vertices, each by itself: those that each asked for, and those that live
-// behind it.
-fn blocks_of<'a>(
-    rt: &(impl Abort + Threads + Sync),
-    memory: &'a Memory,
-    by: By,
-    n: u32,
-    links: Vec<Link, &'a Memory>,
-) -> [Blocks; 3]
-    requires { n ≤ 2 ^ 26 }
-{
-    let mut worker = Worker::new(memory, by);
-    worker.keep(rt, 0, links);
-    let mut blocks = [(0, 0); 3];
-    for taken in &mut blocks {
-        *taken = blocks_of_apart(rt, memory, &mut worker, n);
-    }
-    blocks
-}
-
-// Those of a path of so many vertices.
-fn blocks_of_path(
-    rt: &(impl Abort + Threads + Sync),
-    alloc: Global,
-    by: By,
-    n: u32,
-) -> [Blocks; 3] {
-    assert!(rt; n <= 1 << 26);
-    let memory = Refusing::new(alloc, Refusals::none());
-    let links = falling(rt, &memory, n, 0, n.saturating_sub(1));
-    blocks_of(rt, &memory, by, n, links)
-}
-
-// Links between neighbours, from vertex 1 on, each so many vertices behind the one before it.
-fn pairs<'a>(rt: &impl Abort, memory: &'a Memory, count: u32, way: u32) -> Vec<Link, &'a Memory> {
-    assert!(rt; count <= 4_096 && way <= 4_096);
-    let mut links = Vec::new(memory);
-    for i in 0..count {
-        let low = i * way + 1;
-        if let Some(link) = Link::of_arc(low, low + 1, 5) {
-            links.push(link).expect(rt, "memory");
-        }
-    }
-    links
-}
-
-// Those of so many such links.
-fn blocks_of_pairs(
-    rt: &(impl Abort + Threads + Sync),
-    alloc: Global,
-    by: By,
-    count: u32,
-    way: u32,
-) -> [Blocks; 3] {
-    assert!(rt; count <= 4_096 && way <= 4_096);
-    let memory = Refusing::new(alloc, Refusals::none());
-    let links = pairs(rt, &memory, count, way);
-    blocks_of(rt, &memory, by, count * way + 2, links)
-}
-
-fn blocks_of_apart<'a>(
-    rt: &(impl Abort + Threads + Sync),
-    memory: &'a Memory,
-    worker: &mut Worker<&'a Memory>,
-    n: u32,
-) -> Blocks
-    requires { n ≤ 2 ^ 26 }
-{
-    let labels = Labels::apart(memory, n).expect(rt, "memory");
-    let before = memory.asked();
-    drop(worker.answered(rt, 0, labels));
-    (memory.asked().wrapping_sub(before), memory.live())
-}
-
-// The first ask lists the links by their labels, and the second by numbers of these. From 4,096 labels on the numbers' names
-// are written by gaps until the next ask, in a block in place of theirs, and then written out in another one.
-#[test]
-fn many_names_are_written_by_gaps(rt: HostRuntime) {
-    for by in [By::OneThread, By::Threads] {
-        let [first, (second, listed), (third, renamed)] = blocks_of_path(&rt, rt.alloc(), by, 4095);
-        let by_gaps = [
-            first,
-            (second.wrapping_add(1), listed),
-            (third.wrapping_add(2), renamed),
-        ];
-        expect_same(&rt, blocks_of_path(&rt, rt.alloc(), by, 4096), by_gaps);
-    }
-}
-
-// The links of 2,048 pairs are numbered at the first ask, by 4,096 labels. From the first of them to the last it is no more
-// than 4,096 gaps of 255 where a pair comes each 510 vertices, and more where it comes each 511: then nothing is written by
-// gaps, as where the labels are few.
-#[test]
-fn names_that_lie_far_apart_stay(rt: HostRuntime) {
-    for by in [By::OneThread, By::Threads] {
-        let few = blocks_of_pairs(&rt, rt.alloc(), by, 2_047, 511);
-        expect_same(&rt, blocks_of_pairs(&rt, rt.alloc(), by, 2_048, 511), few);
-        let [(first, numbered), (second, renamed), (third, again)] = few;
-        let by_gaps = [
-            (first.wrapping_add(1), numbered),
-            (second.wrapping_add(2), renamed),
-            (third.wrapping_add(2), again),
-        ];
-        expect_same(
-            &rt,
-            blocks_of_pairs(&rt, rt.alloc(), by, 2_048, 510),
-            by_gaps,
-        );
     }
 }
 
@@ -539,9 +382,9 @@ fn asked_three_times(
     (before, memory.asked())
 }
 
-// Each block of two asks whose names are written by gaps is refused alone: those of the names, and of the gaps, too.
+// Each block of two asks for a list is refused alone, and the shard is asked again.
 #[test]
-fn names_by_gaps_where_memory_is_wanted(rt: HostRuntime) {
+fn a_list_where_memory_is_wanted(rt: HostRuntime) {
     let n = 4096;
     let links = falling(&rt, rt.alloc(), n, 0, n.saturating_sub(1));
     let labels = apart(&rt, rt.alloc(), n);

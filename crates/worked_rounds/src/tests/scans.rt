@@ -466,7 +466,7 @@ fn expect_plain(
     worker.expect_answer(rt, shard.0, labels, expected.as_slice())
 }
 
-// As components grow, fewer and fewer of the links are live: first so many that they are scanned by threads, then few.
+// As components grow, fewer and fewer of the links are live. At the first ask there are so many that threads scan them.
 #[test]
 fn many_live_links_by_threads(rt: HostRuntime) {
     let alloc = rt.alloc();
@@ -516,8 +516,7 @@ impl Near {
     }
 }
 
-// Lists of about half as many links as there are vertices, and of twice as many as these. Fewer are numbered at the first ask,
-// and others at the second.
+// Lists of about half as many links as there are vertices, and of twice as many as these.
 #[test]
 fn half_as_many_links_as_vertices(rt: HostRuntime) {
     let links = near_links(&rt, rt.alloc());
@@ -533,7 +532,7 @@ fn half_as_many_links_as_vertices(rt: HostRuntime) {
     }
 }
 
-// How far the next vertex of a path lies: less than a gap of one byte leads on, just so far, as far as two lead, between and past.
+// How far the next vertex of a path lies.
 const GAPS: [u32; 10] = [1, 254, 255, 256, 510, 511, 2, 3, 1, 7];
 
 // The last vertex of a path of 6,000 links over such vertices.
@@ -554,8 +553,7 @@ fn far_links(rt: &impl Abort, alloc: Global) -> Vec<Link> {
     links_between(rt, alloc, FAR_APART, arcs.as_slice())
 }
 
-// A shard with links to 6,001 labels of 1,080,001, some near the one before and some far, is numbered at its first ask. There
-// are more than 4,096 of them also where two vertices or four make a component, and fewer behind that.
+// A shard with links to 6,001 labels of 1,080,001, some near the one before and some far.
 #[test]
 fn links_of_labels_that_lie_far_apart(rt: HostRuntime) {
     let links = far_links(&rt, rt.alloc());

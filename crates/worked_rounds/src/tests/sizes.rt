@@ -15,8 +15,8 @@ use worker_engine::Scanner;
 /// How many vertices and links there are.
 type Size = (u32, u32);
 
-// The labels of 64 links are looked up before they are kept. 131,072 links are scanned in two halves, 262,144 in four
-// parts on four processors, 524,288 in eight on eight, where a part has as many links as there are vertices.
+// 131,072 links are scanned in two halves, 262,144 in four parts on four processors, 524,288 in eight on eight, where a part
+// has as many links as there are vertices.
 const SIZES: [Size; 20] = [
     (0, 0),
     (1, 0),

@@ -1,5 +1,5 @@
-// Scans of a few links under many labels, each over the table of the scan before. A link touches labels at the front of
-// the table, in its middle or at its end, and all other labels stay as they were.
+// Scans of a few links under many labels, each over the marks of the scan before. A link marks labels at the front, in the
+// middle or at the end, and no other label.
 use super::scans::{expect_offers, links_between, neighbours, plain_offers, scanned};
 use super::sizes::apart;
 use link_key::Labels;
@@ -9,8 +9,8 @@ use std::thread::Threads;
 use worked_graphs::Row;
 use worker_engine::Scanner;
 
-// How many vertices there are, and three arcs. A table notes what is touched by 8 and by 64 labels: of
-// 1,025 the last one is alone in both, and of 70,000 the last 48 are fewer than 64.
+// How many vertices there are, and three arcs. A word has marks of 64 labels: of 1,025 the last one is alone in its word, and
+// of 70,000 the last 48 are.
 const TOUCHED: [(u32, [Row; 3]); 2] = [
     (1025, [(1, 2, 5), (512, 514, 5), (1024, 1025, 5)]),
     (

@@ -13,7 +13,7 @@ use Rattle.shard_scans.proofs.live.is_outdone.Goals as goal
 pub returns-in-Some : goal.returns-in-Some
 returns-in-Some c = λ test before.
     let links = c.args.links.now in
-    let labels = c.args.labels.labels.now in
+    let labels = c.args.labels.now in
     let live = c.args.live.now in
     let at = c.args.place in
     let k = length live - 1 in

@@ -1,6 +1,6 @@
-use Rattle.std.proofs.Common.{◌≡◌, ◌≢◌, ℕ, ◌<◌, length, get_or, set, sym, ap, ◌∙◌, subst, inl, inr, arith}
+use Rattle.std.proofs.Common.{◌≡◌, ◌≢◌, ℕ, ◌<◌, length, get_or, set, map, sym, ap, ◌∙◌, subst, inl, inr, arith}
 use Rattle.std.proofs.lemmas.Bool.{cases_lt}
-use Rattle.std.proofs.lemmas.List.{get_or_default, get_or-set_same, get_or-set_other}
+use Rattle.std.proofs.lemmas.List.{get_or-map, length-map, get_or_default, get_or-set_same, get_or-set_other, same_lists}
 use Rattle.shard_scans.specs.declared.live.LiveLink.{LiveLink}
 use Rattle.shard_scans.specs.Numbers.{marks_of, numbered, IsMarked, HasItsName, AreBothMarked, AreBothNamed}
 use Rattle.shard_scans.proofs.Numbering.{number_has_place, named_here, named_stays}
@@ -9,18 +9,18 @@ use Rattle.shard_scans.proofs.numbers.number_each.Goals as goal
 pub loop-i-preserved : goal.loop-i-preserved
 loop-i-preserved g c =
     let marks = marks_of c.args.numbers.now in
-    let start = c.args.batch.now in
-    let batch = c.loop-i.batch in
+    let start = c.args.live.now in
+    let live = c.loop-i.live in
     let i = c.loop-i.i in
     let seen = c.loop-i.invariant in
     let default : LiveLink = record { low = 0; high = 0; place = 0 } in
-    let l = get_or batch i default in
+    let l = get_or live i default in
     let new = c.between.result in
-    let in_batch : i < length batch = omega (arith, c.loop-i-test.true, c.requires.in_batch) in
-    let in_start : i < length start = omega (arith, c.loop-i-test.true, c.requires.in_batch) in
+    let in_live : i < length live = omega (arith, c.loop-i-test.true, c.loop-i.auto.live) in
+    let in_start : i < length start = omega (arith, c.loop-i-test.true, c.loop-i.auto.live) in
     let l_is : l ≡ get_or start i default = seen.rest i default (omega arith) in
     let new_is : new ≡ numbered marks l = c.between.ensures ∙ (λ k. record { low = c.name-low.ensures.number k; high = c.name-high.ensures.number k; place = l.place }) in
-    let marked = subst (AreBothMarked marks) (sym l_is) (c.requires.marked i default (omega (arith, c.loop-i-test.true))) in
+    let marked = subst (AreBothMarked marks) (sym l_is) (c.requires.marked i default in_start) in
     let place_low = number_has_place c.args.numbers.now c.loop-i.names l.low (omega (arith, c.requires.names)) marked.0 in
     let place_high = number_has_place c.args.numbers.now c.name-low.new.names l.high (omega (arith, c.requires.names)) marked.1 in
     let stays : (d : ℕ) → IsMarked marks d → HasItsName marks c.loop-i.names d → HasItsName marks c.name-high.new.names d =
@@ -34,22 +34,36 @@ loop-i-preserved g c =
     subst (λ n. HasItsName marks n l.high) (sym c.name-high.ensures.named) (named_here marks c.name-low.new.names l.high marked.1 place_high) in
     record {
       numbered = λ k d lt. elim (cases_lt k i) [
-        | inl less ↦ let other : k ≢ i = omega (arith, less) in get_or-set_other batch i k new d other ∙ seen.numbered k d less
+        | inl less ↦ let other : k ≢ i = omega (arith, less) in get_or-set_other live i k new d other ∙ seen.numbered k d less
         | inr le ↦
             let at : k ≡ i = omega (arith, lt, le) in
-            subst (λ n. get_or (set batch i new) n d ≡ numbered marks (get_or start n d)) (sym at)
-            (get_or-set_same batch i new d in_batch ∙ new_is ∙ ap (numbered marks) (l_is ∙ get_or_default start i default d in_start))
+            subst (λ n. get_or (set live i new) n d ≡ numbered marks (get_or start n d)) (sym at)
+            (get_or-set_same live i new d in_live ∙ new_is ∙ ap (numbered marks) (l_is ∙ get_or_default start i default d in_start))
       ];
-      rest = λ k d le. let other : k ≢ i = omega (arith, le) in get_or-set_other batch i k new d other ∙ seen.rest k d (omega (arith, le));
+      rest = λ k d le. let other : k ≢ i = omega (arith, le) in get_or-set_other live i k new d other ∙ seen.rest k d (omega (arith, le));
       named = λ k d lt. elim (cases_lt k i) [
         | inl less ↦
             let both = seen.named k d less in
-            let is = c.requires.marked k d (omega (arith, less, c.loop-i-test.true)) in
+            let is = c.requires.marked k d (omega (arith, less, in_start)) in
             (stays (get_or start k d).low is.0 both.0, stays (get_or start k d).high is.1 both.1)
         | inr le ↦
             let at : k ≡ i = omega (arith, lt, le) in
             subst (λ n. AreBothNamed marks c.name-high.new.names (get_or start n d)) (sym at)
             (subst (AreBothNamed marks c.name-high.new.names) (l_is ∙ get_or_default start i default d in_start) (low_here, high_here))
       ];
-      more = λ d is at. stays d is (seen.more d is at);
+    }
+
+pub returns : goal.returns
+returns g c =
+    let marks = marks_of c.args.numbers.now in
+    let start = c.args.live.now in
+    let live = c.loop-i.live in
+    let seen = c.loop-i.invariant in
+    let long : length live ≡ length start = omega (arith, c.loop-i.auto.live) in
+    record {
+      numbered = same_lists live (map (numbered marks) start) (long ∙ sym (length-map start (numbered marks)))
+          (λ k d lt.
+          let in_start : k < length start = omega (arith, lt, long) in
+          seen.numbered k d (omega (arith, c.loop-i-test.false, lt, c.loop-i.auto.live)) ∙ sym (get_or-map (numbered marks) start k d d in_start));
+      named = λ k d lt. seen.named k d (omega (arith, c.loop-i-test.false, lt, c.loop-i.auto.live));
     }

@@ -1,13 +1,12 @@
 use Rattle.std.proofs.Common.{◌≡◌, ℕ, ◌<◌, ◌≤◌, get_or}
 use Rattle.shard_scans.specs.declared.live.LiveLink.{LiveLink}
-use Rattle.shard_scans.specs.Numbers.{marks_of, numbered, IsMarked, HasItsName, AreBothNamed}
+use Rattle.shard_scans.specs.Numbers.{marks_of, numbered, AreBothNamed}
 use Rattle.shard_scans.proofs.numbers.number_each.Given as goal
 
 -- those before the next one are written with numbers, and the others stand
 abbrev pub invariant-loop-i : goal.invariant-loop-i
 invariant-loop-i g l = record {
-  numbered : (k : ℕ) (d : LiveLink) → k < l.i → get_or l.batch k d ≡ numbered (marks_of l.numbers) (get_or l.initial.batch k d);
-  rest : (k : ℕ) (d : LiveLink) → l.i ≤ k → get_or l.batch k d ≡ get_or l.initial.batch k d;
-  named : (k : ℕ) (d : LiveLink) → k < l.i → AreBothNamed (marks_of l.numbers) l.names (get_or l.initial.batch k d);
-  more : (c : ℕ) → IsMarked (marks_of l.numbers) c → HasItsName (marks_of l.numbers) l.initial.names c → HasItsName (marks_of l.numbers) l.names c;
+  numbered : (k : ℕ) (d : LiveLink) → k < l.i → get_or l.live k d ≡ numbered (marks_of l.numbers) (get_or l.initial.live k d);
+  rest : (k : ℕ) (d : LiveLink) → l.i ≤ k → get_or l.live k d ≡ get_or l.initial.live k d;
+  named : (k : ℕ) (d : LiveLink) → k < l.i → AreBothNamed (marks_of l.numbers) l.names (get_or l.initial.live k d);
 }

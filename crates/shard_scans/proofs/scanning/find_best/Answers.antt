@@ -1,34 +1,41 @@
-use Rattle.std.proofs.Common.{◌+◌, length, arith}
+use Rattle.std.proofs.Common.{◌≡◌, ◌+◌, ◌<◌, length, sym, subst, arith}
+use Rattle.links.specs.declared.links.Link.{Link}
+use Rattle.shard_scans.specs.declared.live.LiveLink.{LiveLink}
+use Rattle.shard_scans.specs.Scanning.{AreBest}
+use Rattle.shard_scans.specs.Live.{written_at, CanBeTakenIn}
 use Rattle.shard_scans.proofs.Scans.{best_of_none}
-use Rattle.shard_scans.proofs.Ahead.{row_can_be_taken_in, row_is_taken_in}
+use Rattle.shard_scans.proofs.Written.{link_can_be_taken_in}
 use Rattle.shard_scans.proofs.scanning.find_best.Goals as goal
 
-pub loop-at-init : goal.loop-at-init
-loop-at-init g c = record {
+pub loop-place-init : goal.loop-place-init
+loop-place-init g c = record {
   from_start = omega arith;
-  to_end = c.args.part.ordered;
   best = rw c.requires.none_yet (best_of_none (length c.args.labels.now) c.args.links.now c.args.labels.now c.args.part.from);
-  leaving = omega arith;
 }
 
-pub keep_each-leaving-requires-clause-next : goal.keep_each-leaving-requires-clause-next
-keep_each-leaving-requires-clause-next g c =
-    let best = c.loop-at.invariant.best in
-    let count = c.min.ensures in
-    row_can_be_taken_in c.args.links.now c.args.labels.now (length c.loop-at.table) c.loop-at.at (c.loop-at.at + c.min.result) c.look_up.new.batch
-    best.each_vertex c.requires.labels c.requires.ends (omega (arith, count, c.requires.in_list)) c.look_up.ensures.looked_up
+pub keep_next-requires-clause-next : goal.keep_next-requires-clause-next
+keep_next-requires-clause-next g c =
+    let links = c.args.links.now in
+    let labels = c.args.labels.now in
+    let place = c.loop-place.place in
+    let l : Link = c.index-links-place.result in
+    let next : LiveLink = record { low = c.label_at.result; high = c.label_at-in-loop-place.result; place = place } in
+    let next_is : next ≡ written_at labels l place = λ k. record { low = c.label_at.ensures k; high = c.label_at-in-loop-place.ensures k; place = place } in
+    let within : place < length links = omega (arith, c.loop-place-test.true, c.requires.in_list) in
+    subst (CanBeTakenIn links (length c.loop-place.table)) (sym next_is)
+    (link_can_be_taken_in links labels (length c.loop-place.table) place l c.loop-place.invariant.best.each_vertex c.requires.labels c.requires.ends within c.index-links-place.is)
 
-pub loop-at-preserved : goal.loop-at-preserved
-loop-at-preserved g c =
-    let seen = c.loop-at.invariant in
-    let at = c.loop-at.at in
-    let next = at + c.min.result in
-    let count = c.min.ensures in
+pub loop-place-preserved : goal.loop-place-preserved
+loop-place-preserved g c =
+    let seen = c.loop-place.invariant in
+    let l : Link = c.index-links-place.result in
     record {
       from_start = omega (arith, seen.from_start);
-      to_end = omega (arith, count);
-      best =
-          row_is_taken_in (length c.args.labels.now) c.args.links.now c.args.labels.now c.args.part.from c.look_up.new.batch at next c.loop-at.table c.keep_each-leaving.new.table (omega arith)
-          (omega (arith, count, c.requires.in_list)) (omega (arith, count, c.look_up.ensures.room)) seen.from_start c.look_up.ensures.looked_up c.keep_each-leaving.ensures.taken seen.best;
-      leaving = omega (arith, seen.leaving, seen.from_start, c.keep_each-leaving.ensures.leaving);
+      best = c.keep_next.ensures.best (length c.args.labels.now) c.args.labels.now c.args.part.from l c.index-links-place.is c.label_at.ensures c.label_at-in-loop-place.ensures seen.from_start seen.best;
     }
+
+pub returns : goal.returns
+returns g c =
+    let part = c.args.part in
+    let end : c.loop-place.place ≡ part.to = omega (arith, c.loop-place-test.false, c.loop-place.auto.place-end, part.ordered) in
+    record { best = subst (λ k. AreBest c.args.links.now c.args.labels.now part.from k c.loop-place.table) end c.loop-place.invariant.best }

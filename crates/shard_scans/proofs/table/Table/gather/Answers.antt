@@ -1,28 +1,30 @@
-use Rattle.std.proofs.Common.{◌≡◌, ◌+◌, ◌*◌, get_or, true, false, sym, subst, ◌∙◌, arith}
+use Rattle.std.proofs.Common.{◌≡◌, ◌+◌, ◌<◌, pos, length, get_or, ap, ◌∙◌, subst, arith}
 use Rattle.std.proofs.lemmas.List.{get_or_default}
-use Rattle.shard_scans.specs.Tables.{HaveNotes, ArePlaces}
-use Rattle.shard_scans.proofs.Tables.{unset_none, places_none, places_skip_none, places_all}
+use Rattle.shard_scans.specs.declared.scanning.Best.{Best}
+use Rattle.shard_scans.specs.Scanning.{no_best}
+use Rattle.shard_scans.specs.Tables.{ArePlaces}
+use Rattle.shard_scans.proofs.Tables.{places_none, places_skip, places_push, places_all}
 use Rattle.shard_scans.proofs.table.Table.gather.Goals as goal
-use Rattle.shard_scans.proofs.table.Table.gather.Goals.{then-parts-part+in_ok-gather_part, else-parts-part}
+use Rattle.shard_scans.proofs.table.Table.gather.Goals.{then-place+in_ok-push, else-place}
 
-pub loop-part-init : goal.loop-part-init
-loop-part-init g c = rw c.new-pairs.ensures.items (places_none c.as_slice-bests.result.now)
+pub loop-before-init : goal.loop-before-init
+loop-before-init g c = rw c.new-pairs.ensures.items (places_none c.as_slice-bests.result.now)
 
-pub loop-part-preserved : goal.loop-part-preserved
-loop-part-preserved g c =
+pub loop-before-preserved : goal.loop-before-preserved
+loop-before-preserved g c =
     let bests = c.as_slice-bests.result.now in
-    let parts = c.as_slice-parts.result.now in
-    let part = c.loop-part.part in
-    elim c.if-parts-part.branch [
-      | then-parts-part+in_ok-gather_part w ↦ rw w.pairs-is w.in_ok-gather_part.ensures.on
-      | else-parts-part w ↦
-          let noted : HaveNotes 64 bests parts = rw (c.as_slice-bests.ensures.value, c.as_slice-parts.ensures.value) c.self.invariant.by_part in
-          let off : get_or parts part true ≡ false = sym (get_or_default parts part false true (omega (arith, c.loop-part-test.true, c.div_ceil-count.ensures, noted.room))) ∙ w.if-parts-part.false in
-          rw w.pairs-is (places_skip_none bests (64 * part) (64 * (part + 1)) c.loop-part.pairs.items (omega arith) (unset_none 64 (omega arith) bests parts part noted off) c.loop-part.invariant)
+    let before = c.loop-before.before in
+    let pairs = c.loop-before.pairs.items in
+    let default : Best = record { key = pos 0; place = 0 } in
+    let read : (get_or bests before no_best).place ≡ (get_or bests before default).place = ap (λ (b : Best). b.place) (get_or_default bests before no_best default c.loop-before-test.true) in
+    elim c.if-place.branch [
+      | then-place+in_ok-push w ↦ rw (w.pairs-is, w.in_ok-push.ensures.items) (places_push bests before (get_or bests before default).place pairs read w.if-place.true c.loop-before.invariant)
+      | else-place w ↦
+          rw w.pairs-is (places_skip bests before pairs (read ∙ w.if-place.false) c.loop-before.invariant)
     ]
 
 pub returns : goal.returns
 returns g c =
     let bests = c.as_slice-bests.result.now in
-    let all : ArePlaces bests c.loop-part.pairs.items = places_all bests (64 * c.loop-part.part + 1) c.loop-part.pairs.items (omega (arith, c.loop-part-test.false, c.div_ceil-count.ensures)) c.loop-part.invariant in
-    record { places = subst (λ t. ArePlaces t c.loop-part.pairs.items) (c.as_slice-bests.ensures.value ∙ c.self.view_is) all }
+    let all : ArePlaces bests c.loop-before.pairs.items = places_all bests (c.loop-before.before + 1) c.loop-before.pairs.items (omega (arith, c.loop-before-test.false)) c.loop-before.invariant in
+    record { places = subst (λ t. ArePlaces t c.loop-before.pairs.items) (c.as_slice-bests.ensures.value ∙ c.self.view_is) all }
