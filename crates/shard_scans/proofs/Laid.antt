@@ -79,19 +79,6 @@ module _ (links : List Link) (labels : List ℕ) where
   live_within from to (p ∷ places) zero d (le, quiet, rest) lt = (le, omega (arith, live_range (p + 1) to places rest))
   live_within from to (p ∷ places) (suc k) d (le, quiet, rest) lt = let (low, high) = live_within (p + 1) to places k d rest (omega (arith, lt)) in (omega (arith, low, le), high)
 
-  -- live places ascend
-  live_low : (from to : ℕ) (places : List ℕ) (k : ℕ) → AreLive links labels from to places → from ≤ get_or places k to
-  live_low from to [] k (le, quiet) = le
-  live_low from to (p ∷ places) zero (le, quiet, rest) = le
-  live_low from to (p ∷ places) (suc k) (le, quiet, rest) = omega (arith, le, live_low (p + 1) to places k rest)
-
-  pub live_ascends : (from to : ℕ) (places : List ℕ) (i j : ℕ) → AreLive links labels from to places → i ≤ j → get_or places i to ≤ get_or places j to
-  live_ascends from to [] i j live le = omega arith
-  live_ascends from to (p ∷ places) zero zero live le = omega arith
-  live_ascends from to (p ∷ places) zero (suc j) (le, quiet, rest) more = omega (arith, live_low (p + 1) to places j rest)
-  live_ascends from to (p ∷ places) (suc i) zero live le = absurd (omega (arith, le))
-  live_ascends from to (p ∷ places) (suc i) (suc j) (le, quiet, rest) more = live_ascends (p + 1) to places i j rest (omega (arith, more))
-
   -- behind the last stands the end of the range
   pub live_end : (to : ℕ) (places : List ℕ) → get_or places (length places) to ≡ to
   live_end to [] = refl

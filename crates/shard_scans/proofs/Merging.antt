@@ -1,12 +1,11 @@
 -- Tables of two parts of a shard's links, taken together.
 use Rattle.std.proofs.Common.{◌≡◌, ◌≢◌, ℕ, ◌+◌, ◌-◌, ◌<◌, ◌≤◌, ◌^◌, List, length, get_or, set, Option, Some, None, sym, ap, ◌∙◌, subst, inl, inr, arith}
-use Rattle.std.proofs.lemmas.Bool.{cases_eq, cases_lt}
-use Rattle.std.proofs.lemmas.List.{get_or_default, get_or-set_same, get_or-set_other, length-set, length-map}
+use Rattle.std.proofs.lemmas.Bool.{cases_eq}
+use Rattle.std.proofs.lemmas.List.{get_or_default, get_or-set_same, get_or-set_other, length-set}
 use Rattle.links.specs.declared.links.Link.{Link}
-use Rattle.round_theory.proofs.Leaving.{leaves_apart}
 use Rattle.round_theory.specs.Labelling.{IsVertex}
 use Rattle.shard_scans.specs.declared.scanning.Best.{Best}
-use Rattle.shard_scans.specs.Scanning.{NoneLeavesIn, IsBest, no_best, Says, Keeps, KeepsLesser, best_of, AreBest}
+use Rattle.shard_scans.specs.Scanning.{no_best, Says, Keeps, KeepsLesser, best_of, AreBest}
 use Rattle.shard_scans.specs.Parts.{SayPlaces}
 use Rattle.shard_scans.proofs.Scans.{kept_place, kept_none, kept_at, keeps_out}
 

@@ -55,10 +55,6 @@ pub record IsEntryOf (labels : List ℕ) (l : Link) (written : LiveLink) : Type 
 abbrev pub places_of : List LiveLink → List ℕ
 places_of live = map (λ (l : LiveLink). l.place) live
 
--- the place of the live link behind so many others; the end of the list behind the last
-abbrev pub live_place : List Link → List LiveLink → ℕ → ℕ
-live_place links live i = slice_index_or (places_of live) i (length links)
-
 -- live links: each is written of the link at its place, and the links at all other places may be laid aside
 pub record AreLiveLinks (links : List Link) (labels : List ℕ) (live : List LiveLink) : Type 0 where
   pub places : AreLive links labels 0 (length links) (places_of live)

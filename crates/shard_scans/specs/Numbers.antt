@@ -1,6 +1,6 @@
 -- Numbers for the labels that a shard's links have, in the order of the labels, and the labels by their numbers.
 use Rattle.std.specs.Prelude.{◌≡◌, ℕ, zero, suc, ◌+◌, ◌-◌, ◌*◌, ◌/◌, ◌%◌, ◌^◌, ◌<◌, ◌≤◌, ◌⊎◌}
-use Rattle.std.specs.Prelude.{List, [], length, map, slice_index, slice_index_or, All}
+use Rattle.std.specs.Prelude.{List, length, map, slice_index, slice_index_or, All}
 use Rattle.std.specs.Int.{bit_at}
 use Rattle.links.specs.declared.links.Link.{Link}
 use Rattle.links.specs.Labels.{label_of}

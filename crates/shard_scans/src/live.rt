@@ -1,11 +1,10 @@
 //! Links of a shard that are live, each written with labels of its ends, or with a shard's own numbers of them.
 //!
 //! A link whose ends have one label leaves no component, and never will under labels that coarsen these: it is quiet, and
-//! laid aside. So is a link where the one listed before it lies between the same two labels and is no greater, as in files
-//! that have both directions of a link beside each other: under all these labels that one is light before it. Of the
-//! others a label of each end is written, and the place, in 12 bytes. Under labels that coarsen, the label of such a label is
-//! that of the end itself, so a pass in order over what is written looks up labels of labels alone, of which there are fewer
-//! and fewer. The weight is read where the link itself stands: places ascend, so that is a walk in order too.
+//! laid aside. So is a link if the one listed before it lies between the same two labels and is no greater, as in files that
+//! have both directions of a link beside each other: under all these labels that one is light before it. Of the others a label
+//! of each end is written, and the place, in 12 bytes; the list has numbers of these labels. The weight is read where the link
+//! itself stands: places ascend, so that is a walk in order.
 ghost use Rattle.std.specs.Prelude.{◌≡◌, ◌<◌, ◌≤◌, length, take, All, Some, IfOk, IsTrue, IsFalse};
 ghost use Rattle.limits.specs.declared.TheConstants.{MAX_SHARD_LINKS};
 ghost use Rattle.links.specs.Link.{EndsUpTo};
