@@ -70,10 +70,10 @@ impl<A: Allocator + Copy> Engine<A> {
     /// ask is answered by the light offers of its shard, or by a fault: [`NOT_KEPT`] where no such shard is kept,
     /// else [`NO_LABEL`] where an end of a link is greater than the number of labels.
     ///
-    /// An ask costs a scan and memory for the offers; where it goes by numbers, at most 6 bytes for each label that the shard's
-    /// live links have, for their names; the first of a shard its list of live links, and a later one by numbers 8 bytes for
-    /// each label that they had before, until it is answered. The table of the scan and the marks are used again. The only
-    /// error is want of memory, for a shard or for an ask of a shard that is kept; the engine is unchanged then.
+    /// An ask costs a scan, memory for the offers, and 4 bytes for each label that the shard's live links have, for their names;
+    /// the first of a shard its list of live links, and a later one 4 bytes for each label that they had before, until it is
+    /// answered. The table of the scan and the marks are used again. The only error is want of memory, for a shard or for an ask
+    /// of a shard that is kept; the engine is unchanged then.
     pub fn hear(&mut self, frame: Frame<A>) -> Result<Option<Frame<A>>, AllocError>
         requires lawful { IsLawful (value_of frame) }
         ensures shelf { OnOk result (shelf_of self.new ≡ shelf_with (shelf_of self.old) (value_of frame)) }

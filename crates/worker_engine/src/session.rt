@@ -65,8 +65,8 @@ pub(crate) enum Written {
 /// A worker's session that hears at most `frames` frames.
 ///
 /// It writes the hello of `worker`, of [`VERSION`](frames::VERSION), and then hears frame after frame, of each kind that this
-/// version has, and writes one reply to each ask, until the source ends before a frame. It scans by threads where
-/// [`scan_par`](crate::scan_par) would, and else by labels or by numbers, as [`Engine`] says. An ask whose scan finds no memory
+/// version has, and writes one reply to each ask, until the source ends before a frame. It scans for a shard's first ask by
+/// threads, if [`scan_par`](crate::scan_par) would, and else as [`Engine`] says. An ask whose scan finds no memory
 /// is replied to by a fault with the code [`NO_MEMORY`](crate::NO_MEMORY), which takes none, and the session goes on.
 ///
 /// `Read` where no whole lawful frame could be read, `Write` at the first write that fails or takes nothing,

@@ -15,7 +15,7 @@ use std::collections::BTreeMap;
 use std::thread::Threads;
 
 impl<A: Allocator + Copy + Send + Sync> Engine<A> {
-    /// Hears one frame as [`hear`](Engine::hear) does, but that it scans for an ask by threads, as
+    /// Hears one frame as [`hear`](Engine::hear) does, but that it scans for the first ask of a shard by threads, as
     /// [`scan_par`](crate::scan_par) does.
     ///
     /// An ask that is scanned by threads costs that scan, and memory for the offers and for a table of each part; any other
