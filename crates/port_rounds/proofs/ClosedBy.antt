@@ -1,5 +1,5 @@
 -- Ports that were closed by a round.
-use Rattle.std.proofs.Common.{◌≡◌, ℕ, zero, suc, ◌<◌, ◌≤◌, ◌⊎◌, inl, inr, Bool, true, false, List, [], ◌∷◌, length, get_or, refl, ap, sym, subst, ◌∙◌, arith}
+use Rattle.std.proofs.Common.{◌≡◌, ℕ, zero, suc, ◌<◌, ◌≤◌, inl, inr, Bool, true, false, List, [], ◌∷◌, length, get_or, refl, ap, sym, subst, ◌∙◌, arith}
 use Rattle.std.specs.Prelude.{All, Option, Some, None}
 use Rattle.std.proofs.lemmas.List.Elements.{All-contains}
 use Rattle.links.specs.AnswerValue.{AnswerValue}
@@ -9,12 +9,9 @@ use Rattle.port_trait.specs.Ports.{PortState}
 use Rattle.port_trait.specs.Exchanges.{Exchange}
 use Rattle.port_rounds.specs.Lanes.{LaneState, count_if, open_count}
 use Rattle.port_rounds.specs.Asks.{AnswersAsks, TakesExchange, ClosesPort}
+use Rattle.port_rounds.proofs.AsksThen.{either}
 use Rattle.port_rounds.proofs.Dealing.{open_cons}
 use Rattle.port_rounds.specs.Runs.{opened_book, IsKeptIn, ClosesPortIn, ClosesBy}
-
-open_or_shut : (b : Bool) → (b ≡ true) ⊎ (b ≡ false)
-open_or_shut true = inl refl
-open_or_shut false = inr refl
 
 stays_shut : (b c : Bool) → (b ≡ true → c ≡ true) → c ≡ false → b ≡ false
 stays_shut false c opens shut = refl
@@ -58,7 +55,7 @@ module _ {P A : Type 0} (port : Port.Ghosts P A) where
       → (port.state r).is_open ≡ false → ClosesBy old.round (port.state p) (port.state r)
   now_closed books old p q r kept more earlier before now shut opened = (
     shut,
-    elim (open_or_shut (port.state q).is_open) [
+    elim (either (port.state q).is_open) [
       | inl still_open ↦ (
           let last : (port.state r).last.0 ≡ old.round = elim (now.why still_open shut) [
             | inl (faults, none, closes) ↦ closing_round old (port.state r).last None closes

@@ -1,17 +1,11 @@
 -- Seats that go into lanes and come back.
-use Rattle.std.proofs.Common.{◌≡◌, ◌+◌, List, [], ◌∷◌, ◌++◌, length, refl, ap, ◌∙◌, arith, append-nil, append_assoc, length-append}
-use Rattle.std.specs.Prelude.{Option, Some, None, MatchOption, option_to_list, reverse, All}
-use Rattle.std.proofs.lemmas.Grind.{common_steps}
+use Rattle.std.proofs.Common.{◌≡◌, ◌+◌, List, [], ◌∷◌, ◌++◌, length, refl, ap, sym, ◌∙◌, arith, append_assoc, length-append}
+use Rattle.std.specs.Prelude.{Option, Some, None, MatchOption, option_to_list, All}
 use Rattle.claim_board.specs.State.{SeatState}
 use Rattle.std.proofs.lemmas.List.Sums.{sum_by-cons}
 use Rattle.std.proofs.lemmas.List.Elements.{All-head, All-tail}
 use Rattle.port_trait.specs.Ports.{PortState}
 use Rattle.port_rounds.specs.Lanes.{LaneState, count_if, seats_of, open_count}
-
--- the last of the row is the first seat
-pub dealt : (o : Option SeatState) (row rest : List SeatState) → row ≡ rest ++ option_to_list o → option_to_list o ++ reverse rest ≡ reverse row
-dealt None row rest e = rw (e, append-nil) refl
-dealt (Some s) row rest e = rw e (grind (arith, common_steps))
 
 -- where a split gave no first element there was none
 pub no_first : {Y : Type 0} (r : Option Y) (none : Type 0) (some : Y → Type 0) → ((y : Y) → r ≡ Some y → ⊥) → MatchOption r none some → none
@@ -35,8 +29,12 @@ module _ {P : Type 0} where
   pub no_seat_head : (zs : List (LaneState P)) (x : LaneState P) (xs : List (LaneState P)) → zs ≡ x ∷ xs → All (λ l. l.seat ≡ None) zs → x.seat ≡ None
   no_seat_head zs x xs e a = All-head (λ l. l.seat ≡ None) x xs (rw e at a)
 
-  -- no lanes have no seats
-  pub none_dealt : (state : P → PortState) (zs : List (LaneState P)) (row : List SeatState) → length zs ≡ 0 → length row ≡ open_count state zs → (seats_of zs ≡ reverse row) × (row ≡ [])
-  none_dealt state [] [] none n = (refl, refl)
-  none_dealt state [] (s ∷ row) none n = absurd (omega arith)
-  none_dealt state (x ∷ zs) row none n = absurd (omega arith)
+  -- no lanes have no seats, and no open ports
+  pub none_dealt : (state : P → PortState) (zs : List (LaneState P)) → length zs ≡ 0 → (seats_of zs ≡ []) × (open_count state zs ≡ 0)
+  none_dealt state [] none = (refl, refl)
+  none_dealt state (x ∷ zs) none = absurd (omega arith)
+
+-- a row of which no seat is left: the lanes have them all
+pub all_dealt : (row left seats : List SeatState) → row ≡ left ++ seats → length left ≡ 0 → (left ≡ []) × (seats ≡ row)
+all_dealt row [] seats e none = (refl, sym e)
+all_dealt row (s ∷ left) seats e none = absurd (omega arith)

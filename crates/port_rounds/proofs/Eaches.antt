@@ -1,6 +1,11 @@
--- A relation at each place of two lists.
-use Rattle.std.proofs.Common.{◌≡◌, ℕ, zero, suc, ◌<◌, List, [], ◌∷◌, ◌++◌, length, get_or, refl, sym, subst, arith}
-use Rattle.std.specs.List.{AllZip}
+-- A fact of each element of a list, and a relation at each place of two.
+use Rattle.std.proofs.Common.{◌≡◌, ℕ, suc, ◌<◌, List, [], ◌∷◌, ◌++◌, length, get_or, sym, subst, arith}
+use Rattle.std.specs.List.{All, AllZip}
+use Rattle.std.proofs.lemmas.List.Elements.{All-nil, All-cons, AllZip-get_or, length_all_zip}
+
+-- of the one element of a list
+pub one : {X : Type 0} (P : X → Type 0) (x : X) → P x → All P (x ∷ [])
+one P x p = All-cons P x [] p (All-nil P)
 
 pub each_cons : {X Y : Type 0} (R : X → Y → Type 0) (zs : List X) (x : X) (y : Y) (xs : List X) (ys : List Y) → zs ≡ x ∷ xs → R x y → AllZip R xs ys → AllZip R zs (y ∷ ys)
 each_cons R zs x y xs ys e r rest = subst (λ ws. AllZip R ws (y ∷ ys)) (sym e) (r, rest)
@@ -22,18 +27,11 @@ each_then R S T h (x ∷ xs) [] zs p q = absurd p
 each_then R S T h (x ∷ xs) (y ∷ ys) [] p q = absurd q
 each_then R S T h (x ∷ xs) (y ∷ ys) (z ∷ zs) p q = (h x y z p.0 q.0, each_then R S T h xs ys zs p.1 q.1)
 
-pub each_length : {X Y : Type 0} (R : X → Y → Type 0) (xs : List X) (ys : List Y) → AllZip R xs ys → length ys ≡ length xs
-each_length R [] [] p = refl
-each_length R [] (y ∷ ys) p = absurd p
-each_length R (x ∷ xs) [] p = absurd p
-each_length R (x ∷ xs) (y ∷ ys) p = omega (arith, each_length R xs ys p.1)
+pub each_length : {X : Type 0} (R : X → X → Type 0) (xs ys : List X) → AllZip R xs ys → length ys ≡ length xs
+each_length R xs ys p = sym (length_all_zip R xs ys p)
 
 pub each_at : {X : Type 0} (R : X → X → Type 0) (xs ys : List X) → AllZip R xs ys → (i : ℕ) (d : X) → i < length xs → R (get_or xs i d) (get_or ys i d)
-each_at R [] [] p i d b = absurd (omega arith)
-each_at R [] (y ∷ ys) p i d b = absurd p
-each_at R (x ∷ xs) [] p i d b = absurd p
-each_at R (x ∷ xs) (y ∷ ys) p zero d b = p.0
-each_at R (x ∷ xs) (y ∷ ys) p (suc i) d b = each_at R xs ys p.1 i d (omega arith)
+each_at R xs ys p i d b = AllZip-get_or R xs ys i d d p b
 
 pub each_from : {X : Type 0} (R : X → X → Type 0) (xs ys : List X) → length ys ≡ length xs → ((i : ℕ) (d : X) → i < length xs → R (get_or xs i d) (get_or ys i d)) → AllZip R xs ys
 each_from R [] [] l h = tt

@@ -4,7 +4,6 @@ use Rattle.std.specs.Prelude.{All, Contains, Option, max}
 use Rattle.std.proofs.Math.Nat.{mul-le-mul_right}
 use Rattle.std.proofs.lemmas.Bool.{cases_lt}
 use Rattle.std.proofs.lemmas.Nat.{pow_below}
-use Rattle.std.proofs.lemmas.List.{get_or_append_left}
 use Rattle.std.proofs.lemmas.List.Elements.{All-append, Contains-append_left, Contains-append_right, All-contains, All-contains_itself}
 use Rattle.limits.specs.declared.TheConstants.{MAX_SHARDS}
 use Rattle.links.specs.declared.links.Link.{Link}
@@ -22,14 +21,14 @@ use Rattle.round_core.specs.Solver.{Progress, IsProgress, vertices, IsAtStart, I
 use Rattle.round_core.specs.declared.solver.Turn.{Turn}
 use Rattle.round_core.specs.declared.solver.Turn.TheVariants.{Merged, Done}
 use Rattle.round_core.specs.declared.solver.SolveFault.{SolveFault}
-use Rattle.round_core.specs.declared.solver.SolveFault.TheVariants.{Memory}
+use Rattle.round_core.specs.declared.solver.SolveFault.TheVariants.{Rounds, Missed, Memory}
 use Rattle.round_core.proofs.Missing.{joined_ends}
 use Rattle.round_core.proofs.WholeRounds.{at_first, one_round, no_round, only_memory, finish_only_memory, is_forest}
 use Rattle.port_trait.specs.declared.port.Port as Port
 use Rattle.plain_run.specs.declared.report.Report.{Report}
 use Rattle.port_rounds.specs.Lanes.{LaneState, open_count}
 use Rattle.port_rounds.specs.Asks.{TakesExchange, ClosesPort, IsLight}
-use Rattle.port_rounds.specs.Bounds.{HasRoomForRound}
+use Rattle.port_rounds.specs.Bounds.{CanAskRound, CanRun}
 use Rattle.port_rounds.specs.Passes.{RunsPasses}
 use Rattle.port_rounds.specs.Rounds.{PicksInRound}
 use Rattle.port_rounds.specs.Runs.{ClosesPortIn, IsKeptIn, IsNamedIn, IsFullBook, AreLightBooks, RunsRounds}
@@ -37,12 +36,13 @@ use Rattle.port_rounds.specs.Chains.{MergesFromStart}
 use Rattle.port_rounds.specs.Reports.{IsReportOf}
 use Rattle.port_rounds.specs.Solved.{AreHonest, StepsOnce, AsksInRound, IsTurnFault, PicksAfterRounds, MergesAll, AsksInRun, IsSolveFault, FindsForest}
 use Rattle.port_rounds.proofs.AsksThen.{stayed, asks_then}
+use Rattle.port_rounds.proofs.Eaches.{one}
 use Rattle.port_rounds.proofs.Once.{value_of_book}
-use Rattle.port_rounds.proofs.Passing.{SameRound, asks_more}
+use Rattle.port_rounds.proofs.Passing.{SameRound, heard_same, asks_more}
 use Rattle.port_rounds.proofs.Scanning.{scanned_none}
-use Rattle.port_rounds.proofs.Running.{one, heard_same, closing_still, kept_still, same_still, whole_books, kept_none, kept_in, kept_then, just_new, books_first, rounds_none, rounds_then}
+use Rattle.port_rounds.proofs.Running.{closing_still, kept_still, same_still, whole_books, kept_none, kept_in, kept_then, just_new, books_first, rounds_none, rounds_then}
 use Rattle.port_rounds.proofs.Chained.{merged_then, light_picks}
-use Rattle.port_rounds.proofs.Solving.{named_more, named_given, from_cut, wide_still}
+use Rattle.port_rounds.proofs.Solving.{all_front, named_more, named_given, from_cut, wide_still}
 
 -- rounds that are no more than the vertices allow are few
 pub rounds_few : (n r : ℕ) → n ≤ 2 ^ 26 → 2 ^ r ≤ max 1 n → r ≤ 26
@@ -53,8 +53,7 @@ rounds_few n r few in_time = elim (cases_lt 26 r) [
 
 -- books that are light with others are light
 light_first : (books more : List BookValue) → AreLightBooks (books ++ more) → AreLightBooks books
-light_first books more light i d b =
-    subst (λ (book : BookValue). All (IsLight book) book.answers) (get_or_append_left books more d i b) (light i d (omega (arith, b, length-append books more)))
+light_first books more light = all_front (λ (book : BookValue). All (IsLight book) book.answers) books more light
 
 module _ {P A : Type 0} (port : Port.Ghosts P A) where
   pub asked_none : (n : ℕ) (cut : List (List Link)) (xs : List (LaneState P)) → AsksInRun port n cut xs xs
@@ -252,14 +251,6 @@ module _ {P A : Type 0} (port : Port.Ghosts P A) where
         (least_picks n cut xs zs solver t.picks _ _ (picked_after n cut xs ys zs solver t.picks alone t.alone u t.picked) light) fault t.refused);
   })
 
-  pub turn_honest : (n : ℕ) (cut : List (List Link)) (xs ys zs : List (LaneState P)) (solver : Progress) (alone : ℕ) (fault : SolveFault) → All (EndsUpTo n) cut
-      → SoFar n cut xs ys solver alone → IsTurnFault port cut solver ys zs fault → AreHonest port.honest xs → fault ≡ Memory
-  turn_honest n cut xs ys zs solver alone fault ends u (inl none) h = none
-  turn_honest n cut xs ys zs solver alone fault ends u (inr t) h =
-      let v = picked_after n cut xs ys zs solver t.picks alone t.alone u t.picked in
-      only_memory (joined cut) solver t.picks t.progress (ends_of n cut solver u.vertices_are ends) (u.right (u.rounds.light h)) (least_picks n cut xs zs solver t.picks _ _ v (v.rounds.light h))
-      fault t.refused
-
   -- a solver that can't be finished
   pub finish_fault : (n : ℕ) (cut : List (List Link)) (xs ys : List (LaneState P)) (solver : Progress) (answered alone : ℕ) (fault : SolveFault) → All (EndsUpTo n) cut
       → MergesAll port n cut xs ys solver answered alone → IsFinishFault solver (joined cut) fault → IsSolveFault port n cut xs ys fault
@@ -275,17 +266,24 @@ module _ {P A : Type 0} (port : Port.Ghosts P A) where
         let all = u.right light in finish_only_memory (joined cut) solver u.progress (ends_of n cut solver u.vertices_are ends) all.so_far all.all fault f);
   })
 
-  pub finish_honest : (n : ℕ) (cut : List (List Link)) (xs ys : List (LaneState P)) (solver : Progress) (answered alone : ℕ) (fault : SolveFault) → All (EndsUpTo n) cut
-      → MergesAll port n cut xs ys solver answered alone → IsFinishFault solver (joined cut) fault → AreHonest port.honest xs → fault ≡ Memory
-  finish_honest n cut xs ys solver answered alone fault ends u f h =
-      let all = u.right (u.went.rounds.light h) in finish_only_memory (joined cut) solver u.progress (ends_of n cut solver u.vertices_are ends) all.so_far all.all fault f
+  -- a fault of answers that weren't light, so where all ports are honest the only fault is want of memory
+  pub honest_fault : (n : ℕ) (cut : List (List Link)) (xs ys : List (LaneState P)) (fault : SolveFault) → IsSolveFault port n cut xs ys fault → AreHonest port.honest xs → fault ≡ Memory
+  honest_fault n cut xs ys fault (inl none) h = none
+  honest_fault n cut xs ys Memory (inr t) h = refl
+  honest_fault n cut xs ys (Rounds round) (inr t) h = absurd (t.to_blame (λ e. absurd (cc)) (t.went.rounds.light h))
+  honest_fault n cut xs ys (Missed link) (inr t) h = absurd (t.to_blame (λ e. absurd (cc)) (t.went.rounds.light h))
 
-  pub wide_more : (n : ℕ) (cut : List (List Link)) (xs ys : List (LaneState P)) (solver : Progress) (alone : ℕ) → SoFar n cut xs ys solver alone → n ≤ 2 ^ 26 → length cut ≤ 4096
-      → All (λ (lane : LaneState P). (port.state lane.port).cut ≡ cut) xs → All (λ (lane : LaneState P). (port.state lane.port).asks < 2 ^ 63) xs
-      → All (λ (lane : LaneState P). HasRoomForRound port.state (opened (solver.rounds + 1) cut solver.labels) lane.port) ys
-  wide_more n cut xs ys solver alone u few small cuts counts =
-      let rounds = rounds_few n solver.rounds few u.in_time in
-      wide_still port cut (solver.rounds + 1) solver.labels xs ys u.books u.answered alone u.rounds small (let e = u.number in omega arith) cuts counts
+  -- a round more can be asked for
+  pub can_more : (n : ℕ) (cut : List (List Link)) (xs ys : List (LaneState P)) (solver : Progress) (alone : ℕ) → SoFar n cut xs ys solver alone → 0 < length cut → length cut ≤ MAX_SHARDS
+      → CanRun port.state n cut xs → CanAskRound port.state cut solver ys
+  can_more n cut xs ys solver alone u some few can =
+      let rounds = rounds_few n solver.rounds can.few_vertices u.in_time in
+      record {
+        some_shard = some;
+        few_shards = few;
+        ends = subst (λ (m : ℕ). All (EndsUpTo m) cut) (sym u.vertices_are) can.ends;
+        wide = wide_still port cut (solver.rounds + 1) solver.labels xs ys u.books u.answered alone u.rounds few (let e = u.number in omega arith) can.cuts can.counts;
+      }
 
   -- so few shards are scanned that their count never wraps
   pub alone_few : (n : ℕ) (cut : List (List Link)) (xs ys : List (LaneState P)) (solver : Progress) (alone : ℕ) → SoFar n cut xs ys solver alone → n ≤ 2 ^ 26 → length cut ≤ 4096 → alone ≤ 2 ^ 20

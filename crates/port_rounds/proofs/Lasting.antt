@@ -1,6 +1,6 @@
 -- What lasts from pass to pass.
 use Rattle.std.specs.List.{AllZip}
-use Rattle.std.proofs.Common.{◌≡◌, ◌≤◌, Bool, true, false, List, get_or, ap, sym, subst, ◌∙◌, arith}
+use Rattle.std.proofs.Common.{◌≡◌, ◌≤◌, Bool, true, false, List, get_or, sym, subst, ◌∙◌, arith}
 use Rattle.std.specs.Prelude.{All}
 use Rattle.round_core.specs.BookValue.{BookValue}
 use Rattle.port_trait.specs.declared.port.Port as Port
@@ -10,7 +10,7 @@ use Rattle.port_rounds.specs.Bounds.{IsAskable, HasRoomForPass, HasRoomForRound}
 use Rattle.port_rounds.specs.Seating.{GainsRoom}
 use Rattle.port_rounds.specs.Passes.{RunsPasses}
 use Rattle.port_rounds.proofs.Eaches.{each_at, each_length, each_map}
-use Rattle.port_rounds.proofs.Passing.{SamePort, same_round}
+use Rattle.port_rounds.proofs.Passing.{SamePort, heard_same, askable_still}
 
 pub room_same : {P : Type 0} (xs ys : List (LaneState P)) → AllZip GainsRoom xs ys → AllZip SamePort xs ys
 room_same xs ys p = each_map GainsRoom SamePort (λ x y r. record { port = r.port }) xs ys p
@@ -35,19 +35,8 @@ one_at_most true = omega arith
 one_at_most false = omega arith
 
 module _ {P A : Type 0} (port : Port.Ghosts P A) where
-  pub cut_stays : (p q : BookValue) (xs ys : List (LaneState P)) → RunsPasses port p q xs ys → q.cut ≡ p.cut
-  cut_stays p q xs ys u = ap (λ o. o.cut) u.value ∙ (same_round p u.answers).cut
-
   pub round_stays : (p q : BookValue) (xs ys : List (LaneState P)) → RunsPasses port p q xs ys → IsAskable p → IsAskable q
-  round_stays p q xs ys u r =
-      let s = same_round p u.answers in
-      let cut : q.cut ≡ p.cut = cut_stays p q xs ys u in
-      let labels : q.labels ≡ p.labels = ap (λ o. o.labels) u.value ∙ s.labels in
-      record {
-        some_shard = rw cut r.some_shard;
-        ends = rw (cut, labels) r.ends;
-        round = rw (ap (λ o. o.round) u.value ∙ s.round) r.round;
-      }
+  round_stays p q xs ys u r = askable_still p q (heard_same p q u.answers u.value) r
 
   -- the room that a round asks for at its start is left in each of its passes
   pub bound_stays : (p q : BookValue) (xs ys : List (LaneState P)) → RunsPasses port p q xs ys → IsAskable p
@@ -56,7 +45,7 @@ module _ {P A : Type 0} (port : Port.Ghosts P A) where
       let n = u.same_lanes in
       let v = u.each i d (omega arith) in
       let w = wide i d (omega arith) in
-      let cut : q.cut ≡ p.cut = cut_stays p q xs ys u in
+      let cut : q.cut ≡ p.cut = (heard_same p q u.answers u.value).cut in
       let few = u.few i in
       let m = u.missed in
       let asks = v.asks in

@@ -2,7 +2,7 @@
 use Rattle.std.proofs.Common.{◌≡◌, ℕ, zero, suc, ◌-◌, ◌<◌, ◌≤◌, inl, inr, true, false, List, [], ◌∷◌, ◌++◌, length, get_or, replicate, refl, ap, sym, subst, ◌∙◌, arith, length-append, None}
 use Rattle.std.specs.Prelude.{All, Contains, Option}
 use Rattle.std.proofs.lemmas.Bool.{cases_lt}
-use Rattle.std.proofs.lemmas.List.{get_or_append_left, get_or-append_right, length-replicate, get_or-replicate, length-map}
+use Rattle.std.proofs.lemmas.List.{get_or_append_left, get_or-append_right, length-replicate, get_or-replicate, length-map, map-append}
 use Rattle.std.proofs.lemmas.List.Elements.{Contains-append_left, Contains-append_right, All-contains_itself}
 use Rattle.limits.specs.declared.TheConstants.{MAX_SHARDS}
 use Rattle.links.specs.declared.links.Link.{Link}
@@ -79,8 +79,7 @@ distinct_places (x ∷ xs) ys (suc k) (suc l) s d a b e = ap suc (distinct_place
 -- ---- what a pass kept
 
 shards_cut : (ts us : List AnswerValue) → shards_of (ts ++ us) ≡ shards_of ts ++ shards_of us
-shards_cut [] us = refl
-shards_cut (t ∷ ts) us = ap (λ xs. t.shard ∷ xs) (shards_cut ts us)
+shards_cut ts us = map-append (λ t. t.shard) ts us
 
 named : (ts : List AnswerValue) (t : AnswerValue) → Contains ts t → Contains (shards_of ts) t.shard
 named [] t h = absurd (omega (arith, h.1))

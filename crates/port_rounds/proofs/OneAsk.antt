@@ -1,6 +1,6 @@
 -- What one ask does to its port, and what its answer is to the book that asked for it.
-use Rattle.std.proofs.Common.{◌≡◌, ℕ, zero, suc, ◌+◌, ◌<◌, Bool, not, true, false, inl, inr, List, [], ◌∷◌, ◌++◌, length, refl, sym, ap, subst, ◌∙◌, append-nil, arith}
-use Rattle.std.specs.Prelude.{All, Option, Some, None, Result, Ok, Err, IfSome, IfErr, OnOk, IsSome, is_some, option_to_list}
+use Rattle.std.proofs.Common.{◌≡◌, ℕ, ◌+◌, ◌<◌, Bool, not, true, false, inl, inr, List, [], ◌∷◌, ◌++◌, length, refl, sym, ap, subst, ◌∙◌, append-nil, arith}
+use Rattle.std.specs.Prelude.{Option, Some, None, Result, Ok, Err, IfErr, OnOk, IsSome}
 use Rattle.std.specs.Result.{is_err}
 use Rattle.std.proofs.lemmas.Grind.{common_steps}
 use Rattle.std.proofs.lemmas.Bool.Decides.{nat_tests}
@@ -17,7 +17,8 @@ use Rattle.port_trait.specs.declared.fault.PortFault.TheVariants.{Down, Garbled,
 use Rattle.port_trait.specs.Ports.{CountsAsks, AnswersAsk, IsHonestAnswer}
 use Rattle.port_trait.specs.Exchanges.{Exchange, exchange_of}
 use Rattle.port_rounds.specs.Lanes.{count_if}
-use Rattle.port_rounds.specs.Asks.{IsAskOf, IsExchangeOf, TakesExchange, ClosesPort, Takes, IsLight, AnswersAsks, shards_of}
+use Rattle.port_rounds.proofs.Eaches.{one}
+use Rattle.port_rounds.specs.Asks.{IsAskOf, IsExchangeOf, TakesExchange, ClosesPort, Takes, IsLight, AnswersAsks}
 
 -- an honest answer to an ask under the book's labels
 pub honest_of : (value : BookValue) (cut : List (List Link)) (round shard : ℕ) (labels : List ℕ) (t : AnswerValue) → cut ≡ value.cut → round ≡ value.round → value.labels ≡ labels
@@ -39,10 +40,6 @@ is_taken_of value shard t within e =
     let same : t.shard ≡ shard = names_shard value shard t e in
     record { within = subst (λ (s : ℕ). s < length value.cut) (sym same) within; taken = subst (λ (s : ℕ). refusal value s t ≡ None) (sym same) e }
 
-pub nothing_of : {X : Type 0} (o : Option X) → is_some o ≡ false → o ≡ None
-nothing_of None e = refl
-nothing_of (Some x) e = absurd (cc)
-
 -- what isn't missing is taken
 pub not_taken : (missing taken : Bool) → missing ≡ not taken → missing ≡ true → taken ≡ false
 not_taken missing true e h = absurd (cc)
@@ -52,11 +49,6 @@ not_taken missing false e h = refl
 pub where_held : (r : Claim) (fact : Type 0) → ¬ (r ≡ Won) → IfHeld r (λ (by : ℕ). fact) → fact
 where_held Won fact lost h = absurd (lost refl)
 where_held (Held by) fact lost h = h
-
--- an answer for a shard names that shard alone
-pub shard_named : (o : Option AnswerValue) (shard : ℕ) → is_some o ≡ true → IfSome o (λ (t : AnswerValue). t.shard ≡ shard) → shards_of (option_to_list o) ≡ shard ∷ []
-shard_named None shard some e = absurd (cc)
-shard_named (Some t) shard some e = ap (λ (s : ℕ). s ∷ []) e
 
 -- the book doesn't refuse an honest answer
 pub honest_taken : (value : BookValue) (cut : List (List Link)) (round shard : ℕ) (labels : List ℕ) (t : AnswerValue) → LightOffersAreTaken → cut ≡ value.cut → round ≡ value.round → value.labels ≡ labels → is_taken value shard ≡ false
@@ -82,10 +74,6 @@ module _ {P A : Type 0} (port : Port.Ghosts P A) (value : BookValue) (a : P) (ro
   exchange_is : (t : AnswerValue) → IsExchangeOf value (exchange_of round shard labels t)
   exchange_is t = record { ask = asked_of; labels = labels_are }
 
-  one_kept : (e : Exchange) → TakesExchange value e → All (TakesExchange value) (e ∷ [])
-  one_kept e is zero d b = is
-  one_kept e is (suc i) d b = absurd (omega arith)
-
   -- the answer is kept
   pub kept_one : (b : P) (t : AnswerValue) → refusal value shard t ≡ None → (port.state b).is_open ≡ true → CountsAsks 1 0 0 (port.state a) (port.state b)
       → ((before : List Exchange) → port.exchanged a before → port.exchanged b (before ++ exchange_of round shard labels t ∷ [])) → (port.honest a → port.honest b)
@@ -100,7 +88,7 @@ module _ {P A : Type 0} (port : Port.Ghosts P A) (value : BookValue) (a : P) (ro
     one_fault = omega (arith, went.failures, went.wants);
     exchanges = exchange_of round shard labels t ∷ [];
     kept_are = refl;
-    keeps = one_kept (exchange_of round shard labels t) (record { asked = exchange_is t; taken = taken });
+    keeps = one (TakesExchange value) (exchange_of round shard labels t) (record { asked = exchange_is t; taken = taken });
     ordered = λ i j d l b. absurd (omega arith);
     refused = None;
     opened = λ e. (live, record { failures = omega (arith, went.failures); wants = omega (arith, went.wants) }, refl);

@@ -13,6 +13,7 @@ use Rattle.port_trait.specs.Ports.{PortState}
 use Rattle.port_trait.specs.Exchanges.{Exchange}
 use Rattle.port_rounds.specs.Lanes.{LaneState, count_if, kept_answers, ask_count, open_count}
 use Rattle.port_rounds.specs.Asks.{AnswersAsks, IsAskOf, IsExchangeOf, TakesExchange, ClosesPort, IsLight, shards_of}
+use Rattle.port_rounds.specs.Bounds.{IsAskable}
 use Rattle.port_rounds.specs.Ferries.{RunsFerry}
 use Rattle.port_rounds.specs.Seating.{LosesSeat}
 use Rattle.port_rounds.specs.Passes.{AnswersOnce, RunsPasses}
@@ -149,6 +150,14 @@ pub record SameRound (p q : BookValue) : Type 0 where
 pub same_round : (p : BookValue) (ts : List AnswerValue) → SameRound p (with_answers p ts)
 same_round p [] = record { round = refl; cut = refl; labels = refl }
 same_round p (t ∷ ts) = (let r = same_round (with_answer p t) ts in record { round = r.round; cut = r.cut; labels = r.labels })
+
+pub heard_same : (p q : BookValue) (ts : List AnswerValue) → q ≡ with_answers p ts → SameRound p q
+heard_same p q ts e =
+    let s = same_round p ts in
+    record { round = ap (λ o. o.round) e ∙ s.round; cut = ap (λ o. o.cut) e ∙ s.cut; labels = ap (λ o. o.labels) e ∙ s.labels }
+
+pub askable_still : (p q : BookValue) → SameRound p q → IsAskable p → IsAskable q
+askable_still p q s r = record { some_shard = rw s.cut r.some_shard; ends = rw (s.cut, s.labels) r.ends; round = rw s.round r.round }
 
 refusal_of : (r r' : ℕ) (cut cut' : List (List Link)) (labels labels' : List ℕ) (taken taken' : List Bool) (answers answers' : List AnswerValue) (s : ℕ) (t : AnswerValue) → r' ≡ r → cut' ≡ cut → labels' ≡ labels → get_or taken s true ≡ false → get_or taken' s true ≡ false
     → refusal (record { round = r'; cut = cut'; labels = labels'; taken = taken'; answers = answers' }) s t ≡ refusal (record { round = r; cut = cut; labels = labels; taken = taken; answers = answers }) s t

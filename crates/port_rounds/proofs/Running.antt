@@ -2,6 +2,7 @@
 use Rattle.std.proofs.Common.{◌≡◌, ℕ, zero, suc, ◌+◌, ◌*◌, ◌<◌, ◌≤◌, ◌⊎◌, inl, inr, not, cond, false, List, [], ◌∷◌, ◌++◌, length, get_or, refl, ap, sym, subst, ◌∙◌, arith, length-append, append-nil, append_assoc}
 use Rattle.std.specs.Prelude.{All, Contains, Option, Some, None}
 use Rattle.std.proofs.Math.Nat.{suc-mul}
+use Rattle.std.proofs.lemmas.List.{nil_from_length}
 use Rattle.std.proofs.lemmas.List.Folds.{sum_by-replicate}
 use Rattle.std.proofs.lemmas.List.Elements.{All-append, Contains-append_left, Contains-append_right, Contains-append_cases, All-contains, All-contains_itself, All-weaker}
 use Rattle.links.specs.declared.links.Link.{Link}
@@ -19,13 +20,10 @@ use Rattle.port_rounds.specs.Scanned.{ScansShards}
 use Rattle.port_rounds.specs.Rounds.{RunsRound}
 use Rattle.port_rounds.specs.Runs.{opened_book, ClosesPortIn, IsKeptIn, HasScanned, ClosesBy, AllCloseBy, IsGivenBy, IsLightIn, IsFullBook, MatchesBooks, RunsRounds}
 use Rattle.port_rounds.proofs.AsksThen.{ComeFirst, stayed, asks_then}
+use Rattle.port_rounds.proofs.Eaches.{one}
 use Rattle.port_rounds.proofs.Once.{once_then}
-use Rattle.port_rounds.proofs.Passing.{SameRound, same_round, asks_more}
+use Rattle.port_rounds.proofs.Passing.{SameRound, heard_same, asks_more}
 use Rattle.port_rounds.proofs.ClosedBy.{none_open, still_closed, now_closed}
-
-pub one : {X : Type 0} (P : X → Type 0) (x : X) → P x → All P (x ∷ [])
-one P x p zero d b = p
-one P x p (suc i) d b = absurd (omega arith)
 
 contains_all : {X : Type 0} (P : X → Type 0) (xs : List X) → ((x : X) → Contains xs x → P x) → All P xs
 contains_all P xs h = All-weaker (Contains xs) P h xs (All-contains_itself xs)
@@ -46,21 +44,12 @@ pub heard_answers : (p : BookValue) (ts : List AnswerValue) → (with_answers p 
 heard_answers p [] = sym (append-nil p.answers)
 heard_answers p (t ∷ ts) = heard_answers (with_answer p t) ts ∙ append_assoc p.answers (t ∷ []) ts
 
-nothing : {X : Type 0} (xs : List X) → length xs ≡ 0 → xs ≡ []
-nothing [] e = refl
-nothing (x ∷ xs) e = absurd (omega (arith, e))
-
 none_or_some : (k : ℕ) → (k ≡ 0) ⊎ (0 < k)
 none_or_some zero = inl refl
 none_or_some (suc k) = inr (omega arith)
 
 same_then : (p q r : BookValue) → SameRound p q → SameRound q r → SameRound p r
 same_then p q r s t = record { round = t.round ∙ s.round; cut = t.cut ∙ s.cut; labels = t.labels ∙ s.labels }
-
-pub heard_same : (p q : BookValue) (ts : List AnswerValue) → q ≡ with_answers p ts → SameRound p q
-heard_same p q ts e =
-    let s = same_round p ts in
-    record { round = ap (λ o. o.round) e ∙ s.round; cut = ap (λ o. o.cut) e ∙ s.cut; labels = ap (λ o. o.labels) e ∙ s.labels }
 
 light_still : (p q : BookValue) → SameRound p q → (t : AnswerValue) → IsLight p t → IsLight q t
 light_still p q s t l = rw (s.cut, s.round, s.labels) l
@@ -79,7 +68,8 @@ module _ {P A : Type 0} (port : Port.Ghosts P A) where
   same_still round cut labels new xs ys k r =
       same_then (opened round cut labels) r.middle new (heard_same _ _ r.passes.answers r.passes.value) (heard_same _ _ r.scans.answers r.scans.value)
 
-lane_at : {X : Type 0} (xs : List X) (i : ℕ) → i < length xs → X
+-- an element of a list that has one
+pub lane_at : {X : Type 0} (xs : List X) (i : ℕ) → i < length xs → X
 lane_at [] i b = absurd (omega arith)
 lane_at (x ∷ xs) i b = x
 
@@ -274,7 +264,7 @@ module _ {P A : Type 0} (port : Port.Ghosts P A) where
             (λ book a. All-weaker (IsGivenBy (length xs) u.answers_at) (IsGivenBy (length xs) at) (λ t q. (q.0, q.1, Contains-append_left (u.answers_at q.0) (v.answers_at q.0) t q.2)) book.answers a)
             books (u.given (omega arith)))
             (one (λ (book : BookValue). All (IsGivenBy (length xs) at) book.answers) new (
-            let nothing_scanned : w.answers ≡ [] = nothing w.answers (let e = w.count_is in omega arith) in
+            let nothing_scanned : w.answers ≡ [] = nil_from_length w.answers (let e = w.count_is in omega arith) in
             let just : v.answers ≡ new.answers = sym (append-nil v.answers) ∙ (ap (λ zs. v.answers ++ zs) (sym nothing_scanned) ∙ sym answers) in
             subst (λ (ts : List AnswerValue). All (IsGivenBy (length xs) at) ts) just
             (contains_all (IsGivenBy (length xs) at) v.answers (λ t c. (let q = v.given t c in (q.0, (let e = u.ports.same_lanes in let l = q.1 in omega arith), Contains-append_right (u.answers_at q.0) (v.answers_at q.0) t q.2))))));

@@ -1,6 +1,6 @@
 -- The coordinator's own scans.
-use Rattle.std.proofs.Common.{◌≡◌, ℕ, ◌+◌, ◌<◌, inl, inr, not, Bool, true, false, List, [], ◌∷◌, ◌++◌, length, get_or, refl, ap, sym, subst, ◌∙◌, arith, length-append, length-set, set, zero, suc}
-use Rattle.std.specs.Prelude.{All, count_by}
+use Rattle.std.proofs.Common.{◌≡◌, ℕ, ◌+◌, ◌<◌, inl, inr, not, Bool, true, false, List, [], ◌∷◌, ◌++◌, length, get_or, refl, ap, sym, subst, ◌∙◌, arith, length-append, length-set, set, suc}
+use Rattle.std.specs.Prelude.{count_by}
 use Rattle.std.proofs.lemmas.List.Elements.{All-append}
 use Rattle.links.specs.AnswerValue.{AnswerValue}
 use Rattle.round_core.specs.BookValue.{BookValue, missing, with_answer, is_taken}
@@ -13,12 +13,9 @@ use Rattle.port_rounds.specs.Passes.{RunsPasses}
 use Rattle.port_rounds.specs.Lanes.{LaneState, open_count}
 use Rattle.port_trait.specs.declared.port.Port as Port
 use Rattle.port_rounds.proofs.Takes.{taken_one, heard_append, taken_before, set_takes}
-use Rattle.port_rounds.proofs.Passing.{light_before, same_round}
+use Rattle.port_rounds.proofs.Passing.{light_before, heard_same, askable_still}
 use Rattle.port_rounds.proofs.AsksThen.{either}
-
-one : (P : AnswerValue → Type 0) (t : AnswerValue) → P t → All P (t ∷ [])
-one P t p zero d b = p
-one P t p (suc i) d b = absurd (omega arith)
+use Rattle.port_rounds.proofs.Eaches.{one}
 
 pub scanned_one : (p q : BookValue) (t : AnswerValue) → Takes p t → IsLight p t → q ≡ with_answer p t → ScansShards p q 1
 scanned_one p q t k r e = record { answers = t ∷ []; count_is = refl; value = e; missed = rw e (taken_one p t k); light = one (IsLight p) t r }
@@ -56,7 +53,7 @@ pub scanned_long : (p q : BookValue) (n : ℕ) → ScansShards p q n → length 
 scanned_long p q n u = ap (λ o. length o.taken) u.value ∙ heard_long p u.answers
 
 pub scanned_cut : (p q : BookValue) (n : ℕ) → ScansShards p q n → q.cut ≡ p.cut
-scanned_cut p q n u = ap (λ o. o.cut) u.value ∙ (same_round p u.answers).cut
+scanned_cut p q n u = (heard_same p q u.answers u.value).cut
 
 pub now_taken : (p q : BookValue) (t : AnswerValue) (s : ℕ) → t.shard ≡ s → q ≡ with_answer p t → is_taken q s ≡ true
 now_taken p q t s e f = ap (λ o. is_taken o s) f ∙ subst (λ (k : ℕ). get_or (set p.taken t.shard true) k true ≡ true) e (set_takes p.taken t.shard)
@@ -67,12 +64,4 @@ rounded port p q r xs ys alone u end s all =
     record { middle = q; passes = u; scans = s; all = all; closed = λ some. end (let m = s.missed in omega arith) }
 
 pub round_after : (p q : BookValue) (n : ℕ) → ScansShards p q n → IsAskable p → IsAskable q
-round_after p q n u r =
-    let s = same_round p u.answers in
-    let cut : q.cut ≡ p.cut = scanned_cut p q n u in
-    let labels : q.labels ≡ p.labels = ap (λ o. o.labels) u.value ∙ s.labels in
-    record {
-      some_shard = rw cut r.some_shard;
-      ends = rw (cut, labels) r.ends;
-      round = rw (ap (λ o. o.round) u.value ∙ s.round) r.round;
-    }
+round_after p q n u r = askable_still p q (heard_same p q u.answers u.value) r

@@ -1,7 +1,7 @@
 -- The seats of the lanes, before the ferries and after them.
 use Rattle.std.specs.List.{AllZip}
 use Rattle.std.proofs.Common.{◌≡◌, ℕ, zero, suc, ◌+◌, ◌<◌, ◌≤◌, List, [], ◌∷◌, ◌++◌, length, get_or, refl, ap, sym, subst, ◌∙◌, arith, length-append, append-nil}
-use Rattle.std.specs.Prelude.{Option, Some, None, All, IfSome, option_to_list, flat_map, slice_get}
+use Rattle.std.specs.Prelude.{◌≢◌, Option, Some, None, All, AllPairs, IfSome, option_to_list, flat_map, slice_get}
 use Rattle.std.proofs.lemmas.List.{map-append}
 use Rattle.std.proofs.lemmas.List.Sums.{sum_by-cons}
 use Rattle.std.proofs.lemmas.List.Concat.{flat_map-append, flat_map-cons}
@@ -16,7 +16,9 @@ use Rattle.port_rounds.specs.Asks.{Takes, shards_of}
 use Rattle.port_rounds.specs.Bounds.{HasRoomForPass}
 use Rattle.port_rounds.specs.Ferries.{IsReady, HoldsShards, RunsFerry}
 use Rattle.port_rounds.specs.Seating.{GainsSeat}
+use Rattle.port_rounds.specs.Taking.{TakesAll}
 use Rattle.port_rounds.proofs.Eaches.{each_at, each_length, each_append}
+use Rattle.port_rounds.proofs.Takes.{Distinct, distinct_of, taken_of}
 
 -- ---- before the ferries
 
@@ -102,6 +104,13 @@ module _ {P A : Type 0} (port : Port.Ghosts P A) (value : BookValue) where
   kept_all [] (y ∷ ys) p = absurd p
   kept_all (x ∷ xs) [] p = absurd p
   kept_all (x ∷ xs) (y ∷ ys) p = All-append (Takes value) y.kept (kept_answers ys) p.0.taken (kept_all xs ys p.1)
+
+  -- what the ferries kept names each shard once, as the lists of the seats do, and the book takes it one after the other
+  pub kept_apart : (xs ys : List (LaneState P)) (row : List SeatState) → AllZip (RunsFerry port value) xs ys → row ≡ seats_of ys → AllPairs (λ a b. a ≢ b) (all_held row)
+      → Distinct (shards_of (kept_answers ys)) × TakesAll value (kept_answers ys)
+  kept_apart xs ys row f back apart =
+      let different : Distinct (shards_of (kept_answers ys)) = subst (λ (ns : List ℕ). Distinct ns) (ap (λ (seats : List SeatState). all_held seats) back ∙ held_kept xs ys f) (distinct_of _ apart) in
+      (different, taken_of value (kept_answers ys) different (kept_all xs ys f))
 
   -- the asks of all ports rose by the kept answers and by the ports that closed
   pub counted : (xs ys : List (LaneState P)) → AllZip (RunsFerry port value) xs ys → ask_count port.state ys + open_count port.state ys ≡ (ask_count port.state xs + length (kept_answers ys)) + open_count port.state xs

@@ -1,11 +1,11 @@
 -- How answers are taken one after the other.
-use Rattle.std.proofs.Common.{◌≡◌, ℕ, zero, suc, ◌+◌, ◌<◌, Bool, true, false, cond, List, [], ◌∷◌, ◌++◌, length, get_or, set, map, refl, sym, arith}
+use Rattle.std.proofs.Common.{◌≡◌, ℕ, zero, suc, ◌+◌, ◌<◌, Bool, true, false, cond, List, [], ◌∷◌, ◌++◌, length, get_or, set, map, refl, ap, sym, ◌∙◌, arith}
 use Rattle.std.specs.Prelude.{◌≢◌, All, AllPairs, Contains, reverse, not}
 use Rattle.std.proofs.lemmas.Grind.{common_steps}
-use Rattle.std.proofs.lemmas.List.{get_or-set_other}
+use Rattle.std.proofs.lemmas.List.{get_or-set_other, reverse-append}
 use Rattle.std.proofs.lemmas.List.Sums.{sum_by-set, fold-append}
 use Rattle.std.proofs.lemmas.List.Concat.{flat_map-cons}
-use Rattle.std.proofs.lemmas.List.Elements.{All-head, All-tail, Contains-append_left, Contains-append_right}
+use Rattle.std.proofs.lemmas.List.Elements.{All-cons, All-head, All-tail, Contains-append_left, Contains-append_right}
 use Rattle.links.specs.AnswerValue.{AnswerValue}
 use Rattle.round_core.specs.BookValue.{BookValue, with_answer, missing, is_taken}
 use Rattle.port_rounds.specs.Asks.{Takes, shards_of}
@@ -13,8 +13,8 @@ use Rattle.port_rounds.specs.Lanes.{LaneState, kept_answers}
 use Rattle.port_rounds.specs.Taking.{with_answers, TakesAll}
 
 -- taking the last of a list off takes the first of its reverse off
-pub popped : (xs ys : List AnswerValue) (t : AnswerValue) → ys ≡ xs ++ t ∷ [] → reverse ys ≡ t ∷ reverse xs
-popped xs ys t e = rw e (grind (arith, common_steps))
+pub popped : {X : Type 0} (xs ys : List X) (x : X) → ys ≡ xs ++ x ∷ [] → reverse ys ≡ x ∷ reverse xs
+popped xs ys x e = ap (λ zs. reverse zs) e ∙ reverse-append xs (x ∷ [])
 
 -- a list that is taken is taken in two parts
 pub taken_append : (p : BookValue) (xs ys : List AnswerValue) → TakesAll p (xs ++ ys) → TakesAll p xs × TakesAll (with_answers p xs) ys
@@ -30,11 +30,7 @@ stay_all p s [] none k = λ i d below. absurd (omega arith)
 stay_all p s (t ∷ ts) none k =
     let other : t.shard ≡ s.shard → ⊥ = λ e. none (0, omega arith, e) in
     let rest = stay_all p s ts (λ h. none (suc h.0, omega arith, h.2)) (All-tail (Takes p) t ts k) in
-    cons (Takes (with_answer p s)) t ts (kept_stays p s t other (All-head (Takes p) t ts k)) rest
-  where
-    cons : (P : AnswerValue → Type 0) (t : AnswerValue) (ts : List AnswerValue) → P t → All P ts → All P (t ∷ ts)
-    cons P t ts p a zero d b = p
-    cons P t ts p a (suc i) d b = a i d (omega arith)
+    All-cons (Takes (with_answer p s)) t ts (kept_stays p s t other (All-head (Takes p) t ts k)) rest
 
 -- no number stands twice
 abbrev pub Distinct : List ℕ → Type 0

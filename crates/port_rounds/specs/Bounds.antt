@@ -1,10 +1,13 @@
--- What a round and its passes begin with.
-use Rattle.std.specs.Prelude.{◌≡◌, ◌+◌, ◌-◌, ◌<◌, ◌≤◌, ◌^◌, length, All}
+-- What a run, a round and its passes begin with.
+use Rattle.std.specs.Prelude.{◌≡◌, ℕ, ◌+◌, ◌-◌, ◌<◌, ◌≤◌, ◌^◌, List, length, All}
 use Rattle.claim_board.specs.State.{BoardState}
-use Rattle.limits.specs.declared.TheConstants.{MAX_WORKERS}
+use Rattle.limits.specs.declared.TheConstants.{MAX_SHARDS, MAX_VERTICES, MAX_WORKERS}
+use Rattle.links.specs.declared.links.Link.{Link}
 use Rattle.links.specs.Link.{EndsUpTo}
-use Rattle.round_core.specs.BookValue.{BookValue, missing}
+use Rattle.round_core.specs.BookValue.{BookValue, opened, missing}
+use Rattle.round_core.specs.Solver.{Progress, vertices}
 use Rattle.port_trait.specs.Ports.{PortState}
+use Rattle.port_rounds.specs.Lanes.{LaneState}
 
 -- a book whose shards may be asked for: there is one, its labels are those of all ends, and its round has a number
 pub record IsAskable (value : BookValue) : Type 0 where
@@ -26,3 +29,17 @@ pub record HasRoomForPass {P : Type 0} (state : P → PortState) (value : BookVa
 pub record HasRoomForRound {P : Type 0} (state : P → PortState) (value : BookValue) (port : P) : Type 0 where
   pub cut : (state port).cut ≡ value.cut
   pub count : (state port).asks + (missing value + length value.cut + 1) < 2 ^ 64 - 1
+
+-- the lanes can be asked for the solver's next round over the cut
+pub record CanAskRound {P : Type 0} (state : P → PortState) (cut : List (List Link)) (p : Progress) (lanes : List (LaneState P)) : Type 0 where
+  pub some_shard : 0 < length cut
+  pub few_shards : length cut ≤ MAX_SHARDS
+  pub ends : All (EndsUpTo (vertices p)) cut
+  pub wide : All (λ lane. HasRoomForRound state (opened (p.rounds + 1) cut p.labels) lane.port) lanes
+
+-- the lanes can be asked in a whole run for the vertices 1 to n: their ports are of the cut, and their counts have room
+pub record CanRun {P : Type 0} (state : P → PortState) (n : ℕ) (cut : List (List Link)) (lanes : List (LaneState P)) : Type 0 where
+  pub few_vertices : n ≤ MAX_VERTICES
+  pub ends : All (EndsUpTo n) cut
+  pub cuts : All (λ lane. (state lane.port).cut ≡ cut) lanes
+  pub counts : All (λ lane. (state lane.port).asks < 2 ^ 63) lanes

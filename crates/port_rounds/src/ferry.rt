@@ -1,5 +1,6 @@
 //! The ferries of a pass: one thread a lane, which asks the lane's port for the shards that its seat wins.
-ghost use Rattle.std.specs.Prelude.{◌≡◌, ◌-◌, ◌<◌, ◌≤◌, ◌^◌, ◌++◌, ℕ, length, slice_index_or, All, IfSome, option_to_list, true, false};
+ghost use Rattle.std.specs.List.{AllZip};
+ghost use Rattle.std.specs.Prelude.{◌≡◌, ◌-◌, ◌<◌, ◌≤◌, ◌^◌, ◌++◌, length, All, IfSome, option_to_list, true, false};
 ghost use Rattle.claim_board.specs.Machine.{held};
 ghost use Rattle.limits.specs.declared.TheConstants.{MAX_SHARDS, MAX_WORKERS};
 ghost use Rattle.round_core.specs.BookValue.{is_taken};
@@ -83,11 +84,11 @@ impl<'a, A: Allocator> Ferries<'a, A> {
         let Claim::Won = self.board.claim(seat, shard) else {
             return None;
         };
-        let answer = self.ask_port(port, shard);
-        if answer.is_none() {
+        let Some(answer) = self.ask_port(port, shard) else {
             self.board.give_back(seat, shard);
-        }
-        answer
+            return None;
+        };
+        Some(answer)
     }
 
     #[tactic(auto, using(crate::proofs::AsksThen::asks_then, crate::proofs::AsksThen::stayed, crate::proofs::Ways::none_passed))]
@@ -132,8 +133,7 @@ impl<'a, A: Allocator + Copy + Send + Sync> Ferries<'a, A> {
         lanes: &mut [Lane<P, A>],
     )
         requires ready { All (IsReady P.state self.now.board.now self.now.book.now) lanes.old }
-        ensures { (i : ℕ) (d : _) → i < length lanes.old
-            → RunsFerry P.Port self.now.book.now (slice_index_or lanes.old i d) (slice_index_or lanes.new i d) }
+        ensures { AllZip (RunsFerry P.Port self.now.book.now) lanes.old lanes.new }
     {
         thread::for_each_mut(
             rt,

@@ -35,7 +35,6 @@ fn run_ferries<A: Allocator + Copy + Send + Sync, P: Port<A> + Send + Drop, R: T
     ensures idle { All IsIdle lanes.new }
 {
     let seats = row.len() as u32;
-    row.reverse();
     seat_lanes(&mut row, lanes);
     let ferries = Ferries {
         board: &board,

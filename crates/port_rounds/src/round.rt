@@ -1,12 +1,10 @@
 //! The passes of a round.
-ghost use Rattle.std.specs.Prelude.{◌≡◌, ◌+◌, ◌<◌, ◌≤◌, length, All, OnOk, IfOk};
-ghost use Rattle.limits.specs.declared.TheConstants.{MAX_SHARDS};
-ghost use Rattle.links.specs.Link.{EndsUpTo};
-ghost use Rattle.round_core.specs.BookValue.{BookValue, opened, missing};
+ghost use Rattle.std.specs.Prelude.{◌≡◌, ◌+◌, ◌<◌, All, OnOk, IfOk};
+ghost use Rattle.round_core.specs.BookValue.{BookValue, missing};
 ghost use Rattle.round_core.specs.Picks.{AreNoPicks};
-ghost use Rattle.round_core.specs.Solver.{vertices, IsProgress};
+ghost use Rattle.round_core.specs.Solver.{IsProgress};
 ghost use Rattle.port_rounds.specs.Lanes.{open_count};
-ghost use Rattle.port_rounds.specs.Bounds.{IsAskable, HasRoomForRound};
+ghost use Rattle.port_rounds.specs.Bounds.{IsAskable, HasRoomForRound, CanAskRound};
 ghost use Rattle.port_rounds.specs.Passes.{RunsPasses};
 ghost use Rattle.port_rounds.specs.Rounds.{RunsRound, PicksInRound};
 ghost use Rattle.port_rounds.specs.Solved.{AsksInRound};
@@ -88,11 +86,7 @@ impl<
         cut: &'c Cut<'c, A>,
     ) -> Result<(Picks<A>, u32), AllocError>
         requires none { AreNoPicks reused.old.picks }
-        requires some_shard { 0 < length cut.now }
-        requires few_shards { length cut.now ≤ MAX_SHARDS }
-        requires ends { All (EndsUpTo (vertices solver.now)) cut.now }
-        requires wide { All (λ lane. HasRoomForRound P.state (opened (solver.now.rounds + 1) cut.now solver.now.labels) lane.port)
-            self.old.lanes.now }
+        requires can { CanAskRound P.state cut.now solver.now self.old.lanes.now }
         ensures progress { IsProgress solver.now }
         ensures picked { IfOk result (λ r. PicksInRound P.Port (solver.now.rounds + 1) cut.now solver.now.labels
             self.old.lanes.now self.new.lanes.now r.0 r.1) }

@@ -1,13 +1,12 @@
 //! The whole run over lanes: rounds, until one has no picks.
-ghost use Rattle.std.specs.Prelude.{◌≡◌, ℕ, ◌+◌, ◌<◌, ◌≤◌, ◌^◌, length, All, IfOk, IfErr, OnOk};
+ghost use Rattle.std.specs.Prelude.{◌≡◌, ℕ, ◌<◌, ◌≤◌, ◌^◌, length, All, IfOk, IfErr, OnOk};
 ghost use Rattle.limits.specs.declared.TheConstants.{MAX_SHARDS, MAX_VERTICES, MAX_WORKERS};
 ghost use Rattle.links.specs.Link.{EndsUpTo};
-ghost use Rattle.round_core.specs.BookValue.{opened};
 ghost use Rattle.round_core.specs.Picks.{AreNoPicks};
-ghost use Rattle.round_core.specs.Solver.{vertices, IsAtStart};
+ghost use Rattle.round_core.specs.Solver.{IsAtStart};
 ghost use Rattle.round_core.specs.declared.solver.SolveFault.TheVariants.{Memory};
 ghost use Rattle.port_rounds.specs.Lanes.{IsIdle};
-ghost use Rattle.port_rounds.specs.Bounds.{HasRoomForRound};
+ghost use Rattle.port_rounds.specs.Bounds.{CanAskRound, CanRun};
 ghost use Rattle.port_rounds.specs.Solved.{AreHonest, StepsOnce, AsksInRound, IsTurnFault, MergesAll, AsksInRun, FindsForest, IsSolveFault};
 
 use crate::lane::{Lane, Lanes};
@@ -41,11 +40,7 @@ impl<
         cut: &'c Cut<'c, A>,
     ) -> Result<(Turn, u32), SolveFault>
         requires none { AreNoPicks reused.old.picks }
-        requires some_shard { 0 < length cut.now }
-        requires few_shards { length cut.now ≤ MAX_SHARDS }
-        requires ends { All (EndsUpTo (vertices solver.old)) cut.now }
-        requires wide { All (λ lane. HasRoomForRound P.state (opened (solver.old.rounds + 1) cut.now solver.old.labels) lane.port)
-            self.old.lanes.now }
+        requires can { CanAskRound P.state cut.now solver.old self.old.lanes.now }
         ensures went { IfOk result (λ r. StepsOnce P.Port cut.now solver.old solver.new
             self.old.lanes.now self.new.lanes.now r.0 r.1) }
         ensures ports { AsksInRound P.Port cut.now solver.old self.old.lanes.now self.new.lanes.now }
@@ -68,17 +63,13 @@ impl<
         n: u32,
         cut: &'c Cut<'c, A>,
     ) -> Result<(Solver<A>, u64), SolveFault>
-        requires vertices { n ≤ MAX_VERTICES }
         requires some_shard { 0 < length cut.now }
         requires few_shards { length cut.now ≤ MAX_SHARDS }
-        requires ends { All (EndsUpTo n) cut.now }
-        requires cut { All (λ lane. (P.state lane.port).cut ≡ cut.now) self.old.lanes.now }
-        requires counts { All (λ lane. (P.state lane.port).asks < 2 ^ 63) self.old.lanes.now }
+        requires can { CanRun P.state n cut.now self.old.lanes.now }
         ensures went { IfOk result (λ r. (answered : ℕ)
             × MergesAll P.Port n cut.now self.old.lanes.now self.new.lanes.now r.0 answered r.1) }
         ensures ports { AsksInRun P.Port n cut.now self.old.lanes.now self.new.lanes.now }
         ensures fault { IfErr result (IsSolveFault P.Port n cut.now self.old.lanes.now self.new.lanes.now) }
-        ensures honest_fault { IfErr result (λ fault. AreHonest P.honest self.old.lanes.now → fault ≡ Memory) }
         ensures same_lanes { self.new.lanes.ghost_name ≡ self.old.lanes.ghost_name }
     {
         let (mut solver, picks) = begin(self.rt, alloc, n)?;
@@ -102,14 +93,10 @@ impl<
         n: u32,
         cut: &'c Cut<'c, A>,
     ) -> Result<(Forest<A>, Report), SolveFault>
-        requires vertices { n ≤ MAX_VERTICES }
-        requires ends { All (EndsUpTo n) cut.now }
-        requires cut { All (λ lane. (P.state lane.port).cut ≡ cut.now) self.old.lanes.now }
-        requires counts { All (λ lane. (P.state lane.port).asks < 2 ^ 63) self.old.lanes.now }
+        requires can { CanRun P.state n cut.now self.old.lanes.now }
         ensures went { IfOk result (λ r. FindsForest P.Port n cut.now self.old.lanes.now self.new.lanes.now r.0 r.1) }
         ensures ports { AsksInRun P.Port n cut.now self.old.lanes.now self.new.lanes.now }
         ensures fault { IfErr result (IsSolveFault P.Port n cut.now self.old.lanes.now self.new.lanes.now) }
-        ensures honest_fault { IfErr result (λ fault. AreHonest P.honest self.old.lanes.now → fault ≡ Memory) }
         ensures same_lanes { self.new.lanes.ghost_name ≡ self.old.lanes.ghost_name }
     {
         let shards = cut.len();

@@ -36,18 +36,19 @@ fn unseat_lane<A: Allocator, P>(row: &mut Vec<Seat, A>, lane: &mut Lane<P, A>)
     }
 }
 
-#[tactic(auto, using(crate::proofs::Eaches::each_cons, crate::proofs::Dealing::dealt))]
-// Gives each lane with an open port a seat, in order. `row` has the seats in reverse.
+#[tactic(auto, using(crate::proofs::Eaches::each_cons))]
+// Gives each lane with an open port a seat, in order: the last ones of the row go to the last lanes.
 pub(crate) fn seat_lanes<A: Allocator, P: Port<A>>(row: &mut Vec<Seat, A>, lanes: &mut [Lane<P, A>])
-    requires count { vec_len row.old ≡ open_count P.state lanes.old }
+    requires some { open_count P.state lanes.old ≤ vec_len row.old }
     requires none { All (λ lane. lane.seat ≡ None) lanes.old }
-    ensures seats { seats_of lanes.new ≡ reverse row.old.items }
+    ensures seats { row.old.items ≡ row.new.items ++ seats_of lanes.new }
     ensures lanes { AllZip (GainsSeat P.state) lanes.old lanes.new }
-    ensures row { (row.new.items ≡ []) × (vec_capacity row.new ≡ vec_capacity row.old) }
+    ensures count { vec_len row.old ≡ vec_len row.new + open_count P.state lanes.old }
+    ensures capacity { vec_capacity row.new ≡ vec_capacity row.old }
 {
     if let Some((lane, rest)) = lanes.split_first_mut() {
-        seat_lane(row, lane);
         seat_lanes(row, rest);
+        seat_lane(row, lane);
     }
 }
 

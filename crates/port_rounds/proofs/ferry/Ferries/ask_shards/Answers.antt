@@ -1,19 +1,14 @@
 use Rattle.std.proofs.Common.{◌≡◌, ◌+◌, ap, sym, subst, ◌∙◌, ◌++◌, ◌∷◌, [], arith, rules, append-nil}
 use Rattle.std.proofs.lemmas.List.{map-append}
 use Rattle.std.proofs.lemmas.List.Elements.{All-append}
-use Rattle.std.proofs.lemmas.Grind.{common_steps}
-use Rattle.std.specs.Prelude.{All, vec_len, vec_capacity}
-use Rattle.links.specs.AnswerValue.{AnswerValue}
+use Rattle.std.specs.Prelude.{vec_len, vec_capacity}
 use Rattle.port_rounds.specs.Asks.{Takes, IsLight, shards_of}
 use Rattle.port_rounds.specs.Ferries.{first_of, AreOnWay}
 use Rattle.port_rounds.proofs.AsksThen.{asks_then, one_round}
+use Rattle.port_rounds.proofs.Eaches.{one}
 use Rattle.port_rounds.proofs.Ways.{passed_on, passed_one, whole_way}
 use Rattle.port_rounds.proofs.ferry.Ferries.ask_shards.Goals as goal
 use Rattle.port_rounds.proofs.ferry.Ferries.ask_shards.Goals.{in-Some, in-None+else-not-is_open}
-
--- the one element of a list
-All-one : (P : AnswerValue → Type 0) (a : AnswerValue) → P a → All P (a ∷ [])
-All-one P a p = grind (arith, common_steps)
 
 pub returns-then-not-is_open : goal.returns-then-not-is_open
 returns-then-not-is_open g c =
@@ -59,8 +54,8 @@ loop-step-preserved g c = elim c.match-claim_and_ask.branch [
         board = v.seat.0 ∙ i.board;
         number = v.seat.1 ∙ i.number;
         held = v.held ∙ (ap (λ xs. xs ++ a.shard ∷ []) i.held ∙ held);
-        taken = All-append (Takes c.args.self.now.book.now) _ _ i.taken (All-one (Takes c.args.self.now.book.now) a v.taken);
-        light = λ h. All-append (IsLight c.args.self.now.book.now) _ _ (i.light h) (All-one (IsLight c.args.self.now.book.now) a (v.light (i.asked.honest_is h)));
+        taken = All-append (Takes c.args.self.now.book.now) _ _ i.taken (one (Takes c.args.self.now.book.now) a v.taken);
+        light = λ h. All-append (IsLight c.args.self.now.book.now) _ _ (i.light h) (one (IsLight c.args.self.now.book.now) a (v.light (i.asked.honest_is h)));
         count = rw (ap vec_len w.kept-is, w.push_reserved.ensures.len) (omega arith);
         capacity = ap vec_capacity w.kept-is ∙ (w.push_reserved.ensures.capacity ∙ i.capacity);
         steps = omega (arith, c.loop-step-test.true);

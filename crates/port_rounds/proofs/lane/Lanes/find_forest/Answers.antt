@@ -1,7 +1,7 @@
 use Rattle.std.proofs.Common.{◌≡◌, ◌+◌, ℕ, arith}
 use Rattle.std.proofs.lemmas.Result.{err_from_is_err_and}
 use Rattle.port_rounds.specs.Lanes.{open_count}
-use Rattle.port_rounds.proofs.Ending.{rounds_few, finish_fault, finish_honest, solved}
+use Rattle.port_rounds.proofs.Ending.{rounds_few, finish_fault, solved}
 use Rattle.port_rounds.proofs.lane.Lanes.find_forest.Goals as goal
 
 pub returns-in_err-solver-clause-fault : goal.returns-in_err-solver-clause-fault
@@ -10,21 +10,14 @@ returns-in_err-solver-clause-fault g c =
     rw (answered.1, answered.2) c.in_err-solver.ensures.fault
 
 pub finish_par-requires-clause-ends : goal.finish_par-requires-clause-ends
-finish_par-requires-clause-ends g c κs within = rw c.in_ok-solver.ensures.went.1.vertices_are c.requires.ends
+finish_par-requires-clause-ends g c κs within = rw c.in_ok-solver.ensures.went.1.vertices_are c.requires.can.ends
 
 pub returns-in_err-forest-clause-fault : goal.returns-in_err-forest-clause-fault
 returns-in_err-forest-clause-fault g c =
     let answered = err_from_is_err_and c.from_residual-in_err-forest.result c.from_residual-in_err-forest.ensures.1 in
     rw (answered.1, answered.2)
     (finish_fault g.P.Port c.args.n c.args.cut.now c.args.self.now.lanes.now c.merge_rounds.new.self.lanes.now c.in_ok-solver.solver c.in_ok-solver.ensures.went.0 c.in_ok-solver.alone
-    c.in_err-forest.field-0.0 c.requires.ends c.in_ok-solver.ensures.went.1 c.in_err-forest.ensures.fault)
-
-pub returns-in_err-forest-clause-honest_fault : goal.returns-in_err-forest-clause-honest_fault
-returns-in_err-forest-clause-honest_fault g c =
-    let answered = err_from_is_err_and c.from_residual-in_err-forest.result c.from_residual-in_err-forest.ensures.1 in
-    rw (answered.1, answered.2)
-    (finish_honest g.P.Port c.args.n c.args.cut.now c.args.self.now.lanes.now c.merge_rounds.new.self.lanes.now c.in_ok-solver.solver c.in_ok-solver.ensures.went.0 c.in_ok-solver.alone
-    c.in_err-forest.field-0.0 c.requires.ends c.in_ok-solver.ensures.went.1 c.in_err-forest.ensures.fault)
+    c.in_err-forest.field-0.0 c.requires.can.ends c.in_ok-solver.ensures.went.1 c.in_err-forest.ensures.fault)
 
 pub overflow_sub-counts : goal.overflow_sub-counts
 overflow_sub-counts g c =
@@ -35,7 +28,7 @@ overflow_sub-counts g c =
 
 pub report_of-report-requires-clause-few : goal.report_of-report-requires-clause-few
 report_of-report-requires-clause-few g c =
-    let few = rounds_few c.args.n c.in_ok-solver.solver.rounds c.requires.vertices c.in_ok-solver.ensures.went.1.in_time in
+    let few = rounds_few c.args.n c.in_ok-solver.solver.rounds c.requires.can.few_vertices c.in_ok-solver.ensures.went.1.in_time in
     omega arith
 
 pub returns-clause-went : goal.returns-clause-went
@@ -47,5 +40,5 @@ returns-clause-went g c =
     let opened = c.count_open-open.ensures.count in
     let counted = c.count_open.ensures.count in
     let closed : open_count g.P.Port.state c.merge_rounds.new.self.lanes.now + c.report_of-report.result.closed ≡ open_count g.P.Port.state c.args.self.now.lanes.now = omega arith in
-    solved g.P.Port c.args.n c.args.cut.now c.args.self.now.lanes.now c.merge_rounds.new.self.lanes.now c.in_ok-solver.solver answered c.in_ok-solver.alone c.in_ok-forest.forest c.report_of-report.result c.requires.ends
+    solved g.P.Port c.args.n c.args.cut.now c.args.self.now.lanes.now c.merge_rounds.new.self.lanes.now c.in_ok-solver.solver answered c.in_ok-solver.alone c.in_ok-forest.forest c.report_of-report.result c.requires.can.ends
     went c.in_ok-forest.ensures.forest c.report_of-report.ensures.report rounds c.report_of-report.ensures.alone closed

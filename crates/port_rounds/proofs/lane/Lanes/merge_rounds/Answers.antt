@@ -1,6 +1,6 @@
 use Rattle.std.proofs.Common.{arith, refl, ◌∙◌}
 use Rattle.std.proofs.lemmas.Result.{err_from_is_err_and}
-use Rattle.port_rounds.proofs.Ending.{asked_none, so_far_none, wide_more, alone_few, turned_more, turned_last, turn_fault, turn_honest, asked_then}
+use Rattle.port_rounds.proofs.Ending.{asked_none, so_far_none, can_more, alone_few, turned_more, turned_last, turn_fault, asked_then}
 use Rattle.port_rounds.proofs.lane.Lanes.merge_rounds.Goals as goal
 use Rattle.port_rounds.proofs.lane.Lanes.merge_rounds.Goals.{in-None, in-Some+in_ok-turn+in-Done}
 
@@ -10,9 +10,9 @@ loop-init g c = record { so_far = so_far_none g.P.Port c.args.n c.args.cut.now c
 pub returns-in_err-solver-clause-ports : goal.returns-in_err-solver-clause-ports
 returns-in_err-solver-clause-ports g c = asked_none g.P.Port c.args.n c.args.cut.now c.args.self.now.lanes.now
 
-pub step_once-requires-clause-wide : goal.step_once-requires-clause-wide
-step_once-requires-clause-wide g c κs within =
-    wide_more g.P.Port c.args.n c.args.cut.now c.args.self.now.lanes.now c.loop.self.lanes.now c.loop.solver c.loop.alone c.loop.invariant.so_far c.requires.vertices c.requires.few_shards c.requires.cut c.requires.counts
+pub step_once-requires-clause-can : goal.step_once-requires-clause-can
+step_once-requires-clause-can g c κs within =
+    can_more g.P.Port c.args.n c.args.cut.now c.args.self.now.lanes.now c.loop.self.lanes.now c.loop.solver c.loop.alone c.loop.invariant.so_far c.requires.some_shard c.requires.few_shards c.requires.can
 
 pub returns-in_err-turn-clause-ports : goal.returns-in_err-turn-clause-ports
 returns-in_err-turn-clause-ports g c =
@@ -22,26 +22,19 @@ pub returns-in_err-turn-clause-fault : goal.returns-in_err-turn-clause-fault
 returns-in_err-turn-clause-fault g c =
     let answered = err_from_is_err_and c.from_residual-in_err-turn.result c.from_residual-in_err-turn.ensures.1 in
     rw (answered.1, answered.2)
-    (turn_fault g.P.Port c.args.n c.args.cut.now c.args.self.now.lanes.now c.loop.self.lanes.now c.step_once.new.self.lanes.now c.loop.solver c.loop.alone c.in_err-turn.field-0.0 c.requires.ends
-    c.loop.invariant.so_far c.in_err-turn.ensures.fault)
-
-pub returns-in_err-turn-clause-honest_fault : goal.returns-in_err-turn-clause-honest_fault
-returns-in_err-turn-clause-honest_fault g c =
-    let answered = err_from_is_err_and c.from_residual-in_err-turn.result c.from_residual-in_err-turn.ensures.1 in
-    rw (answered.1, answered.2)
-    (turn_honest g.P.Port c.args.n c.args.cut.now c.args.self.now.lanes.now c.loop.self.lanes.now c.step_once.new.self.lanes.now c.loop.solver c.loop.alone c.in_err-turn.field-0.0 c.requires.ends
+    (turn_fault g.P.Port c.args.n c.args.cut.now c.args.self.now.lanes.now c.loop.self.lanes.now c.step_once.new.self.lanes.now c.loop.solver c.loop.alone c.in_err-turn.field-0.0 c.requires.can.ends
     c.loop.invariant.so_far c.in_err-turn.ensures.fault)
 
 pub overflow_add-alone : goal.overflow_add-alone
 overflow_add-alone g c =
-    let few = alone_few g.P.Port c.args.n c.args.cut.now c.args.self.now.lanes.now c.loop.self.lanes.now c.loop.solver c.loop.alone c.loop.invariant.so_far c.requires.vertices c.requires.few_shards in
+    let few = alone_few g.P.Port c.args.n c.args.cut.now c.args.self.now.lanes.now c.loop.self.lanes.now c.loop.solver c.loop.alone c.loop.invariant.so_far c.requires.can.few_vertices c.requires.few_shards in
     omega arith
 
 pub loop-preserved : goal.loop-preserved
 loop-preserved g c =
     rw c.from-alone.ensures (record {
       so_far =
-          turned_more g.P.Port c.args.n c.args.cut.now c.args.self.now.lanes.now c.loop.self.lanes.now c.step_once.new.self.lanes.now c.loop.solver c.step_once.new.solver c.in_ok-turn.turn c.loop.alone c.in_ok-turn.scanned c.requires.ends
+          turned_more g.P.Port c.args.n c.args.cut.now c.args.self.now.lanes.now c.loop.self.lanes.now c.step_once.new.self.lanes.now c.loop.solver c.step_once.new.solver c.in_ok-turn.turn c.loop.alone c.in_ok-turn.scanned c.requires.can.ends
           c.loop.invariant.so_far c.in_ok-turn.ensures.went c.in_default.not-Done;
       same_lanes = c.step_once.ensures.same_lanes ∙ c.loop.invariant.same_lanes;
       none = c.in_ok-turn.ensures.none;
@@ -51,7 +44,7 @@ pub returns-clause-went : goal.returns-clause-went
 returns-clause-went g c = elim c.match-next.branch [
   | in-None w ↦ absurd (let some = rw w.in-None.is at c.next.ensures.steps in cc)
   | in-Some+in_ok-turn+in-Done w ↦ rw (w.self-is, w.solver-is, w.alone-is, w.from-alone.ensures)
-      (turned_last g.P.Port c.args.n c.args.cut.now c.args.self.now.lanes.now c.loop.self.lanes.now w.step_once.new.self.lanes.now c.loop.solver w.step_once.new.solver w.in_ok-turn.turn c.loop.alone w.in_ok-turn.scanned c.requires.ends
+      (turned_last g.P.Port c.args.n c.args.cut.now c.args.self.now.lanes.now c.loop.self.lanes.now w.step_once.new.self.lanes.now c.loop.solver w.step_once.new.solver w.in_ok-turn.turn c.loop.alone w.in_ok-turn.scanned c.requires.can.ends
       c.loop.invariant.so_far w.in_ok-turn.ensures.went w.in-Done.is)
 ]
 
