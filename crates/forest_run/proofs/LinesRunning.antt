@@ -1,6 +1,6 @@
 -- What a run over lines did, by what its steps say.
-use Rattle.std.proofs.Common.{◌≡◌, ℕ, zero, suc, ◌+◌, ◌<◌, ◌≤◌, ◌^◌, ◌⊎◌, inl, inr, true, List, [], ◌∷◌, length, get_or, take, None, Ok, Err, refl, sym, ap, subst, ◌∙◌, arith}
-use Rattle.std.specs.Prelude.{All, Contains, Vec, max}
+use Rattle.std.proofs.Common.{◌≡◌, ℕ, zero, suc, ◌+◌, ◌<◌, ◌≤◌, ◌^◌, ◌⊎◌, inl, inr, true, List, [], ◌∷◌, length, get_or, take, None, Ok, Err, refl, ap, subst, ◌∙◌, arith}
+use Rattle.std.specs.Prelude.{All, Contains, Vec}
 use Rattle.std.proofs.lemmas.List.{length-append, get_or_append_left, get_or-append-add}
 use Rattle.std.proofs.lemmas.List.Elements.{All-contains}
 use Rattle.std.proofs.lemmas.List.Sums.{sum_by-cons}
@@ -12,7 +12,7 @@ use Rattle.links.specs.declared.links.Link.{Link}
 use Rattle.links.specs.declared.cuts.CutFault.{CutFault}
 use Rattle.links.specs.declared.cuts.CutFault.TheVariants as cut
 use Rattle.links.specs.Cut.{joined, IsCutFault}
-use Rattle.links.specs.Link.{IsAscending, EndsUpTo}
+use Rattle.links.specs.Link.{EndsUpTo}
 use Rattle.links.specs.Forest.{IsForestOf}
 use Rattle.links.specs.Least.{IsSpanningForestOf, IsLightest}
 use Rattle.gr_text.specs.ForestText.{forest_text}
@@ -51,36 +51,29 @@ few_enough n m less few = omega (arith, less, few)
 
 -- ---- the forest and the report
 
-module _ {L A : Type 0} (over : Line.Ghosts L) (n : ℕ) (cut : List (List Link)) (links : List Link) (whole : joined cut ≡ links) (before after : List L) (forest : List Link) (report : Report)
-    (solved : FindsOverLines A over n cut before after forest report) where
-  pub spanning : IsAscending forest × IsSpanningForestOf links forest
-  spanning =
-      let f = solved.went.finished in
-      (f.ascending, subst (λ (ls : List Link). IsSpanningForestOf ls forest) whole (record { from_list = λ l l_in. All-contains (Contains (joined cut)) forest l solved.went.from_list l_in; no_cycle = f.no_cycle; spans = f.spans }))
+-- all new wires are open
+open_all : {L : Type 0} → (lanes : List (LaneState (WireState L))) → ((i : ℕ) (d : LaneState (WireState L)) → i < length lanes → (get_or lanes i d).port.is_open ≡ true) → open_count port_of lanes ≡ length lanes
+open_all [] opened = refl
+open_all {L = L} (lane ∷ lanes) opened =
+    let here : count_if lane.port.is_open ≡ 1 = ap count_if (opened 0 lane (omega arith)) in
+    omega (arith, sum_by-cons (λ (l : LaneState (WireState L)). count_if (port_of l.port).is_open) lane lanes, here, open_all lanes (λ i d b. opened (suc i) d (omega arith)))
 
-  pub few_links : length forest ≤ length links
-  few_links = no_longer forest links spanning.0 (subst (λ (ls : List Link). All (Contains ls) forest) whole solved.went.from_list)
-
-  -- all new wires are open
-  open_all : (lanes : List (LaneState (WireState L))) → ((i : ℕ) (d : LaneState (WireState L)) → i < length lanes → (get_or lanes i d).port.is_open ≡ true) → open_count port_of lanes ≡ length lanes
-  open_all [] opened = refl
-  open_all (lane ∷ lanes) opened =
-      let here : count_if lane.port.is_open ≡ 1 = ap count_if (opened 0 lane (omega arith)) in
-      omega (arith, sum_by-cons (λ (l : LaneState (WireState L)). count_if (port_of l.port).is_open) lane lanes, here, open_all lanes (λ i d b. opened (suc i) d (omega arith)))
-
-  pub opened_all : open_count port_of solved.lanes ≡ length before
+-- what a run says of a graph that it found a forest of
+module _ {L A : Type 0} (over : Line.Ghosts L) (cutting : Cutting) (graph : GraphValue) (shards : List (List Link)) (is : IsCutOf cutting graph.links shards) (before after : List L) (forest : List Link) (report : Report)
+    (solved : FindsOverLines A over graph.vertices shards before after forest report) where
+  opened_all : open_count port_of solved.lanes ≡ length before
   opened_all = open_all solved.lanes (λ i d b. (solved.new.each i d.port.client.line d (let e = solved.new.number in omega arith)).opened) ∙ solved.new.number
 
-  pub reported : (graph : GraphValue) → n ≡ graph.vertices → graph.links ≡ links → IsLinesReport (length before) graph (length cut) forest report
-  reported graph vertices same =
+  reported : IsLinesReport (length before) graph (length shards) forest report
+  reported =
       let went = solved.went in
       let closed = went.closed in
       let opened = opened_all in
       record {
-        vertices = went.counts.vertices ∙ vertices;
-        links = went.counts.links ∙ ap (λ (ls : List Link). length ls) (whole ∙ sym same);
+        vertices = went.counts.vertices;
+        links = went.counts.links ∙ ap (λ (ls : List Link). length ls) is.whole;
         shards_are = went.counts.shards;
-        in_time = subst (λ (m : ℕ). 2 ^ report.rounds ≤ max 1 m) vertices went.in_time;
+        in_time = went.in_time;
         asked = went.counts.asked;
         answered = went.counts.answered;
         few_closed = omega (arith, closed, opened);
@@ -88,38 +81,41 @@ module _ {L A : Type 0} (over : Line.Ghosts L) (n : ℕ) (cut : List (List Link)
         total = went.counts.total;
       }
 
-  pub least : AreServed over before → IsForestOf links forest
-  least served = subst (λ (ls : List Link). IsForestOf ls forest) whole (solved.went.honest_forest (served_honest over before cut solved.lanes solved.new served))
-
--- what a run says of a graph that it found a forest of
-module _ {L A : Type 0} (over : Line.Ghosts L) (cutting : Cutting) (graph : GraphValue) (shards : List (List Link)) (is : IsCutOf cutting graph.links shards) (before after : List L) (forest : List Link) (report : Report)
-    (solved : FindsOverLines A over graph.vertices shards before after forest report) where
-  honest_report : AreServed over before → IsHonestReport graph report
-  honest_report served = record {
-    rounds_are =
-        subst (λ (ls : List Link). IsMergingRounds graph.vertices ls report.rounds) is.whole (solved.went.honest_rounds (served_honest over before shards solved.lanes solved.new served));
-    in_time = solved.went.in_time;
-    lightest =
-        subst (λ (ls : List Link). IsLightest ls report.total) is.whole (solved.went.honest_total (served_honest over before shards solved.lanes solved.new served));
-  }
-
-  pub served_report : AreServed over before → IsServedReport cutting graph forest report
-  served_report served = record { allowed = is.allowed; honest = honest_report served; total = solved.went.counts.total }
+  least : AreServed over before → IsLeast graph forest × IsHonestReport graph report
+  least served =
+      let honest = served_honest over before shards solved.lanes solved.new served in (
+        subst (λ (ls : List Link). IsForestOf ls forest) is.whole (solved.went.honest_forest honest),
+        record {
+          rounds_are = subst (λ (ls : List Link). IsMergingRounds graph.vertices ls report.rounds) is.whole (solved.went.honest_rounds honest);
+          in_time = solved.went.in_time;
+          lightest = subst (λ (ls : List Link). IsLightest ls report.total) is.whole (solved.went.honest_total honest);
+        },
+      )
 
   pub lines_went : RunsOverLines A over cutting before after graph forest report
   lines_went = record {
     cut = shards;
     cut_is = is;
-    report_is = reported over graph.vertices shards graph.links is.whole before after forest report solved graph refl refl;
+    report_is = reported;
     solved = solved;
-    least = λ served. (least over graph.vertices shards graph.links is.whole before after forest report solved served, honest_report served);
-    transcripts = λ scanned closed fresh. have_transcripts over graph.vertices shards before after forest report solved scanned (open_still scanned closed) fresh;
+    least = least;
+    transcripts = λ scanned closed fresh.
+        have_transcripts over graph.vertices shards before after forest report solved scanned (let all = opened_all in omega (arith, solved.went.closed, closed, all)) fresh;
   }
-    where
-      open_still : report.alone ≡ 0 → report.closed ≡ 0 → open_count port_of solved.ended ≡ length before
-      open_still scanned closed =
-          let all = opened_all over graph.vertices shards graph.links is.whole before after forest report solved in
-          omega (arith, solved.went.closed, closed, all)
+
+-- what follows for the forest and the report
+module _ {L A : Type 0} (over : Line.Ghosts L) (cutting : Cutting) (before after : List L) (graph : GraphValue) (forest : List Link) (report : Report) (went : RunsOverLines A over cutting before after graph forest report) where
+  pub spanning : IsSpanning graph forest
+  spanning =
+      let found = went.solved.went in
+      let f = found.finished in
+      (f.ascending, subst (λ (ls : List Link). IsSpanningForestOf ls forest) went.cut_is.whole (record { from_list = λ l l_in. All-contains (Contains (joined went.cut)) forest l found.from_list l_in; no_cycle = f.no_cycle; spans = f.spans }))
+
+  pub few_links : length forest ≤ length graph.links
+  few_links = no_longer forest graph.links spanning.0 (subst (λ (ls : List Link). All (Contains ls) forest) went.cut_is.whole went.solved.went.from_list)
+
+  pub served_report : AreServed over before → IsServedReport cutting graph forest report
+  served_report served = record { allowed = went.cut_is.allowed; honest = (went.least served).1; total = went.report_is.total }
 
 -- ---- why there is no forest
 

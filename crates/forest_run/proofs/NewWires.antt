@@ -1,9 +1,9 @@
 -- New wires over lines, and the lines out of them again.
-use Rattle.std.proofs.Common.{◌≡◌, ℕ, suc, ◌+◌, ◌<◌, ◌^◌, ◌⊎◌, inl, inr, List, [], ◌∷◌, ◌++◌, length, get_or, take, drop, refl, sym, ap, subst, ◌∙◌, arith, append_assoc}
-use Rattle.std.specs.Prelude.{All, reverse}
+use Rattle.std.proofs.Common.{◌≡◌, ℕ, suc, ◌+◌, ◌<◌, ◌^◌, ◌⊎◌, inl, inr, List, [], ◌∷◌, ◌++◌, length, get_or, take, drop, sym, ap, subst, ◌∙◌, arith, append_assoc}
+use Rattle.std.specs.Prelude.{All, Some, reverse}
 use Rattle.std.proofs.lemmas.Bool.{cases_lt}
 use Rattle.std.proofs.lemmas.List.{length-append, length-map, length-reverse, map-append, reverse-append, reverse-reverse, get_or_append_left, get_or-append-add, get_or_push, take_at}
-use Rattle.std.proofs.lemmas.List.Elements.{All-push, All-nil}
+use Rattle.std.proofs.lemmas.List.Elements.{All-push, All-pop, All-nil}
 use Rattle.links.specs.declared.links.Link.{Link}
 use Rattle.links.specs.AnswerValue.{AnswerValue}
 use Rattle.wires.specs.declared.line.Line as Line
@@ -19,14 +19,7 @@ use Rattle.plain_run.specs.declared.report.Report.{Report}
 use Rattle.round_core.specs.BookValue.{BookValue}
 use Rattle.round_core.specs.declared.solver.SolveFault.{SolveFault}
 use Rattle.round_core.specs.declared.solver.SolveFault.TheVariants.{Memory}
-use Rattle.port_rounds.proofs.Solving.{all_front}
-
--- the last of a list is the first of its reverse
-pub reverse_last : {X : Type 0} (xs ys : List X) (x : X) → ys ≡ xs ++ x ∷ [] → reverse ys ≡ x ∷ reverse xs
-reverse_last xs ys x e = ap (λ zs. reverse zs) e ∙ reverse-append xs (x ∷ [])
-
-all_last : {X : Type 0} (P : X → Type 0) (xs : List X) (x : X) → All P (xs ++ x ∷ []) → P x
-all_last P xs x all = subst P (get_or_push xs x x (length xs) refl) (all (length xs) x (omega (arith, length-append xs (x ∷ []))))
+use Rattle.port_rounds.proofs.Takes.{popped}
 
 module _ {L : Type 0} (state : L → LineState) (cut : List (List Link)) (all : List L) where
   -- lanes over the first lines; the others are left, the last one first
@@ -53,7 +46,7 @@ module _ {L : Type 0} (state : L → LineState) (cut : List (List Link)) (all : 
   pub lane_more : (lanes : List (LaneState (WireState L))) (left rest : List L) (line : L) (lane : LaneState (WireState L)) → left ≡ rest ++ line ∷ []
       → IsNewWire line cut (length lanes) lane.port → IsIdle lane → SomeLanes lanes left → SomeLanes (lanes ++ lane ∷ []) rest
   lane_more lanes left rest line lane e new idle some =
-      let split : all ≡ lines_of lanes ++ line ∷ reverse rest = some.split ∙ ap (λ zs. lines_of lanes ++ zs) (reverse_last rest left line e) in
+      let split : all ≡ lines_of lanes ++ line ∷ reverse rest = some.split ∙ ap (λ zs. lines_of lanes ++ zs) (popped rest left line e) in
       let number : length (lines_of lanes) ≡ length lanes = length-map lanes (λ lane. lane.port.client.line) in
       record {
         split = split ∙ (sym (append_assoc (lines_of lanes) (line ∷ []) (reverse rest))
@@ -69,12 +62,12 @@ module _ {L : Type 0} (state : L → LineState) (cut : List (List Link)) (all : 
               (subst (λ (x : LaneState (WireState L)). IsNewWire line cut worker x.port) (sym there) (subst (λ k. IsNewWire line cut k lane.port) at new))
         ];
         idle = All-push IsIdle lanes lane some.idle idle;
-        room = all_front (λ l. HasRoom (state l)) rest (line ∷ []) (subst (λ xs. All (λ l. HasRoom (state l)) xs) e some.room);
+        room = (All-pop (λ l. HasRoom (state l)) left rest (Some line) e some.room).0;
       }
 
   -- the room of the line that comes next, and how many lanes there are before it
   pub next_room : (lanes : List (LaneState (WireState L))) (left rest : List L) (line : L) → left ≡ rest ++ line ∷ [] → SomeLanes lanes left → HasRoom (state line)
-  next_room lanes left rest line e some = all_last (λ l. HasRoom (state l)) rest line (subst (λ xs. All (λ l. HasRoom (state l)) xs) e some.room)
+  next_room lanes left rest line e some = (All-pop (λ l. HasRoom (state l)) left rest (Some line) e some.room).1
 
   pub lanes_number : (lanes : List (LaneState (WireState L))) (left : List L) → SomeLanes lanes left → length lanes + length left ≡ length all
   lanes_number lanes left some =
@@ -86,7 +79,7 @@ module _ {L : Type 0} where
   pub line_out : (all : List L) (lines : List L) (left rest : List (LaneState (WireState L))) (lane : LaneState (WireState L)) → left ≡ rest ++ lane ∷ []
       → all ≡ lines ++ lines_of (reverse left) → all ≡ (lines ++ lane.port.client.line ∷ []) ++ lines_of (reverse rest)
   line_out all lines left rest lane e split =
-      split ∙ (ap (λ zs. lines ++ lines_of zs) (reverse_last rest left lane e) ∙ sym (append_assoc lines (lane.port.client.line ∷ []) (lines_of (reverse rest))))
+      split ∙ (ap (λ zs. lines ++ lines_of zs) (popped rest left lane e) ∙ sym (append_assoc lines (lane.port.client.line ∷ []) (lines_of (reverse rest))))
 
 -- ---- what new wires over new lines are
 

@@ -21,6 +21,8 @@ use Rattle.forest_run.specs.WiredLines.{AreFresh, FindsOverLines, Transcript, Ha
 use Rattle.round_theory.specs.Offers.{Names}
 use Rattle.round_core.specs.BookValue.{hearing_of}
 use Rattle.port_rounds.specs.Asks.{answered}
+use Rattle.port_rounds.proofs.Lasting.{one_at_most}
+use Rattle.port_rounds.proofs.Running.{lane_at}
 use Rattle.forest_run.proofs.NewWires.{new_sound}
 
 -- ---- lists
@@ -50,15 +52,6 @@ exchange_with [] t h = absurd (omega (arith, h.1))
 exchange_with (e ∷ exchanges) t (zero, b, is) = (e, (0, omega arith, refl), is)
 exchange_with (e ∷ exchanges) t (suc k, b, is) = (let r = exchange_with exchanges t (k, omega arith, is) in (r.0, (suc r.1.0, (let q = r.1.1 in omega arith), r.1.2), r.2))
 
--- an element of the list, where it has one
-at_place : {X : Type 0} (xs : List X) (i : ℕ) → i < length xs → X
-at_place [] i b = absurd (omega arith)
-at_place (x ∷ xs) i b = x
-
-one_most : (b : Bool) → count_if b ≤ 1
-one_most true = omega arith
-one_most false = omega arith
-
 is_one : (b : Bool) → count_if b ≡ 1 → b ≡ true
 is_one true one = refl
 is_one false none = absurd (omega (arith, none))
@@ -67,13 +60,13 @@ is_one false none = absurd (omega (arith, none))
 each_open : {P : Type 0} (is : P → Bool) (xs : List P) → length xs ≤ sum_by (λ x. count_if (is x)) xs → (i : ℕ) (d : P) → i < length xs → is (get_or xs i d) ≡ true
 each_open {P = P} is [] many i d b = absurd (omega arith)
 each_open {P = P} is (x ∷ xs) many zero d b =
-    is_one (is x) (omega (arith, many, sum_by-cons (λ x. count_if (is x)) x xs, one_most (is x), few is xs))
+    is_one (is x) (omega (arith, many, sum_by-cons (λ x. count_if (is x)) x xs, one_at_most (is x), few is xs))
   where
     few : (is : P → Bool) (xs : List P) → sum_by (λ x. count_if (is x)) xs ≤ length xs
     few is [] = omega arith
-    few is (x ∷ xs) = omega (arith, sum_by-cons (λ x. count_if (is x)) x xs, one_most (is x), few is xs)
+    few is (x ∷ xs) = omega (arith, sum_by-cons (λ x. count_if (is x)) x xs, one_at_most (is x), few is xs)
 each_open {P = P} is (x ∷ xs) many (suc i) d b =
-    each_open is xs (omega (arith, many, sum_by-cons (λ x. count_if (is x)) x xs, one_most (is x))) i d (omega arith)
+    each_open is xs (omega (arith, many, sum_by-cons (λ x. count_if (is x)) x xs, one_at_most (is x))) i d (omega arith)
 
 -- ---- the transcripts of a run
 
@@ -92,7 +85,7 @@ module _ {L A : Type 0} (over : Line.Ghosts L) (n : ℕ) (cut : List (List Link)
     transcript_at : (i : ℕ) → i < length before → (said : Transcript) × IsTranscriptAt i said
     transcript_at i within =
         let rounds = solved.went.went.rounds in
-        let d : LaneState (WireState L) = at_place solved.ended i (omega (arith, number)) in
+        let d : LaneState (WireState L) = lane_at solved.ended i (omega (arith, number)) in
         let line : L = d.port.client.line in
         let first = get_or solved.lanes i d in
         let last = get_or solved.ended i d in

@@ -2,12 +2,12 @@ use Rattle.std.proofs.Common.{◌∙◌, Vec, Ok, ap, length}
 use Rattle.links.specs.Link.{EndsUpTo}
 use Rattle.links.specs.Cut.{joined}
 use Rattle.forest_run.specs.Cuttings.{IsCutOf}
-use Rattle.forest_run.specs.WiredLines.{FindsOverLines}
+use Rattle.forest_run.specs.LinesRun.{RunsOverLines}
 use Rattle.plain_run.specs.Outcomes.{IsSpanning, IsLeast}
 use Rattle.plain_run.proofs.KnownFiles.{reads_the_file, first_of_file, no_fault_of_file, something_of_file}
 use Rattle.plain_run.proofs.Lengths.{same_length}
 use Rattle.plain_run.proofs.PlainRunning.{done}
-use Rattle.forest_run.proofs.LinesRunning.{had_setback, shards_ends, few_enough, spanning, few_links, least, lines_went, served_report, cut_unsolved, cut_served, solve_unsolved, solve_served, cut_unhindered, lines_broken_off, served_broken_off}
+use Rattle.forest_run.proofs.LinesRunning.{had_setback, shards_ends, few_enough, spanning, few_links, lines_went, served_report, cut_unsolved, cut_served, solve_unsolved, solve_served, cut_unhindered, lines_broken_off, served_broken_off}
 use Rattle.forest_run.proofs.lines.run_lines.Goals as goal
 
 -- ---- the file isn't read
@@ -71,22 +71,18 @@ returns-in-Err-solve_lines-clause-malformed g c = λ bytes file nothing. absurd 
 pub returns-in-Ok-write_forest-clause-ran : goal.returns-in-Ok-write_forest-clause-ran
 returns-in-Ok-write_forest-clause-ran g c =
     let solved = c.in-Ok-solve_lines.solved in
-    let cut : IsCutOf c.args.cutting c.in-Ok.graph.links c.in-Ok-cut_links.cut = rw c.links.ensures.links at c.in-Ok-cut_links.ensures.cut in
-    let went : FindsOverLines g.row.A.Denot g.L.Line c.in-Ok.graph.vertices c.in-Ok-cut_links.cut c.args.lines.items solved.2.items solved.0 solved.1 = rw c.n.ensures.vertices at c.in-Ok-solve_lines.ensures.went in
-    done IsSpanning _ c.in-Ok.graph solved.0 c.n-2.result _ _ _ _ c.in-Ok.ensures.outcome
-    (spanning g.L.Line c.in-Ok.graph.vertices c.in-Ok-cut_links.cut c.in-Ok.graph.links cut.whole c.args.lines.items solved.2.items solved.0 solved.1 went) c.n-2.ensures.vertices
-    (c.in-Ok-write_forest.ensures.whole)
-    (lines_went g.L.Line c.args.cutting c.in-Ok.graph c.in-Ok-cut_links.cut cut c.args.lines.items solved.2.items solved.0 solved.1 went)
+    let went : RunsOverLines g.row.A.Denot g.L.Line c.args.cutting c.args.lines.items solved.2.items c.in-Ok.graph solved.0 solved.1 =
+    lines_went g.L.Line c.args.cutting c.in-Ok.graph c.in-Ok-cut_links.cut (rw c.links.ensures.links at c.in-Ok-cut_links.ensures.cut) c.args.lines.items solved.2.items solved.0 solved.1
+    (rw c.n.ensures.vertices at c.in-Ok-solve_lines.ensures.went) in
+    done IsSpanning _ c.in-Ok.graph solved.0 c.n-2.result _ _ _ _ c.in-Ok.ensures.outcome (spanning _ _ _ _ _ _ _ went) c.n-2.ensures.vertices c.in-Ok-write_forest.ensures.whole went
 
 pub returns-in-Ok-write_forest-clause-served : goal.returns-in-Ok-write_forest-clause-served
 returns-in-Ok-write_forest-clause-served g c = λ served.
     let solved = c.in-Ok-solve_lines.solved in
-    let cut : IsCutOf c.args.cutting c.in-Ok.graph.links c.in-Ok-cut_links.cut = rw c.links.ensures.links at c.in-Ok-cut_links.ensures.cut in
-    let went : FindsOverLines g.row.A.Denot g.L.Line c.in-Ok.graph.vertices c.in-Ok-cut_links.cut c.args.lines.items solved.2.items solved.0 solved.1 = rw c.n.ensures.vertices at c.in-Ok-solve_lines.ensures.went in
-    done IsLeast _ c.in-Ok.graph solved.0 c.n-2.result _ _ _ _ c.in-Ok.ensures.outcome
-    (least g.L.Line c.in-Ok.graph.vertices c.in-Ok-cut_links.cut c.in-Ok.graph.links cut.whole c.args.lines.items solved.2.items solved.0 solved.1 went served) c.n-2.ensures.vertices
-    (c.in-Ok-write_forest.ensures.whole)
-    (served_report g.L.Line c.args.cutting c.in-Ok.graph c.in-Ok-cut_links.cut cut c.args.lines.items solved.2.items solved.0 solved.1 went served)
+    let went : RunsOverLines g.row.A.Denot g.L.Line c.args.cutting c.args.lines.items solved.2.items c.in-Ok.graph solved.0 solved.1 =
+    lines_went g.L.Line c.args.cutting c.in-Ok.graph c.in-Ok-cut_links.cut (rw c.links.ensures.links at c.in-Ok-cut_links.ensures.cut) c.args.lines.items solved.2.items solved.0 solved.1
+    (rw c.n.ensures.vertices at c.in-Ok-solve_lines.ensures.went) in
+    done IsLeast _ c.in-Ok.graph solved.0 c.n-2.result _ _ _ _ c.in-Ok.ensures.outcome (went.least served).0 c.n-2.ensures.vertices c.in-Ok-write_forest.ensures.whole (served_report _ _ _ _ _ _ _ went served)
 
 pub returns-in-Ok-write_forest-clause-malformed : goal.returns-in-Ok-write_forest-clause-malformed
 returns-in-Ok-write_forest-clause-malformed g c = λ bytes file nothing. absurd (something_of_file _ _ _ c.in-Ok.ensures.outcome bytes file nothing)
@@ -96,24 +92,21 @@ returns-in-Ok-write_forest-clause-malformed g c = λ bytes file nothing. absurd 
 pub returns-clause-ran : goal.returns-clause-ran
 returns-clause-ran g c =
     let solved = c.in-Ok-solve_lines.solved in
-    let cut : IsCutOf c.args.cutting c.in-Ok.graph.links c.in-Ok-cut_links.cut = rw c.links.ensures.links at c.in-Ok-cut_links.ensures.cut in
-    let went : FindsOverLines g.row.A.Denot g.L.Line c.in-Ok.graph.vertices c.in-Ok-cut_links.cut c.args.lines.items solved.2.items solved.0 solved.1 = rw c.n.ensures.vertices at c.in-Ok-solve_lines.ensures.went in
-    let few = few_links g.L.Line c.in-Ok.graph.vertices c.in-Ok-cut_links.cut c.in-Ok.graph.links cut.whole c.args.lines.items solved.2.items solved.0 solved.1 went in
-    lines_broken_off g.L.Line c.args.cutting c.in-Ok.graph c.args.lines.items solved.0 solved.1 solved.2 _ c.n-2.result _ _ _ _ c.in-Ok.ensures.outcome
-    (spanning g.L.Line c.in-Ok.graph.vertices c.in-Ok-cut_links.cut c.in-Ok.graph.links cut.whole c.args.lines.items solved.2.items solved.0 solved.1 went) (few_enough (length solved.0) (length c.in-Ok.graph.links) few c.links.ensures.few)
-    c.n-2.ensures.vertices c.in-Err-write_forest.ensures.part
-    (lines_went g.L.Line c.args.cutting c.in-Ok.graph c.in-Ok-cut_links.cut cut c.args.lines.items solved.2.items solved.0 solved.1 went)
+    let went : RunsOverLines g.row.A.Denot g.L.Line c.args.cutting c.args.lines.items solved.2.items c.in-Ok.graph solved.0 solved.1 =
+    lines_went g.L.Line c.args.cutting c.in-Ok.graph c.in-Ok-cut_links.cut (rw c.links.ensures.links at c.in-Ok-cut_links.ensures.cut) c.args.lines.items solved.2.items solved.0 solved.1
+    (rw c.n.ensures.vertices at c.in-Ok-solve_lines.ensures.went) in
+    let found = spanning _ _ _ _ _ _ _ went in
+    lines_broken_off g.L.Line c.args.cutting c.in-Ok.graph c.args.lines.items solved.0 solved.1 solved.2 _ c.n-2.result _ _ _ _ c.in-Ok.ensures.outcome found (few_enough _ _ (few_links _ _ _ _ _ _ _ went) c.links.ensures.few)
+    c.n-2.ensures.vertices c.in-Err-write_forest.ensures.part went
 
 pub returns-clause-served : goal.returns-clause-served
 returns-clause-served g c = λ served.
     let solved = c.in-Ok-solve_lines.solved in
-    let cut : IsCutOf c.args.cutting c.in-Ok.graph.links c.in-Ok-cut_links.cut = rw c.links.ensures.links at c.in-Ok-cut_links.ensures.cut in
-    let went : FindsOverLines g.row.A.Denot g.L.Line c.in-Ok.graph.vertices c.in-Ok-cut_links.cut c.args.lines.items solved.2.items solved.0 solved.1 = rw c.n.ensures.vertices at c.in-Ok-solve_lines.ensures.went in
-    let few = few_links g.L.Line c.in-Ok.graph.vertices c.in-Ok-cut_links.cut c.in-Ok.graph.links cut.whole c.args.lines.items solved.2.items solved.0 solved.1 went in
-    served_broken_off c.args.cutting c.in-Ok.graph solved.0 solved.1 solved.2 _ c.n-2.result _ _ _ _ c.in-Ok.ensures.outcome
-    (least g.L.Line c.in-Ok.graph.vertices c.in-Ok-cut_links.cut c.in-Ok.graph.links cut.whole c.args.lines.items solved.2.items solved.0 solved.1 went served) (few_enough (length solved.0) (length c.in-Ok.graph.links) few c.links.ensures.few)
-    c.n-2.ensures.vertices c.in-Err-write_forest.ensures.part
-    (served_report g.L.Line c.args.cutting c.in-Ok.graph c.in-Ok-cut_links.cut cut c.args.lines.items solved.2.items solved.0 solved.1 went served)
+    let went : RunsOverLines g.row.A.Denot g.L.Line c.args.cutting c.args.lines.items solved.2.items c.in-Ok.graph solved.0 solved.1 =
+    lines_went g.L.Line c.args.cutting c.in-Ok.graph c.in-Ok-cut_links.cut (rw c.links.ensures.links at c.in-Ok-cut_links.ensures.cut) c.args.lines.items solved.2.items solved.0 solved.1
+    (rw c.n.ensures.vertices at c.in-Ok-solve_lines.ensures.went) in
+    served_broken_off c.args.cutting c.in-Ok.graph solved.0 solved.1 solved.2 _ c.n-2.result _ _ _ _ c.in-Ok.ensures.outcome (went.least served).0 (few_enough _ _ (few_links _ _ _ _ _ _ _ went) c.links.ensures.few)
+    c.n-2.ensures.vertices c.in-Err-write_forest.ensures.part (served_report _ _ _ _ _ _ _ went served)
 
 pub returns-clause-malformed : goal.returns-clause-malformed
 returns-clause-malformed g c = λ bytes file nothing. absurd (something_of_file _ _ _ c.in-Ok.ensures.outcome bytes file nothing)
