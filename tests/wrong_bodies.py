@@ -1,38 +1,27 @@
 #!/usr/bin/env python3
 """Tries wrong bodies many at a time: each has to be refused by the prover.
 
-usage: tests/wrong_bodies.py [--jobs N] [--must-fail] [--self-test] [--since COMMIT] [CRATE..]
+Each `crates/NAME/wrong-bodies/*.edit` turns the body of a function. As many edits as touch functions of different names
+go into one copy of the crate, and one `rt check` of that copy has to tell each of these functions as not proved: a body
+changes no contract, so each function is judged by itself. An edit that stands in another's way, or that changes more than
+bodies, has a copy of its own. A function counts as refused only for a reason of its own: a clause, a condition or a bound
+that isn't proved where it stands or in its proof files. One that isn't refused so is tried alone before it counts as
+survived, since the prover may wait for another edit's function; if its proof files only name what the edit took away, it
+is told as suspicious.
 
-Each `crates/NAME/wrong-bodies/*.edit` turns the body of a function. As many edits as touch different functions go
-into one copy of the crate, and one `rt check` of that copy has to tell each of these functions as not proved: a
-body changes no contract, so each function is judged by itself. An edit that stands in another's way, or that
-changes more than bodies, waits for a copy of its own. A function that is told as not proved counts only for a
-reason of its own: a clause, a condition or a bound that isn't proved where it stands or in its proof files. Where
-its proof files only name what the edit took away, the edit is tried alone, and if that is all that is said it is
-told as suspicious. One that is told as proved, or not told at all, since the prover waits for another edit's function,
-is tried alone too before it counts as survived.
-
-  --jobs N      so many crates side by side (if not set: one for each two processors, and for each 4 GB of memory that
-                is free); where several go, the lines of a crate are printed once it is done
-  --must-fail   the edits of must-fail/ too, in the same way (`rt must-fail` tries them one at a time)
-  --self-test   puts one body that is right among the wrong ones of each crate, which has to be told as survived
-  --since COMMIT
-                only crates with a file that differs from that commit, as git tells it
-  CRATE..       only these crates
-
-An edit has the form that `rt must-fail` takes, with a first line `why:` that says which clause refuses it and why
-that matters:
+An edit has the form that `rt must-fail` takes, after a first line `why:` that says which clause refuses it and why that
+matters:
 
     why: `FUNCTION`: `clause` refuses it: the reason
     file: src/FILE.rt
     old: a text that stands once in that file
     new: what stands there in its place
 
-Each crate is checked as it stands first. Its own `out/` and those of the crates below it are copied then, so that
-only what an edit touches is proved again. RT is the command that checks (`rt`, if not set). The last line, over all
-crates, is `N wrong bodies refused, M survived`, and the status is 0 only where none survived and each edit could be
-tried.
+Each crate is checked as it stands first. Its own `out/` and those of the crates below it are copied then, so that only
+what an edit touches is proved again. RT is the command that checks (`rt`, if not set). The last line, over all crates, is
+`N wrong bodies refused, M survived`, and the status is 0 only if none survived and each edit could be tried.
 """
+import argparse
 import os
 import re
 import resource
@@ -44,8 +33,9 @@ import sys
 import tempfile
 import threading
 import time
+from collections import Counter
 from concurrent.futures import ThreadPoolExecutor
-from dataclasses import dataclass, field
+from dataclasses import dataclass
 
 ROOT = os.path.dirname(os.path.dirname(os.path.realpath(__file__)))
 sys.dont_write_bytecode = True
@@ -54,157 +44,46 @@ sys.path.insert(0, f"{ROOT}/tools")
 from crates import below, crate_lines
 
 RT = shlex.split(os.environ.get("RT", "rt"))
-NAME_OF_EDIT = re.compile(r"[A-Za-z0-9_-][A-Za-z0-9_.-]*\.edit")
+FUNCTION = re.compile(r'(?m)^( *)(?:pub(?:\([^)]*\))? )?(?:const )?(?:unsafe )?(?:ghost )?(?:extern "C" )?fn (\w+)')
 # What a proof file says where it names something that the edit took away.
 NAMES_ALONE = re.compile(r"has no field|is not in scope|has no `|was not admitted")
 EACH = 4_000_000_000  # bytes of free memory for each crate that is tried
-HOW = {"stdin": subprocess.DEVNULL, "stdout": subprocess.PIPE, "stderr": subprocess.STDOUT, "errors": "replace"}
-CUT_OFF = threading.Event()
-
-
-@dataclass
-class Change:
-    file: str
-    old: str
-    new: str
+RUNNING, STOPPED = set(), threading.Event()
 
 
 @dataclass
 class Edit:
-    crate: str
     name: str
     why: str
-    changes: list
-    touched: set = field(default_factory=set)  # the functions, by `Function.key`; empty: more than bodies
+    changes: list  # of a file, an old text and a new one
+    touched: set  # the names of its functions; empty: more than bodies
 
 
-@dataclass
-class Function:
-    file: str
-    owner: str  # "" of a function that stands alone, else `Type` or `TypeTrait`
-    name: str
-    begin: int
-    body: int
-    end: int
-    cycle: str = ""  # by which name `#[cycle(..)]` has the proofs of it and of those that call one another with it
+def functions_of(text):
+    """Each function of a file, as `rt fmt` lays it out: its names, where it begins, and where its body begins and ends.
 
-    @property
-    def key(self):
-        """Those of one cycle are one: their proofs are told together."""
-        return ("", "", self.cycle) if self.cycle else (self.file, self.owner, self.name)
-
-    def is_told_as(self, path):
-        """Whether `rt check` names it by this path without the crate's name: a method stands where its type does."""
-        inside = self.file[len("src/") : -len(".rt")].split("/")
-        if inside[-1] in ("lib", "main", "mod"):
-            inside.pop()
-        names = [it for it in (self.name, self.cycle) if it]
-        if self.owner:
-            return path[-2:] in [[self.owner, it] for it in names]
-        return path in [[*inside, it] for it in names]
+    By the name in `#[cycle(..)]` its proofs and those of the functions that it calls in a circle are told together."""
+    for it in FUNCTION.finditer(text):
+        cycle = re.search(r"#\[cycle\((\w+)\)\]\s*\Z", text[: it.start()])
+        body = re.compile(rf"(?m)^{it[1]}(?! ).*\{{$").search(text, it.start())
+        end = re.compile(rf"(?m)^{it[1]}\}}").search(text, body.end() if body else len(text))
+        if end:
+            yield {it[2], *(cycle.groups() if cycle else ())}, it.start(), body.end(), end.end()
 
 
-def blanked(text):
-    """The text with each comment, string and character as blanks, so that its braces can be counted."""
-    pattern = r'//[^\n]*|/\*.*?\*/|b?"(?:\\.|[^"\\])*"|b?\'(?:\\[^\n]{1,8}?|[^\'\\\n])\''
-    return re.sub(pattern, lambda it: re.sub(r"[^\n]", " ", it[0]), text, flags=re.S)
+def function_at(text, at):
+    """The innermost function at a place."""
+    return max((it for it in functions_of(text) if it[1] <= at < it[3]), key=lambda it: it[1], default=None)
 
 
-def type_name(text, parameters):
-    """A type as `rt check` spells it in the name of an impl: `Vec<u8, A>` is `VecU8`, `&[u8]` is `RefSliceU8`."""
-    words = []
-    for word in re.findall(r"[A-Za-z_]\w*(?:::[A-Za-z_]\w*)*|&|\[", re.sub(r"'\w+", "", text)):
-        word = {"&": "Ref", "[": "Slice"}.get(word, word.split("::")[-1])
-        if word not in parameters:
-            words.append(word[0].upper() + word[1:])
-    return "".join(words)
-
-
-def owner_of(header):
-    """The owner's name by the header of an impl or a trait."""
-    found = re.match(r"(?:unsafe\s+)?(impl|trait)\b\s*", header)
-    rest, parameters = header[found.end() :], set()
-    if rest.startswith("<"):
-        depth = 0
-        for at, letter in enumerate(rest):
-            depth += (letter == "<") - (letter == ">" and rest[at - 1] != "-")
-            if not depth:
-                break
-        parameters = set(re.findall(r"[<,]\s*(?:const\s+)?(\w+)", rest[: at + 1]))
-        rest = rest[at + 1 :]
-    rest = re.split(r"\bwhere\b", rest)[0].strip()
-    if found[1] == "trait":
-        return re.match(r"\w+", rest)[0]
-    trait, _, target = rest.partition(" for ")
-    if not target:
-        return type_name(rest, parameters)
-    return type_name(target, parameters) + type_name(trait, parameters)
-
-
-def functions_of(file, text):
-    """The functions of a file, those inside an impl or a trait with its name."""
-    plain, found, owners, depth, at = blanked(text), [], [], 0, 0
-    starts = re.compile(r"(?m)^[ \t]*((?:unsafe\s+)?(?:impl|trait)\b|(?:pub(?:\([^)]*\))?\s+)?(?:const\s+)?(?:unsafe\s+)?(?:ghost\s+)?(?:extern\s+)?fn\s+(\w+))|[{}]")
-    openers = []
-    while True:
-        it = starts.search(plain, at)
-        if not it:
-            return found
-        if it[0].strip() in "{}":
-            depth += 1 if it[0].strip() == "{" else -1
-            while openers and openers[-1] > depth:
-                openers.pop()
-                owners.pop()
-            at = it.end()
-        elif it[2]:
-            body, end = block(plain, it.end())
-            if body is not None:
-                cycle = re.search(r"#\[cycle\((\w+)\)\]\s*$", plain[: it.start(1)])
-                found.append(Function(file, owners[-1] if owners else "", it[2], it.start(1), body, end, cycle[1] if cycle else ""))
-            at = end
-        else:
-            brace = plain.index("{", it.end())
-            owners.append(owner_of(re.sub(r"\s+", " ", plain[it.start(1) : brace]).removeprefix("pub ")))
-            depth += 1
-            openers.append(depth)
-            at = brace + 1
-
-
-def block(plain, at):
-    """Where the body of a function begins and ends; clauses have braces of their own, and the body's is the last block."""
-    depth, within, begin = 0, 0, None
-    while at < len(plain):
-        letter = plain[at]
-        within += (letter in "([") - (letter in ")]")
-        if letter == "{":
-            begin = at if not depth else begin
-            depth += 1
-        elif letter == "}":
-            depth -= 1
-            if depth < 0:
-                return None, at
-            if not depth and not re.match(r"\s*(?:ensures|requires|decreases|ghost\s+\w+\s*:|\{|,|follows)", plain[at + 1 :]):
-                return begin, at + 1
-        elif letter == ";" and not depth and not within:
-            return None, at + 1
-        at += 1
-    return None, at
-
-
-def read_edit(crate, path):
-    why, file, old, changes = "", "", None, []
-    with open(path, encoding="utf-8") as lines:
-        for line in lines.read().split("\n"):
-            if line.startswith("why: "):
-                why = line[len("why: ") :].strip()
-            elif line.startswith("file: "):
-                file = line[len("file: ") :].strip()
-            elif line.startswith("old: "):
-                old = line[len("old: ") :]
-            elif line.startswith("new:"):
-                changes.append(Change(file, old, line[len("new:") :].removeprefix(" ")))
-                old = None
-    return Edit(crate, os.path.basename(path)[: -len(".edit")], why, changes)
+def read_edit(path):
+    said, changes = {}, []
+    with open(path, encoding="utf-8") as it:
+        for word, text in re.findall(r"(?m)^(why|file|old|new): ?(.*)$", it.read()):
+            if word == "new":
+                changes.append((said.get("file", "").strip(), said.pop("old", None), text))
+            said[word] = text
+    return Edit(os.path.basename(path)[: -len(".edit")], said.get("why", "").strip(), changes, set())
 
 
 def why_unfit(edit, texts):
@@ -213,106 +92,88 @@ def why_unfit(edit, texts):
         return "it has no pair of an old and a new text"
     if not edit.why:
         return "it has no line that says why"
-    for change in edit.changes:
-        if not change.file.startswith("src/") or change.file not in texts:
-            return f"there is no file {change.file} of code"
-        if change.old is None:
+    made, touched = dict(texts), set()
+    for file, old, new in edit.changes:
+        if not file.startswith("src/") or file not in texts:
+            return f"there is no file {file} of code"
+        if old is None:
             return "a new text has no old one before it"
-    if applied(edit, texts) is None:
-        return "an old text doesn't stand once in its file"
-    # each change is looked for where it is made: in what the earlier ones left, where its old text stands once
-    made = dict(texts)
-    for change in edit.changes:
-        text = made[change.file]
-        at = text.find(change.old)
-        made[change.file] = text.replace(change.old, change.new)
-        inside = [it for it in functions_of(change.file, text) if it.begin <= at < it.end]
-        it = max(inside, key=lambda it: it.begin, default=None)
-        # (what stands before the body's brace and from its last one on, clauses among it, has to be as it was)
-        if not it or not made[change.file].startswith(text[: it.body + 1]) or not made[change.file].endswith(text[it.end - 1 :]):
-            edit.touched = set()
-            return None
-        edit.touched.add(it.key)
+        # each change is looked for where it is made: in what the earlier ones left
+        text = made[file]
+        if text.count(old) != 1:
+            return "an old text doesn't stand once in its file"
+        made[file] = text.replace(old, new)
+        it = function_at(text, text.index(old))
+        # (what stands before the body and from its last brace on, clauses among it, has to be as it was)
+        is_body = it and made[file].startswith(text[: it[2]]) and made[file].endswith(text[it[3] - 1 :])
+        touched |= it[0] if is_body else {None}
+    edit.touched = set() if None in touched else touched
     return None
 
 
-def applied(edit, texts):
-    """The texts after the edit, or None where an old text doesn't stand once."""
+def applied(edits, texts):
+    """The texts after these edits, or None if an old text doesn't stand once."""
     made = dict(texts)
-    for change in edit.changes:
-        if made[change.file].count(change.old) != 1:
+    for file, old, new in (change for edit in edits for change in edit.changes):
+        if made[file].count(old) != 1:
             return None
-        made[change.file] = made[change.file].replace(change.old, change.new)
+        made[file] = made[file].replace(old, new)
     return made
 
 
 def packed(edits, texts):
-    """The copies: lists of edits that touch different functions, each with the texts that they make together."""
+    """The copies: lists of edits that touch functions of different names."""
     copies = []
     for edit in edits:
         for copy in copies:
-            if not edit.touched or copy["whole"] or edit.touched & copy["touched"]:
-                continue
-            made = applied(edit, copy["texts"])
-            if made is not None:
-                copy["edits"].append(edit)
-                copy["texts"] = made
-                copy["touched"] |= edit.touched
+            if edit.touched and all(it.touched and not it.touched & edit.touched for it in copy) and applied([*copy, edit], texts):
+                copy.append(edit)
                 break
         else:
-            copies.append({"edits": [edit], "texts": applied(edit, texts), "touched": set(edit.touched), "whole": not edit.touched})
+            copies.append([edit])
     return copies
-
-
-RUNNING = set()
 
 
 def ran(flags, folder):
     """The status of `rt check` and what it says."""
-    with subprocess.Popen([*RT, "check", *flags], cwd=folder, **HOW) as check:
+    if STOPPED.is_set():
+        sys.exit(143)
+    how = {"stdin": subprocess.DEVNULL, "stdout": subprocess.PIPE, "stderr": subprocess.STDOUT, "errors": "replace"}
+    with subprocess.Popen([*RT, "check", *flags], cwd=folder, **how) as check:
         RUNNING.add(check)
-        try:
-            said = check.communicate()[0]
-        finally:
-            RUNNING.discard(check)
+        said = check.communicate()[0]
+        RUNNING.discard(check)
     return check.returncode, said
 
 
 def cut_off(*_):
     """Ends the checks, so that none goes on without this program."""
-    CUT_OFF.set()
+    STOPPED.set()
     for it in list(RUNNING):
         it.terminate()
-    sys.exit(143)
 
 
 class Room:
     """A copy of a crate, with what stands below it, in a folder of its own."""
 
     def __init__(self, crate, lines, folder, flags):
-        self.crate, self.folder, self.flags = crate, f"{folder}/crates/{crate}", flags
+        self.source, self.folder, self.flags = f"{ROOT}/crates/{crate}", f"{folder}/crates/{crate}", flags
         names = below(crate, lines)
-        os.makedirs(f"{folder}/crates")
+        for name in [*names, crate]:
+            skipped = ["incremental", "must-fail", "wrong-bodies", *(["out"] if name == crate else [])]
+            shutil.copytree(f"{ROOT}/crates/{name}", f"{folder}/crates/{name}", ignore=shutil.ignore_patterns(*skipped))
         with open(f"{folder}/crates.txt", "w", encoding="utf-8") as it:
             it.write("".join(lines[name] for name in [*names, crate]))
         if os.path.exists(f"{ROOT}/HANDLES"):
             shutil.copy(f"{ROOT}/HANDLES", folder)
-        for name in names:
-            skip = shutil.ignore_patterns("incremental", "must-fail", "wrong-bodies")
-            shutil.copytree(f"{ROOT}/crates/{name}", f"{folder}/crates/{name}", ignore=skip)
-        self.source = f"{ROOT}/crates/{crate}"
-        for part in ("src", "specs", "proofs"):
-            if os.path.isdir(f"{self.source}/{part}"):
-                shutil.copytree(f"{self.source}/{part}", f"{self.folder}/{part}")
         self.texts = {}
         for at, _, files in os.walk(f"{self.folder}/src"):
             for name in files:
-                path = f"{at}/{name}"
-                with open(path, encoding="utf-8") as it:
-                    self.texts[os.path.relpath(path, self.folder)] = it.read()
+                with open(f"{at}/{name}", encoding="utf-8") as it:
+                    self.texts[os.path.relpath(f"{at}/{name}", self.folder)] = it.read()
 
     def check(self, texts):
-        """What `rt check` says of the crate with these texts, over the work that the crate's own checks kept."""
+        """What `rt check` says of the crate with these texts, over the work that the crate's own checks kept, and its verdict."""
         shutil.rmtree(f"{self.folder}/out", ignore_errors=True)
         if os.path.isdir(f"{self.source}/out/incremental"):
             shutil.copytree(f"{self.source}/out/incremental", f"{self.folder}/out/incremental")
@@ -321,168 +182,86 @@ class Room:
                 it.write(text)
         status, said = ran(self.flags, self.folder)
         last = next((it for it in reversed(said.split("\n")) if it.startswith("logic=")), "")
-        # a verdict, where its status is that of such a line
+        # (a verdict only if its status is that of such a line)
         return said, last if last.startswith({0: "logic=proved", 1: "logic=not-proved"}.get(status, "\n")) else ""
 
 
 def verdict(edit, texts, said):
     """'refused', 'named' (only names are missing) or 'survived', and the reason that was told."""
-    spans, touched = [], []
-    for file in {it.file for it in edit.changes}:
-        for it in functions_of(file, texts[file]):
-            if it.key in edit.touched:
-                begin, end = (texts[file].count("\n", 0, at) + 1 for at in (it.begin, it.end))
-                spans.append((file, begin, end))
-                touched.append(it)
-    names = None
+    names = ""
     for line in said.split("\n"):
         told = re.match(r"(?:note: |error: )?(?:\./)?((?:src|proofs)/\S+?):(\d+):\d+: (.*)", line)
+        of = re.match(r"fn \w+::(\S+): (?:no proof|not proved)(.*)", line)
         if told and told[1].startswith("src/"):
-            at = int(told[2])
-            is_here = not edit.touched or any(told[1] == file and begin <= at <= end for file, begin, end in spans)
-            if is_here and "it is not proved" in told[3]:
-                return "refused", line
+            text = texts.get(told[1], "")
+            function = function_at(text, len("\n".join(text.split("\n")[: int(told[2])])))
+            own, is_refused = function[0] if function else set(), "it is not proved" in told[3]
         elif told and told[3].startswith("error"):
-            # the folder of a function that calls itself begins with a plus sign
-            path = [it.removeprefix("+") for it in told[1].split("/")[1:-1]]
-            if not edit.touched or any(it.is_told_as(path) for it in touched):
-                if not NAMES_ALONE.search(told[3]):
-                    return "refused", line
-                names = names or line
+            # (the folder of a function that calls itself begins with a plus sign)
+            own, is_refused = {told[1].split("/")[-2].removeprefix("+")}, not NAMES_ALONE.search(told[3])
+        elif of:
+            own, is_refused = {of[1].split("::")[-1]}, "did not prove" in of[2]
         else:
-            of = re.match(r"fn \w+::(\S+): (?:no proof|not proved)(.*)", line)
-            is_own = of and (not edit.touched or any(it.is_told_as(of[1].split("::")) for it in touched))
-            if is_own and "did not prove" in of[2]:
+            continue
+        if not edit.touched or own & edit.touched:
+            if is_refused:
                 return "refused", line
+            names = names or (line if told and told[1].startswith("proofs/") else "")
     return ("named", names) if names else ("survived", "")
 
 
-# A body that is right: what it adds is read by nothing, so that no clause can refuse it.
-RIGHT = "{ let _right: u8 = 0; "
+def say(line):
+    print(line, flush=True)
 
 
-def planted(crate, edits, texts):
-    """An edit that is right, if there can be one in a function that the wrong ones leave alone."""
-    taken = set().union(*(it.touched for it in edits)) if edits else set()
-    found = []
-    for file in sorted(texts):
-        for it in functions_of(file, texts[file]):
-            whole = texts[file][it.begin : it.body + 1]
-            if "test" not in file and whole.startswith("pub fn") and texts[file].count(whole) == 1:
-                edit = Edit(crate, "planted_body_that_is_right", "nothing refuses it", [Change(file, whole, whole[:-1] + RIGHT)])
-                edit.touched = {it.key}
-                found.append(edit)
-    return next((it for it in found if not it.touched & taken), found[0] if found else None)
+def edits_of(crate, folders, texts, count):
+    """The edits of a crate that can be tried; it tells of the others, and counts them."""
+    for part in folders:
+        where = f"{ROOT}/crates/{crate}/{part}"
+        for name in sorted(os.listdir(where)) if os.path.isdir(where) else []:
+            edit = read_edit(f"{where}/{name}")
+            why = why_unfit(edit, texts) if name.endswith(".edit") else "its name doesn't end in .edit"
+            if why:
+                say(f"{crate}/{part}/{name}: BAD EDIT: {why}")
+                count["unfit"] += 1
+            else:
+                yield edit
 
 
-def is_proved(crate):
-    """Whether the crate itself is proved: what its check keeps in out/, and in those of the crates below, the copies begin with."""
-    return not ran([], f"{ROOT}/crates/{crate}")[0]
-
-
-def try_crate(crate, lines, folders, tests_itself, flags, say):
-    """The numbers of edits that were refused, that survived and that couldn't be tried."""
-    edits, unfit = [], 0
+def try_crate(crate, lines, folders, flags):
+    """How many edits were refused, survived, and couldn't be tried."""
+    count = Counter()
     with tempfile.TemporaryDirectory(prefix="wrong-bodies-") as folder:
         room = Room(crate, lines, folder, flags)
-        for part in folders:
-            where = f"{ROOT}/crates/{crate}/{part}"
-            for name in sorted(os.listdir(where)) if os.path.isdir(where) else []:
-                if not NAME_OF_EDIT.fullmatch(name):
-                    why = None if name.endswith(".md") else "its name doesn't end in .edit"
-                else:
-                    edit = read_edit(crate, f"{where}/{name}")
-                    why = why_unfit(edit, room.texts)
-                    edits += [] if why else [edit]
-                if why:
-                    say(f"{crate}/{part}/{name}: BAD EDIT: {why}")
-                    unfit += 1
-        if not edits:
-            return 0, 0, unfit
-        right = planted(crate, edits, room.texts) if tests_itself else None
-        queue = packed([right] * bool(right) + edits, room.texts)
-        refused, survived = 0, []
-        while queue and not CUT_OFF.is_set():
+        queue = packed(list(edits_of(crate, folders, room.texts, count)), room.texts)
+        while queue:
             copy = queue.pop(0)
-            said, last = room.check(copy["texts"])
-            # the next copy begins with the crate's own texts again
-            room_texts = dict(room.texts)
-            if not last and len(copy["edits"]) > 1:
-                queue += [{"edits": [it], "texts": applied(it, room_texts), "touched": it.touched, "whole": True} for it in copy["edits"]]
-                continue
-            for edit in copy["edits"]:
-                if not last and CUT_OFF.is_set():
-                    continue
-                if not last:
+            texts = applied(copy, room.texts)
+            said, last = room.check(texts)
+            for edit in copy:
+                how_it_ended, line = verdict(edit, texts, said) if last.startswith("logic=not-proved") else ("survived", "")
+                if len(copy) > 1 and how_it_ended != "refused":
+                    # alone: no other wrong body's proof is waited for then, and no other's names are missing
+                    queue.append([edit])
+                elif not last:
                     first = next((it for it in said.split("\n") if "error" in it), said.strip().replace("\n", "; "))
                     say(f"{crate}/{edit.name}: BAD EDIT: it did not reach the prover: {first[:200]}")
-                    unfit += 1
-                    continue
-                how_it_ended, line = verdict(edit, copy["texts"], said) if last.startswith("logic=not-proved") else ("survived", "")
-                if how_it_ended != "refused" and len(copy["edits"]) > 1:
-                    # alone: no other wrong body's proof is waited for then, and no other's names are missing
-                    queue.append({"edits": [edit], "texts": applied(edit, room_texts), "touched": edit.touched, "whole": True})
+                    count["unfit"] += 1
                 elif how_it_ended == "survived":
-                    survived.append(edit.name)
                     say(f"{crate}/{edit.name}: SURVIVED")
+                    count["survived"] += 1
                 else:
-                    refused += 1
                     note = " (SUSPICIOUS: only a proof file's names are missing; turn a value in its place)" if how_it_ended == "named" else ""
                     say(f"{crate}/{edit.name}: refused{note}: {line[:160]}")
-        if right:
-            if right.name in survived:
-                survived.remove(right.name)
-                say(f"{crate}: the planted body that is right was found")
-            else:
-                say(f"{crate}: the planted body that is right was NOT found")
-                unfit += 1
-        elif tests_itself:
-            say(f"{crate}: no function to plant a body that is right in")
-            unfit += 1
-        return refused, len(survived), unfit
+                    count["refused"] += 1
+    return count
 
 
 def side_by_side():
     """How many crates are tried side by side, if it isn't said."""
-    try:
-        with open("/proc/meminfo", encoding="utf-8") as it:
-            free = 1024 * int(re.search(r"MemAvailable:\s+(\d+)", it.read())[1])
-        return max(1, min(len(os.sched_getaffinity(0)) // 2, free // EACH))
-    except (AttributeError, OSError, TypeError):
-        return 1
-
-
-def say_at_once(line):
-    print(line, flush=True)
-
-
-def try_crates(names, lines, folders, tests_itself, jobs):
-    """The sums of what `try_crate` gives, with crates side by side."""
-    jobs = min(jobs, len(names))
-    if jobs < 2:
-        return [sum(it) for it in zip((0, 0, 0), *(try_crate(name, lines, folders, tests_itself, [], say_at_once) for name in names))]
-    flags, printing = ["--jobs", str(max(1, (os.cpu_count() or 1) // jobs))], threading.Lock()
-
-    def whole(name):
-        said = []
-        found = try_crate(name, lines, folders, tests_itself, flags, said.append)
-        with printing:
-            print("".join(f"{it}\n" for it in said), end="", flush=True)
-        return found
-
-    def edits_of(name):
-        return sum(len(os.listdir(f"{ROOT}/crates/{name}/{it}")) for it in folders if os.path.isdir(f"{ROOT}/crates/{name}/{it}"))
-
-    with ThreadPoolExecutor(jobs) as pool:
-        # the longest first
-        running = [pool.submit(whole, name) for name in sorted(names, key=edits_of, reverse=True)]
-        try:
-            return [sum(it) for it in zip(*(it.result() for it in running))]
-        except BaseException:
-            CUT_OFF.set()
-            for it in running:
-                it.cancel()
-            raise
+    with open("/proc/meminfo", encoding="utf-8") as it:
+        free = 1024 * int(re.search(r"MemAvailable:\s+(\d+)", it.read())[1])
+    return max(1, min(len(os.sched_getaffinity(0)) // 2, free // EACH))
 
 
 def passed_over(lines):
@@ -493,7 +272,7 @@ def passed_over(lines):
             yield from (f"{crate}/{part}/{name}" for name in files if name.endswith(".edit") and part.split("/")[0] != "out")
 
 
-def changed_since(commit, lines):
+def changed_since(commit):
     """The crates with a file that differs from the commit, new files too; None if git knows no such commit."""
     found = []
     for words in [["diff", "--name-only", commit, "--", "crates"], ["ls-files", "--others", "--exclude-standard", "crates"]]:
@@ -501,59 +280,53 @@ def changed_since(commit, lines):
         if told.returncode:
             return None
         found += told.stdout.splitlines()
-    changed = {it.split("/")[1] for it in found}
-    return [name for name in lines if name in changed]
+    return {it.split("/")[1] for it in found}
 
 
-def main(words):
-    jobs, options, names, since = side_by_side(), set(), [], None
-    while words:
-        word = words.pop(0)
-        if word == "--jobs" and words and words[0].isdigit() and int(words[0]):
-            jobs = int(words.pop(0))
-        elif word in ("--must-fail", "--self-test"):
-            options.add(word)
-        elif word == "--since" and words:
-            since = words.pop(0)
-        elif not word.startswith("-"):
-            names.append(word)
-        else:
-            print(__doc__, end="", file=sys.stderr)
-            return 2
-    lines, begun = crate_lines(), time.monotonic()
-    for name in names:
-        if name not in lines:
-            print(f"tests/wrong_bodies.py: crates.txt has no crate {name}", file=sys.stderr)
-            return 2
-    if since is not None:
-        changed = changed_since(since, lines)
-        if changed is None:
-            print(f"tests/wrong_bodies.py: git knows no commit {since}", file=sys.stderr)
-            return 2
-        names = [name for name in names or lines if name in changed]
-        if not names:
-            print(f"no crate changed since {since}\n0 wrong bodies refused, 0 survived")
-            return 0
-    signal.signal(signal.SIGTERM, cut_off)
-    lost = [] if names else sorted(passed_over(lines))
-    folders = ["wrong-bodies"] + ["must-fail"] * ("--must-fail" in options)
-    names = [name for name in names or lines if any(os.path.isdir(f"{ROOT}/crates/{name}/{part}") for part in folders)]
+def main():
+    parser = argparse.ArgumentParser(description=__doc__, formatter_class=argparse.RawDescriptionHelpFormatter)
+    parser.add_argument("--jobs", type=int, default=side_by_side(), help="crates side by side (default: by processors and memory)")
+    parser.add_argument("--must-fail", action="store_true", help="the edits of must-fail/ too (`rt must-fail` tries one at a time)")
+    parser.add_argument("--since", metavar="COMMIT", help="only crates with a file that differs from that commit")
+    parser.add_argument("crates", nargs="*", metavar="CRATE", help="only these crates")
+    words, lines, begun = parser.parse_args(), crate_lines(), time.monotonic()
+    changed = lines if words.since is None else changed_since(words.since)
+    missing = [f"crates.txt has no crate {it}" for it in words.crates if it not in lines]
+    missing += [f"git knows no commit {words.since}"] * (changed is None)
+    if missing:
+        print(f"tests/wrong_bodies.py: {missing[0]}", file=sys.stderr)
+        return 2
+    names = [name for name in words.crates or lines if name in changed]
+    if not names:
+        say(f"no crate changed since {words.since}\n0 wrong bodies refused, 0 survived")
+        return 0
+    for it in (signal.SIGINT, signal.SIGTERM):
+        signal.signal(it, cut_off)
+    count = Counter()
+    for name in sorted(passed_over(lines)) if names == list(lines) else []:
+        say(f"{name}: BAD EDIT: it stands in no folder whose edits are tried")
+        count["unfit"] += 1
+    folders, proved = ["wrong-bodies"] + ["must-fail"] * words.must_fail, []
     # before any copy is made: the check of a crate builds those below it
-    proved = [name for name in names if is_proved(name)]
     for name in names:
-        if name not in proved:
-            say_at_once(f"{name}: the crate itself is not proved, so nothing was tried")
-    refused, survived, unfit = try_crates(proved, lines, folders, "--self-test" in options, jobs)
-    for name in lost:
-        say_at_once(f"{name}: BAD EDIT: it stands in no folder whose edits are tried")
-    unfit += len(names) - len(proved) + len(lost)
+        if any(os.path.isdir(f"{ROOT}/crates/{name}/{part}") for part in folders):
+            if ran([], f"{ROOT}/crates/{name}")[0]:
+                say(f"{name}: the crate itself is not proved, so nothing was tried")
+                count["unfit"] += 1
+            else:
+                proved.append(name)
+    jobs = max(1, min(words.jobs, len(proved)))
+    flags = ["--jobs", str(max(1, (os.cpu_count() or 1) // jobs))] if jobs > 1 else []
+    with ThreadPoolExecutor(jobs) as pool:
+        for found in pool.map(lambda name: try_crate(name, lines, folders, flags), proved):
+            count += found
     used = resource.getrusage(resource.RUSAGE_CHILDREN)
-    print(f"{time.monotonic() - begun:.0f} s, {used.ru_utime + used.ru_stime:.0f} s of processor time")
-    if unfit:
-        print(f"{unfit} could not be tried")
-    print(f"{refused} wrong bodies refused, {survived} survived")
-    return 1 if survived or unfit else 0
+    say(f"{time.monotonic() - begun:.0f} s, {used.ru_utime + used.ru_stime:.0f} s of processor time")
+    if count["unfit"]:
+        say(f"{count['unfit']} could not be tried")
+    say(f"{count['refused']} wrong bodies refused, {count['survived']} survived")
+    return 1 if count["survived"] or count["unfit"] else 0
 
 
 if __name__ == "__main__":
-    sys.exit(main(sys.argv[1:]))
+    sys.exit(main())
