@@ -16,14 +16,37 @@
 #include <utility>
 #include <vector>
 
-#include "components.hpp"
-
 struct Link {
     int32_t weight;
     uint32_t low, high;
 
     bool operator<(const Link& other) const {
         return std::tie(weight, low, high) < std::tie(other.weight, other.low, other.high);
+    }
+};
+
+// Union-find over the vertices 1 to n, by size and with paths halved.
+class Components {
+    std::vector<uint32_t> parents, sizes;
+
+public:
+    explicit Components(uint32_t n) : parents(n + 1), sizes(n + 1, 1) {
+        for (uint32_t v = 0; v <= n; ++v) parents[v] = v;
+    }
+
+    uint32_t find(uint32_t v) {
+        while (parents[v] != v) v = parents[v] = parents[parents[v]];
+        return v;
+    }
+
+    bool join(uint32_t u, uint32_t v) {
+        u = find(u);
+        v = find(v);
+        if (u == v) return false;
+        if (sizes[u] < sizes[v]) std::swap(u, v);
+        parents[v] = u;
+        sizes[u] += sizes[v];
+        return true;
     }
 };
 

@@ -1,18 +1,18 @@
 #!/usr/bin/env python3
-"""Measures `boruvka` against two marks on generated graphs, in turns, and prints tables in Markdown.
+"""Measures `boruvka` against other programs on generated graphs, in turns, and prints tables in Markdown.
 
     marks.py PROGRAM BENCH [PLAIN_TIMES [WORKERS_TIMES [EARLIER]]]
 
-PROGRAM is `boruvka`; BENCH is `bench`, which by its word `steps` tells what the steps of a plain run took. The marks
-are tuned.cpp, a tuned program of one thread, for `--plain`; floor.cpp, which only moves the bytes of a run over two
-workers, as turns.c noted them of one run, for runs over workers; and for these `--plain`, kruskal.cpp (std::sort and
-union-find in one thread) and EARLIER, another `boruvka`, where it is named. Each time is the least of PLAIN_TIMES runs
-(none: 9), of those over workers, of kruskal.cpp and of the floor of WORKERS_TIMES (none: 9). All programs run in each
-turn. The answers must be equal, and no worker may have failed.
+PROGRAM is `boruvka`; BENCH is `bench`, which tells what the steps of a plain run took. `--plain` stands beside tuned.cpp,
+a tuned program of one thread. Runs over workers stand beside `--plain`, kruskal.cpp (std::sort and union-find in one
+thread) and EARLIER, another `boruvka`, if it is named. Each time is the least of PLAIN_TIMES runs (if not said: 9), of
+those over workers and of kruskal.cpp of WORKERS_TIMES (if not said: 9). All programs run in each turn. The answers must be
+equal, and no worker may have failed.
 
-It needs Python 3, a C++17 compiler (c++, or $CXX) and a C compiler (cc, or $CC). Times are in milliseconds.
+It needs Linux, Python 3 and a C++17 compiler (c++, or $CXX). Times are in milliseconds.
 """
 import os
+import re
 import subprocess
 import sys
 import tempfile
@@ -21,32 +21,29 @@ import tempfile
 sys.dont_write_bytecode = True
 
 from run import GRAPHS, HERE, bytes_of, least, parts_of, run
-from workers import WORKERS, counts_of, shown, tell_head, tell_row, words_of
 
-FEW, MANY = 2, 64
-# workers and shards of each run over workers that is measured
-SETTINGS = [(WORKERS, FEW), (WORKERS, MANY), (4, 4)]
-# what a run over many shards is measured against
-FLOORS, PLAINS = 2.0, 1.3
-# whose ends have a buffer for a whole message, or a block that stays in the cache
-FLOOR_WORDS = {"floor": [], "floor in blocks": ["65536"]}
+# workers and shards of each run over workers that is measured; the second is the default
+SETTINGS = [(2, 2), (2, 64), (4, 4)]
 
 
-def built(folder, name, source, *words):
-    """A program or library made of one of the sources beside this file."""
-    path, is_cpp = os.path.join(folder, name), source.endswith(".cpp")
-    compiler = os.environ.get("CXX", "c++") if is_cpp else os.environ.get("CC", "cc")
-    subprocess.run([compiler, "-O2", *words, "-o", path, os.path.join(HERE, source)], check=True)
+def built(folder, name, *words):
+    """A program made of one of the sources beside this file."""
+    path = os.path.join(folder, name)
+    command = [os.environ.get("CXX", "c++"), "-O2", "-std=c++17", *words, "-o", path, os.path.join(HERE, f"{name}.cpp")]
+    subprocess.run(command, check=True)
     return path
+
+
+def looped():
+    """The bytes that have come over the loopback device."""
+    with open("/proc/net/dev", encoding="ascii") as lines:
+        return next(int(line.split()[1]) for line in lines if line.split()[0] == "lo:")
 
 
 class Programs:
     def __init__(self, folder, program, bench, earlier):
         self.program, self.bench, self.earlier = program, bench, earlier
-        self.tuned = built(folder, "tuned", "tuned.cpp", "-std=c++17", "-static")
-        self.floor = built(folder, "floor", "floor.cpp", "-std=c++17", "-pthread")
-        self.kruskal = built(folder, "kruskal", "kruskal.cpp", "-std=c++17")
-        self.recorder = built(folder, "turns.so", "turns.c", "-shared", "-fPIC")
+        self.tuned, self.kruskal = built(folder, "tuned", "-static"), built(folder, "kruskal")
 
 
 class Measured:
@@ -54,72 +51,66 @@ class Measured:
 
     def __init__(self, folder, kind, n, programs):
         self.name, self.programs = f"{kind}, {n:,}", programs
-        self.graph, self.answer, self.turns = (
-            os.path.join(folder, f"{kind}_{n}_{name}") for name in ("graph", "answer", "turns")
-        )
+        self.graph, self.answer = (os.path.join(folder, f"{kind}_{n}_{name}") for name in ("graph", "answer"))
         with open(self.graph, "wb") as out:
             subprocess.run([sys.executable, os.path.join(HERE, "generate.py"), kind, str(n)], stdout=out, check=True)
         with open(self.graph, "rb") as text:
             self.arcs = int(text.readline().split()[3])
         self.whole, self.parts = {}, {}
-        self.note_turns()
-
-    def note_turns(self):
-        """Notes what a run over many shards sends and gets, and the answer that all others have to give."""
-        around = dict(os.environ, LD_PRELOAD=self.programs.recorder, TURNS=self.turns)
-        with open(self.graph, "rb") as given, open(self.answer, "wb") as taken:
-            command = [self.programs.program, *words_of(MANY)]
-            subprocess.run(command, stdin=given, stdout=taken, env=around, check=True)
-        with open(self.turns, encoding="ascii") as lines:
-            moved = [[int(number) for number in line.split()] for line in lines]
-        self.rounds, self.bytes = max(turn[0] for turn in moved), sum(turn[2] + turn[3] for turn in moved)
+        # one run by default, for what it sends, and for the answer that all others have to give
+        before = looped()
+        _, told = run([programs.program, "--report"], self.graph, self.answer)
+        self.bytes, self.rounds = looped() - before, int(re.search(r"rounds=(\d+)", told)[1]) + 1
 
     def time(self, what, command):
-        """Runs a command on the graph, keeps its time where it is the least, and answers what it told."""
+        """Runs a command on the graph, keeps its time if it is the least, and answers what it told."""
         answer = self.answer + "_now"
         took, told = run(command, self.graph, answer)
         if bytes_of(answer) != bytes_of(self.answer):
             sys.exit(f"{self.name}, {' '.join(command)}: the answers differ")
-        self.keep(what, took)
-        return told
-
-    def keep(self, what, took):
         self.whole[what] = min(took, self.whole.get(what, took))
+        return told
 
     def keep_parts(self, what, parts):
         self.parts[what] = least(parts, self.parts.get(what, parts))
 
     def take_plain_turn(self):
         self.time("plain", [self.programs.program, "--plain"])
-        told = self.time("steps", [self.programs.bench, "steps"])
+        told = self.time("steps", [self.programs.bench])
         self.keep_parts("plain", [part / 1000 for part in parts_of(told)])
         self.keep_parts("tuned", parts_of(self.time("tuned", [self.programs.tuned, "--times"])))
 
     def take_workers_turn(self):
         self.time("kruskal", [self.programs.kruskal])
         for setting in SETTINGS:
-            self.time_workers(setting, self.programs.program)
+            self.time_workers(setting, setting, self.programs.program)
             if self.programs.earlier:
-                self.time_workers(setting, self.programs.earlier)
-        seconds = self.answer + "_seconds"
-        for floor, words in FLOOR_WORDS.items():
-            run([self.programs.floor, *words], self.turns, seconds)
-            self.keep(floor, float(bytes_of(seconds)) * 1000)
+                self.time_workers(("earlier", *setting), setting, self.programs.earlier)
 
-    def time_workers(self, setting, program):
+    def time_workers(self, what, setting, program):
         workers, shards = setting
-        what = setting if program == self.programs.program else ("earlier", *setting)
-        report = counts_of(self.time(what, [program, *words_of(shards, workers), "--report"]))
-        if report["alone"] or report["closed"]:
-            sys.exit(f"{self.name}, {workers} workers, {shards} shards: a worker failed")
+        told = self.time(what, [program, "--workers", str(workers), "--shards", str(shards), "--report"])
+        if " alone=0 closed=0 " not in told:
+            sys.exit(f"{self.name}, {named(setting)}: a worker failed")
 
-    def bound(self, floor):
-        return FLOORS * self.whole[floor] + PLAINS * self.whole["plain"]
+
+def shown(milliseconds):
+    """With a place behind the point if they are few."""
+    return f"{milliseconds:,.1f}" if milliseconds < 10 else f"{milliseconds:,.0f}"
+
+
+def tell_row(*cells):
+    print("| " + " | ".join(cells) + " |")
+
+
+def tell_head(*cells):
+    tell_row(*cells)
+    print("|" + "---|" * len(cells))
 
 
 def beside(ours, mark):
     """Two times and their ratio."""
-    return f"{shown(ours * 1000)}, {shown(mark * 1000)}: {ours / mark:.2f}"
+    return f"{shown(ours)}, {shown(mark)}: {ours / mark:.2f}"
 
 
 def tell_plain(graphs):
@@ -127,19 +118,6 @@ def tell_plain(graphs):
     for graph in graphs:
         parts = [beside(ours, mark) for ours, mark in zip(graph.parts["plain"], graph.parts["tuned"])]
         tell_row(graph.name, beside(graph.whole["plain"], graph.whole["tuned"]), *parts)
-
-
-def tell_workers(graphs):
-    tell_head(
-        "Graph", f"{FEW} shards, `--plain`, ratio",
-        *(f"{MANY} shards, {FLOORS} {floor} + {PLAINS} `--plain`, ratio" for floor in FLOOR_WORDS),
-        "Floor, in blocks", "Rounds", "MB moved",
-    )
-    for graph in graphs:
-        bounds = [beside(graph.whole[WORKERS, MANY], graph.bound(floor)) for floor in FLOOR_WORDS]
-        floors = ", ".join(shown(graph.whole[floor] * 1000) for floor in FLOOR_WORDS)
-        few = beside(graph.whole[WORKERS, FEW], graph.whole["plain"])
-        tell_row(graph.name, few, *bounds, floors, str(graph.rounds), f"{graph.bytes / 1e6:,.1f}")
 
 
 def named(setting):
@@ -150,19 +128,19 @@ def named(setting):
 def tell_settings(graphs, earlier):
     """The runs over workers, each with how many times `--plain`, kruskal.cpp and the earlier program it takes."""
     marks = "`--plain`, C++" + (", earlier" if earlier else "")
-    tell_head("Graph", "`--plain`", "C++", *(f"{named(setting)}; times {marks}" for setting in SETTINGS))
+    settings = [f"{named(setting)}; times {marks}" for setting in SETTINGS]
+    tell_head("Graph", "`--plain`", "C++", *settings, "Rounds", "MB sent by default")
     for graph in graphs:
-        cells = [shown(graph.whole[each] * 1000) for each in ("plain", "kruskal")]
+        cells = [shown(graph.whole[each]) for each in ("plain", "kruskal")]
         for setting in SETTINGS:
             ours, others = graph.whole[setting], [graph.whole["plain"], graph.whole["kruskal"]]
             others += [graph.whole["earlier", *setting]] if earlier else []
-            cells.append(f"{shown(ours * 1000)}; " + ", ".join(f"{ours / other:.2f}" for other in others))
-        tell_row(graph.name, *cells)
+            cells.append(f"{shown(ours)}; " + ", ".join(f"{ours / other:.2f}" for other in others))
+        tell_row(graph.name, *cells, str(graph.rounds), f"{graph.bytes / 1e6:,.1f}")
 
 
 def tell_growth(graphs):
     settings = {"plain": "`--plain`", "tuned": "tuned", **{setting: named(setting) for setting in SETTINGS}}
-    settings |= {floor: floor for floor in FLOOR_WORDS}
     tell_head("Time per arc, from the graph of 10^5 to that of 10^6", *settings.values())
     for kind in ("grid", "random"):
         small, large = graphs[kind, 10**5], graphs[kind, 10**6]
@@ -187,8 +165,6 @@ def main():
                 if turn < workers_times:
                     graph.take_workers_turn()
     tell_plain(graphs.values())
-    print()
-    tell_workers(graphs.values())
     print()
     tell_settings(graphs.values(), earlier)
     print()

@@ -3,8 +3,7 @@
 
     run.py PROGRAM BENCH [TIMES]
 
-PROGRAM is `boruvka`; BENCH is `bench`, which by its word `steps` does the same and tells what reading, solving and
-writing took.
+PROGRAM is `boruvka`; BENCH is `bench`, which does the same and tells what reading, solving and writing took.
 It needs Python 3, a C++17 compiler (c++, or $CXX) and GNU time. The answers of all programs must be equal.
 """
 import os
@@ -72,7 +71,7 @@ class Measured:
         self.whole = min(self.whole, run([program, "--plain"], self.graph, self.ours)[0])
         took, told = run([kruskal], self.graph, self.theirs)
         self.whole_cpp, self.parts_cpp = min(self.whole_cpp, took), least(self.parts_cpp, parts_of(told))
-        _, told = run([bench, "steps"], self.graph, self.stepped)
+        _, told = run([bench], self.graph, self.stepped)
         self.parts = least(self.parts, [part / 1000 for part in parts_of(told)])
         self.count = min(self.count, run(["wc", "-l"], self.graph, self.counted)[0])
         if not bytes_of(self.ours) == bytes_of(self.stepped) == bytes_of(self.theirs):
