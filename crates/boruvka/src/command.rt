@@ -275,8 +275,8 @@ fn print_usage<O: Sink, E: Sink>(
         write_text(errors, text.as_bytes());
         return USAGE;
     }
-    match put(output, 0, text.as_bytes()) {
-        Ok(_) => 0,
+    match put(output, text.as_bytes()) {
+        Ok(()) => 0,
         Err(fault) => {
             write_fault(
                 errors,

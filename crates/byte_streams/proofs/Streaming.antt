@@ -151,20 +151,16 @@ took_from_rest m n at field s t u first second =
 -- ---- parts of a text that went out
 
 -- a field behind the text that went out before it
-pub took_then_went_out : (before middle after : ℕ) (text field : List ℕ) (s t u : SinkState) → Took 0 text s t
-    → middle ≡ before + length text → WentOut middle after field t u → WentOut before after (text ++ field) s u
-took_then_went_out before middle after text field s t u first count part = record {
-  count = length text + part.count;
+pub took_then_went_out : (written : ℕ) (text field : List ℕ) (s t u : SinkState) → Took 0 text s t → WentOut written field t u
+    → WentOut (length text + written) (text ++ field) s u
+took_then_went_out written text field s t u first part = record {
   within = omega (arith, length-append text field, part.within);
-  counted = omega (arith, part.counted);
-  took = subst (λ bs. Took 1 bs s u) (sym (take-append-add text field part.count)) (took_more 1 text (take part.count field) s t u first part.took);
+  took = subst (λ bs. Took 1 bs s u) (sym (take-append-add text field written)) (took_more 1 text (take written field) s t u first part.took);
 }
 
 -- a part of a text, with what follows it and didn't go out
-pub went_out_followed : (before after : ℕ) (text rest : List ℕ) (s t : SinkState) → WentOut before after text s t → WentOut before after (text ++ rest) s t
-went_out_followed before after text rest s t part = record {
-  count = part.count;
+pub went_out_followed : (written : ℕ) (text rest : List ℕ) (s t : SinkState) → WentOut written text s t → WentOut written (text ++ rest) s t
+went_out_followed written text rest s t part = record {
   within = omega (arith, length-append text rest, part.within);
-  counted = part.counted;
-  took = subst (λ bs. Took 1 bs s t) (sym (take-append-le part.count text rest part.within)) part.took;
+  took = subst (λ bs. Took 1 bs s t) (sym (take-append-le written text rest part.within)) part.took;
 }

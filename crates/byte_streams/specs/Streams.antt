@@ -86,12 +86,10 @@ abbrev pub FlushTook : {T : Type 0} → Result T Failed → SinkState → SinkSt
 FlushTook (Ok passed) before after = Took 0 [] before after
 FlushTook (Err fault) before after = Took 1 [] before after
 
--- a first part of the text went out, and then came a setback; `written` bytes had gone out before it, and `total` have with it
-pub record WentOut (written total : ℕ) (text : List ℕ) (before after : SinkState) : Type 0 where
-  pub count : ℕ
-  pub within : count ≤ length text
-  pub counted : total ≡ written + count
-  pub took : Took 1 (take count text) before after
+-- the first `written` bytes of the text went out, and then came a setback
+pub record WentOut (written : ℕ) (text : List ℕ) (before after : SinkState) : Type 0 where
+  pub within : written ≤ length text
+  pub took : Took 1 (take written text) before after
 
 -- the sink's setbacks are known, and it had none
 abbrev pub HadNoSetback : SinkState → SinkState → Type 0

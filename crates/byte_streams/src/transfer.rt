@@ -1,5 +1,5 @@
 //! Whole buffers, in and out: loops over `read` and `write` that stop at the first setback.
-ghost use Rattle.std.specs.Prelude.{◌≡◌, ◌+◌, ◌^◌, ◌<◌, ◌≤◌, length, IsOk, IfOk, IfErr, OnOk};
+ghost use Rattle.std.specs.Prelude.{◌<◌, length, IsOk, IfErr, OnOk};
 ghost use Rattle.byte_streams.specs.Streams.{FillGave, EndsOkWhereLeft, Took, WentOut, HadNoSetback};
 
 use crate::{Failed, Sink, Source};
@@ -21,7 +21,7 @@ pub enum FillFault {
 #[derive(Clone, Copy, Debug, PartialEq, Eq, Error)]
 #[error("write failed after {written} bytes")]
 pub struct PutFault {
-    /// How many bytes of the text the sink took in all, in this call and before it.
+    /// How many bytes of the field the sink took.
     pub written: u64,
 }
 
@@ -53,21 +53,17 @@ pub fn fill<S: Source>(source: &mut S, buf: &mut [u8]) -> Result<(), FillFault>
     Ok(())
 }
 
-/// Writes the whole of `field`, the next part of a text of which `written` bytes went out before,
-/// and answers how many went out with it.
+/// Writes the whole of `field`.
 ///
 /// An empty `field` is out: nothing is written then. At most one write for each byte, and no second
 /// try after a setback; flushes nothing and takes no memory.
-pub fn put<W: Sink>(sink: &mut W, written: u64, field: &[u8]) -> Result<u64, PutFault>
-    requires can { W.can_write sink.old }
-    requires fits { written + length field.now < 2 ^ 64 }
+pub fn put<W: Sink>(sink: &mut W, field: &[u8]) -> Result<(), PutFault>
+    requires { W.can_write sink.old }
 
     ensures whole { OnOk result (Took 0 field.now (W.state sink.old) (W.state sink.new)) }
-    ensures count { IfOk result (λ total. total ≡ written + length field.now) }
-
-    ensures part { IfErr result (λ fault. WentOut written fault.written field.now
+    ensures part { IfErr result (λ fault. WentOut fault.written field.now
         (W.state sink.old) (W.state sink.new)) }
-    ensures short { IfErr result (λ fault. fault.written < written + length field.now) }
+    ensures short { IfErr result (λ fault. fault.written < length field.now) }
 
     // A sink that has no setback takes the field.
     ensures ends_ok { HadNoSetback (W.state sink.old) (W.state sink.new) → IsOk result }
@@ -79,11 +75,11 @@ pub fn put<W: Sink>(sink: &mut W, written: u64, field: &[u8]) -> Result<u64, Put
         match sink.write(&field[taken..]) {
             Ok(0) | Err(Failed) => {
                 return Err(PutFault {
-                    written: written + taken as u64,
+                    written: taken as u64,
                 });
             }
             Ok(n) => taken += n,
         }
     }
-    Ok(written + taken as u64)
+    Ok(())
 }

@@ -47,5 +47,5 @@ text_fits n links = omega (
 
 -- the count that is given of the text of a forest that isn't huge is the number itself
 pub few_are_exact : (written n : ℕ) (forest : List Link) (s t : SinkState) → length forest ≤ 2 ^ 55
-    → PrefixWentOut written (forest_text n forest) s t → WentOut 0 written (forest_text n forest) s t
+    → PrefixWentOut written (forest_text n forest) s t → WentOut written (forest_text n forest) s t
 few_are_exact written n forest s t few part = prefix_is_exact written (forest_text n forest) s t (omega (arith, text_fits n forest)) part

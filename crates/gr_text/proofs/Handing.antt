@@ -59,5 +59,7 @@ hands_then_prefix middle after xs ys more s t u hands part =
 
 -- the count that is given of a text of fewer than 2^64 bytes is the number itself
 pub prefix_is_exact : (written : ℕ) (text : List ℕ) (s t : SinkState) → length text < 2 ^ 64 → PrefixWentOut written text s t
-    → WentOut 0 written text s t
-prefix_is_exact written text s t short part = record { count = part.count; within = part.within; counted = omega (arith, part.within, part.counted); took = part.took }
+    → WentOut written text s t
+prefix_is_exact written text s t short part =
+    let same : part.count ≡ written = omega (arith, part.within, part.counted) in
+    record { within = omega (arith, part.within, same); took = subst (λ n. Took 1 (take n text) s t) same part.took }

@@ -50,8 +50,9 @@ fn hand_on<W: Sink>(sink: &mut W, written: u64, piece: &mut Piece) -> Result<u64
         (W.state sink.old) (W.state sink.new)) }
     ensures again { OnOk result (W.can_write sink.new) }
 {
-    match put(sink, 0, piece.as_slice()) {
-        Ok(count) => {
+    match put(sink, piece.as_slice()) {
+        Ok(()) => {
+            let count = piece.as_slice().len() as u64;
             piece.clear();
             Ok(written.saturating_add(count))
         }

@@ -94,7 +94,7 @@ fault_in_memory fault.Memory bytes s t a b known no_failure ran =
     (ran.graph, subst (λ (xs : List ℕ). IsFileOf xs ran.graph) (given_file bytes ran.bytes s t known ran.read) ran.file)
 fault_in_memory (fault.Write written) bytes s t a b known no_failure ran =
     let given = gives bytes ran.bytes s t ran.graph ran.forest known ran.read ran.file ran.found_is in
-    (forest_text ran.graph.vertices ran.forest, (ran.graph, ran.forest, given, refl), omega (arith, ran.part.within, ran.part.counted))
+    (forest_text ran.graph.vertices ran.forest, (ran.graph, ran.forest, given, refl), ran.part.within)
 
 pub text_in_memory : (says : GraphValue → List Link → Type 0) (bytes text : List ℕ) (s t : SourceState) (a b : SinkState)
     → s.left ≡ Some bytes → a.held ≡ Some [] → b.held ≡ Some text → IsDone IsLeast says (streams s a) (streams t b) → IsForestTextOf bytes text

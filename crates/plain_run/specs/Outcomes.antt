@@ -68,7 +68,7 @@ pub record IsBrokenOff {X : Type 0} (found : ForestFact) (says : AnswerFact X) (
   pub read : Gave 0 1 bytes before.source after.source
   pub file : IsFileOf bytes graph
   pub found_is : found graph forest
-  pub part : WentOut 0 written (forest_text graph.vertices forest) before.sink after.sink
+  pub part : WentOut written (forest_text graph.vertices forest) before.sink after.sink
   pub answer : X
   pub said : says graph forest answer
 

@@ -11,7 +11,7 @@ use Rattle.plain_run.specs.declared.report.Report.{Report}
 
 -- all of a text was written, or a first part of it and then came a setback
 abbrev pub IsWritten : List ℕ → SinkState → SinkState → Type 0
-IsWritten text before after = Took 0 text before after ⊎ ((written : ℕ) × WentOut 0 written text before after)
+IsWritten text before after = Took 0 text before after ⊎ ((written : ℕ) × WentOut written text before after)
 
 -- a first part of a text was written, and this is left of it
 abbrev pub IsPartWritten : List ℕ → List ℕ → SinkState → SinkState → Type 0

@@ -15,8 +15,8 @@ pub fn write_text<S: Sink>(sink: &mut S, text: &[u8])
     requires { S.can_write sink.old }
     ensures { IsWritten text.now (S.state sink.old) (S.state sink.new) }
 {
-    match put(sink, 0, text) {
-        Ok(_) => {}
+    match put(sink, text) {
+        Ok(()) => {}
         Err(_) => {}
     }
 }
@@ -67,11 +67,11 @@ fn push_or_write<S: Sink>(
         (S.state sink.old) (S.state sink.new)) }
     ensures room { OnOk result (array_string_len line.new < NAMED_LINE_ROOM) }
     ensures again { OnOk result (S.can_write sink.new) }
-    ensures part { IfErr result (λ fault. WentOut 0 fault.written line.old.bytes
+    ensures part { IfErr result (λ fault. WentOut fault.written line.old.bytes
         (S.state sink.old) (S.state sink.new)) }
 {
     if line.remaining_capacity() <= ESCAPED_ROOM {
-        put(sink, 0, line.as_str().as_bytes())?;
+        put(sink, line.as_str().as_bytes())?;
         line.clear();
     }
     push_escaped(line, c);

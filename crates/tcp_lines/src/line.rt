@@ -67,8 +67,8 @@ impl Line for TcpLine {
 
     // The first write has the whole of `bytes`; others follow while bytes are left.
     fn put(&mut self, bytes: &[u8]) -> Result<(), LineFault> {
-        match put(&mut self.stream, 0, bytes) {
-            Ok(_) => Ok(()),
+        match put(&mut self.stream, bytes) {
+            Ok(()) => Ok(()),
             Err(_) => {
                 self.failures += 1;
                 Err(LineFault::Failed)

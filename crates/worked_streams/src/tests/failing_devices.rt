@@ -83,12 +83,8 @@ fn a_put_ends_at_an_interrupted_write(rt: HostRuntime) {
         has_failed: false,
         taken: Vec::new(rt.alloc()),
     });
-    expect_same(
-        &rt,
-        put(&mut sink, 7, b"p sp"),
-        Err(PutFault { written: 7 }),
-    );
-    expect_same(&rt, put(&mut sink, 7, b"p sp"), Ok(11));
+    expect_same(&rt, put(&mut sink, b"p sp"), Err(PutFault { written: 0 }));
+    expect_same(&rt, put(&mut sink, b"p sp"), Ok(()));
     expect_same(&rt, sink.0.taken.as_slice(), b"p sp".as_slice());
 }
 
@@ -98,7 +94,7 @@ fn a_failed_flush_is_answered_and_takes_nothing(rt: HostRuntime) {
         has_failed: true,
         taken: Vec::new(rt.alloc()),
     });
-    expect_same(&rt, put(&mut sink, 0, b"p sp"), Ok(4));
+    expect_same(&rt, put(&mut sink, b"p sp"), Ok(()));
     expect_same(&rt, sink.flush(), Err(Failed));
     expect_same(&rt, sink.0.taken.as_slice(), b"p sp".as_slice());
 }

@@ -21,9 +21,9 @@ fn fills_from_a_slice(rt: HostRuntime) {
 #[test]
 fn puts_into_a_vector(rt: HostRuntime) {
     let mut sink = Vec::new(rt.alloc());
-    expect_same(&rt, put(&mut sink, 0, b"p sp "), Ok(5));
-    expect_same(&rt, put(&mut sink, 5, b""), Ok(5));
-    expect_same(&rt, put(&mut sink, 5, b"6 5\n"), Ok(9));
+    expect_same(&rt, put(&mut sink, b"p sp "), Ok(()));
+    expect_same(&rt, put(&mut sink, b""), Ok(()));
+    expect_same(&rt, put(&mut sink, b"6 5\n"), Ok(()));
     expect_same(&rt, sink.flush(), Ok(()));
     expect_same(&rt, sink.as_slice(), b"p sp 6 5\n".as_slice());
 }
@@ -37,13 +37,8 @@ fn texts_of_any_size_go_in_and_out(rt: HostRuntime) {
             text.push((number % 251) as u8).expect(&rt, "memory");
         }
         let mut sink = Vec::new(rt.alloc());
-        for before in 0..3 {
-            let written = before * size;
-            expect_same(
-                &rt,
-                put(&mut sink, written, text.as_slice()),
-                Ok(written + size),
-            );
+        for _ in 0..3 {
+            expect_same(&rt, put(&mut sink, text.as_slice()), Ok(()));
         }
         let mut source = sink.as_slice();
         for _ in 0..3 {
@@ -104,17 +99,17 @@ fn sink_fails_after_its_passes(rt: HostRuntime) {
     for passes in 0..9 {
         let mut sink = FusedSink::new(rt.alloc(), passes, 2).expect(&rt, "memory");
         let fault = PutFault {
-            written: 3 + passes as u64,
+            written: passes as u64,
         };
-        expect_same(&rt, put(&mut sink, 3, text), Err(fault));
+        expect_same(&rt, put(&mut sink, text), Err(fault));
         expect_same(&rt, sink.held(), &text[..passes]);
         expect_same(&rt, sink.flush(), Err(Failed));
     }
     let mut sink = FusedSink::new(rt.alloc(), 9, 2).expect(&rt, "memory");
-    expect_same(&rt, put(&mut sink, 0, text), Ok(9));
+    expect_same(&rt, put(&mut sink, text), Ok(()));
     expect_same(&rt, sink.flush(), Err(Failed));
     let mut sink = FusedSink::new(rt.alloc(), 10, 2).expect(&rt, "memory");
-    expect_same(&rt, put(&mut sink, 0, text), Ok(9));
+    expect_same(&rt, put(&mut sink, text), Ok(()));
     expect_same(&rt, sink.flush(), Ok(()));
     expect_same(&rt, sink.held(), text.as_slice());
 }
@@ -123,23 +118,23 @@ fn sink_fails_after_its_passes(rt: HostRuntime) {
 fn stopped_sink_takes_nothing_more(rt: HostRuntime) {
     let text = b"p sp 6 5\n";
     let mut sink = FusedSink::stopped(rt.alloc(), 4, 3).expect(&rt, "memory");
-    expect_same(&rt, put(&mut sink, 0, text), Err(PutFault { written: 4 }));
+    expect_same(&rt, put(&mut sink, text), Err(PutFault { written: 4 }));
     expect_same(&rt, sink.write(text), Ok(0));
     expect_same(&rt, sink.write(&[]), Ok(0));
     expect_same(&rt, sink.flush(), Ok(()));
     expect_same(&rt, sink.held(), b"p sp".as_slice());
     let mut sink = FusedSink::stopped(rt.alloc(), 9, 3).expect(&rt, "memory");
-    expect_same(&rt, put(&mut sink, 0, text), Ok(9));
+    expect_same(&rt, put(&mut sink, text), Ok(()));
 }
 
 // Bytes wait until the next flush, those that it began with too.
 #[test]
 fn buffered_sink_keeps_bytes_until_a_flush(rt: HostRuntime) {
     let mut sink = BufferedSink::new(Vec::from_slice(rt.alloc(), b"p ").expect(&rt, "memory"));
-    expect_same(&rt, put(&mut sink, 2, b"sp "), Ok(5));
+    expect_same(&rt, put(&mut sink, b"sp "), Ok(()));
     expect_same(&rt, sink.flushed(), b"".as_slice());
     expect_same(&rt, sink.flush(), Ok(()));
-    expect_same(&rt, put(&mut sink, 5, b"6 5\n"), Ok(9));
+    expect_same(&rt, put(&mut sink, b"6 5\n"), Ok(()));
     expect_same(&rt, sink.flushed(), b"p sp ".as_slice());
     expect_same(&rt, sink.flush(), Ok(()));
     expect_same(&rt, sink.flushed(), b"p sp 6 5\n".as_slice());
@@ -152,7 +147,7 @@ fn wraps_other_readers_and_writers(rt: HostRuntime) {
     expect_same(&rt, fill(&mut source, &mut buf), Ok(()));
     expect_same(&rt, buf.as_slice(), b"hell".as_slice());
     let mut sink = Uncounted(Vec::new(rt.alloc()));
-    expect_same(&rt, put(&mut sink, 0, &buf), Ok(4));
+    expect_same(&rt, put(&mut sink, &buf), Ok(()));
     expect_same(&rt, sink.flush(), Ok(()));
     expect_same(&rt, sink.0.as_slice(), b"hell".as_slice());
 }
@@ -186,12 +181,12 @@ fn devices_fail_and_end(rt: HostRuntime) {
         .write(true)
         .open(&rt, "/dev/full")
         .expect(&rt, "a device");
-    expect_same(&rt, put(&mut full, 2, b"ab"), Err(PutFault { written: 2 }));
+    expect_same(&rt, put(&mut full, b"ab"), Err(PutFault { written: 0 }));
     let mut sink = OpenOptions::new()
         .write(true)
         .open(&rt, "/dev/null")
         .expect(&rt, "a device");
-    expect_same(&rt, put(&mut sink, 2, b"ab"), Ok(4));
+    expect_same(&rt, put(&mut sink, b"ab"), Ok(()));
     expect_same(&rt, sink.flush(), Ok(()));
 }
 
