@@ -189,8 +189,8 @@ fn write_whole<W: Sink>(sink: &mut W, text: &[u8]) -> Result<(), ServeFault>
     ensures cut { OnErr result (CutOff text.now (W.state sink.old) (W.state sink.new)) }
     ensures again { OnOk result (W.can_write sink.new) }
 {
-    match put(sink, 0, text) {
-        Ok(_) => Ok(()),
+    match put(sink, text) {
+        Ok(()) => Ok(()),
         Err(_) => Err(ServeFault::Write),
     }
 }
