@@ -13,7 +13,7 @@ PROGRAM := crates/boruvka/out/boruvka
 BENCH := crates/bench/out/bench
 LIBRARY := crates/boruvka_c/out/libboruvka
 SOURCES := $(shell find crates -path '*/out' -prune -o -type f \( -name '*.rt' -o -name '*.antt' \) -print) crates.txt
-VERSION := $(shell sed -n 's/^pub const VERSION: &str = "\(.*\)";$$/\1/p' crates/program_words/src/version.rt)
+VERSION := $(shell sed -n 's/^pub const RELEASE: &str = "\(.*\)";$$/\1/p' crates/program_words/src/version.rt)
 MAJOR := $(firstword $(subst ., ,$(VERSION)))
 SHARED := libboruvka.so.$(VERSION)
 # (a path may have a space, so it stands in single quotes for the shell)

@@ -30,7 +30,7 @@ def text_of(path):
 
 def version():
     """The number of the version."""
-    return re.search(r'^pub const VERSION: &str = "(\d+\.\d+\.\d+)";$', text_of(VERSION), re.M)[1]
+    return re.search(r'^pub const RELEASE: &str = "(\d+\.\d+\.\d+)";$', text_of(VERSION), re.M)[1]
 
 
 def git(*words):

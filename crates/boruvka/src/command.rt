@@ -19,8 +19,8 @@ use crate::standard::{StandardStreams, workers_beside};
 use byte_streams::{Sink, Source, Uncounted, put};
 use forest_run::{Cutting, Report, RunFault, run_lines, run_plain};
 use program_words::{
-    DEVICE, NO_MEMORY, Options, OptionsFault, USAGE, options, status_of, write_fault,
-    write_no_text, write_report, write_text, write_unopened,
+    DEVICE, MEMORY, Options, OptionsFault, USAGE, options, status_of, write_fault, write_no_text,
+    write_report, write_text, write_unopened,
 };
 use std::alloc::{Alloc, AllocError, Global};
 use std::convert::AsStr;
@@ -183,7 +183,7 @@ where
     let (_reserved, count) = workers_beside(rt, chosen.workers);
     let Ok(started) = Workers::start(rt, alloc, count) else {
         write_fault(io.errors, &RunFault::Memory);
-        return NO_MEMORY;
+        return MEMORY;
     };
     run_started(rt, chosen, started, io)
 }
@@ -269,7 +269,7 @@ fn print_usage<O: Sink, E: Sink>(
 {
     let Ok(text) = format!(in alloc; "{error}") else {
         write_fault(errors, &RunFault::Memory);
-        return NO_MEMORY;
+        return MEMORY;
     };
     if error.use_stderr() {
         write_text(errors, text.as_bytes());
@@ -360,7 +360,7 @@ where
         Err(OptionsFault::Usage(error)) => print_usage(rt.alloc(), &error, output, errors),
         Err(OptionsFault::Memory) => {
             write_fault(errors, &RunFault::Memory);
-            NO_MEMORY
+            MEMORY
         }
     }
 }
@@ -376,7 +376,7 @@ pub fn without_words<E: Sink>(error: &io::Error, errors: &mut E) -> u8
 {
     if error.kind() == ErrorKind::OutOfMemory {
         write_fault(errors, &RunFault::Memory);
-        return NO_MEMORY;
+        return MEMORY;
     }
     write_no_text(errors);
     USAGE

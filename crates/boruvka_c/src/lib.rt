@@ -16,7 +16,7 @@
 //! - Nothing is written past what a caller gave.
 //!
 //! Where to start a change: a call's meaning, `specs/Links`, `Places`, `Labels` and `Texts`; a refusal, its code and its
-//! text, `specs/Refusals`, then `refusals`, and the header; what C sees change its meaning, `VERSION` too.
+//! text, `specs/Refusals`, then `refusals`, and the header; what C sees change its meaning, `CALLS_VERSION` too.
 #![tactic(auto)]
 
 ghost use Rattle.std.specs.Prelude.{◌≡◌};
@@ -43,12 +43,12 @@ pub use texts::boruvka_forest_text;
 pub use totals::{Sum, boruvka_total};
 
 /// The version of these calls: another one where a call, a code or a struct means something else.
-pub const VERSION: u32 = 1;
+pub const CALLS_VERSION: u32 = 1;
 
-/// The [`VERSION`] that was built, so that a caller can compare it with that of its header.
+/// The [`CALLS_VERSION`] that was built, so that a caller can compare it with that of its header.
 #[unsafe(no_mangle)]
 pub extern "C" fn boruvka_version() -> u32
-    ensures { result ≡ VERSION }
+    ensures { result ≡ CALLS_VERSION }
 {
-    VERSION
+    CALLS_VERSION
 }

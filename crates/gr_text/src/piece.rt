@@ -1,7 +1,7 @@
 //! Lines that wait for a write, put together so that a sink is called once for many.
 ghost use Rattle.std.specs.Prelude.{◌≡◌, ℕ, ◌+◌, ◌≤◌, List, [], ◌++◌, length, take, IsTrue, ◌↔◌};
 
-use crate::spelled::LINE_ROOM;
+use crate::spelled::SPELLED_ROOM;
 use std::marker::Model;
 
 /// How many bytes wait at most.
@@ -36,7 +36,7 @@ impl Piece {
     pub(crate) fn has_room(&self) -> bool
         ensures { IsTrue result ↔ (length self.now + 64 ≤ 8192) }
     {
-        self.len + LINE_ROOM <= PIECE_ROOM
+        self.len + SPELLED_ROOM <= PIECE_ROOM
     }
 
     pub(crate) fn push(&mut self, line: &[u8])

@@ -10,12 +10,12 @@ use std::marker::Model;
 
 /// The room for a line: a vertex has at most 10 digits, a weight and a number of links at most 20 bytes, and with the
 /// letters, spaces and the line feed they are shorter.
-pub(crate) const LINE_ROOM: usize = 64;
+pub(crate) const SPELLED_ROOM: usize = 64;
 
 /// The end of a line, as far as it is spelled.
 #[derive(Drop)]
 pub(crate) struct Spelled {
-    bytes: [u8; LINE_ROOM],
+    bytes: [u8; SPELLED_ROOM],
     start: usize,
 }
 
@@ -33,8 +33,8 @@ impl Spelled {
         ensures { result ≡ [] }
     {
         Spelled {
-            bytes: [0; LINE_ROOM],
-            start: LINE_ROOM,
+            bytes: [0; SPELLED_ROOM],
+            start: SPELLED_ROOM,
         }
     }
 

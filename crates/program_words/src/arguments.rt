@@ -8,7 +8,7 @@ ghost use Rattle.program_words.specs.Arguments.{file_of as the_file_of};
 ghost use Rattle.program_words.specs.Arguments.{IsOwn, IsOwnArg, IsOtherName, HoldsFrom};
 
 use crate::chosen::{Options, OptionsFault};
-use crate::version::VERSION;
+use crate::version::RELEASE;
 use clap::{Arg, ArgAction, ArgMatches, Command};
 use limits::{MAX_SHARDS, MAX_WORKERS};
 use std::alloc::{Alloc, AllocError, Global};
@@ -93,7 +93,7 @@ fn the_command<'a>(alloc: Global) -> Result<Command<'a>, AllocError>
     ensures app { IfOk result (λ c. app_of c ≡ program) }
 {
     let mut command = Command::new(alloc, "boruvka")
-        .version(VERSION)
+        .version(RELEASE)
         .about(ABOUT)
         .after_help(BEHIND_THE_HELP);
     command = with(command, workers_arg(alloc))?;

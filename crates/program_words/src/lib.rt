@@ -26,5 +26,5 @@ mod version;
 pub use arguments::{all_words, options};
 pub use chosen::{Options, OptionsFault};
 pub use messages::{write_fault, write_no_text, write_report, write_text, write_unopened};
-pub use statuses::{ANSWERS, DEVICE, NO_MEMORY, USAGE, status_of};
-pub use version::VERSION;
+pub use statuses::{ANSWERS, DEVICE, MEMORY, USAGE, status_of};
+pub use version::RELEASE;

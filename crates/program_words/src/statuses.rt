@@ -13,7 +13,7 @@ pub const USAGE: u8 = 2;
 pub const DEVICE: u8 = 3;
 
 /// Memory was refused.
-pub const NO_MEMORY: u8 = 4;
+pub const MEMORY: u8 = 4;
 
 /// What was answered in the rounds wasn't right.
 pub const ANSWERS: u8 = 5;
@@ -25,7 +25,7 @@ pub fn status_of(fault: &RunFault) -> u8
 {
     match fault {
         RunFault::Read(ReadFault::Memory) | RunFault::Cut(CutFault::Memory) | RunFault::Memory =>
-            NO_MEMORY,
+            MEMORY,
         RunFault::Read(ReadFault::Gr(_)) | RunFault::Read(ReadFault::TooLong) => 1,
         RunFault::Cut(_) => 1,
         RunFault::Read(ReadFault::Source { .. }) | RunFault::Write { .. } => DEVICE,
