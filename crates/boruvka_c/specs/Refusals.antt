@@ -1,5 +1,6 @@
 -- The codes of refusals, and their texts.
 use Rattle.std.specs.Prelude.{ℕ, ℤ, negsuc, List, codes}
+use Rattle.gr_text.specs.FaultText.{kind_text}
 use Rattle.gr_text.specs.declared.faults.GrKind.TheVariants.{UnknownLine, NoProblemYet, SecondProblem, BadProblem, TooLarge, BadArc, EndOutOfRange, WeightOutOfRange, TooManyArcs, MissingProblem, MissingArcs}
 use Rattle.boruvka_c.specs.declared.refusals.Refusal.{Refusal}
 use Rattle.boruvka_c.specs.declared.refusals.Refusal.TheVariants.{NoMemory, BadEnd, TooManyVertices, TooManyLinks, TooLong, Line, LengthsDiffer, TooFewPlaces, Cycle}
@@ -33,17 +34,7 @@ text_of BadEnd = codes "an end is no vertex"
 text_of TooManyVertices = codes "too many vertices"
 text_of TooManyLinks = codes "too many links"
 text_of TooLong = codes "file is too long"
-text_of (Line UnknownLine) = codes "UnknownLine"
-text_of (Line NoProblemYet) = codes "NoProblemYet"
-text_of (Line SecondProblem) = codes "SecondProblem"
-text_of (Line BadProblem) = codes "BadProblem"
-text_of (Line TooLarge) = codes "TooLarge"
-text_of (Line BadArc) = codes "BadArc"
-text_of (Line EndOutOfRange) = codes "EndOutOfRange"
-text_of (Line WeightOutOfRange) = codes "WeightOutOfRange"
-text_of (Line TooManyArcs) = codes "TooManyArcs"
-text_of (Line MissingProblem) = codes "MissingProblem"
-text_of (Line MissingArcs) = codes "MissingArcs"
+text_of (Line kind) = kind_text kind
 text_of LengthsDiffer = codes "lengths differ"
 text_of TooFewPlaces = codes "too few places"
 text_of Cycle = codes "a cycle"

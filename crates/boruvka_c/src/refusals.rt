@@ -47,25 +47,6 @@ fn code_of_line(kind: GrKind) -> i64
     }
 }
 
-// The name of what is wrong with a line.
-fn text_of_line(kind: GrKind) -> &'static [u8]
-    ensures { result.now ≡ text_of (Refusal.Line kind) }
-{
-    match kind {
-        GrKind::UnknownLine => b"UnknownLine",
-        GrKind::NoProblemYet => b"NoProblemYet",
-        GrKind::SecondProblem => b"SecondProblem",
-        GrKind::BadProblem => b"BadProblem",
-        GrKind::TooLarge => b"TooLarge",
-        GrKind::BadArc => b"BadArc",
-        GrKind::EndOutOfRange => b"EndOutOfRange",
-        GrKind::WeightOutOfRange => b"WeightOutOfRange",
-        GrKind::TooManyArcs => b"TooManyArcs",
-        GrKind::MissingProblem => b"MissingProblem",
-        GrKind::MissingArcs => b"MissingArcs",
-    }
-}
-
 impl Refusal {
     // Its code, a negative number.
     pub(crate) fn code(self) -> i64
@@ -122,7 +103,7 @@ impl Refusal {
             Refusal::TooManyVertices => b"too many vertices",
             Refusal::TooManyLinks => b"too many links",
             Refusal::TooLong => b"file is too long",
-            Refusal::Line(kind) => text_of_line(kind),
+            Refusal::Line(kind) => kind.name().as_bytes(),
             Refusal::LengthsDiffer => b"lengths differ",
             Refusal::TooFewPlaces => b"too few places",
             Refusal::Cycle => b"a cycle",

@@ -42,8 +42,8 @@ pub enum GrKind {
 }
 
 impl GrKind {
-    // Its name.
-    fn name(self) -> &'static str
+    /// Its name, by which each text tells of it.
+    pub fn name(self) -> &'static str
         ensures text { result.now ≡ kind_text self }
         ensures short { length result.now ≤ 20 }
     {
