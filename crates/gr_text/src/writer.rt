@@ -7,8 +7,8 @@ ghost use Rattle.gr_text.specs.Handing.{HandsOn, HandsPrefix};
 ghost use Rattle.gr_text.specs.Written.{written_count, PrefixWentOut};
 
 use crate::faults::FAULT_ROOM;
-use crate::piece::Piece;
-use crate::spelled::Spelled;
+use crate::piece::{Piece, push_line};
+use crate::spelled::{SPELLED_ROOM, Spelled};
 use arrayvec::ArrayString;
 use byte_streams::{Failed, Sink, put};
 use itoa::Buffer;
@@ -43,16 +43,16 @@ impl WriteFault {
 fn hand_on<W: Sink>(sink: &mut W, written: u64, piece: &mut Piece) -> Result<u64, WriteFault>
     requires { W.can_write sink.old }
 
-    ensures whole { IfOk result (λ total. HandsOn written total piece.old piece.new
+    ensures whole { IfOk result (λ total. HandsOn written total piece.old.items piece.new.items
         (W.state sink.old) (W.state sink.new)) }
-    ensures emptied { OnOk result (piece.new ≡ []) }
-    ensures part { IfErr result (λ fault. HandsPrefix written fault.written piece.old
+    ensures emptied { OnOk result (piece.new.items ≡ []) }
+    ensures part { IfErr result (λ fault. HandsPrefix written fault.written piece.old.items
         (W.state sink.old) (W.state sink.new)) }
     ensures again { OnOk result (W.can_write sink.new) }
 {
     match put(sink, piece.as_slice()) {
         Ok(()) => {
-            let count = piece.as_slice().len() as u64;
+            let count = piece.len() as u64;
             piece.clear();
             Ok(written.saturating_add(count))
         }
@@ -66,14 +66,14 @@ fn hand_on<W: Sink>(sink: &mut W, written: u64, piece: &mut Piece) -> Result<u64
 fn make_room<W: Sink>(sink: &mut W, written: u64, piece: &mut Piece) -> Result<u64, WriteFault>
     requires { W.can_write sink.old }
 
-    ensures moved { IfOk result (λ total. HandsOn written total piece.old piece.new
+    ensures moved { IfOk result (λ total. HandsOn written total piece.old.items piece.new.items
         (W.state sink.old) (W.state sink.new)) }
-    ensures room { OnOk result (length piece.new + 64 ≤ 8192) }
-    ensures part { IfErr result (λ fault. HandsPrefix written fault.written piece.old
+    ensures room { OnOk result (length piece.new.items + 64 ≤ 8192) }
+    ensures part { IfErr result (λ fault. HandsPrefix written fault.written piece.old.items
         (W.state sink.old) (W.state sink.new)) }
     ensures again { OnOk result (W.can_write sink.new) }
 {
-    if piece.has_room() {
+    if piece.remaining_capacity() >= SPELLED_ROOM {
         return Ok(written);
     }
     hand_on(sink, written, piece)
@@ -113,11 +113,11 @@ pub fn write_forest<W: Sink, A: Allocator>(
 {
     let links = forest.links();
     let mut piece = Piece::new();
-    piece.push(Spelled::header(n, links.len()).as_slice());
+    push_line(&mut piece, Spelled::header(n, links.len()).as_slice());
     let mut written = 0;
     for link in links {
         written = make_room(sink, written, &mut piece)?;
-        piece.push(Spelled::of_link(link).as_slice());
+        push_line(&mut piece, Spelled::of_link(link).as_slice());
     }
     written = hand_on(sink, written, &mut piece)?;
     match sink.flush() {

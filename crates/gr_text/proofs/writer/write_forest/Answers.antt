@@ -12,7 +12,7 @@ returns-in_err-written-clause-part g c =
 pub loop-link-preserved : goal.loop-link-preserved
 loop-link-preserved g c =
     let so_far = c.loop-link.invariant in
-    let pushed : c.push-in-loop-link.new.self ≡ c.make_room.new.piece ++ link_line c.link-item.result = search rules in
+    let pushed : c.push_line-in-loop-link.new.piece.items ≡ c.make_room.new.piece.items ++ link_line c.link-item.result = search rules in
     record {
       text = rw pushed (text_more _ _ _ _ _ _ _ _ _ _ _ c.loop-link-test.true c.link-item.is so_far.text c.in_ok-written.ensures.moved);
       can = c.in_ok-written.ensures.again;
