@@ -1,5 +1,6 @@
 -- What lines say when one more comes.
 use Rattle.std.proofs.Common.{◌≡◌, ℕ, ◌+◌, ◌<◌, ◌≤◌, inl, inr, List, [], ◌∷◌, ◌++◌, refl, ap, sym, ◌∙◌, subst, arith, append-nil, map, length, Option, Some, None, cond, true, false, Bool, Result, Ok, Err, MatchResult}
+use Rattle.std.specs.Prelude.{◌≢◌, ◌↔◌, IsNone, IfSome, option_to_list, max}
 use Rattle.std.specs.List.{filter}
 use Rattle.std.proofs.lemmas.List.{map-append, length_push}
 use Rattle.std.proofs.lemmas.List.Elements.{filter-append}
@@ -9,8 +10,8 @@ use Rattle.links.specs.Arc.{Arc}
 use Rattle.links.specs.Link.{Key, key_of, arc_key, is_no_loop, AreLinksOf}
 use Rattle.links.specs.declared.links.Link.{Link}
 use Rattle.gr_text.specs.Statement.{Statement, Problem, ArcLine, IsSilent, Says, Say}
-use Rattle.gr_text.specs.Graph.{IsArcOf, AreLawfulLines}
-use Rattle.gr_text.specs.LinesSoFar.{LinesSoFarValue, Counts, AreKept, Gives, Judges, AddsLink, AddsArc, IsLineFault}
+use Rattle.gr_text.specs.Graph.{HasEnds, IsArcOf, AreLawfulLines}
+use Rattle.gr_text.specs.LinesSoFar.{LinesSoFarValue, Counts, AreKept, Gives, Judges, AddsLink, IsLineFault}
 use Rattle.gr_text.proofs.Alls.{All-push}
 use Rattle.gr_text.specs.declared.sizes.Size.{Size}
 use Rattle.gr_text.specs.declared.faults.ReadFault.{ReadFault}
@@ -73,6 +74,31 @@ AreLinksOf-link arcs links arc link are no_loop key =
     ∙ sym (map-append arc_key (filter is_no_loop arcs) (arc ∷ []))
     ∙ ap (map arc_key) (ap (λ (b : Bool). filter is_no_loop arcs ++ cond b (arc ∷ []) []) (sym no_loop) ∙ sym (filter-append is_no_loop arcs (arc ∷ [])))
 
+-- the links of an arc alone, and those of more arcs after others
+pub links_of_arc : (arc : Arc) (link : Option Link) → (IsNone link ↔ (arc.tail ≡ arc.head)) → IfSome link (λ l. key_of l ≡ arc_key arc)
+    → AreLinksOf (arc ∷ []) (option_to_list link)
+links_of_arc arc None loop key =
+    let same : arc.tail ≡ arc.head = loop.0 refl in
+    AreLinksOf-loop [] [] arc refl (grind (arith, nat_tests))
+links_of_arc arc (Some link) loop key =
+    let differ : arc.tail ≢ arc.head = λ same. let never : true ≡ false = loop.1 same in cc in
+    AreLinksOf-link [] [] arc link refl (grind (arith, nat_tests)) key
+
+AreLinksOf-append : (arcs more : List Arc) (links others : List Link) → AreLinksOf arcs links → AreLinksOf more others → AreLinksOf (arcs ++ more) (links ++ others)
+AreLinksOf-append arcs more links others are also =
+    map-append key_of links others
+    ∙ ap (λ (ks : List Key). ks ++ map key_of others) are
+    ∙ ap (λ (ks : List Key). map arc_key (filter is_no_loop arcs) ++ ks) also
+    ∙ sym (map-append arc_key (filter is_no_loop arcs) (filter is_no_loop more))
+    ∙ ap (map arc_key) (sym (filter-append is_no_loop arcs more))
+
+-- an arc's link has its ends
+pub link_within : (n : ℕ) (arc : Arc) (link : Option Link) → HasEnds n arc → IfSome link (λ l. key_of l ≡ arc_key arc) → IfSome link (λ l. l.high ≤ n)
+link_within n arc None ends key = tt
+link_within n arc (Some link) ends key =
+    let high : link.high ≡ max arc.tail arc.head = ap (λ (k : Key). k.2) key in
+    omega (arith, high, ends.tail_in_range, ends.head_in_range)
+
 pub counts_of : (size : Option Size) (count : ℕ) (links : List Link) (lines : List (List ℕ)) → AreKept size count links lines → Counts size count lines
 counts_of None count links lines (say, zero_count, none) = (say, zero_count)
 counts_of (Some size) count links lines (arcs, lawful, counted, are) = (arcs, lawful, counted)
@@ -88,28 +114,22 @@ Gives-problem None new count links lines line (say, zero_count, none) (is, says,
     ([], AreLawfulLines-problem lines line new.vertices new.arcs say says vertices arcs, sym zero_count, ap (map key_of) none)
 Gives-problem (Some size) new count links lines line gives (is, says, vertices, arcs) = absurd (cc)
 
-links_with : (arcs : List Arc) (old new : List Link) (arc : Arc) → AreLinksOf arcs old → AddsLink old new arc → AreLinksOf (arcs ++ arc ∷ []) new
-links_with arcs old new arc are (inl (same, is)) =
-    rw is (AreLinksOf-loop arcs old arc are (grind (arith, nat_tests)))
-links_with arcs old new arc are (inr (differ, (link, key, is))) =
-    rw is (AreLinksOf-link arcs old arc link are (grind (arith, nat_tests)) key)
-
-pub Gives-arc : (size size' : Option Size) (count count' : ℕ) (old new : List Link) (lines : List (List ℕ)) (line : List ℕ) (arc : Arc)
-    → AreKept size count old lines → Judges (verdict.Adds arc) size count lines line → size' ≡ size → count' ≡ count + 1
-    → AddsLink old new arc → AreKept size' count' new (lines ++ line ∷ [])
-Gives-arc None size' count count' old new lines line arc gives judged same more adds = absurd judged
-Gives-arc (Some size) size' count count' old new lines line arc (arcs, lawful, counted, are) (says, is_arc, room) same more adds =
+Gives-arc : (size size' : Option Size) (count count' : ℕ) (old new : List Link) (lines : List (List ℕ)) (line : List ℕ) (link : Option Link)
+    → AreKept size count old lines → Judges (verdict.Adds link) size count lines line → size' ≡ size → count' ≡ count + 1
+    → new ≡ old ++ option_to_list link → AreKept size' count' new (lines ++ line ∷ [])
+Gives-arc None size' count count' old new lines line link gives judged same more adds = absurd judged
+Gives-arc (Some size) size' count count' old new lines line link (arcs, lawful, counted, are) (arc, says, is_arc, room, of_arc) same more adds =
     subst (λ (s : Option Size). AreKept s count' new (lines ++ line ∷ [])) (sym same) (
       arcs ++ arc ∷ [],
       AreLawfulLines-arc lines line size.vertices size.arcs arcs arc lawful says is_arc (omega arith),
       omega (arith, length_push arcs arc),
-      links_with arcs old new arc are adds,
+      subst (AreLinksOf (arcs ++ arc ∷ [])) (sym adds) (AreLinksOf-append arcs (arc ∷ []) old (option_to_list link) are of_arc),
     )
 
-pub arc_taken : {X : Type 0} (r : Result X ReadFault) (old new : LinesSoFarValue) (lines : List (List ℕ)) (line : List ℕ) (arc : Arc) (number : ℕ)
-    → MatchResult r (λ _. AddsArc old new arc) (λ e. e ≡ fault.Memory)
-    → Gives old lines → Judges (verdict.Adds arc) old.size old.count lines line
+pub arc_taken : {X : Type 0} (r : Result X ReadFault) (old new : LinesSoFarValue) (lines : List (List ℕ)) (line : List ℕ) (link : Option Link) (number : ℕ)
+    → MatchResult r (λ _. AddsLink old new link) (λ e. e ≡ fault.Memory)
+    → Gives old lines → Judges (verdict.Adds link) old.size old.count lines line
     → MatchResult r (λ _. Gives new (lines ++ line ∷ [])) (λ e. IsLineFault e number lines line)
-arc_taken (Ok x) old new lines line arc number (same, more, adds) gives judged =
-    Gives-arc old.size new.size old.count new.count old.links new.links lines line arc gives judged same more adds
-arc_taken (Err e) old new lines line arc number is gives judged = rw is tt
+arc_taken (Ok x) old new lines line link number (same, more, adds) gives judged =
+    Gives-arc old.size new.size old.count new.count old.links new.links lines line link gives judged same more adds
+arc_taken (Err e) old new lines line link number is gives judged = rw is tt

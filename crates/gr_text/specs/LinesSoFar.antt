@@ -1,11 +1,11 @@
 -- What the lines that were read say, and what a further line does.
-use Rattle.std.specs.Prelude.{◌≡◌, ◌≢◌, ℕ, ◌+◌, ◌<◌, ◌≤◌, ◌⊎◌, List, [], length, Option, Some, None, ◌++◌, ◌∷◌, Result, MatchResult}
+use Rattle.std.specs.Prelude.{◌≡◌, ℕ, ◌+◌, ◌<◌, ◌≤◌, List, [], length, Option, Some, None, IfSome, option_to_list, ◌++◌, ◌∷◌, Result, MatchResult}
 use Rattle.limits.specs.declared.TheConstants.{MAX_ARCS, MAX_VERTICES}
 use Rattle.links.specs.Arc.{Arc}
-use Rattle.links.specs.Link.{key_of, arc_key, AreLinksOf, EndsUpTo}
+use Rattle.links.specs.Link.{AreLinksOf, EndsUpTo}
 use Rattle.links.specs.declared.links.Link.{Link}
 use Rattle.gr_text.specs.Statement.{Problem, ArcLine, IsSilent, Says, Say}
-use Rattle.gr_text.specs.Graph.{GraphValue, HasEnds, IsArcOf, AreLawfulLines}
+use Rattle.gr_text.specs.Graph.{GraphValue, IsArcOf, AreLawfulLines}
 use Rattle.gr_text.specs.Fault.{IsFaultAfter, Lacks}
 use Rattle.gr_text.specs.declared.faults.ReadFault.{ReadFault}
 use Rattle.gr_text.specs.declared.faults.ReadFault.TheVariants as fault
@@ -18,11 +18,11 @@ abbrev pub Counts : Option Size → ℕ → List (List ℕ) → Type 0
 Counts None count lines = Say lines [] × (count ≡ 0)
 Counts (Some size) count lines = (arcs : List Arc) × AreLawfulLines lines size.vertices size.arcs arcs × (length arcs ≡ count)
 
--- what a verdict promises of any lines: a problem comes first, and an arc has ends in range and finds room
+-- what a verdict promises of any lines: a problem comes first, and a link has ends in range and finds room
 abbrev pub FitsAfter : Verdict → Option Size → ℕ → Type 0
 FitsAfter verdict.Silent size count = Unit {0}
 FitsAfter (verdict.Begins new) size count = size ≡ None
-FitsAfter (verdict.Adds arc) size count = (old : Size) × (size ≡ Some old) × HasEnds old.vertices arc × (count < old.arcs)
+FitsAfter (verdict.Adds link) size count = (old : Size) × (size ≡ Some old) × IfSome link (λ l. l.high ≤ old.vertices) × (count < old.arcs)
 FitsAfter (verdict.Faulty kind) size count = Unit {0}
 
 -- what is kept of any lines: no more arcs than the problem states, and links of its vertices, no more than arcs
@@ -35,8 +35,9 @@ abbrev pub Judges : Verdict → Option Size → ℕ → List (List ℕ) → List
 Judges verdict.Silent size count lines line = IsSilent line
 Judges (verdict.Begins new) size count lines line = (size ≡ None) × Says line (Problem new.vertices new.arcs)
     × (new.vertices ≤ MAX_VERTICES) × (new.arcs ≤ MAX_ARCS)
-Judges (verdict.Adds arc) None count lines line = ⊥
-Judges (verdict.Adds arc) (Some size) count lines line = Says line (ArcLine arc) × IsArcOf size.vertices arc × (count < size.arcs)
+Judges (verdict.Adds link) None count lines line = ⊥
+Judges (verdict.Adds link) (Some size) count lines line =
+    (arc : Arc) × Says line (ArcLine arc) × IsArcOf size.vertices arc × (count < size.arcs) × AreLinksOf (arc ∷ []) (option_to_list link)
 Judges (verdict.Faulty kind) size count lines line = IsFaultAfter lines line kind
 
 -- the same of each such line, after any lines that state this problem, if one, and as many arcs
@@ -72,14 +73,9 @@ IsLineFault fault.Memory number lines line = Unit {0}
 abbrev pub IsTaken : {X : Type 0} → Result X ReadFault → LinesSoFarValue → ℕ → List (List ℕ) → List ℕ → Type 0
 IsTaken result kept number lines line = MatchResult result (λ _. Gives kept (lines ++ line ∷ [])) (λ e. IsLineFault e number lines line)
 
--- the links with that of one more arc
-abbrev pub AddsLink : List Link → List Link → Arc → Type 0
-AddsLink old new arc = ((arc.tail ≡ arc.head) × (new ≡ old))
-    ⊎ ((arc.tail ≢ arc.head) × ((link : Link) × (key_of link ≡ arc_key arc) × (new ≡ old ++ link ∷ [])))
-
--- one more arc is kept
-abbrev pub AddsArc : LinesSoFarValue → LinesSoFarValue → Arc → Type 0
-AddsArc old new arc = (new.size ≡ old.size) × (new.count ≡ old.count + 1) × AddsLink old.links new.links arc
+-- one more arc is kept, of this link, or a loop
+abbrev pub AddsLink : LinesSoFarValue → LinesSoFarValue → Option Link → Type 0
+AddsLink old new link = (new.size ≡ old.size) × (new.count ≡ old.count + 1) × (new.links ≡ old.links ++ option_to_list link)
 
 -- the graph of whole lines
 abbrev pub IsGraphOfLines : List (List ℕ) → GraphValue → Type 0

@@ -20,7 +20,6 @@
 //! say); an arc line in its usual form that lies whole in a piece is read at once, by `usual_line`.
 #![tactic(auto)]
 
-mod arcs;
 mod faults;
 mod graphs;
 pub mod laws;

@@ -1,8 +1,7 @@
 ghost use Rattle.std.specs.Prelude.{◌≡◌, ℕ, List, [], MatchResult};
 ghost use Rattle.gr_text.specs.PartialLine.{IsWhole};
-ghost use Rattle.gr_text.specs.LinesSoFar.{AddsArc, FitsAfter, Gives, IsGraphOfLines, IsLack, IsTaken};
+ghost use Rattle.gr_text.specs.LinesSoFar.{AddsLink, FitsAfter, Gives, IsGraphOfLines, IsLack, IsTaken};
 
-use crate::arcs::Arc;
 use crate::faults::{GrFault, GrKind, ReadFault};
 use crate::graphs::Graph;
 use crate::sizes::Size;
@@ -58,7 +57,7 @@ impl<A: Allocator> LinesSoFar<A> {
                 self.size = Some(size);
                 Ok(())
             }
-            Verdict::Adds(arc) => self.add(arc),
+            Verdict::Adds(link) => self.add(link),
             Verdict::Faulty(kind) => Err(ReadFault::Gr(GrFault { line: number, kind })),
         }
     }
@@ -86,18 +85,16 @@ impl<A: Allocator> LinesSoFar<A> {
         }
     }
 
-    // Adds an arc of the problem's vertices.
+    // Adds an arc of this link, or a loop.
     #[inline(always)]
-    fn add(&mut self, arc: Arc) -> Result<(), ReadFault>
-        requires { FitsAfter (Verdict.Adds arc) self.old.size self.old.count }
-        ensures { MatchResult result (λ _. AddsArc self.old self.new arc) (λ e. e ≡ ReadFault.Memory) }
+    fn add(&mut self, link: Option<Link>) -> Result<(), ReadFault>
+        requires { FitsAfter (Verdict.Adds link) self.old.size self.old.count }
+        ensures { MatchResult result (λ _. AddsLink self.old self.new link) (λ e. e ≡ ReadFault.Memory) }
     {
-        let Some(link) = Link::of_arc(arc.tail, arc.head, arc.weight) else {
-            self.count += 1;
-            return Ok(());
-        };
-        if self.links.push(link).is_err() {
-            return Err(ReadFault::Memory);
+        if let Some(link) = link {
+            if self.links.push(link).is_err() {
+                return Err(ReadFault::Memory);
+            }
         }
         self.count += 1;
         Ok(())

@@ -5,11 +5,11 @@ ghost use Rattle.gr_text.specs.LinesSoFar.{FitsAfter, JudgesEach};
 ghost use Rattle.gr_text.specs.Sort.{IsOfSort, NoArc, NoProblem};
 ghost use Rattle.gr_text.specs.Graph.{IsWeight};
 
-use crate::arcs::Arc;
 use crate::faults::GrKind;
 use crate::sizes::Size;
 use crate::words::{LineFields, Signed};
 use limits::{MAX_ARCS, MAX_VERTICES};
+use links::Link;
 
 /// What a line does after those before it.
 #[derive(Clone, Copy)]
@@ -18,8 +18,8 @@ pub(crate) enum Verdict {
     Silent,
     /// It states the problem.
     Begins(Size),
-    /// It adds this arc.
-    Adds(Arc),
+    /// It adds an arc of this link, or a loop, which has none.
+    Adds(Option<Link>),
     /// It has a fault.
     Faulty(GrKind),
 }
@@ -87,11 +87,7 @@ fn judge_arc(size: Option<Size>, count: u32, u: u64, v: u64, w: Signed) -> Verdi
         return Verdict::Faulty(GrKind::EndOutOfRange);
     }
     match weight_of(w) {
-        Some(weight) => Verdict::Adds(Arc {
-            tail: u as u32,
-            head: v as u32,
-            weight,
-        }),
+        Some(weight) => Verdict::Adds(Link::of_arc(u as u32, v as u32, weight)),
         None => Verdict::Faulty(GrKind::WeightOutOfRange),
     }
 }

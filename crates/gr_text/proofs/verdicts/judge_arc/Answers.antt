@@ -1,14 +1,17 @@
-use Rattle.std.proofs.Common.{◌≡◌, subst, sym, arith, ◌∙◌, rules, inl, inr, refl, Option, w64}
+use Rattle.std.proofs.Common.{◌≡◌, [], ◌∷◌, subst, sym, arith, ◌∙◌, rules, inl, inr, refl, Option, w64}
 use Rattle.std.proofs.lemmas.Int.{to_z-of_z}
 use mir.Val.{to_z, of_z, SFits}
+use Rattle.std.specs.Prelude.{option_to_list}
 use Rattle.links.specs.Arc.{Arc}
-use Rattle.gr_text.specs.Statement.{Says, ArcLine}
+use Rattle.links.specs.Link.{AreLinksOf}
+use Rattle.gr_text.specs.Statement.{ArcLine}
 use Rattle.gr_text.specs.Sort.{Makes}
-use Rattle.gr_text.specs.Graph.{HasEnds, IsArcOf}
+use Rattle.gr_text.specs.Graph.{HasEnds}
 use Rattle.gr_text.specs.LinesSoFar.{Judges}
 use Rattle.gr_text.specs.declared.sizes.Size.{Size}
 use Rattle.gr_text.specs.declared.verdicts.Verdict.TheVariants as verdict
 use Rattle.gr_text.proofs.Judging.{fault_alone, fault_behind, kept_end, ends_of}
+use Rattle.gr_text.proofs.Steps.{links_of_arc, link_within}
 use Rattle.gr_text.proofs.Unique.{arc_unique}
 use Rattle.gr_text.proofs.verdicts.judge_arc.Goals as goal
 use Rattle.gr_text.proofs.verdicts.judge_arc.Goals.{then-u-lt1-via-then-u-lt1, then-u-lt1-via-else-u-lt1+then-u-most, then-u-lt1-via-else-u-lt1+else-u-most+then-v-lt1, then-u-lt1-via-else-u-lt1+else-u-most+else-v-lt1+then-v-most}
@@ -47,9 +50,12 @@ returns-in-Some-weight_of-clause-judged c = λ lines bytes counts (arc, says, ta
     let weight_is : to_z w64 (of_z w64 c.in-Some-weight_of.weight) ≡ arc.weight = to_z-of_z w64 c.in-Some-weight_of.weight fits ∙ weighed.0 in
     let kept : Arc = record { tail = c.args.u; head = c.args.v; weight = to_z w64 (of_z w64 c.in-Some-weight_of.weight) } in
     let same = arc_unique arc kept (kept_end c.args.u arc.tail n tail (omega (arith, c.if-u-most.false)) lawful.vertices) (kept_end c.args.v arc.head n head (omega (arith, c.if-v-most.false)) lawful.vertices) (sym weight_is) in
-    subst (λ (s : Option Size). Judges (verdict.Adds kept) s c.args.count lines bytes) (sym c.in-Some.is)
-    (subst (λ (a : Arc). Says bytes (ArcLine a)) same says, subst (IsArcOf n) same (ends, weighed.1), c.if-count-size.false)
+    let link = links_of_arc kept _ c.of_arc.ensures.none_for_a_loop c.of_arc.ensures.key in
+    subst (λ (s : Option Size). Judges (verdict.Adds c.of_arc.result) s c.args.count lines bytes) (sym c.in-Some.is)
+    (arc, says, (ends, weighed.1), c.if-count-size.false, subst (λ (a : Arc). AreLinksOf (a ∷ []) (option_to_list c.of_arc.result)) (sym same) link)
 
 pub returns-in-Some-weight_of-clause-fits : goal.returns-in-Some-weight_of-clause-fits
 returns-in-Some-weight_of-clause-fits c =
-    (c.in-Some.size, c.in-Some.is, record { tail_from_one = omega arith; tail_in_range = omega arith; head_from_one = omega arith; head_in_range = omega arith }, omega arith)
+    let kept : Arc = record { tail = c.args.u; head = c.args.v; weight = to_z w64 (of_z w64 c.in-Some-weight_of.weight) } in
+    let ends : HasEnds c.in-Some.size.vertices kept = record { tail_from_one = omega arith; tail_in_range = omega arith; head_from_one = omega arith; head_in_range = omega arith } in
+    (c.in-Some.size, c.in-Some.is, link_within _ kept _ ends c.of_arc.ensures.key, omega arith)

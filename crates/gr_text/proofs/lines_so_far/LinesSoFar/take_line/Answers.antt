@@ -5,7 +5,7 @@ use Rattle.gr_text.proofs.Steps.{counts_of, Gives-silent, Gives-problem, arc_tak
 use Rattle.gr_text.proofs.lines_so_far.LinesSoFar.take_line.Goals as goal
 
 pub add-requires : goal.add-requires
-add-requires g c = subst (λ (v : LinesSoFarValue). FitsAfter (verdict.Adds c.in-Adds.arc) v.size v.count) c.self.view_is c.in-Adds.ensures.fits
+add-requires g c = subst (λ (v : LinesSoFarValue). FitsAfter (verdict.Adds c.in-Adds.link) v.size v.count) c.self.view_is c.in-Adds.ensures.fits
 
 pub returns-in-Silent : goal.returns-in-Silent
 returns-in-Silent g c = λ lines bytes gives whole.
@@ -26,8 +26,8 @@ returns-in-Adds g c = λ lines bytes gives whole.
     let inside = c.self.inside in
     let known = subst (λ (v : LinesSoFarValue). Gives v lines) (sym c.self.view_is) gives in
     let judged = c.in-Adds.ensures.judged lines bytes (counts_of inside.size inside.count inside.links.items lines known) whole in
-    arc_taken c.add.result c.args.self.now _ lines bytes c.in-Adds.arc c.args.number c.add.ensures gives
-    (subst (λ (v : LinesSoFarValue). Judges (verdict.Adds c.in-Adds.arc) v.size v.count lines bytes) c.self.view_is judged)
+    arc_taken c.add.result c.args.self.now _ lines bytes c.in-Adds.link c.args.number c.add.ensures gives
+    (subst (λ (v : LinesSoFarValue). Judges (verdict.Adds c.in-Adds.link) v.size v.count lines bytes) c.self.view_is judged)
 
 pub returns-in-Faulty : goal.returns-in-Faulty
 returns-in-Faulty g c = λ lines bytes gives whole.
