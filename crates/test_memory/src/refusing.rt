@@ -1,12 +1,12 @@
 ghost use mir.Syntax.{Ty};
 ghost use types.Logic.{sem};
-ghost use Rattle.std.specs.Prelude.{◌≡◌, OnOk};
+ghost use Rattle.std.specs.Prelude.{◌≡◌, ◌≤◌, OnOk};
 ghost use Rattle.std.specs.Allocator.{HasLayout, block_if_ok};
 ghost use Rattle.test_memory.specs.Refused.{IsLetPass};
 
-use crate::counter::Counter;
 use crate::gate::Gate;
 use crate::refusals::Refusals;
+use crate::tally::Tally;
 use std::alloc::{AllocError, Allocator};
 
 /// An allocator that counts what is asked of it, passes it on to another, and refuses some of it.
@@ -16,8 +16,14 @@ use std::alloc::{AllocError, Allocator};
 pub struct Refusing<B: Allocator> {
     inner: B,
     gate: Gate,
-    given: Counter,
-    given_back: Counter,
+    blocks: Tally,
+}
+
+/// How many bytes blocks have: those that live, and the most that lived at once.
+#[derive(Clone, Copy, Debug, PartialEq, Eq)]
+pub struct Bytes {
+    pub now: u64,
+    pub most: u64,
 }
 
 impl<B: Allocator> Refusing<B> {
@@ -28,8 +34,7 @@ impl<B: Allocator> Refusing<B> {
         Refusing {
             inner,
             gate: Gate::new(refusals),
-            given: Counter::new(),
-            given_back: Counter::new(),
+            blocks: Tally::new(),
         }
     }
 
@@ -47,12 +52,12 @@ impl<B: Allocator> Refusing<B> {
 
     /// How many blocks were handed out.
     pub fn given(&self) -> u64 {
-        self.given.so_far()
+        self.blocks.given()
     }
 
     /// How many blocks came back.
     pub fn given_back(&self) -> u64 {
-        self.given_back.so_far()
+        self.blocks.given_back()
     }
 
     /// How many blocks live: they were handed out and haven't come back. Exact where no other thread takes or gives back
@@ -60,6 +65,25 @@ impl<B: Allocator> Refusing<B> {
     pub fn live(&self) -> u64 {
         let given_back = self.given_back();
         self.given().saturating_sub(given_back)
+    }
+
+    /// How many bytes the blocks have that live, and the most that lived at once since [`Refusing::watch`] was called
+    /// last. A block that grows lives beside the one that it grew from, until its content is copied. Exact where no other
+    /// thread takes or gives back a block meanwhile.
+    pub fn bytes(&self) -> Bytes
+        ensures { result.now ≤ result.most }
+    {
+        let now = self.blocks.bytes();
+        Bytes {
+            now,
+            most: self.blocks.peak().max(now),
+        }
+    }
+
+    /// From now on the most bytes are those since now. Returns the bytes that live.
+    pub fn watch(&self) -> u64 {
+        self.blocks.restart();
+        self.blocks.bytes()
     }
 }
 
@@ -77,7 +101,7 @@ unsafe impl<B: Allocator> Allocator for Refusing<B> {
         }
         match self.inner.allocate(size, align) {
             Ok(block) => {
-                self.given.count();
+                self.blocks.give(size);
                 Ok(block)
             }
             Err(error) => Err(error),
@@ -85,7 +109,7 @@ unsafe impl<B: Allocator> Allocator for Refusing<B> {
     }
 
     unsafe fn deallocate(&self, ptr: *mut u8, size: usize, align: usize) {
-        self.given_back.count();
+        self.blocks.take_back(size);
         self.inner.deallocate(ptr, size, align);
     }
 }
