@@ -1,3 +1,4 @@
+mod components;
 mod drawn_lists;
 mod drawn_texts;
 mod fault_texts;

@@ -1,6 +1,7 @@
 // Calls that may answer want of memory, each with ample memory at each size of a table: none and few, the pieces that a
 // call works in, less one, themselves and one more, and far past them. A body that gives up at some size is proved as
 // well as one that doesn't. What is expected is written by a formula, here.
+use super::components::expect_components;
 use super::drawn_lists::expect_forest;
 use super::lists::{have_lows_ascending, links_between};
 use super::same::expect_same;
@@ -147,6 +148,40 @@ fn forests_of_trees_in_order(rt: HostRuntime) {
         if n > 2 {
             arcs.push((1, n, 0)).expect(&rt, "memory");
             expect_forest(&rt, rt.alloc(), n, arcs.as_slice(), links.as_slice());
+        }
+    }
+}
+
+// The links of the vertices 1 to n that are two apart: a path of the odd vertices and one of the even ones, whose links
+// weigh this.
+fn two_paths(rt: &impl Abort, alloc: Global, n: u32, even: i64) -> Vec<Row> {
+    let mut arcs = Vec::new(alloc);
+    for v in 3..n.wrapping_add(1) {
+        let weight = if v % 2 == 0 { even } else { i64::from(v) };
+        arcs.push((v.wrapping_sub(2), v, weight))
+            .expect(rt, "memory");
+    }
+    arcs
+}
+
+// Two components, whose least vertices are 1 and 2. With the greatest weight there is, keys don't fit 64 bits. There is none
+// once a link joins the ends of a path that has two links or more, or once a link stands twice.
+#[test]
+fn components_of_paths(rt: HostRuntime) {
+    for n in SIZES {
+        let labels: Vec<u32> = (1..n.wrapping_add(1))
+            .map(|v| if v % 2 == 0 { 2 } else { 1 })
+            .collect(rt.alloc())
+            .expect(&rt, "memory");
+        for (even, ends) in [(0, (1, 5)), (i64::MAX, (1, 3))] {
+            let arcs = two_paths(&rt, rt.alloc(), n, even);
+            let mut mixed = scattered(&rt, rt.alloc(), arcs.as_slice());
+            let wanted = Some(labels.as_slice());
+            expect_components(&rt, rt.alloc(), n, mixed.as_slice(), wanted);
+            if n >= 5 {
+                mixed.push((ends.1, ends.0, 3)).expect(&rt, "memory");
+                expect_components(&rt, rt.alloc(), n, mixed.as_slice(), None);
+            }
         }
     }
 }

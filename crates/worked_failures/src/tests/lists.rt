@@ -4,7 +4,7 @@ ghost use Rattle.links.specs.Link.{EndsUpTo};
 
 use super::in_turn::{Memory, expect_each, or_refused};
 use super::same::expect_same;
-use link_key::{Cut, CutFault, Labels, Link, plain_forest};
+use link_key::{Cut, CutFault, Labels, Link, components_of, plain_forest};
 use std::alloc::{AllocError, Global};
 use std::process::Abort;
 use worked_graphs::{Row, SMALL_NET, Worked, all_have_labels, links_of};
@@ -15,6 +15,8 @@ enum Call {
     Even,
     At,
     PlainForest,
+    Components,
+    Cycle,
 }
 
 // The links of at most eight arcs between so many vertices, none of them a loop, in memory that isn't refused.
@@ -66,7 +68,22 @@ fn expect_sizes(
     Ok(())
 }
 
-// Labels of three vertices; cuts of eight links; the small net's forest.
+// The labels of the components of links between six vertices.
+fn expect_components(
+    rt: &impl Abort,
+    memory: &Memory,
+    links: &[Link],
+    labels: Option<&[u32]>,
+) -> Result<(), AllocError>
+    requires few { length links.now ≤ 8 }
+    requires ends { EndsUpTo 6 links.now }
+{
+    let found = components_of(memory, 6, links.to_vec(memory)?)?;
+    expect_same(rt, found.as_ref().map(|found| found.as_slice()), labels);
+    Ok(())
+}
+
+// Labels of three vertices; cuts of eight links; the small net's forest, its components, and those of all links, none.
 fn make(rt: &impl Abort, alloc: Global, memory: &Memory, call: Call) -> Result<(), AllocError> {
     let links = few_links(rt, alloc, 6, SMALL_NET.arcs);
     let links = links.as_slice();
@@ -81,13 +98,25 @@ fn make(rt: &impl Abort, alloc: Global, memory: &Memory, call: Call) -> Result<(
             let forest = plain_forest(memory, 6, links)?;
             expect_forest(rt, alloc, forest.links(), &SMALL_NET);
         }
+        Call::Components => {
+            let forest = few_links(rt, alloc, 6, SMALL_NET.forest);
+            expect_components(rt, memory, forest.as_slice(), Some(&[1; 6]))?;
+        }
+        Call::Cycle => expect_components(rt, memory, links, None)?,
     }
     Ok(())
 }
 
 #[test]
 fn labels_cuts_and_forests(rt: HostRuntime) {
-    for call in [Call::Apart, Call::Even, Call::At, Call::PlainForest] {
+    for call in [
+        Call::Apart,
+        Call::Even,
+        Call::At,
+        Call::PlainForest,
+        Call::Components,
+        Call::Cycle,
+    ] {
         expect_each(
             &rt,
             rt.alloc(),
