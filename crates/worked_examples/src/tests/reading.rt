@@ -170,20 +170,28 @@ fn reads_lines_that_end_in_carriage_return_and_line_feed(rt: HostRuntime) {
 }
 
 // Nine bytes are too few for ten and ten are enough, wherever the text is cut: also where a piece begins at the limit.
+// The line feed, the ninth byte, ends the first line.
 #[test]
 fn takes_no_more_than_its_limit(rt: HostRuntime) {
     let text = b"p sp 0 0\nc";
     let too_long = Err(ReadFault::TooLong);
     for at in 0..=text.len() {
         let (first, second) = text.split_at(at);
+        let line = if at < 9 { 1 } else { 2 };
         let mut short = GrReader::new(rt.alloc(), 9);
-        let answers = (short.feed(first).is_ok(), short.feed(second));
-        expect_same(&rt, (at, answers), (at, (at < 10, too_long)));
+        let took = short.feed(first).is_ok();
+        expect_same(&rt, (at, took), (at, at < 10));
+        if took {
+            expect_same(&rt, (at, short.line()), (at, line));
+        }
+        expect_same(&rt, (at, short.feed(second)), (at, too_long));
         let read = short.finish().map(|graph| graph.n());
         expect_same(&rt, read, Err(ReadFault::TooLong));
         let mut enough = GrReader::new(rt.alloc(), 10);
-        let answers = (enough.feed(first), enough.feed(second), enough.feed(b""));
-        expect_same(&rt, (at, answers), (at, (Ok(()), Ok(()), Ok(()))));
+        let answers = (enough.feed(first), enough.line());
+        expect_same(&rt, (at, answers), (at, (Ok(()), line)));
+        let answers = (enough.feed(second), enough.feed(b""));
+        expect_same(&rt, (at, answers), (at, (Ok(()), Ok(()))));
         expect_same(&rt, enough.line(), 2);
         let read = enough.finish().map(|graph| graph.n());
         expect_same(&rt, read, Ok(0));
