@@ -12,8 +12,9 @@
 //!   touched                      scans of a few links under many labels, one after the other
 //!   fault_texts                  the text of each fault of a session
 //!   refusals                     work whose allocations are refused in turn
-//!   memory_counts                an allocator that counts its blocks
+//!   memory_counts                an allocator that counts its blocks and their bytes
 //!   memory_of_lists              which blocks live after a list was handed in
+//!   processors                   how many tables a scan by threads makes
 //!   memory_of_scans              which blocks scans and asks take
 //!   same                         what is found beside what is expected
 //! ```

@@ -7,6 +7,7 @@ mod labels;
 mod memory_counts;
 mod memory_of_lists;
 mod memory_of_scans;
+mod processors;
 mod refusals;
 mod same;
 mod scans;

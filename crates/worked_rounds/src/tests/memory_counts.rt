@@ -1,8 +1,8 @@
-// The allocator that counts its blocks and refuses chosen allocations.
+// The allocator that counts its blocks and their bytes, and refuses chosen allocations.
 use super::same::expect_same;
 use std::alloc::Allocator;
 use std::process::Abort;
-use test_memory::{Refusals, Refusing};
+use test_memory::{Bytes, Refusals, Refusing};
 
 // How many blocks were asked for, were given, were given back, and live.
 pub(crate) fn counts<A: Allocator>(memory: &Refusing<A>) -> [u64; 4] {
@@ -34,6 +34,55 @@ fn counts_blocks(rt: HostRuntime) {
         [both, one, none],
         [[2, 2, 0, 2], [2, 2, 1, 1], [2, 2, 2, 0]],
     );
+}
+
+// Forty bytes, and five beside them; the forty come back, and thirty-two others are given. So many live at last.
+#[test]
+fn counts_bytes(rt: HostRuntime) {
+    let memory = Refusing::new(rt.alloc(), Refusals::none());
+    let none = memory.bytes();
+    let words = [7u64; 5].to_vec(&memory).expect(&rt, "memory");
+    let bytes = [8u8; 5].to_vec(&memory).expect(&rt, "memory");
+    let both = memory.bytes();
+    drop(words);
+    let five = memory.bytes();
+    let words = [7u64; 4].to_vec(&memory).expect(&rt, "memory");
+    let found = [none, both, five, memory.bytes()];
+    let wanted = [(0, 0), (45, 45), (5, 45), (37, 45)];
+    expect_same(&rt, found, wanted.map(|(now, most)| Bytes { now, most }));
+    drop((words, bytes));
+    expect_same(&rt, memory.bytes(), Bytes { now: 0, most: 45 });
+}
+
+// The most bytes are those since the memory was watched last.
+#[test]
+fn counts_bytes_anew(rt: HostRuntime) {
+    let memory = Refusing::new(rt.alloc(), Refusals::none());
+    let words = [7u64; 5].to_vec(&memory).expect(&rt, "memory");
+    drop([7u64; 5].to_vec(&memory).expect(&rt, "memory"));
+    let before = memory.bytes();
+    let lived = memory.watch();
+    let watched = memory.bytes();
+    drop([8u8; 5].to_vec(&memory).expect(&rt, "memory"));
+    let behind = memory.bytes();
+    drop(words);
+    let found = [before, watched, behind, memory.bytes()];
+    let wanted = [(40, 80), (40, 40), (40, 45), (0, 45)];
+    expect_same(&rt, lived, 40);
+    expect_same(&rt, found, wanted.map(|(now, most)| Bytes { now, most }));
+}
+
+// A list that grows lives twice for a moment. What is refused counts for nothing.
+#[test]
+fn counts_bytes_of_what_grows(rt: HostRuntime) {
+    let memory = Refusing::new(rt.alloc(), Refusals::since(3));
+    let mut numbers = Vec::with_capacity(&memory, 1).expect(&rt, "memory");
+    numbers.push(1u64).expect(&rt, "memory");
+    numbers.reserve_exact(2).expect(&rt, "memory");
+    expect_same(&rt, memory.bytes(), Bytes { now: 24, most: 32 });
+    let refused = numbers.reserve_exact(100).is_err();
+    expect_same(&rt, (refused, memory.asked()), (true, 3));
+    expect_same(&rt, memory.bytes(), Bytes { now: 24, most: 32 });
 }
 
 #[test]
