@@ -15,6 +15,8 @@
 //!   lanes             rounds over lanes to workers
 //!   runs              whole runs
 //!   lost_lines        whole runs that go on without a worker that finds no memory
+//!   bytes             how many bytes lists, solvers and readers take at most
+//!   bytes_of_workers  how many scans, frames, engines and wires do
 //!   streams           a source and a sink, one of which fails at a byte
 //!   files, sessions   such streams, at each byte: of a run, and of a worker's session
 //! ```

@@ -1,4 +1,6 @@
 mod asks_again;
+mod bytes;
+mod bytes_of_workers;
 mod files;
 mod frame_texts;
 mod in_turn;

@@ -1,0 +1,307 @@
+// How many bytes calls take at most at once, beside what they are given: no more than their documentation names for each
+// vertex and each link, of few and of many. A block that grows lives beside the one that it grew from.
+ghost use Rattle.std.specs.Prelude.{◌<◌, ◌≤◌, ◌^◌, length};
+ghost use Rattle.links.specs.Link.{EndsUpTo};
+
+use super::in_turn::Memory;
+use super::same::expect_same;
+use gr_text::parse;
+use link_key::{Cut, Labels, Link, components_of, forest_of, plain_forest};
+use round_core::{Picks, RoundBook, Solver, solve_alone};
+use std::alloc::Global;
+use std::process::Abort;
+use test_memory::{Refusals, Refusing};
+use worked_graphs::{Row, all_have_labels, have_labels, links_of};
+
+/// How many vertices there are, how many arcs, and how many weights.
+#[derive(Clone, Copy, Debug, PartialEq, Eq)]
+pub(crate) struct List {
+    pub(crate) n: u32,
+    pub(crate) arcs: u32,
+    pub(crate) weights: i64,
+}
+
+// A vertex from 1 to n.
+fn vertex(n: u32, number: u64) -> u32
+    requires { 0 < n }
+{
+    (number % u64::from(n)) as u32 + 1
+}
+
+// Arcs from all over the vertices, in no order, loops among them.
+fn arcs_in(rt: &impl Abort, alloc: Global, list: List) -> Vec<Row> {
+    assert!(rt; 0 < list.n);
+    let mut arcs = Vec::new(alloc);
+    for i in 0..u64::from(list.arcs) {
+        let tail = vertex(list.n, i.wrapping_mul(7919).wrapping_add(1));
+        let head = vertex(list.n, i.wrapping_mul(104_729).wrapping_add(3));
+        let drawn = i.wrapping_mul(0x1234_5678_9abc_def1).cast_signed();
+        let weight = drawn.checked_rem(list.weights).unwrap_or(drawn);
+        arcs.push((tail, head, weight)).expect(rt, "memory");
+    }
+    arcs
+}
+
+// The links of such arcs.
+pub(crate) fn links_in(rt: &impl Abort, alloc: Global, list: List) -> Vec<Link>
+    ensures few { length result.items ≤ 2 ^ 24 }
+    ensures ends { EndsUpTo list.n result.items }
+{
+    let arcs = arcs_in(rt, alloc, list);
+    let links = links_of(alloc, list.n, arcs.as_slice()).expect(rt, "memory");
+    let links = links.expect(rt, "arcs");
+    assert!(rt; links.len() <= 1 << 24);
+    links
+}
+
+// Memory that counts and refuses none.
+pub(crate) fn counted(alloc: Global) -> Memory {
+    Refusing::new(alloc, Refusals::none())
+}
+
+// The most bytes that lived at once since the memory was watched, beside those that lived then.
+pub(crate) fn most_beside(memory: &Memory, before: u64) -> u64 {
+    memory.bytes().most.wrapping_sub(before)
+}
+
+#[derive(Clone, Copy, Debug, PartialEq, Eq)]
+enum Call {
+    Apart,
+    Spell,
+    Picks,
+    Solver,
+    SpellLabels,
+    Cut,
+    Book,
+    ForestOf,
+    PlainForest,
+    Components,
+    SolveAlone,
+    Parse,
+}
+
+// What a call takes that sees how many vertices there are, and no link.
+fn of_vertices(rt: &impl Abort, memory: &Memory, call: Call, n: u32) -> u64
+    requires { n ≤ 2 ^ 26 }
+{
+    let mut labels = Labels::apart(memory, n).expect(rt, "memory");
+    let mut solver = Solver::new(memory, n).expect(rt, "memory");
+    let before = memory.watch();
+    match call {
+        Call::Apart => drop(Labels::apart(memory, n).expect(rt, "memory")),
+        Call::Spell => labels.spell().expect(rt, "memory"),
+        Call::Solver => drop(Solver::new(memory, n).expect(rt, "memory")),
+        Call::SpellLabels => solver.spell_labels().expect(rt, "memory"),
+        _ => drop(Picks::none(memory, n).expect(rt, "memory")),
+    }
+    most_beside(memory, before)
+}
+
+// What a call takes that works in a list of its own, or in a copy.
+fn of_list(rt: &impl Abort, memory: &Memory, call: Call, n: u32, links: &[Link]) -> u64
+    requires vertices { n ≤ 2 ^ 26 }
+    requires few { length links.now ≤ 2 ^ 24 }
+    requires ends { EndsUpTo n links.now }
+{
+    let list = links.to_vec(memory).expect(rt, "memory");
+    let before = memory.watch();
+    match call {
+        Call::PlainForest => drop(plain_forest(memory, n, links).expect(rt, "memory")),
+        Call::Components => drop(components_of(memory, n, list).expect(rt, "memory")),
+        _ => drop(forest_of(memory, n, list).expect(rt, "memory")),
+    }
+    most_beside(memory, before)
+}
+
+// What a call takes that sees links that are cut into four.
+fn of_cut(rt: &impl Abort, memory: &Memory, call: Call, n: u32, links: &[Link]) -> u64
+    requires vertices { n ≤ 2 ^ 26 }
+    requires few { length links.now ≤ 2 ^ 24 }
+    requires ends { EndsUpTo n links.now }
+{
+    let labels = Labels::apart(memory, n).expect(rt, "memory");
+    let before = memory.watch();
+    let cut = Cut::even(memory, links, 4).expect(rt, "a cut");
+    let of_cut = most_beside(memory, before);
+    assert!(rt; all_have_labels(&cut, n) && all_have_labels(&cut, labels.n()));
+    let before = memory.watch();
+    match call {
+        Call::Cut => return of_cut,
+        Call::Book => drop(RoundBook::open(memory, 1, &cut, &labels).expect(rt, "memory")),
+        _ => drop(solve_alone(memory, n, &cut).expect(rt, "memory")),
+    }
+    most_beside(memory, before)
+}
+
+// What the graph of the arcs' text takes.
+fn of_text(rt: &impl Abort, alloc: Global, list: List) -> u64 {
+    let arcs = arcs_in(rt, alloc, list);
+    let head = format!(in alloc; "p sp {} {}\n", list.n, arcs.len()).expect(rt, "memory");
+    let mut text = Vec::from_slice(alloc, head.as_bytes()).expect(rt, "memory");
+    for (u, v, w) in &arcs {
+        let line = format!(in alloc; "a {u} {v} {w}\n").expect(rt, "memory");
+        text.extend_from_slice(line.as_bytes()).expect(rt, "memory");
+    }
+    let memory = counted(alloc);
+    drop(parse(&memory, text.as_slice()).expect(rt, "a graph"));
+    memory.bytes().most
+}
+
+// The links of a forest of these.
+fn tree_of(rt: &impl Abort, alloc: Global, n: u32, links: &[Link]) -> Vec<Link>
+    requires vertices { n ≤ 2 ^ 26 }
+    requires few { length links.now ≤ 2 ^ 24 }
+    requires ends { EndsUpTo n links.now }
+    ensures few { length result.items ≤ 2 ^ 24 }
+    ensures ends { EndsUpTo n result.items }
+{
+    let forest = plain_forest(alloc, n, links).expect(rt, "memory");
+    let tree = forest.links().to_vec(alloc).expect(rt, "memory");
+    assert!(rt; tree.len() <= 1 << 24 && have_labels(tree.as_slice(), n));
+    tree
+}
+
+// What the call takes over the list, which has these links, and how many links it is over: a tree's are fewer.
+fn taken(rt: &impl Abort, alloc: Global, call: Call, list: List, links: &[Link]) -> (u64, u64)
+    requires few { length links.now ≤ 2 ^ 24 }
+    requires ends { EndsUpTo list.n links.now }
+{
+    let n = list.n;
+    assert!(rt; n <= 1 << 26);
+    let memory = counted(alloc);
+    let count = links.len() as u64;
+    match call {
+        Call::Parse => (of_text(rt, alloc, list), count),
+        Call::ForestOf | Call::PlainForest => (of_list(rt, &memory, call, n, links), count),
+        Call::Components => {
+            let tree = tree_of(rt, alloc, n, links);
+            let took = of_list(rt, &memory, call, n, tree.as_slice());
+            (took, tree.len() as u64)
+        }
+        Call::Cut | Call::Book | Call::SolveAlone => (of_cut(rt, &memory, call, n, links), count),
+        _ => (of_vertices(rt, &memory, call, n), count),
+    }
+}
+
+// Few and many, with short keys and with long ones; and many links between few vertices.
+const LISTS: [List; 5] = [
+    List {
+        n: 1_000,
+        arcs: 2_000,
+        weights: 1_000,
+    },
+    List {
+        n: 100_000,
+        arcs: 200_000,
+        weights: 1_000,
+    },
+    List {
+        n: 1_000,
+        arcs: 2_000,
+        weights: i64::MAX,
+    },
+    List {
+        n: 50_000,
+        arcs: 100_000,
+        weights: i64::MAX,
+    },
+    List {
+        n: 100,
+        arcs: 20_000,
+        weights: i64::MAX,
+    },
+];
+
+// What it takes to put so many links in the order of their keys: packed ones, or ones of more than 64 bits.
+fn to_sort(list: List, links: u64) -> u64 {
+    if list.weights <= 1_000 {
+        return links.wrapping_mul(8);
+    }
+    let short = links.min(65_536).wrapping_mul(24);
+    short.max(links.wrapping_mul(8)).wrapping_add(4_096)
+}
+
+// What the solver takes beside a list of so many links, all of which may be looked at in one part.
+fn to_solve(list: List, links: u64) -> u64 {
+    let vertices = u64::from(list.n).wrapping_mul(12);
+    let rounds = links.wrapping_mul(13).wrapping_add(vertices);
+    rounds.max(to_sort(list, links))
+}
+
+// The most bytes that the call's documentation allows, in bytes a vertex, a link and a shard.
+fn allowed(call: Call, list: List, links: u64) -> u64 {
+    let vertices = u64::from(list.n);
+    match call {
+        Call::Apart | Call::Spell | Call::SpellLabels => vertices.wrapping_mul(4),
+        Call::Solver => vertices.wrapping_mul(8),
+        Call::Picks => vertices.wrapping_mul(16),
+        Call::Cut => 4 * 8,
+        // (an answer has its allocator's 8 bytes beside its 33)
+        Call::Book => vertices.wrapping_mul(16).wrapping_add(4 * 41),
+        Call::ForestOf | Call::Components => to_solve(list, links),
+        Call::PlainForest => links.wrapping_mul(16).wrapping_add(to_solve(list, links)),
+        // 32, 12, and 16 for a link taken; at the end 16 for labels, 32 for a link taken twice, and those are sorted
+        Call::SolveAlone => {
+            let ends = vertices
+                .wrapping_mul(48)
+                .wrapping_add(to_sort(list, vertices));
+            ends.max(vertices.wrapping_mul(60).wrapping_add(4 * 8))
+        }
+        // 16, in a list that is half empty at most, and beside it the one that it grew from
+        Call::Parse => links.wrapping_mul(48),
+    }
+}
+
+const CALLS: [Call; 12] = [
+    Call::Apart,
+    Call::Spell,
+    Call::Picks,
+    Call::Solver,
+    Call::SpellLabels,
+    Call::Cut,
+    Call::Book,
+    Call::ForestOf,
+    Call::PlainForest,
+    Call::Components,
+    Call::SolveAlone,
+    Call::Parse,
+];
+
+#[test]
+fn bytes_of_vertices_and_links(rt: HostRuntime) {
+    for list in LISTS {
+        let links = links_in(&rt, rt.alloc(), list);
+        for call in CALLS {
+            let (took, count) = taken(&rt, rt.alloc(), call, list, links.as_slice());
+            let most = allowed(call, list, count);
+            expect_same(&rt, (call, list, took.max(most)), (call, list, most));
+        }
+    }
+}
+
+// One link between many vertices: a forest by one thread takes nothing for a vertex that no link has.
+#[test]
+fn bytes_of_one_link_between_a_million_vertices(rt: HostRuntime) {
+    let list = List {
+        n: 1 << 20,
+        arcs: 1,
+        weights: 1,
+    };
+    let rows: [(Call, u64, u64); 6] = [
+        (Call::ForestOf, 0, 8),
+        (Call::PlainForest, 0, 24),
+        (Call::Components, 12, 13),
+        (Call::Solver, 8, 0),
+        (Call::SolveAlone, 44, 128),
+        (Call::Parse, 0, 64),
+    ];
+    let links = links_in(&rt, rt.alloc(), list);
+    for (call, each_vertex, beside) in rows {
+        let (took, count) = taken(&rt, rt.alloc(), call, list, links.as_slice());
+        expect_same(&rt, (call, count), (call, 1));
+        let most = u64::from(list.n)
+            .wrapping_mul(each_vertex)
+            .wrapping_add(beside);
+        expect_same(&rt, (call, took.max(most)), (call, most));
+    }
+}
