@@ -1,8 +1,10 @@
 mod asks_again;
 mod bytes;
 mod bytes_of_workers;
+mod devices;
 mod files;
 mod frame_texts;
+mod goes_on;
 mod in_turn;
 mod lanes;
 mod lists;

@@ -22,7 +22,10 @@ use worked_graphs::{SMALL_NET, have_labels};
 const MOST: u64 = 100;
 
 // A list of this line.
-fn one_line<L: Line + Drop, A: Allocator>(memory: A, line: L) -> Result<Vec<L, A>, AllocError>
+pub(crate) fn one_line<L: Line + Drop, A: Allocator>(
+    memory: A,
+    line: L,
+) -> Result<Vec<L, A>, AllocError>
     requires { HasRoom (L.state line) }
     ensures few { IfOk result (λ lines. length lines.items ≡ 1) }
     ensures room { IfOk result (λ lines. All (λ line. HasRoom (L.state line)) lines.items) }
