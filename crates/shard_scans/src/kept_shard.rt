@@ -103,7 +103,8 @@ impl<A: Allocator + Copy> KeptShard<A> {
         if let Some(listed) = &mut self.live {
             return scanner.scan_listed(self.links.as_slice(), listed, labels);
         }
-        let (offers, listed) = scanner.scan_and_list(self.links.as_slice(), labels)?;
+        let (offers, mut listed) = scanner.scan_and_list(self.links.as_slice(), labels)?;
+        listed.shrink();
         self.live = Some(listed);
         self.scanned = true;
         Ok(offers)

@@ -154,7 +154,7 @@ pub(crate) fn is_live(links: &[Link], labels: &[u32], live: &[LiveLink], place: 
     !is_outdone(links, labels, live, place)
 }
 
-// The live links of a shard, by labels. Room that is left is given back.
+// The live links of a shard, by labels, in room for all of its links.
 pub(crate) fn write_live<A: Allocator + Copy>(
     alloc: A,
     links: &[Link],
@@ -177,6 +177,5 @@ pub(crate) fn write_live<A: Allocator + Copy>(
             })?;
         }
     }
-    live.shrink_to_fit();
     Ok(live)
 }
