@@ -11,15 +11,16 @@ use Rattle.links.specs.Offers.{Offer, AreOffers}
 use Rattle.frames.specs.FrameValue.{AnswerFrame}
 use Rattle.frames.specs.FrameText.{u32_text, offer_text}
 use Rattle.frames.specs.Lawful.{IsU32}
+use Rattle.frames.specs.Refusals.{IsListBegun}
 use Rattle.frames.specs.ReadFault.{IsCutShort}
-use Rattle.frames.specs.NextFrame.{BodyCame, IsBodyRefused, IsStopped}
+use Rattle.frames.specs.NextFrame.{BodyCame, IsBodyRefused, WantsLate, IsStopped}
 use Rattle.frames.specs.Pieces.{BytesCame, PushesOffers, OffersCame}
 use Rattle.frames.specs.declared.fault.FrameFault.{FrameFault}
 use Rattle.frames.specs.declared.fault.FrameFault.TheVariants.{BadField}
-use Rattle.frames.proofs.Texts.{FitsOffer, offer_length, items_length}
+use Rattle.frames.proofs.Texts.{FitsOffer, u32_length, offer_length, items_length}
 use Rattle.frames.proofs.Listed.{offer_more, fits_more}
 use Rattle.frames.proofs.Decoded.{answer_refused, answer_begun, answer_found, answer_unsorted}
-use Rattle.frames.proofs.Pieces.{three_fields, list_came, list_refused, list_cut, list_stopped}
+use Rattle.frames.proofs.Pieces.{list_came, list_refused, list_cut, list_stopped, list_late}
 
 -- ---- offers pushed
 
@@ -57,48 +58,44 @@ offers_bytes n offers x y came = omega (arith, offers_length offers, came.counte
 
 -- ---- the twelve bytes before the offers
 
-module _ (fields rest rest' none : List ℕ) (r s c k : ℕ) (twelve : length fields ≡ 12) (wide_r : IsU32 r) (wide_s : IsU32 s) (wide_c : IsU32 c)
-    (first : fields ≡ u32_text r ++ rest) (second : rest ≡ u32_text s ++ rest') (third : rest' ≡ u32_text c ++ none) (x y z : SourceState) (came : Gave 0 0 fields x y) where
-  answer_body : (offers : List ℕ) → fields ++ offers ≡ u32_text r ++ (u32_text s ++ (u32_text c ++ offers))
-  answer_body offers = three_fields fields rest rest' none offers r s c twelve first second third
+module _ (r s c k : ℕ) (x y z : SourceState) (came : Gave 0 0 (u32_text r ++ (u32_text s ++ u32_text c)) x y) where
+  long : length (u32_text r ++ (u32_text s ++ u32_text c)) + 8 * k ≡ 12 + 8 * k
+  long = omega (arith, length-append (u32_text r) (u32_text s ++ u32_text c), length-append (u32_text s) (u32_text c), u32_length r, u32_length s, u32_length c)
 
-  long : length fields + 8 * k ≡ 12 + 8 * k
-  long = omega (arith, twelve)
+  -- less than the offers came
+  pub answer_unpassed : (fault : FrameFault) → IsCutShort fault (8 * k) y z → IsBodyRefused fault 4 (12 + 8 * k) x z
+  answer_unpassed fault cut = list_cut 4 (12 + 8 * k) (8 * k) (u32_text r ++ (u32_text s ++ u32_text c)) long x y z came fault cut
 
   -- a count that isn't that of the offers
-  pub answer_unlawful : BytesCame (8 * k) y z → (c ≡ k → ⊥) → IsBodyRefused BadField 4 (12 + 8 * k) x z
-  answer_unlawful behind never =
-      list_refused 4 (12 + 8 * k) (8 * k) fields long x y z came BadField behind.bytes behind.counted behind.gave
-      (answer_refused r s c (fields ++ behind.bytes) (u32_text s ++ (u32_text c ++ behind.bytes)) (u32_text c ++ behind.bytes) behind.bytes wide_r wide_s wide_c (answer_body behind.bytes) refl refl
-      (λ counted. never (omega (arith, counted, behind.counted))))
+  pub answer_unlawful : IsU32 r → IsU32 s → IsU32 c → BytesCame (8 * k) y z → (c ≡ k → ⊥) → IsBodyRefused BadField 4 (12 + 8 * k) x z
+  unfolding u32_text
+  answer_unlawful wide_r wide_s wide_c behind never =
+      list_refused 4 (12 + 8 * k) (8 * k) (u32_text r ++ (u32_text s ++ u32_text c)) long x y z came BadField behind.bytes behind.counted behind.gave
+      (answer_refused r s c behind.bytes wide_r wide_s wide_c (λ count. never (omega (arith, count, behind.counted))))
 
-  -- less than those bytes came
-  pub answer_unpassed : (fault : FrameFault) → IsCutShort fault (8 * k) y z → IsBodyRefused fault 4 (12 + 8 * k) x z
-  answer_unpassed fault cut = list_cut 4 (12 + 8 * k) (8 * k) fields long x y z came fault cut
-
-  module _ (counted : c ≡ k) (few : k ≤ 2 * MAX_SHARD_LINKS) where
-    answer_long : (offers : List ℕ) → length offers ≡ 8 * k → length (fields ++ offers) ≡ 12 + 8 * k
-    answer_long offers count = omega (arith, length-append fields offers, twelve, count)
+  module _ (counted : c ≡ k) where
+    begun : (offers : List ℕ) → length offers ≡ 8 * k → IsListBegun 4 ((u32_text r ++ (u32_text s ++ u32_text c)) ++ offers)
+    unfolding u32_text
+    begun offers count = answer_begun r s c offers (omega (arith, counted, count))
 
     -- less than all offers came, or memory was wanting
     pub answer_stopped : (fault : FrameFault) → IsStopped fault (8 * k) y z → IsBodyRefused fault 4 (12 + 8 * k) x z
-    answer_stopped fault stopped =
-        list_stopped 4 (12 + 8 * k) (8 * k) fields long x y z came fault stopped
-        (λ offers count. answer_begun r s c (fields ++ offers) (u32_text s ++ (u32_text c ++ offers)) (u32_text c ++ offers) offers (omega (arith, counted, count)) (k, few, answer_long offers count) (answer_body offers) refl refl)
+    answer_stopped fault stopped = list_stopped 4 (12 + 8 * k) (8 * k) (u32_text r ++ (u32_text s ++ u32_text c)) long x y z came fault stopped begun
 
-    module _ (pairs : List Offer) (behind : OffersCame k pairs y z) where
+    pub answer_late : (fault : FrameFault) → WantsLate fault 4 (12 + 8 * k) x
+    answer_late fault = list_late 4 (12 + 8 * k) (8 * k) (u32_text r ++ (u32_text s ++ u32_text c)) long x y z came fault begun
+
+    module _ (wide_r : IsU32 r) (wide_s : IsU32 s) (pairs : List Offer) (behind : OffersCame k pairs y z) where
       -- offers came
-      pub answer_came : (os : List Offer) → os ≡ pairs → AreOffers os → BodyCame (AnswerFrame (record { round = r; shard = s; offers = os })) 4 (12 + 8 * k) x z
-      answer_came os same ascending =
-          let text = flat_map offer_text pairs in
-          let count : length text ≡ 8 * k = offers_bytes k pairs y z behind in
-          list_came 4 (12 + 8 * k) (8 * k) fields long x y z came (AnswerFrame (record { round = r; shard = s; offers = os })) text count behind.gave
-          (answer_found r s c os (fields ++ text) (u32_text s ++ (u32_text c ++ text)) (u32_text c ++ text) text wide_r wide_s (omega (arith, counted, count)) (k, few, answer_long text count) (answer_body text) refl refl
-          (ap (flat_map offer_text) same) (subst (All FitsOffer) (sym same) behind.fit) ascending)
+      pub answer_came : k ≤ 2 * MAX_SHARD_LINKS → (os : List Offer) → os ≡ pairs → AreOffers os → BodyCame (AnswerFrame (record { round = r; shard = s; offers = os })) 4 (12 + 8 * k) x z
+      unfolding u32_text
+      answer_came few os same ascending =
+          list_came 4 (12 + 8 * k) (8 * k) (u32_text r ++ (u32_text s ++ u32_text c)) long x y z came (AnswerFrame (record { round = r; shard = s; offers = os })) (flat_map offer_text pairs) (offers_bytes k pairs y z behind) behind.gave
+          (answer_found r s c (flat_map offer_text pairs) os wide_r wide_s (omega (arith, counted, few)) (omega (arith, ap length same, behind.counted, counted)) (ap (flat_map offer_text) same) (subst (All FitsOffer) (sym same) behind.fit) ascending)
 
       -- pairs came that are no offers
-      pub no_answer_came : (AreOffers pairs → ⊥) → IsBodyRefused BadField 4 (12 + 8 * k) x z
-      no_answer_came never =
-          let text = flat_map offer_text pairs in
-          list_refused 4 (12 + 8 * k) (8 * k) fields long x y z came BadField text (offers_bytes k pairs y z behind) behind.gave
-          (answer_unsorted r s c pairs (fields ++ text) (u32_text s ++ (u32_text c ++ text)) (u32_text c ++ text) text wide_r wide_s wide_c (answer_body text) refl refl refl behind.fit never)
+      pub no_answer_came : IsU32 c → (AreOffers pairs → ⊥) → IsBodyRefused BadField 4 (12 + 8 * k) x z
+      unfolding u32_text
+      no_answer_came wide_c never =
+          list_refused 4 (12 + 8 * k) (8 * k) (u32_text r ++ (u32_text s ++ u32_text c)) long x y z came BadField (flat_map offer_text pairs) (offers_bytes k pairs y z behind) behind.gave
+          (answer_unsorted r s c (flat_map offer_text pairs) pairs wide_r wide_s wide_c refl behind.fit never)

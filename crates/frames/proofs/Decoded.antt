@@ -1,5 +1,5 @@
 -- What the fields of a body say of the frames that have it.
-use Rattle.std.proofs.Common.{◌≡◌, ℕ, ◌+◌, ◌*◌, ◌/◌, ◌<◌, ◌≤◌, ◌≢◌, List, [], ◌∷◌, ◌++◌, length, take, get_or, All, refl, sym, ap, subst, ◌∙◌, append-nil, arith, inl, inr}
+use Rattle.std.proofs.Common.{◌≡◌, ℕ, ◌*◌, ◌/◌, ◌<◌, ◌≤◌, ◌≢◌, List, [], ◌∷◌, ◌++◌, length, take, get_or, All, refl, sym, ap, subst, ◌∙◌, append-nil, arith, inl, inr}
 use Rattle.std.specs.Int.{w16, from_be_bytes}
 use Rattle.std.specs.List.{flat_map, AllByRecursion}
 use Rattle.std.proofs.lemmas.List.{length-append, nil_from_length}
@@ -15,7 +15,6 @@ use Rattle.frames.specs.Refusals.{IsWithItems, IsOtherVersion, IsFrameOf, ShardB
 use Rattle.frames.specs.Spellings.{spelled_in, size_in, kind_in, spelling_of, Spells}
 use Rattle.frames.specs.declared.spelling.Spelling.{Spelling}
 use Rattle.frames.specs.declared.spelling.Spelling.TheVariants.{Narrow, Wide}
-use Rattle.frames.specs.declared.fault.FrameFault.{FrameFault}
 use Rattle.frames.specs.declared.fault.FrameFault.TheVariants.{BadField}
 use Rattle.frames.proofs.Texts.{u16_length, u32_length, u16_prefix, u32_prefix, offer_length, items_length, items_same, offer_prefix, FitsOffer}
 use Rattle.frames.proofs.OneText.{two_prefix, labels_fit, shard_kind}
@@ -58,209 +57,157 @@ no_shard : (s : Spelling) (kind : ℕ) → kind ≤ 5 → kind ≢ 2 → kind �
 no_shard Narrow kind to not_two is = not_two is
 no_shard Wide kind to not_two is = omega (arith, is)
 
-shard_parts : (s : Spelling) (v : FrameValue) (n c : ℕ) (body rest links : List ℕ) → IsU32 n → IsU32 c → body ≡ u32_text n ++ rest → rest ≡ u32_text c ++ links
-    → IsFrameOf v (kind_in s) body → (ls : List Link) × IsShard n ls × (length ls ≡ c) × (spelling_of ls ≡ s) × (flat_map (spelled_in s) ls ≡ links)
-shard_parts s (ShardFrame n' ls) n c body rest links wide wide' first second is =
-    let fields = two_prefix n' (length ls) n c (links_text ls) links (omega (arith, is.lawful.number)) (omega (arith, is.lawful.count)) wide wide' (is.body ∙ first ∙ ap (λ (t : List ℕ). u32_text n ++ t) second) in
-    let spelling : spelling_of ls ≡ s = spelling_by_kind s ls is.kind in
-    (ls, subst (λ (k : ℕ). IsShard k ls) fields.0 is.lawful, fields.1, spelling, sym (text_in s ls spelling) ∙ fields.2)
-shard_parts s (HelloFrame v w) n c body rest links wide wide' first second is = absurd (no_shard s 1 (omega arith) (omega arith) is.kind)
-shard_parts s (AskFrame r sh ls) n c body rest links wide wide' first second is = absurd (no_shard s 3 (omega arith) (omega arith) is.kind)
-shard_parts s (AnswerFrame a) n c body rest links wide wide' first second is = absurd (no_shard s 4 (omega arith) (omega arith) is.kind)
-shard_parts s (FaultFrame r sh code) n c body rest links wide wide' first second is = absurd (no_shard s 5 (omega arith) (omega arith) is.kind)
-
-pub shard_refused : (s : Spelling) (n c : ℕ) (body rest links : List ℕ) → IsU32 n → IsU32 c → body ≡ u32_text n ++ rest → rest ≡ u32_text c ++ links
-    → (n < MAX_SHARDS → c ≡ length links / size_in s → ⊥) → BodyRefused BadField (kind_in s) body
-shard_refused s n c body rest links wide wide' first second never = (
-  no_hello s body,
-  λ v is.
-      let (ls, lawful, count, spelling, same) = shard_parts s v n c body rest links wide wide' first second is in
-      never lawful.number (sym (counted_in s (length links) c (sym (ap length same) ∙ length_in s ls ∙ ap (λ (k : ℕ). size_in s * k) count))),
-)
-
--- a shard's body of this length, with these fields before its links
-pub shard_begun : (s : Spelling) (n c : ℕ) (body rest links : List ℕ) → n < MAX_SHARDS → c ≡ length links / size_in s → IsWithItems 8 (size_in s) MAX_SHARD_LINKS (length body)
-    → body ≡ u32_text n ++ rest → rest ≡ u32_text c ++ links → ShardBegun (size_in s) body × (c ≤ MAX_SHARD_LINKS)
-shard_begun s n c body rest links low counted (count, few, len) first second =
-    let long : length links ≡ size_in s * count = omega (arith, len, ap length first, ap length second, length-append (u32_text n) rest, length-append (u32_text c) links, u32_length n, u32_length c) in
-    let total : c ≡ count = counted ∙ counted_in s (length links) count long in (
-      record {
-        number = n;
-        count = c;
-        links = links;
-        split = first ∙ ap (λ (t : List ℕ). u32_text n ++ t) second;
-        in_range = low;
-        counted = long ∙ ap (λ (k : ℕ). size_in s * k) (sym total);
-      },
-      omega (arith, few, total),
-    )
-
-pub list_begun : (s : Spelling) (body : List ℕ) → ShardBegun (size_in s) body → IsListBegun (kind_in s) body
+list_begun : (s : Spelling) (body : List ℕ) → ShardBegun (size_in s) body → IsListBegun (kind_in s) body
 list_begun Narrow body begun = inl (refl, begun)
 list_begun Wide body begun = inr (inl (refl, begun))
 
--- bytes that are those of no links
-pub shard_unlinked : (s : Spelling) (n c : ℕ) (body rest links : List ℕ) → IsU32 n → IsU32 c → body ≡ u32_text n ++ rest → rest ≡ u32_text c ++ links
-    → AreNoLinks (spelled_in s) links → BodyRefused BadField (kind_in s) body
-shard_unlinked s n c body rest links wide wide' first second none = (
-  no_hello s body,
-  λ v is.
-      let (ls, lawful, count, spelling, same) = shard_parts s v n c body rest links wide wide' first second is in
-      none ls same,
-)
+module _ (s : Spelling) (n c : ℕ) (links : List ℕ) where
+  shard_parts : (v : FrameValue) → IsU32 n → IsU32 c → IsFrameOf v (kind_in s) (u32_text n ++ (u32_text c ++ links))
+      → (ls : List Link) × IsShard n ls × (length ls ≡ c) × (spelling_of ls ≡ s) × (flat_map (spelled_in s) ls ≡ links)
+  shard_parts (ShardFrame n' ls) wide wide' is =
+      let fields = two_prefix n' (length ls) n c (links_text ls) links (omega (arith, is.lawful.number)) (omega (arith, is.lawful.count)) wide wide' is.body in
+      let spelling : spelling_of ls ≡ s = spelling_by_kind s ls is.kind in
+      (ls, subst (λ (k : ℕ). IsShard k ls) fields.0 is.lawful, fields.1, spelling, sym (text_in s ls spelling) ∙ fields.2)
+  shard_parts (HelloFrame v w) wide wide' is = absurd (no_shard s 1 (omega arith) (omega arith) is.kind)
+  shard_parts (AskFrame r sh ls) wide wide' is = absurd (no_shard s 3 (omega arith) (omega arith) is.kind)
+  shard_parts (AnswerFrame a) wide wide' is = absurd (no_shard s 4 (omega arith) (omega arith) is.kind)
+  shard_parts (FaultFrame r sh code) wide wide' is = absurd (no_shard s 5 (omega arith) (omega arith) is.kind)
 
--- links that are to go in the other spelling
-pub shard_of_another_kind : (s : Spelling) (n c : ℕ) (ls : List Link) (body rest links : List ℕ) → IsU32 n → IsU32 c → body ≡ u32_text n ++ rest → rest ≡ u32_text c ++ links
-    → Spells s ls links → spelling_of ls ≢ s → BodyRefused BadField (kind_in s) body
-shard_of_another_kind s n c ls body rest links wide wide' first second spelled other = (
-  no_hello s body,
-  λ v is.
-      let (ls', lawful, count, spelling, same) = shard_parts s v n c body rest links wide wide' first second is in
-      other (ap spelling_of (spelled_same s ls ls' spelled.fit (fit_of s ls' spelling) (spelled.bytes_are ∙ sym same)) ∙ spelling),
-)
+  pub shard_refused : (k : ℕ) → length links ≡ size_in s * k → IsU32 n → IsU32 c → (n < MAX_SHARDS → c ≡ k → ⊥) → BodyRefused BadField (kind_in s) (u32_text n ++ (u32_text c ++ links))
+  shard_refused k long wide wide' never = (
+    no_hello s (u32_text n ++ (u32_text c ++ links)),
+    λ v is.
+        let (ls, lawful, count, spelling, same) = shard_parts v wide wide' is in
+        let links-are : length links ≡ size_in s * length ls = sym (ap length same) ∙ length_in s ls in
+        never lawful.number (sym count ∙ sym (counted_in s (length links) (length ls) links-are) ∙ counted_in s (length links) k long),
+  )
 
-pub shard_found : (s : Spelling) (n c : ℕ) (ls : List Link) (body rest links : List ℕ) → n < MAX_SHARDS → c ≡ length links / size_in s → IsWithItems 8 (size_in s) MAX_SHARD_LINKS (length body)
-    → body ≡ u32_text n ++ rest → rest ≡ u32_text c ++ links → flat_map (spelled_in s) ls ≡ links → spelling_of ls ≡ s → IsFrameOf (ShardFrame n ls) (kind_in s) body
-shard_found s n c ls body rest links low counted possible first second same spelling =
-    let begun = shard_begun s n c body rest links low counted possible first second in
-    let total : length ls ≡ c = sym (counted ∙ counted_in s (length links) (length ls) (sym (ap length same) ∙ length_in s ls)) in
-    record {
-      lawful = record { number = low; count = omega (arith, begun.1, total) };
-      kind = kind_by_spelling s ls spelling;
-      body = sym (first ∙ ap (λ (t : List ℕ). u32_text n ++ t) (second ∙ ap (λ (t : List ℕ). u32_text c ++ t) (sym same ∙ sym (text_in s ls spelling)) ∙ ap (λ (k : ℕ). u32_text k ++ links_text ls) (sym total)));
-    }
+  -- bytes that are those of no links
+  pub shard_unlinked : IsU32 n → IsU32 c → AreNoLinks (spelled_in s) links → BodyRefused BadField (kind_in s) (u32_text n ++ (u32_text c ++ links))
+  shard_unlinked wide wide' none = (
+    no_hello s (u32_text n ++ (u32_text c ++ links)),
+    λ v is.
+        let (ls, lawful, count, spelling, same) = shard_parts v wide wide' is in
+        none ls same,
+  )
 
--- what is made of links that came in a spelling
-pub shard_is : (s : Spelling) (n c : ℕ) (ls : List Link) (body rest links : List ℕ) (v : FrameValue) → n < MAX_SHARDS → c ≡ length links / size_in s → IsWithItems 8 (size_in s) MAX_SHARD_LINKS (length body)
-    → body ≡ u32_text n ++ rest → rest ≡ u32_text c ++ links → Spells s ls links → (v ≡ ShardFrame n ls) × (spelling_of ls ≡ s) → IsFrameOf v (kind_in s) body
-shard_is s n c ls body rest links v low counted possible first second spelled (is, spelling) =
-    subst (λ (w : FrameValue). IsFrameOf w (kind_in s) body) (sym is) (shard_found s n c ls body rest links low counted possible first second spelled.bytes_are spelling)
+  -- links that are to go in the other spelling
+  pub shard_of_another_kind : (ls : List Link) → IsU32 n → IsU32 c → Spells s ls links → spelling_of ls ≢ s → BodyRefused BadField (kind_in s) (u32_text n ++ (u32_text c ++ links))
+  shard_of_another_kind ls wide wide' spelled other = (
+    no_hello s (u32_text n ++ (u32_text c ++ links)),
+    λ v is.
+        let (ls', lawful, count, spelling, same) = shard_parts v wide wide' is in
+        other (ap spelling_of (spelled_same s ls ls' spelled.fit (fit_of s ls' spelling) (spelled.bytes_are ∙ sym same)) ∙ spelling),
+  )
 
-pub shard_is_not : (s : Spelling) (n c : ℕ) (ls : List Link) (body rest links : List ℕ) (fault : FrameFault) → IsU32 n → IsU32 c → body ≡ u32_text n ++ rest → rest ≡ u32_text c ++ links
-    → Spells s ls links → (fault ≡ BadField) × (spelling_of ls ≢ s) → BodyRefused fault (kind_in s) body
-shard_is_not s n c ls body rest links fault wide wide' first second spelled (is, other) =
-    subst (λ (f : FrameFault). BodyRefused f (kind_in s) body) (sym is) (shard_of_another_kind s n c ls body rest links wide wide' first second spelled other)
+  -- a shard's body, with these fields before its links
+  pub shard_begun : n < MAX_SHARDS → length links ≡ size_in s * c → IsListBegun (kind_in s) (u32_text n ++ (u32_text c ++ links))
+  shard_begun low long = list_begun s (u32_text n ++ (u32_text c ++ links)) (record { number = n; count = c; links = links; split = refl; in_range = low; counted = long })
+
+  pub shard_found : (ls : List Link) → n < MAX_SHARDS → c ≤ MAX_SHARD_LINKS → length links ≡ size_in s * c → flat_map (spelled_in s) ls ≡ links → spelling_of ls ≡ s
+      → IsFrameOf (ShardFrame n ls) (kind_in s) (u32_text n ++ (u32_text c ++ links))
+  shard_found ls low few long same spelling =
+      let links-are : length links ≡ size_in s * length ls = sym (ap length same) ∙ length_in s ls in
+      let total : length ls ≡ c = sym (counted_in s (length links) (length ls) links-are) ∙ counted_in s (length links) c long in
+      record {
+        lawful = record { number = low; count = omega (arith, few, total) };
+        kind = kind_by_spelling s ls spelling;
+        body = ap (λ (k : ℕ). u32_text n ++ (u32_text k ++ links_text ls)) total ∙ ap (λ (t : List ℕ). u32_text n ++ (u32_text c ++ t)) (text_in s ls spelling ∙ same);
+      }
 
 -- ---- an ask
 
-ask_parts : (v : FrameValue) (r s c : ℕ) (body rest rest' labels : List ℕ) → IsU32 r → IsU32 s → IsU32 c
-    → body ≡ u32_text r ++ rest → rest ≡ u32_text s ++ rest' → rest' ≡ u32_text c ++ labels
-    → IsFrameOf v 3 body → (ls : List ℕ) × AreLabels ls × (length ls ≡ c) × (s < MAX_SHARDS) × (flat_map u32_text ls ≡ labels)
-ask_parts (AskFrame r' s' ls) r s c body rest rest' labels wide_r wide_s wide_c first second third is =
-    let fields = two_prefix r' s' r s (u32_text (length ls) ++ flat_map u32_text ls) rest' is.lawful.round (omega (arith, is.lawful.shard)) wide_r wide_s (is.body ∙ first ∙ ap (λ (t : List ℕ). u32_text r ++ t) second) in
-    let count = u32_prefix (length ls) c (flat_map u32_text ls) labels (omega (arith, is.lawful.labels.few_vertices)) wide_c (fields.2 ∙ third) in
-    (ls, is.lawful.labels, count.0, omega (arith, fields.1, is.lawful.shard), count.1)
-ask_parts (ShardFrame n ls) r s c body rest rest' labels wide_r wide_s wide_c first second third is = absurd (shard_kind 3 n ls (omega arith) (omega arith) is.kind)
-ask_parts v r s c body rest rest' labels wide_r wide_s wide_c first second third is = absurd (omega (arith, is.kind))
+-- three fields, and the list behind them
+pub three_split : (body rest rest' list : List ℕ) (r s c : ℕ) → body ≡ u32_text r ++ rest → rest ≡ u32_text s ++ rest' → rest' ≡ u32_text c ++ list
+    → body ≡ u32_text r ++ (u32_text s ++ (u32_text c ++ list))
+three_split body rest rest' list r s c first second third = first ∙ ap (λ (t : List ℕ). u32_text r ++ t) (second ∙ ap (λ (t : List ℕ). u32_text s ++ t) third)
 
--- an ask's body of this length, with these fields before its labels
-pub ask_begun : (r s c : ℕ) (body rest rest' labels : List ℕ) → s < MAX_SHARDS → c ≡ length labels / 4 → IsWithItems 12 4 MAX_VERTICES (length body)
-    → body ≡ u32_text r ++ rest → rest ≡ u32_text s ++ rest' → rest' ≡ u32_text c ++ labels → IsListBegun 3 body
-ask_begun r s c body rest rest' labels low counted (count, few, len) first second third = inr (inr (inl (
-  refl,
-  record {
-    round = r;
-    shard = s;
-    count = c;
-    labels = labels;
-    split = first ∙ ap (λ (t : List ℕ). u32_text r ++ t) (second ∙ ap (λ (t : List ℕ). u32_text s ++ t) third);
-    in_range = low;
-    counted = omega (arith, counted, len, ap length first, ap length second, ap length third, length-append (u32_text r) rest, length-append (u32_text s) rest', length-append (u32_text c) labels, u32_length r, u32_length s, u32_length c);
-  },
-)))
+module _ (r s c : ℕ) (labels : List ℕ) where
+  ask_parts : (v : FrameValue) → IsU32 r → IsU32 s → IsU32 c → IsFrameOf v 3 (u32_text r ++ (u32_text s ++ (u32_text c ++ labels)))
+      → (ls : List ℕ) × AreLabels ls × (length ls ≡ c) × (s < MAX_SHARDS) × (flat_map u32_text ls ≡ labels)
+  ask_parts (AskFrame r' s' ls) wide_r wide_s wide_c is =
+      let fields = two_prefix r' s' r s (u32_text (length ls) ++ flat_map u32_text ls) (u32_text c ++ labels) is.lawful.round (omega (arith, is.lawful.shard)) wide_r wide_s is.body in
+      let count = u32_prefix (length ls) c (flat_map u32_text ls) labels (omega (arith, is.lawful.labels.few_vertices)) wide_c fields.2 in
+      (ls, is.lawful.labels, count.0, omega (arith, fields.1, is.lawful.shard), count.1)
+  ask_parts (ShardFrame n ls) wide_r wide_s wide_c is = absurd (shard_kind 3 n ls (omega arith) (omega arith) is.kind)
+  ask_parts v wide_r wide_s wide_c is = absurd (omega (arith, is.kind))
 
-pub ask_refused : (r s c : ℕ) (body rest rest' labels : List ℕ) → IsU32 r → IsU32 s → IsU32 c
-    → body ≡ u32_text r ++ rest → rest ≡ u32_text s ++ rest' → rest' ≡ u32_text c ++ labels
-    → (s < MAX_SHARDS → c ≡ length labels / 4 → ⊥) → BodyRefused BadField 3 body
-ask_refused r s c body rest rest' labels wide_r wide_s wide_c first second third never = (
-  λ other. omega (arith, other.0),
-  λ v is.
-      let (ls, lawful, count, low, same) = ask_parts v r s c body rest rest' labels wide_r wide_s wide_c first second third is in
-      never low (omega (arith, ap length same, items_length u32_text 4 u32_length ls)),
-)
+  -- an ask's body, with these fields before its labels
+  pub ask_begun : s < MAX_SHARDS → length labels ≡ 4 * c → IsListBegun 3 (u32_text r ++ (u32_text s ++ (u32_text c ++ labels)))
+  ask_begun low long = inr (inr (inl (refl, record { round = r; shard = s; count = c; labels = labels; split = refl; in_range = low; counted = long })))
 
-pub ask_unlabelled : (r s c : ℕ) (body rest rest' labels ns : List ℕ) → IsU32 r → IsU32 s → IsU32 c
-    → body ≡ u32_text r ++ rest → rest ≡ u32_text s ++ rest' → rest' ≡ u32_text c ++ labels
-    → flat_map u32_text ns ≡ labels → All IsU32 ns → (AreLabels ns → ⊥) → BodyRefused BadField 3 body
-ask_unlabelled r s c body rest rest' labels ns wide_r wide_s wide_c first second third spelled fits never = (
-  λ other. omega (arith, other.0),
-  λ v is.
-      let (ls, lawful, count, low, same) = ask_parts v r s c body rest rest' labels wide_r wide_s wide_c first second third is in
-      let one : ls ≡ ns = items_same u32_text 4 IsU32 (omega arith) u32_length u32_prefix ls ns (labels_fit ls lawful) (recursion_from_All _ _ fits) (same ∙ sym spelled) in
-      never (subst AreLabels one lawful),
-)
+  -- how many bytes the labels of a body of this length have
+  pub labels_long : (body : List ℕ) → body ≡ u32_text r ++ (u32_text s ++ (u32_text c ++ labels)) → c ≡ length labels / 4 → IsWithItems 12 4 MAX_VERTICES (length body) → length labels ≡ 4 * c
+  labels_long body is counted (count, few, len) =
+      omega (arith, counted, len, ap length is, length-append (u32_text r) (u32_text s ++ (u32_text c ++ labels)), length-append (u32_text s) (u32_text c ++ labels), length-append (u32_text c) labels, u32_length r, u32_length s, u32_length c)
 
-pub ask_found : (r s c : ℕ) (body rest rest' labels ls : List ℕ) → IsU32 r → s < MAX_SHARDS → c ≡ length labels / 4
-    → body ≡ u32_text r ++ rest → rest ≡ u32_text s ++ rest' → rest' ≡ u32_text c ++ labels
-    → flat_map u32_text ls ≡ labels → AreLabels ls → IsFrameOf (AskFrame r s ls) 3 body
-ask_found r s c body rest rest' labels ls wide low counted first second third same are =
-    let total : length ls ≡ c = omega (arith, items_length u32_text 4 u32_length ls, ap length same) in
-    record {
-      lawful = record { round = wide; shard = low; labels = are };
-      kind = refl;
-      body = sym (first ∙ ap (λ (t : List ℕ). u32_text r ++ t) (second ∙ ap (λ (t : List ℕ). u32_text s ++ t) (third ∙ ap (λ (t : List ℕ). u32_text c ++ t) (sym same) ∙ ap (λ (k : ℕ). u32_text k ++ flat_map u32_text ls) (sym total))));
-    }
+  pub ask_refused : IsU32 r → IsU32 s → IsU32 c → (s < MAX_SHARDS → length labels ≡ 4 * c → ⊥) → BodyRefused BadField 3 (u32_text r ++ (u32_text s ++ (u32_text c ++ labels)))
+  ask_refused wide_r wide_s wide_c never = (
+    λ other. omega (arith, other.0),
+    λ v is.
+        let (ls, lawful, count, low, same) = ask_parts v wide_r wide_s wide_c is in
+        never low (omega (arith, ap length same, count, items_length u32_text 4 u32_length ls)),
+  )
+
+  pub ask_unlabelled : (ns : List ℕ) → IsU32 r → IsU32 s → IsU32 c → flat_map u32_text ns ≡ labels → All IsU32 ns → (AreLabels ns → ⊥)
+      → BodyRefused BadField 3 (u32_text r ++ (u32_text s ++ (u32_text c ++ labels)))
+  ask_unlabelled ns wide_r wide_s wide_c spelled fits never = (
+    λ other. omega (arith, other.0),
+    λ v is.
+        let (ls, lawful, count, low, same) = ask_parts v wide_r wide_s wide_c is in
+        let one : ls ≡ ns = items_same u32_text 4 IsU32 (omega arith) u32_length u32_prefix ls ns (labels_fit ls lawful) (recursion_from_All _ _ fits) (same ∙ sym spelled) in
+        never (subst AreLabels one lawful),
+  )
+
+  pub ask_found : (ls : List ℕ) → IsU32 r → s < MAX_SHARDS → length ls ≡ c → flat_map u32_text ls ≡ labels → AreLabels ls
+      → IsFrameOf (AskFrame r s ls) 3 (u32_text r ++ (u32_text s ++ (u32_text c ++ labels)))
+  ask_found ls wide low total same are = record {
+    lawful = record { round = wide; shard = low; labels = are };
+    kind = refl;
+    body = ap (λ (k : ℕ). u32_text r ++ (u32_text s ++ (u32_text k ++ flat_map u32_text ls))) total ∙ ap (λ (t : List ℕ). u32_text r ++ (u32_text s ++ (u32_text c ++ t))) same;
+  }
 
 -- ---- an answer
 
-answer_parts : (v : FrameValue) (r s c : ℕ) (body rest rest' offers : List ℕ) → IsU32 r → IsU32 s → IsU32 c
-    → body ≡ u32_text r ++ rest → rest ≡ u32_text s ++ rest' → rest' ≡ u32_text c ++ offers
-    → IsFrameOf v 4 body → (os : List Offer) × AreOffers os × AllByRecursion FitsOffer os × (length os ≡ c) × (flat_map offer_text os ≡ offers)
-answer_parts (AnswerFrame a) r s c body rest rest' offers wide_r wide_s wide_c first second third is =
-    let fields = two_prefix a.round a.shard r s (u32_text (length a.offers) ++ flat_map offer_text a.offers) rest' is.lawful.round is.lawful.shard wide_r wide_s (is.body ∙ first ∙ ap (λ (t : List ℕ). u32_text r ++ t) second) in
-    let count = u32_prefix (length a.offers) c (flat_map offer_text a.offers) offers (omega (arith, is.lawful.count)) wide_c (fields.2 ∙ third) in
-    (a.offers, is.lawful.ascending, recursion_from_All _ _ is.lawful.fit, count.0, count.1)
-answer_parts (ShardFrame n ls) r s c body rest rest' offers wide_r wide_s wide_c first second third is = absurd (shard_kind 4 n ls (omega arith) (omega arith) is.kind)
-answer_parts v r s c body rest rest' offers wide_r wide_s wide_c first second third is = absurd (omega (arith, is.kind))
+module _ (r s c : ℕ) (offers : List ℕ) where
+  answer_parts : (v : FrameValue) → IsU32 r → IsU32 s → IsU32 c → IsFrameOf v 4 (u32_text r ++ (u32_text s ++ (u32_text c ++ offers)))
+      → (os : List Offer) × AreOffers os × AllByRecursion FitsOffer os × (length os ≡ c) × (flat_map offer_text os ≡ offers)
+  answer_parts (AnswerFrame a) wide_r wide_s wide_c is =
+      let fields = two_prefix a.round a.shard r s (u32_text (length a.offers) ++ flat_map offer_text a.offers) (u32_text c ++ offers) is.lawful.round is.lawful.shard wide_r wide_s is.body in
+      let count = u32_prefix (length a.offers) c (flat_map offer_text a.offers) offers (omega (arith, is.lawful.count)) wide_c fields.2 in
+      (a.offers, is.lawful.ascending, recursion_from_All _ _ is.lawful.fit, count.0, count.1)
+  answer_parts (ShardFrame n ls) wide_r wide_s wide_c is = absurd (shard_kind 4 n ls (omega arith) (omega arith) is.kind)
+  answer_parts v wide_r wide_s wide_c is = absurd (omega (arith, is.kind))
 
--- an answer's body of this length, with these fields before its offers
-pub answer_begun : (r s c : ℕ) (body rest rest' offers : List ℕ) → c ≡ length offers / 8 → IsWithItems 12 8 (2 * MAX_SHARD_LINKS) (length body)
-    → body ≡ u32_text r ++ rest → rest ≡ u32_text s ++ rest' → rest' ≡ u32_text c ++ offers → IsListBegun 4 body
-answer_begun r s c body rest rest' offers counted (count, few, len) first second third = inr (inr (inr (
-  refl,
-  record {
-    round = r;
-    shard = s;
-    count = c;
-    offers = offers;
-    split = first ∙ ap (λ (t : List ℕ). u32_text r ++ t) (second ∙ ap (λ (t : List ℕ). u32_text s ++ t) third);
-    counted = omega (arith, counted, len, ap length first, ap length second, ap length third, length-append (u32_text r) rest, length-append (u32_text s) rest', length-append (u32_text c) offers, u32_length r, u32_length s, u32_length c);
-  },
-)))
+  -- an answer's body, with these fields before its offers
+  pub answer_begun : length offers ≡ 8 * c → IsListBegun 4 (u32_text r ++ (u32_text s ++ (u32_text c ++ offers)))
+  answer_begun long = inr (inr (inr (refl, record { round = r; shard = s; count = c; offers = offers; split = refl; counted = long })))
 
-pub answer_refused : (r s c : ℕ) (body rest rest' offers : List ℕ) → IsU32 r → IsU32 s → IsU32 c
-    → body ≡ u32_text r ++ rest → rest ≡ u32_text s ++ rest' → rest' ≡ u32_text c ++ offers
-    → (c ≡ length offers / 8 → ⊥) → BodyRefused BadField 4 body
-answer_refused r s c body rest rest' offers wide_r wide_s wide_c first second third never = (
-  λ other. omega (arith, other.0),
-  λ v is.
-      let (os, ascending, fits, count, same) = answer_parts v r s c body rest rest' offers wide_r wide_s wide_c first second third is in
-      never (omega (arith, ap length same, items_length offer_text 8 offer_length os)),
-)
+  pub answer_refused : IsU32 r → IsU32 s → IsU32 c → (length offers ≡ 8 * c → ⊥) → BodyRefused BadField 4 (u32_text r ++ (u32_text s ++ (u32_text c ++ offers)))
+  answer_refused wide_r wide_s wide_c never = (
+    λ other. omega (arith, other.0),
+    λ v is.
+        let (os, ascending, fits, count, same) = answer_parts v wide_r wide_s wide_c is in
+        never (omega (arith, ap length same, count, items_length offer_text 8 offer_length os)),
+  )
 
-pub answer_unsorted : (r s c : ℕ) (ps : List Offer) (body rest rest' offers : List ℕ) → IsU32 r → IsU32 s → IsU32 c
-    → body ≡ u32_text r ++ rest → rest ≡ u32_text s ++ rest' → rest' ≡ u32_text c ++ offers
-    → flat_map offer_text ps ≡ offers → All FitsOffer ps → (AreOffers ps → ⊥) → BodyRefused BadField 4 body
-answer_unsorted r s c ps body rest rest' offers wide_r wide_s wide_c first second third spelled fits never = (
-  λ other. omega (arith, other.0),
-  λ v is.
-      let (os, ascending, fit, count, same) = answer_parts v r s c body rest rest' offers wide_r wide_s wide_c first second third is in
-      let one : os ≡ ps = items_same offer_text 8 FitsOffer (omega arith) offer_length offer_prefix os ps fit (recursion_from_All _ _ fits) (same ∙ sym spelled) in
-      never (subst AreOffers one ascending),
-)
+  pub answer_unsorted : (ps : List Offer) → IsU32 r → IsU32 s → IsU32 c → flat_map offer_text ps ≡ offers → All FitsOffer ps → (AreOffers ps → ⊥)
+      → BodyRefused BadField 4 (u32_text r ++ (u32_text s ++ (u32_text c ++ offers)))
+  answer_unsorted ps wide_r wide_s wide_c spelled fits never = (
+    λ other. omega (arith, other.0),
+    λ v is.
+        let (os, ascending, fit, count, same) = answer_parts v wide_r wide_s wide_c is in
+        let one : os ≡ ps = items_same offer_text 8 FitsOffer (omega arith) offer_length offer_prefix os ps fit (recursion_from_All _ _ fits) (same ∙ sym spelled) in
+        never (subst AreOffers one ascending),
+  )
 
-pub answer_found : (r s c : ℕ) (os : List Offer) (body rest rest' offers : List ℕ) → IsU32 r → IsU32 s → c ≡ length offers / 8 → IsWithItems 12 8 (2 * MAX_SHARD_LINKS) (length body)
-    → body ≡ u32_text r ++ rest → rest ≡ u32_text s ++ rest' → rest' ≡ u32_text c ++ offers
-    → flat_map offer_text os ≡ offers → All FitsOffer os → AreOffers os → IsFrameOf (AnswerFrame (record { round = r; shard = s; offers = os })) 4 body
-answer_found r s c os body rest rest' offers wide wide' counted (count, few, len) first second third same fits ascending =
-    let lens = items_length offer_text 8 offer_length os in
-    let short : length offers + 12 ≡ length body = omega (arith, ap length first, ap length second, ap length third, length-append (u32_text r) rest, length-append (u32_text s) rest', length-append (u32_text c) offers, u32_length r, u32_length s, u32_length c) in
-    let total : length os ≡ c = omega (arith, lens, ap length same) in
-    record {
-      lawful = record { round = wide; shard = wide'; count = omega (arith, lens, ap length same); fit = fits; ascending = ascending };
-      kind = refl;
-      body = sym (first ∙ ap (λ (t : List ℕ). u32_text r ++ t) (second ∙ ap (λ (t : List ℕ). u32_text s ++ t) (third ∙ ap (λ (t : List ℕ). u32_text c ++ t) (sym same) ∙ ap (λ (k : ℕ). u32_text k ++ flat_map offer_text os) (sym total))));
-    }
+  pub answer_found : (os : List Offer) → IsU32 r → IsU32 s → c ≤ 2 * MAX_SHARD_LINKS → length os ≡ c → flat_map offer_text os ≡ offers → All FitsOffer os → AreOffers os
+      → IsFrameOf (AnswerFrame (record { round = r; shard = s; offers = os })) 4 (u32_text r ++ (u32_text s ++ (u32_text c ++ offers)))
+  answer_found os wide wide' few total same fits ascending = record {
+    lawful = record { round = wide; shard = wide'; count = omega (arith, few, total); fit = fits; ascending = ascending };
+    kind = refl;
+    body = ap (λ (k : ℕ). u32_text r ++ (u32_text s ++ (u32_text k ++ flat_map offer_text os))) total ∙ ap (λ (t : List ℕ). u32_text r ++ (u32_text s ++ (u32_text c ++ t))) same;
+  }
 
 -- ---- a fault
 

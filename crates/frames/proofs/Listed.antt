@@ -1,15 +1,14 @@
 -- Lists of items, written and read.
-use Rattle.std.proofs.Common.{◌≡◌, ℕ, zero, suc, ◌+◌, ◌*◌, ◌/◌, ◌%◌, ◌^◌, ◌<◌, ◌≤◌, ℤ, Bool, true, false, ◌&&◌, IsTrue, List, [], ◌∷◌, ◌++◌, length, map, set, take, drop, get_or, All, refl, sym, ap, subst, ◌∙◌, append_assoc, append-nil, arith}
+use Rattle.std.proofs.Common.{◌≡◌, ℕ, zero, suc, ◌+◌, ◌*◌, ◌/◌, ◌%◌, ◌^◌, ◌<◌, ◌≤◌, ℤ, Bool, true, false, ◌&&◌, IsTrue, List, [], ◌∷◌, ◌++◌, length, map, take, drop, get_or, All, refl, sym, ap, subst, ◌∙◌, append_assoc, append-nil, arith}
 use Rattle.std.specs.Int.{w32, from_be_bytes, cast_signed, cast_unsigned}
 use Rattle.std.specs.List.{flat_map, AllByRecursion}
 use Rattle.std.specs.Simd.{first_chunks}
 use Rattle.std.proofs.lemmas.Bool.{and_parts}
 use Rattle.std.proofs.lemmas.Int.{of_z-to_z}
-use Rattle.std.proofs.lemmas.List.{length-append, nil_from_length, take-append-drop, length-drop, length-take, take_more, take_more_set, map-append, take_all, flat_map_more}
+use Rattle.std.proofs.lemmas.List.{length-append, nil_from_length, take-append-drop, length-drop, length-take, take_more, flat_map_more}
 use Rattle.std.proofs.lemmas.Slice.{take-put_mid}
 use borrow.Rule.Slice.PartMut.{put_mid}
 use Rattle.std.proofs.lemmas.List.Elements.{All-append, All-cons, All-nil, All-from_recursion}
-use Rattle.std.proofs.lemmas.List.Folds.{flat_map-map}
 use Rattle.std.proofs.lemmas.Grind.{flat_map-append}
 use Rattle.links.specs.declared.links.Link.{Link}
 use Rattle.frames.specs.FrameText.{u32_text, i32_text, i64_text, is_narrow, are_narrow, offer_text}
@@ -18,19 +17,6 @@ use Rattle.frames.specs.Refusals.{AreNoLinks, IsNoLink}
 use Rattle.frames.proofs.Texts.{IsBytes, IsBytes-drop, IsBytes-take, u32_length, u32_back, u32_prefix, i64_length, items_same, parts_same, FitsOffer, offer_length}
 use Rattle.frames.proofs.OneText.{two_prefix}
 use Rattle.links.specs.Offers.{Offer}
-
--- ---- numbers, a piece at a time
-
-pub piece_more : (cells : List (List ℕ)) (piece : List ℕ) (i : ℕ) (cell : List ℕ) → i < length cells → i < length piece → cell ≡ u32_text (get_or piece i 0)
-    → take i cells ≡ map u32_text (take i piece) → take (i + 1) (set cells i cell) ≡ map u32_text (take (i + 1) piece)
-piece_more cells piece i cell room more is so_far =
-    take_more_set cells i cell room ∙ ap (λ (t : List (List ℕ)). t ++ cell ∷ []) so_far ∙ ap (λ (t : List ℕ). map u32_text (take i piece) ++ t ∷ []) is
-    ∙ sym (map-append u32_text (take i piece) (get_or piece i 0 ∷ [])) ∙ ap (map u32_text) (sym (take_more piece i 0 more))
-
-pub piece_whole : (cells : List (List ℕ)) (piece : List ℕ) → take (length piece) cells ≡ map u32_text (take (length piece) piece)
-    → flat_map (λ x. x) (take (length piece) cells) ≡ flat_map u32_text piece
-piece_whole cells piece written =
-    ap (flat_map (λ x. x)) (written ∙ ap (map u32_text) (take_all (length piece) piece (omega arith))) ∙ flat_map-map (λ x. x) u32_text piece
 
 -- ---- numbers, read
 

@@ -8,7 +8,7 @@ use Rattle.std.proofs.lemmas.List.Elements.{All-append, All-take}
 use Rattle.std.proofs.lemmas.Grind.{flat_map-append}
 use Rattle.byte_streams.specs.Streams.{SourceState, Gave}
 use Rattle.byte_streams.proofs.Streaming.{gave_more}
-use Rattle.limits.specs.declared.TheConstants.{MAX_SHARDS, MAX_VERTICES}
+use Rattle.limits.specs.declared.TheConstants.{MAX_SHARDS}
 use Rattle.links.specs.Labels.{AreLabels}
 use Rattle.frames.specs.FrameValue.{FrameValue, AskFrame}
 use Rattle.frames.specs.FrameText.{u32_text, text_of}
@@ -16,12 +16,13 @@ use Rattle.frames.specs.Lawful.{IsU32, IsLawful}
 use Rattle.frames.specs.Refusals.{IsPossible}
 use Rattle.frames.specs.ReadFault.{IsReadRefused, IsCutShort}
 use Rattle.frames.specs.NextFrame.{next_value, IsAskUnder, BodyCame, IsBodyRefused, IsStopped}
+use Rattle.frames.specs.Pieces.{BytesCame}
 use Rattle.frames.specs.declared.next_frame.NextFrame.{NextFrame}
 use Rattle.frames.specs.declared.fault.FrameFault.{FrameFault}
 use Rattle.frames.specs.declared.fault.FrameFault.TheVariants.{BadField, Memory}
 use Rattle.frames.proofs.Streams.{frame_gave, cut_more, cut_refused, body_refused}
 use Rattle.frames.proofs.Texts.{u32_length, items_length}
-use Rattle.frames.proofs.Pieces.{three_fields, list_came, list_refused, list_stopped}
+use Rattle.frames.proofs.Pieces.{list_came, list_refused, list_cut, list_stopped}
 use Rattle.frames.proofs.Decoded.{ask_refused, ask_begun, ask_found, ask_unlabelled}
 
 -- ---- a head and what came behind it
@@ -97,53 +98,40 @@ stopped_at len body piece x y z within first second = record {
 
 -- ---- the twelve bytes before them
 
-module _ (fields rest rest' none : List ℕ) (r s c n : ℕ) (twelve : length fields ≡ 12) (wide_r : IsU32 r) (wide_s : IsU32 s) (wide_c : IsU32 c)
-    (first : fields ≡ u32_text r ++ rest) (second : rest ≡ u32_text s ++ rest') (third : rest' ≡ u32_text c ++ none) where
-  ask_body : (labels : List ℕ) → fields ++ labels ≡ u32_text r ++ (u32_text s ++ (u32_text c ++ labels))
-  ask_body labels = three_fields fields rest rest' none labels r s c twelve first second third
+module _ (r s c n : ℕ) (x y z : SourceState) (came : Gave 0 0 (u32_text r ++ (u32_text s ++ u32_text c)) x y) where
+  long : length (u32_text r ++ (u32_text s ++ u32_text c)) + 4 * n ≡ 12 + 4 * n
+  long = omega (arith, length-append (u32_text r) (u32_text s ++ u32_text c), length-append (u32_text s) (u32_text c), u32_length r, u32_length s, u32_length c)
 
-  long : length fields + 4 * n ≡ 12 + 4 * n
-  long = omega (arith, twelve)
-
-  with_fields : (labels : List ℕ) → length labels ≡ 4 * n → length (fields ++ labels) ≡ 12 + 4 * n
-  with_fields labels count = omega (arith, length-append fields labels)
+  -- less than the labels came
+  pub ask_unpassed : (fault : FrameFault) → IsCutShort fault (4 * n) y z → IsBodyRefused fault 3 (12 + 4 * n) x z
+  ask_unpassed fault cut = list_cut 3 (12 + 4 * n) (4 * n) (u32_text r ++ (u32_text s ++ u32_text c)) long x y z came fault cut
 
   -- fields that no ask has
-  pub ask_unlawful : (labels : List ℕ) (x y z : SourceState) → length labels ≡ 4 * n → Gave 0 0 fields x y → Gave 0 0 labels y z → (s < MAX_SHARDS → c ≡ n → ⊥)
-      → IsBodyRefused BadField 3 (12 + 4 * n) x z
-  ask_unlawful labels x y z count came behind never =
-      list_refused 3 (12 + 4 * n) (4 * n) fields long x y z came BadField labels count behind
-      (ask_refused r s c (fields ++ labels) (u32_text s ++ (u32_text c ++ labels)) (u32_text c ++ labels) labels wide_r wide_s wide_c (ask_body labels) refl refl
-      (λ low counted. never low (omega (arith, counted, count))))
+  pub ask_unlawful : IsU32 r → IsU32 s → IsU32 c → BytesCame (4 * n) y z → (s < MAX_SHARDS → c ≡ n → ⊥) → IsBodyRefused BadField 3 (12 + 4 * n) x z
+  unfolding u32_text
+  ask_unlawful wide_r wide_s wide_c behind never =
+      list_refused 3 (12 + 4 * n) (4 * n) (u32_text r ++ (u32_text s ++ u32_text c)) long x y z came BadField behind.bytes behind.counted behind.gave
+      (ask_refused r s c behind.bytes wide_r wide_s wide_c (λ low count. never low (omega (arith, count, behind.counted))))
 
-  module _ (low : s < MAX_SHARDS) (counted : c ≡ n) (few : n ≤ MAX_VERTICES) where
+  module _ (low : s < MAX_SHARDS) (counted : c ≡ n) where
     -- less than all labels came, or memory was wanting
-    pub ask_stopped : (fault : FrameFault) (x y z : SourceState) → Gave 0 0 fields x y → IsStopped fault (4 * n) y z → IsBodyRefused fault 3 (12 + 4 * n) x z
-    ask_stopped fault x y z came stopped =
-        list_stopped 3 (12 + 4 * n) (4 * n) fields long x y z came fault stopped
-        (λ labels count. ask_begun r s c (fields ++ labels) (u32_text s ++ (u32_text c ++ labels)) (u32_text c ++ labels) labels low (omega (arith, counted, count)) (n, few, with_fields labels count) (ask_body labels) refl refl)
+    pub ask_stopped : (fault : FrameFault) → IsStopped fault (4 * n) y z → IsBodyRefused fault 3 (12 + 4 * n) x z
+    unfolding u32_text
+    ask_stopped fault stopped =
+        list_stopped 3 (12 + 4 * n) (4 * n) (u32_text r ++ (u32_text s ++ u32_text c)) long x y z came fault stopped
+        (λ labels count. ask_begun r s c labels low (omega (arith, counted, count)))
 
-    -- labels came
-    ask_came : (v : FrameValue) (ls : List ℕ) (x y z : SourceState) → v ≡ AskFrame r s ls → AreLabels ls → length ls ≡ n → Gave 0 0 fields x y → Gave 0 0 (flat_map u32_text ls) y z
-        → BodyCame v 3 (12 + 4 * n) x z
-    ask_came v ls x y z is labels count came behind =
-        let text : List ℕ = flat_map u32_text ls in
-        subst (λ (w : FrameValue). BodyCame w 3 (12 + 4 * n) x z) (sym is)
-        (list_came 3 (12 + 4 * n) (4 * n) fields long x y z came (AskFrame r s ls) text (omega (arith, bytes_of ls, count)) behind
-        (ask_found r s c (fields ++ text) (u32_text s ++ (u32_text c ++ text)) (u32_text c ++ text) text ls wide_r low (omega (arith, counted, count, bytes_of ls)) (ask_body text) refl refl refl labels))
-
-    -- numbers came that are no labels
-    no_ask_came : (fault : FrameFault) (ls : List ℕ) (x y z : SourceState) → fault ≡ BadField → All IsU32 ls → (AreLabels ls → ⊥) → length ls ≡ n → Gave 0 0 fields x y
-        → Gave 0 0 (flat_map u32_text ls) y z → IsBodyRefused fault 3 (12 + 4 * n) x z
-    no_ask_came fault ls x y z is fit never count came behind =
-        let text : List ℕ = flat_map u32_text ls in
-        subst (λ (f : FrameFault). IsBodyRefused f 3 (12 + 4 * n) x z) (sym is)
-        (list_refused 3 (12 + 4 * n) (4 * n) fields long x y z came BadField text (omega (arith, bytes_of ls, count)) behind
-        (ask_unlabelled r s c (fields ++ text) (u32_text s ++ (u32_text c ++ text)) (u32_text c ++ text) text ls wide_r wide_s wide_c (ask_body text) refl refl refl fit never))
-
-    module _ (ls : List ℕ) (x y z : SourceState) (count : length ls ≡ n) (came : Gave 0 0 fields x y) (behind : Gave 0 0 (flat_map u32_text ls) y z) where
+    module _ (wide_r : IsU32 r) (ls : List ℕ) (count : length ls ≡ n) (behind : Gave 0 0 (flat_map u32_text ls) y z) where
       pub ask_read : {A : Type 0} (last : List ℕ) (next : NextFrame A) → IsAskUnder last r s ls next → BodyCame (next_value last next) 3 (12 + 4 * n) x z
-      ask_read last next is = ask_came (next_value last next) ls x y z is.value is.labels count came behind
+      unfolding u32_text
+      ask_read last next is =
+          subst (λ (w : FrameValue). BodyCame w 3 (12 + 4 * n) x z) (sym is.value)
+          (list_came 3 (12 + 4 * n) (4 * n) (u32_text r ++ (u32_text s ++ u32_text c)) long x y z came (AskFrame r s ls) (flat_map u32_text ls) (omega (arith, bytes_of ls, count)) behind
+          (ask_found r s c (flat_map u32_text ls) ls wide_r low (omega (arith, counted, count)) refl is.labels))
 
-      pub no_ask_read : (fault : FrameFault) → All IsU32 ls → (fault ≡ BadField) × ¬ AreLabels ls → IsBodyRefused fault 3 (12 + 4 * n) x z
-      no_ask_read fault fit (is, never) = no_ask_came fault ls x y z is fit never count came behind
+      pub no_ask_read : IsU32 s → IsU32 c → (fault : FrameFault) → All IsU32 ls → (fault ≡ BadField) × ¬ AreLabels ls → IsBodyRefused fault 3 (12 + 4 * n) x z
+      unfolding u32_text
+      no_ask_read wide_s wide_c fault fit (is, never) =
+          subst (λ (f : FrameFault). IsBodyRefused f 3 (12 + 4 * n) x z) (sym is)
+          (list_refused 3 (12 + 4 * n) (4 * n) (u32_text r ++ (u32_text s ++ u32_text c)) long x y z came BadField (flat_map u32_text ls) (omega (arith, bytes_of ls, count)) behind
+          (ask_unlabelled r s c (flat_map u32_text ls) ls wide_r wide_s wide_c refl fit never))

@@ -1,15 +1,15 @@
 -- Bodies that come by pieces: fields, and behind them a list.
-use Rattle.std.proofs.Common.{◌≡◌, ℕ, ◌+◌, ◌*◌, ◌≤◌, List, [], ◌++◌, length, sym, ap, subst, ◌∙◌, inl, inr, append_assoc, append-nil, arith}
+use Rattle.std.proofs.Common.{◌≡◌, ℕ, ◌+◌, ◌*◌, ◌≤◌, List, [], ◌++◌, length, sym, ap, subst, ◌∙◌, append-nil, inl, inr, arith}
 use Rattle.std.proofs.Math.Nat.{mul-add, mul-le-mul_left}
 use Rattle.std.proofs.lemmas.Bool.{cases_lt}
 use Rattle.std.proofs.lemmas.List.{length-append, nil_from_length}
 use Rattle.byte_streams.specs.Streams.{SourceState, Gave}
-use Rattle.byte_streams.proofs.Streaming.{gave_more}
+use Rattle.byte_streams.proofs.Streaming.{gave_more, consumes-known}
 use Rattle.frames.specs.FrameValue.{FrameValue}
 use Rattle.frames.specs.FrameText.{u32_text}
 use Rattle.frames.specs.Refusals.{IsFrameOf, BodyRefused, IsListBegun}
 use Rattle.frames.specs.ReadFault.{failures_of, ends_of, IsCutShort}
-use Rattle.frames.specs.NextFrame.{BodyCame, IsBodyRefused, IsStopped}
+use Rattle.frames.specs.NextFrame.{BodyCame, IsBodyRefused, WantsLate, IsStopped}
 use Rattle.frames.specs.Pieces.{BytesCame}
 use Rattle.frames.specs.declared.fault.FrameFault.{FrameFault}
 use Rattle.frames.specs.declared.fault.FrameFault.TheVariants.{Memory}
@@ -57,14 +57,21 @@ stopped_later size n k count fault bytes x y z within counted came stopped =
 
 -- ---- fields, and the bytes of a list behind them
 
--- three fields, and what stands behind them
-pub three_fields : (fields rest rest' none list : List ℕ) (r s c : ℕ) → length fields ≡ 12 → fields ≡ u32_text r ++ rest → rest ≡ u32_text s ++ rest' → rest' ≡ u32_text c ++ none
-    → fields ++ list ≡ u32_text r ++ (u32_text s ++ (u32_text c ++ list))
-three_fields fields rest rest' none list r s c twelve first second third =
-    let empty : none ≡ [] = nil_from_length none (omega (arith, twelve, ap length first, ap length second, ap length third, length-append (u32_text r) rest, length-append (u32_text s) rest', length-append (u32_text c) none, u32_length r, u32_length s, u32_length c)) in
-    let count : rest' ≡ u32_text c = third ∙ ap (λ (t : List ℕ). u32_text c ++ t) empty ∙ append-nil (u32_text c) in
-    let all : fields ≡ u32_text r ++ (u32_text s ++ u32_text c) = first ∙ ap (λ (t : List ℕ). u32_text r ++ t) (second ∙ ap (λ (t : List ℕ). u32_text s ++ t) count) in
-    ap (λ (t : List ℕ). t ++ list) all ∙ append_assoc (u32_text r) (u32_text s ++ u32_text c) list ∙ ap (λ (t : List ℕ). u32_text r ++ t) (append_assoc (u32_text s) (u32_text c) list)
+-- numbers that fill some bytes
+two_filled : (bytes rest none : List ℕ) (a b : ℕ) → length bytes ≡ 8 → bytes ≡ u32_text a ++ rest → rest ≡ u32_text b ++ none → bytes ≡ u32_text a ++ u32_text b
+two_filled bytes rest none a b eight first second =
+    let empty : none ≡ [] = nil_from_length none (omega (arith, eight, ap length first, ap length second, length-append (u32_text a) rest, length-append (u32_text b) none, u32_length a, u32_length b)) in
+    first ∙ ap (λ (t : List ℕ). u32_text a ++ t) (second ∙ ap (λ (t : List ℕ). u32_text b ++ t) empty ∙ append-nil (u32_text b))
+
+pub two_came : (bytes rest none : List ℕ) (a b : ℕ) (x y : SourceState) → length bytes ≡ 8 → bytes ≡ u32_text a ++ rest → rest ≡ u32_text b ++ none
+    → Gave 0 0 bytes x y → Gave 0 0 (u32_text a ++ u32_text b) x y
+two_came bytes rest none a b x y eight first second came = subst (λ (t : List ℕ). Gave 0 0 t x y) (two_filled bytes rest none a b eight first second) came
+
+pub three_came : (bytes rest rest' none : List ℕ) (a b c : ℕ) (x y : SourceState) → length bytes ≡ 12 → bytes ≡ u32_text a ++ rest → rest ≡ u32_text b ++ rest' → rest' ≡ u32_text c ++ none
+    → Gave 0 0 bytes x y → Gave 0 0 (u32_text a ++ (u32_text b ++ u32_text c)) x y
+three_came bytes rest rest' none a b c x y twelve first second third came =
+    let eight : length rest ≡ 8 = omega (arith, twelve, ap length first, length-append (u32_text a) rest, u32_length a) in
+    subst (λ (t : List ℕ). Gave 0 0 t x y) (first ∙ ap (λ (t : List ℕ). u32_text a ++ t) (two_filled rest rest' none b c eight second third)) came
 
 module _ (kind len m : ℕ) (fields : List ℕ) (long : length fields + m ≡ len) (x y z : SourceState) (came : Gave 0 0 fields x y) where
   -- the list came, and the body is a frame's
@@ -80,6 +87,12 @@ module _ (kind len m : ℕ) (fields : List ℕ) (long : length fields + m ≡ le
   -- less than the list came
   pub list_cut : (fault : FrameFault) → IsCutShort fault m y z → IsBodyRefused fault kind len x z
   list_cut fault cut = inl (cut_more fault m len fields x y z (omega (arith, long)) came cut)
+
+  -- memory was asked for behind the fields
+  pub list_late : (fault : FrameFault) → ((list : List ℕ) → length list ≡ m → IsListBegun kind (fields ++ list)) → WantsLate fault kind len x
+  list_late fault begun memory body left count =
+      let (list, rest, is) = consumes-known x.left y.left body fields left came.left in
+      subst (IsListBegun kind) (sym is) (begun list (omega (arith, ap length is, length-append fields list, count, long)))
 
   -- less than it came, or memory was wanting
   pub list_stopped : (fault : FrameFault) → IsStopped fault m y z → ((list : List ℕ) → length list ≡ m → IsListBegun kind (fields ++ list)) → IsBodyRefused fault kind len x z

@@ -1,5 +1,5 @@
 -- Links in either spelling.
-use Rattle.std.proofs.Common.{◌≡◌, ℕ, ◌+◌, ◌*◌, ◌/◌, ◌%◌, ◌<◌, ◌≤◌, Bool, true, false, cond, List, [], ◌∷◌, ◌++◌, length, take, drop, refl, sym, ap, subst, ◌∙◌, append_assoc, append-nil, arith}
+use Rattle.std.proofs.Common.{◌≡◌, ℕ, ◌+◌, ◌*◌, ◌/◌, ◌%◌, ◌<◌, ◌≤◌, Bool, true, false, cond, List, [], ◌∷◌, ◌++◌, length, take, drop, refl, sym, ap, ◌∙◌, append_assoc, append-nil, arith}
 use Rattle.std.specs.List.{flat_map}
 use Rattle.std.proofs.lemmas.Bool.{and_parts, and_from}
 use Rattle.std.proofs.lemmas.List.{length-append, length-take, take-append-drop}
@@ -7,7 +7,7 @@ use Rattle.std.proofs.lemmas.Grind.{flat_map-append}
 use Rattle.links.specs.declared.links.Link.{Link}
 use Rattle.frames.specs.FrameText.{are_narrow, links_text}
 use Rattle.frames.specs.Refusals.{AreNoLinks, IsNoLink}
-use Rattle.frames.specs.Spellings.{spelled_in, size_in, kind_in, spelling_of, FitIn, Spells, Pushes}
+use Rattle.frames.specs.Spellings.{spelled_in, size_in, kind_in, spelling_of, FitIn, Spells}
 use Rattle.frames.specs.declared.spelling.Spelling.{Spelling}
 use Rattle.frames.specs.declared.spelling.Spelling.TheVariants.{Narrow, Wide}
 use Rattle.frames.proofs.Texts.{parts_same, link_length, wide_link_length, items_length, narrow_text, wide_text}
@@ -133,7 +133,3 @@ pushed_one s new old before more link bytes rest first behind pushed so_far read
 pub no_link_behind : (s : Spelling) (more : List Link) (bytes rest first behind : List ℕ) → flat_map (spelled_in s) more ++ rest ≡ bytes → first ≡ take (size_in s) rest → behind ≡ drop (size_in s) rest
     → length first ≡ size_in s → IsNoLink (spelled_in s) first → AreNoLinks (spelled_in s) bytes
 no_link_behind s more bytes rest first behind = no_links_behind (spelled_in s) (size_in s) (size_some s) (spelled_length s) more bytes rest first behind
-
--- links that were pushed into an empty list
-pub spells_pushed : (s : Spelling) (bytes : List ℕ) (before after : List Link) → before ≡ [] → Pushes s bytes before after → Spells s after bytes
-spells_pushed s bytes before after empty (more, is, spelled) = subst (λ (ls : List Link). Spells s ls bytes) (sym (is ∙ ap (λ (t : List Link). t ++ more) empty)) spelled

@@ -1,71 +1,55 @@
 -- A text is what was written: the head, and the fields one behind the other.
-use Rattle.std.proofs.Common.{◌≡◌, ℕ, ◌+◌, ◌*◌, ◌≤◌, List, ◌∷◌, ◌++◌, length, take, drop, refl, sym, ap, subst, ◌∙◌, append_assoc, arith}
+use Rattle.std.proofs.Common.{◌≡◌, ℕ, ◌+◌, ◌*◌, ◌≤◌, List, ◌∷◌, ◌++◌, length, take, append_assoc, sym, ap, ◌∙◌, arith}
 use Rattle.std.specs.List.{flat_map}
-use Rattle.std.proofs.lemmas.List.{length-append, length-drop, take-append-le, take_all}
+use Rattle.std.proofs.lemmas.List.{length-append, take_all, take_at}
 use Rattle.links.specs.declared.links.Link.{Link}
 use Rattle.links.specs.AnswerValue.{AnswerValue}
-use Rattle.frames.specs.FrameValue.{HelloFrame, ShardFrame, AskFrame, AnswerFrame}
-use Rattle.frames.specs.FrameText.{u16_text, u32_text, offer_text, body_of, text_of}
+use Rattle.frames.specs.FrameValue.{ShardFrame, AskFrame, AnswerFrame}
+use Rattle.frames.specs.FrameText.{u32_text, offer_text, body_of, text_of}
 use Rattle.frames.specs.Spellings.{spelled_in, size_in, kind_in, spelling_of}
 use Rattle.frames.specs.declared.spelling.Spelling.{Spelling}
-use Rattle.frames.proofs.Texts.{u16_length, u32_length, offer_length, items_length}
+use Rattle.frames.proofs.Texts.{u32_length, offer_length, items_length}
 use Rattle.frames.proofs.Spelled.{length_in, text_in, kind_by_spelling}
 
--- a head with the length of the body that follows it
-behind_head : (kind len : ℕ) (body text : List ℕ) → len ≡ length body → text ≡ kind ∷ (u32_text len ++ body) → text ≡ kind ∷ (u32_text (length body) ++ body)
-behind_head kind len body text count is = subst (λ (n : ℕ). text ≡ kind ∷ (u32_text n ++ body)) count is
+-- a head, two fields, and what stands behind them
+two_fields : (kind len a b : ℕ) (list : List ℕ) → len ≡ 8 + length list
+    → (((kind ∷ u32_text len) ++ u32_text a) ++ u32_text b) ++ list ≡ kind ∷ (u32_text (length (u32_text a ++ (u32_text b ++ list))) ++ (u32_text a ++ (u32_text b ++ list)))
+unfolding u32_text
+two_fields kind len a b list long = ap (λ (n : ℕ). kind ∷ (u32_text n ++ (u32_text a ++ (u32_text b ++ list)))) (omega (arith, long))
 
-two_fields : (kind len : ℕ) (a b t0 t1 t2 : List ℕ) → len ≡ length (a ++ b) → t0 ≡ kind ∷ u32_text len → t1 ≡ t0 ++ a → t2 ≡ t1 ++ b → t2 ≡ kind ∷ (u32_text (length (a ++ b)) ++ (a ++ b))
-two_fields kind len a b t0 t1 t2 count e0 e1 e2 =
-    let all : t2 ≡ ((kind ∷ u32_text len) ++ a) ++ b = cc in
-    let regrouped : ((kind ∷ u32_text len) ++ a) ++ b ≡ kind ∷ (u32_text len ++ (a ++ b)) = append_assoc (kind ∷ u32_text len) a b in
-    behind_head kind len (a ++ b) t2 count (all ∙ regrouped)
+-- a head, three fields, and what stands behind them
+three_fields : (kind len a b c : ℕ) (list : List ℕ) → len ≡ 12 + length list
+    → ((((kind ∷ u32_text len) ++ u32_text a) ++ u32_text b) ++ u32_text c) ++ list
+    ≡ kind ∷ (u32_text (length (u32_text a ++ (u32_text b ++ (u32_text c ++ list)))) ++ (u32_text a ++ (u32_text b ++ (u32_text c ++ list))))
+unfolding u32_text
+three_fields kind len a b c list long = ap (λ (n : ℕ). kind ∷ (u32_text n ++ (u32_text a ++ (u32_text b ++ (u32_text c ++ list))))) (omega (arith, long))
 
-three_fields : (kind len : ℕ) (a b c t0 t1 t2 t3 : List ℕ) → len ≡ length (a ++ (b ++ c)) → t0 ≡ kind ∷ u32_text len → t1 ≡ t0 ++ a → t2 ≡ t1 ++ b → t3 ≡ t2 ++ c
-    → t3 ≡ kind ∷ (u32_text (length (a ++ (b ++ c))) ++ (a ++ (b ++ c)))
-three_fields kind len a b c t0 t1 t2 t3 count e0 e1 e2 e3 =
-    two_fields kind len a (b ++ c) t0 t1 t3 count e0 e1 (e3 ∙ ap (λ (t : List ℕ). t ++ c) e2 ∙ append_assoc t1 b c)
-
-four_fields : (kind len : ℕ) (a b c d t0 t1 t2 t3 t4 : List ℕ) → len ≡ length (a ++ (b ++ (c ++ d))) → t0 ≡ kind ∷ u32_text len → t1 ≡ t0 ++ a → t2 ≡ t1 ++ b → t3 ≡ t2 ++ c → t4 ≡ t3 ++ d
-    → t4 ≡ kind ∷ (u32_text (length (a ++ (b ++ (c ++ d)))) ++ (a ++ (b ++ (c ++ d))))
-four_fields kind len a b c d t0 t1 t2 t3 t4 count e0 e1 e2 e3 e4 =
-    three_fields kind len a b (c ++ d) t0 t1 t2 t4 count e0 e1 e2 (e4 ∙ ap (λ (t : List ℕ). t ++ d) e3 ∙ append_assoc t2 c d)
-
-pub hello_written : (version worker : ℕ) (t0 t1 t2 : List ℕ) → t0 ≡ 1 ∷ u32_text 6 → t1 ≡ t0 ++ u16_text version → t2 ≡ t1 ++ u32_text worker → t2 ≡ text_of (HelloFrame version worker)
-hello_written version worker t0 t1 t2 e0 e1 e2 =
-    two_fields 1 6 (u16_text version) (u32_text worker) t0 t1 t2 (omega (arith, length-append (u16_text version) (u32_text worker), u16_length version, u32_length worker)) e0 e1 e2
-
--- a head with these fields, and the links behind it
-pub shard_written : (s : Spelling) (number count len : ℕ) (links : List Link) → spelling_of links ≡ s → count ≡ length links → len ≡ 8 + size_in s * count
-    → (((kind_in s ∷ u32_text len) ++ u32_text number) ++ u32_text count) ++ flat_map (spelled_in s) links ≡ text_of (ShardFrame number links)
-shard_written s number count len links spelling counted long =
+pub shard_written : (s : Spelling) (number len : ℕ) (links : List Link) → spelling_of links ≡ s → len ≡ 8 + size_in s * length links
+    → (((kind_in s ∷ u32_text len) ++ u32_text number) ++ u32_text (length links)) ++ flat_map (spelled_in s) links ≡ text_of (ShardFrame number links)
+shard_written s number len links spelling long =
     let a : List ℕ = u32_text number in
     let b : List ℕ = u32_text (length links) in
-    let spelled : List ℕ = flat_map (spelled_in s) links in
-    let head : List ℕ = (kind_in s ∷ u32_text len) ++ a in
-    let size : length spelled ≡ size_in s * count = length_in s links ∙ ap (λ (n : ℕ). size_in s * n) (sym counted) in
-    three_fields (kind_in s) len a b spelled (kind_in s ∷ u32_text len) head (head ++ u32_text count) ((head ++ u32_text count) ++ spelled)
-    (omega (arith, long, size, length-append a (b ++ spelled), length-append b spelled, u32_length number, u32_length (length links)))
-    refl refl (ap (λ (n : ℕ). head ++ u32_text n) counted) refl
+    two_fields (kind_in s) len number (length links) (flat_map (spelled_in s) links) (long ∙ ap (λ (n : ℕ). 8 + n) (sym (length_in s links)))
     ∙ ap (λ (t : List ℕ). kind_in s ∷ (u32_text (length (a ++ (b ++ t))) ++ (a ++ (b ++ t)))) (sym (text_in s links spelling))
     ∙ ap (λ (k : ℕ). k ∷ (u32_text (length (body_of (ShardFrame number links))) ++ body_of (ShardFrame number links))) (sym (kind_by_spelling s links spelling))
 
-pub ask_written : (round shard count : ℕ) (labels : List ℕ) (t0 t1 t2 t3 t4 : List ℕ) → count ≡ length labels → t0 ≡ 3 ∷ u32_text (12 + 4 * count)
-    → t1 ≡ t0 ++ u32_text round → t2 ≡ t1 ++ u32_text shard → t3 ≡ t2 ++ u32_text count → t4 ≡ t3 ++ flat_map u32_text labels → t4 ≡ text_of (AskFrame round shard labels)
-ask_written round shard count labels t0 t1 t2 t3 t4 counted e0 e1 e2 e3 e4 =
-    four_fields 3 (12 + 4 * count) (u32_text round) (u32_text shard) (u32_text (length labels)) (flat_map u32_text labels) t0 t1 t2 t3 t4
-    (omega (arith, length-append (u32_text round) (u32_text shard ++ (u32_text (length labels) ++ flat_map u32_text labels)), length-append (u32_text shard) (u32_text (length labels) ++ flat_map u32_text labels), length-append (u32_text (length labels)) (flat_map u32_text labels), u32_length round, u32_length shard, u32_length (length labels), items_length u32_text 4 u32_length labels))
-    e0 e1 e2 (e3 ∙ ap (λ (n : ℕ). t2 ++ u32_text n) counted) e4
+pub ask_written : (round shard count : ℕ) (labels : List ℕ) → count ≡ length labels
+    → ((((3 ∷ u32_text (12 + 4 * count)) ++ u32_text round) ++ u32_text shard) ++ u32_text count) ++ flat_map u32_text labels ≡ text_of (AskFrame round shard labels)
+ask_written round shard count labels counted =
+    rw counted (three_fields 3 (12 + 4 * length labels) round shard (length labels) (flat_map u32_text labels) (omega (arith, items_length u32_text 4 u32_length labels)))
 
--- a text over whose first bytes others are written is whole
-pub over_written : (new front old : List ℕ) (len : ℕ) → new ≡ front ++ drop (length front) old → length front ≤ length old → length old ≡ len → take len (new ++ drop (length new) old) ≡ front ++ drop (length front) old
-over_written new front old len is within long =
-    let whole : len ≡ length new = omega (arith, ap (λ (t : List ℕ). length t) is, length-append front (drop (length front) old), length-drop (length front) old, within, long) in
-    take-append-le len new (drop (length new) old) (omega (arith, whole)) ∙ take_all len new (omega (arith, whole)) ∙ is
+pub answer_written : (a : AnswerValue) (count : ℕ) → count ≡ length a.offers
+    → ((((4 ∷ u32_text (12 + 8 * count)) ++ u32_text a.round) ++ u32_text a.shard) ++ u32_text count) ++ flat_map offer_text a.offers ≡ text_of (AnswerFrame a)
+answer_written a count counted =
+    rw counted (three_fields 4 (12 + 8 * length a.offers) a.round a.shard (length a.offers) (flat_map offer_text a.offers) (omega (arith, items_length offer_text 8 offer_length a.offers)))
 
-pub answer_written : (a : AnswerValue) (count : ℕ) (t0 t1 t2 t3 t4 : List ℕ) → count ≡ length a.offers → t0 ≡ 4 ∷ u32_text (12 + 8 * count)
-    → t1 ≡ t0 ++ u32_text a.round → t2 ≡ t1 ++ u32_text a.shard → t3 ≡ t2 ++ u32_text count → t4 ≡ t3 ++ flat_map offer_text a.offers → t4 ≡ text_of (AnswerFrame a)
-answer_written a count t0 t1 t2 t3 t4 counted e0 e1 e2 e3 e4 =
-    four_fields 4 (12 + 8 * count) (u32_text a.round) (u32_text a.shard) (u32_text (length a.offers)) (flat_map offer_text a.offers) t0 t1 t2 t3 t4
-    (omega (arith, length-append (u32_text a.round) (u32_text a.shard ++ (u32_text (length a.offers) ++ flat_map offer_text a.offers)), length-append (u32_text a.shard) (u32_text (length a.offers) ++ flat_map offer_text a.offers), length-append (u32_text (length a.offers)) (flat_map offer_text a.offers), u32_length a.round, u32_length a.shard, u32_length (length a.offers), items_length offer_text 8 offer_length a.offers))
-    e0 e1 e2 (e3 ∙ ap (λ (n : ℕ). t2 ++ u32_text n) counted) e4
+-- a list put in place of the cells behind a head
+pub put_behind : (m : ℕ) (head text fill now put post rest : List ℕ) (room len : ℕ) → length head ≡ m → text ≡ head → now ≡ take room text ++ fill → m ≤ room → len ≡ m + length put
+    → take len ((take m now ++ (put ++ post)) ++ rest) ≡ head ++ put
+put_behind m head text fill now put post rest room len long same is wide counted =
+    let whole : take room text ≡ head = take_all room text (omega (arith, ap length same, long, wide)) ∙ same in
+    let begun : take m now ≡ head = ap (take m) (is ∙ ap (λ (t : List ℕ). t ++ fill) whole) ∙ take_at head fill m long in
+    ap (take len) (append_assoc (take m now) (put ++ post) rest ∙ ap (λ (t : List ℕ). take m now ++ t) (append_assoc put post rest)
+    ∙ sym (append_assoc (take m now) put (post ++ rest)))
+    ∙ take_at (take m now ++ put) (post ++ rest) len (omega (arith, length-append (take m now) put, ap length begun, long, counted))
+    ∙ ap (λ (t : List ℕ). t ++ put) begun

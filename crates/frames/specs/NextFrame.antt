@@ -6,7 +6,7 @@ use Rattle.links.specs.Labels.{label_of, IsLabelled, AreLabels, Coarsens}
 use Rattle.frames.specs.FrameValue.{FrameValue, AskFrame, value_of}
 use Rattle.frames.specs.FrameText.{u32_text}
 use Rattle.frames.specs.Lawful.{IsU32}
-use Rattle.frames.specs.Refusals.{IsFrameOf, BodyRefused}
+use Rattle.frames.specs.Refusals.{IsFrameOf, BodyRefused, IsListBegun}
 use Rattle.frames.specs.ReadFault.{failures_of, ends_of, CutsShort, IsCutShort}
 use Rattle.frames.specs.declared.fault.FrameFault.{FrameFault}
 use Rattle.frames.specs.declared.fault.FrameFault.TheVariants.{Memory}
@@ -74,6 +74,10 @@ pub record IsWholeRefused (fault : FrameFault) (kind len : ℕ) (before after : 
 -- behind a head, less than its body came, or a body that is refused
 abbrev pub IsBodyRefused : FrameFault → ℕ → ℕ → SourceState → SourceState → Type 0
 IsBodyRefused fault kind len before after = IsCutShort fault len before after ⊎ IsWholeRefused fault kind len before after
+
+-- memory was asked for only behind lawful fields, if the bytes to come are known and are a whole body
+abbrev pub WantsLate : FrameFault → ℕ → ℕ → SourceState → Type 0
+WantsLate fault kind len before = fault ≡ Memory → (body : List ℕ) → before.left ≡ Some body → length body ≡ len → IsListBegun kind body
 
 -- no more than `len` bytes came, and fewer unless memory was wanting
 pub record IsStopped (fault : FrameFault) (len : ℕ) (before after : SourceState) : Type 0 where

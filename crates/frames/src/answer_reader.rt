@@ -3,12 +3,11 @@
 ghost use Rattle.std.specs.Prelude.{◌≡◌, ◌+◌, ◌*◌, ◌≤◌, length, IfOk, IfErr, OnOk};
 ghost use Rattle.byte_streams.specs.Streams.{Gave};
 ghost use Rattle.frames.specs.FrameValue.{value_of};
-ghost use Rattle.frames.specs.NextFrame.{BodyCame, IsBodyRefused, IsStopped};
+ghost use Rattle.frames.specs.NextFrame.{BodyCame, IsBodyRefused, WantsLate, IsStopped};
 ghost use Rattle.frames.specs.Pieces.{PushesOffers, OffersCame};
 
-use crate::bodies::{PIECE, pass_over, read_bytes};
+use crate::bodies::{PIECE, pass_over, read_bytes, read_three};
 use crate::fault::FrameFault;
-use crate::fields::split_u32;
 use crate::frame::Frame;
 use crate::items::push_offers;
 use byte_streams::Source;
@@ -18,7 +17,7 @@ use std::alloc::Allocator;
 
 // The answer whose head came, with a length for so many offers. Its count is judged first; where it is refused, the rest
 // is taken all the same, and not kept: a stream may end in it. That the components ascend is judged once all came.
-pub(crate) fn read_answer<A: Allocator + Copy, S: Source>(
+pub(crate) fn read_answer<A: Allocator, S: Source>(
     alloc: A,
     source: &mut S,
     most: usize,
@@ -29,14 +28,11 @@ pub(crate) fn read_answer<A: Allocator + Copy, S: Source>(
         (λ f. BodyCame (value_of f) 4 (12 + 8 * most) (S.state source.old) (S.state source.new)) }
     ensures refused { IfErr result
         (λ fault. IsBodyRefused fault 4 (12 + 8 * most) (S.state source.old) (S.state source.new)) }
+    ensures late { IfErr result (λ fault. WantsLate fault 4 (12 + 8 * most) (S.state source.old)) }
     ensures lasts { (fact : S.Fact) → S.lasts source.old fact → S.lasts source.new fact }
     ensures again { OnOk result (S.can_read source.new) }
 {
-    let mut fields = [0; 12];
-    read_bytes(source, &mut fields)?;
-    let (round, rest) = split_u32(&fields);
-    let (shard, rest) = split_u32(rest);
-    let (count, _) = split_u32(rest);
+    let (round, shard, count) = read_three(source)?;
     let mut buffer = [0; PIECE];
     if count as usize != most {
         pass_over(source, 8 * most, &mut buffer)?;
@@ -54,7 +50,7 @@ pub(crate) fn read_answer<A: Allocator + Copy, S: Source>(
 }
 
 // The next pairs of a stream, in whatever order.
-fn read_pairs<A: Allocator + Copy, S: Source>(
+fn read_pairs<A: Allocator, S: Source>(
     alloc: A,
     source: &mut S,
     count: usize,

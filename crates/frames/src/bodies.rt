@@ -1,10 +1,14 @@
 //! Bodies from a stream, as bytes.
-ghost use Rattle.std.specs.Prelude.{◌≡◌, ◌+◌, ◌<◌, ◌^◌, length, IfOk, IfErr, OnOk, vec_len};
+ghost use Rattle.std.specs.Prelude.{◌≡◌, ◌≢◌, ◌++◌, ◌+◌, ◌<◌, ◌^◌, length, IfOk, IfErr, OnOk, vec_len};
 ghost use Rattle.byte_streams.specs.Streams.{Gave};
 ghost use Rattle.frames.specs.Pieces.{BytesCame};
+ghost use Rattle.frames.specs.FrameText.{u32_text};
+ghost use Rattle.frames.specs.Lawful.{IsU32};
 ghost use Rattle.frames.specs.ReadFault.{IsCutShort, GrowsBy};
+ghost use Rattle.frames.specs.declared.fault.FrameFault.TheVariants.{Memory};
 
 use crate::fault::FrameFault;
+use crate::fields::split_u32;
 use byte_streams::{FillFault, Source, fill};
 use std::alloc::Allocator;
 
@@ -60,6 +64,7 @@ pub(crate) fn read_bytes<S: Source>(source: &mut S, bytes: &mut [u8]) -> Result<
     ensures came { OnOk result (Gave 0 0 bytes.new (S.state source.old) (S.state source.new)) }
     ensures short { IfErr result
         (λ fault. IsCutShort fault (length bytes.new) (S.state source.old) (S.state source.new)) }
+    ensures takes_none { IfErr result (λ fault. fault ≢ Memory) }
     ensures lasts { (fact : S.Fact) → S.lasts source.old fact → S.lasts source.new fact }
     ensures again { OnOk result (S.can_read source.new) }
 {
@@ -68,6 +73,45 @@ pub(crate) fn read_bytes<S: Source>(source: &mut S, bytes: &mut [u8]) -> Result<
         Err(FillFault::Failed(_)) => Err(FrameFault::Device),
         Err(FillFault::Ended(_)) => Err(FrameFault::Torn),
     }
+}
+
+// Two numbers of four bytes, with which a body begins.
+pub(crate) fn read_two<S: Source>(source: &mut S) -> Result<(u32, u32), FrameFault>
+    requires { S.can_read source.old }
+    ensures came { IfOk result
+        (λ f. Gave 0 0 (u32_text f.0 ++ u32_text f.1) (S.state source.old) (S.state source.new)) }
+    ensures fit { IfOk result (λ f. IsU32 f.0 × IsU32 f.1) }
+    ensures short { IfErr result
+        (λ fault. IsCutShort fault 8 (S.state source.old) (S.state source.new)) }
+    ensures takes_none { IfErr result (λ fault. fault ≢ Memory) }
+    ensures lasts { (fact : S.Fact) → S.lasts source.old fact → S.lasts source.new fact }
+    ensures again { OnOk result (S.can_read source.new) }
+{
+    let mut fields = [0; 8];
+    read_bytes(source, &mut fields)?;
+    let (first, rest) = split_u32(&fields);
+    let (second, _) = split_u32(rest);
+    Ok((first, second))
+}
+
+// Three numbers of four bytes, with which a body begins.
+pub(crate) fn read_three<S: Source>(source: &mut S) -> Result<(u32, u32, u32), FrameFault>
+    requires { S.can_read source.old }
+    ensures came { IfOk result
+        (λ f. Gave 0 0 (u32_text f.0 ++ (u32_text f.1 ++ u32_text f.2)) (S.state source.old) (S.state source.new)) }
+    ensures fit { IfOk result (λ f. IsU32 f.0 × IsU32 f.1 × IsU32 f.2) }
+    ensures short { IfErr result
+        (λ fault. IsCutShort fault 12 (S.state source.old) (S.state source.new)) }
+    ensures takes_none { IfErr result (λ fault. fault ≢ Memory) }
+    ensures lasts { (fact : S.Fact) → S.lasts source.old fact → S.lasts source.new fact }
+    ensures again { OnOk result (S.can_read source.new) }
+{
+    let mut fields = [0; 12];
+    read_bytes(source, &mut fields)?;
+    let (first, rest) = split_u32(&fields);
+    let (second, rest) = split_u32(rest);
+    let (third, _) = split_u32(rest);
+    Ok((first, second, third))
 }
 
 // Takes so many bytes, and keeps none.
@@ -81,6 +125,7 @@ pub(crate) fn pass_over<S: Source>(
     ensures came { OnOk result (BytesCame len (S.state source.old) (S.state source.new)) }
     ensures short { IfErr result
         (λ fault. IsCutShort fault len (S.state source.old) (S.state source.new)) }
+    ensures takes_none { IfErr result (λ fault. fault ≢ Memory) }
     ensures lasts { (fact : S.Fact) → S.lasts source.old fact → S.lasts source.new fact }
     ensures again { OnOk result (S.can_read source.new) }
 {

@@ -1,26 +1,25 @@
 //! Frames from bytes.
-ghost use Rattle.std.specs.Prelude.{◌≡◌, ◌≢◌, ◌*◌, length, IfOk, IfErr};
-ghost use Rattle.frames.specs.FrameValue.{value_of, ShardFrame};
+ghost use Rattle.std.specs.Prelude.{◌≡◌, length, IfOk, IfErr};
+ghost use Rattle.frames.specs.FrameValue.{value_of};
 ghost use Rattle.frames.specs.Refusals.{IsPossible, IsWithItems, IsFrameOf, BodyRefused};
-ghost use Rattle.frames.specs.Spellings.{size_in, kind_in, spelling_of, FitIn};
-ghost use Rattle.frames.specs.declared.fault.FrameFault.TheVariants.{BadField};
 
 use crate::fault::FrameFault;
 use crate::fields::{split_u16, split_u32};
-use crate::frame::{Frame, Links, VERSION};
+use crate::frame::{Frame, VERSION};
+use crate::frame_reader::read_listed;
 use crate::head::Head;
-use crate::items::{numbers_of, offers_of, push_links};
-use crate::spelling::Spelling;
-use limits::{MAX_SHARD_LINKS, MAX_SHARDS, MAX_VERTICES, MAX_WORKERS};
-use links::{Answer, Labels, Link, Offers};
+use crate::items::numbers_of;
+use limits::{MAX_SHARDS, MAX_VERTICES, MAX_WORKERS};
+use links::Labels;
 use std::alloc::Allocator;
 
 /// The frame of a head and its body.
 ///
 /// `BadVersion` where it is a hello of another version than 1 and 2, else `BadField` where no lawful frame
 /// has this body. So is a shard of kind 6 whose weights all fit 32 bits, since such a shard has kind 2. One list
-/// is made beside the body's bytes, and looked at once more; a hello and a fault take no memory. `Memory` where
-/// that list's growth was refused, which is asked for only once the fields before the list were found lawful.
+/// is made beside the body's bytes, and looked at once more; a hello and a fault take no memory. Links and offers are read
+/// as [`read_frame`](crate::read_frame) reads them, with its room. `Memory` where that list's growth was refused, which is
+/// asked for only once the fields before the list were found lawful.
 pub fn decode_body<A: Allocator>(alloc: A, head: Head, body: &[u8]) -> Result<Frame<A>, FrameFault>
     requires length { length body.now ≡ head.length }
     requires possible { IsPossible head.kind head.length }
@@ -29,11 +28,12 @@ pub fn decode_body<A: Allocator>(alloc: A, head: Head, body: &[u8]) -> Result<Fr
 {
     match head.kind {
         1 => decode_hello(body),
-        2 => decode_shard(alloc, Spelling::Narrow, body),
         3 => decode_ask(alloc, body),
-        4 => decode_answer(alloc, body),
         5 => decode_fault(body),
-        _ => decode_shard(alloc, Spelling::Wide, body),
+        _ => {
+            let mut source = body;
+            read_listed(alloc, &mut source, head)
+        }
     }
 }
 
@@ -51,45 +51,6 @@ fn decode_hello<A: Allocator>(body: &[u8]) -> Result<Frame<A>, FrameFault>
         return Err(FrameFault::BadField);
     }
     Ok(Frame::Hello { version, worker })
-}
-
-fn decode_shard<A: Allocator>(
-    alloc: A,
-    spelling: Spelling,
-    body: &[u8],
-) -> Result<Frame<A>, FrameFault>
-    requires { IsWithItems 8 (size_in spelling) MAX_SHARD_LINKS (length body.now) }
-    ensures frame { IfOk result (λ f. IsFrameOf (value_of f) (kind_in spelling) body.now) }
-    ensures refused { IfErr result (λ fault. BodyRefused fault (kind_in spelling) body.now) }
-{
-    let (number, rest) = split_u32(body);
-    let (count, rest) = split_u32(rest);
-    if number as usize >= MAX_SHARDS || count as usize != spelling.links_in(rest.len()) {
-        return Err(FrameFault::BadField);
-    }
-    let mut links = Vec::with_capacity(alloc, count as usize)?;
-    if !push_links(&mut links, spelling, rest)? {
-        return Err(FrameFault::BadField);
-    }
-    shard_of(spelling, number, links)
-}
-
-// The shard of links that came in this spelling; `BadField` where they have the other one.
-pub(crate) fn shard_of<A: Allocator>(
-    spelling: Spelling,
-    number: u32,
-    links: Vec<Link, A>,
-) -> Result<Frame<A>, FrameFault>
-    requires { FitIn spelling links.items }
-    ensures frame { IfOk result
-        (λ f. (value_of f ≡ ShardFrame number links.items) × (spelling_of links.items ≡ spelling)) }
-    ensures refused { IfErr result (λ fault. (fault ≡ BadField) × (spelling_of links.items ≢ spelling)) }
-{
-    if !spelling.is_of(links.as_slice()) {
-        return Err(FrameFault::BadField);
-    }
-    let links = Links::of_list(links);
-    Ok(Frame::Shard { number, links })
 }
 
 fn decode_ask<A: Allocator>(alloc: A, body: &[u8]) -> Result<Frame<A>, FrameFault>
@@ -110,28 +71,6 @@ fn decode_ask<A: Allocator>(alloc: A, body: &[u8]) -> Result<Frame<A>, FrameFaul
             shard,
             labels,
         }),
-        None => Err(FrameFault::BadField),
-    }
-}
-
-fn decode_answer<A: Allocator>(alloc: A, body: &[u8]) -> Result<Frame<A>, FrameFault>
-    requires { IsWithItems 12 8 (2 * MAX_SHARD_LINKS) (length body.now) }
-    ensures frame { IfOk result (λ f. IsFrameOf (value_of f) 4 body.now) }
-    ensures refused { IfErr result (λ fault. BodyRefused fault 4 body.now) }
-{
-    let (round, rest) = split_u32(body);
-    let (shard, rest) = split_u32(rest);
-    let (count, rest) = split_u32(rest);
-    if count as usize != rest.len() / 8 {
-        return Err(FrameFault::BadField);
-    }
-    let pairs = offers_of(alloc, rest)?;
-    match Offers::of_pairs(pairs) {
-        Some(offers) => Ok(Frame::Answer(Answer {
-            round,
-            shard,
-            offers,
-        })),
         None => Err(FrameFault::BadField),
     }
 }

@@ -1,23 +1,22 @@
 //! Frames as bytes.
-ghost use Rattle.std.specs.Prelude.{◌≡◌, ◌+◌, ◌*◌, ◌<◌, ◌≤◌, ◌∷◌, ◌++◌, [], length, drop, IfSome, IfOk, OnOk};
+ghost use Rattle.std.specs.Prelude.{◌≡◌, ◌+◌, ◌*◌, ◌<◌, ◌≤◌, ◌∷◌, ◌++◌, length, IfSome, IfOk};
 ghost use Rattle.std.specs.List.{flat_map};
 ghost use Rattle.frames.specs.FrameValue.{value_of, HelloFrame, ShardFrame, AskFrame, AnswerFrame, FaultFrame};
 ghost use Rattle.frames.specs.FrameText.{u32_text, offer_text, text_of};
 ghost use Rattle.frames.specs.Lawful.{IsLawful};
 ghost use Rattle.frames.specs.Spellings.{spelled_in, spelling_of};
 
-use crate::fields::{put_u16, put_u32};
 use crate::frame::Frame;
-use crate::items::{put_links, put_numbers, spells, write_offers};
+use crate::items::{put_links, put_numbers, put_offers};
 use crate::spelling::Spelling;
-use limits::{MAX_SHARD_LINKS, MAX_SHARDS, MAX_VERTICES};
+use limits::{MAX_SHARD_LINKS, MAX_SHARDS};
 use links::{Answer, Labels, Link, Shard};
 use std::alloc::{AllocError, Allocator};
 
 /// The text of a frame.
 ///
-/// Memory for the whole text is taken once, and each byte is written once. The only error is want
-/// of memory.
+/// Memory for the whole text is taken once, and each byte is written once, but for those of offers,
+/// which are zeros first. The only error is want of memory.
 pub fn encode<A: Allocator, B: Allocator>(
     alloc: A,
     frame: &Frame<B>,
@@ -26,7 +25,9 @@ pub fn encode<A: Allocator, B: Allocator>(
     ensures { IfOk result (λ text. text.items ≡ text_of (value_of frame.now)) }
 {
     match frame {
-        Frame::Hello { version, worker } => encode_hello(alloc, *version, *worker),
+        Frame::Hello { version, worker } => {
+            Vec::from_slice(alloc, &hello_bytes(*version, *worker))
+        }
         Frame::Shard { number, links } => encode_shard(
             alloc,
             &Shard {
@@ -41,21 +42,19 @@ pub fn encode<A: Allocator, B: Allocator>(
         } => encode_ask(alloc, *round, *shard, labels),
         Frame::Answer(answer) => encode_answer(alloc, answer),
         Frame::Fault { round, shard, code } => {
-            let mut text = Vec::with_capacity(alloc, 14)?;
-            text.extend_from_slice(&fault_bytes(*round, *shard, *code))?;
-            Ok(text)
+            Vec::from_slice(alloc, &fault_bytes(*round, *shard, *code))
         }
     }
 }
 
-/// The text of a hello of this version and worker.
-fn encode_hello<A: Allocator>(alloc: A, version: u16, worker: u32) -> Result<Vec<u8, A>, AllocError>
-    ensures { IfOk result (λ text. text.items ≡ text_of (HelloFrame version worker)) }
+// The text of a hello.
+#[tactic(auto, unfolding(crate::specs::FrameText::u16_text, crate::specs::FrameText::u32_text))]
+fn hello_bytes(version: u16, worker: u32) -> [u8; 11]
+    ensures { result ≡ text_of (HelloFrame version worker) }
 {
-    let mut text = begin(alloc, 1, 6)?;
-    put_u16(&mut text, version)?;
-    put_u32(&mut text, worker)?;
-    Ok(text)
+    let [v0, v1] = version.to_be_bytes();
+    let [w0, w1, w2, w3] = worker.to_be_bytes();
+    [1, 0, 0, 0, 6, v0, v1, w0, w1, w2, w3]
 }
 
 /// The text of a shard's frame: the same as that of the frame which holds these links, without a
@@ -83,7 +82,7 @@ pub const SHARD_HEAD: usize = 13;
 
 /// What stands before the links in the text of a shard's frame, of which this is the spelling: the kind, the length, the
 /// number and the count. It looks at no link, and takes no memory.
-pub fn shard_head(shard: &Shard, spelling: Spelling) -> [u8; 13]
+pub fn shard_head(shard: &Shard, spelling: Spelling) -> [u8; SHARD_HEAD]
     requires number { shard.now.number < MAX_SHARDS }
     requires count { length shard.now.links.now ≤ MAX_SHARD_LINKS }
     requires spelling { spelling_of shard.now.links.now ≡ spelling }
@@ -97,7 +96,7 @@ pub fn shard_head(shard: &Shard, spelling: Spelling) -> [u8; 13]
 
 // The bytes of a head and of two fields.
 #[tactic(auto, unfolding(crate::specs::FrameText::u32_text))]
-fn head_and_fields(kind: u8, length: u32, number: u32, count: u32) -> [u8; 13]
+fn head_and_fields(kind: u8, length: u32, number: u32, count: u32) -> [u8; SHARD_HEAD]
     ensures { result ≡ ((kind ∷ u32_text length) ++ u32_text number) ++ u32_text count }
 {
     let [l0, l1, l2, l3] = length.to_be_bytes();
@@ -118,31 +117,9 @@ pub fn encode_ask<A: Allocator, B: Allocator>(
     ensures { IfOk result (λ text. text.items ≡ text_of (AskFrame round shard labels.now)) }
 {
     let mut text = Vec::with_capacity(alloc, ASK_HEAD + 4 * labels.n() as usize)?;
-    put_ask(&mut text, round, shard, labels)?;
+    text.extend_from_slice(&ask_head(round, shard, labels))?;
+    put_numbers(&mut text, labels.as_slice());
     Ok(text)
-}
-
-/// Puts the text of the frame that [`encode_ask`] encodes in place of another text, whose room it takes.
-///
-/// Where the bytes behind its first seventeen are those of these labels, they stay, and the seventeen alone are written:
-/// so the labels of a round are turned into bytes once for all its asks. That is seen by one look at those bytes. The
-/// only error is want of memory, where there is too little room; then the text is any.
-pub fn encode_ask_over<A: Allocator, B: Allocator>(
-    text: &mut Vec<u8, A>,
-    round: u32,
-    shard: u32,
-    labels: &Labels<B>,
-) -> Result<(), AllocError>
-    requires { shard < MAX_SHARDS }
-    ensures { OnOk result (text.new.items ≡ text_of (AskFrame round shard labels.now)) }
-{
-    if text.len() >= ASK_HEAD && spells(&text[ASK_HEAD..], labels.as_slice()) {
-        put_front(text.as_mut_slice(), &ask_head(round, shard, labels.n()));
-        return Ok(());
-    }
-    text.clear();
-    text.reserve(ASK_HEAD + 4 * labels.n() as usize)?;
-    put_ask(text, round, shard, labels)
 }
 
 /// The text of the frame that [`encode_ask`] encodes, in two parts, where the labels keep their bytes
@@ -152,12 +129,12 @@ pub fn ask_parts<'a, B: Allocator>(
     round: u32,
     shard: u32,
     labels: &'a Labels<B>,
-) -> Option<([u8; 17], &'a [u8])>
+) -> Option<([u8; ASK_HEAD], &'a [u8])>
     requires { shard < MAX_SHARDS }
     ensures { IfSome result (λ parts. parts.0 ++ parts.1.now ≡ text_of (AskFrame round shard labels.now)) }
 {
     match labels.spelled() {
-        Some(bytes) => Some((ask_head(round, shard, labels.n()), bytes)),
+        Some(bytes) => Some((ask_head(round, shard, labels), bytes)),
         None => None,
     }
 }
@@ -165,11 +142,11 @@ pub fn ask_parts<'a, B: Allocator>(
 // How many bytes stand before the labels of an ask.
 const ASK_HEAD: usize = 17;
 
-// The bytes of an ask before so many labels.
-fn ask_head(round: u32, shard: u32, count: u32) -> [u8; 17]
-    requires { count ≤ MAX_VERTICES }
-    ensures { result ≡ (((3 ∷ u32_text (12 + 4 * count)) ++ u32_text round) ++ u32_text shard) ++ u32_text count }
+// What stands before the labels of an ask.
+fn ask_head<B: Allocator>(round: u32, shard: u32, labels: &Labels<B>) -> [u8; ASK_HEAD]
+    ensures { result ++ flat_map u32_text labels.now ≡ text_of (AskFrame round shard labels.now) }
 {
+    let count = labels.n();
     head_and_three_fields(3, 12 + 4 * count, round, shard, count)
 }
 
@@ -187,28 +164,6 @@ fn head_and_three_fields(kind: u8, length: u32, round: u32, shard: u32, count: u
     ]
 }
 
-// Writes these bytes over the first of a text.
-fn put_front(text: &mut [u8], bytes: &[u8])
-    requires { length bytes.now ≤ length text.old }
-    ensures { text.new ≡ bytes.now ++ drop (length bytes.now) text.old }
-{
-    text[..bytes.len()].copy_from_slice(bytes);
-}
-
-// Writes an ask into an empty text.
-fn put_ask<A: Allocator, B: Allocator>(
-    text: &mut Vec<u8, A>,
-    round: u32,
-    shard: u32,
-    labels: &Labels<B>,
-) -> Result<(), AllocError>
-    requires { text.old.items ≡ [] }
-    ensures { OnOk result (text.new.items ≡ text_of (AskFrame round shard labels.now)) }
-{
-    text.extend_from_slice(&ask_head(round, shard, labels.n()))?;
-    put_numbers(text, labels.as_slice())
-}
-
 fn encode_answer<A: Allocator, B: Allocator>(
     alloc: A,
     answer: &Answer<B>,
@@ -217,9 +172,11 @@ fn encode_answer<A: Allocator, B: Allocator>(
     ensures { IfOk result (λ text. text.items ≡ text_of (AnswerFrame answer.now)) }
 {
     let offers = answer.offers.pairs();
-    let mut text = Vec::with_capacity(alloc, ANSWER_HEAD + 8 * offers.len())?;
+    let room = ANSWER_HEAD + 8 * offers.len();
+    let mut text = Vec::with_capacity(alloc, room)?;
     text.extend_from_slice(&answer_head(answer))?;
-    write_offers(&mut text, offers)?;
+    text.resize(room, 0)?;
+    put_offers(&mut text[ANSWER_HEAD..], offers);
     Ok(text)
 }
 
@@ -229,7 +186,7 @@ pub const ANSWER_HEAD: usize = 17;
 /// What stands before the offers in the text of an answer's frame: the kind, the length, the round, the shard and the
 /// count. Who writes many offers needs no text of all of them: it is this and the offers by
 /// [`put_offers`](crate::put_offers). It looks at no offer, and takes no memory.
-pub fn answer_head<A: Allocator>(answer: &Answer<A>) -> [u8; 17]
+pub fn answer_head<A: Allocator>(answer: &Answer<A>) -> [u8; ANSWER_HEAD]
     requires { length answer.now.offers ≤ 2 * MAX_SHARD_LINKS }
     ensures { result ++ flat_map offer_text answer.now.offers ≡ text_of (AnswerFrame answer.now) }
 {
@@ -246,14 +203,4 @@ pub fn fault_bytes(round: u32, shard: u32, code: u8) -> [u8; 14]
     let [r0, r1, r2, r3] = round.to_be_bytes();
     let [s0, s1, s2, s3] = shard.to_be_bytes();
     [5, 0, 0, 0, 9, r0, r1, r2, r3, s0, s1, s2, s3, code]
-}
-
-// A text with room for the whole frame, and its head.
-fn begin<A: Allocator>(alloc: A, kind: u8, length: u32) -> Result<Vec<u8, A>, AllocError>
-    ensures { IfOk result (λ text. text.items ≡ kind ∷ u32_text length) }
-{
-    let mut text = Vec::with_capacity(alloc, 5 + length as usize)?;
-    text.push(kind)?;
-    put_u32(&mut text, length)?;
-    Ok(text)
 }

@@ -1,10 +1,8 @@
-//! The numbers that fields are, read from the beginning of a slice and written to the end of a vector.
-ghost use Rattle.std.specs.Prelude.{◌≡◌, ◌++◌, ◌≤◌, ◌+◌, length, take, OnOk};
+//! The numbers that fields are, read from the beginning of a slice.
+ghost use Rattle.std.specs.Prelude.{◌≡◌, ◌++◌, ◌≤◌, ◌+◌, length, take};
 ghost use Rattle.std.specs.Int.{w16, w32, from_be_bytes};
 ghost use Rattle.frames.specs.FrameText.{u16_text, u32_text, i64_text};
 ghost use Rattle.frames.specs.Lawful.{IsU32};
-
-use std::alloc::{AllocError, Allocator};
 
 // The two-byte number at the beginning, and what follows it.
 pub(crate) fn split_u16(bytes: &[u8]) -> (u16, &[u8])
@@ -40,19 +38,4 @@ pub(crate) fn split_i64(bytes: &[u8]) -> (i64, &[u8])
         prefix[0], prefix[1], prefix[2], prefix[3], prefix[4], prefix[5], prefix[6], prefix[7],
     ]);
     (bits.cast_signed(), rest)
-}
-
-// Writes a number at the end.
-#[tactic(auto, unfolding(crate::specs::FrameText::u32_text))]
-pub(crate) fn put_u32<A: Allocator>(text: &mut Vec<u8, A>, n: u32) -> Result<(), AllocError>
-    ensures { OnOk result (text.new.items ≡ text.old.items ++ u32_text n) }
-{
-    text.extend_from_slice(&n.to_be_bytes())
-}
-
-#[tactic(auto, unfolding(crate::specs::FrameText::u16_text))]
-pub(crate) fn put_u16<A: Allocator>(text: &mut Vec<u8, A>, n: u16) -> Result<(), AllocError>
-    ensures { OnOk result (text.new.items ≡ text.old.items ++ u16_text n) }
-{
-    text.extend_from_slice(&n.to_be_bytes())
 }

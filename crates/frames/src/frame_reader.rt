@@ -1,12 +1,12 @@
 //! Frames from a stream of bytes.
-ghost use Rattle.std.specs.Prelude.{◌∷◌, IfOk, IfErr, OnOk};
+ghost use Rattle.std.specs.Prelude.{◌≢◌, ◌∷◌, IfOk, IfErr, OnOk};
 ghost use Rattle.byte_streams.specs.Streams.{Gave};
 ghost use Rattle.frames.specs.FrameValue.{value_of};
 ghost use Rattle.frames.specs.FrameText.{u32_text, text_of};
 ghost use Rattle.frames.specs.Lawful.{IsLawful};
 ghost use Rattle.frames.specs.Refusals.{IsPossible};
 ghost use Rattle.frames.specs.ReadFault.{IsReadRefused};
-ghost use Rattle.frames.specs.NextFrame.{BodyCame, IsBodyRefused};
+ghost use Rattle.frames.specs.NextFrame.{BodyCame, IsBodyRefused, WantsLate};
 
 use crate::answer_reader::read_answer;
 use crate::bodies::read_body;
@@ -74,16 +74,40 @@ pub(crate) fn read_rest<A: Allocator + Copy, S: Source>(
     ensures lasts { (fact : S.Fact) → S.lasts source.old fact → S.lasts source.new fact }
     ensures again { OnOk result (S.can_read source.new) }
 {
-    if let Some(spelling) = Spelling::of_kind(head.kind) {
-        let most = spelling.links_in(head.length as usize - 8);
-        return read_shard(alloc, source, spelling, most);
-    }
-    if head.kind == 4 {
-        let most = (head.length as usize - 12) / 8;
-        return read_answer(alloc, source, most);
+    if matches!(head.kind, 2 | 4 | 6) {
+        return read_listed(alloc, source, head);
     }
     let body = read_body(alloc, source, head.length)?;
     decode_body(alloc, head, body.as_slice())
+}
+
+// The shard or the answer whose head came.
+pub(crate) fn read_listed<A: Allocator, S: Source>(
+    alloc: A,
+    source: &mut S,
+    head: Head,
+) -> Result<Frame<A>, FrameFault>
+    requires can { S.can_read source.old }
+    requires possible { IsPossible head.kind head.length }
+    requires listed { (head.kind ≢ 1) × (head.kind ≢ 3) × (head.kind ≢ 5) }
+    ensures came { IfOk result
+        (λ f. BodyCame (value_of f) head.kind head.length (S.state source.old) (S.state source.new)) }
+    ensures refused { IfErr result
+        (λ fault. IsBodyRefused fault head.kind head.length (S.state source.old) (S.state source.new)) }
+    ensures late { IfErr result (λ fault. WantsLate fault head.kind head.length (S.state source.old)) }
+    ensures lasts { (fact : S.Fact) → S.lasts source.old fact → S.lasts source.new fact }
+    ensures again { OnOk result (S.can_read source.new) }
+{
+    match Spelling::of_kind(head.kind) {
+        Some(spelling) => {
+            let most = spelling.links_in(head.length as usize - 8);
+            read_shard(alloc, source, spelling, most)
+        }
+        None => {
+            let most = (head.length as usize - 12) / 8;
+            read_answer(alloc, source, most)
+        }
+    }
 }
 
 // The next head.

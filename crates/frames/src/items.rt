@@ -8,41 +8,21 @@ ghost use Rattle.frames.specs.Pieces.{PushesOffers};
 ghost use Rattle.frames.specs.Refusals.{IsNoLink, AreNoLinks};
 ghost use Rattle.frames.specs.Spellings.{spelled_in, size_in, FitIn, Pushes};
 
-use crate::fields::{put_u32, split_i64, split_u32};
+use crate::fields::{split_i64, split_u32};
 use crate::spelling::Spelling;
 use limits::MAX_VERTICES;
 use links::Link;
 use std::alloc::{AllocError, Allocator};
 
-// How many numbers are turned into bytes at a time, on the stack.
-const PIECE: usize = 1024;
-
-// Writes numbers at the end.
-pub(crate) fn put_numbers<A: Allocator>(
-    text: &mut Vec<u8, A>,
-    numbers: &[u32],
-) -> Result<(), AllocError>
-    ensures { OnOk result (text.new.items ≡ text.old.items ++ flat_map u32_text numbers.now) }
+// Puts numbers behind a text that has room for them.
+#[tactic(auto, unfolding(crate::specs::FrameText::u32_text))]
+pub(crate) fn put_numbers<A: Allocator>(text: &mut Vec<u8, A>, numbers: &[u32])
+    requires { vec_len text.old + 4 * length numbers.now ≤ vec_capacity text.old }
+    ensures { text.new.items ≡ text.old.items ++ flat_map u32_text numbers.now }
 {
-    let mut rest = numbers;
-    while !rest.is_empty() {
-        let (piece, behind) = rest.split_at(rest.len().min(PIECE));
-        put_piece(text, piece)?;
-        rest = behind;
+    for number in numbers {
+        put_bytes(text, &number.to_be_bytes());
     }
-    Ok(())
-}
-
-// Writes the numbers of one piece at the end.
-fn put_piece<A: Allocator>(text: &mut Vec<u8, A>, piece: &[u32]) -> Result<(), AllocError>
-    requires { length piece.now ≤ PIECE }
-    ensures { OnOk result (text.new.items ≡ text.old.items ++ flat_map u32_text piece.now) }
-{
-    let mut cells = [[0; 4]; PIECE];
-    for i in 0..piece.len() {
-        cells[i] = piece[i].to_be_bytes();
-    }
-    text.extend_from_slice(cells[..piece.len()].as_flattened())
 }
 
 /// Whether each weight fits 32 bits, so that a shard of these links has a frame in version 1. It looks at all of them, so
@@ -142,20 +122,6 @@ fn put_bytes<A: Allocator>(text: &mut Vec<u8, A>, bytes: &[u8])
     }
 }
 
-// Writes offers at the end.
-pub(crate) fn write_offers<A: Allocator>(
-    text: &mut Vec<u8, A>,
-    offers: &[(u32, u32)],
-) -> Result<(), AllocError>
-    ensures { OnOk result (text.new.items ≡ text.old.items ++ flat_map offer_text offers.now) }
-{
-    for &(component, place) in offers {
-        put_u32(text, component)?;
-        put_u32(text, place)?;
-    }
-    Ok(())
-}
-
 /// Puts the bytes of offers in place of as many others: 8 for each, those of its component and of its place. So an
 /// answer goes out behind its [`answer_head`](crate::answer_head), as many offers at a time as there is room for. It takes
 /// no memory, and writes each byte once.
@@ -219,20 +185,6 @@ fn are_cells_of(cells: &[[u8; 4]], numbers: &[u32]) -> bool
         same &= u32::from_be_bytes(cells[i]) == numbers[i];
     }
     same
-}
-
-// The offers whose bytes these are.
-pub(crate) fn offers_of<A: Allocator>(
-    alloc: A,
-    bytes: &[u8],
-) -> Result<Vec<(u32, u32), A>, AllocError>
-    requires { length bytes.now % 8 ≡ 0 }
-    ensures spelled { IfOk result (λ offers. flat_map offer_text offers.items ≡ bytes.now) }
-    ensures fit { IfOk result (λ offers. All (λ o. IsU32 o.0 × IsU32 o.1) offers.items) }
-{
-    let mut offers = Vec::with_capacity(alloc, bytes.len() / 8)?;
-    push_offers(&mut offers, bytes)?;
-    Ok(offers)
 }
 
 // Pushes the offers whose bytes these are, behind those that came before.

@@ -4,14 +4,14 @@
 //! of version 1.
 //!
 //! ```text
-//!   Frame, Shard, Labels --encode, encode_shard, encode_ask, encode_ask_over-->  bytes  <--fault_bytes-- round, shard, code
+//!   Frame, Shard, Labels --encode, encode_shard, encode_ask-->  bytes  <--fault_bytes-- round, shard, code
 //!                                                                 |
 //!                                                    read_frame, read_next (a Source of bytes)
 //!                                                   /                              \
 //!                       5 bytes --decode_head--> Head                body --decode_body--> Frame
 //! ```
-//! Shards and answers may go by pieces: [`shard_head`] and [`put_links`], [`answer_head`] and [`put_offers`] make a text,
-//! and `read_frame` its links or offers, some at a time.
+//! Shards and answers may go by pieces: [`shard_head`] and [`put_links`], [`answer_head`] and [`put_offers`] make a text.
+//! They are read so too, of a stream and of a body in memory, which is read as a stream.
 //!
 //! What it promises:
 //! - The encoders give exactly a lawful frame's one text, the same in both versions; no frame's text
@@ -45,8 +45,8 @@ mod spelling;
 
 pub use decoding::decode_body;
 pub use encoding::{
-    ANSWER_HEAD, SHARD_HEAD, answer_head, ask_parts, encode, encode_ask, encode_ask_over,
-    encode_shard, fault_bytes, shard_head,
+    ANSWER_HEAD, SHARD_HEAD, answer_head, ask_parts, encode, encode_ask, encode_shard, fault_bytes,
+    shard_head,
 };
 pub use fault::FrameFault;
 pub use frame::{Frame, Links, VERSION};

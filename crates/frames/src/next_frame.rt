@@ -16,9 +16,8 @@ ghost use Rattle.frames.specs.ReadFault.{IsReadRefused};
 ghost use Rattle.frames.specs.NextFrame.{next_value, SaysCoarser, AreCoarserUpTo, AreOthers, numbers_of_ask, IsAskUnder, HearsMore, StayU32, BodyCame, IsBodyRefused, IsStopped};
 ghost use Rattle.frames.specs.declared.fault.FrameFault.TheVariants.{BadField};
 
-use crate::bodies::{read_body, read_bytes};
+use crate::bodies::{PIECE, pass_over, read_bytes, read_three};
 use crate::fault::FrameFault;
-use crate::fields::split_u32;
 use crate::frame::Frame;
 use crate::frame_reader::{read_head, read_rest};
 use crate::head::Head;
@@ -27,9 +26,6 @@ use byte_streams::Source;
 use limits::MAX_SHARDS;
 use links::Labels;
 use std::alloc::{AllocError, Allocator, Global};
-
-// How many labels are compared at a time, on the stack: with fewer a worker is woken more often while they come.
-const PIECE: usize = 16_384;
 
 /// What comes behind an ask: another one under its labels, one under labels that coarsen them, or any frame as a whole.
 #[derive(Drop)]
@@ -120,16 +116,13 @@ fn read_ask<A: Allocator + Copy, S: Source>(
     ensures lasts { (fact : S.Fact) → S.lasts source.old fact → S.lasts source.new fact }
     ensures again { OnOk result (S.can_read source.new) }
 {
-    let mut fields = [0; 12];
-    read_bytes(source, &mut fields)?;
-    let (round, rest) = split_u32(&fields);
-    let (shard, rest) = split_u32(rest);
-    let (count, _) = split_u32(rest);
+    let (round, shard, count) = read_three(source)?;
+    let mut buffer = [0; PIECE];
     if shard as usize >= MAX_SHARDS || count as usize != last.len() {
-        read_body(alloc, source, 4 * last.len() as u32)?;
+        pass_over(source, 4 * last.len(), &mut buffer)?;
         return Err(FrameFault::BadField);
     }
-    let heard = read_numbers(alloc, source, last)?;
+    let heard = read_numbers(alloc, source, last, &mut buffer)?;
     ask_of(round, shard, last, heard)
 }
 
@@ -183,7 +176,9 @@ fn read_numbers<A: Allocator + Copy, S: Source>(
     alloc: A,
     source: &mut S,
     last: &[u32],
+    buffer: &mut [u8],
 ) -> Result<Heard<A>, FrameFault>
+    requires room { length buffer.old ≡ PIECE }
     requires labels { AreLabels last.now }
     requires can { S.can_read source.old }
     ensures counted { IfOk result (λ heard. length (numbers_of_ask last.now heard.numbers) ≡ length last.now) }
@@ -198,12 +193,11 @@ fn read_numbers<A: Allocator + Copy, S: Source>(
     ensures lasts { (fact : S.Fact) → S.lasts source.old fact → S.lasts source.new fact }
     ensures again { OnOk result (S.can_read source.new) }
 {
-    let mut buffer = [0; 4 * PIECE];
     let mut numbers = None;
     let mut are_coarser = true;
     let mut came = 0;
     while came < last.len() {
-        let count = (last.len() - came).min(PIECE);
+        let count = (last.len() - came).min(PIECE / 4);
         let piece = &mut buffer[..4 * count];
         read_bytes(source, piece)?;
         hear_piece(alloc, &mut numbers, last, came, piece)?;
@@ -278,7 +272,7 @@ fn hear_piece<A: Allocator>(
     piece: &[u8],
 ) -> Result<(), AllocError>
     requires whole { length piece.now % 4 ≡ 0 }
-    requires fits { length piece.now ≤ 4 * PIECE }
+    requires fits { length piece.now ≤ PIECE }
     requires within { came + length piece.now / 4 ≤ length last.now }
     requires counted { length (numbers_of_ask (take came last.now) numbers.old) ≡ came }
     requires others { AreOthers last.now came numbers.old }
@@ -304,12 +298,12 @@ fn hear_piece<A: Allocator>(
 // Puts the numbers of these bytes at the end.
 fn push_numbers<A: Allocator>(numbers: &mut Vec<u32, A>, piece: &[u8]) -> Result<(), AllocError>
     requires whole { length piece.now % 4 ≡ 0 }
-    requires fits { length piece.now ≤ 4 * PIECE }
+    requires fits { length piece.now ≤ PIECE }
     ensures { OnOk result ((more : List ℕ) × (numbers.new.items ≡ numbers.old.items ++ more)
         × (flat_map u32_text more ≡ piece.now) × All IsU32 more) }
 {
     let (cells, _) = piece.as_chunks::<4>();
-    let mut words = [0; PIECE];
+    let mut words = [0; PIECE / 4];
     let read = &mut words[..cells.len()];
     read_cells(cells, read);
     numbers.extend_from_slice(read)

@@ -1,17 +1,16 @@
 //! Shards from a stream: the links come by pieces through one buffer, and are pushed into the list that the frame owns.
 //! So the bytes of a shard are never stored, and those of a piece become links while the next ones are on their way.
-ghost use Rattle.std.specs.Prelude.{◌≡◌, ℕ, ◌+◌, ◌*◌, ◌%◌, ◌≤◌, List, length, IfOk, IfErr, OnOk};
+ghost use Rattle.std.specs.Prelude.{◌≡◌, ◌≢◌, ℕ, ◌+◌, ◌*◌, ◌%◌, ◌≤◌, List, length, IfOk, IfErr, OnOk};
 ghost use Rattle.byte_streams.specs.Streams.{Gave};
-ghost use Rattle.frames.specs.FrameValue.{value_of};
-ghost use Rattle.frames.specs.NextFrame.{BodyCame, IsBodyRefused, IsStopped};
+ghost use Rattle.frames.specs.FrameValue.{value_of, ShardFrame};
+ghost use Rattle.frames.specs.NextFrame.{BodyCame, IsBodyRefused, WantsLate, IsStopped};
+ghost use Rattle.frames.specs.declared.fault.FrameFault.TheVariants.{BadField};
 ghost use Rattle.frames.specs.declared.spelling.Spelling.{Spelling};
-ghost use Rattle.frames.specs.Spellings.{size_in, kind_in, AreLinksIn, HearsLinks, LinksCame};
+ghost use Rattle.frames.specs.Spellings.{size_in, kind_in, spelling_of, FitIn, AreLinksIn, HearsLinks, LinksCame};
 
-use crate::bodies::{PIECE, pass_over, read_bytes};
-use crate::decoding::shard_of;
+use crate::bodies::{PIECE, pass_over, read_bytes, read_two};
 use crate::fault::FrameFault;
-use crate::fields::split_u32;
-use crate::frame::Frame;
+use crate::frame::{Frame, Links};
 use crate::items::push_links;
 use crate::spelling::Spelling;
 use byte_streams::Source;
@@ -21,7 +20,7 @@ use std::alloc::{AllocError, Allocator};
 
 // The shard whose head came, with a length for so many links. Its fields are judged first. Where they or some link are
 // refused, the rest is taken all the same, and not kept: a stream may end in it.
-pub(crate) fn read_shard<A: Allocator + Copy, S: Source>(
+pub(crate) fn read_shard<A: Allocator, S: Source>(
     alloc: A,
     source: &mut S,
     spelling: Spelling,
@@ -33,13 +32,11 @@ pub(crate) fn read_shard<A: Allocator + Copy, S: Source>(
         (S.state source.old) (S.state source.new)) }
     ensures refused { IfErr result (λ fault. IsBodyRefused fault (kind_in spelling) (8 + size_in spelling * most)
         (S.state source.old) (S.state source.new)) }
+    ensures late { IfErr result (λ fault. WantsLate fault (kind_in spelling) (8 + size_in spelling * most) (S.state source.old)) }
     ensures lasts { (fact : S.Fact) → S.lasts source.old fact → S.lasts source.new fact }
     ensures again { OnOk result (S.can_read source.new) }
 {
-    let mut fields = [0; 8];
-    read_bytes(source, &mut fields)?;
-    let (number, rest) = split_u32(&fields);
-    let (count, _) = split_u32(rest);
+    let (number, count) = read_two(source)?;
     let mut buffer = [0; PIECE];
     if number as usize >= MAX_SHARDS || count as usize != most {
         pass_over(source, spelling.bytes_of(most), &mut buffer)?;
@@ -51,8 +48,26 @@ pub(crate) fn read_shard<A: Allocator + Copy, S: Source>(
     }
 }
 
+// The shard of links that came in this spelling; `BadField` where they have the other one.
+fn shard_of<A: Allocator>(
+    spelling: Spelling,
+    number: u32,
+    links: Vec<Link, A>,
+) -> Result<Frame<A>, FrameFault>
+    requires { FitIn spelling links.items }
+    ensures frame { IfOk result
+        (λ f. (value_of f ≡ ShardFrame number links.items) × (spelling_of links.items ≡ spelling)) }
+    ensures refused { IfErr result (λ fault. (fault ≡ BadField) × (spelling_of links.items ≢ spelling)) }
+{
+    if !spelling.is_of(links.as_slice()) {
+        return Err(FrameFault::BadField);
+    }
+    let links = Links::of_list(links);
+    Ok(Frame::Shard { number, links })
+}
+
 // The next links of a stream; none where some are refused.
-fn read_links<A: Allocator + Copy, S: Source>(
+fn read_links<A: Allocator, S: Source>(
     alloc: A,
     source: &mut S,
     spelling: Spelling,

@@ -16,8 +16,7 @@ use std::alloc::Allocator;
 use std::marker::Model;
 
 /// The client of a worker, over a line that it owns: the cut whose shards are asked, the version of its hello, once it
-/// came, which shards were sent, a bit each, and the text of the last put of a shard, or of an ask that went out by one,
-/// whose labels the next ask may have too.
+/// came, which shards were sent, a bit each, and the room for a put of a shard.
 #[derive(Drop)]
 pub struct Client<'a, L, A: Allocator> {
     pub alloc: A,
@@ -71,7 +70,7 @@ impl<'a, L: Line, A: Allocator + Copy> Client<'a, L, A> {
         self.version = Some(version);
         check_version(version, &self.sent, &part)?;
         send_shard(&mut self.source.line, &mut self.text, &mut self.sent, &part)?;
-        send_ask(&mut self.source.line, &mut self.text, round, shard, labels)?;
+        send_ask(self.alloc, &mut self.source.line, round, shard, labels)?;
         hear_answer(self.alloc, &mut self.source)
     }
 }

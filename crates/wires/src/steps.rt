@@ -15,8 +15,8 @@ ghost use Rattle.wires.specs.Sending.{AwaitsLinks, PutsSome};
 use crate::line::Line;
 use crate::line_source::LineSource;
 use frames::{
-    Answer, Frame, FrameFault, SHARD_HEAD, Spelling, VERSION, ask_parts, encode_ask_over,
-    fit_32_bits, put_links, read_frame, shard_head,
+    Answer, Frame, FrameFault, SHARD_HEAD, Spelling, VERSION, ask_parts, encode_ask, fit_32_bits,
+    put_links, read_frame, shard_head,
 };
 use limits::{MAX_SHARD_LINKS, MAX_SHARDS};
 use links::{Labels, Link, Shard};
@@ -175,11 +175,11 @@ fn send_piece<'a, L: Line, A: Allocator>(
 // From so many bytes of labels on an ask goes out by two puts.
 const LONG: usize = 1 << 16;
 
-// Sends the ask. Many labels that keep their bytes lend them to it, behind a put of what stands before them. Else its
-// text takes the place of that of the last one, and goes out by one put.
-pub fn send_ask<L: Line, A: Allocator + Copy>(
+// Sends the ask. Many labels that keep their bytes lend them to it, behind a put of what stands before them. Others are
+// turned into bytes for this ask, which goes out by one put.
+pub fn send_ask<L: Line, A: Allocator>(
+    alloc: A,
     line: &mut L,
-    text: &mut Vec<u8, A>,
     round: u32,
     shard: u32,
     labels: &Labels<A>,
@@ -196,7 +196,7 @@ pub fn send_ask<L: Line, A: Allocator + Copy>(
             return send_both(line, &parts.0, parts.1);
         }
     }
-    encode_ask_over(text, round, shard, labels)?;
+    let text = encode_ask(alloc, round, shard, labels)?;
     send(line, text.as_slice())
 }
 

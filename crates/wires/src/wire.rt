@@ -24,10 +24,8 @@ use std::marker::Model;
 /// At its first ask it hears the worker's hello. It sends a shard before its first ask, and never again, by a `put` for at
 /// most 64 KiB of its frame each, so that a frame of no more is one. An ask it sends whole, by one `put`, or, where its
 /// labels keep their bytes ([`Labels::spell`]) and these are 64 KiB or more, by two, of which the second has just those
-/// bytes. Other labels it turns into bytes at the first ask under them alone, and again at one behind a shard, which takes
-/// the place of their text. Every fault closes it for good, want of memory too. It keeps 512 bytes for the shards that
-/// were sent, whatever the cut, and one text: less than 128 KiB for a shard, or 4 bytes a vertex for the labels of the last
-/// ask that it turned into bytes, whichever was more.
+/// bytes. Other labels it turns into bytes at each ask. Every fault closes it for good, want of memory too. It keeps 512
+/// bytes for the shards that were sent, whatever the cut, and less than 128 KiB for the puts of a shard.
 #[derive(Drop)]
 pub struct Wire<'a, L: Line, A: Allocator> {
     client: Client<'a, L, A>,

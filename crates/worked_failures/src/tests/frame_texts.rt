@@ -4,7 +4,7 @@ use super::lists::few_links;
 use super::same::expect_same;
 use frames::{
     Answer, Frame, FrameFault, ask_parts, decode_body, decode_head, encode, encode_ask,
-    encode_ask_over, encode_shard, fault_bytes, read_frame,
+    encode_shard, fault_bytes, read_frame,
 };
 use link_key::{Labels, Offers, Shard};
 use std::alloc::{AllocError, Allocator, Global};
@@ -62,13 +62,12 @@ enum Call {
     EncodeShard,
     EncodeShard64,
     EncodeAsk,
-    EncodeAskOver,
     SpellLabels,
     EncodeAnswer,
 }
 
 // What is read of a frame's bytes is written as these bytes again, and what is written is these bytes.
-const CALLS: [(Call, &[u8]); 18] = [
+const CALLS: [(Call, &[u8]); 17] = [
     (Call::ReadFrame, &HELLO),
     (Call::ReadFrame, &SHARD),
     (Call::ReadFrame, &SHARD64),
@@ -84,7 +83,6 @@ const CALLS: [(Call, &[u8]); 18] = [
     (Call::EncodeShard, &SHARD),
     (Call::EncodeShard64, &SHARD64),
     (Call::EncodeAsk, &ASK),
-    (Call::EncodeAskOver, &ASK),
     (Call::SpellLabels, &ASK),
     (Call::EncodeAnswer, &ANSWER),
 ];
@@ -106,7 +104,6 @@ fn text_of<'a>(
         Call::EncodeShard => encode_triangle(rt, alloc, memory, EQUAL_WEIGHTS.arcs),
         Call::EncodeShard64 => encode_triangle(rt, alloc, memory, &WIDE_ARCS),
         Call::EncodeAsk => ask_apart(rt, alloc, memory),
-        Call::EncodeAskOver => ask_apart_over(rt, alloc, memory),
         Call::SpellLabels => ask_spelled(rt, memory),
         Call::EncodeAnswer => encode_answer(rt, alloc, memory),
     }
@@ -144,7 +141,7 @@ fn decoded_again<'a>(
     again(rt, memory, decode_body(memory, head, body))
 }
 
-// An ask for each vertex by itself, in a text of its own, and over one that is empty.
+// An ask for each vertex by itself.
 fn ask_apart<'a>(
     rt: &impl Abort,
     alloc: Global,
@@ -152,17 +149,6 @@ fn ask_apart<'a>(
 ) -> Result<Vec<u8, &'a Memory>, AllocError> {
     let labels = Labels::apart(alloc, 3).expect(rt, "memory");
     encode_ask(memory, 1, 0, &labels)
-}
-
-fn ask_apart_over<'a>(
-    rt: &impl Abort,
-    alloc: Global,
-    memory: &'a Memory,
-) -> Result<Vec<u8, &'a Memory>, AllocError> {
-    let labels = Labels::apart(alloc, 3).expect(rt, "memory");
-    let mut text = Vec::new(memory);
-    encode_ask_over(&mut text, 1, 0, &labels)?;
-    Ok(text)
 }
 
 // An ask under these labels is this one.

@@ -6,7 +6,7 @@ use super::sizes::text_of;
 use byte_streams::FusedSource;
 use frames::{
     Answer, Frame, FrameFault, Head, Links, VERSION, answer_head, decode_body, decode_head,
-    encode_ask, encode_ask_over, encode_shard, fault_bytes, put_offers, read_frame, read_next,
+    encode_ask, encode_shard, fault_bytes, put_offers, read_frame, read_next,
 };
 use link_key::{Labels, Link, Offers, Shard};
 use std::alloc::Global;
@@ -260,9 +260,8 @@ pub(crate) fn labels_of(rt: &impl Abort, alloc: Global, list: &[u32]) -> Labels 
     Labels::of_list(list).expect(rt, "labels")
 }
 
-// What stands in the text before, longer or shorter, of the same labels or of others, changes nothing.
 #[test]
-fn an_ask_in_place_of_another(rt: HostRuntime) {
+fn asks_of_few_labels(rt: HostRuntime) {
     let rows: [(u32, u32, &[u32], &[u8]); 6] = [
         (1, 0, &[1, 2, 3], &ASK),
         (
@@ -297,11 +296,10 @@ fn an_ask_in_place_of_another(rt: HostRuntime) {
         ),
         (1, 0, &[1, 2, 3], &ASK),
     ];
-    let mut text = Vec::new(rt.alloc());
     for (round, shard, list, bytes) in rows {
         let labels = labels_of(&rt, rt.alloc(), list);
         assert!(rt; shard < 4096);
-        encode_ask_over(&mut text, round, shard, &labels).expect(&rt, "memory");
+        let text = encode_ask(rt.alloc(), round, shard, &labels).expect(&rt, "memory");
         expect_same(&rt, text.as_slice(), bytes);
     }
 }

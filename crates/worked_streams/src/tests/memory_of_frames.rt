@@ -2,9 +2,7 @@
 // list's alone. Frames that are written: the text's one block.
 use super::same::expect_same;
 use super::sizes::frame_bytes;
-use frames::{
-    FrameFault, decode_body, decode_head, encode, encode_ask, encode_ask_over, read_frame,
-};
+use frames::{FrameFault, decode_body, decode_head, encode, encode_ask, read_frame};
 use link_key::Labels;
 use std::alloc::Global;
 use std::process::Abort;
@@ -229,32 +227,5 @@ fn a_text_is_given_one_block(rt: HostRuntime) {
     let long = encode_ask(rt.alloc(), 1, 0, &labels).expect(&rt, "memory");
     for bytes in [SHARD.as_slice(), &ASK, &ANSWER, long.as_slice()] {
         expect_one_block(&rt, rt.alloc(), bytes);
-    }
-}
-
-// An ask takes the room of the text before it, and a new block, of its whole size, only where it is longer.
-#[test]
-fn an_ask_in_place_of_another_takes_its_room(rt: HostRuntime) {
-    let memory = Refusing::new(rt.alloc(), Refusals::none());
-    let mut text = Vec::new(&memory);
-    for (count, blocks) in [
-        (3, 1),
-        (2, 1),
-        (0, 1),
-        (3, 1),
-        (3, 1),
-        (5_000, 2),
-        (20, 2),
-        (5_000, 2),
-        (20_000, 3),
-    ] {
-        assert!(rt; count <= 20_000);
-        let labels = Labels::apart(rt.alloc(), count).expect(&rt, "memory");
-        encode_ask_over(&mut text, 1, 0, &labels).expect(&rt, "memory");
-        expect_same(
-            &rt,
-            (memory.given(), text.len()),
-            (blocks, 17 + 4 * count as usize),
-        );
     }
 }

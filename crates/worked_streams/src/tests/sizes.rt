@@ -8,8 +8,8 @@ use super::next_frames::next_bytes;
 use super::same::expect_same;
 use byte_streams::FusedSource;
 use frames::{
-    Answer, Frame, Links, decode_body, decode_head, encode, encode_ask, encode_ask_over,
-    encode_shard, read_frame, read_next,
+    Answer, Frame, Links, decode_body, decode_head, encode, encode_ask, encode_shard, read_frame,
+    read_next,
 };
 use link_key::{Labels, Link, Offers, Shard};
 use std::alloc::Global;
@@ -177,20 +177,11 @@ fn expect_behind(rt: &impl Abort, alloc: Global, bytes: &[u8], behind: &Labels) 
     expect_same(rt, found, (bytes.len(), behind.n(), true));
 }
 
-// The text of that ask over the text of another one is these bytes.
-fn expect_over(rt: &impl Abort, alloc: Global, last: &Labels, labels: &Labels, bytes: &[u8]) {
-    let mut text = encode_ask(alloc, 4, 7, last).expect(rt, "memory");
-    encode_ask_over(&mut text, 5, 4095, labels).expect(rt, "memory");
-    let found = (last.n(), labels.n(), text.as_slice() == bytes);
-    expect_same(rt, found, (last.n(), labels.n(), true));
-}
-
-// An ask of so many labels, alone and over the text of another one, and read behind that one and behind itself.
+// An ask of so many labels, and read behind another one and behind itself.
 fn expect_ask(rt: &impl Abort, alloc: Global, before: u32, count: u32) {
     let labels = apart(rt, alloc, count);
     let bytes = ask_bytes(rt, alloc, count);
     let last = apart(rt, alloc, before);
-    expect_over(rt, alloc, &last, &labels, bytes.as_slice());
     let alone = encode_ask(alloc, 5, 4095, &labels).expect(rt, "memory");
     let same = alone.as_slice() == bytes.as_slice();
     expect_same(rt, (count, same), (count, true));

@@ -1,4 +1,4 @@
-use Rattle.std.proofs.Common.{◌+◌, ◌∷◌, ◌++◌, List, ℕ, length, refl, ap, ◌∙◌}
+use Rattle.std.proofs.Common.{◌+◌, ◌∷◌, ◌++◌, List, ℕ, length, ap, ◌∙◌}
 use Rattle.std.specs.List.{flat_map}
 use Rattle.frames.specs.FrameText.{u32_text}
 use Rattle.frames.specs.Spellings.{spelled_in}
@@ -13,4 +13,4 @@ returns c =
     let spelled = flat_map (spelled_in c.args.spelling) links in
     ap (λ (t : List ℕ). t ++ spelled) c.head_and_fields.ensures
     ∙ ap (λ (k : ℕ). (((k ∷ u32_text len) ++ u32_text number) ++ u32_text (length links)) ++ spelled) c.kind.ensures
-    ∙ shard_written c.args.spelling number (length links) len links c.requires.spelling refl (ap (λ (k : ℕ). 8 + k) c.bytes_of.ensures)
+    ∙ shard_written c.args.spelling number len links c.requires.spelling (ap (λ (k : ℕ). 8 + k) c.bytes_of.ensures)

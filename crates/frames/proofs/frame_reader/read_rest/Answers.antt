@@ -1,9 +1,8 @@
-use Rattle.std.proofs.Common.{List, ℕ, refl, subst, inl}
+use Rattle.std.proofs.Common.{List, ℕ, subst, inl}
 use Rattle.std.proofs.lemmas.Result.{IfOk-weaker, IfErr-weaker, err_from_is_err_and}
 use Rattle.frames.specs.FrameValue.{value_of}
 use Rattle.frames.specs.Refusals.{IsFrameOf, BodyRefused}
 use Rattle.frames.proofs.Pieces.{whole_came, whole_refused}
-use Rattle.frames.proofs.ShardPieces.{says_links, came_by_head, refused_by_head}
 use Rattle.frames.proofs.frame_reader.read_rest.Goals as goal
 
 pub returns-in_err-body-clause-refused : goal.returns-in_err-body-clause-refused
@@ -26,25 +25,3 @@ returns-clause-refused g c =
     whole_refused fault c.args.head.kind c.args.head.length c.in_ok-body.body.items _ _ c.in_ok-body.ensures.len c.in_ok-body.ensures.came
     (subst (λ (t : List ℕ). BodyRefused fault c.args.head.kind t) c.as_slice.ensures.value refused))
     c.decode_body.ensures.refused
-
-pub overflow_sub-head : goal.overflow_sub-head
-overflow_sub-head g c = (says_links c.in-Some.spelling c.args.head.kind c.args.head.length _ c.in-Some.ensures.shard c.requires.possible refl).fields
-
-pub read_shard-requires-clause-few : goal.read_shard-requires-clause-few
-read_shard-requires-clause-few g c = (says_links c.in-Some.spelling c.args.head.kind c.args.head.length _ c.in-Some.ensures.shard c.requires.possible c.links_in-most.ensures).few
-
-pub returns-in-Some-clause-came : goal.returns-in-Some-clause-came
-returns-in-Some-clause-came g c =
-    IfOk-weaker _ _ _
-    (λ f came.
-    came_by_head c.in-Some.spelling c.args.head.kind c.args.head.length c.links_in-most.result c.in-Some.ensures.shard (says_links c.in-Some.spelling c.args.head.kind c.args.head.length _ c.in-Some.ensures.shard c.requires.possible c.links_in-most.ensures) _ _
-    (value_of f) came)
-    c.read_shard.ensures.came
-
-pub returns-in-Some-clause-refused : goal.returns-in-Some-clause-refused
-returns-in-Some-clause-refused g c =
-    IfErr-weaker _ _ _
-    (λ fault refused.
-    refused_by_head c.in-Some.spelling c.args.head.kind c.args.head.length c.links_in-most.result c.in-Some.ensures.shard (says_links c.in-Some.spelling c.args.head.kind c.args.head.length _ c.in-Some.ensures.shard c.requires.possible c.links_in-most.ensures) _ _
-    fault refused)
-    c.read_shard.ensures.refused

@@ -1,10 +1,13 @@
-use Rattle.std.proofs.Common.{◌≡◌, ◌++◌, length}
+-- The numbers so far stand behind the text, with room for the others.
+use Rattle.std.proofs.Common.{◌≡◌, ◌≤◌, ◌+◌, ◌*◌, ◌++◌, take}
+use Rattle.std.specs.Prelude.{vec_len, vec_capacity}
 use Rattle.std.specs.List.{flat_map}
 use Rattle.frames.specs.FrameText.{u32_text}
 use Rattle.frames.proofs.items.put_numbers.Given as goal
 
-abbrev pub invariant-loop-rest : goal.invariant-loop-rest
-invariant-loop-rest g l = l.text.items ++ flat_map u32_text l.rest ≡ l.initial.text.items ++ flat_map u32_text l.numbers
-
-abbrev pub decreases-loop-rest : goal.decreases-loop-rest
-decreases-loop-rest g l = length l.rest
+abbrev pub invariant-loop-number : goal.invariant-loop-number
+invariant-loop-number g l = record {
+  put : l.text.items ≡ l.initial.text.items ++ flat_map u32_text (take l.number-index l.numbers);
+  len : vec_len l.text ≡ vec_len l.initial.text + 4 * l.number-index;
+  room : vec_capacity l.initial.text ≤ vec_capacity l.text;
+}

@@ -1,55 +1,60 @@
-use Rattle.std.proofs.Common.{arith, rules}
+use Rattle.std.proofs.Common.{None, arith}
 use Rattle.std.proofs.lemmas.Result.{IfOk-weaker, IfErr-weaker, err_from_is_err_and}
+use Rattle.byte_streams.specs.Streams.{only_left}
 use Rattle.frames.specs.FrameValue.{value_of}
 use Rattle.frames.proofs.Pieces.{passed_so_many, unpassed_so_many}
-use Rattle.frames.proofs.ShardPieces.{shard_unlawful, shard_unpassed, shard_stopped, shard_came, no_shard_came, no_links_came}
+use Rattle.frames.proofs.ShardPieces.{shard_unlawful, shard_unpassed, shard_stopped, shard_late, shard_came, no_shard_came, no_links_came}
 use Rattle.frames.proofs.shard_reader.read_shard.Goals.{then-number-ge-MAX_SHARDS-via-then-number-ge-MAX_SHARDS, then-number-ge-MAX_SHARDS-via-else-number-ge-MAX_SHARDS+then-count-most}
 use Rattle.frames.proofs.shard_reader.read_shard.Goals as goal
+
+pub returns-in_err-number-clause-late : goal.returns-in_err-number-clause-late
+returns-in_err-number-clause-late g c =
+    let p = err_from_is_err_and c.from_residual.result c.from_residual.ensures.1 in
+    rw (p.1, p.2) (λ memory. absurd (c.in_err-number.ensures.takes_none memory))
+
+pub returns-in_err-pass_over-clause-late : goal.returns-in_err-pass_over-clause-late
+returns-in_err-pass_over-clause-late g c =
+    let p = err_from_is_err_and c.from_residual-in_err-pass_over.result c.from_residual-in_err-pass_over.ensures.1 in
+    rw (p.1, p.2) (λ memory. absurd (c.in_err-pass_over.ensures.takes_none memory))
 
 pub returns-in_err-pass_over-clause-refused : goal.returns-in_err-pass_over-clause-refused
 returns-in_err-pass_over-clause-refused g c =
     let p = err_from_is_err_and c.from_residual-in_err-pass_over.result c.from_residual-in_err-pass_over.ensures.1 in
-    rw (p.1, p.2) (shard_unpassed c.args.spelling c.read_bytes.new.bytes _ _ c.split_u32-number.result.0 c.split_u32-count.result.0 c.args.most (search rules)
-    c.split_u32-number.ensures.fits c.split_u32-count.ensures.fits c.split_u32-number.ensures.parts c.split_u32-count.ensures.parts
-    _ _ _ _ c.in_ok-read_bytes.ensures.came (unpassed_so_many _ _ _ _ _ c.bytes_of.ensures c.in_err-pass_over.ensures.short))
+    rw (p.1, p.2) (shard_unpassed c.args.spelling c.in_ok-number.number c.in_ok-number.count c.args.most _ _ _ c.in_ok-number.ensures.came _ (unpassed_so_many _ _ _ _ _ c.bytes_of.ensures c.in_err-pass_over.ensures.short))
 
 pub returns-then-number-ge-MAX_SHARDS-clause-refused : goal.returns-then-number-ge-MAX_SHARDS-clause-refused
 returns-then-number-ge-MAX_SHARDS-clause-refused g c =
-    shard_unlawful c.args.spelling c.read_bytes.new.bytes _ _ c.split_u32-number.result.0 c.split_u32-count.result.0 c.args.most (search rules)
-    c.split_u32-number.ensures.fits c.split_u32-count.ensures.fits c.split_u32-number.ensures.parts c.split_u32-count.ensures.parts
-    _ _ _ c.in_ok-read_bytes.ensures.came (passed_so_many _ _ _ _ c.bytes_of.ensures c.in_ok-pass_over.ensures.came)
+    shard_unlawful c.args.spelling c.in_ok-number.number c.in_ok-number.count c.args.most _ _ _ c.in_ok-number.ensures.came c.in_ok-number.ensures.fit.0 c.in_ok-number.ensures.fit.1
+    (passed_so_many _ _ _ _ c.bytes_of.ensures c.in_ok-pass_over.ensures.came)
     (λ low counted. elim c.then-number-ge-MAX_SHARDS.branch [ then-number-ge-MAX_SHARDS-via-then-number-ge-MAX_SHARDS w ↦ omega arith | then-number-ge-MAX_SHARDS-via-else-number-ge-MAX_SHARDS+then-count-most w ↦ w.if-count-most.true counted ])
 
 pub returns-in_err-links-clause-refused : goal.returns-in_err-links-clause-refused
 returns-in_err-links-clause-refused g c =
     let p = err_from_is_err_and c.from_residual-in_err-links.result c.from_residual-in_err-links.ensures.1 in
-    rw (p.1, p.2) (shard_stopped c.args.spelling c.read_bytes.new.bytes _ _ c.split_u32-number.result.0 c.split_u32-count.result.0 c.args.most (search rules)
-    c.split_u32-number.ensures.fits c.split_u32-count.ensures.fits c.split_u32-number.ensures.parts c.split_u32-count.ensures.parts
-    c.if-number-ge-MAX_SHARDS.false c.if-count-most.false c.requires.few _ _ _ _ c.in_ok-read_bytes.ensures.came c.in_err-links.ensures.stopped)
+    rw (p.1, p.2) (shard_stopped c.args.spelling c.in_ok-number.number c.in_ok-number.count c.args.most _ _ _ c.in_ok-number.ensures.came c.if-number-ge-MAX_SHARDS.false c.if-count-most.false _ c.in_err-links.ensures.stopped)
+
+pub returns-in_err-links-clause-late : goal.returns-in_err-links-clause-late
+returns-in_err-links-clause-late g c =
+    let p = err_from_is_err_and c.from_residual-in_err-links.result c.from_residual-in_err-links.ensures.1 in
+    rw (p.1, p.2) (shard_late c.args.spelling c.in_ok-number.number c.in_ok-number.count c.args.most _ _ (only_left None) c.in_ok-number.ensures.came c.if-number-ge-MAX_SHARDS.false c.if-count-most.false _)
 
 pub returns-in-Some-clause-came : goal.returns-in-Some-clause-came
 returns-in-Some-clause-came g c =
     IfOk-weaker _ _ _
     (λ f is.
-    shard_came c.args.spelling c.read_bytes.new.bytes _ _ c.split_u32-number.result.0 c.split_u32-count.result.0 c.args.most (search rules)
-    c.split_u32-number.ensures.fits c.split_u32-count.ensures.fits c.split_u32-number.ensures.parts c.split_u32-count.ensures.parts
-    c.if-number-ge-MAX_SHARDS.false c.if-count-most.false c.requires.few
-    _ _ _ _ c.in_ok-read_bytes.ensures.came c.in_ok-links.ensures.came c.in-Some.links (value_of f) c.in-Some.is is)
+    shard_came c.args.spelling c.in_ok-number.number c.in_ok-number.count c.args.most _ _ _ c.in_ok-number.ensures.came c.if-number-ge-MAX_SHARDS.false c.if-count-most.false
+    _ c.in_ok-links.ensures.came c.requires.few c.in-Some.links (value_of f) c.in-Some.is is)
     c.shard_of.ensures.frame
 
 pub returns-in-Some-clause-refused : goal.returns-in-Some-clause-refused
 returns-in-Some-clause-refused g c =
     IfErr-weaker _ _ _
     (λ fault is.
-    no_shard_came c.args.spelling c.read_bytes.new.bytes _ _ c.split_u32-number.result.0 c.split_u32-count.result.0 c.args.most (search rules)
-    c.split_u32-number.ensures.fits c.split_u32-count.ensures.fits c.split_u32-number.ensures.parts c.split_u32-count.ensures.parts
-    c.if-number-ge-MAX_SHARDS.false c.if-count-most.false c.requires.few
-    _ _ _ _ c.in_ok-read_bytes.ensures.came c.in_ok-links.ensures.came c.in-Some.links fault c.in-Some.is is)
+    no_shard_came c.args.spelling c.in_ok-number.number c.in_ok-number.count c.args.most _ _ _ c.in_ok-number.ensures.came c.if-number-ge-MAX_SHARDS.false c.if-count-most.false
+    _ c.in_ok-links.ensures.came c.in_ok-number.ensures.fit.0 c.in_ok-number.ensures.fit.1 c.in-Some.links fault c.in-Some.is is)
     c.shard_of.ensures.refused
 
 pub returns-in-None-clause-refused : goal.returns-in-None-clause-refused
 returns-in-None-clause-refused g c =
-    no_links_came c.args.spelling c.read_bytes.new.bytes _ _ c.split_u32-number.result.0 c.split_u32-count.result.0 c.args.most (search rules)
-    c.split_u32-number.ensures.fits c.split_u32-count.ensures.fits c.split_u32-number.ensures.parts c.split_u32-count.ensures.parts
-    c.if-number-ge-MAX_SHARDS.false c.if-count-most.false c.requires.few
-    _ _ _ _ c.in_ok-read_bytes.ensures.came c.in_ok-links.ensures.came c.in-None.is
+    no_links_came c.args.spelling c.in_ok-number.number c.in_ok-number.count c.args.most _ _ _ c.in_ok-number.ensures.came c.if-number-ge-MAX_SHARDS.false c.if-count-most.false
+    _ c.in_ok-links.ensures.came c.in_ok-number.ensures.fit.0 c.in_ok-number.ensures.fit.1 c.in-None.is
