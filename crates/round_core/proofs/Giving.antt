@@ -1,9 +1,9 @@
 -- The links that roots pick, each given by the least root that picks it.
-use Rattle.std.proofs.Common.{◌≡◌, ℕ, ◌+◌, ◌-◌, ◌<◌, ◌≤◌, ◌↔◌, Bool, true, false, List, [], ◌∷◌, ◌++◌, length, get_or, take, drop, set, length-drop, length-append, Contains, refl, Some, None, sym, ap, ◌∙◌, subst, inl, inr, arith}
+use Rattle.std.proofs.Common.{◌≡◌, ℕ, ◌+◌, ◌-◌, ◌<◌, ◌≤◌, ◌↔◌, Bool, true, false, List, [], ◌∷◌, ◌++◌, length, get_or, take, take_all, set, length-append, Contains, refl, Some, None, sym, ap, ◌∙◌, subst, inl, inr, arith}
 use mir.Val.{bool_byte}
 use Rattle.std.specs.Prelude.{Option, All}
 use Rattle.std.proofs.lemmas.Bool.{cases_eq, cases_lt}
-use Rattle.std.proofs.lemmas.List.{append_assoc, get_or_default, get_or_past, get_or-take, get_or-drop, length-take-le, take-set, take_more_set}
+use Rattle.std.proofs.lemmas.List.{append_assoc, get_or_default, get_or_past, get_or-set_same, get_or-set_other, length-set, take-set, take_more_set, take_at}
 use Rattle.std.proofs.lemmas.List.Elements.{Contains-append_left, Contains-push, Contains-push_cases, Contains-get_or, All-contains}
 use Rattle.std.proofs.lemmas.List.Quantifiers.{all_pairs_push}
 use Rattle.links.specs.declared.links.Link.{Link}
@@ -12,8 +12,7 @@ use Rattle.links.proofs.Members.{contains_none}
 use Rattle.round_theory.specs.Offers.{Hearing, IsNamed}
 use Rattle.round_theory.proofs.Labels.{labelling_is_labels}
 use Rattle.round_core.specs.Picks.{pick_of, ArePicks, ArePicksOfHearings, AreNoPicks}
-use Rattle.round_core.specs.declared.roots.Lead.{Lead}
-use Rattle.round_core.specs.Roots.{IsRoot, AreRoots, IsLed, IsLedBy, IsTaker, AreLeads, Follows, StandsAt, TakesBatch, TakesPicked, IsGiven, AreGiven, CanLead}
+use Rattle.round_core.specs.Roots.{IsRoot, AreRoots, IsLed, IsLedBy, Gives, TakesPicked, IsGiven, AreGiven, CanStep}
 use Rattle.round_core.specs.Solver.{Progress, vertices, IsProgress, IsFirstPickedAt, IsPickedBefore, ArePickedOnce}
 use Rattle.round_core.proofs.Leading.{root_at}
 use Rattle.round_core.proofs.Picking.{place_of, picked_there, first_place}
@@ -70,45 +69,6 @@ given_more picks labels roots k links l are_roots k_in here are = record {
       | inr other ↦ Contains-append_left links (l ∷ []) m ((are.exact m).1 (j, omega (arith, lt, other), within, first))
     ]
 
--- a root that doesn't take its pick, or has none, gives no link
-pub not_taken : (picks : List (Option Link)) (c : ℕ) (takes : Bool) → IsTaker picks c takes → takes ≡ false → (m : Link) → ¬ (IsFirstPickedAt picks m (c - 1))
-not_taken picks c takes taker is m first =
-    let wrong : false ≡ true = sym is ∙ (taker.picked m first.here).1 first in
-    absurd (cc)
-
--- the next root of a batch gives its pick, or gives none
-pub next_given : (picks : List (Option Link)) (labels roots batch : List ℕ) (k i : ℕ) (links : List Link) (l : Link) → AreRoots labels roots → StandsAt roots k batch → i < length batch → IsFirstPickedAt picks l (get_or batch i 0 - 1)
-    → AreGiven picks roots (k + i) links → AreGiven picks roots (k + (i + 1)) (links ++ l ∷ [])
-next_given picks labels roots batch k i links l are_roots stands lt here are =
-    let (within, is) = stands i lt in
-    let next : k + i + 1 ≡ k + (i + 1) = omega arith in
-    subst (λ m. AreGiven picks roots m (links ++ l ∷ [])) next (given_more picks labels roots (k + i) links l are_roots within (subst (λ c. IsFirstPickedAt picks l (c - 1)) is here) are)
-
-pub next_skipped : (picks : List (Option Link)) (roots batch : List ℕ) (k i : ℕ) (links : List Link) → StandsAt roots k batch → i < length batch → ((m : Link) → ¬ (IsFirstPickedAt picks m (get_or batch i 0 - 1)))
-    → AreGiven picks roots (k + i) links → AreGiven picks roots (k + (i + 1)) links
-next_skipped picks roots batch k i links stands lt none are =
-    let (within, is) = stands i lt in
-    let next : k + i + 1 ≡ k + (i + 1) = omega arith in
-    subst (λ m. AreGiven picks roots m links) next (given_skip picks roots (k + i) links (subst (λ c. (m : Link) → ¬ (IsFirstPickedAt picks m (c - 1))) is none) are)
-
--- The pick of the next root is written behind those that the batch gave so far, and counted where the root takes it.
-pub next_written : (picks : List (Option Link)) (labels roots batch : List ℕ) (k i : ℕ) (given links : List Link) (count count' : ℕ) (l : Link) (takes : Bool) → AreRoots labels roots → StandsAt roots k batch → i < length batch
-    → count < length links → pick_of picks (get_or batch i 0) ≡ Some l → IsTaker picks (get_or batch i 0) takes → count' ≡ count + bool_byte takes → AreGiven picks roots (k + i) (given ++ take count links)
-    → AreGiven picks roots (k + (i + 1)) (given ++ take count' (set links count l))
-next_written picks labels roots batch k i given links count count' l true are_roots stands lt within here taker count_is so_far =
-    let taken : take count' (set links count l) ≡ take count links ++ l ∷ [] = ap (λ n. take n (set links count l)) count_is ∙ take_more_set links count l within in
-    subst (AreGiven picks roots (k + (i + 1))) (append_assoc given (take count links) (l ∷ []) ∙ ap (λ xs. given ++ xs) (sym taken))
-    (next_given picks labels roots batch k i (given ++ take count links) l are_roots stands lt ((taker.picked l here).0 refl) so_far)
-next_written picks labels roots batch k i given links count count' l false are_roots stands lt within here taker count_is so_far =
-    let same : count' ≡ count = omega (arith, count_is) in
-    let taken : take count' (set links count l) ≡ take count links = ap (λ n. take n (set links count l)) same ∙ take-set links count l in
-    subst (λ xs. AreGiven picks roots (k + (i + 1)) (given ++ xs)) (sym taken)
-    (next_skipped picks roots batch k i (given ++ take count links) stands lt (not_taken picks (get_or batch i 0) false taker refl) so_far)
-
-pub count_more : (b : Bool) (count count' i : ℕ) → count ≤ i → count' ≡ count + bool_byte b → count' ≤ i + 1
-count_more true count count' i few is = omega (arith, few, is)
-count_more false count count' i few is = omega (arith, few, is)
-
 -- all roots gave theirs: these are all links picked, since no other vertex has a pick
 pub given_all : (picks : List (Option Link)) (heard : List Hearing) (labels roots : List ℕ) (k : ℕ) (links : List Link) → AreLabels labels → ArePicks labels (IsNamed heard) picks → AreRoots labels roots → length roots ≤ k
     → AreGiven picks roots k links → ArePickedOnce picks links
@@ -151,87 +111,74 @@ pub none_in_progress : (p : Progress) (roots : List ℕ) (picks : List (Option L
 none_in_progress p roots picks is are_roots (heard, are) =
     none_of_roots picks heard p.labels roots (labelling_is_labels (vertices p) (Contains p.taken) p.labels is.few_vertices is.labelling) are are_roots
 
--- a part of a list, from one place to another
-pub part_long : {X : Type 0} (batch part : List X) (done next : ℕ) → next ≤ length batch → part ≡ take (next - done) (drop done batch) → length part ≡ next - done
-part_long {X} batch part done next within is = ap length is ∙ length-take-le (next - done) (drop done batch) (let rest = length-drop done batch in omega (arith, rest, within))
-
--- a part of a list, from one place to another, stands where they are
-pub part_stands : (roots batch part : List ℕ) (k done next : ℕ) → done ≤ next → next ≤ length batch → part ≡ take (next - done) (drop done batch) → StandsAt roots k batch → StandsAt roots (k + done) part
-part_stands roots batch part k done next le within is stands i lt =
-    let long : length part ≡ next - done = part_long batch part done next within is in
-    let (there, at) = stands (done + i) (omega (arith, lt, long, within)) in
-    let place : k + (done + i) ≡ k + done + i = omega arith in (
-      omega (arith, there),
-      ap (λ xs. get_or xs i 0) is ∙ get_or-take (next - done) (drop done batch) i 0 (omega (arith, lt, long)) ∙ get_or-drop done batch i 0 ∙ at ∙ ap (λ j. get_or roots j 0) place,
-    )
-
--- so what holds of all holds of the part
-pub part_all : (batch part : List ℕ) (done next : ℕ) → next ≤ length batch → part ≡ take (next - done) (drop done batch) → (P : ℕ → Type 0) → All P batch → All P part
-part_all batch part done next within is P all i d lt =
-    let long : length part ≡ next - done = part_long batch part done next within is in
-    let at : get_or batch (done + i) d ≡ get_or part i d = sym (ap (λ xs. get_or xs i d) is ∙ get_or-take (next - done) (drop done batch) i d (omega (arith, lt, long)) ∙ get_or-drop done batch i d) in
-    subst P at (all (done + i) d (omega (arith, lt, long, within)))
-
--- the first so many of a batch gave their links, behind what was taken before
-pub record HaveTaken (picks : List (Option Link)) (batch : List ℕ) (done : ℕ) (before after : List Link) : Type 0 where
+-- behind those taken before stand the links that the first i roots give, and then room for those of the others
+pub record HaveGiven (picks : List (Option Link)) (roots : List ℕ) (i : ℕ) (before items : List Link) (count : ℕ) : Type 0 where
+  pub within : i ≤ length roots
+  pub room : length items ≡ length before + length roots
   pub added : List Link
-  pub behind : after ≡ before ++ added
-  pub few : length added ≤ done
-  pub within : done ≤ length batch
-  pub given : (labels roots : List ℕ) (k : ℕ) (given : List Link) → AreRoots labels roots → StandsAt roots k batch → AreGiven picks roots k given → AreGiven picks roots (k + done) (given ++ added)
+  pub behind : take count items ≡ before ++ added
+  pub number : count ≡ length before + length added
+  pub few : length added ≤ i
+  pub given : AreGiven picks roots i added
 
-pub taken_more : (picks : List (Option Link)) (batch part : List ℕ) (done next : ℕ) (before taken taken' : List Link) → done ≤ next → next ≤ length batch → part ≡ take (next - done) (drop done batch)
-    → HaveTaken picks batch done before taken → TakesBatch picks part taken taken' → HaveTaken picks batch next before taken'
-taken_more picks batch part done next before taken taken' le within is have takes =
-    let long : length part ≡ next - done = part_long batch part done next within is in
+-- a list with room behind it still begins with what stood in it
+pub with_room : (old rest new : List Link) (n m : ℕ) → length old ≡ n → n ≤ m → new ≡ take m old ++ rest → take n new ≡ old
+with_room old rest new n m long le is =
+    let whole : take m old ≡ old = take_all m old (omega (arith, long, le)) in
+    ap (take n) (is ∙ ap (λ xs. xs ++ rest) whole) ∙ take_at old rest n long
+
+-- The pick of the next root is written behind those that were given so far, and counted where the root takes it.
+pub next_written : (picks : List (Option Link)) (labels roots : List ℕ) (i : ℕ) (before items : List Link) (count count' : ℕ) (l : Link) (takes : Bool) → AreRoots labels roots → i < length roots
+    → Gives picks (get_or roots i 0) takes l → count' ≡ count + bool_byte takes → HaveGiven picks roots i before items count → HaveGiven picks roots (i + 1) before (set items count l) count'
+next_written picks labels roots i before items count count' l true are_roots lt gives count_is have =
+    let number = have.number in
     let few = have.few in
-    let more = takes.few in
+    let room = have.room in
+    let more : length (have.added ++ l ∷ []) ≡ length have.added + 1 = length-append have.added (l ∷ []) in
     record {
-      added = have.added ++ takes.added;
-      behind = takes.behind ∙ ap (λ xs. xs ++ takes.added) have.behind ∙ append_assoc before have.added takes.added;
-      few = omega (arith, few, more, long, le, length-append have.added takes.added);
-      within = within;
-      given = λ labels roots k given are_roots stands so_far.
-          let place : k + done + length part ≡ k + next = omega (arith, long, le) in
-          subst (AreGiven picks roots (k + next)) (append_assoc given have.added takes.added)
-          (subst (λ m. AreGiven picks roots m (given ++ have.added ++ takes.added)) place
-          (takes.given labels roots (k + done) (given ++ have.added) are_roots (part_stands roots batch part k done next le within is stands) (have.given labels roots k given are_roots stands so_far)));
+      within = omega (arith, lt);
+      room = length-set items count l ∙ have.room;
+      added = have.added ++ l ∷ [];
+      behind = ap (λ n. take n (set items count l)) count_is ∙ take_more_set items count l (omega (arith, number, few, room, lt)) ∙ ap (λ xs. xs ++ l ∷ []) have.behind ∙ append_assoc before have.added (l ∷ []);
+      number = omega (arith, number, more, count_is);
+      few = omega (arith, few, more);
+      given = given_more picks labels roots i have.added l are_roots lt (gives.first refl) have.given;
     }
-
-pub taken_all : (picks : List (Option Link)) (batch : List ℕ) (done : ℕ) (before after : List Link) → length batch ≤ done → HaveTaken picks batch done before after → TakesBatch picks batch before after
-taken_all picks batch done before after past have =
-    let within = have.within in
-    let all : done ≡ length batch = omega (arith, past, within) in
+next_written picks labels roots i before items count count' l false are_roots lt gives count_is have =
+    let number = have.number in
+    let few = have.few in
+    let same : count' ≡ count = omega (arith, count_is) in
     record {
+      within = omega (arith, lt);
+      room = length-set items count l ∙ have.room;
       added = have.added;
-      behind = have.behind;
-      few = let few = have.few in omega (arith, few, all);
-      given = λ labels roots k given are_roots stands so_far. subst (λ n. AreGiven picks roots (k + n) (given ++ have.added)) all (have.given labels roots k given are_roots stands so_far);
+      behind = ap (λ n. take n (set items count l)) same ∙ take-set items count l ∙ have.behind;
+      number = omega (arith, number, same);
+      few = omega (arith, few);
+      given = given_skip picks roots i have.added (gives.none refl) have.given;
     }
 
 -- all roots gave theirs, behind what was taken before
-pub picked_behind : (picks : List (Option Link)) (heard : List Hearing) (labels roots : List ℕ) (before after : List Link) → AreLabels labels → ArePicks labels (IsNamed heard) picks → AreRoots labels roots
-    → TakesBatch picks roots before after → TakesPicked picks (length roots) before after
-picked_behind picks heard labels roots before after are_labels are_picks are_roots takes = record {
-  added = takes.added;
-  behind = takes.behind;
-  few = takes.few;
-  once = given_all picks heard labels roots (0 + length roots) takes.added are_labels are_picks are_roots (omega arith)
-      (takes.given labels roots 0 [] are_roots (λ i lt. let place : i ≡ 0 + i = omega arith in (omega (arith, lt), ap (λ j. get_or roots j 0) place)) (given_none picks roots));
+pub all_given : (picks : List (Option Link)) (labels roots : List ℕ) (i : ℕ) (before items : List Link) (count : ℕ) → CanStep labels roots picks → length roots ≤ i
+    → HaveGiven picks roots i before items count → TakesPicked picks (length roots) before (take count items)
+all_given picks labels roots i before items count can past have = record {
+  added = have.added;
+  behind = have.behind;
+  few = let few = have.few in let within = have.within in omega (arith, few, within);
+  once = let (heard, are) = can.picked in given_all picks heard labels roots i have.added can.labelled are can.are_roots past have.given;
 }
 
--- the roots of a slice of the labels can be led
-pub can_lead : (labels old roots : List ℕ) (picks : List (Option Link)) → old ≡ labels → AreLabels labels → ArePicksOfHearings labels picks → AreRoots old roots → CanLead old roots picks
-can_lead labels old roots picks same are picked roots_are = record { labelled = rw same are; picked = rw same picked; each_root = λ k d lt. (roots_are.exact (get_or roots k d)).0 (Contains-get_or roots k d lt) }
-
--- where leads are followed each root is led
-pub led_by_leads : (labels : List ℕ) (picks : List (Option Link)) (roots parents : List ℕ) (leads : List Lead) → length leads ≡ length roots → AreLeads labels picks roots leads → Follows roots leads parents
-    → (c : ℕ) → Contains roots c → IsLedBy labels picks parents c
-led_by_leads labels picks roots parents leads long are follows c (i, within, here) =
-    subst (IsLedBy labels picks parents) (get_or_default roots i 0 c within ∙ here) (subst (λ p. IsLed labels picks (get_or roots i 0) p × IsRoot labels p) (sym (follows i lead within at)) (are.led i lead within at))
-  where
-    lead : Lead
-    lead = get_or leads i (record { parent = 0; takes = false })
-
-    at : lead ≡ get_or leads i lead
-    at = get_or_default leads i (record { parent = 0; takes = false }) lead (omega (arith, within, long))
+-- A root that is led where its pick leads it stays so while others are, and so does each that was led before.
+pub led_more : (labels : List ℕ) (picks : List (Option Link)) (roots parents : List ℕ) (i p : ℕ) → get_or roots i 0 < length parents → IsLed labels picks (get_or roots i 0) p → IsRoot labels p
+    → ((k : ℕ) → k < i → IsLedBy labels picks parents (get_or roots k 0)) → (k : ℕ) → k < i + 1 → IsLedBy labels picks (set parents (get_or roots i 0) p) (get_or roots k 0)
+led_more labels picks roots parents i p within led root before k lt = elim (cases_eq (get_or roots k 0) (get_or roots i 0)) [
+  | inl is ↦
+      subst (IsLedBy labels picks (set parents (get_or roots i 0) p)) (sym is)
+      (subst (λ q. IsLed labels picks (get_or roots i 0) q × IsRoot labels q) (sym (get_or-set_same parents (get_or roots i 0) p 0 within)) (led, root))
+  | inr other ↦
+      let earlier : k < i = elim (cases_lt k i) [
+        | inl less ↦ less
+        | inr ge ↦ let place : k ≡ i = omega (arith, ge, lt) in absurd (other (ap (λ j. get_or roots j 0) place))
+      ] in
+      subst (λ q. IsLed labels picks (get_or roots k 0) q × IsRoot labels q) (sym (get_or-set_other parents (get_or roots i 0) (get_or roots k 0) p 0 other)) (before k earlier)
+]

@@ -17,7 +17,7 @@ use Rattle.round_theory.specs.Offers.{Leaves, IsLeastLeaving, NoneLeaves, Hearin
 use Rattle.round_theory.proofs.Leaving.{leaves_both_ends, leaves_apart}
 use Rattle.round_core.specs.Picks.{pick_of, Picked, IsPickOf, ArePicks}
 use Rattle.round_core.specs.PickNumbers.{IsKeyNumber}
-use Rattle.round_core.specs.Roots.{IsRoot, AreRoots, HasEndLabels, IsLed, IsTaker, AreParents, AreNear, IsNear}
+use Rattle.round_core.specs.Roots.{IsRoot, AreRoots, HasEndLabels, IsLed, Gives, AreParents, AreNear, IsNear}
 use Rattle.round_core.specs.Solver.{IsFirstPickedAt}
 use Rattle.round_core.proofs.HookWalks.{over_same}
 use Rattle.round_core.proofs.Picking.{place_of, picked_there, least_at, least_end, first_at, pick_dec}
@@ -213,21 +213,17 @@ module _ (labels : List ℕ) (heard : List Hearing) (picks : List (Option Link))
         let before : d - 1 < c - 1 = elim (cases_lt d c) [ inl lt ↦ omega (arith, lt, one) | inr ge ↦ absurd (ne (omega (arith, ge, le))) ] in
         first.first (d - 1) before there
 
-    takes_where : (takes : Bool) → 1 ≤ d → (takes ≡ true → (pick_of picks d ≢ Some l) ⊎ (c < d)) → (takes ≡ false → (pick_of picks d ≡ Some l) × (d ≤ c)) → IsTaker picks c takes
+    takes_where : (takes : Bool) → 1 ≤ d → (takes ≡ true → (pick_of picks d ≢ Some l) ⊎ (c < d)) → (takes ≡ false → (pick_of picks d ≡ Some l) × (d ≤ c)) → Gives picks c takes l
     takes_where takes one if_so if_not = record {
-      picked = λ m m_here.
-          let both : Some l ≡ Some m = sym here ∙ m_here in
+      first = λ is. first_here (if_so is);
+      none = λ is m first.
+          let both : Some l ≡ Some m = sym here ∙ first.here in
           let same : l ≡ m = cc in
-          subst (λ k. (takes ≡ true) ↔ IsFirstPickedAt picks k (c - 1)) same (decided takes if_so if_not);
-      none = λ no. absurd (let never : Some l ≡ None = sym here ∙ no in cc);
+          not_first_here one (if_not is).0 (if_not is).1 (subst (λ k. IsFirstPickedAt picks k (c - 1)) (sym same) first);
     }
-      where
-        decided : (b : Bool) → (b ≡ true → (pick_of picks d ≢ Some l) ⊎ (c < d)) → (b ≡ false → (pick_of picks d ≡ Some l) × (d ≤ c)) → (b ≡ true) ↔ IsFirstPickedAt picks l (c - 1)
-        decided true if_so if_not = (λ _. first_here (if_so refl), λ _. refl)
-        decided false if_so if_not = (λ wrong. absurd (cc), λ first. absurd (not_first_here one (if_not refl).0 (if_not refl).1 first))
 
     -- a look whether the labels have the same pick decides which takes it
-    pub is_taker : (paired : Bool) → 1 ≤ d → (paired ≡ true) ↔ (pick_of picks c ≡ pick_of picks d) → IsTaker picks c (not paired || ltb c d)
+    pub is_taker : (paired : Bool) → 1 ≤ d → (paired ≡ true) ↔ (pick_of picks c ≡ pick_of picks d) → Gives picks c (not paired || ltb c d) l
     is_taker true one same = takes_where (ltb c d) one (λ tested. inr (ltb-true c d tested)) (λ failed. (sym (same.0 refl) ∙ here, ltb-false c d failed))
     is_taker false one same = takes_where true one (λ _. inl (λ there. let wrong : false ≡ true = same.1 (here ∙ sym there) in absurd (cc))) (λ wrong. absurd (cc))
 

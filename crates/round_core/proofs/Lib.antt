@@ -9,7 +9,6 @@ pub mod Full
 pub mod Picking
 pub mod Leading
 pub mod Giving
-pub mod Leads
 pub mod Jumping
 pub mod Naming
 pub mod Merging

@@ -34,10 +34,6 @@ missed_at_front labels links i l here =
     ap (missed labels) (sym (take-append-drop i links)) ∙ find-append (is_apart labels) (take i links) (drop i links)
     ∙ ap (λ o. option_or o (missed labels (drop i links))) here
 
--- the first that is missed in halves is the first of all
-pub missed_in_halves : (labels : List ℕ) (links : List Link) (i : ℕ) → option_or (missed labels (take i links)) (missed labels (drop i links)) ≡ missed labels links
-missed_in_halves labels links i = sym (find-append (is_apart labels) (take i links) (drop i links)) ∙ ap (missed labels) (take-append-drop i links)
-
 -- where none is missed each link's ends have one label
 not_apart : (labels : List ℕ) (links : List Link) (l : Link) → missed labels links ≡ None → Contains links l → is_apart labels l ≡ false
 not_apart labels [] l none l_in = absurd (contains_none l l_in)

@@ -1,11 +1,10 @@
 -- The least root under each parent, and the labels that it gives.
 use Rattle.std.proofs.Common.{◌≡◌, ◌≢◌, ℕ, zero, suc, ◌+◌, ◌-◌, ◌<◌, ◌≤◌, ◌==◌, Bool, true, false, List, length, get_or, set, map, Contains, refl, sym, ap, ◌∙◌, subst, inl, inr, arith}
 use mir.Val.{bool_byte}
-use Rattle.std.specs.Prelude.{Option, AllPairs, All, Vec, filter}
-use Rattle.std.specs.Vec.{with_items}
+use Rattle.std.specs.Prelude.{Option, AllPairs, All, filter}
 use Rattle.std.proofs.lemmas.Bool.{cases_eq, cases_lt, eqb-true, eq-eqb}
 use Rattle.std.proofs.lemmas.List.Filters.{FiltersInPlace, FiltersInPlace-more_no, FiltersInPlace-more_set}
-use Rattle.std.proofs.lemmas.List.{drop-set-lt, take-set, length-set, length-map, get_or-map, get_or-set_same, get_or-set_other, get_or_default, with_items_is}
+use Rattle.std.proofs.lemmas.List.{drop-set-lt, take-set, length-set, length-map, get_or-map, get_or-set_same, get_or-set_other, get_or_default}
 use Rattle.std.proofs.lemmas.List.Elements.{Contains-get_or, All-contains}
 use Rattle.std.proofs.lemmas.List.Kept.{AllPairs-filter}
 use Rattle.links.specs.declared.links.Link.{Link}
@@ -14,7 +13,8 @@ use Rattle.links.specs.Labels.{renamed}
 use Rattle.links.proofs.Kept.{kept_in, kept_if}
 use Rattle.round_theory.specs.Labelling.{IsVertex, JoinsOver, IsRelabelling, IsLeastJoinedOver}
 use Rattle.round_core.specs.Picks.{Picked}
-use Rattle.round_core.specs.Roots.{IsRoot, AreRoots, ArePointers, AreParents, AreSettled, IsLeastUnder, AreNames}
+use Rattle.round_core.specs.Roots.{IsRoot, AreRoots, ArePointers, AreParents, AreSettled, IsLeastUnder, Relabels}
+use Rattle.round_theory.proofs.Steps.{relabelling_is_labels}
 use Rattle.round_core.proofs.HookWalks.{over_same, over_from, over_then, over_back, over_equal}
 use Rattle.round_core.proofs.Leading.{end_root}
 
@@ -195,8 +195,12 @@ least_joined labels roots parents picks are are_roots are_parents settled c u ro
     one_parent w over = ap (λ b. get_or parents b 0) (sym root.1)
         ∙ over_equal labels (Picked picks) (λ b. get_or parents b 0) (are_parents.together (λ b. get_or parents b 0) (λ b b_in. sym (settled b b_in))) c w over
 
+-- the name of each root, at the place of its number, is the least vertex that the components of the labels and the picks join it to
+abbrev AreNames : List ℕ → List (Option Link) → List ℕ → Type 0
+AreNames labels picks names = (c : ℕ) → IsRoot labels c → IsLeastJoinedOver (length labels) labels (Picked picks) c (get_or names c 0)
+
 -- The labels by these names: what is joined to a vertex is joined to its label.
-pub relabelled_by_names : (labels names new : List ℕ) (picks : List (Option Link)) → AreLabels labels → AreNames labels picks names → new ≡ map (λ c. get_or names c 0) labels
+relabelled_by_names : (labels names new : List ℕ) (picks : List (Option Link)) → AreLabels labels → AreNames labels picks names → new ≡ map (λ c. get_or names c 0) labels
     → IsRelabelling (length labels) labels (Picked picks) new
 relabelled_by_names labels names new picks are named new_is = record {
   each_vertex = ap length new_is ∙ length-map labels (λ c. get_or names c 0);
@@ -212,13 +216,6 @@ relabelled_by_names labels names new picks are named new_is = record {
   where
     new_at : (v : ℕ) → IsVertex (length labels) v → label_of new v ≡ get_or names (label_of labels v) 0
     new_at v vertex = ap (λ xs. label_of xs v) new_is ∙ get_or-map (λ c. get_or names c 0) labels (v - 1) 0 0 (omega (arith, vertex.0, vertex.1))
-
--- the same where `old` is a slice of the labels, and the names are written over a vector of numbers
-pub relabelled_named : {Z : Type 0} (labels old : List ℕ) (numbers : Vec ℕ Z) (names given : List ℕ) (picks : List (Option Link)) → old ≡ labels → AreLabels labels → AreNames old picks names
-    → length names ≡ numbers.len → given ≡ (with_items numbers names).items → IsRelabelling (length old) old (Picked picks) (renamed given old)
-relabelled_named labels old numbers names given picks same are named long given_are =
-    let first = relabelled_by_names old names (map (λ c. get_or names c 0) old) picks (subst AreLabels (sym same) are) named refl in
-    subst (λ (xs : List ℕ). IsRelabelling (length old) old (Picked picks) (map (λ c. get_or xs c 0) old)) (sym (given_are ∙ with_items_is numbers names long)) first
 
 -- the roots that label themselves under the new labels too are the roots of those
 pub kept_roots : (labels roots new : List ℕ) (picks : List (Option Link)) → AreLabels labels → AreLabels new → AreRoots labels roots → IsRelabelling (length labels) labels (Picked picks) new
@@ -266,7 +263,7 @@ kept_by_test p xs ys k k' i x so_far within at count = by_test (p x) refl
         })
 
 -- what is above all roots is above all labels
-pub labels_within : (labels roots : List ℕ) (m : ℕ) → AreLabels labels → AreRoots labels roots → All (λ c. c < m) roots → All (λ c. c < m) labels
+labels_within : (labels roots : List ℕ) (m : ℕ) → AreLabels labels → AreRoots labels roots → All (λ c. c < m) roots → All (λ c. c < m) labels
 labels_within labels roots m are are_roots within k d lt =
     let back : k + 1 - 1 ≡ k = omega arith in
     let at : get_or labels k d ≡ label_of labels (k + 1) = get_or_default labels k d 0 lt ∙ ap (λ j. get_or labels j 0) (sym back) in
@@ -301,3 +298,14 @@ roots_within labels roots n is are k d lt = subst (λ m. IsVertex m (get_or root
 -- so they are among the numbers up to their number
 pub roots_below : (labels roots : List ℕ) (n m : ℕ) → n ≡ length labels → n < m → AreRoots labels roots → All (λ c. c < m) roots
 roots_below labels roots n m is above are k d lt = let vertex = roots_within labels roots n is are k d lt in omega (arith, vertex.1, above)
+
+-- the names of all roots relabel
+pub relabels : (labels roots names : List ℕ) (picks : List (Option Link)) → AreLabels labels → AreRoots labels roots → All (λ c. c < length names) roots → AreNames labels picks names → Relabels labels picks names
+relabels labels roots names picks are are_roots within named = record {
+  within = labels_within labels roots (length names) are are_roots within;
+  relabelling = is;
+  labelled = relabelling_is_labels (length labels) (Picked picks) labels (renamed names labels) are.few_vertices is;
+}
+  where
+    is : IsRelabelling (length labels) labels (Picked picks) (renamed names labels)
+    is = relabelled_by_names labels names (renamed names labels) picks are named refl

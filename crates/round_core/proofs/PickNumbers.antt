@@ -1,12 +1,12 @@
 -- The numbers of picks: each link's number stands for it alone, and the lesser of two numbers is that of the lesser link.
 use Rattle.std.proofs.Common.{◌≡◌, ◌≢◌, ℕ, ◌+◌, ◌-◌, ◌*◌, ◌/◌, ◌%◌, ◌^◌, ◌<◌, ◌≤◌, ◌⊎◌, ◌↔◌, min, ℤ, pos, negsuc, Less, List, length, map, get_or, set, Some, None, refl, sym, ap, ◌∙◌, subst, inl, inr, arith}
 use Rattle.std.specs.Prelude.{All, ◌+ℤ◌, ◌-ℤ◌, FitsSigned}
-use Rattle.std.specs.Int.{w64}
+use Rattle.std.specs.Int.{w64, int_wrap}
 use Rattle.std.specs.Int.Signed.{◌<ℤ◌}
 use Rattle.std.specs.Ordering.{int_cmp, MatchOrdering}
 use Rattle.std.specs.declared.cmp.Ordering.{Ordering}
 use Rattle.std.proofs.lemmas.Bool.{cases_lt}
-use Rattle.std.proofs.lemmas.Int.{ints}
+use Rattle.std.proofs.lemmas.Int.{ints, int_wrap_fits}
 use Rattle.std.proofs.lemmas.List.{length-map, get_or-map, map-set, length-set}
 use Rattle.std.proofs.lemmas.List.Elements.{All-set}
 use Rattle.limits.specs.declared.TheConstants.{MAX_VERTICES}
@@ -16,21 +16,20 @@ use Rattle.links.specs.Labels.{label_of, AreLabels}
 use Rattle.links.specs.WideKey.{wide_key}
 use Rattle.links.proofs.Keys.{link_eq}
 use Rattle.links.proofs.WideKeys.{int_ranks, wide_compares}
-use Rattle.round_core.specs.PickNumbers.{IsKeyNumber, no_pick, IsPickNumber, weight_fits, link_of, pick_in}
+use Rattle.round_core.specs.PickNumbers.{IsKeyNumber, no_pick, IsPickNumber, link_of, pick_in}
 use Rattle.round_core.specs.Picks.{AreNoPicks}
 use Rattle.round_core.proofs.Counts.{IsLesserOf, AreCounted, set_counted}
 
 -- ends that don't ascend are no link's
-no_link : (above low high : ℕ) (a : (above < 2 ^ 64) ⊎ (2 ^ 64 ≤ above)) (b : (0 < low) ⊎ (low ≤ 0)) (c : (low < high) ⊎ (high ≤ low)) (d : (MAX_VERTICES < high) ⊎ (high ≤ MAX_VERTICES))
-    → high ≤ low → link_of above low high a b c d ≡ None
-no_link above low high (inr a) b c d le = refl
-no_link above low high (inl a) (inr b) c d le = refl
-no_link above low high (inl a) (inl b) (inr c) d le = refl
-no_link above low high (inl a) (inl b) (inl c) d le = absurd (omega (arith, c, le))
+no_link : (above low high : ℕ) (b : (0 < low) ⊎ (low ≤ 0)) (c : (low < high) ⊎ (high ≤ low)) (d : (MAX_VERTICES < high) ⊎ (high ≤ MAX_VERTICES))
+    → high ≤ low → link_of above low high b c d ≡ None
+no_link above low high (inr b) c d le = refl
+no_link above low high (inl b) (inr c) d le = refl
+no_link above low high (inl b) (inl c) d le = absurd (omega (arith, c, le))
 
 pub no_pick_is_none : (k : ℕ) → k ≡ no_pick → pick_in k ≡ None
 unfolding pick_in
-no_pick_is_none k is = no_link (k / 2 ^ 64) (k / 2 ^ 32 % 2 ^ 32) (k % 2 ^ 32) (cases_lt (k / 2 ^ 64) (2 ^ 64)) (cases_lt 0 (k / 2 ^ 32 % 2 ^ 32)) (cases_lt (k / 2 ^ 32 % 2 ^ 32) (k % 2 ^ 32)) (cases_lt MAX_VERTICES (k % 2 ^ 32))
+no_pick_is_none k is = no_link (k / 2 ^ 64) (k / 2 ^ 32 % 2 ^ 32) (k % 2 ^ 32) (cases_lt 0 (k / 2 ^ 32 % 2 ^ 32)) (cases_lt (k / 2 ^ 32 % 2 ^ 32) (k % 2 ^ 32)) (cases_lt MAX_VERTICES (k % 2 ^ 32))
     (rw is (omega arith))
 
 -- the fields in the number of a link
@@ -38,19 +37,18 @@ pub record HasFields (l : Link) (k : ℕ) : Type 0 where
   pub above : pos (k / 2 ^ 64) ≡ l.weight +ℤ pos (2 ^ 63)
   pub low : k / 2 ^ 32 % 2 ^ 32 ≡ l.low
   pub high : k % 2 ^ 32 ≡ l.high
-  pub few : k / 2 ^ 64 < 2 ^ 64
 
 -- a weight, counted from the least one on
-counted_weight : (w : ℤ) → FitsSigned w64 w → (above : ℕ) × (pos above ≡ w +ℤ pos (2 ^ 63)) × (above < 2 ^ 64)
-counted_weight (pos n) fits = (n + 2 ^ 63, omega (arith, ints), omega (arith, fits.sfits))
-counted_weight (negsuc n) fits = (2 ^ 63 - 1 - n, omega (arith, ints, fits.sfits), omega (arith, fits.sfits))
+counted_weight : (w : ℤ) → FitsSigned w64 w → (above : ℕ) × (pos above ≡ w +ℤ pos (2 ^ 63))
+counted_weight (pos n) fits = (n + 2 ^ 63, omega (arith, ints))
+counted_weight (negsuc n) fits = (2 ^ 63 - 1 - n, omega (arith, ints, fits.sfits))
 
 fields_of : (k above low high : ℕ) → low < 2 ^ 32 → high < 2 ^ 32 → k ≡ above * 2 ^ 64 + low * 2 ^ 32 + high → (k / 2 ^ 64 ≡ above) × (k / 2 ^ 32 % 2 ^ 32 ≡ low) × (k % 2 ^ 32 ≡ high)
 fields_of k above low high low_in high_in is = (omega arith, omega arith, omega arith)
 
 pub has_fields : (l : Link) (k : ℕ) → IsKeyNumber l k → HasFields l k
 has_fields l k is =
-    let (above, above_is, few) = counted_weight l.weight l.weight_fits in
+    let (above, above_is) = counted_weight l.weight l.weight_fits in
     let low_in : l.low < 2 ^ 32 = omega (arith, l.ascending, l.in_limit) in
     let high_in : l.high < 2 ^ 32 = omega (arith, l.in_limit) in
     let sum : k ≡ above * 2 ^ 64 + l.low * 2 ^ 32 + l.high = omega (arith, ints, is, above_is) in
@@ -59,25 +57,24 @@ has_fields l k is =
       above = ap pos fields.0 ∙ above_is;
       low = fields.1;
       high = fields.2;
-      few = subst (λ (a : ℕ). a < 2 ^ 64) (sym fields.0) few;
     }
 
-is_link : (l : Link) (above low high : ℕ) (a : (above < 2 ^ 64) ⊎ (2 ^ 64 ≤ above)) (b : (0 < low) ⊎ (low ≤ 0)) (c : (low < high) ⊎ (high ≤ low)) (d : (MAX_VERTICES < high) ⊎ (high ≤ MAX_VERTICES))
-    → pos above ≡ l.weight +ℤ pos (2 ^ 63) → low ≡ l.low → high ≡ l.high → above < 2 ^ 64 → link_of above low high a b c d ≡ Some l
-is_link l above low high (inl a) (inl b) (inl c) (inr d) is_weight is_low is_high few =
-    ap Some (link_eq (record { weight = pos above -ℤ pos (2 ^ 63); low = low; high = high; from_one = b; ascending = c; in_limit = d; weight_fits = weight_fits above a }) l (omega (arith, ints, is_weight)) is_low is_high)
-is_link l above low high (inl a) (inl b) (inl c) (inl d) is_weight is_low is_high few = absurd (omega (arith, d, is_high, l.in_limit))
-is_link l above low high (inl a) (inl b) (inr c) d is_weight is_low is_high few = absurd (omega (arith, c, is_low, is_high, l.ascending))
-is_link l above low high (inl a) (inr b) c d is_weight is_low is_high few = absurd (omega (arith, b, is_low, l.from_one))
-is_link l above low high (inr a) b c d is_weight is_low is_high few = absurd (omega (arith, a, few))
+is_link : (l : Link) (above low high : ℕ) (b : (0 < low) ⊎ (low ≤ 0)) (c : (low < high) ⊎ (high ≤ low)) (d : (MAX_VERTICES < high) ⊎ (high ≤ MAX_VERTICES))
+    → pos above ≡ l.weight +ℤ pos (2 ^ 63) → low ≡ l.low → high ≡ l.high → link_of above low high b c d ≡ Some l
+is_link l above low high (inl b) (inl c) (inr d) is_weight is_low is_high =
+    let counted : pos above -ℤ pos (2 ^ 63) ≡ l.weight = omega (arith, ints, is_weight) in
+    ap Some (link_eq _ l (ap (int_wrap w64) counted ∙ int_wrap_fits w64 l.weight l.weight_fits) is_low is_high)
+is_link l above low high (inl b) (inl c) (inl d) is_weight is_low is_high = absurd (omega (arith, d, is_high, l.in_limit))
+is_link l above low high (inl b) (inr c) d is_weight is_low is_high = absurd (omega (arith, c, is_low, is_high, l.ascending))
+is_link l above low high (inr b) c d is_weight is_low is_high = absurd (omega (arith, b, is_low, l.from_one))
 
 -- the number of a link stands for it
 pub key_is_pick : (l : Link) (k : ℕ) → IsKeyNumber l k → pick_in k ≡ Some l
 unfolding pick_in
 key_is_pick l k is =
     let fields = has_fields l k is in
-    is_link l (k / 2 ^ 64) (k / 2 ^ 32 % 2 ^ 32) (k % 2 ^ 32) (cases_lt (k / 2 ^ 64) (2 ^ 64)) (cases_lt 0 (k / 2 ^ 32 % 2 ^ 32)) (cases_lt (k / 2 ^ 32 % 2 ^ 32) (k % 2 ^ 32)) (cases_lt MAX_VERTICES (k % 2 ^ 32))
-    fields.above fields.low fields.high fields.few
+    is_link l (k / 2 ^ 64) (k / 2 ^ 32 % 2 ^ 32) (k % 2 ^ 32) (cases_lt 0 (k / 2 ^ 32 % 2 ^ 32)) (cases_lt (k / 2 ^ 32 % 2 ^ 32) (k % 2 ^ 32)) (cases_lt MAX_VERTICES (k % 2 ^ 32))
+    fields.above fields.low fields.high
 
 -- no link has the number of no pick
 pub key_below_no_pick : (l : Link) (k : ℕ) → IsKeyNumber l k → k < no_pick

@@ -1,12 +1,11 @@
 -- Picks as numbers that compare as the keys of the picked links do: the weight, counted from the least one on, the lower
 -- end and the higher end, one behind the other.
 use Rattle.std.specs.Prelude.{◌≡◌, ℕ, ◌-◌, ◌/◌, ◌%◌, ◌^◌, ◌<◌, ◌≤◌, ◌⊎◌, pos, ◌+ℤ◌, ◌-ℤ◌}
-use Rattle.std.specs.Prelude.{List, length, slice_index, Option, Some, None, FitsSigned}
-use Rattle.std.specs.Int.{w64}
+use Rattle.std.specs.Prelude.{List, length, slice_index, Option, Some, None}
+use Rattle.std.specs.Int.{w64, int_wrap}
 use Rattle.std.proofs.Common.{inl, inr}
 use Rattle.std.proofs.lemmas.Bool.{cases_lt}
-use Rattle.std.proofs.lemmas.Int.{ints}
-use Rattle.std.proofs.Common.{arith}
+use Rattle.std.proofs.lemmas.Int.{SFits-int_wrap}
 use Rattle.limits.specs.declared.TheConstants.{MAX_VERTICES}
 use Rattle.links.specs.declared.links.Link.{Link}
 use Rattle.links.specs.WideKey.{wide_key}
@@ -29,24 +28,20 @@ pub record AreCleared (labels old new : List ℕ) : Type 0 where
   pub cleared : (j : ℕ) → j < length labels → slice_index new (slice_index labels j - 1) ≡ no_pick
   pub rest : (i : ℕ) → (slice_index new i ≡ slice_index old i) ⊎ (slice_index new i ≡ no_pick)
 
--- a weight, counted from the least one on, has 64 bits
-pub weight_fits : (above : ℕ) → above < 2 ^ 64 → FitsSigned w64 (pos above -ℤ pos (2 ^ 63))
-weight_fits above few = omega (arith, ints)
-
--- the link of a weight, counted from the least one on, and of two ends, where they are a link's
-abbrev pub link_of : (above low high : ℕ) → (above < 2 ^ 64) ⊎ (2 ^ 64 ≤ above) → (0 < low) ⊎ (low ≤ 0)
-    → (low < high) ⊎ (high ≤ low) → (MAX_VERTICES < high) ⊎ (high ≤ MAX_VERTICES) → Option Link
-link_of above low high (inl few) (inl from_one) (inl ascending) (inr in_limit) =
+-- the link of a weight of 64 bits, counted from the least one on, and of two ends, where they are a link's
+abbrev pub link_of : (above low high : ℕ) → (0 < low) ⊎ (low ≤ 0) → (low < high) ⊎ (high ≤ low)
+    → (MAX_VERTICES < high) ⊎ (high ≤ MAX_VERTICES) → Option Link
+link_of above low high (inl from_one) (inl ascending) (inr in_limit) =
     Some (record {
-      weight = pos above -ℤ pos (2 ^ 63);
+      weight = int_wrap w64 (pos above -ℤ pos (2 ^ 63));
       low = low;
       high = high;
       from_one = from_one;
       ascending = ascending;
       in_limit = in_limit;
-      weight_fits = weight_fits above few;
+      weight_fits = SFits-int_wrap w64 (pos above -ℤ pos (2 ^ 63));
     })
-link_of above low high _ _ _ _ = None
+link_of above low high _ _ _ = None
 
 -- the pick that a number stands for: the link whose key has the number, if there is one
 unfoldable pub pick_in : ℕ → Option Link
@@ -54,4 +49,4 @@ pick_in k =
     let above : ℕ = k / 2 ^ 64 in
     let low : ℕ = k / 2 ^ 32 % 2 ^ 32 in
     let high : ℕ = k % 2 ^ 32 in
-    link_of above low high (cases_lt above (2 ^ 64)) (cases_lt 0 low) (cases_lt low high) (cases_lt MAX_VERTICES high)
+    link_of above low high (cases_lt 0 low) (cases_lt low high) (cases_lt MAX_VERTICES high)

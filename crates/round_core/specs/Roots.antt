@@ -1,10 +1,9 @@
 -- The labels that name components, as they stay from round to round, and where picks lead each of them.
-use Rattle.std.specs.Prelude.{◌≡◌, ◌≢◌, ℕ, ◌+◌, ◌-◌, ◌<◌, ◌≤◌, ◌^◌, ◌⊎◌, ◌↔◌, min, Bool, true, false, List, ◌++◌, length, slice_index, slice_index_or, slice_set, All, AllPairs, Contains, Option, Some, None}
+use Rattle.std.specs.Prelude.{◌≡◌, ◌≢◌, ℕ, ◌+◌, ◌-◌, ◌<◌, ◌≤◌, ◌^◌, ◌⊎◌, ◌↔◌, min, Bool, true, false, List, ◌++◌, length, slice_index, slice_set, All, AllPairs, Contains, Option, Some, None}
 use Rattle.links.specs.declared.links.Link.{Link}
-use Rattle.links.specs.Labels.{label_of, AreLabels}
-use Rattle.round_theory.specs.Labelling.{IsVertex, JoinsOver, IsLeastJoinedOver}
+use Rattle.links.specs.Labels.{label_of, AreLabels, renamed}
+use Rattle.round_theory.specs.Labelling.{IsVertex, JoinsOver, IsRelabelling}
 use Rattle.round_core.specs.Picks.{pick_of, Picked, ArePicksOfHearings}
-use Rattle.round_core.specs.declared.roots.Lead.{Lead}
 use Rattle.round_core.specs.Solver.{IsFirstPickedAt, IsPickedBefore, ArePickedOnce}
 
 -- c is a vertex that labels itself
@@ -34,37 +33,10 @@ pub record IsLed (labels : List ℕ) (picks : List (Option Link)) (c parent : �
 abbrev pub IsLedBy : List ℕ → List (Option Link) → List ℕ → ℕ → Type 0
 IsLedBy labels picks parents c = IsLed labels picks c (slice_index parents c) × IsRoot labels (slice_index parents c)
 
--- whether label c takes its pick: just where it has one, and no lesser label has it too
-pub record IsTaker (picks : List (Option Link)) (c : ℕ) (takes : Bool) : Type 0 where
-  pub picked : (l : Link) → pick_of picks c ≡ Some l → (takes ≡ true) ↔ IsFirstPickedAt picks l (c - 1)
-  pub none : pick_of picks c ≡ None → takes ≡ false
-
--- so it is said of each root, at its place
-abbrev pub AreTakers : List (Option Link) → List ℕ → List Lead → Type 0
-AreTakers picks roots leads = (i : ℕ) (lead : Lead) → i < length roots → lead ≡ slice_index_or leads i lead
-    → IsTaker picks (slice_index roots i) lead.takes
-
--- each root is led to a root, and takes its pick just where no lesser label has it too
-pub record AreLeads (labels : List ℕ) (picks : List (Option Link)) (roots : List ℕ) (leads : List Lead) : Type 0 where
-  pub led : (i : ℕ) (lead : Lead) → i < length roots → lead ≡ slice_index_or leads i lead
-      → IsLed labels picks (slice_index roots i) lead.parent × IsRoot labels lead.parent
-  pub takes : AreTakers picks roots leads
-
--- so it is with so many roots from place `start` on
-pub record ArePartLeads (labels : List ℕ) (picks : List (Option Link)) (roots : List ℕ) (start many : ℕ) (leads : List Lead) : Type 0 where
-  pub led : (i : ℕ) (lead : Lead) → i < many → lead ≡ slice_index_or leads i lead
-      → IsLed labels picks (slice_index roots (start + i)) lead.parent × IsRoot labels lead.parent
-  pub takes : (i : ℕ) (lead : Lead) → i < many → lead ≡ slice_index_or leads i lead
-      → IsTaker picks (slice_index roots (start + i)) lead.takes
-
--- each of the roots has the parent that it is led to
-abbrev pub Follows : List ℕ → List Lead → List ℕ → Type 0
-Follows roots leads parents =
-    (i : ℕ) (lead : Lead) → i < length roots → lead ≡ slice_index_or leads i lead → slice_index parents (slice_index roots i) ≡ lead.parent
-
--- the roots of a batch are those from place k on
-abbrev pub StandsAt : List ℕ → ℕ → List ℕ → Type 0
-StandsAt roots k batch = (i : ℕ) → i < length batch → (k + i < length roots) × (slice_index batch i ≡ slice_index roots (k + i))
+-- label c gives the link where it takes its pick, and no other: it is the least label that picks it
+pub record Gives (picks : List (Option Link)) (c : ℕ) (takes : Bool) (link : Link) : Type 0 where
+  pub first : takes ≡ true → IsFirstPickedAt picks link (c - 1)
+  pub none : takes ≡ false → (l : Link) → ¬ (IsFirstPickedAt picks l (c - 1))
 
 -- the link is given by one of the first k roots: the least label that picks it
 abbrev pub IsGiven : List (Option Link) → List ℕ → ℕ → Link → Type 0
@@ -74,23 +46,6 @@ IsGiven picks roots k l = (j : ℕ) × (j < k) × (j < length roots) × IsFirstP
 pub record AreGiven (picks : List (Option Link)) (roots : List ℕ) (k : ℕ) (links : List Link) : Type 0 where
   pub exact : (l : Link) → Contains links l ↔ IsGiven picks roots k l
   pub in_order : AllPairs (IsPickedBefore picks) links
-
--- what stood in a list before still stands first in it
-abbrev pub StandsBefore : List Link → List Link → Type 0
-StandsBefore before after = (added : List Link) × (after ≡ before ++ added)
-
--- behind the links that the first k roots give, these are those that a batch of the next ones gives
-abbrev pub AreGivenNext : List (Option Link) → List ℕ → List Link → Type 0
-AreGivenNext picks batch added =
-    (labels roots : List ℕ) (k : ℕ) (given : List Link) → AreRoots labels roots → StandsAt roots k batch
-    → AreGiven picks roots k given → AreGiven picks roots (k + length batch) (given ++ added)
-
--- behind what was taken before stand the links that a batch of roots gives
-pub record TakesBatch (picks : List (Option Link)) (batch : List ℕ) (before after : List Link) : Type 0 where
-  pub added : List Link
-  pub behind : after ≡ before ++ added
-  pub few : length added ≤ length batch
-  pub given : AreGivenNext picks batch added
 
 -- behind what was taken before stand the links picked, each once, which are no more than so many
 pub record TakesPicked (picks : List (Option Link)) (most : ℕ) (before after : List Link) : Type 0 where
@@ -136,20 +91,14 @@ pub record IsLeastUnder (roots parents : List ℕ) (c u : ℕ) : Type 0 where
   pub same : slice_index parents u ≡ slice_index parents c
   pub least : (w : ℕ) → Contains roots w → slice_index parents w ≡ slice_index parents c → u ≤ w
 
--- some roots of labels, and the picks of a book with these labels
-pub record CanLead (labels roots : List ℕ) (picks : List (Option Link)) : Type 0 where
-  pub labelled : AreLabels labels
-  pub picked : ArePicksOfHearings labels picks
-  pub each_root : All (IsRoot labels) roots
-
--- all roots of labels, the picks of a book with these labels, and where they lead each root
-pub record CanStep (labels roots : List ℕ) (picks : List (Option Link)) (leads : List Lead) : Type 0 where
+-- all roots of labels, and the picks of a book with these labels
+pub record CanStep (labels roots : List ℕ) (picks : List (Option Link)) : Type 0 where
   pub labelled : AreLabels labels
   pub picked : ArePicksOfHearings labels picks
   pub are_roots : AreRoots labels roots
-  pub each : length leads ≡ length roots
-  pub led : AreLeads labels picks roots leads
 
--- the name of each root, at the place of its number, is the least vertex that the components of the labels and the picks join it to
-abbrev pub AreNames : List ℕ → List (Option Link) → List ℕ → Type 0
-AreNames labels picks names = (c : ℕ) → IsRoot labels c → IsLeastJoinedOver (length labels) labels (Picked picks) c (slice_index names c)
+-- the name of each label, at the place of its number, is the least vertex that the components of the labels and the picks join it to
+pub record Relabels (labels : List ℕ) (picks : List (Option Link)) (names : List ℕ) : Type 0 where
+  pub within : All (λ c. c < length names) labels
+  pub relabelling : IsRelabelling (length labels) labels (Picked picks) (renamed names labels)
+  pub labelled : AreLabels (renamed names labels)

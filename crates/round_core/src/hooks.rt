@@ -12,8 +12,8 @@ use std::alloc::{AllocError, Allocator};
 /// The picks are those of a book with these labels, whatever was answered. It merges as a step of a solver does
 /// ([`Solver::step`](crate::Solver::step)), and keeps no link. The only error is want of memory.
 ///
-/// For n vertices, k of which are their own label, it costs O(n + k log k) time. Memory: while it works 12 bytes a vertex, 8
-/// for each of the k and 16 for each link that they pick, and 4 bytes a vertex for the new labels.
+/// For n vertices, k of which are their own label, it costs O(n + k log k) time. Memory: while it works 12 bytes a vertex and
+/// 16 for each of the k, and 4 bytes a vertex for the new labels.
 pub fn hook_relabel<A: Allocator + Copy>(
     alloc: A,
     labels: &Labels<A>,

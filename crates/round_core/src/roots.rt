@@ -1,33 +1,23 @@
-ghost use Rattle.std.specs.Prelude.{◌≡◌, ℕ, List, Option, ◌+◌, ◌<◌, ◌≤◌, ◌==◌, ◌↔◌, length, map, filter, slice_index, All, AllPairs, Contains, slice_index_or, Some, None, EachIndex, IsTrue, IfOk, OnOk, OnErr, false};
+ghost use Rattle.std.specs.Prelude.{◌≡◌, ℕ, List, Option, ◌+◌, ◌<◌, ◌≤◌, ◌==◌, ◌↔◌, [], length, filter, slice_index, vec_capacity, All, AllPairs, Contains, None, EachIndex, IsTrue, IfOk, OnOk, OnErr, false};
 ghost use Rattle.links.specs.declared.links.Link.{Link as TheLink};
-ghost use Rattle.links.specs.Labels.{label_of, AreLabels, AreApart};
+ghost use Rattle.links.specs.Labels.{label_of, renamed, AreLabels, AreApart};
 ghost use Rattle.round_theory.specs.Labelling.{IsVertex, IsRelabelling};
 ghost use Rattle.round_theory.specs.Offers.{Leaves};
 ghost use Rattle.round_core.specs.Picks.{pick_of, Picked, AreNoPicks, HaveAllPicks, ArePicksOfHearings};
-ghost use Rattle.round_core.specs.Roots.{IsRoot, AreRoots, HasEndLabels, IsLed, IsLedBy, IsTaker, AreLeads, ArePartLeads, AreTakers, Follows, TakesBatch, TakesPicked, StandsBefore, ArePointers, AreParents, IsSettled, AreSettled, AreNear, IsLeastUnder, CanLead, CanStep, AreNames, jumped};
+ghost use Rattle.round_core.specs.Roots.{IsRoot, AreRoots, HasEndLabels, IsLed, IsLedBy, Gives, TakesPicked, ArePointers, AreParents, IsSettled, AreSettled, AreNear, IsLeastUnder, CanStep, Relabels, jumped};
 
 use crate::picks::Picks;
 use limits::MAX_VERTICES;
 use links::{Labels, Link};
 use std::alloc::{AllocError, Allocator, Global};
 use std::marker::Model;
-use std::thread;
-use std::thread::{Threads, join_mut};
+use std::thread::Threads;
 
 // How often all roots jump at most: each time doubles at least how far the rank of a parent is below that of its root,
 // and a rank, the key of a pick, has 128 bits.
 const JUMPS: u32 = 129;
 
-// So few roots are worth no thread of their own.
-const FEW_ROOTS: usize = 1 << 14;
-
-// By so many threads roots are led, where there are many.
-const PARTS: usize = 4;
-
-// The picks of so many roots are taken at once.
-const BATCH: usize = 64;
-
-// What stands where no link was taken yet.
+// What stands where no link was taken.
 const BLANK: Link = Link {
     weight: 0,
     low: 1,
@@ -82,7 +72,7 @@ impl<A: Allocator + Copy> Roots<A> {
 
     // Merges the components that the picks join. The links picked go behind those taken before, each once, in the order of
     // the least roots that pick them; and the labels of the next round, as `hook_relabel` gives them: for k roots of n
-    // vertices in O(n + k log k) time. After an error some links may stand behind those taken before.
+    // vertices in O(n + k log k) time.
     pub(crate) fn merge(
         &mut self,
         labels: &Labels<A>,
@@ -93,35 +83,21 @@ impl<A: Allocator + Copy> Roots<A> {
         requires picks { ArePicksOfHearings labels.now picks.now }
         ensures once { OnOk result (TakesPicked picks.now (length self.old) taken.old.items taken.new.items) }
         ensures relabelled { IfOk result (IsRelabelling (length labels.now) labels.now (Picked picks.now)) }
-        ensures before { StandsBefore taken.old.items taken.new.items }
+        ensures not_taken { OnErr result (taken.new.items ≡ taken.old.items) }
         ensures same { self.new ≡ self.old }
     {
-        let alloc = *taken.allocator();
-        let old = labels.as_slice();
-        make_room(alloc, &mut self.parents, old.len())?;
-        make_room(alloc, &mut self.least, old.len())?;
         let picking = Picking {
-            labels: old,
+            labels: labels.as_slice(),
             roots: &self.roots,
             picks,
         };
-        let leads = leads_of(alloc, picking)?;
-        let led = Led {
-            labels: old,
-            roots: &self.roots,
-            picks,
-            leads: &leads,
-        };
-        take_all(led.roots, led.leads, picks, taken)?;
-        name_joined(led, &mut self.parents, &mut self.least);
-        let new = labels_by(alloc, old, &self.parents)?;
-        Ok(Labels::of_known(new))
+        let new = Vec::with_capacity(*taken.allocator(), picking.labels.len())?;
+        take_and_name(picking, taken, &mut self.parents, &mut self.least)?;
+        Ok(Labels::of_known(labels_by(new, picking.labels, &self.parents)))
     }
-}
 
-impl<A: Allocator + Copy + Send + Sync> Roots<A> {
-    // The same by threads, where there are many roots and labels. The new labels are written over the old ones, and in
-    // the end no vertex has a pick.
+    // The same, but the new labels are written over the old ones, by threads where there are many, and in the end no vertex
+    // has a pick.
     pub(crate) fn merge_par<R: Threads + Sync>(
         &mut self,
         rt: &R,
@@ -136,25 +112,16 @@ impl<A: Allocator + Copy + Send + Sync> Roots<A> {
         ensures none { OnOk result (AreNoPicks picks.new) }
         ensures room { OnOk result (length picks.new ≡ length picks.old) }
         ensures kept { OnErr result (picks.new ≡ picks.old) }
-        ensures before { StandsBefore taken.old.items taken.new.items }
+        ensures not_taken { OnErr result (taken.new.items ≡ taken.old.items) }
         ensures labels { OnErr result (labels.new ≡ labels.old) }
         ensures same { self.new ≡ self.old }
     {
-        let alloc = *taken.allocator();
-        let old = labels.as_slice();
         let picking = Picking {
-            labels: old,
+            labels: labels.as_slice(),
             roots: &self.roots,
             picks,
         };
-        let leads = lead_and_make_room(rt, picking, &mut self.parents, &mut self.least)?;
-        let led = Led {
-            labels: old,
-            roots: &self.roots,
-            picks,
-            leads: &leads,
-        };
-        take_and_name(rt, led, taken, &mut self.parents, &mut self.least)?;
+        take_and_name(picking, taken, &mut self.parents, &mut self.least)?;
         picks.clear_each(&self.roots);
         labels.rename_par(rt, &self.parents);
         Ok(())
@@ -234,346 +201,78 @@ fn make_room<A: Allocator + Copy>(
     Ok(())
 }
 
-// What a step begins with: the labels, the roots of their components, and what these pick. A closure that goes to a thread
-// borrows each by itself, so each has a lifetime of its own.
+// What a step goes by: the labels, the roots of their components, and what these pick.
 #[derive(Clone, Copy)]
-struct Picking<'l, 'r, 'p, A: Allocator> {
-    labels: &'l [u32],
-    roots: &'r [u32],
-    picks: &'p Picks<A>,
-}
-
-// Where its pick leads each root, and room for the parents and the least roots, made by a second thread where there is none
-// yet and labels are many: what takes time is to touch so much memory for the first time.
-fn lead_and_make_room<R: Threads + Sync, A: Allocator + Copy + Send + Sync>(
-    rt: &R,
-    picking: Picking<A>,
-    parents: &mut Vec<u32, A>,
-    least: &mut Vec<u32, A>,
-) -> Result<Vec<Lead, A>, AllocError>
-    requires can { CanLead picking.labels.now picking.roots.now picking.picks.now }
-    ensures each { IfOk result (λ leads. length leads.items ≡ length picking.entry.roots.now) }
-    ensures leads { IfOk result (λ leads. AreLeads picking.entry.labels.now picking.entry.picks.now picking.entry.roots.now leads.items) }
-    ensures parents { OnOk result (length picking.entry.labels.now < length parents.new.items) }
-    ensures least { OnOk result (length picking.entry.labels.now < length least.new.items) }
-{
-    let Picking {
-        labels,
-        roots,
-        picks,
-    } = picking;
-    let alloc = *parents.allocator();
-    let n = labels.len();
-    if n < FEW_ROOTS || n < parents.len() {
-        make_rooms(alloc, parents, least, n)?;
-        return leads_by_parts(rt, alloc, picking);
-    }
-    let mut room = || -> Result<(), AllocError>
-        requires { n ≤ MAX_VERTICES }
-        ensures { OnOk result ((n < length parents.exit.now.items) × (n < length least.exit.now.items)) }
-    { make_rooms(alloc, parents, least, n) };
-    let mut lead = || -> Result<Vec<Lead, A>, AllocError>
-        requires { CanLead labels.now roots.now picks.now }
-        ensures { IfOk result (λ leads. (length leads.items ≡ length roots.entry.now)
-            × AreLeads labels.entry.now picks.entry.now roots.entry.now leads.items) }
-    {
-        let picking = Picking {
-            labels,
-            roots,
-            picks,
-        };
-        leads_by_parts(rt, alloc, picking)
-    };
-    let (made, leads) = join_mut(rt, &mut room, &mut lead);
-    made?;
-    leads
-}
-
-// Makes room for a number of each of the labels 1 to n in both lists, where there is none yet.
-fn make_rooms<A: Allocator + Copy>(
-    alloc: A,
-    parents: &mut Vec<u32, A>,
-    least: &mut Vec<u32, A>,
-    n: usize,
-) -> Result<(), AllocError>
-    requires { n ≤ MAX_VERTICES }
-    ensures parents { OnOk result (n < length parents.new.items) }
-    ensures least { OnOk result (n < length least.new.items) }
-{
-    make_room(alloc, parents, n)?;
-    make_room(alloc, least, n)
-}
-
-// Where its pick leads each root.
-fn leads_of<A: Allocator + Copy>(alloc: A, picking: Picking<A>) -> Result<Vec<Lead, A>, AllocError>
-    requires { CanLead picking.labels.now picking.roots.now picking.picks.now }
-    ensures each { IfOk result (λ leads. length leads.items ≡ length picking.entry.roots.now) }
-    ensures leads { IfOk result (λ leads. AreLeads picking.entry.labels.now picking.entry.picks.now picking.entry.roots.now leads.items) }
-{
-    let mut leads = vec![in alloc; Lead::BLANK; picking.roots.len()]?;
-    lead_each(picking.labels, picking.roots, picking.picks, &mut leads);
-    Ok(leads)
-}
-
-// The same part by part, each part in a thread of its own where one can be made. What is looked up of a root's pick stands
-// anywhere, so that threads wait side by side.
-fn leads_by_parts<R: Threads + Sync, A: Allocator + Copy + Sync>(
-    rt: &R,
-    alloc: A,
-    picking: Picking<A>,
-) -> Result<Vec<Lead, A>, AllocError>
-    requires { CanLead picking.labels.now picking.roots.now picking.picks.now }
-    ensures each { IfOk result (λ leads. length leads.items ≡ length picking.entry.roots.now) }
-    ensures leads { IfOk result (λ leads. AreLeads picking.entry.labels.now picking.entry.picks.now picking.entry.roots.now leads.items) }
-{
-    let mut leads = vec![in alloc; Lead::BLANK; picking.roots.len()]?;
-    lead_parts(rt, picking, &mut leads);
-    Ok(leads)
-}
-
-// The same into room for as many leads.
-fn lead_parts<R: Threads + Sync, A: Allocator + Sync>(
-    rt: &R,
-    picking: Picking<A>,
-    leads: &mut [Lead],
-)
-    requires can { CanLead picking.labels.now picking.roots.now picking.picks.now }
-    requires room { length leads.old ≡ length picking.roots.now }
-    ensures room { length leads.new ≡ length leads.old }
-    ensures leads { AreLeads picking.entry.labels.now picking.entry.picks.now picking.entry.roots.now leads.new }
-{
-    let Picking {
-        labels,
-        roots,
-        picks,
-    } = picking;
-    let size = roots.len().div_ceil(PARTS).max(FEW_ROOTS);
-    thread::for_each_chunk_mut(
-        rt,
-        leads,
-        size,
-        &|start: usize, part: &mut [Lead]|
-            requires { CanLead labels.now roots.now picks.now × (start + length part.now ≤ length roots.now) }
-            ensures { ArePartLeads labels.entry.now picks.entry.now roots.entry.now start (length part.entry.now) part.exit.now }
-        { lead_part(labels, roots, start, picks, part) },
-    );
-}
-
-// Looks up where its pick leads each root of a part, from a place on.
-fn lead_part<A: Allocator>(
-    labels: &[u32],
-    roots: &[u32],
-    start: usize,
-    picks: &Picks<A>,
-    leads: &mut [Lead],
-)
-    requires can { CanLead labels.now roots.now picks.now }
-    requires room { start + length leads.old ≤ length roots.now }
-    ensures { ArePartLeads labels.now picks.now roots.now start (length leads.old) leads.new }
-{
-    lead_each(labels, &roots[start..start + leads.len()], picks, leads);
-}
-
-// Looks up where its pick leads each root.
-fn lead_each<A: Allocator>(labels: &[u32], roots: &[u32], picks: &Picks<A>, leads: &mut [Lead])
-    requires can { CanLead labels.now roots.now picks.now }
-    requires room { length leads.old ≡ length roots.now }
-    ensures room { length leads.new ≡ length leads.old }
-    ensures leads { AreLeads labels.now picks.now roots.now leads.new }
-{
-    for i in 0..roots.len() {
-        leads[i] = lead_of(labels, picks, roots[i]);
-    }
-}
-
-// What a step goes by: the labels, the roots of their components, what these pick, and where that leads each of them.
-#[derive(Clone, Copy)]
-struct Led<'a, A: Allocator> {
+struct Picking<'a, A: Allocator> {
     labels: &'a [u32],
     roots: &'a [u32],
     picks: &'a Picks<A>,
-    leads: &'a [Lead],
 }
 
-// Takes the picks of the roots, behind what was taken before, and names the component that each root comes to. Neither needs
-// what the other writes, so where there are many roots a second thread takes the links, if one can be made. After an error
-// some links may stand behind those taken before, and roots may be named.
-fn take_and_name<R: Threads + Sync, A: Allocator + Copy + Send + Sync>(
-    rt: &R,
-    led: Led<A>,
+// Takes the picks of the roots, behind what was taken before, and writes to `parents` the name of the component that each
+// root comes to: the least vertex that the components and the picks join it to.
+fn take_and_name<A: Allocator + Copy>(
+    picking: Picking<A>,
     taken: &mut Vec<Link, A>,
-    parents: &mut [u32],
-    least: &mut [u32],
+    parents: &mut Vec<u32, A>,
+    least: &mut Vec<u32, A>,
 ) -> Result<(), AllocError>
-    requires can { CanStep led.labels.now led.roots.now led.picks.now led.leads.now }
-    requires parents { length led.labels.now < length parents.old }
-    requires least { length led.labels.now < length least.old }
-    ensures given { OnOk result (TakesBatch led.entry.picks.now led.entry.roots.now taken.old.items taken.new.items) }
-    ensures before { StandsBefore taken.old.items taken.new.items }
-    ensures named { OnOk result (AreNames led.entry.labels.now led.entry.picks.now parents.new) }
+    requires { CanStep picking.labels.now picking.roots.now picking.picks.now }
+    ensures once { OnOk result (TakesPicked picking.entry.picks.now (length picking.entry.roots.now) taken.old.items taken.new.items) }
+    ensures same { OnErr result (taken.new.items ≡ taken.old.items) }
+    ensures names { OnOk result (Relabels picking.entry.labels.now picking.entry.picks.now parents.new.items) }
 {
-    let Led {
-        labels,
-        roots,
-        picks,
-        leads,
-    } = led;
-    if roots.len() < FEW_ROOTS {
-        take_all(roots, leads, picks, taken)?;
-        name_joined(led, parents, least);
-        return Ok(());
-    }
-    let mut takes = || -> Result<(), AllocError>
-        requires roots { All (IsVertex (length picks.now)) roots.now }
-        requires room { length leads.now ≡ length roots.now }
-        requires takes { AreTakers picks.now roots.now leads.now }
-        ensures given { OnOk result (TakesBatch picks.entry.now roots.entry.now taken.entry.now.items taken.exit.now.items) }
-        ensures before { StandsBefore taken.entry.now.items taken.exit.now.items }
-    { take_all(roots, leads, picks, taken) };
-    let mut names = ||
-        requires can { CanStep labels.now roots.now picks.now leads.now }
-        requires parents { length labels.now < length parents.now }
-        requires least { length labels.now < length least.now }
-        ensures { AreNames labels.entry.now picks.entry.now parents.exit.now }
-    {
-        let led = Led {
-            labels,
-            roots,
-            picks,
-            leads,
-        };
-        name_joined(led, parents, least)
-    };
-    let (took, _) = join_mut(rt, &mut takes, &mut names);
-    took
+    let alloc = *taken.allocator();
+    let n = picking.labels.len();
+    make_room(alloc, parents, n)?;
+    make_room(alloc, least, n)?;
+    let names = parents.as_mut_slice();
+    lead_each(picking, names, taken)?;
+    join_led(picking, names);
+    name_roots(picking.roots, names, least);
+    Ok(())
 }
 
-// Writes for each root the name of the component that it comes to: the least vertex that the components and the picks join
-// it to.
-fn name_joined<A: Allocator + Copy>(led: Led<A>, parents: &mut [u32], least: &mut [u32])
-    requires can { CanStep led.labels.now led.roots.now led.picks.now led.leads.now }
-    requires parents { length led.labels.now < length parents.old }
-    requires least { length led.labels.now < length least.old }
-    ensures { AreNames led.entry.labels.now led.entry.picks.now parents.new }
-{
-    join_roots(led.labels, led.roots, led.picks, led.leads, parents);
-    name_roots(led.roots, parents, least);
-}
-
-// Gives all roots that the picks join one parent, which is one of them.
-fn join_roots<A: Allocator>(
-    labels: &[u32],
-    roots: &[u32],
-    picks: &Picks<A>,
-    leads: &[Lead],
+// Gives each root the parent that its pick leads it to, and takes the links picked, behind those taken before, in the order of
+// the least roots that pick them. It takes no branch on which roots take their picks: each pick is written behind those that
+// are taken, and only these are counted.
+fn lead_each<A: Allocator>(
+    picking: Picking<A>,
     parents: &mut [u32],
-)
-    requires labels { AreLabels labels.now }
-    requires picks { ArePicksOfHearings labels.now picks.now }
-    requires roots { AreRoots labels.now roots.now }
-    requires within { All (λ c. c < length parents.old) roots.now }
-    requires room { length leads.now ≡ length roots.now }
-    requires leads { AreLeads labels.now picks.now roots.now leads.now }
-    ensures pointers { ArePointers roots.now parents.new }
-    ensures parents { AreParents labels.now roots.now picks.now parents.new }
-    ensures settled { AreSettled roots.now parents.new }
+    taken: &mut Vec<Link, A>,
+) -> Result<(), AllocError>
+    requires can { CanStep picking.labels.now picking.roots.now picking.picks.now }
+    requires within { All (λ c. c < length parents.old) picking.roots.now }
+    ensures led { OnOk result (All (IsLedBy picking.entry.labels.now picking.entry.picks.now parents.new) picking.entry.roots.now) }
+    ensures once { OnOk result (TakesPicked picking.entry.picks.now (length picking.entry.roots.now) taken.old.items taken.new.items) }
+    ensures same { OnErr result (taken.new.items ≡ taken.old.items) }
 {
-    follow_each(roots, leads, parents);
+    let mut count = taken.len();
+    taken.resize(count + picking.roots.len(), BLANK)?;
+    for root in picking.roots {
+        let lead = lead_of(picking.labels, picking.picks, *root);
+        parents[*root as usize] = lead.parent;
+        taken[count] = lead.link;
+        count += lead.takes as usize;
+    }
+    taken.truncate(count);
+    Ok(())
+}
+
+// Gives all roots that the picks join one parent, which is one of them, where each has the parent that its pick leads it to.
+fn join_led<A: Allocator>(picking: Picking<A>, parents: &mut [u32])
+    requires can { CanStep picking.labels.now picking.roots.now picking.picks.now }
+    requires within { All (λ c. c < length parents.old) picking.roots.now }
+    requires led { All (IsLedBy picking.labels.now picking.picks.now parents.old) picking.roots.now }
+    ensures pointers { ArePointers picking.entry.roots.now parents.new }
+    ensures parents { AreParents picking.entry.labels.now picking.entry.roots.now picking.entry.picks.now parents.new }
+    ensures settled { AreSettled picking.entry.roots.now parents.new }
+{
     for _ in 0..JUMPS {
-        if !jump(roots, parents) {
+        if !jump(picking.roots, parents) {
             return;
         }
     }
-}
-
-// Gives each root the parent that it is led to.
-fn follow_each(roots: &[u32], leads: &[Lead], parents: &mut [u32])
-    requires ascending { AllPairs (λ b c. b < c) roots.now }
-    requires within { All (λ c. c < length parents.old) roots.now }
-    requires room { length leads.now ≡ length roots.now }
-    ensures { Follows roots.now leads.now parents.new }
-{
-    for i in 0..roots.len() {
-        parents[roots[i] as usize] = leads[i].parent;
-    }
-}
-
-// Asks for room for the links of a whole run before the first is taken, so that their list doesn't move while it grows: of
-// honest answers a run takes fewer links than there are roots with a pick in its first round.
-fn make_room_for_links<A: Allocator>(
-    roots: &[u32],
-    leads: &[Lead],
-    taken: &mut Vec<Link, A>,
-) -> Result<(), AllocError>
-    requires room { length leads.now ≡ length roots.now }
-    ensures same { taken.new.items ≡ taken.old.items }
-{
-    if !taken.is_empty() {
-        return Ok(());
-    }
-    taken.reserve(count_led(roots, leads))
-}
-
-// How many roots have a pick.
-fn count_led(roots: &[u32], leads: &[Lead]) -> usize
-    requires room { length leads.now ≡ length roots.now }
-{
-    let mut count = 0usize;
-    for i in 0..roots.len() {
-        let lead = leads[i];
-        count = count.wrapping_add((lead.takes | (lead.parent != roots[i])) as usize);
-    }
-    count
-}
-
-// Takes the pick of each root that is to take it, behind what was taken before.
-fn take_all<A: Allocator>(
-    roots: &[u32],
-    leads: &[Lead],
-    picks: &Picks<A>,
-    taken: &mut Vec<Link, A>,
-) -> Result<(), AllocError>
-    requires roots { All (IsVertex (length picks.now)) roots.now }
-    requires room { length leads.now ≡ length roots.now }
-    requires takes { AreTakers picks.now roots.now leads.now }
-    ensures given { OnOk result (TakesBatch picks.now roots.now taken.old.items taken.new.items) }
-    ensures before { StandsBefore taken.old.items taken.new.items }
-{
-    make_room_for_links(roots, leads, taken)?;
-    let mut done = 0;
-    while done < roots.len() {
-        let next = roots.len().min(done + BATCH);
-        take_each(&roots[done..next], &leads[done..next], picks, taken)?;
-        done = next;
-    }
-    Ok(())
-}
-
-// Takes the pick of each root of a batch that is to take it, behind what was taken before. It takes no branch on which
-// these are: each pick is written behind those that are taken, and only these are counted.
-fn take_each<A: Allocator>(
-    batch: &[u32],
-    leads: &[Lead],
-    picks: &Picks<A>,
-    taken: &mut Vec<Link, A>,
-) -> Result<(), AllocError>
-    requires roots { All (IsVertex (length picks.now)) batch.now }
-    requires few { length batch.now ≤ BATCH }
-    requires room { length leads.now ≡ length batch.now }
-    requires takes { AreTakers picks.now batch.now leads.now }
-    ensures given { OnOk result (TakesBatch picks.now batch.now taken.old.items taken.new.items) }
-    ensures same { OnErr result (taken.new.items ≡ taken.old.items) }
-{
-    let mut links = [BLANK; BATCH];
-    let mut count = 0;
-    for i in 0..batch.len() {
-        if let Some(link) = picks.of(batch[i]) {
-            links[count] = link;
-            count += leads[i].takes as usize;
-        }
-    }
-    taken.extend_from_slice(&links[..count])?;
-    Ok(())
 }
 
 // Lets each root jump three times in a row, where its chain is at hand, and says whether the last jump of one led to another
@@ -637,35 +336,25 @@ fn find_least(roots: &[u32], parents: &[u32], least: &mut [u32])
     }
 }
 
-// For each vertex the name of its label.
-fn labels_by<A: Allocator + Copy>(
-    alloc: A,
-    labels: &[u32],
-    names: &[u32],
-) -> Result<Vec<u32, A>, AllocError>
-    requires { All (λ c. c < length names.now) labels.now }
-    ensures { IfOk result (λ new. new.items ≡ map (λ c. slice_index names.now c) labels.now) }
+// For each vertex the name of its label, into room for them.
+fn labels_by<A: Allocator>(mut new: Vec<u32, A>, labels: &[u32], names: &[u32]) -> Vec<u32, A>
+    requires within { All (λ c. c < length names.now) labels.now }
+    requires none { new.items ≡ [] }
+    requires room { length labels.now ≤ vec_capacity new }
+    ensures { result.items ≡ renamed names.now labels.now }
 {
-    let mut new = Vec::with_capacity(alloc, labels.len())?;
     for label in labels {
         new.push_reserved(names[*label as usize]);
     }
-    Ok(new)
+    new
 }
 
-// Where its pick leads a root, and whether the root takes it.
+// Where its pick leads a root, what it picks, and whether it takes that.
 #[derive(Clone, Copy)]
 struct Lead {
     parent: u32,
+    link: Link,
     takes: bool,
-}
-
-impl Lead {
-    // What stands where no root was led yet.
-    const BLANK: Lead = Lead {
-        parent: 0,
-        takes: false,
-    };
 }
 
 // The lead of a root. Of two roots that pick one link both go to the lesser, which takes it.
@@ -676,11 +365,12 @@ fn lead_of<A: Allocator>(labels: &[u32], picks: &Picks<A>, root: u32) -> Lead
     requires root { IsRoot labels.now root }
     ensures led { IsLed labels.now picks.now root result.parent }
     ensures root { IsRoot labels.now result.parent }
-    ensures takes { IsTaker picks.now root result.takes }
+    ensures gives { Gives picks.now root result.takes result.link }
 {
     let Some(link) = picks.of(root) else {
         return Lead {
             parent: root,
+            link: BLANK,
             takes: false,
         };
     };
@@ -690,6 +380,7 @@ fn lead_of<A: Allocator>(labels: &[u32], picks: &Picks<A>, root: u32) -> Lead
     let parent = if paired & lesser { root } else { other };
     Lead {
         parent,
+        link,
         takes: !paired | lesser,
     }
 }

@@ -5,10 +5,10 @@ ghost use Rattle.links.specs.Link.{EndsUpTo, IsAscending};
 ghost use Rattle.links.specs.Labels.{AreLabels};
 ghost use Rattle.links.specs.Cut.{joined};
 ghost use Rattle.round_core.specs.Picks.{AreNoPicks, ArePicksOfHearings};
-ghost use Rattle.round_core.specs.Solver.{vertices, IsProgress, IsAtStart, IsPastBound, IsFirstPickedAt, ArePickedOnce, IsTurn, IsStepFault, IsFinished, IsFinishFault};
+ghost use Rattle.round_core.specs.Solver.{vertices, missed, IsProgress, IsAtStart, IsPastBound, IsFirstPickedAt, ArePickedOnce, IsTurn, IsStepFault, IsFinished, IsFinishFault};
 ghost use Rattle.round_core.specs.declared.solver.SolveFault.TheVariants.{Memory};
 
-use crate::missed::{first_missed, first_missed_par};
+use crate::missed::first_missed;
 use crate::picks::Picks;
 use crate::roots::Roots;
 use limits::MAX_VERTICES;
@@ -56,8 +56,8 @@ impl From<AllocError> for SolveFault {
 /// [`laws::rounds_end_with_forest`](crate::laws::rounds_end_with_forest) says. It believes no count of rounds: a round with
 /// picks that comes past the bound is refused.
 ///
-/// 8 bytes a vertex, 4 more where the labels' bytes are kept, and 8 more from the first step that takes links on; 16
-/// bytes for each link taken, and at least for each vertex that had a pick in that step.
+/// 8 bytes a vertex, 4 more where the labels' bytes are kept, and 24 more from the first step that takes links on: 16 of them
+/// for the links, of which there are fewer than vertices.
 #[derive(Drop)]
 pub struct Solver<A: Allocator = Global> {
     labels: Labels<A>,
@@ -101,9 +101,8 @@ impl<A: Allocator + Copy> Solver<A> {
     /// for. After an error the solver is as it was.
     ///
     /// It looks at the picks of the k vertices that are their own label, and once at each of n vertices: O(n + k log k)
-    /// time. Memory: 4 bytes a vertex for the new labels and 8 for each of the k; from the first step that takes links on 8
-    /// more a vertex that stay, and 16 for each vertex with a pick in it: where answers are honest all links of the run have
-    /// room there.
+    /// time. Memory: 4 bytes a vertex for the new labels, and from the first step that takes links on 24 more a vertex that
+    /// stay: all links of the run have room there.
     pub fn step(&mut self, picks: &Picks<A>) -> Result<Turn, SolveFault>
         requires picks { ArePicksOfHearings self.old.labels picks.now }
         ensures turn { IfOk result (IsTurn picks.now self.old self.new) }
@@ -118,10 +117,7 @@ impl<A: Allocator + Copy> Solver<A> {
             return Err(SolveFault::Rounds { round });
         }
         let before = self.taken.len();
-        let Ok(labels) = self.roots.merge(&self.labels, picks, &mut self.taken) else {
-            self.taken.truncate(before);
-            return Err(SolveFault::Memory);
-        };
+        let labels = self.roots.merge(&self.labels, picks, &mut self.taken)?;
         let count = (self.taken.len() - before) as u32;
         self.roots.keep(labels.as_slice());
         self.labels = labels;
@@ -148,15 +144,14 @@ impl<A: Allocator + Copy> Solver<A> {
         ensures forest { IfOk result (IsFinished self.now (joined cut.now)) }
         ensures fault { IfErr result (IsFinishFault self.now (joined cut.now)) }
     {
-        if let Some(link) = first_missed(self.labels.as_slice(), cut.links()) {
+        if let Some(link) = self.first_missed(cut) {
             return Err(SolveFault::Missed { link });
         }
         Ok(in_key_order(*self.taken.allocator(), self.taken.as_slice())?)
     }
 
-    /// The same by threads, where there are many links: up to eight, as there are processors for, look for a missed link,
-    /// and those of [`Forest::of_distinct_par`] sort. It takes the solver, at a fault too, and copies no link taken: the
-    /// forest stays in their list. Beside it the memory is what `of_distinct_par` takes while it sorts.
+    /// The same, but the threads of [`Forest::of_distinct_par`] sort. It takes the solver, at a fault too, and copies no link
+    /// taken: the forest stays in their list. Beside it the memory is what `of_distinct_par` takes while it sorts.
     pub fn finish_par<R: Threads + Sync>(
         self,
         rt: &R,
@@ -166,23 +161,18 @@ impl<A: Allocator + Copy> Solver<A> {
         ensures forest { IfOk result (IsFinished self (joined cut.now)) }
         ensures fault { IfErr result (IsFinishFault self (joined cut.now)) }
     {
-        let Solver {
-            labels,
-            roots: _,
-            taken,
-            rounds: _,
-        } = self;
-        if let Some(link) = first_missed_par(rt, labels.as_slice(), cut.links()) {
+        if let Some(link) = self.first_missed(cut) {
             return Err(SolveFault::Missed { link });
         }
+        let taken = self.taken;
         Ok(Forest::of_distinct_par(rt, *taken.allocator(), taken)?)
     }
 }
 
 impl<A: Allocator + Copy + Send + Sync> Solver<A> {
-    /// The same as [`step`](Solver::step) by up to five threads, where there are many vertices, and in the room that there
-    /// is: the new labels are written over the old ones, with their bytes where these are kept, and each pick is let go of, so
-    /// that a book can be opened over the picks ([`RoundBook::open_over`](crate::RoundBook::open_over)) without clearing them.
+    /// The same as [`step`](Solver::step) in the room that there is: the new labels are written over the old ones, with their
+    /// bytes where these are kept, by up to four threads where there are many; and each pick is let go of, so that a book can
+    /// be opened over the picks ([`RoundBook::open_over`](crate::RoundBook::open_over)) without clearing them.
     ///
     /// Where no thread can be made the caller's does it. It takes the memory that `step` does, but for new labels. After an
     /// error the picks are as they were too.
@@ -207,13 +197,8 @@ impl<A: Allocator + Copy + Send + Sync> Solver<A> {
             return Err(SolveFault::Rounds { round });
         }
         let earlier = self.taken.len();
-        let Ok(()) = self
-            .roots
-            .merge_par(rt, &mut self.labels, picks, &mut self.taken)
-        else {
-            self.taken.truncate(earlier);
-            return Err(SolveFault::Memory);
-        };
+        self.roots
+            .merge_par(rt, &mut self.labels, picks, &mut self.taken)?;
         let count = (self.taken.len() - earlier) as u32;
         self.roots.keep(self.labels.as_slice());
         self.rounds += 1;
@@ -240,6 +225,14 @@ impl<A: Allocator> Solver<A> {
 }
 
 impl<A: Allocator> Solver<A> {
+    // The first link of the cut whose ends have different labels.
+    fn first_missed(&self, cut: &Cut<A>) -> Option<Link>
+        requires { All (EndsUpTo (vertices self.now)) cut.now }
+        ensures { result ≡ missed self.now.labels (joined cut.now) }
+    {
+        first_missed(self.labels.as_slice(), cut.links())
+    }
+
     // Whether there are no picks: only roots have any.
     fn has_no_picks(&self, picks: &Picks<A>) -> bool
         requires { ArePicksOfHearings self.now.labels picks.now }

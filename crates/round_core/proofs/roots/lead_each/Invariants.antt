@@ -1,11 +1,10 @@
-use Rattle.std.proofs.Common.{◌≡◌, ℕ, ◌<◌, length, get_or}
-use Rattle.round_core.specs.declared.roots.Lead.{Lead}
-use Rattle.round_core.specs.Roots.{IsLed, IsRoot, IsTaker}
+use Rattle.std.proofs.Common.{ℕ, ◌<◌, get_or, take}
+use Rattle.round_core.specs.Roots.{IsLedBy}
+use Rattle.round_core.proofs.Giving.{HaveGiven}
 use Rattle.round_core.proofs.roots.lead_each.Given as goal
 
-abbrev pub invariant-loop-i : goal.invariant-loop-i
-invariant-loop-i g l = record {
-  room : length l.leads ≡ length l.initial.leads;
-  led : (k : ℕ) (lead : Lead) → k < l.i → lead ≡ get_or l.leads k lead → IsLed l.labels l.picks (get_or l.roots k 0) lead.parent × IsRoot l.labels lead.parent;
-  takes : (k : ℕ) (lead : Lead) → k < l.i → lead ≡ get_or l.leads k lead → IsTaker l.picks (get_or l.roots k 0) lead.takes;
+abbrev pub invariant-loop-root : goal.invariant-loop-root
+invariant-loop-root g l = record {
+  led : (k : ℕ) → k < l.root-index → IsLedBy l.picking.labels.now l.picking.picks.now l.parents (get_or l.picking.roots.now k 0);
+  given : HaveGiven l.picking.picks.now l.picking.roots.now l.root-index (take l.initial.count l.initial.taken.items) l.taken.items l.count;
 }

@@ -17,7 +17,7 @@ returns-clause-led g c =
       | else-paired-lesser w ↦ led (inr (w.if-paired-lesser.false, w.parent-is))
     ]
 
-pub returns-clause-takes : goal.returns-clause-takes
-returns-clause-takes g c =
+pub returns-clause-gives : goal.returns-clause-gives
+returns-clause-gives g c =
     let (heard, are) = c.requires.picks in
     is_taker c.args.labels.now heard c.args.picks.now c.requires.labels are c.args.root c.other_label-other.result c.in-Some.link c.requires.root.0 (sym c.in-Some.ensures) c.other_label-other.ensures.other c.are_same-paired.result c.other_label-other.ensures.root.0.0 c.are_same-paired.ensures

@@ -1,23 +1,11 @@
-use Rattle.std.proofs.Common.{rules, ◌≡◌, length, None, sym, ap₂, ◌∙◌, subst}
-use Rattle.std.specs.Prelude.{All}
-use Rattle.links.specs.Link.{EndsUpTo}
-use Rattle.links.specs.Cut.{joined}
-use Rattle.round_core.specs.Solver.{Progress, vertices, missed, IsFinished}
-use Rattle.round_core.proofs.Missing.{finished, joined_ends}
+use Rattle.std.proofs.Common.{sym, subst}
+use Rattle.std.specs.List.Sorted.{IsPermutation}
+use Rattle.round_core.specs.Solver.{Progress, IsProgress}
+use Rattle.round_core.proofs.Missing.{finished}
 use Rattle.round_core.proofs.solver.Solver.finish_par.Goals as goal
-
-pub first_missed_par-requires : goal.first_missed_par-requires
-first_missed_par-requires g c =
-    let p : Progress = record { labels = c.self.inside.labels; taken = c.self.inside.taken.items; rounds = c.self.inside.rounds } in
-    let ends : All (EndsUpTo (vertices p)) c.args.cut.now = subst (λ (q : Progress). All (EndsUpTo (vertices q)) c.args.cut.now) (sym c.self.view_is) c.requires.ends in
-    let ends' : EndsUpTo (length c.as_slice.result.now) c.links.result.now = rw (c.as_slice.ensures.labels, c.links.ensures) (joined_ends (vertices p) c.args.cut.now ends) in
-    (search rules, ends')
 
 pub returns-clause-forest : goal.returns-clause-forest
 returns-clause-forest g c =
-    let cut = c.args.cut.now in
     let forest = c.in_ok-of_distinct_par.field-0 in
-    let p : Progress = record { labels = c.self.inside.labels; taken = c.self.inside.taken.items; rounds = c.self.inside.rounds } in
-    let ends : All (EndsUpTo (vertices p)) cut = subst (λ (q : Progress). All (EndsUpTo (vertices q)) cut) (sym c.self.view_is) c.requires.ends in
-    let none : missed p.labels (joined cut) ≡ None = ap₂ missed (sym c.as_slice.ensures.labels) (sym c.links.ensures) ∙ sym c.in_default.ensures in
-    subst (λ (q : Progress). IsFinished q (joined cut) forest) c.self.view_is (finished p cut forest c.self.invariant.0 ends none c.in_ok-of_distinct_par.ensures.same c.in_ok-of_distinct_par.ensures.ascending)
+    finished c.args.self c.args.cut.now forest (subst IsProgress c.self.view_is c.self.invariant.0) c.requires.ends (sym c.in_default.ensures)
+    (subst (λ (p : Progress). IsPermutation p.taken forest) c.self.view_is c.in_ok-of_distinct_par.ensures.same) c.in_ok-of_distinct_par.ensures.ascending
