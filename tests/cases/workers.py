@@ -194,9 +194,9 @@ def a_list_halved_three_times(room):
     file, text = forty_times(13, 600, 30_000)
     for workers, shards in [(0, 1), (1, 1)]:
         report, told = started_by(room, file, text, workers, shards, 8)
-        # each round scans all of them without a worker, and the end looks for a missed one; a worker scans so in the first
+        # each round scans all of them without a worker, the last one too, which takes none; a worker scans so in the first
         own, others = told.count(b"w"), told.count(b"s")
-        if own < 7 if workers else others != 7 * (report.rounds + 2):
+        if own < 7 if workers else others != 7 * (report.rounds + 1):
             raise AssertionError(f"{workers} workers: told {told!r}: {vars(report)}")
 
 
