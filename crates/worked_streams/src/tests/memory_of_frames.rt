@@ -204,8 +204,8 @@ fn a_list_keeps_no_room_that_it_does_not_fill(rt: HostRuntime) {
     expect_read(&rt, rt.alloc(), 4, &[1, 0], &[1, 2], &answers, bad);
 }
 
-// A text is given its whole room once, and a body's list too, whatever their size.
-fn expect_one_block(rt: &impl Abort, alloc: Global, bytes: &[u8]) {
+// A text is given its whole room once, whatever its size, and a body's list so many blocks.
+fn expect_one_block(rt: &impl Abort, alloc: Global, bytes: &[u8], listed: u32) {
     let memory = Refusing::new(alloc, Refusals::none());
     let Some((first, body)) = bytes.split_first_chunk::<5>() else {
         panic!(rt; "a head");
@@ -217,15 +217,21 @@ fn expect_one_block(rt: &impl Abort, alloc: Global, bytes: &[u8]) {
     let text = encode(&memory, &frame).expect(rt, "memory");
     expect_same(rt, text.as_slice() == bytes, true);
     expect_same(rt, memory.given(), 1);
-    let _listed = decode_body(&memory, head, body).expect(rt, "a body");
-    expect_same(rt, memory.given(), 2);
+    let _frame = decode_body(&memory, head, body).expect(rt, "a body");
+    expect_same(rt, memory.given(), 1 + u64::from(listed));
 }
 
+// Labels have one block of their size. A list that comes by pieces has room for more at first, and then a block of its size.
 #[test]
 fn a_text_is_given_one_block(rt: HostRuntime) {
     let labels = Labels::apart(rt.alloc(), 20_000).expect(&rt, "memory");
     let long = encode_ask(rt.alloc(), 1, 0, &labels).expect(&rt, "memory");
-    for bytes in [SHARD.as_slice(), &ASK, &ANSWER, long.as_slice()] {
-        expect_one_block(&rt, rt.alloc(), bytes);
+    for (bytes, listed) in [
+        (SHARD.as_slice(), 2),
+        (&ASK, 1),
+        (&ANSWER, 2),
+        (long.as_slice(), 1),
+    ] {
+        expect_one_block(&rt, rt.alloc(), bytes, listed);
     }
 }
