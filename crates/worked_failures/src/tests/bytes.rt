@@ -212,20 +212,10 @@ const LISTS: [List; 5] = [
     },
 ];
 
-// What it takes to put so many links in the order of their keys: packed ones, or ones of more than 64 bits.
-fn to_sort(list: List, links: u64) -> u64 {
-    if list.weights <= 1_000 {
-        return links.wrapping_mul(8);
-    }
-    let short = links.min(65_536).wrapping_mul(24);
-    short.max(links.wrapping_mul(8)).wrapping_add(4_096)
-}
-
-// What the solver takes beside a list of so many links, all of which may be looked at in one part.
+// What the solver takes beside a list of so many links, all of which may be looked at in one part, or for its sample of them.
 fn to_solve(list: List, links: u64) -> u64 {
     let vertices = u64::from(list.n).wrapping_mul(12);
-    let rounds = links.wrapping_mul(13).wrapping_add(vertices);
-    rounds.max(to_sort(list, links))
+    links.wrapping_mul(13).wrapping_add(vertices).max(4_096)
 }
 
 // The most bytes that the call's documentation allows, in bytes a vertex, a link and a shard.
@@ -240,13 +230,8 @@ fn allowed(call: Call, list: List, links: u64) -> u64 {
         Call::Book => vertices.wrapping_mul(16).wrapping_add(4 * 41),
         Call::ForestOf | Call::Components => to_solve(list, links),
         Call::PlainForest => links.wrapping_mul(16).wrapping_add(to_solve(list, links)),
-        // 32, 12, and 16 for a link taken; at the end 16 for labels, 32 for a link taken twice, and those are sorted
-        Call::SolveAlone => {
-            let ends = vertices
-                .wrapping_mul(48)
-                .wrapping_add(to_sort(list, vertices));
-            ends.max(vertices.wrapping_mul(60).wrapping_add(4 * 8))
-        }
+        // what its book and its step take, 60 at most, or at the end the labels and the links, taken twice
+        Call::SolveAlone => vertices.wrapping_mul(60).wrapping_add(4 * 8),
         // 16, in a list that is half empty at most, and beside it the one that it grew from
         Call::Parse => links.wrapping_mul(48),
     }
@@ -279,7 +264,7 @@ fn bytes_of_vertices_and_links(rt: HostRuntime) {
     }
 }
 
-// One link between many vertices: a forest by one thread takes nothing for a vertex that no link has.
+// One link between many vertices.
 #[test]
 fn bytes_of_one_link_between_a_million_vertices(rt: HostRuntime) {
     let list = List {
@@ -288,11 +273,11 @@ fn bytes_of_one_link_between_a_million_vertices(rt: HostRuntime) {
         weights: 1,
     };
     let rows: [(Call, u64, u64); 6] = [
-        (Call::ForestOf, 0, 8),
-        (Call::PlainForest, 0, 24),
+        (Call::ForestOf, 12, 13),
+        (Call::PlainForest, 12, 29),
         (Call::Components, 12, 13),
         (Call::Solver, 8, 0),
-        (Call::SolveAlone, 44, 128),
+        (Call::SolveAlone, 52, 128),
         (Call::Parse, 0, 64),
     ];
     let links = links_in(&rt, rt.alloc(), list);

@@ -109,16 +109,21 @@ fn taken(rt: &impl Abort, alloc: Global, call: Call, n: u32, links: &[Link]) -> 
 fn allowed(call: Call, list: List, links: u64) -> u64 {
     let vertices = u64::from(list.n);
     let offers = vertices.wrapping_mul(24).wrapping_add(64);
+    // the links are listed, 12 bytes each, with the names of their labels, 4 each
+    let listed = links
+        .wrapping_mul(12)
+        .wrapping_add(vertices.wrapping_mul(4));
+    // the table, 8 bytes a label, and the marks, a quarter of a byte a vertex
     let table = vertices
         .wrapping_mul(8)
-        .wrapping_add(vertices / 8)
+        .wrapping_add(vertices / 4)
         .wrapping_add(64);
     let each_link = if list.weights <= 1_000 { 12 } else { 16 };
     let shard = links.wrapping_mul(each_link).wrapping_add(13);
     let ask = vertices.wrapping_mul(4).wrapping_add(17);
     match call {
-        Call::Scan => table.wrapping_add(offers),
-        Call::ScanAgain => offers,
+        Call::Scan => table.wrapping_add(listed).wrapping_add(offers),
+        Call::ScanAgain => listed.wrapping_add(offers),
         Call::EncodeShard => shard,
         Call::EncodeAsk => ask,
         Call::AskParts => 0,
