@@ -31,7 +31,7 @@ fn puts_into_a_vector(rt: HostRuntime) {
 // Texts past every piece in which bytes are read or written anywhere, into a vector that grows, and out of a slice again.
 #[test]
 fn texts_of_any_size_go_in_and_out(rt: HostRuntime) {
-    for size in [65_535, 65_536, 65_537, 1_000_000] {
+    for size in [65_535_u64, 65_536, 65_537, 1_000_000] {
         let mut text = Vec::new(rt.alloc());
         for number in 0..size {
             text.push((number % 251) as u8).expect(&rt, "memory");
