@@ -10,12 +10,14 @@
  *     embedding memory          a list and a text; where memory is refused, it says so and looks that nothing changed
  *     embedding again           each call 10,000 times with each of its ends, after which the process holds no more
  *                               memory than after the first hundred
+ *     embedding bytes           lists of two sizes, each call with no more memory than its documentation names
  *
  * A wrong answer ends it by status 1, and says what was wrong. */
 #define _GNU_SOURCE
 #include <boruvka.h>
 #include <fcntl.h>
 #include <inttypes.h>
+#include <malloc.h>
 #include <pthread.h>
 #include <stdio.h>
 #include <stdlib.h>
@@ -753,6 +755,40 @@ static void again(void) {
     free(drawn_forest);
 }
 
+/* From now on the process may have so many bytes more than it has, and a quarter of a megabyte for how malloc rounds. */
+static void leave(size_t bytes) {
+    unsigned long pages = 0;
+    FILE *file = fopen("/proc/self/statm", "r");
+    CHECK(file && fscanf(file, "%lu", &pages) == 1 && !fclose(file));
+    const struct rlimit space = {pages * (rlim_t)sysconf(_SC_PAGESIZE) + bytes + (256 << 10), RLIM_INFINITY};
+    CHECK(!setrlimit(RLIMIT_AS, &space));
+}
+
+/* 16 bytes a link for the list that a call works in, 13 beside it, and 12 a vertex. What is freed goes back at once. */
+static void bytes(void) {
+    const struct rlimit any = {RLIM_INFINITY, RLIM_INFINITY};
+    CHECK(mallopt(M_MMAP_THRESHOLD, 1 << 17));
+    for (uint32_t n = 20000; n <= 320000; n *= 16) {
+        const size_t m = 4 * (size_t)n, solved = (16 + 13) * m + 12 * (size_t)n;
+        struct boruvka_link *given = draw(9, n, m, 1000);
+        struct columns of = columns_of(given, m, 1);
+        uint32_t *label = taken(n, sizeof *label);
+        leave(solved);
+        const int64_t count = boruvka_places(n, 1, of.u, of.v, of.w, m, of.places);
+        CHECK(0 < count && boruvka_forest(n, given, m) == count);
+        CHECK(!setrlimit(RLIMIT_AS, &any));
+        leave((16 + 13) * (size_t)count + 12 * (size_t)n);
+        CHECK(boruvka_labels(n, given, (size_t)count, label) == n);
+        CHECK(!setrlimit(RLIMIT_AS, &any));
+        leave(0);
+        CHECK(boruvka_places(n, 1, of.u, of.v, of.w, m, of.places) == BORUVKA_NO_MEMORY);
+        CHECK(!setrlimit(RLIMIT_AS, &any));
+        free(label);
+        free_columns(of);
+        free(given);
+    }
+}
+
 int main(int count, char **words) {
     static char buffer[1 << 12];
     setvbuf(stdout, buffer, _IOFBF, sizeof buffer);
@@ -775,6 +811,8 @@ int main(int count, char **words) {
         memory();
     } else if (!strcmp(what, "again")) {
         again();
+    } else if (!strcmp(what, "bytes")) {
+        bytes();
     } else {
         wrong("a word that it has", __LINE__);
     }

@@ -171,6 +171,11 @@ def ten_thousand_calls_hold_no_more_memory(room):
 
 
 @case
+def calls_take_the_bytes_that_are_documented(room):
+    expect(run([caller(room), "bytes"]), 0, b"", b"")
+
+
+@case
 def refused_memory_is_told_and_nothing_changed(room):
     for is_alone in (False, True):
         first, refused = 1, True
