@@ -7,7 +7,6 @@ ghost use Rattle.links.specs.Labels.{renamed};
 use limits::MAX_VERTICES;
 use std::alloc::{AllocError, Allocator, Global};
 use std::marker::Model;
-use std::thread::Threads;
 
 /// Labels of the vertices 1 to n of a graph: vertices with one label are one component.
 ///
@@ -92,8 +91,8 @@ impl<A: Allocator> Labels<A> {
     /// Gives each vertex, in place of its label, the name of that label: the number that stands at the label's place, where
     /// the new numbers are labels too. Where the bytes of the labels are kept, those of the new ones are written over them.
     ///
-    /// One pass, or two, by the caller's thread. It takes no memory.
-    pub fn rename_par<R: Threads + Sync>(&mut self, _rt: &R, names: &[u32])
+    /// One pass, or two where the bytes are kept. It takes no memory.
+    pub fn rename(&mut self, names: &[u32])
         requires within { All (λ c. c < length names.now) self.old }
         requires labels { AreLabels (renamed names.now self.old) }
         ensures { self.new ≡ renamed names.now self.old }

@@ -51,7 +51,7 @@ impl<
         // Without memory for the bytes of the labels, each wire turns the labels into bytes for itself.
         let _ = solver.spell_labels();
         let (mut picks, alone) = self.picks_of_round(reused, solver, cut)?;
-        let turn = solver.step_par(self.rt, &mut picks)?;
+        let turn = solver.step_in_place(&mut picks)?;
         reused.picks = picks;
         Ok((turn, alone))
     }

@@ -59,8 +59,8 @@ impl<'a, A: Allocator + Copy> RoundBook<'a, A> {
         RoundBook::open_over(Picks::empty(alloc), round, cut, labels)
     }
 
-    /// The same in the room of picks of which none is left, as a step by threads leaves them
-    /// ([`Solver::step_par`](crate::Solver::step_par)): no pick is written, and room for picks is asked for only where there
+    /// The same in the room of picks of which none is left, as a step in place leaves them
+    /// ([`Solver::step_in_place`](crate::Solver::step_in_place)): no pick is written, and room for picks is asked for only where there
     /// are more labels. What it takes for each shard is as `open` takes it. Labels are looked at up to the first that isn't
     /// its own vertex, so that no label of an end is looked up where each is.
     pub fn open_over(

@@ -11,7 +11,6 @@ use limits::MAX_VERTICES;
 use links::{Labels, Link};
 use std::alloc::{AllocError, Allocator, Global};
 use std::marker::Model;
-use std::thread::Threads;
 
 // How often all roots jump at most: each time doubles at least how far the rank of a parent is below that of its root,
 // and a rank, the key of a pick, has 128 bits.
@@ -96,11 +95,9 @@ impl<A: Allocator + Copy> Roots<A> {
         Ok(Labels::of_known(labels_by(new, picking.labels, &self.parents)))
     }
 
-    // The same, but the new labels are written over the old ones, by threads where there are many, and in the end no vertex
-    // has a pick.
-    pub(crate) fn merge_par<R: Threads + Sync>(
+    // The same, but the new labels are written over the old ones, and in the end no vertex has a pick.
+    pub(crate) fn merge_in_place(
         &mut self,
-        rt: &R,
         labels: &mut Labels<A>,
         picks: &mut Picks<A>,
         taken: &mut Vec<Link, A>,
@@ -123,7 +120,7 @@ impl<A: Allocator + Copy> Roots<A> {
         };
         take_and_name(picking, taken, &mut self.parents, &mut self.least)?;
         picks.clear_each(&self.roots);
-        labels.rename_par(rt, &self.parents);
+        labels.rename(&self.parents);
         Ok(())
     }
 }

@@ -125,9 +125,38 @@ impl<A: Allocator + Copy> Solver<A> {
         Ok(Turn::Merged(count))
     }
 
+    /// The same as [`step`](Solver::step) in the room that there is: the new labels are written over the old ones, with their
+    /// bytes where these are kept; and each pick is let go of, so that a book can be opened over the picks
+    /// ([`RoundBook::open_over`](crate::RoundBook::open_over)) without clearing them.
+    ///
+    /// It takes the memory that `step` does, but for new labels. After an error the picks are as they were too.
+    pub fn step_in_place(&mut self, picks: &mut Picks<A>) -> Result<Turn, SolveFault>
+        requires picks { ArePicksOfHearings self.old.labels picks.old }
+        ensures turn { IfOk result (IsTurn picks.old self.old self.new) }
+        ensures fault { IfErr result (IsStepFault self.old picks.old) }
+        ensures same { OnErr result (self.new ≡ self.old) }
+        ensures none { OnOk result (AreNoPicks picks.new) }
+        ensures room { OnOk result (length picks.new ≡ length picks.old) }
+        ensures kept { OnErr result (picks.new ≡ picks.old) }
+    {
+        if self.has_no_picks(&*picks) {
+            return Ok(Turn::Done);
+        }
+        let round = self.rounds + 1;
+        if is_past_bound(round, self.labels.n()) {
+            return Err(SolveFault::Rounds { round });
+        }
+        let earlier = self.taken.len();
+        self.roots
+            .merge_in_place(&mut self.labels, picks, &mut self.taken)?;
+        let count = (self.taken.len() - earlier) as u32;
+        self.roots.keep(self.labels.as_slice());
+        self.rounds += 1;
+        Ok(Turn::Merged(count))
+    }
+
     /// Keeps the bytes of the labels beside them ([`Labels::spell`]), for all who are asked under them: 4 bytes a vertex. A
-    /// step by threads keeps them so, one in one thread lets go of them. The only error is want of memory; then they are not
-    /// kept.
+    /// step in place keeps them so, another lets go of them. The only error is want of memory; then they are not kept.
     pub fn spell_labels(&mut self) -> Result<(), AllocError>
         ensures { self.new ≡ self.old }
     {
@@ -166,43 +195,6 @@ impl<A: Allocator + Copy> Solver<A> {
         }
         let taken = self.taken;
         Ok(Forest::of_distinct_par(rt, *taken.allocator(), taken)?)
-    }
-}
-
-impl<A: Allocator + Copy + Send + Sync> Solver<A> {
-    /// The same as [`step`](Solver::step) in the room that there is: the new labels are written over the old ones, with their
-    /// bytes where these are kept, by up to four threads where there are many; and each pick is let go of, so that a book can
-    /// be opened over the picks ([`RoundBook::open_over`](crate::RoundBook::open_over)) without clearing them.
-    ///
-    /// Where no thread can be made the caller's does it. It takes the memory that `step` does, but for new labels. After an
-    /// error the picks are as they were too.
-    pub fn step_par<R: Threads + Sync>(
-        &mut self,
-        rt: &R,
-        picks: &mut Picks<A>,
-    ) -> Result<Turn, SolveFault>
-        requires picks { ArePicksOfHearings self.old.labels picks.old }
-        ensures turn { IfOk result (IsTurn picks.old self.old self.new) }
-        ensures fault { IfErr result (IsStepFault self.old picks.old) }
-        ensures same { OnErr result (self.new ≡ self.old) }
-        ensures none { OnOk result (AreNoPicks picks.new) }
-        ensures room { OnOk result (length picks.new ≡ length picks.old) }
-        ensures kept { OnErr result (picks.new ≡ picks.old) }
-    {
-        if self.has_no_picks(&*picks) {
-            return Ok(Turn::Done);
-        }
-        let round = self.rounds + 1;
-        if is_past_bound(round, self.labels.n()) {
-            return Err(SolveFault::Rounds { round });
-        }
-        let earlier = self.taken.len();
-        self.roots
-            .merge_par(rt, &mut self.labels, picks, &mut self.taken)?;
-        let count = (self.taken.len() - earlier) as u32;
-        self.roots.keep(self.labels.as_slice());
-        self.rounds += 1;
-        Ok(Turn::Merged(count))
     }
 }
 

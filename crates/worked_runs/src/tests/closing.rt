@@ -257,13 +257,13 @@ fn no_offer(rt: HostRuntime) {
 }
 
 // The picks of 50 vertices, once a step let go of them.
-fn picks_let_go(rt: &(impl Abort + Threads + Sync), alloc: Global) -> Picks {
+fn picks_let_go(rt: &impl Abort, alloc: Global) -> Picks {
     let links = paths(rt, alloc, 50, 1);
     let cut = Cut::even(alloc, links.as_slice(), 1).expect(rt, "a cut");
     let mut solver = Solver::new(alloc, 50).expect(rt, "memory");
     let book = opened(rt, alloc, &cut, 1, solver.labels());
     let mut picks = heard(rt, alloc, book, &[49], &[0]).close();
-    let turn = solver.step_par(rt, &mut picks).expect(rt, "a turn");
+    let turn = solver.step_in_place(&mut picks).expect(rt, "a turn");
     expect_same(rt, turn == Turn::Done, false);
     picks
 }

@@ -59,25 +59,25 @@ fn step(rt: &impl Abort, alloc: Global, cut: &Cut, order: &[u32], solver: &mut S
     turn
 }
 
-// A step by threads does what one in one thread does, keeps the labels' bytes as those of the labels, and leaves no pick.
-fn expect_same_step<R: Abort + Threads + Sync>(
-    rt: &R,
+// A step in place does what another does, keeps the labels' bytes as those of the labels, and leaves no pick.
+fn expect_same_step(
+    rt: &impl Abort,
     alloc: Global,
     cut: &Cut,
     one: &mut Solver,
-    many: &mut Solver,
+    other: &mut Solver,
 ) -> Turn {
     let picks = next_picks(rt, alloc, cut, &[0], one);
-    let mut same = next_picks(rt, alloc, cut, &[0], many);
+    let mut same = next_picks(rt, alloc, cut, &[0], other);
     let turn = one.step(&picks).expect(rt, "a turn");
-    let by_threads = many.step_par(rt, &mut same).expect(rt, "a turn");
-    expect_same(rt, (by_threads, same.is_empty()), (turn, true));
+    let in_place = other.step_in_place(&mut same).expect(rt, "a turn");
+    expect_same(rt, (in_place, same.is_empty()), (turn, true));
     expect_same(
         rt,
-        many.labels().as_slice() == one.labels().as_slice(),
+        other.labels().as_slice() == one.labels().as_slice(),
         true,
     );
-    expect_same(rt, have_their_bytes(many.labels()), true);
+    expect_same(rt, have_their_bytes(other.labels()), true);
     turn
 }
 
@@ -95,35 +95,34 @@ fn have_their_bytes(labels: &Labels) -> bool {
     rest.is_empty()
 }
 
-// All steps over a path of so many vertices by threads and in one, and the forests at their ends.
-fn expect_same_steps<R: Abort + Threads + Sync>(rt: &R, alloc: Global, n: u32) {
+// All steps over a path of so many vertices, in place and not, and the forests at their ends.
+fn expect_same_steps(rt: &impl Abort, alloc: Global, n: u32) {
     assert!(rt; 1 < n && n <= 1 << 20);
     let links = paths(rt, alloc, n, 1);
     let cut = Cut::even(alloc, links.as_slice(), 1).expect(rt, "a cut");
     let mut one = Solver::new(alloc, n).expect(rt, "memory");
-    let mut many = Solver::new(alloc, n).expect(rt, "memory");
-    many.spell_labels().expect(rt, "memory");
+    let mut other = Solver::new(alloc, n).expect(rt, "memory");
+    other.spell_labels().expect(rt, "memory");
     let mut turn = Turn::Merged(0);
     for _ in 0..20 {
         if turn == Turn::Done {
             break;
         }
-        turn = expect_same_step(rt, alloc, &cut, &mut one, &mut many);
+        turn = expect_same_step(rt, alloc, &cut, &mut one, &mut other);
     }
-    expect_same(rt, (turn, one.round()), (Turn::Done, many.round()));
+    expect_same(rt, (turn, one.round()), (Turn::Done, other.round()));
     assert!(rt;
-        all_have_labels(&cut, one.labels().n()) && all_have_labels(&cut, many.labels().n())
+        all_have_labels(&cut, one.labels().n()) && all_have_labels(&cut, other.labels().n())
     );
-    let found = many.finish(&cut).expect(rt, "a forest");
+    let found = other.finish(&cut).expect(rt, "a forest");
     let alone = one.finish(&cut).expect(rt, "a forest");
     expect_same(rt, found.links() == alone.links(), true);
 }
 
-// Too few vertices for threads; as many roots as one thread takes the links of, and one more; and so many that each part has
-// a thread: of the roots, and of the labels too.
+// Few vertices and many.
 #[test]
-fn steps_by_threads(rt: HostRuntime) {
-    for n in [40, 16_383, 16_384, 140_001] {
+fn steps_in_place(rt: HostRuntime) {
+    for n in [40, 140_001] {
         expect_same_steps(&rt, rt.alloc(), n);
     }
 }

@@ -2,7 +2,7 @@ use Rattle.std.proofs.Common.{◌+◌, length}
 use Rattle.round_core.specs.Roots.{AreRoots}
 use Rattle.round_core.proofs.Leading.{root_at}
 use Rattle.round_core.proofs.Naming.{roots_within}
-use Rattle.round_core.proofs.roots.Roots.merge_par.Goals as goal
+use Rattle.round_core.proofs.roots.Roots.merge_in_place.Goals as goal
 
 pub clear_each-requires : goal.clear_each-requires
 clear_each-requires g c =
