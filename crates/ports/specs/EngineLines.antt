@@ -1,10 +1,9 @@
 -- A line to an engine in memory.
-use Rattle.std.specs.Prelude.{◌≡◌, ℕ, List, ◌++◌, take, drop, Bool, true, Some}
+use Rattle.std.specs.Prelude.{◌≡◌, ℕ, List, ◌++◌, take, drop, Some}
 use Rattle.frames.specs.FrameStream.{BeginsNone}
 use Rattle.worker_replies.specs.Serving.{ShelfList, shelf_of}
 use Rattle.worker_replies.specs.Session.{InSession}
 use Rattle.wires.specs.declared.line.Line as Line
-use Rattle.wires.specs.Causes.{IsBad}
 use Rattle.wires.specs.Lines.{LineState}
 
 -- a session in memory: the shards that its engine keeps, the bytes that came, how many of them were heard, and the bytes that it wrote
@@ -26,19 +25,14 @@ IsSessionOf worker s = InSession worker (shelf_of s.shelf) s.input s.written s.h
 abbrev pub GoesOn : SessionState → SessionState → Type 0
 GoesOn before after = (worker : ℕ) → IsSessionOf worker before → IsSessionOf worker after
 
--- a session that is over hears no more, whatever comes
-abbrev pub IsOver : Bool → SessionState → Type 0
-IsOver over s = over ≡ true → IsBad (rest_of s)
-
 -- the shards that the engine keeps, the bytes that were put and how many of them were heard, the bytes that the session
--- wrote and how many of them were got, whether the session is over, and the counts
+-- wrote and how many of them were got, and the counts
 pub record EngineLineState : Type 0 where
   pub shelf : ShelfList
   pub input : List ℕ
   pub heard : ℕ
   pub written : List ℕ
   pub taken : ℕ
-  pub over : Bool
   pub failures : ℕ
   pub ends : ℕ
 
@@ -46,11 +40,10 @@ pub record EngineLineState : Type 0 where
 abbrev pub line_of : EngineLineState → LineState
 line_of s = record { sent = Some s.input; got = Some (take s.taken s.written); failures = s.failures; ends = s.ends }
 
--- until its first failure it is in the worker's session and heard all frames that came; once the session is over, no frame can begin what is left
+-- until its first failure it is in the worker's session and heard all frames that came
 pub record IsEngineLine (worker : ℕ) (s : EngineLineState) : Type 0 where
   pub session : s.failures ≡ 0 → InSession worker (shelf_of s.shelf) s.input s.written s.heard
   pub all : s.failures ≡ 0 → BeginsNone (drop s.heard s.input)
-  pub over_is : s.failures ≡ 0 → s.over ≡ true → IsBad (drop s.heard s.input)
 
 -- as a line
 abbrev pub engine_line : Line.Ghosts EngineLineState

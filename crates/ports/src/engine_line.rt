@@ -23,7 +23,6 @@ use worker_engine::Engine;
 pub struct EngineLine<A: Allocator> {
     session: Session<A>,
     taken: usize,
-    over: bool,
     failures: u64,
     ends: u64,
 }
@@ -40,7 +39,6 @@ impl<A: Allocator> Model for EngineLine<A> {
       heard = s.session.heard;
       written = s.session.written;
       taken = s.taken;
-      over = s.over;
       failures = s.failures;
       ends = s.ends;
     } };
@@ -72,7 +70,6 @@ impl<A: Allocator + Copy> EngineLine<A> {
                 out,
             },
             taken: 0,
-            over: false,
             failures: 0,
             ends: 0,
         })
@@ -96,11 +93,8 @@ impl<A: Allocator + Copy> Line for EngineLine<A> {
             self.failures += 1;
             return Err(LineFault::Failed);
         }
-        match self.session.take_in(bytes, self.over) {
-            Ok(over) => {
-                self.over = over;
-                Ok(())
-            }
+        match self.session.take_in(bytes) {
+            Ok(()) => Ok(()),
             Err(_) => {
                 self.failures += 1;
                 Err(LineFault::Failed)

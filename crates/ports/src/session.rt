@@ -1,13 +1,12 @@
 //! A worker's session in memory.
-ghost use Rattle.std.specs.Prelude.{◌≡◌, ℕ, ◌++◌, true, List, length, IfOk, IfErr, OnOk};
+ghost use Rattle.std.specs.Prelude.{◌≡◌, ℕ, ◌++◌, List, length, IfOk, IfErr, OnOk};
 ghost use Rattle.frames.specs.FrameValue.{value_of};
 ghost use Rattle.frames.specs.FrameText.{text_of};
 ghost use Rattle.frames.specs.Lawful.{IsLawful};
 ghost use Rattle.frames.specs.FrameStream.{texts_of, AreLawful, BeginsNone, IsOfStream};
 ghost use Rattle.frames.specs.Refusals.{StreamRefused};
 ghost use Rattle.worker_replies.specs.Serving.{replies_in};
-ghost use Rattle.wires.specs.Causes.{IsGarble};
-ghost use Rattle.ports.specs.EngineLines.{rest_of, GoesOn, IsOver, Extends};
+ghost use Rattle.ports.specs.EngineLines.{rest_of, GoesOn, Extends};
 
 use frames::{Frame, FrameFault, encode, read_frame};
 use std::alloc::{AllocError, Allocator};
@@ -36,28 +35,23 @@ impl<A: Allocator> Model for Session<A> {
 }
 
 impl<A: Allocator + Copy> Session<A> {
-    // More bytes come. Once the session is over nothing more is heard.
-    pub fn take_in(&mut self, bytes: &[u8], over: bool) -> Result<bool, AllocError>
+    // More bytes come. Once what is left begins no frame, whatever follows, nothing more is heard.
+    pub fn take_in(&mut self, bytes: &[u8]) -> Result<(), AllocError>
         ensures input { OnOk result (self.new.input ≡ self.old.input ++ bytes.now) }
         ensures grew { Extends self.old.written self.new.written }
         ensures session { OnOk result (GoesOn self.old self.new) }
-        ensures all { OnOk result (IsOver over self.old → BeginsNone (rest_of self.new)) }
-        ensures over { IfOk result (λ over_now. IsOver over self.old → IsOver over_now self.new) }
+        ensures all { OnOk result (BeginsNone (rest_of self.new)) }
     {
         self.input.extend_from_slice(bytes)?;
-        if over {
-            return Ok(true);
-        }
         self.hear_all()
     }
 
-    // Hears all frames that came, and says whether what is left is refused whatever follows it.
-    fn hear_all(&mut self) -> Result<bool, AllocError>
+    // Hears all frames that came.
+    fn hear_all(&mut self) -> Result<(), AllocError>
         ensures input { self.new.input ≡ self.old.input }
         ensures grew { Extends self.old.written self.new.written }
         ensures session { OnOk result (GoesOn self.old self.new) }
         ensures all { OnOk result (BeginsNone (rest_of self.new)) }
-        ensures over { IfOk result (λ over. IsOver over self.new) }
     {
         loop {
             match first_frame(self.alloc, &self.input[self.heard..]) {
@@ -66,7 +60,7 @@ impl<A: Allocator + Copy> Session<A> {
                     write_reply(self.alloc, &mut self.out, reply)?;
                     self.heard += count;
                 }
-                Err(fault) => return is_over(fault),
+                Err(fault) => return begins_no_frame(fault),
             }
         }
     }
@@ -107,14 +101,12 @@ fn write_reply<A: Allocator + Copy>(
     }
 }
 
-// Whether bytes that are refused for this fault stay refused, whatever follows them.
-fn is_over(fault: FrameFault) -> Result<bool, AllocError>
-    ensures of_stream { OnOk result (IsOfStream fault) }
-    ensures over { IfOk result (λ over. over ≡ true → IsGarble fault) }
+// Bytes with this fault begin no frame, unless it was want of memory.
+fn begins_no_frame(fault: FrameFault) -> Result<(), AllocError>
+    ensures { OnOk result (IsOfStream fault) }
 {
     match fault {
         FrameFault::Memory | FrameFault::Device => Err(AllocError),
-        FrameFault::Ended | FrameFault::Torn => Ok(false),
-        _ => Ok(true),
+        _ => Ok(()),
     }
 }

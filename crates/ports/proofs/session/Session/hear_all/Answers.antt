@@ -4,7 +4,7 @@ use Rattle.frames.specs.FrameText.{text_of}
 use Rattle.frames.specs.FrameValue.{value_of}
 use Rattle.worker_replies.specs.Serving.{replies_in}
 use Rattle.worker_replies.proofs.Sessions.{session_hears}
-use Rattle.ports.proofs.EngineLines.{refused_left, bad_left, grew_then}
+use Rattle.ports.proofs.EngineLines.{refused_left, grew_then}
 use Rattle.ports.proofs.session.Session.hear_all.Goals as goal
 
 pub loop-frame-preserved : goal.loop-frame-preserved
@@ -28,14 +28,7 @@ returns-in-Err-clause-all g c =
     let heard = c.loop-frame.self-inside.heard in
     let input = c.loop-frame.self-inside.input.items in
     let slice : take (length input - heard) (drop heard input) ≡ drop heard input = take_rest input heard in
-    refused_left c.is_over.result c.in-Err.fault _ (drop heard input) slice (rw c.deref.ensures.value at c.in-Err.ensures.refused) c.is_over.ensures.of_stream
-
-pub returns-in-Err-clause-over : goal.returns-in-Err-clause-over
-returns-in-Err-clause-over g c =
-    let heard = c.loop-frame.self-inside.heard in
-    let input = c.loop-frame.self-inside.input.items in
-    let slice : take (length input - heard) (drop heard input) ≡ drop heard input = take_rest input heard in
-    bad_left c.is_over.result c.in-Err.fault _ (drop heard input) slice (rw c.deref.ensures.value at c.in-Err.ensures.refused) c.is_over.ensures.of_stream c.is_over.ensures.over
+    refused_left c.begins_no_frame.result c.in-Err.fault _ (drop heard input) slice (rw c.deref.ensures.value at c.in-Err.ensures.refused) c.begins_no_frame.ensures
 
 pub returns-in_err-write_reply-in-Ok-clause-grew : goal.returns-in_err-write_reply-in-Ok-clause-grew
 returns-in_err-write_reply-in-Ok-clause-grew g c =
