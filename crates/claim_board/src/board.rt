@@ -54,7 +54,7 @@ impl<A: Allocator + Copy> Board<A> {
     /// A board with all shards free, and its seats in order, from number 0 on.
     ///
     /// `Memory` comes where the allocator refused the row of the seats or the table of the words, and no other fault
-    /// comes. It takes 8 bytes for each shard and some 500 for each seat, and one step on a word for each seat but the
+    /// comes. It takes 8 bytes for each shard and 520 for each seat, and one step on a word for each seat but the
     /// last.
     pub fn open(alloc: A, shards: u32, seats: u32) -> Result<(Board<A>, Vec<Seat, A>), BoardFault>
         requires shards { (0 < shards) × (shards ≤ MAX_SHARDS) }

@@ -36,8 +36,9 @@ pub(crate) const NO_PLACE: u32 = u32::MAX;
 /// it, the least such link, by the first place where it stands.
 ///
 /// It lists the links that leave a label, and numbers the labels that they leave. For m such links of n vertices it takes
-/// O(m + n) time, 12 bytes for each link of the shard, 12 for each of these labels, 8 for each offer, and a quarter of a byte a
-/// vertex. For scan after scan a [`Scanner`] keeps what is as long as there are labels. The only error is want of memory.
+/// O(m + n) time, 12 bytes for each link of the shard, 12 for each of these labels, and a quarter of a byte a vertex. An offer
+/// takes 8 bytes, in a list that doubles as it grows: at most 24 while it moves. For scan after scan a [`Scanner`] keeps what
+/// is as long as there are labels. The only error is want of memory.
 pub fn scan<A: Allocator + Copy, B: Allocator>(
     alloc: A,
     links: &[Link],
@@ -53,8 +54,8 @@ pub fn scan<A: Allocator + Copy, B: Allocator>(
 /// The same offers as [`scan`] gives, by threads: the links are halved, at most as often as there are processors for, each
 /// part is scanned over a table of its own, and the tables are taken together.
 ///
-/// For m links of n vertices in p parts O(m / p + n p) time, and 8 bytes a vertex for each part's table. A part has at least
-/// as many links as there are vertices. Fewer than 131,072 links, or a list for which no thread can be made, are scanned by
+/// For m links of n vertices in p parts O(m / p + n p) time, and 8 bytes a vertex for each part's table, beside the offers.
+/// A part has at least as many links as there are vertices. Fewer than 131,072 links, or a list for which no thread can be made, are scanned by
 /// the caller's. The only error is want of memory.
 pub fn scan_par<R: Threads + Sync, A: Allocator + Copy + Send + Sync, B: Allocator>(
     rt: &R,

@@ -1,5 +1,5 @@
 //! Worked examples of files and forests, each a test that needs public calls alone. `worked_streams`, `worked_rounds`,
-//! `worked_runs`, `worked_lines`, `worked_sockets` and `worked_failures` have those of the other subjects
+//! `worked_runs`, `worked_lines`, `worked_sockets`, `worked_failures` and `worked_memory` have those of the other subjects
 //! (docs/ARCHITECTURE.md says of which).
 //!
 //! ```text

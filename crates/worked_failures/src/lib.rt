@@ -16,8 +16,6 @@
 //!   runs              whole runs
 //!   lost_lines        whole runs that go on without a worker that finds no memory
 //!   goes_on           sessions behind an ask without memory, rounds behind a refused answer
-//!   bytes             how many bytes lists, solvers and readers take at most
-//!   bytes_of_workers  how many scans, frames, engines and wires do
 //!   devices           a reader and a writer of std, by each kind of failure
 //!   streams           a source and a sink, one of which fails at a byte
 //!   files, sessions   such streams, at each byte: of a run, and of a worker's session

@@ -1,6 +1,4 @@
 mod asks_again;
-mod bytes;
-mod bytes_of_workers;
 mod devices;
 mod files;
 mod frame_texts;

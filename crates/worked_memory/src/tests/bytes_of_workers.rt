@@ -2,8 +2,7 @@
 ghost use Rattle.std.specs.Prelude.{◌≤◌, ◌^◌, length};
 ghost use Rattle.links.specs.Link.{EndsUpTo};
 
-use super::bytes::{List, counted, links_in, most_beside};
-use super::in_turn::Memory;
+use super::bytes::{List, Memory, counted, links_in, most_beside};
 use super::same::expect_same;
 use frames::{Frame, ask_parts, encode_ask, encode_shard, read_frame};
 use link_key::{Cut, Labels, Link, Shard};

@@ -3,7 +3,6 @@
 ghost use Rattle.std.specs.Prelude.{◌<◌, ◌≤◌, ◌^◌, length};
 ghost use Rattle.links.specs.Link.{EndsUpTo};
 
-use super::in_turn::Memory;
 use super::same::expect_same;
 use gr_text::parse;
 use link_key::{Cut, Labels, Link, components_of, forest_of, plain_forest};
@@ -12,6 +11,9 @@ use std::alloc::Global;
 use std::process::Abort;
 use test_memory::{Refusals, Refusing};
 use worked_graphs::{Row, all_have_labels, have_labels, links_of};
+
+/// The memory of one call.
+pub(crate) type Memory = Refusing<Global>;
 
 /// How many vertices there are, how many arcs, and how many weights.
 #[derive(Clone, Copy, Debug, PartialEq, Eq)]

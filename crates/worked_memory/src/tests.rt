@@ -1,0 +1,4 @@
+mod bytes;
+mod bytes_of_rounds;
+mod bytes_of_workers;
+mod same;
