@@ -20,10 +20,13 @@
 //! say); an arc line in its usual form that lies whole in a piece is read at once, by `usual_line`.
 #![tactic(auto)]
 
+mod arc_lines;
 mod faults;
+mod feeders;
 mod graphs;
 pub mod laws;
 mod lines_so_far;
+mod parallel;
 mod parsing;
 mod partial_line;
 mod piece;
@@ -43,5 +46,5 @@ pub use graphs::Graph;
 pub use limits::MAX_BYTES;
 pub use parsing::parse;
 pub use reader::GrReader;
-pub use sourced::{read_graph, read_graph_upto};
+pub use sourced::{read_graph, read_graph_par, read_graph_upto};
 pub use writer::{WriteFault, write_forest};
